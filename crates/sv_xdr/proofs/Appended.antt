@@ -1,0 +1,34 @@
+-- Bytes written one after another.
+use Rattle.std.proofs.Common.{◌≡◌, ℕ, ◌+◌, List, [], ◌∷◌, ◌++◌, length, take, sym, ap, ◌∙◌, append_assoc, arith}
+use Rattle.std.proofs.lemmas.List.{take_at, length-append, length-take}
+use Rattle.sv_xdr.specs.declared.writer.Writer.{Writer}
+use Rattle.std.specs.Int.{w32, to_be_bytes}
+use Rattle.sv_xdr.specs.Spelling.{Opaque, spelling, pad_len}
+use Rattle.sv_xdr.specs.Writer.{text_of, rest_of, Appends}
+use Rattle.sv_xdr.proofs.Spelled.{take_zeros}
+
+-- two writes are one of both
+pub Appends-then : (a b : List ℕ) (old mid new : Writer) → Appends a old mid → Appends b mid new → Appends (a ++ b) old new
+Appends-then a b old mid new first second =
+    let front = take (length a) (rest_of old) in
+    let back = take (length b) (rest_of mid) in
+    let size : length front ≡ length a = omega (arith, length-take (length a) (rest_of old), first.fits) in
+    let size2 : length back ≡ length b = omega (arith, length-take (length b) (rest_of mid), second.fits) in
+    let sizes : length (rest_of old) ≡ length a + length (rest_of mid) = ap length first.rest ∙ length-append front (rest_of mid) ∙ ap (λ (n : ℕ). n + length (rest_of mid)) size in
+    let parts : rest_of old ≡ (front ++ back) ++ rest_of new = first.rest ∙ ap (λ (l : List ℕ). front ++ l) second.rest ∙ sym (append_assoc front back (rest_of new)) in
+    let whole : take (length (a ++ b)) (rest_of old) ≡ front ++ back =
+    ap (take (length (a ++ b))) parts ∙ take_at (front ++ back) (rest_of new) (length (a ++ b)) (omega (arith, length-append front back, length-append a b)) in
+    record {
+      text = second.text ∙ ap (λ (l : List ℕ). l ++ b) first.text ∙ append_assoc (text_of old) a b;
+      rest = parts ∙ ap (λ (l : List ℕ). l ++ rest_of new) (sym whole);
+      fits = omega (arith, length-append a b, second.fits);
+    }
+
+-- a length, data and their pad are opaque data
+pub opaque_appended : (size text : List ℕ) (n : ℕ) (old one two new : Writer) → size ≡ to_be_bytes w32 (length text) → n ≡ pad_len (length text)
+    → Appends size old one → Appends text one two → Appends (take n (0 ∷ 0 ∷ 0 ∷ [])) two new → Appends (spelling (Opaque text)) old new
+opaque_appended size text n old one two new size_is n_is first second third =
+    let pad_is = ap (λ (k : ℕ). take {A = ℕ} k (0 ∷ 0 ∷ 0 ∷ [])) n_is ∙ take_zeros (pad_len (length text)) (omega arith) in
+    let both = Appends-then text _ one two new second third in
+    let all = Appends-then size _ old one new first both in
+    rw (size_is, pad_is) at all

@@ -1,0 +1,123 @@
+-- What is read is spelled so, and what is spelled so is read.
+use Rattle.std.proofs.Common.{◌≡◌, ℕ, ◌+◌, ◌%◌, ◌<◌, ◌≤◌, Bool, true, false, cond, eqb, ltb, List, [], ◌∷◌, ◌++◌, length, take, drop, Result, Ok, Err, refl, sym, ap, ◌∙◌, append_assoc, arith, eq-eqb}
+use Rattle.std.specs.List.{AllByRecursion, list_all}
+use Rattle.std.proofs.lemmas.Bool.{ltb-false, le-ltb, eqb-true, and_parts, and_from}
+use Rattle.std.proofs.lemmas.List.{take_at, drop_at, take-append-drop, length-append, length-take, length-drop, drop-drop}
+use Rattle.std.specs.Int.{w32, from_be_bytes}
+use Rattle.sv_xdr.specs.declared.fault.XdrFault.{XdrFault}
+use Rattle.sv_xdr.specs.declared.fault.XdrFault.TheVariants.{Short, BadPad}
+use Rattle.sv_xdr.specs.Spelling.{Opaque, IsWord, IsPad, Begins, pad_len}
+use Rattle.sv_xdr.specs.Reader.{◌>>=◌, unsigned_at, padded_at, opaque_at}
+
+-- the value of a step that did not fail
+pub bind_ok : {A B : Type 0} (r : Result A XdrFault) (f : A → Result B XdrFault) (y : B) → (r >>= f) ≡ Ok y → (x : A) × (r ≡ Ok x) × (f x ≡ Ok y)
+bind_ok (Ok x) f y e = (x, refl, e)
+bind_ok (Err fault) f y e = absurd cc
+
+-- a test that did not fail
+pub guard_ok : {A : Type 0} (b : Bool) (fault : XdrFault) (r : Result A XdrFault) (y : A) → cond b (Err fault) r ≡ Ok y → (b ≡ false) × (r ≡ Ok y)
+guard_ok true fault r y e = absurd cc
+guard_ok false fault r y e = (refl, e)
+
+-- a test that had to hold
+pub guard_true : {A : Type 0} (b : Bool) (fault : XdrFault) (r : Result A XdrFault) (y : A) → cond b r (Err fault) ≡ Ok y → (b ≡ true) × (r ≡ Ok y)
+guard_true true fault r y e = (refl, e)
+guard_true false fault r y e = absurd cc
+
+pad_is_short : (n : ℕ) → pad_len n < 4
+pad_is_short n = omega arith
+
+pad_fills : (n : ℕ) → (n + pad_len n) % 4 ≡ 0
+pad_fills n = omega arith
+
+-- there is one length of the pad
+pub pad_len-unique : (n k : ℕ) → k < 4 → (n + k) % 4 ≡ 0 → k ≡ pad_len n
+pad_len-unique n k short fills = omega arith
+
+zeros-all : (bytes : List ℕ) → list_all (λ byte. eqb byte 0) bytes ≡ true → AllByRecursion (λ byte. byte ≡ 0) bytes
+zeros-all [] e = tt
+zeros-all (b ∷ bytes) e =
+    let both = and_parts (eqb b 0) (list_all (λ byte. eqb byte 0) bytes) e in
+    (eqb-true b 0 both.0, zeros-all bytes both.1)
+
+all-zeros : (bytes : List ℕ) → AllByRecursion (λ byte. byte ≡ 0) bytes → list_all (λ byte. eqb byte 0) bytes ≡ true
+all-zeros [] h = refl
+all-zeros (b ∷ bytes) h = and_from (eqb b 0) (list_all (λ byte. eqb byte 0) bytes) (eq-eqb b 0 h.0) (all-zeros bytes h.1)
+
+ok_pair : {A : Type 0} (x y : A) → (let r : Result A XdrFault = Ok x in r) ≡ Ok y → x ≡ y
+ok_pair x y e = cc
+
+-- data that are read are spelled so
+pub padded_takes : (n : ℕ) (bytes text after : List ℕ) → padded_at n bytes ≡ Ok (text, after)
+    → (pad : List ℕ) × IsPad n pad × (length text ≡ n) × (bytes ≡ text ++ (pad ++ after))
+unfolding padded_at
+padded_takes n bytes text after e =
+    let long = guard_ok (ltb (length bytes) (n + pad_len n)) Short _ (text, after) e in
+    let zero = guard_true (list_all (λ byte. eqb byte 0) (take (pad_len n) (drop n bytes))) BadPad _ (text, after) long.1 in
+    let pair = ok_pair _ _ zero.1 in
+    let enough : n + pad_len n ≤ length bytes = ltb-false _ _ long.0 in
+    let pad = take (pad_len n) (drop n bytes) in
+    let pad_length : length pad ≡ pad_len n = omega (arith, length-take (pad_len n) (drop n bytes), length-drop n bytes) in
+    let text_is : take n bytes ≡ text = ap (λ (p : List ℕ × List ℕ). p.0) pair in
+    let after_is : drop (n + pad_len n) bytes ≡ after = ap (λ (p : List ℕ × List ℕ). p.1) pair in
+    let text_length : length text ≡ n = rw (← text_is) (omega (arith, length-take n bytes)) in
+    let parts : bytes ≡ take n bytes ++ (pad ++ drop (n + pad_len n) bytes) =
+    sym (take-append-drop n bytes)
+    ∙ ap (λ (rest : List ℕ). take n bytes ++ rest) (sym (take-append-drop (pad_len n) (drop n bytes)) ∙ ap (λ (rest : List ℕ). pad ++ rest) (drop-drop (pad_len n) n bytes)) in
+    (pad, (rw pad_length (pad_is_short n), rw pad_length (pad_fills n), zeros-all pad zero.0), text_length, parts ∙ ap (λ (x : List ℕ). x ++ (pad ++ drop (n + pad_len n) bytes)) text_is ∙ ap (λ (x : List ℕ). text ++ (pad ++ x)) after_is)
+
+-- data that are spelled are read
+pub padded_again : (text pad after : List ℕ) → IsPad (length text) pad → padded_at (length text) (text ++ (pad ++ after)) ≡ Ok (text, after)
+unfolding padded_at
+padded_again text pad after h =
+    let size : length pad ≡ pad_len (length text) = pad_len-unique (length text) (length pad) h.0 h.1 in
+    let long : length text + pad_len (length text) ≤ length (text ++ (pad ++ after)) = omega (arith, length-append text (pad ++ after), length-append pad after) in
+    let pad_is : take (pad_len (length text)) (drop (length text) (text ++ (pad ++ after))) ≡ pad =
+    ap (take (pad_len (length text))) (drop_at text (pad ++ after) (length text) refl) ∙ take_at pad after (pad_len (length text)) size in
+    let zero : list_all (λ byte. eqb byte 0) (take (pad_len (length text)) (drop (length text) (text ++ (pad ++ after)))) ≡ true = rw pad_is (all-zeros pad h.2) in
+    let after_is : drop (length text + pad_len (length text)) (text ++ (pad ++ after)) ≡ after =
+    sym (drop-drop (pad_len (length text)) (length text) (text ++ (pad ++ after))) ∙ ap (drop (pad_len (length text))) (drop_at text (pad ++ after) (length text) refl)
+    ∙ drop_at pad after (pad_len (length text)) size in
+    rw (le-ltb (length (text ++ (pad ++ after))) (length text + pad_len (length text)) long, zero, after_is, take_at text (pad ++ after) (length text) refl) refl
+
+pub unsigned_again : (front after : List ℕ) (n : ℕ) → IsWord front n → unsigned_at (front ++ after) ≡ Ok (n, after)
+unsigned_again [] after n h = absurd h
+unsigned_again (a ∷ []) after n h = absurd h
+unsigned_again (a ∷ b ∷ []) after n h = absurd h
+unsigned_again (a ∷ b ∷ c ∷ []) after n h = absurd h
+unsigned_again (a ∷ b ∷ c ∷ d ∷ []) after n h =
+    let value : from_be_bytes w32 (a ∷ b ∷ c ∷ d ∷ []) ≡ n = omega (arith, h.4) in
+    let long : 4 ≤ length (a ∷ b ∷ c ∷ d ∷ after) = omega arith in
+    rw (le-ltb (length (a ∷ b ∷ c ∷ d ∷ after)) 4 long) (ap (λ (k : ℕ). let r : Result (ℕ × List ℕ) XdrFault = Ok (k, after) in r) value)
+unsigned_again (a ∷ b ∷ c ∷ d ∷ e ∷ front) after n h = absurd h
+
+-- opaque data that are spelled are read
+pub opaque_again : (max : ℕ) (bytes text after : List ℕ) → Begins bytes (Opaque text) after → length text ≤ max → opaque_at max bytes ≡ Ok (text, after)
+unfolding opaque_at
+opaque_again max bytes text after b le =
+    let size = b.1.0 in
+    let pad = b.1.1 in
+    let regrouped : bytes ≡ size ++ (text ++ (pad ++ after)) = b.2 ∙ ap (λ (x : List ℕ). x ++ after) b.1.4 ∙ simp append_assoc in
+    let first : unsigned_at bytes ≡ Ok (length text, text ++ (pad ++ after)) = ap unsigned_at regrouped ∙ unsigned_again size (text ++ (pad ++ after)) (length text) b.1.2 in
+    rw (first, le-ltb max (length text) le) (padded_again text pad after b.1.3)
+
+-- opaque data that are read are spelled so
+pub opaque_takes : (bytes size rest text after : List ℕ) (n max : ℕ) → bytes ≡ size ++ rest → IsWord size n → n ≤ max → padded_at n rest ≡ Ok (text, after)
+    → Begins bytes (Opaque text) after × (length text ≤ max)
+opaque_takes bytes size rest text after n max front word le e =
+    let t = padded_takes n rest text after e in
+    let pad = t.0 in
+    let parts : bytes ≡ (size ++ (text ++ pad)) ++ after = front ∙ ap (λ (x : List ℕ). size ++ x) t.3 ∙ simp append_assoc in
+    ((size ++ (text ++ pad), (size, pad, rw t.2 word, rw t.2 t.1, refl), parts), rw t.2 le)
+
+-- what stands behind the length decides, where the length is not above the maximum
+pub opaque_one : (max n : ℕ) (bytes rest text after : List ℕ) (r : Result (List ℕ × List ℕ) XdrFault) → unsigned_at bytes ≡ Ok (n, rest) → n ≤ max → padded_at n rest ≡ r
+    → Begins bytes (Opaque text) after → length text ≤ max → r ≡ Ok (text, after)
+unfolding opaque_at
+opaque_one max n bytes rest text after r first le second b short =
+    let reads : opaque_at max bytes ≡ padded_at n rest = rw (first, le-ltb max n le) refl in
+    sym second ∙ sym reads ∙ opaque_again max bytes text after b short
+
+-- the value and the rest that two readings give are the same
+pub pair_parts : {A B : Type 0} (x y : A) (v w : B) → (let r : Result (A × B) XdrFault = Ok (x, v) in r) ≡ Ok (y, w) → (x ≡ y) × (v ≡ w)
+pair_parts {A} {B} x y v w e = (ap (λ (p : A × B). p.0) (ok_pair (x, v) (y, w) e), ap (λ (p : A × B). p.1) (ok_pair (x, v) (y, w) e))

@@ -1,0 +1,5 @@
+pub mod Fields
+pub mod Buffer
+pub mod Spelled
+pub mod Appended
+pub mod PrefixFree

@@ -1,0 +1,61 @@
+-- No spelling begins another of its kind.
+use Rattle.std.proofs.Common.{◌≡◌, ℕ, ◌+◌, Bool, true, false, List, ◌++◌, length, refl, sym, ap, subst, ◌∙◌, arith}
+use Rattle.std.specs.Prelude.{ℤ, pos, negsuc}
+use Rattle.std.specs.Int.{from_bool}
+use Rattle.std.proofs.lemmas.List.{append_cancel_right}
+use Rattle.sv_xdr.specs.Spelling.{Unsigned, Signed, Boolean, Opaque, IsWord, IsTwosComplement, Spells}
+use Rattle.sv_xdr.specs.Reader.{unsigned_at, opaque_at}
+use Rattle.sv_xdr.specs.Laws.{PrefixFree}
+use Rattle.sv_xdr.proofs.Fields.{unsigned_again, opaque_again, pair_parts}
+
+-- two words that begin the same bytes
+words : (a b after behind : List ℕ) (m n : ℕ) → IsWord a m → IsWord b n → a ++ after ≡ b ++ behind → (a ≡ b) × (m ≡ n)
+words a b after behind m n h k e =
+    let one = sym (unsigned_again a after m h) ∙ ap unsigned_at e ∙ unsigned_again b behind n k in
+    let parts = pair_parts m n after behind one in
+    (append_cancel_right a b after (e ∙ ap (λ (l : List ℕ). b ++ l) (sym parts.1)), parts.0)
+
+-- a word stands for one signed integer
+signs : (n : ℕ) (y z : ℤ) → IsTwosComplement n y → IsTwosComplement n z → y ≡ z
+signs n (pos i) (pos k) h g = ap pos (omega arith)
+signs n (pos i) (negsuc k) h g = absurd (omega arith)
+signs n (negsuc i) (pos k) h g = absurd (omega arith)
+signs n (negsuc i) (negsuc k) h g = ap negsuc (omega arith)
+
+truths : (b c : Bool) → from_bool b ≡ from_bool c → b ≡ c
+truths true true e = refl
+truths true false e = absurd (omega arith)
+truths false true e = absurd (omega arith)
+truths false false e = refl
+
+-- two opaque data that begin the same bytes
+texts : (s t a b after behind : List ℕ) → Spells a (Opaque s) → Spells b (Opaque t) → a ++ after ≡ b ++ behind → (a ≡ b) × (s ≡ t)
+texts s t a b after behind h k e =
+    let most = length s + length t in
+    let first = opaque_again most (a ++ after) s after (a, h, refl) (omega arith) in
+    let second = opaque_again most (b ++ behind) t behind (b, k, refl) (omega arith) in
+    let one = sym first ∙ ap (opaque_at most) e ∙ second in
+    let parts = pair_parts s t after behind one in
+    (append_cancel_right a b after (e ∙ ap (λ (l : List ℕ). b ++ l) (sym parts.1)), parts.0)
+
+pub prefix_free : PrefixFree
+prefix_free (Unsigned m) (Unsigned n) a b after behind kind h k e = let w = words a b after behind m n h k e in (w.0, ap Unsigned w.1)
+prefix_free (Signed y) (Signed z) a b after behind kind h k e =
+    let w = words a b after behind h.0 k.0 h.1 k.1 e in
+    (w.0, ap Signed (signs k.0 y z (subst (λ (n : ℕ). IsTwosComplement n y) w.1 h.2) k.2))
+prefix_free (Boolean c) (Boolean d) a b after behind kind h k e =
+    let w = words a b after behind (from_bool c) (from_bool d) h k e in
+    (w.0, ap Boolean (truths c d w.1))
+prefix_free (Opaque s) (Opaque t) a b after behind kind h k e = let w = texts s t a b after behind h k e in (w.0, ap Opaque w.1)
+prefix_free (Unsigned m) (Signed z) a b after behind kind h k e = absurd kind
+prefix_free (Unsigned m) (Boolean d) a b after behind kind h k e = absurd kind
+prefix_free (Unsigned m) (Opaque t) a b after behind kind h k e = absurd kind
+prefix_free (Signed y) (Unsigned n) a b after behind kind h k e = absurd kind
+prefix_free (Signed y) (Boolean d) a b after behind kind h k e = absurd kind
+prefix_free (Signed y) (Opaque t) a b after behind kind h k e = absurd kind
+prefix_free (Boolean c) (Unsigned n) a b after behind kind h k e = absurd kind
+prefix_free (Boolean c) (Signed z) a b after behind kind h k e = absurd kind
+prefix_free (Boolean c) (Opaque t) a b after behind kind h k e = absurd kind
+prefix_free (Opaque s) (Unsigned n) a b after behind kind h k e = absurd kind
+prefix_free (Opaque s) (Signed z) a b after behind kind h k e = absurd kind
+prefix_free (Opaque s) (Boolean d) a b after behind kind h k e = absurd kind

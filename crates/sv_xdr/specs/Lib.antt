@@ -1,0 +1,4 @@
+pub mod Spelling
+pub mod Reader
+pub mod Writer
+pub mod Laws

@@ -1,0 +1,42 @@
+-- A field read from the front of some bytes: its value and the bytes after it, or the first fault.
+use Rattle.std.specs.Prelude.{◌≡◌, ℕ, ◌+◌, ℤ, Bool, true, false, List, length, take, drop, Result, Ok, Err, nat_lt, ◌==◌, if◌then◌else◌}
+use Rattle.std.specs.List.{list_all}
+use Rattle.std.specs.Int.{w32, from_be_bytes, cast_signed}
+use Rattle.sv_xdr.specs.declared.fault.XdrFault.{XdrFault}
+use Rattle.sv_xdr.specs.declared.fault.XdrFault.TheVariants.{Short, BadPad, BadBool, TooLong}
+use Rattle.sv_xdr.specs.Spelling.{pad_len}
+
+-- what is read, and then what is read after it, unless there was a fault
+infixl 10 ◌>>=◌
+abbrev pub ◌>>=◌ : {A B : Type 0} → Result A XdrFault → (A → Result B XdrFault) → Result B XdrFault
+(Ok x) >>= f = f x
+(Err fault) >>= f = Err fault
+
+-- What a call returned and the place after it are what reading gives; a fault leaves the place.
+abbrev pub Gives : {X Y : Type 0} → (X → Y) → Result X XdrFault → List ℕ → List ℕ → Result (Y × List ℕ) XdrFault → Type 0
+Gives view (Ok x) old new read = read ≡ Ok (view x, new)
+Gives view (Err fault) old new read = (read ≡ Err fault) × (new ≡ old)
+
+abbrev pub unsigned_at : List ℕ → Result (ℕ × List ℕ) XdrFault
+unsigned_at bytes = if nat_lt (length bytes) 4 then Err Short else Ok (from_be_bytes w32 (take 4 bytes), drop 4 bytes)
+
+unfoldable pub signed_at : List ℕ → Result (ℤ × List ℕ) XdrFault
+signed_at bytes = do
+  n ← unsigned_at bytes
+  Ok (cast_signed w32 n.0, n.1)
+
+unfoldable pub boolean_at : List ℕ → Result (Bool × List ℕ) XdrFault
+boolean_at bytes = do
+  n ← unsigned_at bytes
+  if n.0 == 0 then Ok (false, n.1) else (if n.0 == 1 then Ok (true, n.1) else Err BadBool)
+
+-- the data of this many bytes, their pad, and what comes after them
+unfoldable pub padded_at : ℕ → List ℕ → Result (List ℕ × List ℕ) XdrFault
+padded_at n bytes =
+    if nat_lt (length bytes) (n + pad_len n) then Err Short
+    else (if list_all (λ byte. byte == 0) (take (pad_len n) (drop n bytes)) then Ok (take n bytes, drop (n + pad_len n) bytes) else Err BadPad)
+
+unfoldable pub opaque_at : ℕ → List ℕ → Result (List ℕ × List ℕ) XdrFault
+opaque_at max bytes = do
+  n ← unsigned_at bytes
+  if nat_lt max n.0 then Err TooLong else padded_at n.0 n.1

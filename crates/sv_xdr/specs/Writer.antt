@@ -1,0 +1,34 @@
+-- What a writer has written, and what a write leaves.
+use Rattle.std.specs.Prelude.{◌≡◌, ℕ, ◌<◌, ◌≤◌, List, ◌++◌, length, take, drop, Result, Ok, Err}
+use Rattle.sv_xdr.specs.declared.fault.XdrFault.{XdrFault}
+use Rattle.sv_xdr.specs.declared.fault.XdrFault.TheVariants.{NoRoom}
+use Rattle.sv_xdr.specs.declared.writer.Writer.{Writer}
+use Rattle.sv_xdr.specs.Spelling.{Field, Spells}
+
+-- the bytes that were written, from the front of the buffer
+abbrev pub text_of : Writer → List ℕ
+text_of writer = take writer.written writer.out.now
+
+-- the rest of the buffer, which is the room that is left
+abbrev pub rest_of : Writer → List ℕ
+rest_of writer = drop writer.written writer.out.now
+
+-- The bytes come after what was written, and the rest of the buffer stays.
+pub record Appends (bytes : List ℕ) (old new : Writer) : Type 0 where
+  pub text : text_of new ≡ text_of old ++ bytes
+  pub rest : rest_of old ≡ take (length bytes) (rest_of old) ++ rest_of new
+  pub fits : length bytes ≤ length (rest_of old)
+
+-- A spelling of the field comes after what was written.
+abbrev pub AppendsField : Field → Writer → Writer → Type 0
+AppendsField field old new = (bytes : List ℕ) × Spells bytes field × Appends bytes old new
+
+-- Nothing was written.
+pub record Stays (old new : Writer) : Type 0 where
+  pub text : text_of new ≡ text_of old
+  pub rest : rest_of new ≡ rest_of old
+
+-- The bytes are written exactly if there is room for them.
+abbrev pub Writes : List ℕ → Result Unit XdrFault → Writer → Writer → Type 0
+Writes bytes (Ok done) old new = Appends bytes old new
+Writes bytes (Err fault) old new = (fault ≡ NoRoom) × (length (rest_of old) < length bytes) × Stays old new

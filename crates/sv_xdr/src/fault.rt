@@ -1,0 +1,24 @@
+//! Why a field could not be read or written.
+
+use thiserror::Error;
+
+/// Why a field could not be read or written. The place in the bytes is then unchanged.
+#[derive(Clone, Copy, Debug, PartialEq, Eq, Error)]
+pub enum XdrFault {
+    /// The bytes end before the field does.
+    #[error("the bytes end before the field does")]
+    Short = 1,
+    /// A byte that pads opaque data to a multiple of four isn't zero (RFC 4506, section 4.10).
+    #[error("a byte of padding is not zero")]
+    BadPad = 2,
+    /// A boolean is neither 0 nor 1 (RFC 4506, section 4.4).
+    #[error("a boolean is neither 0 nor 1")]
+    BadBool = 3,
+    /// Opaque data are longer than the field may be: than the maximum that the reader was given,
+    /// or, for a writer, than the 4,294,967,295 bytes that a length can tell.
+    #[error("the opaque data are too long")]
+    TooLong = 4,
+    /// The field is longer than the room that is left.
+    #[error("there is no room for the field")]
+    NoRoom = 5,
+}

@@ -1,0 +1,138 @@
+//! Reading fields from left to right.
+
+ghost use Rattle.std.specs.Prelude.{◌≡◌, ◌==◌, ◌<◌, ◌≤◌, ◌^◌, ℕ, ℤ, Bool, List, length, IfOk, IsOkAnd};
+ghost use Rattle.std.specs.List.{list_all};
+ghost use Rattle.sv_xdr.specs.Spelling.{Begins, Unsigned, Signed, Boolean, Opaque, pad_len as pad_len_of};
+ghost use Rattle.sv_xdr.specs.Reader.{Gives, unsigned_at, signed_at, boolean_at, opaque_at, padded_at};
+
+use crate::fault::XdrFault;
+use std::marker::Model;
+
+/// A place in some bytes, from which fields are read from left to right. Contracts see it as the
+/// bytes from that place on.
+#[derive(Debug, Drop)]
+pub struct Reader<'a> {
+    rest: &'a [u8],
+}
+
+impl<'a> Model for Reader<'a> {
+    ghost use Rattle.std.specs.Prelude.{List, ℕ};
+
+    ghost Value = { List ℕ };
+
+    ghost view = { λ reader. reader.rest.now };
+}
+
+impl<'a> Reader<'a> {
+    /// At the front of these bytes.
+    pub fn new(bytes: &'a [u8]) -> Reader<'a>
+        ensures { result ≡ bytes.now }
+    {
+        Reader { rest: bytes }
+    }
+
+    /// The bytes from this place on.
+    pub fn rest(&self) -> &'a [u8]
+        ensures { result.now ≡ self.now }
+    {
+        self.rest
+    }
+
+    /// Reads an unsigned integer (RFC 4506, section 4.2). The fault is `Short`.
+    pub fn u32(&mut self) -> Result<u32, XdrFault>
+        // What is read is spelled there.
+        ensures found { IfOk result (λ n. Begins self.old (Unsigned n) self.new) }
+        // What is spelled there is read.
+        ensures only { (n : ℕ) (after : List ℕ) → Begins self.old (Unsigned n) after → (result ≡ Ok n) × (self.new ≡ after) }
+        // Which fault it is, and that it leaves the place.
+        ensures exact { Gives (λ n. n) result self.old self.new (unsigned_at self.old) }
+    {
+        if self.rest.len() < 4 {
+            return Err(XdrFault::Short);
+        }
+        let (front, rest) = self.rest.split_at(4);
+        *self = Reader { rest };
+        Ok(u32::from_be_bytes([front[0], front[1], front[2], front[3]]))
+    }
+
+    /// Reads a signed integer (RFC 4506, section 4.1). The fault is `Short`.
+    #[tactic(auto, unfolding(crate::specs::Reader::signed_at))]
+    pub fn i32(&mut self) -> Result<i32, XdrFault>
+        ensures found { IfOk result (λ z. Begins self.old (Signed z) self.new) }
+        ensures only { (z : ℤ) (after : List ℕ) → Begins self.old (Signed z) after → (result ≡ Ok z) × (self.new ≡ after) }
+        ensures exact { Gives (λ z. z) result self.old self.new (signed_at self.old) }
+    {
+        let word = self.u32()?;
+        Ok(word.cast_signed())
+    }
+
+    /// Reads a boolean (RFC 4506, section 4.4). The faults are `Short` and then `BadBool`.
+    #[tactic(auto, unfolding(crate::specs::Reader::boolean_at))]
+    pub fn boolean(&mut self) -> Result<bool, XdrFault>
+        ensures found { IfOk result (λ b. Begins self.old (Boolean b) self.new) }
+        ensures only { (b : Bool) (after : List ℕ) → Begins self.old (Boolean b) after → (result ≡ Ok b) × (self.new ≡ after) }
+        ensures exact { Gives (λ b. b) result self.old self.new (boolean_at self.old) }
+    {
+        let mut ahead = Reader { rest: self.rest };
+        let value = match ahead.u32()? {
+            0 => false,
+            1 => true,
+            _ => return Err(XdrFault::BadBool),
+        };
+        *self = ahead;
+        Ok(value)
+    }
+
+    /// Reads variable-length opaque data of at most `max` bytes (RFC 4506, section 4.10), or a
+    /// string, which is spelled alike (section 4.11). The result is a slice of the bytes. The faults
+    /// are, in this order, `Short` for the length, `TooLong`, `Short` for the data and their pad,
+    /// and `BadPad`.
+    #[tactic(auto, unfolding(crate::specs::Reader::opaque_at))]
+    pub fn opaque(&mut self, max: u32) -> Result<&'a [u8], XdrFault>
+        ensures found { IfOk result (λ text. Begins self.old (Opaque text.now) self.new × (length text.now ≤ max)) }
+        ensures only { (text after : List ℕ) → Begins self.old (Opaque text) after → length text ≤ max
+            → IsOkAnd result (λ found. found.now ≡ text) × (self.new ≡ after) }
+        ensures exact { Gives (λ text. text.now) result self.old self.new (opaque_at max self.old) }
+    {
+        let mut ahead = Reader { rest: self.rest };
+        let size = ahead.u32()?;
+        if max < size {
+            return Err(XdrFault::TooLong);
+        }
+        let text = ahead.padded(size as usize)?;
+        *self = ahead;
+        Ok(text)
+    }
+
+    /// Reads data of a known length and their pad.
+    #[tactic(auto, unfolding(crate::specs::Reader::padded_at))]
+    fn padded(&mut self, size: usize) -> Result<&'a [u8], XdrFault>
+        requires { size < 2 ^ 32 }
+        ensures { Gives (λ text. text.now) result self.old self.new (padded_at size self.old) }
+    {
+        let pad = pad_len(size);
+        if self.rest.len() < size + pad {
+            return Err(XdrFault::Short);
+        }
+        let (text, after) = self.rest.split_at(size);
+        let (zeros, after) = after.split_at(pad);
+        if !are_zeros(zeros) {
+            return Err(XdrFault::BadPad);
+        }
+        *self = Reader { rest: after };
+        Ok(text)
+    }
+}
+
+fn are_zeros(bytes: &[u8]) -> bool
+    ensures { result ≡ list_all (λ byte. byte == 0) bytes.now }
+{
+    bytes.iter().all(|byte| *byte == 0)
+}
+
+/// How many bytes pad `size` bytes to a multiple of four.
+pub(crate) fn pad_len(size: usize) -> usize
+    ensures { result ≡ pad_len_of size }
+{
+    (4 - size % 4) % 4
+}
