@@ -1,0 +1,4 @@
+pub mod Record
+pub mod RecordBuf
+pub mod Kept
+pub mod Laws

@@ -1,13 +1,15 @@
-// A library with one function.
+//! Remote procedure calls over a stream (RFC 5531): records, the headers of calls and replies, and
+//! the port mapper's GETPORT (RFC 1833).
+//!
+//! Only [`RecordBuf::new`] takes memory.
 #![tactic(auto)]
 
-ghost use Rattle.std.specs.Prelude.{◌≡◌};
-ghost use Rattle.sv_rpc.specs.Echo.{echo_of};
+use std::alloc::AllocError;
 
-// The `ensures` clause is the contract: what `echo` returns is `echo_of` of its argument, a definition
-// in `specs/Echo.antt`, which a caller's clause can cite too.
-pub fn echo(x: usize) -> usize
-    ensures { result ≡ echo_of x }
-{
-    x
-}
+pub mod laws;
+mod record_buf;
+
+pub use record_buf::{RecordBuf, RpcFault};
+
+/// No memory was left.
+pub type NoMemory = AllocError;

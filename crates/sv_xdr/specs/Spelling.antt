@@ -35,6 +35,11 @@ Spells bytes (Opaque text) = (size pad : List ℕ) × IsWord size (length text) 
 abbrev pub Begins : List ℕ → Field → List ℕ → Type 0
 Begins bytes field after = (front : List ℕ) × Spells front field × (bytes ≡ front ++ after)
 
+-- The bytes begin with these fields, one behind the other, and these bytes come after them.
+abbrev pub BeginsAll : List ℕ → List Field → List ℕ → Type 0
+BeginsAll bytes [] after = bytes ≡ after
+BeginsAll bytes (field ∷ fields) after = (middle : List ℕ) × Begins bytes field middle × BeginsAll middle fields after
+
 -- how many bytes pad n bytes to a multiple of four
 abbrev pub pad_len : ℕ → ℕ
 pad_len n = (4 - n % 4) % 4

@@ -1,5 +1,6 @@
 -- What a writer has written, and what a write leaves.
-use Rattle.std.specs.Prelude.{◌≡◌, ℕ, ◌<◌, ◌≤◌, List, ◌++◌, length, take, drop, Result, Ok, Err}
+use Rattle.std.specs.Prelude.{◌≡◌, ℕ, ◌<◌, ◌≤◌, List, ◌∷◌, ◌++◌, length, take, drop, Result, Ok, Err}
+use Rattle.std.specs.List.{concat}
 use Rattle.sv_xdr.specs.declared.fault.XdrFault.{XdrFault}
 use Rattle.sv_xdr.specs.declared.fault.XdrFault.TheVariants.{NoRoom}
 use Rattle.sv_xdr.specs.declared.writer.Writer.{Writer}
@@ -32,3 +33,9 @@ pub record Stays (old new : Writer) : Type 0 where
 abbrev pub Writes : List ℕ → Result Unit XdrFault → Writer → Writer → Type 0
 Writes bytes (Ok done) old new = Appends bytes old new
 Writes bytes (Err fault) old new = (fault ≡ NoRoom) × (length (rest_of old) < length bytes) × Stays old new
+
+-- The pieces are written one behind the other. Where one has no room, those in front of it stay written, and nothing else is.
+abbrev pub WritesEach : List (List ℕ) → Result Unit XdrFault → Writer → Writer → Type 0
+WritesEach pieces (Ok done) old new = Appends (concat pieces) old new
+WritesEach pieces (Err fault) old new = (fault ≡ NoRoom) × (front behind : List (List ℕ)) × (piece : List ℕ) × (pieces ≡ front ++ piece ∷ behind)
+    × Appends (concat front) old new × (length (rest_of new) < length piece)

@@ -1,0 +1,56 @@
+-- Bytes cut into records, and how much they count.
+use Rattle.std.proofs.Common.{◌≡◌, ℕ, ◌+◌, ◌-◌, ◌*◌, ◌≤◌, Bool, List, [], ◌∷◌, ◌++◌, length, take, drop, refl, sym, ap, ◌∙◌, append_assoc, arith}
+use Rattle.std.specs.Prelude.{sum, sum_by}
+use Rattle.std.proofs.lemmas.List.{length-append, length-take-le, length-drop, take-append-le, drop-append-le, drop-drop}
+use Rattle.std.proofs.lemmas.List.Sums.{sum_by-append, sum_by-cons}
+use Rattle.std.proofs.Math.Seq.{take-length}
+use Rattle.sv_rpc.specs.Record.{Tail, Header, Data}
+use Rattle.sv_rpc.specs.RecordBuf.{used_by}
+use Rattle.sv_rpc.specs.Kept.{cut}
+
+pub sum-cons : (n : ℕ) (ns : List ℕ) → sum (n ∷ ns) ≡ n + sum ns
+sum-cons n ns = sum_by-cons (λ x. x) n ns
+
+pub sum-push : (ns : List ℕ) (n : ℕ) → sum (ns ++ n ∷ []) ≡ sum ns + n
+sum-push ns n = sum_by-append (λ x. x) ns (n ∷ []) ∙ ap (λ (k : ℕ). sum ns + k) (sum-cons n [] ∙ omega arith)
+
+-- what whole records count
+pub counted-cut : (ns : List ℕ) (bytes : List ℕ) → sum ns ≤ length bytes → sum_by (λ (r : List ℕ). 4 + length r) (cut ns bytes) ≡ 4 * length ns + sum ns
+counted-cut [] bytes h = refl
+counted-cut (n ∷ ns) bytes h =
+    let total = sum-cons n ns in
+    let short : sum ns ≤ length (drop n bytes) = omega (arith, length-drop n bytes) in
+    let size : length (take n bytes) ≡ n = length-take-le n bytes (omega arith) in
+    omega (arith, sum_by-cons (λ (r : List ℕ). 4 + length r) (take n bytes) (cut ns (drop n bytes)), counted-cut ns (drop n bytes) short)
+
+-- more bytes behind them change no record
+pub cut-append : (ns bytes piece : List ℕ) → sum ns ≤ length bytes → cut ns (bytes ++ piece) ≡ cut ns bytes
+cut-append [] bytes piece h = refl
+cut-append (n ∷ ns) bytes piece h =
+    let total = sum-cons n ns in
+    let le : n ≤ length bytes = omega arith in
+    let short : sum ns ≤ length (drop n bytes) = omega (arith, length-drop n bytes) in
+    let first = take-append-le n bytes piece le in
+    let others = ap (cut ns) (drop-append-le n bytes piece le) ∙ cut-append ns (drop n bytes) piece short in
+    cc
+
+-- what stands behind them is one record more
+pub cut-push : (ns bytes : List ℕ) (n : ℕ) → sum ns + n ≡ length bytes → cut (ns ++ n ∷ []) bytes ≡ cut ns bytes ++ drop (sum ns) bytes ∷ []
+cut-push [] bytes n h = let size : n ≡ length bytes = omega arith in ap (λ (r : List ℕ). r ∷ []) (ap (λ (k : ℕ). take k bytes) size ∙ take-length bytes)
+cut-push (m ∷ ns) bytes n h =
+    let total = sum-cons m ns in
+    let rest : sum ns + n ≡ length (drop m bytes) = omega (arith, length-drop m bytes) in
+    let behind : drop (sum ns) (drop m bytes) ≡ drop (sum (m ∷ ns)) bytes = drop-drop (sum ns) m bytes ∙ ap (λ (k : ℕ). drop k bytes) (sym total) in
+    ap (λ (rs : List (List ℕ)). take m bytes ∷ rs) (cut-push ns (drop m bytes) n rest ∙ ap (λ (r : List ℕ). cut ns (drop m bytes) ++ r ∷ []) behind)
+
+behind-length : (ns bytes : List ℕ) (n : ℕ) → sum ns + n ≡ length bytes → length (drop (sum ns) bytes) ≡ n
+behind-length ns bytes n h = omega (arith, length-drop (sum ns) bytes)
+
+-- what the buffer counts, by the lengths of its parts
+pub used_at_header : (ns bytes header : List ℕ) (n : ℕ) → sum ns + n ≡ length bytes
+    → used_by (cut ns bytes) (Header (drop (sum ns) bytes) header) ≡ 4 * length ns + length bytes + 4 + length header
+used_at_header ns bytes header n h = omega (arith, counted-cut ns bytes (omega arith), length-drop (sum ns) bytes)
+
+pub used_in_data : (ns bytes : List ℕ) (n missing : ℕ) (last : Bool) → sum ns + n ≡ length bytes
+    → used_by (cut ns bytes) (Data (drop (sum ns) bytes) missing last) ≡ 4 * length ns + length bytes + 4
+used_in_data ns bytes n missing last h = omega (arith, counted-cut ns bytes (omega arith), length-drop (sum ns) bytes)

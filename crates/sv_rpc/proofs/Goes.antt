@@ -1,0 +1,125 @@
+-- What is held stands for the stream as it goes on.
+use Rattle.std.proofs.Common.{◌≡◌, ℕ, ◌+◌, ◌-◌, ◌%◌, ◌<◌, ◌≤◌, ◌^◌, Bool, true, false, cond, ltb, leb, List, [], ◌∷◌, ◌++◌, length, take, drop, set, refl, sym, ap, subst, ◌∙◌, arith, inl, inr}
+use Rattle.std.specs.Prelude.{sum}
+use Rattle.std.specs.Int.{w32, from_be_bytes}
+use Rattle.std.proofs.lemmas.Bool.{cases_lt, le-ltb, lt-ltb}
+use Rattle.std.proofs.lemmas.List.{length-append, drop-append-le, append_assoc}
+use Rattle.sv_rpc.specs.Record.{Tail, Header, Data, TooLong, Splits, header_of}
+use Rattle.sv_rpc.specs.RecordBuf.{Held, StandsFor}
+use Rattle.sv_rpc.specs.declared.record_buf.Place.{Place}
+use Rattle.sv_rpc.specs.declared.record_buf.Place.TheVariants as place
+use Rattle.sv_rpc.specs.Kept.{InRoom, IsPlace, IsInHeader, held_of, tail_of, cut, GoesOn, after_byte, after_header, after_data}
+use Rattle.sv_rpc.proofs.Steps.{header_grows, header_ends, empty_ends, empty_last_ends, header_too_long, data_grows, data_ends, data_last_ends, too_long_stays}
+
+abbrev held : List (List ℕ) → Tail → Held
+held records tail = record { records = records; tail = tail }
+
+-- another tail behind the same records
+same_records : (records : List (List ℕ)) (s t : Tail) (stream piece : List ℕ) (dropped : ℕ) (st : StandsFor (held records s) stream dropped) → Splits (stream ++ piece) st.all t
+    → StandsFor (held records t) (stream ++ piece) dropped
+same_records records s t stream piece dropped st splits = record { all = st.all; splits = splits; few = st.few; kept = st.kept }
+
+-- a record more
+more_records : (records : List (List ℕ)) (r : List ℕ) (s t : Tail) (stream piece : List ℕ) (dropped : ℕ) (st : StandsFor (held records s) stream dropped)
+    → Splits (stream ++ piece) (st.all ++ r ∷ []) t → StandsFor (held (records ++ r ∷ []) t) (stream ++ piece) dropped
+more_records records r s t stream piece dropped st splits = record {
+  all = st.all ++ r ∷ [];
+  splits = splits;
+  few = omega (arith, length-append st.all (r ∷ []), st.few);
+  kept = ap (λ (rs : List (List ℕ)). rs ++ r ∷ []) st.kept ∙ sym (drop-append-le dropped st.all (r ∷ []) st.few);
+}
+
+-- a whole header
+header_goes : (records : List (List ℕ)) (payload header : List ℕ) (byte size : ℕ) (last : Bool) → header ++ byte ∷ [] ≡ header_of last size → size < 2 ^ 31
+    → GoesOn (held records (Header payload header)) (after_header records (Header payload header) size last) (byte ∷ [])
+header_goes records payload header byte size last whole small stream dropped st =
+    elim (cases_lt 8192 (length payload + size)) [
+      | inl long ↦ rw (lt-ltb 8192 (length payload + size) long)
+          (same_records records (Header payload header) TooLong stream (byte ∷ []) dropped st (header_too_long stream st.all payload header byte size last st.splits whole small long))
+      | inr short ↦ rw (le-ltb 8192 (length payload + size) short) (elim (cases_lt 0 size) [
+        | inl some ↦ rw (lt-ltb 0 size some)
+            (same_records records (Header payload header) (Data payload size last) stream (byte ∷ []) dropped st (header_ends stream st.all payload header byte size last st.splits whole some short))
+        | inr none ↦ rw (le-ltb 0 size none) (empty last (subst (λ (n : ℕ). header ++ byte ∷ [] ≡ header_of last n) (zero_size size none) whole)) ]) ]
+  where
+    zero_size : (n : ℕ) → n ≤ 0 → n ≡ 0
+    zero_size n h = omega arith
+    empty : (b : Bool) → header ++ byte ∷ [] ≡ header_of b 0
+        → StandsFor (cond b (held (records ++ payload ∷ []) (Header [] [])) (held records (Header payload []))) (stream ++ byte ∷ []) dropped
+    empty true e = more_records records payload (Header payload header) (Header [] []) stream (byte ∷ []) dropped st (empty_last_ends stream st.all payload header byte st.splits e)
+    empty false e = same_records records (Header payload header) (Header payload []) stream (byte ∷ []) dropped st (empty_ends stream st.all payload header byte st.splits e)
+
+-- a byte of a header, whole or not
+pub byte_goes : (records : List (List ℕ)) (payload header : List ℕ) (byte : ℕ)
+    → (3 ≤ length header → let word = from_be_bytes w32 (header ++ byte ∷ []) in header ++ byte ∷ [] ≡ header_of (leb (2 ^ 31) word) (word % 2 ^ 31))
+    → GoesOn (held records (Header payload header)) (after_byte records (Header payload header) byte) (byte ∷ [])
+byte_goes records payload header byte whole stream dropped st =
+    elim (cases_lt (length header) 3) [
+      | inl less ↦ rw (lt-ltb (length header) 3 less)
+          (same_records records (Header payload header) (Header payload (header ++ byte ∷ [])) stream (byte ∷ []) dropped st (header_grows stream st.all payload header byte st.splits (omega arith)))
+      | inr three ↦ rw (le-ltb (length header) 3 three) (header_goes records payload header byte _ _ (whole three) (omega arith) stream dropped st) ]
+
+-- some of a fragment's data
+pub data_goes : (records : List (List ℕ)) (payload piece : List ℕ) (missing : ℕ) (last : Bool) → length piece ≤ missing
+    → GoesOn (held records (Data payload missing last)) (after_data records (Data payload missing last) piece) piece
+data_goes records payload piece missing last within stream dropped st =
+    elim (cases_lt (length piece) missing) [
+      | inl less ↦ rw (lt-ltb (length piece) missing less)
+          (same_records records (Data payload missing last) (Data (payload ++ piece) (missing - length piece) last) stream piece dropped st (data_grows stream piece st.all payload missing last st.splits less))
+      | inr all ↦ rw (le-ltb (length piece) missing all) (ends last (omega arith) st) ]
+  where
+    ends : (b : Bool) → length piece ≡ missing → (st : StandsFor (held records (Data payload missing b)) stream dropped)
+        → StandsFor (cond b (held (records ++ (payload ++ piece) ∷ []) (Header [] [])) (held records (Header (payload ++ piece) []))) (stream ++ piece) dropped
+    ends true e st = more_records records (payload ++ piece) (Data payload missing true) (Header [] []) stream piece dropped st (data_last_ends stream piece st.all payload missing st.splits e)
+    ends false e st = same_records records (Data payload missing false) (Header (payload ++ piece) []) stream piece dropped st (data_ends stream piece st.all payload missing st.splits e)
+
+-- bytes behind the fault
+pub too_long_goes : (records : List (List ℕ)) (piece : List ℕ) → GoesOn (held records TooLong) (held records TooLong) piece
+too_long_goes records piece stream dropped st = same_records records TooLong TooLong stream piece dropped st (too_long_stays stream piece st.all st.splits)
+
+-- one stretch after the other
+pub GoesOn-then : (old mid new : Held) (a b : List ℕ) → GoesOn old mid a → GoesOn mid new b → GoesOn old new (a ++ b)
+GoesOn-then old mid new a b first second stream dropped st = subst (λ (l : List ℕ). StandsFor new l dropped) (append_assoc stream a b) (second (stream ++ a) dropped (first stream dropped st))
+
+-- a byte of a header, where a buffer takes it in
+pub header_goes_on : (bytes lengths header : List ℕ) (spot : Place) (old new : Held) (byte : ℕ) → held_of bytes lengths header spot ≡ old → IsInHeader old.tail
+    → new ≡ after_byte old.records old.tail byte
+    → (3 ≤ length header → let word = from_be_bytes w32 (header ++ byte ∷ []) in header ++ byte ∷ [] ≡ header_of (leb (2 ^ 31) word) (word % 2 ^ 31))
+    → GoesOn old new (byte ∷ [])
+header_goes_on bytes lengths header spot old new byte is in_header value whole =
+    rw value (subst (λ (h : Held). IsInHeader h.tail → GoesOn h (after_byte h.records h.tail byte) (byte ∷ [])) is (at spot) in_header)
+  where
+    at : (p : Place) → IsInHeader (tail_of p (drop (sum lengths) bytes) header)
+        → GoesOn (held_of bytes lengths header p) (after_byte (cut lengths bytes) (tail_of p (drop (sum lengths) bytes) header) byte) (byte ∷ [])
+    at place.Header h = byte_goes (cut lengths bytes) (drop (sum lengths) bytes) header byte whole
+    at (place.Data missing last) h = absurd h
+    at place.TooLong h = absurd h
+
+-- the last byte of a header in its place
+set_last : (header : List ℕ) (n byte : ℕ) → length header ≡ 4 → n ≡ 3 → set header n byte ≡ take n header ++ byte ∷ []
+set_last [] n byte four is = absurd (omega arith)
+set_last (a ∷ []) n byte four is = absurd (omega arith)
+set_last (a ∷ b ∷ []) n byte four is = absurd (omega arith)
+set_last (a ∷ b ∷ c ∷ []) n byte four is = absurd (omega arith)
+set_last (a ∷ b ∷ c ∷ d ∷ []) n byte four is = rw is refl
+set_last (a ∷ b ∷ c ∷ d ∷ e ∷ header) n byte four is = absurd (omega arith)
+
+-- the word of a header that is whole with its last byte
+pub whole_word : (header : List ℕ) (n byte word : ℕ) → length header ≡ 4 → n ≡ 3 → word ≡ from_be_bytes w32 (set header n byte)
+    → set header n byte ≡ header_of (leb (2 ^ 31) word) (word % 2 ^ 31)
+    → let w = from_be_bytes w32 (take n header ++ byte ∷ []) in take n header ++ byte ∷ [] ≡ header_of (leb (2 ^ 31) w) (w % 2 ^ 31)
+whole_word header n byte word four is value whole =
+    subst (λ (h : List ℕ). let w = from_be_bytes w32 h in h ≡ header_of (leb (2 ^ 31) w) (w % 2 ^ 31)) (set_last header n byte four is)
+    (subst (λ (w : ℕ). set header n byte ≡ header_of (leb (2 ^ 31) w) (w % 2 ^ 31)) value whole)
+
+-- in a header that wants one byte, three came
+pub three_came : (spot : Place) (payload n : ℕ) (p h : List ℕ) → IsPlace spot payload n → IsInHeader (tail_of spot p h) → 3 ≤ n → n ≡ 3
+three_came place.Header payload n p h at in_header le = omega (arith, at.1)
+three_came (place.Data missing last) payload n p h at in_header le = absurd in_header
+three_came place.TooLong payload n p h at in_header le = absurd in_header
+
+-- some of a fragment's data, where a buffer takes it in
+pub data_goes_on : (bytes lengths header : List ℕ) (spot : Place) (old new : Held) (missing : ℕ) (last : Bool) (piece : List ℕ) → held_of bytes lengths header spot ≡ old
+    → spot ≡ place.Data missing last → new ≡ after_data old.records old.tail piece → length piece ≤ missing → GoesOn old new piece
+data_goes_on bytes lengths header spot old new missing last piece is at value within =
+    let old_is : held_of bytes lengths header (place.Data missing last) ≡ old = ap (held_of bytes lengths header) (sym at) ∙ is in
+    rw value (subst (λ (h : Held). GoesOn h (after_data h.records h.tail piece) piece) old_is (data_goes (cut lengths bytes) (drop (sum lengths) bytes) piece missing last within))

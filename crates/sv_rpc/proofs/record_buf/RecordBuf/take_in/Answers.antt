@@ -1,0 +1,16 @@
+use Rattle.std.proofs.Common.{◌≡◌, ℕ, ◌+◌, ◌-◌, length, subst, arith}
+use Rattle.std.proofs.lemmas.List.{length-take}
+use Rattle.sv_rpc.specs.Kept.{InRoom}
+use Rattle.sv_rpc.proofs.Rooms.{byte_room}
+use Rattle.sv_rpc.proofs.Goes.{data_goes_on}
+use Rattle.sv_rpc.proofs.record_buf.RecordBuf.take_in.Goals as goal
+
+pub returns-in-Header-clause-fits : goal.returns-in-Header-clause-fits
+returns-in-Header-clause-fits g c =
+    let one_more : length c.args.piece.now ≡ 1 + (length c.args.piece.now - 1) = omega (arith, c.requires.some) in
+    byte_room c.args.self.now c.take_header.new.self _ _ (rw (← c.self.view_is, c.in-Header.is) tt) c.take_header.ensures.value
+    (subst (λ (n : ℕ). InRoom c.args.self.now n) one_more c.requires.fits)
+
+pub returns-in-Data-clause-goes : goal.returns-in-Data-clause-goes
+returns-in-Data-clause-goes g c =
+    data_goes_on _ _ _ _ c.args.self.now _ _ _ _ c.self.view_is c.in-Data.is c.take_data.ensures (omega (arith, c.min-count.ensures, length-take c.min-count.result c.args.piece.now))

@@ -1,0 +1,106 @@
+-- How the fields of a record buffer keep what it holds, and how that changes byte by byte and piece by piece.
+use Rattle.std.specs.Prelude.{◌≡◌, ℕ, ◌+◌, ◌-◌, ◌*◌, ◌%◌, ◌<◌, ◌≤◌, ◌^◌, Bool, true, false, List, [], ◌∷◌, ◌++◌, length, take, drop, sum, nat_lt, nat_le, if◌then◌else◌}
+use Rattle.std.specs.Int.{w32, from_be_bytes}
+use Rattle.sv_rpc.specs.declared.record_buf.Place.{Place}
+use Rattle.sv_rpc.specs.declared.record_buf.Place.TheVariants as place
+use Rattle.sv_rpc.specs.Record.{Tail, Header, Data, TooLong}
+use Rattle.sv_rpc.specs.RecordBuf.{Held, StandsFor, used_by, room_of}
+
+-- the bytes cut into pieces of these lengths
+abbrev pub cut : List ℕ → List ℕ → List (List ℕ)
+cut [] bytes = []
+cut (n ∷ ns) bytes = take n bytes ∷ cut ns (drop n bytes)
+
+abbrev pub tail_of : Place → List ℕ → List ℕ → Tail
+tail_of place.Header payload header = Header payload header
+tail_of (place.Data missing last) payload header = Data payload missing last
+tail_of place.TooLong payload header = TooLong
+
+abbrev pub held_of : List ℕ → List ℕ → List ℕ → Place → Held
+held_of bytes lengths header place = record { records = cut lengths bytes; tail = tail_of place (drop (sum lengths) bytes) header }
+
+-- More bytes fit. While no header of the unfinished record is whole, the 4 that it counts are still free.
+abbrev pub spare_of : List ℕ → ℕ
+spare_of [] = 4
+spare_of (b ∷ payload) = 0
+
+abbrev pub Fits : List (List ℕ) → Tail → ℕ → Type 0
+Fits records (Header payload header) n = used_by records (Header payload header) + n ≤ 16384 + spare_of payload
+Fits records (Data payload missing last) n = used_by records (Data payload missing last) + n ≤ 16384
+Fits records TooLong n = Unit {0}
+
+abbrev pub InRoom : Held → ℕ → Type 0
+InRoom held n = Fits held.records held.tail n
+
+-- what of an unfinished header counts, or all the room
+abbrev pub begun_of : Place → ℕ → ℕ
+begun_of place.Header header_len = header_len
+begun_of (place.Data missing last) header_len = 0
+begun_of place.TooLong header_len = 16384
+
+-- the place is one that a record may be at
+abbrev pub IsPlace : Place → ℕ → ℕ → Type 0
+IsPlace place.Header payload header_len = (payload ≤ 8192) × (header_len < 4)
+IsPlace (place.Data missing last) payload header_len = (0 < missing) × (payload + missing ≤ 8192) × (header_len ≡ 0)
+IsPlace place.TooLong payload header_len = Unit {0}
+
+pub record IsKept (bytes lengths header : List ℕ) (space slots payload header_len : ℕ) (place : Place) : Type 0 where
+  pub whole : sum lengths + payload ≡ length bytes
+  pub four : length header ≡ 4
+  pub at : IsPlace place payload header_len
+  pub enough : 16384 ≤ space
+  pub many : 4096 ≤ slots
+  pub counted : 4 * length lengths + length bytes ≤ 16384
+
+abbrev pub IsInHeader : Tail → Type 0
+IsInHeader (Header payload header) = Unit {0}
+IsInHeader (Data payload missing last) = ⊥
+IsInHeader TooLong = ⊥
+
+abbrev pub IsBeforeHeader : Tail → Type 0
+IsBeforeHeader (Header payload header) = header ≡ []
+IsBeforeHeader (Data payload missing last) = ⊥
+IsBeforeHeader TooLong = ⊥
+
+abbrev pub IsInData : Tail → ℕ → Bool → Type 0
+IsInData (Header payload header) n b = ⊥
+IsInData (Data payload missing last) n b = (missing ≡ n) × (last ≡ b)
+IsInData TooLong n b = ⊥
+
+-- the payload of the unfinished record
+abbrev pub payload_of : Tail → List ℕ
+payload_of (Header payload header) = payload
+payload_of (Data payload missing last) = payload
+payload_of TooLong = []
+
+-- the unfinished record is whole
+abbrev pub finished : List (List ℕ) → Tail → Held
+finished records tail = record { records = records ++ payload_of tail ∷ []; tail = Header [] [] }
+
+-- a header is whole
+abbrev pub after_header : List (List ℕ) → Tail → ℕ → Bool → Held
+after_header records tail size last =
+    let payload = payload_of tail in
+    if nat_lt 8192 (length payload + size) then record { records = records; tail = TooLong }
+    else (if nat_lt 0 size then record { records = records; tail = Data payload size last }
+    else (if last then finished records tail else record { records = records; tail = Header payload [] }))
+
+-- one more byte of a header
+abbrev pub after_byte : List (List ℕ) → Tail → ℕ → Held
+after_byte records (Header payload header) byte =
+    if nat_lt (length header) 3 then record { records = records; tail = Header payload (header ++ byte ∷ []) }
+    else (let word = from_be_bytes w32 (header ++ byte ∷ []) in after_header records (Header payload header) (word % 2 ^ 31) (nat_le (2 ^ 31) word))
+after_byte records (Data payload missing last) byte = record { records = records; tail = Data payload missing last }
+after_byte records TooLong byte = record { records = records; tail = TooLong }
+
+-- more of a fragment's data
+abbrev pub after_data : List (List ℕ) → Tail → List ℕ → Held
+after_data records (Header payload header) piece = record { records = records; tail = Header payload header }
+after_data records (Data payload missing last) piece =
+    if nat_lt (length piece) missing then record { records = records; tail = Data (payload ++ piece) (missing - length piece) last }
+    else (if last then record { records = records ++ (payload ++ piece) ∷ []; tail = Header [] [] } else record { records = records; tail = Header (payload ++ piece) [] })
+after_data records TooLong piece = record { records = records; tail = TooLong }
+
+-- What is held goes on from old to new by these bytes of the stream.
+abbrev pub GoesOn : Held → Held → List ℕ → Type 0
+GoesOn old new front = (stream : List ℕ) (dropped : ℕ) → StandsFor old stream dropped → StandsFor new (stream ++ front) dropped

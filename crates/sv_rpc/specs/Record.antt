@@ -1,0 +1,59 @@
+-- Record marking (RFC 5531, section 11), as a relation between a whole stream of bytes and its records.
+use Rattle.std.specs.Prelude.{◌≡◌, ℕ, ◌+◌, ◌<◌, ◌≤◌, ◌^◌, Bool, true, false, List, ◌++◌, length, map}
+use Rattle.std.specs.List.{concat, flat_map, AllByRecursion}
+use Rattle.sv_xdr.specs.Spelling.{Unsigned, spelling}
+
+-- the longest record that is taken, in bytes
+abbrev pub max_record : ℕ
+max_record = 8192
+
+-- A fragment's header is a word: its top bit marks the last fragment of a record, the 31 low bits are the length of the fragment's data.
+abbrev pub header_of : Bool → ℕ → List ℕ
+header_of true size = spelling (Unsigned (size + 2 ^ 31))
+header_of false size = spelling (Unsigned size)
+
+-- a fragment: its header and its data
+abbrev pub fragment : Bool → List ℕ → List ℕ
+fragment last text = header_of last (length text) ++ text
+
+-- a record as it is sent: the data of the fragments in front of the last one, and those of the last
+pub record Sent : Type 0 where
+  pub front : List (List ℕ)
+  pub final : List ℕ
+
+abbrev pub bytes_of : Sent → List ℕ
+bytes_of sent = flat_map (fragment false) sent.front ++ fragment true sent.final
+
+-- the record itself: the data of its fragments, joined
+abbrev pub record_of : Sent → List ℕ
+record_of sent = concat sent.front ++ sent.final
+
+abbrev pub IsTaken : Sent → Type 0
+IsTaken sent = length (record_of sent) ≤ max_record
+
+-- What stands behind the last whole record. In front of Header and in Data the payload is that of the unfinished record so far.
+pub data Tail : Type 0 where
+  Header : (payload header : List ℕ) → Tail
+  Data : (payload : List ℕ) (missing : ℕ) (last : Bool) → Tail
+  TooLong : Tail
+
+-- Behind whole fragments that aren't the last of their record stands less than a header, or a header and less than its data, or the header that
+-- makes the record too long, and then anything.
+abbrev pub IsTail : List ℕ → Tail → Type 0
+IsTail bytes (Header payload header) = (front : List (List ℕ)) × (bytes ≡ flat_map (fragment false) front ++ header)
+    × (payload ≡ concat front) × (length header < 4) × (length payload ≤ max_record)
+IsTail bytes (Data payload missing last) = (front : List (List ℕ)) × (text : List ℕ)
+    × (bytes ≡ flat_map (fragment false) front ++ (header_of last (length text + missing) ++ text))
+    × (payload ≡ concat front ++ text) × (0 < missing) × (length payload + missing ≤ max_record)
+IsTail bytes TooLong = (front : List (List ℕ)) × (size : ℕ) × (last : Bool) × (more : List ℕ)
+    × (bytes ≡ flat_map (fragment false) front ++ (header_of last size ++ more))
+    × (length (concat front) ≤ max_record) × (size < 2 ^ 31) × (max_record < length (concat front) + size)
+
+-- The stream is these records, and then this tail.
+pub record Splits (stream : List ℕ) (records : List (List ℕ)) (tail : Tail) : Type 0 where
+  pub sent : List Sent
+  pub rest : List ℕ
+  pub whole : stream ≡ flat_map bytes_of sent ++ rest
+  pub told : map record_of sent ≡ records
+  pub taken : AllByRecursion IsTaken sent
+  pub behind : IsTail rest tail

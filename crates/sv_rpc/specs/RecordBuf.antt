@@ -1,0 +1,54 @@
+-- What a record buffer holds of a stream, and its room.
+use Rattle.std.specs.Prelude.{◌≡◌, ℕ, ◌+◌, ◌-◌, ◌≤◌, Bool, List, [], ◌∷◌, length, drop, sum_by, Option, Some, None, Result, Ok, Err, option_map}
+use Rattle.std.specs.Borrow.{Bor}
+use Rattle.sv_rpc.specs.declared.record_buf.RpcFault.{RpcFault}
+use Rattle.sv_rpc.specs.declared.record_buf.RpcFault.TheVariants.{RecordTooLong}
+use Rattle.sv_rpc.specs.Record.{Tail, Header, Data, TooLong, Splits}
+
+-- the whole records that weren't dropped, and what stands behind them
+pub record Held : Type 0 where
+  pub records : List (List ℕ)
+  pub tail : Tail
+
+abbrev pub nothing_held : Held
+nothing_held = record { records = []; tail = Header [] [] }
+
+-- The buffer holds what is in the stream behind the records that were dropped, which are the first so many.
+pub record StandsFor (held : Held) (stream : List ℕ) (dropped : ℕ) : Type 0 where
+  pub all : List (List ℕ)
+  pub splits : Splits stream all held.tail
+  pub few : dropped ≤ length all
+  pub kept : held.records ≡ drop dropped all
+
+-- how many bytes are counted, in all, for whole records that stand there and for the unfinished one, which counts 4 even when nothing of it came
+abbrev pub used_by : List (List ℕ) → Tail → ℕ
+used_by records (Header payload header) = sum_by (λ r. 4 + length r) records + (4 + length payload + length header)
+used_by records (Data payload missing last) = sum_by (λ r. 4 + length r) records + (4 + length payload)
+used_by records TooLong = 16384
+
+-- how many bytes may be pushed
+abbrev pub room_of : Held → ℕ
+room_of held = 16384 - used_by held.records held.tail
+
+-- the next record; behind the last one its fault, or none yet
+abbrev pub at_end : Tail → Result (Option (List ℕ)) RpcFault
+at_end (Header payload header) = Ok None
+at_end (Data payload missing last) = Ok None
+at_end TooLong = Err RecordTooLong
+
+abbrev pub next_among : List (List ℕ) → Tail → Result (Option (List ℕ)) RpcFault
+next_among [] tail = at_end tail
+next_among (r ∷ rs) tail = Ok (Some r)
+
+-- Of the stream's records the one behind those that were dropped is next.
+abbrev pub IsNext : List ℕ → ℕ → Result (Option (List ℕ)) RpcFault → Type 0
+IsNext stream dropped answer = (all : List (List ℕ)) × (tail : Tail) × Splits stream all tail × (dropped ≤ length all) × (answer ≡ next_among (drop dropped all) tail)
+
+-- The room is counted over the stream's records without those that were dropped.
+abbrev pub IsRoom : List ℕ → ℕ → ℕ → Type 0
+IsRoom stream dropped room = (all : List (List ℕ)) × (tail : Tail) × Splits stream all tail × (dropped ≤ length all) × (room ≡ 16384 - used_by (drop dropped all) tail)
+
+-- the answer as plain data
+abbrev pub seen : Result (Option (Bor (List ℕ))) RpcFault → Result (Option (List ℕ)) RpcFault
+seen (Ok found) = Ok (option_map (λ r. r.now) found)
+seen (Err fault) = Err fault

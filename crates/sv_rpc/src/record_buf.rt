@@ -1,0 +1,261 @@
+//! The records of a stream, which comes in any pieces.
+
+ghost use Rattle.std.specs.Prelude.{◌≡◌, ◌≢◌, ℕ, ◌+◌, ◌-◌, ◌%◌, ◌<◌, ◌≤◌, ◌^◌, List, [], ◌∷◌, ◌++◌, length, take, drop, nat_le, vec_len, vec_capacity, IfOk};
+ghost use Rattle.std.specs.Int.{w32, from_be_bytes};
+ghost use Rattle.sv_rpc.specs.Record.{header_of};
+ghost use Rattle.sv_rpc.specs.RecordBuf.{Held, StandsFor, IsNext, IsRoom, nothing_held, room_of, next_among, used_by, seen};
+ghost use Rattle.sv_rpc.specs.Kept.{InRoom, GoesOn, IsInHeader, IsBeforeHeader, IsInData, after_byte, after_header, after_data, finished};
+
+use crate::NoMemory;
+use std::alloc::{Allocator, Global};
+use std::marker::Model;
+use thiserror::Error;
+
+/// How many bytes the records in a buffer may take, with 4 for each.
+const CAPACITY: usize = 16384;
+/// The longest record, in bytes.
+const MAX_RECORD: usize = 8192;
+/// How many records fit: the shortest is empty and counts 4.
+const MAX_RECORDS: usize = CAPACITY / 4;
+
+/// Why no further record comes.
+#[derive(Clone, Copy, Debug, PartialEq, Eq, Error)]
+pub enum RpcFault {
+    /// A fragment's header made its record longer than 8,192 bytes. No record follows.
+    #[error("a record is longer than 8192 bytes")]
+    RecordTooLong = 1,
+}
+
+/// What the next byte of the stream belongs to.
+#[derive(Clone, Copy, Debug)]
+enum Place {
+    /// A fragment's header.
+    Header,
+    /// A fragment's data, of which so many bytes are missing.
+    Data { missing: usize, last: bool },
+    /// Nothing, since a record was too long.
+    TooLong,
+}
+
+/// The records of a stream of bytes (record marking, RFC 5531, section 11), in the order in which
+/// they come. A record stays in the buffer, and counts there, until it is dropped.
+#[derive(Drop)]
+pub struct RecordBuf<A: Allocator = Global> {
+    /// The records, and behind them what came of the unfinished one.
+    bytes: Vec<u8, A>,
+    /// The length of each whole record.
+    lengths: Vec<u16, A>,
+    /// How many bytes of the unfinished record came.
+    payload: usize,
+    /// What came of an unfinished header.
+    header: [u8; 4],
+    /// How many bytes of it came.
+    header_len: usize,
+    place: Place,
+}
+
+impl<A: Allocator> Model for RecordBuf<A> {
+    ghost use Rattle.sv_rpc.specs.RecordBuf.{Held};
+
+    ghost Value = { Held };
+
+    ghost use Rattle.std.specs.Prelude.{take, vec_capacity};
+    ghost use Rattle.sv_rpc.specs.Kept.{held_of, IsKept};
+
+    ghost view = { λ a. held_of a.bytes.items a.lengths.items (take a.header_len a.header) a.place };
+
+    ghost invariant = { λ a. IsKept a.bytes.items a.lengths.items a.header (vec_capacity a.bytes) (vec_capacity a.lengths) a.payload a.header_len a.place };
+}
+
+impl<A: Allocator + Copy> RecordBuf<A> {
+    /// A buffer in which nothing stands. It takes all the memory that it ever uses.
+    pub fn new(alloc: A) -> Result<RecordBuf<A>, NoMemory>
+        ensures { IfOk result (λ buffer. (buffer ≡ nothing_held) × StandsFor buffer [] 0) }
+    {
+        Ok(RecordBuf {
+            bytes: Vec::with_capacity(alloc, CAPACITY)?,
+            lengths: Vec::with_capacity(alloc, MAX_RECORDS)?,
+            payload: 0,
+            header: [0; 4],
+            header_len: 0,
+            place: Place::Header,
+        })
+    }
+}
+
+impl<A: Allocator> RecordBuf<A> {
+    /// How many bytes may be pushed: of 16,384, what is left behind 4 and the length of each whole
+    /// record that wasn't dropped, 4 and what came of the unfinished one, and what came of an
+    /// unfinished fragment header. It is 0 once a record was too long.
+    pub fn room(&self) -> usize
+        ensures value { result ≡ room_of self.now }
+        ensures answer { (stream : List ℕ) (dropped : ℕ) → StandsFor self.now stream dropped → IsRoom stream dropped result }
+    {
+        let begun = match self.place {
+            Place::Header => self.header_len,
+            Place::Data { .. } => 0,
+            Place::TooLong => CAPACITY,
+        };
+        CAPACITY.saturating_sub(4 * self.lengths.len() + self.bytes.len() + 4 + begun)
+    }
+
+    /// The first record that wasn't dropped, a slice of the buffer; or none yet. Behind the last
+    /// record in front of one that is too long, that fault.
+    pub fn next(&self) -> Result<Option<&[u8]>, RpcFault>
+        ensures value { seen result ≡ next_among self.now.records self.now.tail }
+        ensures answer { (stream : List ℕ) (dropped : ℕ) → StandsFor self.now stream dropped → IsNext stream dropped (seen result) }
+    {
+        if let Some(size) = self.lengths.first() {
+            return Ok(Some(&self.bytes[..usize::from(*size)]));
+        }
+        match self.place {
+            Place::Header | Place::Data { .. } => Ok(None),
+            Place::TooLong => Err(RpcFault::RecordTooLong),
+        }
+    }
+
+    /// Drops the first record, which the caller is done with.
+    pub fn drop_first(&mut self)
+        requires { self.old.records ≢ [] }
+        ensures value { self.new ≡ record { records = drop 1 self.old.records; tail = self.old.tail } }
+        ensures stands { (stream : List ℕ) (dropped : ℕ) → StandsFor self.old stream dropped → StandsFor self.new stream (dropped + 1) }
+    {
+        let size = usize::from(self.lengths.remove(0));
+        self.bytes.drain(..size);
+    }
+
+    /// Forgets everything, as when it was new.
+    pub fn clear(&mut self)
+        ensures value { self.new ≡ nothing_held }
+        ensures stands { StandsFor self.new [] 0 }
+    {
+        self.bytes.clear();
+        self.lengths.clear();
+        self.payload = 0;
+        self.header_len = 0;
+        self.place = Place::Header;
+    }
+
+    /// Takes in the next bytes of the stream.
+    pub fn push(&mut self, piece: &[u8])
+        requires { length piece.now ≤ room_of self.old }
+        ensures { GoesOn self.old self.new piece.now }
+    {
+        let mut rest = piece;
+        while !rest.is_empty() {
+            let count = self.take_in(rest);
+            let (_, behind) = rest.split_at(count);
+            rest = behind;
+        }
+    }
+
+    /// Takes in some of the bytes, and tells how many.
+    fn take_in(&mut self, piece: &[u8]) -> usize
+        requires some { 0 < length piece.now }
+        requires fits { InRoom self.old (length piece.now) }
+        ensures some { (0 < result) × (result ≤ length piece.now) }
+        ensures fits { InRoom self.new (length piece.now - result) }
+        ensures goes { GoesOn self.old self.new (take result piece.now) }
+    {
+        match self.place {
+            Place::Header => {
+                self.take_header(piece[0]);
+                1
+            }
+            Place::Data { missing, last } => {
+                let count = missing.min(piece.len());
+                self.take_data(&piece[..count], missing, last);
+                count
+            }
+            Place::TooLong => piece.len(),
+        }
+    }
+
+    /// Takes in a byte of a header.
+    fn take_header(&mut self, byte: u8)
+        requires header { IsInHeader self.old.tail }
+        requires fits { InRoom self.old 1 }
+        ensures value { self.new ≡ after_byte self.old.records self.old.tail byte }
+        ensures goes { GoesOn self.old self.new (byte ∷ []) }
+    {
+        let mut header = self.header;
+        header[self.header_len] = byte;
+        if self.header_len < 3 {
+            self.header = header;
+            self.header_len += 1;
+            return;
+        }
+        self.header_len = 0;
+        let word = word_of(&header);
+        self.open((word % (1 << 31)) as usize, word >= 1 << 31);
+    }
+
+    /// Begins a fragment of this size, which is the last of its record or not.
+    fn open(&mut self, size: usize, last: bool)
+        requires header { IsBeforeHeader self.old.tail }
+        requires size { size < 2 ^ 31 }
+        requires fits { InRoom self.old 4 }
+        ensures { self.new ≡ after_header self.old.records self.old.tail size last }
+    {
+        if self.payload + size > MAX_RECORD {
+            self.place = Place::TooLong;
+        } else if size > 0 {
+            self.place = Place::Data {
+                missing: size,
+                last,
+            };
+        } else if last {
+            self.finish();
+        }
+    }
+
+    /// Takes in some of a fragment's data, of which so many bytes are missing.
+    fn take_data(&mut self, piece: &[u8], missing: usize, last: bool)
+        requires data { IsInData self.old.tail missing last }
+        requires some { length piece.now ≤ missing }
+        requires fits { InRoom self.old (length piece.now) }
+        ensures { self.new ≡ after_data self.old.records self.old.tail piece.now }
+    {
+        append(&mut self.bytes, piece);
+        self.payload += piece.len();
+        if piece.len() < missing {
+            self.place = Place::Data {
+                missing: missing - piece.len(),
+                last,
+            };
+            return;
+        }
+        self.place = Place::Header;
+        if last {
+            self.finish();
+        }
+    }
+
+    /// Makes what came of the unfinished record a whole one.
+    fn finish(&mut self)
+        requires header { IsBeforeHeader self.old.tail }
+        requires fits { used_by self.old.records self.old.tail ≤ 16384 }
+        ensures { self.new ≡ finished self.old.records self.old.tail }
+    {
+        self.lengths.push_reserved(self.payload as u16);
+        self.payload = 0;
+    }
+}
+
+/// Puts a piece behind bytes that have room for it.
+fn append<A: Allocator>(bytes: &mut Vec<u8, A>, piece: &[u8])
+    requires { vec_len bytes.old + length piece.now ≤ vec_capacity bytes.old }
+    ensures items { bytes.new.items ≡ bytes.old.items ++ piece.now }
+    ensures capacity { vec_capacity bytes.old ≤ vec_capacity bytes.new }
+{
+    bytes.extend_from_slice(piece).unwrap();
+}
+
+/// The word that a header is.
+fn word_of(header: &[u8]) -> u32
+    requires { length header.now ≡ 4 }
+    ensures value { result ≡ from_be_bytes w32 header.now }
+    ensures header { header.now ≡ header_of (nat_le (2 ^ 31) result) (result % 2 ^ 31) }
+{
+    u32::from_be_bytes([header[0], header[1], header[2], header[3]])
+}
