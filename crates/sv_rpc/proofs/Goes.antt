@@ -1,5 +1,5 @@
 -- What is held stands for the stream as it goes on.
-use Rattle.std.proofs.Common.{◌≡◌, ℕ, ◌+◌, ◌-◌, ◌%◌, ◌<◌, ◌≤◌, ◌^◌, Bool, true, false, cond, ltb, leb, List, [], ◌∷◌, ◌++◌, length, take, drop, set, refl, sym, ap, subst, ◌∙◌, arith, inl, inr}
+use Rattle.std.proofs.Common.{◌≡◌, ℕ, ◌+◌, ◌-◌, ◌%◌, ◌<◌, ◌≤◌, ◌^◌, Bool, true, false, cond, leb, List, [], ◌∷◌, ◌++◌, length, take, drop, set, refl, sym, ap, subst, ◌∙◌, arith, inl, inr}
 use Rattle.std.specs.Prelude.{sum}
 use Rattle.std.specs.Int.{w32, from_be_bytes}
 use Rattle.std.proofs.lemmas.Bool.{cases_lt, le-ltb, lt-ltb}
@@ -8,7 +8,7 @@ use Rattle.sv_rpc.specs.Record.{Tail, Header, Data, TooLong, Splits, header_of}
 use Rattle.sv_rpc.specs.RecordBuf.{Held, StandsFor}
 use Rattle.sv_rpc.specs.declared.record_buf.Place.{Place}
 use Rattle.sv_rpc.specs.declared.record_buf.Place.TheVariants as place
-use Rattle.sv_rpc.specs.Kept.{InRoom, IsPlace, IsInHeader, held_of, tail_of, cut, GoesOn, after_byte, after_header, after_data}
+use Rattle.sv_rpc.specs.Kept.{IsPlace, IsInHeader, held_of, tail_of, cut, GoesOn, after_byte, after_header, after_data}
 use Rattle.sv_rpc.proofs.Steps.{header_grows, header_ends, empty_ends, empty_last_ends, header_too_long, data_grows, data_ends, data_last_ends, too_long_stays}
 
 abbrev held : List (List ℕ) → Tail → Held
@@ -39,10 +39,13 @@ header_goes records payload header byte size last whole small stream dropped st 
       | inr short ↦ rw (le-ltb 8192 (length payload + size) short) (elim (cases_lt 0 size) [
         | inl some ↦ rw (lt-ltb 0 size some)
             (same_records records (Header payload header) (Data payload size last) stream (byte ∷ []) dropped st (header_ends stream st.all payload header byte size last st.splits whole some short))
-        | inr none ↦ rw (le-ltb 0 size none) (empty last (subst (λ (n : ℕ). header ++ byte ∷ [] ≡ header_of last n) (zero_size size none) whole)) ]) ]
+        | inr none ↦ rw (le-ltb 0 size none) (empty last (subst (λ (n : ℕ). header ++ byte ∷ [] ≡ header_of last n) (zero_size size none) whole))
+      ])
+    ]
   where
     zero_size : (n : ℕ) → n ≤ 0 → n ≡ 0
     zero_size n h = omega arith
+
     empty : (b : Bool) → header ++ byte ∷ [] ≡ header_of b 0
         → StandsFor (cond b (held (records ++ payload ∷ []) (Header [] [])) (held records (Header payload []))) (stream ++ byte ∷ []) dropped
     empty true e = more_records records payload (Header payload header) (Header [] []) stream (byte ∷ []) dropped st (empty_last_ends stream st.all payload header byte st.splits e)
@@ -56,7 +59,8 @@ byte_goes records payload header byte whole stream dropped st =
     elim (cases_lt (length header) 3) [
       | inl less ↦ rw (lt-ltb (length header) 3 less)
           (same_records records (Header payload header) (Header payload (header ++ byte ∷ [])) stream (byte ∷ []) dropped st (header_grows stream st.all payload header byte st.splits (omega arith)))
-      | inr three ↦ rw (le-ltb (length header) 3 three) (header_goes records payload header byte _ _ (whole three) (omega arith) stream dropped st) ]
+      | inr three ↦ rw (le-ltb (length header) 3 three) (header_goes records payload header byte _ _ (whole three) (omega arith) stream dropped st)
+    ]
 
 -- some of a fragment's data
 pub data_goes : (records : List (List ℕ)) (payload piece : List ℕ) (missing : ℕ) (last : Bool) → length piece ≤ missing
@@ -65,7 +69,8 @@ data_goes records payload piece missing last within stream dropped st =
     elim (cases_lt (length piece) missing) [
       | inl less ↦ rw (lt-ltb (length piece) missing less)
           (same_records records (Data payload missing last) (Data (payload ++ piece) (missing - length piece) last) stream piece dropped st (data_grows stream piece st.all payload missing last st.splits less))
-      | inr all ↦ rw (le-ltb (length piece) missing all) (ends last (omega arith) st) ]
+      | inr all ↦ rw (le-ltb (length piece) missing all) (ends last (omega arith) st)
+    ]
   where
     ends : (b : Bool) → length piece ≡ missing → (st : StandsFor (held records (Data payload missing b)) stream dropped)
         → StandsFor (cond b (held (records ++ (payload ++ piece) ∷ []) (Header [] [])) (held records (Header (payload ++ piece) []))) (stream ++ piece) dropped

@@ -1,13 +1,13 @@
 -- What a change of the fields makes of what is held.
-use Rattle.std.proofs.Common.{◌≡◌, ◌≢◌, ℕ, ◌+◌, ◌-◌, ◌*◌, ◌<◌, ◌≤◌, Bool, true, false, List, [], ◌∷◌, ◌++◌, length, take, drop, refl, sym, ap, subst, ◌∙◌, append_assoc, arith, inl, inr}
+use Rattle.std.proofs.Common.{◌≡◌, ◌≢◌, ℕ, ◌+◌, ◌-◌, ◌*◌, ◌<◌, ◌≤◌, Bool, true, false, List, [], ◌∷◌, ◌++◌, length, take, drop, refl, sym, ap, subst, ◌∙◌, arith, inl, inr}
 use Rattle.std.proofs.lemmas.Bool.{cases_lt, lt-ltb, le-ltb}
 use Rattle.std.specs.Prelude.{sum}
-use Rattle.std.proofs.lemmas.List.{length-append, length-take-le, length-drop, drop-drop, drop-append-le, drop_all}
+use Rattle.std.proofs.lemmas.List.{length-append, length-take-le, drop-drop, drop-append-le, drop_all}
 use Rattle.sv_rpc.specs.declared.record_buf.Place.{Place}
 use Rattle.sv_rpc.specs.declared.record_buf.Place.TheVariants as place
-use Rattle.sv_rpc.specs.Record.{Tail, Header, Data, TooLong, Splits}
+use Rattle.sv_rpc.specs.Record.{Header, Data}
 use Rattle.sv_rpc.specs.RecordBuf.{Held, StandsFor, IsRoom, used_by, room_of}
-use Rattle.sv_rpc.specs.Kept.{IsKept, InRoom, IsPlace, IsBeforeHeader, IsInData, held_of, cut, tail_of, spare_of, payload_of, finished, begun_of, after_data}
+use Rattle.sv_rpc.specs.Kept.{IsKept, InRoom, IsPlace, IsBeforeHeader, IsInData, held_of, cut, tail_of, finished, begun_of, after_data}
 use Rattle.sv_rpc.proofs.Cuts.{sum-push, cut-append, cut-push, used_at_header, used_in_data}
 
 -- the room of a value is the room of the stream
@@ -19,7 +19,7 @@ pub drop_answer : (old new : Held) (stream : List ℕ) (dropped : ℕ) → new �
     → StandsFor new stream (dropped + 1)
 drop_answer old new stream dropped e some s =
     let kept : drop 1 old.records ≡ drop (dropped + 1) s.all = ap (drop 1) s.kept ∙ drop-drop 1 dropped s.all in
-    let few : dropped + 1 ≤ length s.all = elim (cases_lt dropped (length s.all)) [ | inl lt ↦ omega arith | inr le ↦ absurd (some (s.kept ∙ drop_all dropped s.all le)) ] in
+    let few : dropped + 1 ≤ length s.all = elim (cases_lt dropped (length s.all)) [ inl lt ↦ omega arith | inr le ↦ absurd (some (s.kept ∙ drop_all dropped s.all le)) ] in
     rw e (record { all = s.all; splits = s.splits; few = few; kept = kept })
 
 -- the room, by the lengths of the parts
@@ -90,15 +90,15 @@ pub data_keeps : (bytes bytes' lengths header piece : List ℕ) (space space' sl
     → IsKept bytes lengths header space slots payload header_len spot → bytes' ≡ bytes ++ piece → space ≤ space' → 4 * length lengths + length bytes + 4 + length piece ≤ 16384
     → IsPlace spot' (payload + length piece) header_len → IsKept bytes' lengths header space' slots (payload + length piece) header_len spot'
 data_keeps bytes bytes' lengths header piece space space' slots payload header_len spot spot' k e f room at =
-  let size : length bytes' ≡ length bytes + length piece = ap length e ∙ length-append bytes piece in
-  record {
-    whole = omega (arith, k.whole);
-    four = k.four;
-    at = at;
-    enough = omega (arith, k.enough);
-    many = k.many;
-    counted = omega arith;
-  }
+    let size : length bytes' ≡ length bytes + length piece = ap length e ∙ length-append bytes piece in
+    record {
+      whole = omega (arith, k.whole);
+      four = k.four;
+      at = at;
+      enough = omega (arith, k.enough);
+      many = k.many;
+      counted = omega arith;
+    }
 
 -- what is held with a piece of data
 pub data_holds : (bytes bytes' lengths header piece : List ℕ) (n : ℕ) (spot' : Place) → sum lengths + n ≡ length bytes → bytes' ≡ bytes ++ piece
@@ -118,7 +118,7 @@ data_grown bytes bytes' lengths header piece n missing last spot old is at whole
     let old_is : held_of bytes lengths header (place.Data missing last) ≡ old = ap (held_of bytes lengths header) (sym at) ∙ is in
     data_holds bytes bytes' lengths header piece n (place.Data (missing - length piece) last) whole e
     ∙ subst (λ (h : Held). record { records = cut lengths bytes; tail = Data (drop (sum lengths) bytes ++ piece) (missing - length piece) last } ≡ after_data h.records h.tail piece) old_is
-      (rw (lt-ltb (length piece) missing less) refl)
+    (rw (lt-ltb (length piece) missing less) refl)
 
 -- the piece that ends a fragment, not the last one
 pub data_ended : (bytes bytes' lengths header piece : List ℕ) (n missing : ℕ) (last : Bool) (spot : Place) (old : Held) → held_of bytes lengths header spot ≡ old
@@ -128,7 +128,7 @@ data_ended bytes bytes' lengths header piece n missing last spot old is at whole
     let old_is : held_of bytes lengths header (place.Data missing last) ≡ old = ap (held_of bytes lengths header) (sym at) ∙ is in
     data_holds bytes bytes' lengths header piece n place.Header whole e
     ∙ subst (λ (h : Held). record { records = cut lengths bytes; tail = Header (drop (sum lengths) bytes ++ piece) header } ≡ after_data h.records h.tail piece) old_is
-      (rw (le-ltb (length piece) missing all, other, none) refl)
+    (rw (le-ltb (length piece) missing all, other, none) refl)
 
 -- the piece that ends the last fragment: the record is whole
 pub data_finished : (bytes bytes' lengths header piece : List ℕ) (n missing : ℕ) (last : Bool) (spot : Place) (old new : Held) → held_of bytes lengths header spot ≡ old
@@ -139,7 +139,7 @@ data_finished bytes bytes' lengths header piece n missing last spot old new is a
     let parts = data_holds bytes bytes' lengths header piece n place.Header whole e in
     let ended : new ≡ finished (cut lengths bytes) (Header (drop (sum lengths) bytes ++ piece) header) = value ∙ ap (λ (h : Held). finished h.records h.tail) parts in
     ended ∙ subst (λ (h : Held). finished (cut lengths bytes) (Header (drop (sum lengths) bytes ++ piece) header) ≡ after_data h.records h.tail piece) old_is
-      (rw (le-ltb (length piece) missing all, other) refl)
+    (rw (le-ltb (length piece) missing all, other) refl)
 
 -- where a fragment ends, there is room for its record
 pub ended_room : (bytes bytes' lengths header piece : List ℕ) (n : ℕ) → sum lengths + n ≡ length bytes → bytes' ≡ bytes ++ piece → header ≡ []

@@ -4,3 +4,6 @@ pub mod Steps
 pub mod OneReading
 pub mod Goes
 pub mod Rooms
+pub mod Written
+pub mod Calls
+pub mod PrefixFree

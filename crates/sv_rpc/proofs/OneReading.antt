@@ -79,8 +79,8 @@ fragment_reads last payload text rest reading fits next =
     let long : length text ≤ length (text ++ rest) = omega (arith, length-append text rest) in
     rw (append_assoc (header_of last (length text)) text rest)
     (header_reads last (length text) payload (text ++ rest) reading (omega arith)
-        (λ n more. rw (le-ltb 8192 (length payload + length text) fits, le-ltb (length (text ++ rest)) (length text) long, take_at text rest (length text) refl, drop_at text rest (length text) refl)
-            (next n (omega (arith, length-append text rest)))))
+    (λ n more. rw (le-ltb 8192 (length payload + length text) fits, le-ltb (length (text ++ rest)) (length text) long, take_at text rest (length text) refl, drop_at text rest (length text) refl)
+    (next n (omega (arith, length-append text rest)))))
 
 -- equal bytes are read alike
 moved : (payload a b : List ℕ) (reading : Reading) → b ≡ a → Reads payload a reading → Reads payload b reading

@@ -1,12 +1,11 @@
 -- What is taken in stays within the room.
-use Rattle.std.proofs.Common.{◌≡◌, ℕ, ◌+◌, ◌-◌, ◌%◌, ◌<◌, ◌≤◌, ◌^◌, Bool, true, false, cond, ltb, leb, List, [], ◌∷◌, ◌++◌, length, refl, sym, ap, subst, ◌∙◌, arith, inl, inr}
+use Rattle.std.proofs.Common.{◌≡◌, ℕ, ◌+◌, ◌≤◌, Bool, true, false, cond, List, [], ◌∷◌, ◌++◌, length, ap, ◌∙◌, arith, inl, inr}
 use Rattle.std.specs.Prelude.{sum_by}
-use Rattle.std.specs.Int.{w32, from_be_bytes}
 use Rattle.std.proofs.lemmas.Bool.{cases_lt, le-ltb, lt-ltb}
 use Rattle.std.proofs.lemmas.List.{length-append}
 use Rattle.std.proofs.lemmas.List.Sums.{sum_by-append, sum_by-cons}
 use Rattle.sv_rpc.specs.Record.{Tail, Header, Data, TooLong}
-use Rattle.sv_rpc.specs.RecordBuf.{Held, room_of, used_by}
+use Rattle.sv_rpc.specs.RecordBuf.{Held}
 use Rattle.sv_rpc.specs.Kept.{InRoom, Fits, IsInHeader, spare_of, after_byte, after_header}
 
 -- what records count, with one more
@@ -25,7 +24,9 @@ header_room records payload header size n last fits =
       | inl long ↦ rw (lt-ltb 8192 (length payload + size) long) tt
       | inr short ↦ rw (le-ltb 8192 (length payload + size) short) (elim (cases_lt 0 size) [
         | inl some ↦ rw (lt-ltb 0 size some) (omega (arith, spare_is_small payload))
-        | inr none ↦ rw (le-ltb 0 size none) (empty last) ]) ]
+        | inr none ↦ rw (le-ltb 0 size none) (empty last)
+      ])
+    ]
   where
     empty : (b : Bool) → InRoom (cond b (record { records = records ++ payload ∷ []; tail = Header [] [] }) (record { records = records; tail = Header payload [] })) n
     empty true = omega (arith, counted-push records payload, spare_is_small payload, fits)
@@ -39,6 +40,7 @@ byte_room held new byte n in_header value fits = rw value (at held.tail in_heade
     at (Header payload header) h f =
         elim (cases_lt (length header) 3) [
           | inl less ↦ rw (lt-ltb (length header) 3 less) (omega (arith, f, length-append header (byte ∷ [])))
-          | inr three ↦ rw (le-ltb (length header) 3 three) (header_room held.records payload header _ n _ (omega (arith, f))) ]
+          | inr three ↦ rw (le-ltb (length header) 3 three) (header_room held.records payload header _ n _ (omega (arith, f)))
+        ]
     at (Data payload missing last) h f = absurd h
     at TooLong h f = absurd h

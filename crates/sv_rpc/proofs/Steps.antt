@@ -17,29 +17,29 @@ all_push P (y ∷ xs) x all one = (all.0, all_push P xs x all.1 one)
 -- the stream with another tail behind the same records
 longer : (stream piece : List ℕ) (all : List (List ℕ)) (s t : Tail) (splits : Splits stream all s) → IsTail (splits.rest ++ piece) t → Splits (stream ++ piece) all t
 longer stream piece all s t splits behind = record {
-    sent = splits.sent;
-    rest = splits.rest ++ piece;
-    whole = rw (splits.whole, append_assoc) refl;
-    told = splits.told;
-    taken = splits.taken;
-    behind = behind;
+  sent = splits.sent;
+  rest = splits.rest ++ piece;
+  whole = rw (splits.whole, append_assoc) refl;
+  told = splits.told;
+  taken = splits.taken;
+  behind = behind;
 }
 
 -- the stream with one more whole record, and nothing behind it
 one_more : (stream piece : List ℕ) (all : List (List ℕ)) (text : List ℕ) (s : Tail) (splits : Splits stream all s) (sent : Sent) → splits.rest ++ piece ≡ bytes_of sent
     → text ≡ record_of sent → length text ≤ 8192 → Splits (stream ++ piece) (all ++ text ∷ []) (Header [] [])
 one_more stream piece all text s splits sent is text_is taken = record {
-    sent = splits.sent ++ sent ∷ [];
-    rest = [];
-    whole = rw (splits.whole, append_assoc, is, flat_map-append bytes_of splits.sent (sent ∷ [])) (simp append-nil);
-    told = rw (map_push record_of splits.sent sent, splits.told, text_is) refl;
-    taken = all_push IsTaken splits.sent sent splits.taken (rw (← text_is) taken);
-    behind = ([], refl, refl, omega arith, omega arith);
+  sent = splits.sent ++ sent ∷ [];
+  rest = [];
+  whole = rw (splits.whole, append_assoc, is, flat_map-append bytes_of splits.sent (sent ∷ [])) (simp append-nil);
+  told = rw (map_push record_of splits.sent sent, splits.told, text_is) refl;
+  taken = all_push IsTaken splits.sent sent splits.taken (rw (← text_is) taken);
+  behind = ([], refl, refl, omega arith, omega arith);
 }
 
 -- the empty stream is no record, and no byte of a header
 pub nothing_splits : Splits [] [] (Header [] [])
-nothing_splits = record { sent = []; rest = []; whole = refl; told = refl; taken = tt; behind = ([], refl, refl, omega arith, omega arith); }
+nothing_splits = record { sent = []; rest = []; whole = refl; told = refl; taken = tt; behind = ([], refl, refl, omega arith, omega arith) }
 
 -- a byte that does not complete the header
 pub header_grows : (stream : List ℕ) (all : List (List ℕ)) (payload header : List ℕ) (byte : ℕ) → Splits stream all (Header payload header) → length header + 1 < 4
@@ -70,7 +70,7 @@ pub empty_last_ends : (stream : List ℕ) (all : List (List ℕ)) (payload heade
     → header ++ byte ∷ [] ≡ header_of true 0 → Splits (stream ++ byte ∷ []) (all ++ payload ∷ []) (Header [] [])
 empty_last_ends stream all payload header byte splits is =
     let b = splits.behind in
-    let sent : Sent = record { front = b.0; final = []; } in
+    let sent : Sent = record { front = b.0; final = [] } in
     one_more stream (byte ∷ []) all payload (Header payload header) splits sent (rw (b.1, append_assoc, is) refl) (b.2 ∙ sym (append-nil (concat b.0))) b.4
 
 -- the byte that completes the header of a fragment that makes the record too long
@@ -96,9 +96,13 @@ pub data_ends : (stream piece : List ℕ) (all : List (List ℕ)) (payload : Lis
 data_ends stream piece all payload missing splits ends =
     let b = splits.behind in
     let size : length b.1 + missing ≡ length (b.1 ++ piece) = omega (arith, length-append b.1 piece) in
-    longer stream piece all (Data payload missing false) _ splits
-    (b.0 ++ (b.1 ++ piece) ∷ [], rw (b.2, size, flat_map-append (fragment false) b.0 ((b.1 ++ piece) ∷ [])) (simp (append_assoc, append-nil)),
-        rw (b.3, concat-append b.0 ((b.1 ++ piece) ∷ [])) (simp (append_assoc, append-nil)), omega arith, omega (arith, length-append payload piece))
+    longer stream piece all (Data payload missing false) _ splits (
+      b.0 ++ (b.1 ++ piece) ∷ [],
+      rw (b.2, size, flat_map-append (fragment false) b.0 ((b.1 ++ piece) ∷ [])) (simp (append_assoc, append-nil)),
+      rw (b.3, concat-append b.0 ((b.1 ++ piece) ∷ [])) (simp (append_assoc, append-nil)),
+      omega arith,
+      omega (arith, length-append payload piece),
+    )
 
 -- the data that are missing, of the last fragment of a record
 pub data_last_ends : (stream piece : List ℕ) (all : List (List ℕ)) (payload : List ℕ) (missing : ℕ) → Splits stream all (Data payload missing true)
@@ -106,7 +110,7 @@ pub data_last_ends : (stream piece : List ℕ) (all : List (List ℕ)) (payload 
 data_last_ends stream piece all payload missing splits ends =
     let b = splits.behind in
     let size : length b.1 + missing ≡ length (b.1 ++ piece) = omega (arith, length-append b.1 piece) in
-    let sent : Sent = record { front = b.0; final = b.1 ++ piece; } in
+    let sent : Sent = record { front = b.0; final = b.1 ++ piece } in
     one_more stream piece all (payload ++ piece) (Data payload missing true) splits sent (rw (b.2, size) (simp append_assoc)) (rw (b.3, append_assoc) refl)
     (omega (arith, length-append payload piece))
 

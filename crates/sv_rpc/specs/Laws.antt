@@ -1,7 +1,26 @@
 -- Laws of the definitions alone.
-use Rattle.std.specs.Prelude.{◌≡◌, ℕ, List}
+use Rattle.std.specs.Prelude.{◌≡◌, ℕ, List, Result}
+use Rattle.sv_xdr.specs.Spelling.{BeginsAll}
+use Rattle.sv_rpc.specs.declared.call.CallFault.{CallFault}
+use Rattle.sv_rpc.specs.declared.reply.Reply.{Reply}
 use Rattle.sv_rpc.specs.Record.{Tail, Splits}
+use Rattle.sv_rpc.specs.Call.{Asked, Auth, heading, CallIs}
+use Rattle.sv_rpc.specs.Reply.{reply_fields}
 
 -- A stream has one reading: one list of records, and one tail.
 abbrev pub OneReading : Type 0
 OneReading = (stream : List ℕ) (a b : List (List ℕ)) (s t : Tail) → Splits stream a s → Splits stream b t → (a ≡ b) × (s ≡ t)
+
+-- A record is one call, or has one fault.
+abbrev pub OneCall : Type 0
+OneCall = (bytes : List ℕ) (a b : Result Asked CallFault) → CallIs bytes a → CallIs bytes b → a ≡ b
+
+-- Where two headers of calls begin the same bytes, they are one, and what follows them too. So none is a proper prefix of another.
+abbrev pub CallsPrefixFree : Type 0
+CallsPrefixFree = (x y : Asked) (c d v w : Auth) (bytes after behind : List ℕ) → BeginsAll bytes (heading x c v) after → BeginsAll bytes (heading y d w) behind
+    → (heading x c v ≡ heading y d w) × (after ≡ behind)
+
+-- Likewise the headers of replies.
+abbrev pub RepliesPrefixFree : Type 0
+RepliesPrefixFree = (x y : ℕ) (r s : Reply) (bytes after behind : List ℕ) → BeginsAll bytes (reply_fields x r) after → BeginsAll bytes (reply_fields y s) behind
+    → (x ≡ y) × (r ≡ s) × (after ≡ behind)

@@ -1,4 +1,7 @@
 pub mod Record
 pub mod RecordBuf
 pub mod Kept
+pub mod Call
+pub mod Reply
+pub mod Ports
 pub mod Laws

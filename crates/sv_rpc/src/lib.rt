@@ -6,10 +6,16 @@
 
 use std::alloc::AllocError;
 
+mod call;
 pub mod laws;
+mod ports;
 mod record_buf;
+mod reply;
 
+pub use call::{Call, CallFault, read_call};
+pub use ports::{Garbage, Ports, getport};
 pub use record_buf::{RecordBuf, RpcFault};
+pub use reply::{Reply, write_call, write_reply};
 
 /// No memory was left.
 pub type NoMemory = AllocError;

@@ -1,12 +1,12 @@
 -- What is read is spelled so, and what is spelled so is read.
-use Rattle.std.proofs.Common.{◌≡◌, ℕ, ◌+◌, ◌%◌, ◌<◌, ◌≤◌, Bool, true, false, cond, eqb, ltb, List, [], ◌∷◌, ◌++◌, length, take, drop, Result, Ok, Err, refl, sym, ap, ◌∙◌, append_assoc, arith, eq-eqb}
+use Rattle.std.proofs.Common.{◌≡◌, ℕ, ◌+◌, ◌%◌, ◌<◌, ◌≤◌, Bool, true, false, cond, eqb, ltb, List, [], ◌∷◌, ◌++◌, length, take, drop, get_or, Result, Ok, Err, refl, sym, ap, ◌∙◌, append_assoc, arith, eq-eqb}
 use Rattle.std.specs.List.{AllByRecursion, list_all}
 use Rattle.std.proofs.lemmas.Bool.{ltb-false, le-ltb, eqb-true, and_parts, and_from}
-use Rattle.std.proofs.lemmas.List.{take_at, drop_at, take-append-drop, length-append, length-take, length-drop, drop-drop}
+use Rattle.std.proofs.lemmas.List.{get_or-append-add, take_at, drop_at, take-append-drop, length-append, length-take, length-drop, drop-drop}
 use Rattle.std.specs.Int.{w32, from_be_bytes}
 use Rattle.sv_xdr.specs.declared.fault.XdrFault.{XdrFault}
-use Rattle.sv_xdr.specs.declared.fault.XdrFault.TheVariants.{Short, BadPad}
-use Rattle.sv_xdr.specs.Spelling.{Opaque, IsWord, IsPad, Begins, pad_len}
+use Rattle.sv_xdr.specs.declared.fault.XdrFault.TheVariants.{Short, BadPad, TooLong}
+use Rattle.sv_xdr.specs.Spelling.{Field, Unsigned, Opaque, IsWord, IsPad, Begins, pad_len}
 use Rattle.sv_xdr.specs.Reader.{◌>>=◌, unsigned_at, padded_at, opaque_at}
 
 -- the value of a step that did not fail
@@ -121,3 +121,38 @@ opaque_one max n bytes rest text after r first le second b short =
 -- the value and the rest that two readings give are the same
 pub pair_parts : {A B : Type 0} (x y : A) (v w : B) → (let r : Result (A × B) XdrFault = Ok (x, v) in r) ≡ Ok (y, w) → (x ≡ y) × (v ≡ w)
 pair_parts {A} {B} x y v w e = (ap (λ (p : A × B). p.0) (ok_pair (x, v) (y, w) e), ap (λ (p : A × B). p.1) (ok_pair (x, v) (y, w) e))
+
+-- the elements are bytes
+abbrev pub IsBytes : List ℕ → Type 0
+IsBytes bytes = (i : ℕ) → get_or bytes i 0 < 256
+
+-- what comes after a field are bytes
+pub bytes_after : (field : Field) (bytes after : List ℕ) → IsBytes bytes → Begins bytes field after → IsBytes after
+bytes_after field bytes after fits b = λ i.
+    let e = ap (λ (l : List ℕ). get_or l (length b.0 + i) 0) b.2 ∙ get_or-append-add b.0 after i 0 in
+    omega (arith, fits (length b.0 + i), e)
+
+-- an unsigned integer that is spelled is read
+pub unsigned_begins : (bytes after : List ℕ) (n : ℕ) → Begins bytes (Unsigned n) after → unsigned_at bytes ≡ Ok (n, after)
+unsigned_begins bytes after n b = ap unsigned_at b.2 ∙ unsigned_again b.0 after n b.1
+
+-- an unsigned integer that is read is spelled so
+pub unsigned_takes : (bytes after : List ℕ) (n : ℕ) → IsBytes bytes → unsigned_at bytes ≡ Ok (n, after) → Begins bytes (Unsigned n) after
+unsigned_takes [] after n fits e = absurd cc
+unsigned_takes (a ∷ []) after n fits e = absurd cc
+unsigned_takes (a ∷ b ∷ []) after n fits e = absurd cc
+unsigned_takes (a ∷ b ∷ c ∷ []) after n fits e = absurd cc
+unsigned_takes (a ∷ b ∷ c ∷ d ∷ rest) after n fits e =
+    let long = guard_ok (ltb (length (a ∷ b ∷ c ∷ d ∷ rest)) 4) Short _ (n, after) e in
+    let parts = pair_parts (from_be_bytes w32 (a ∷ b ∷ c ∷ d ∷ [])) n rest after long.1 in
+    (a ∷ b ∷ c ∷ d ∷ [], (fits 0, fits 1, fits 2, fits 3, omega (arith, parts.0)), ap (λ (l : List ℕ). a ∷ b ∷ c ∷ d ∷ l) parts.1)
+
+-- opaque data that are read are spelled so, their length before them
+pub opaque_at-takes : (max : ℕ) (bytes text after : List ℕ) → IsBytes bytes → opaque_at max bytes ≡ Ok (text, after) → Begins bytes (Opaque text) after × (length text ≤ max)
+unfolding opaque_at
+opaque_at-takes max bytes text after fits e =
+    let size = bind_ok (unsigned_at bytes) (λ n. cond (ltb max n.0) (Err TooLong) (padded_at n.0 n.1)) (text, after) e in
+    let n = size.0.0 in
+    let front = unsigned_takes bytes size.0.1 n fits size.1 in
+    let short = guard_ok (ltb max n) TooLong _ (text, after) size.2 in
+    opaque_takes bytes front.0 size.0.1 text after n max front.2 front.1 (ltb-false _ _ short.0) short.1

@@ -1,4 +1,4 @@
-use Rattle.std.proofs.Common.{sym, ap, ◌∙◌, arith}
+use Rattle.std.proofs.Common.{arith}
 use Rattle.sv_rpc.proofs.Held.{finish_room, finish_keeps, finish_holds}
 use Rattle.sv_rpc.proofs.record_buf.RecordBuf.finish.Goals as goal
 

@@ -1,4 +1,4 @@
-use Rattle.std.proofs.Common.{◌≡◌, ℕ, ◌-◌, List, ◌++◌, length, take, drop, sym, ap, subst, ◌∙◌, append_assoc, arith}
+use Rattle.std.proofs.Common.{◌≡◌, ℕ, ◌-◌, List, ◌++◌, length, take, sym, ap, subst, ◌∙◌, append_assoc, arith}
 use Rattle.std.proofs.lemmas.List.{take-append-drop}
 use Rattle.sv_rpc.specs.Kept.{InRoom}
 use Rattle.sv_rpc.proofs.Goes.{GoesOn-then}
@@ -13,7 +13,9 @@ loop-rest-preserved g c =
     let size : length rest - count ≡ length c.split_at.result.1.now = omega (arith, c.split_at.ensures.back_len) in
     record {
       fits = λ _. subst (λ (n : ℕ). InRoom c.take_in-count.new.self n) size c.take_in-count.ensures.fits;
-      goes = (before.0 ++ take count rest,
+      goes = (
+        before.0 ++ take count rest,
         before.1 ∙ ap (λ (l : List ℕ). before.0 ++ l) parts ∙ sym (append_assoc before.0 (take count rest) c.split_at.result.1.now),
-        GoesOn-then c.args.self.now c.loop-rest.self c.take_in-count.new.self before.0 (take count rest) before.2 c.take_in-count.ensures.goes);
+        GoesOn-then c.args.self.now c.loop-rest.self c.take_in-count.new.self before.0 (take count rest) before.2 c.take_in-count.ensures.goes,
+      );
     }

@@ -1,4 +1,4 @@
-use Rattle.std.proofs.Common.{◌≡◌, List, [], take, refl, arith}
+use Rattle.std.proofs.Common.{◌≡◌, [], take, refl, arith}
 use Rattle.sv_rpc.proofs.Held.{at_data, data_room, data_keeps, data_grown, data_ended, data_finished, ended_room}
 use Rattle.sv_rpc.proofs.record_buf.RecordBuf.take_data.Goals as goal
 

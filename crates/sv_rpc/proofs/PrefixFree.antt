@@ -1,0 +1,62 @@
+-- No header begins another.
+use Rattle.std.proofs.Common.{◌≡◌, ℕ, List, [], ◌∷◌, ◌++◌, refl, sym, ap, subst, ◌∙◌, arith}
+use Rattle.std.proofs.lemmas.List.{append_cancel_left}
+use Rattle.sv_xdr.specs.Spelling.{Field, Unsigned, Opaque, Begins, BeginsAll}
+use Rattle.sv_xdr.specs.Laws.{SameKind}
+use Rattle.sv_xdr.proofs.PrefixFree.{prefix_free}
+use Rattle.sv_rpc.specs.declared.reply.Reply.{Reply}
+use Rattle.sv_rpc.specs.declared.reply.Reply.TheVariants.{Success, Mismatch, ProgUnavail, ProgMismatch, ProcUnavail, GarbageArgs}
+use Rattle.sv_rpc.specs.Call.{heading}
+use Rattle.sv_rpc.specs.Reply.{reply_fields}
+use Rattle.sv_rpc.specs.Laws.{CallsPrefixFree, RepliesPrefixFree}
+
+-- two fields of one kind that begin the same bytes
+one_field : (x y : Field) (bytes after behind : List ℕ) → SameKind x y → Begins bytes x after → Begins bytes y behind → (x ≡ y) × (after ≡ behind)
+one_field x y bytes after behind kind h k =
+    let e = sym h.2 ∙ k.2 in
+    let w = prefix_free x y h.0 k.0 after behind kind h.1 k.1 e in
+    (w.1, append_cancel_left k.0 after behind (ap (λ (l : List ℕ). l ++ after) (sym w.0) ∙ e))
+
+-- The fields are the same as far as they are words or opaque data in both lists, and so is what follows two lists that end together.
+abbrev Agree : List Field → List Field → List ℕ → List ℕ → Type 0
+Agree [] [] after behind = after ≡ behind
+Agree (Unsigned m ∷ xs) (Unsigned n ∷ ys) after behind = (m ≡ n) × Agree xs ys after behind
+Agree (Opaque s ∷ xs) (Opaque t ∷ ys) after behind = (s ≡ t) × Agree xs ys after behind
+Agree _ _ after behind = Unit {0}
+
+-- the number of an unsigned integer
+unsigned_is : (m n : ℕ) → Unsigned m ≡ Unsigned n → m ≡ n
+unsigned_is m n e = cc
+
+-- the bytes of opaque data
+opaque_is : (s t : List ℕ) → Opaque s ≡ Opaque t → s ≡ t
+opaque_is s t e = cc
+
+-- two lists of fields that begin the same bytes
+agree : (xs ys : List Field) (bytes after behind : List ℕ) → BeginsAll bytes xs after → BeginsAll bytes ys behind → Agree xs ys after behind
+agree [] [] bytes after behind h k = sym h ∙ k
+agree (Unsigned m ∷ xs) (Unsigned n ∷ ys) bytes after behind h k =
+    let one = one_field (Unsigned m) (Unsigned n) bytes h.0 k.0 tt h.1 k.1 in
+    (unsigned_is m n one.0, agree xs ys k.0 after behind (subst (λ (l : List ℕ). BeginsAll l xs after) one.1 h.2) k.2)
+agree (Opaque s ∷ xs) (Opaque t ∷ ys) bytes after behind h k =
+    let one = one_field (Opaque s) (Opaque t) bytes h.0 k.0 tt h.1 k.1 in
+    (opaque_is s t one.0, agree xs ys k.0 after behind (subst (λ (l : List ℕ). BeginsAll l xs after) one.1 h.2) k.2)
+agree xs ys bytes after behind h k = tt
+
+-- headers of calls have the same kinds of fields, so they agree in all
+pub calls_prefix_free : CallsPrefixFree
+calls_prefix_free x y c d v w bytes after behind h k = let a = agree (heading x c v) (heading y d w) bytes after behind h k in (cc, cc)
+
+-- headers of replies that agree are one: of two shapes, the third or the sixth words differ
+replies_agree : (x y : ℕ) (r s : Reply) (after behind : List ℕ) → Agree (reply_fields x r) (reply_fields y s) after behind → (x ≡ y) × (r ≡ s) × (after ≡ behind)
+replies_agree x y Success Success after behind h = (h.0, refl, cc)
+replies_agree x y Mismatch Mismatch after behind h = (h.0, refl, cc)
+replies_agree x y ProgUnavail ProgUnavail after behind h = (h.0, refl, cc)
+replies_agree x y (ProgMismatch low high) (ProgMismatch lowest highest) after behind h = (h.0, cc, cc)
+replies_agree x y ProcUnavail ProcUnavail after behind h = (h.0, refl, cc)
+replies_agree x y GarbageArgs GarbageArgs after behind h = (h.0, refl, cc)
+replies_agree x y r s after behind h = absurd (omega arith)
+
+-- headers of replies that begin the same bytes
+pub replies_prefix_free : RepliesPrefixFree
+replies_prefix_free x y r s bytes after behind h k = replies_agree x y r s after behind (agree (reply_fields x r) (reply_fields y s) bytes after behind h k)

@@ -1,0 +1,26 @@
+-- GETPORT of the port mapper, version 2 (RFC 1833, section 3).
+use Rattle.std.specs.Prelude.{◌≡◌, ℕ, ◌&&◌, ◌==◌, List, [], ◌∷◌, Result, Ok, Err, if◌then◌else◌}
+use Rattle.sv_xdr.specs.Spelling.{Field, Unsigned, BeginsAll}
+use Rattle.sv_rpc.specs.declared.ports.Ports.{Ports}
+use Rattle.sv_rpc.specs.declared.ports.Garbage.{Garbage}
+
+-- what is asked for: a program, its version and a protocol; a port stands behind them, which nothing depends on
+pub record Mapping : Type 0 where
+  pub prog : ℕ
+  pub vers : ℕ
+  pub prot : ℕ
+  pub port : ℕ
+
+abbrev pub mapping_fields : Mapping → List Field
+mapping_fields m = Unsigned m.prog ∷ Unsigned m.vers ∷ Unsigned m.prot ∷ Unsigned m.port ∷ []
+
+-- the ports of the core channel (0x0607AF) and the abort channel (0x0607B0), each at version 1 over TCP (6), and 0 for all else
+abbrev pub port_of : Ports → Mapping → ℕ
+port_of ports m =
+    if (m.prog == 395183) && ((m.vers == 1) && (m.prot == 6)) then ports.core
+    else (if (m.prog == 395184) && ((m.vers == 1) && (m.prot == 6)) then ports.abort else 0)
+
+-- The answer to these arguments: bytes behind them are ignored, and arguments that aren't spelled are garbage.
+abbrev pub PortIs : Ports → List ℕ → Result ℕ Garbage → Type 0
+PortIs ports args (Ok port) = (m : Mapping) × (after : List ℕ) × BeginsAll args (mapping_fields m) after × (port ≡ port_of ports m)
+PortIs ports args (Err garbage) = (m : Mapping) (after : List ℕ) → BeginsAll args (mapping_fields m) after → ⊥

@@ -1,0 +1,101 @@
+//! Reading the header of a call.
+
+ghost use Rattle.std.specs.Prelude.{◌≡◌, Result};
+ghost use Rattle.sv_rpc.specs.declared.call.CallFault.{CallFault};
+ghost use Rattle.sv_rpc.specs.Call.{Asked, CallIs, asked, body_at, call_at, seen};
+
+use sv_xdr::{Reader, XdrFault};
+use thiserror::Error;
+
+/// The longest credential or verifier, in bytes (RFC 5531, section 8.2).
+const MAX_AUTH: u32 = 400;
+
+/// A call, without its credential and verifier.
+#[derive(Clone, Copy, Debug, PartialEq, Eq)]
+pub struct Call<'a> {
+    /// The transaction, which the reply repeats.
+    pub xid: u32,
+    /// The program's number.
+    pub prog: u32,
+    /// The program's version.
+    pub vers: u32,
+    /// The procedure's number.
+    pub proc: u32,
+    /// The arguments and what follows them, a slice of the record.
+    pub args: &'a [u8],
+}
+
+/// Why a record is no call that can be answered by a program.
+#[derive(Clone, Copy, Debug, PartialEq, Eq, Error)]
+pub enum CallFault {
+    /// The record is no call: it is too short, its message type isn't 0, or under version 2 of RPC a
+    /// later field of the header can't be read. Nothing is answered.
+    #[error("the record is no call")]
+    BadHeader,
+    /// The call of this transaction is under another version of RPC than 2, whatever follows the
+    /// version. It is denied.
+    #[error("another version of RPC than 2")]
+    Version(u32),
+}
+
+impl From<XdrFault> for CallFault {
+    ghost use Rattle.std.specs.Prelude.{◌≡◌};
+    ghost use Rattle.sv_rpc.specs.declared.call.CallFault.TheVariants.{BadHeader};
+
+    ghost from_gives = { λ _ e. e ≡ BadHeader };
+
+    fn from(_fault: XdrFault) -> CallFault {
+        CallFault::BadHeader
+    }
+}
+
+/// Reads the bytes of a record as a call (RFC 5531, section 9). The transaction, the message type and the version
+/// of RPC are read first, so `Version` comes whatever follows them; any fault of another field is
+/// `BadHeader`. Credential and verifier are of at most 400 bytes each, and aren't looked at.
+pub fn read_call(bytes: &[u8]) -> Result<Call<'_>, CallFault>
+    // What is read is spelled there.
+    ensures found { CallIs bytes.now (seen result) }
+    // What is spelled there is read.
+    ensures only { (outcome : Result Asked CallFault) → CallIs bytes.now outcome → seen result ≡ outcome }
+    // Which of the three it is, as a function of the bytes.
+    ensures exact { seen result ≡ call_at bytes.now }
+{
+    call_of(bytes)
+}
+
+#[tactic(auto, unfolding(crate::specs::Call::call_at))]
+fn call_of(bytes: &[u8]) -> Result<Call<'_>, CallFault>
+    ensures { seen result ≡ call_at bytes.now }
+{
+    let mut reader = Reader::new(bytes);
+    let xid = reader.u32()?;
+    if reader.u32()? != 0 {
+        return Err(CallFault::BadHeader);
+    }
+    if reader.u32()? != 2 {
+        return Err(CallFault::Version(xid));
+    }
+    body_of(xid, reader.rest())
+}
+
+/// Reads what follows the version.
+#[tactic(auto, unfolding(crate::specs::Call::body_at))]
+fn body_of(xid: u32, bytes: &[u8]) -> Result<Call<'_>, CallFault>
+    ensures { seen result ≡ body_at xid bytes.now }
+{
+    let mut reader = Reader::new(bytes);
+    let prog = reader.u32()?;
+    let vers = reader.u32()?;
+    let proc = reader.u32()?;
+    let _flavor = reader.u32()?;
+    let _credential = reader.opaque(MAX_AUTH)?;
+    let _flavor = reader.u32()?;
+    let _verifier = reader.opaque(MAX_AUTH)?;
+    Ok(Call {
+        xid,
+        prog,
+        vers,
+        proc,
+        args: reader.rest(),
+    })
+}

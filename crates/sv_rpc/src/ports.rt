@@ -1,0 +1,60 @@
+//! The port mapper's GETPORT (RFC 1833, section 3).
+
+ghost use Rattle.std.specs.Prelude.{◌≡◌};
+ghost use Rattle.sv_rpc.specs.Ports.{PortIs, port_of as port_for};
+
+use sv_xdr::{Reader, XdrFault};
+use thiserror::Error;
+
+/// The number of the core channel's program.
+const CORE: u32 = 0x0607AF;
+/// The number of the abort channel's program.
+const ABORT: u32 = 0x0607B0;
+/// The version of both.
+const VERSION: u32 = 1;
+/// The protocol TCP.
+const TCP: u32 = 6;
+
+/// The ports on which the channels are served.
+#[derive(Clone, Copy, Debug, PartialEq, Eq)]
+pub struct Ports {
+    /// Of the core channel.
+    pub core: u16,
+    /// Of the abort channel.
+    pub abort: u16,
+}
+
+/// The arguments are not spelled as the procedure wants them.
+#[derive(Clone, Copy, Debug, PartialEq, Eq, Error)]
+#[error("the arguments can't be read")]
+pub struct Garbage;
+
+impl From<XdrFault> for Garbage {
+    fn from(_fault: XdrFault) -> Garbage {
+        Garbage
+    }
+}
+
+/// Answers GETPORT: the port of the core or the abort channel, each at version 1 over TCP, and 0 for
+/// every other program, version or protocol. Bytes behind the arguments are ignored.
+pub fn getport(args: &[u8], ports: Ports) -> Result<u32, Garbage>
+    ensures { PortIs ports args.now result }
+{
+    let mut reader = Reader::new(args);
+    let prog = reader.u32()?;
+    let vers = reader.u32()?;
+    let prot = reader.u32()?;
+    let _port = reader.u32()?;
+    Ok(port_of(ports, prog, vers, prot))
+}
+
+/// The port of a program's version over a protocol.
+fn port_of(ports: Ports, prog: u32, vers: u32, prot: u32) -> u32
+    ensures { result ≡ port_for ports (record { prog = prog; vers = vers; prot = prot; port = 0 }) }
+{
+    match (prog, vers, prot) {
+        (CORE, VERSION, TCP) => u32::from(ports.core),
+        (ABORT, VERSION, TCP) => u32::from(ports.abort),
+        _ => 0,
+    }
+}

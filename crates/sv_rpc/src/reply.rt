@@ -1,0 +1,72 @@
+//! Writing the header of a reply or a call.
+
+ghost use Rattle.std.specs.Prelude.{◌≡◌, map};
+ghost use Rattle.sv_xdr.specs.Spelling.{spelling, Unsigned};
+ghost use Rattle.sv_xdr.specs.Writer.{WritesEach};
+ghost use Rattle.sv_rpc.specs.Reply.{reply_fields, call_fields};
+
+use sv_xdr::{Writer, XdrFault};
+
+/// How a call was taken (RFC 5531, section 9).
+#[derive(Clone, Copy, Debug, PartialEq, Eq)]
+pub enum Reply {
+    /// It was executed, and its result follows.
+    Success,
+    /// It is denied: the version of RPC is not 2.
+    Mismatch,
+    /// The program is not served here.
+    ProgUnavail,
+    /// The program is served in other versions, from `low` to `high`.
+    ProgMismatch {
+        /// The lowest version that is served.
+        low: u32,
+        /// The highest version that is served.
+        high: u32,
+    },
+    /// The program has no such procedure.
+    ProcUnavail,
+    /// The arguments can't be read.
+    GarbageArgs,
+}
+
+/// Writes the header of a reply, without the fragment header in front of it and the result behind
+/// it. The fault is `NoRoom`, and the whole fields in front of the one that has no room stay written.
+pub fn write_reply(writer: &mut Writer<'_>, xid: u32, reply: Reply) -> Result<(), XdrFault>
+    ensures same_buffer { writer.new.out.ghost_name ≡ writer.old.out.ghost_name }
+    ensures writes { WritesEach (map spelling (reply_fields xid reply)) result writer.old writer.new }
+{
+    match reply {
+        Reply::Success => words(writer, &[xid, 1, 0, 0, 0, 0]),
+        Reply::Mismatch => words(writer, &[xid, 1, 1, 0, 2, 2]),
+        Reply::ProgUnavail => words(writer, &[xid, 1, 0, 0, 0, 1]),
+        Reply::ProgMismatch { low, high } => words(writer, &[xid, 1, 0, 0, 0, 2, low, high]),
+        Reply::ProcUnavail => words(writer, &[xid, 1, 0, 0, 0, 3]),
+        Reply::GarbageArgs => words(writer, &[xid, 1, 0, 0, 0, 4]),
+    }
+}
+
+/// Writes the header of a call without credential and verifier, and without the fragment header in
+/// front of it and the arguments behind it. The fault is as with [`write_reply`].
+pub fn write_call(
+    writer: &mut Writer<'_>,
+    xid: u32,
+    prog: u32,
+    vers: u32,
+    proc: u32,
+) -> Result<(), XdrFault>
+    ensures same_buffer { writer.new.out.ghost_name ≡ writer.old.out.ghost_name }
+    ensures writes { WritesEach (map spelling (call_fields xid prog vers proc)) result writer.old writer.new }
+{
+    words(writer, &[xid, 0, 2, prog, vers, proc, 0, 0, 0, 0])
+}
+
+/// Writes words; opaque data of length 0 are the word 0.
+fn words(writer: &mut Writer<'_>, words: &[u32]) -> Result<(), XdrFault>
+    ensures same_buffer { writer.new.out.ghost_name ≡ writer.old.out.ghost_name }
+    ensures writes { WritesEach (map (λ word. spelling (Unsigned word)) words.now) result writer.old writer.new }
+{
+    for word in words {
+        writer.u32(*word)?;
+    }
+    Ok(())
+}
