@@ -1,0 +1,16 @@
+//! Tests of the fields, the records and the calls, by examples whose bytes were worked out from the standards, and of
+//! what a refusal of memory leaves. The library itself is empty.
+#![tactic(auto)]
+
+#[cfg(test)]
+mod calls;
+#[cfg(test)]
+mod fields;
+#[cfg(test)]
+mod memory;
+#[cfg(test)]
+mod ports;
+#[cfg(test)]
+mod records;
+#[cfg(test)]
+mod words;

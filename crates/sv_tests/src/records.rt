@@ -1,0 +1,160 @@
+//! Records of a stream that comes in pieces.
+
+use crate::words::{CREATE_LINK, bytes_of};
+use std::alloc::Global;
+use std::process::Abort;
+use std::test::Fail;
+use sv_rpc::{Call, RecordBuf, RpcFault, read_call};
+
+/// The same call in three fragments: of 16 bytes, of none, and of 48 bytes, the last.
+const IN_FRAGMENTS: [u32; 19] = [
+    0x00000010, 0x00000001, 0x00000000, 0x00000002, 0x000607AF, 0x00000000, 0x80000030, 0x00000001,
+    0x0000000A, 0x00000000, 0x00000000, 0x00000000, 0x00000000, 0x00000000, 0x00000000, 0x00000000,
+    0x00000005, 0x696E7374, 0x30000000,
+];
+/// The arguments of that call.
+const ARGUMENTS: [u32; 6] = [
+    0x00000000, 0x00000000, 0x00000000, 0x00000005, 0x696E7374, 0x30000000,
+];
+/// The header of a fragment of 8,192 bytes, the last of its record.
+const LONGEST: [u8; 4] = [0x80, 0x00, 0x20, 0x00];
+/// The header of a fragment of 8,193 bytes, the last of its record.
+const TOO_LONG: [u8; 4] = [0x80, 0x00, 0x20, 0x01];
+
+/// Pushes a piece for which there has to be room.
+fn push(rt: &impl Abort, buffer: &mut RecordBuf, piece: &[u8]) {
+    assert!(rt;
+        piece.len() <= buffer.room(),
+        "room for {} bytes",
+        piece.len()
+    );
+    buffer.push(piece);
+}
+
+/// Drops the first record, which has to be this one.
+fn drop_this(rt: &impl Abort, buffer: &mut RecordBuf, wanted: &[u8]) {
+    match buffer.next() {
+        Ok(Some(found)) => assert_eq!(rt; found, wanted),
+        _ => panic!(rt; "no record"),
+    }
+    buffer.drop_first();
+}
+
+/// Drops the one record that the buffer holds, which has to be the call of `create_link`.
+fn drop_create_link(rt: &impl Abort, alloc: Global, buffer: &mut RecordBuf) -> Result<(), Fail> {
+    let record = bytes_of(alloc, &CREATE_LINK[1..])?;
+    let arguments = bytes_of(alloc, &ARGUMENTS)?;
+    drop_this(rt, buffer, record.as_slice());
+    assert_eq!(rt; buffer.next(), Ok(None));
+    assert_eq!(rt; buffer.room(), 16380);
+    let wanted = Call {
+        xid: 1,
+        prog: 0x0607AF,
+        vers: 1,
+        proc: 10,
+        args: arguments.as_slice(),
+    };
+    assert_eq!(rt; read_call(record.as_slice()), Ok(wanted));
+    Ok(())
+}
+
+#[test]
+fn gives_a_record_that_comes_whole(rt: HostRuntime) -> Result<(), Fail> {
+    let stream = bytes_of(rt.alloc(), &CREATE_LINK)?;
+    let mut buffer = RecordBuf::new(rt.alloc())?;
+    push(&rt, &mut buffer, stream.as_slice());
+    drop_create_link(&rt, rt.alloc(), &mut buffer)
+}
+
+#[test]
+fn gives_a_record_that_comes_byte_by_byte(rt: HostRuntime) -> Result<(), Fail> {
+    let stream = bytes_of(rt.alloc(), &CREATE_LINK)?;
+    let mut buffer = RecordBuf::new(rt.alloc())?;
+    for byte in stream.as_slice() {
+        push(&rt, &mut buffer, &[*byte]);
+    }
+    drop_create_link(&rt, rt.alloc(), &mut buffer)
+}
+
+#[test]
+fn joins_the_fragments_of_a_record(rt: HostRuntime) -> Result<(), Fail> {
+    let stream = bytes_of(rt.alloc(), &IN_FRAGMENTS)?;
+    let mut buffer = RecordBuf::new(rt.alloc())?;
+    push(&rt, &mut buffer, stream.as_slice());
+    drop_create_link(&rt, rt.alloc(), &mut buffer)
+}
+
+#[test]
+fn gives_nothing_of_an_unfinished_record(rt: HostRuntime) -> Result<(), Fail> {
+    let stream = bytes_of(rt.alloc(), &CREATE_LINK)?;
+    assert_eq!(rt; stream.len(), 68);
+    for size in 0..68usize {
+        let mut buffer = RecordBuf::new(rt.alloc())?;
+        push(&rt, &mut buffer, &stream.as_slice()[..size]);
+        assert_eq!(rt; buffer.next(), Ok(None), "after {size} bytes");
+    }
+    Ok(())
+}
+
+#[test]
+fn counts_the_room(rt: HostRuntime) -> Result<(), Fail> {
+    let stream = bytes_of(rt.alloc(), &CREATE_LINK)?;
+    assert_eq!(rt; stream.len(), 68);
+    for (size, room) in [(0, 16380), (3, 16377), (4, 16380), (14, 16370), (68, 16312)] {
+        let mut buffer = RecordBuf::new(rt.alloc())?;
+        push(&rt, &mut buffer, &stream.as_slice()[..size]);
+        assert_eq!(rt; buffer.room(), room, "after {size} bytes");
+    }
+    Ok(())
+}
+
+#[test]
+fn empty_fragments_take_no_room(rt: HostRuntime) -> Result<(), Fail> {
+    let stream = bytes_of(rt.alloc(), &CREATE_LINK)?;
+    let zeros = vec![in rt.alloc(); 0u8; 16380]?;
+    let mut buffer = RecordBuf::new(rt.alloc())?;
+    for _ in 0..100u8 {
+        assert_eq!(rt; buffer.room(), 16380, "before");
+        push(&rt, &mut buffer, zeros.as_slice());
+        assert_eq!(rt; buffer.next(), Ok(None));
+        assert_eq!(rt; buffer.room(), 16380, "after");
+    }
+    push(&rt, &mut buffer, stream.as_slice());
+    drop_create_link(&rt, rt.alloc(), &mut buffer)
+}
+
+#[test]
+fn gives_a_record_of_8192_bytes(rt: HostRuntime) -> Result<(), Fail> {
+    let record = vec![in rt.alloc(); 0xA5u8; 8192]?;
+    let mut buffer = RecordBuf::new(rt.alloc())?;
+    push(&rt, &mut buffer, &LONGEST);
+    push(&rt, &mut buffer, record.as_slice());
+    drop_this(&rt, &mut buffer, record.as_slice());
+    assert_eq!(rt; buffer.next(), Ok(None));
+    Ok(())
+}
+
+#[test]
+fn refuses_a_record_of_8193_bytes_until_it_is_cleared(rt: HostRuntime) -> Result<(), Fail> {
+    let mut buffer = RecordBuf::new(rt.alloc())?;
+    push(&rt, &mut buffer, &TOO_LONG);
+    assert_eq!(rt; buffer.next(), Err(RpcFault::RecordTooLong));
+    assert_eq!(rt; buffer.room(), 0);
+    buffer.clear();
+    assert_eq!(rt; buffer.next(), Ok(None));
+    assert_eq!(rt; buffer.room(), 16380);
+    Ok(())
+}
+
+#[test]
+fn gives_the_records_in_front_of_one_that_is_too_long(rt: HostRuntime) -> Result<(), Fail> {
+    let stream = bytes_of(rt.alloc(), &CREATE_LINK)?;
+    let record = bytes_of(rt.alloc(), &CREATE_LINK[1..])?;
+    let mut buffer = RecordBuf::new(rt.alloc())?;
+    push(&rt, &mut buffer, stream.as_slice());
+    push(&rt, &mut buffer, &TOO_LONG);
+    drop_this(&rt, &mut buffer, record.as_slice());
+    assert_eq!(rt; buffer.next(), Err(RpcFault::RecordTooLong));
+    assert_eq!(rt; buffer.room(), 0);
+    Ok(())
+}
