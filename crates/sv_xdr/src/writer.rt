@@ -37,6 +37,13 @@ impl<'b> Writer<'b> {
         self.written
     }
 
+    /// What was written.
+    pub fn text(&self) -> &[u8]
+        ensures { result.now ≡ text_of self.now }
+    {
+        &self.out[..self.written]
+    }
+
     /// Writes an unsigned integer (RFC 4506, section 4.2). The fault is `NoRoom`.
     pub fn u32(&mut self, number: u32) -> Result<(), XdrFault>
         ensures same_buffer { self.new.out.ghost_name ≡ self.old.out.ghost_name }
