@@ -1,10 +1,12 @@
 -- Bytes written one after another.
-use Rattle.std.proofs.Common.{◌≡◌, ℕ, ◌+◌, List, [], ◌∷◌, ◌++◌, length, take, sym, ap, ◌∙◌, append_assoc, arith}
-use Rattle.std.proofs.lemmas.List.{take_at, length-append, length-take}
+use Rattle.std.proofs.Common.{◌≡◌, ℕ, ◌+◌, List, [], ◌∷◌, ◌++◌, length, take, refl, sym, ap, ◌∙◌, append_assoc, arith, Result, Ok, Err}
+use Rattle.std.proofs.lemmas.List.{take_at, length-append, length-take, append-nil}
+use Rattle.std.specs.List.{concat}
+use Rattle.sv_xdr.specs.declared.fault.XdrFault.{XdrFault}
 use Rattle.sv_xdr.specs.declared.writer.Writer.{Writer}
 use Rattle.std.specs.Int.{w32, to_be_bytes}
 use Rattle.sv_xdr.specs.Spelling.{Opaque, spelling, pad_len}
-use Rattle.sv_xdr.specs.Writer.{text_of, rest_of, Appends}
+use Rattle.sv_xdr.specs.Writer.{text_of, rest_of, Appends, Writes, WritesEach}
 use Rattle.sv_xdr.proofs.Spelled.{take_zeros}
 
 -- two writes are one of both
@@ -32,3 +34,24 @@ opaque_appended size text n old one two new size_is n_is first second third =
     let both = Appends-then text _ one two new second third in
     let all = Appends-then size _ old one new first both in
     rw (size_is, pad_is) at all
+
+-- a piece that has no room ends the pieces
+pub each_ends : (piece : List ℕ) (pieces : List (List ℕ)) (fault : XdrFault) (r : Result Unit XdrFault) (old new : Writer) → r ≡ Err fault → Writes piece (Err fault) old new
+    → WritesEach (piece ∷ pieces) r old new
+each_ends piece pieces fault r old new e h =
+    let nothing : Appends [] old new = record { text = h.2.text ∙ sym (append-nil (text_of old)); rest = sym h.2.rest; fits = omega arith } in
+    rw e (h.0, [], pieces, piece, refl, nothing, omega (arith, ap length h.2.rest))
+
+-- a piece that was written and the pieces behind it
+pub each_first : (piece : List ℕ) (pieces : List (List ℕ)) (r : Result Unit XdrFault) (old mid new : Writer) → Appends piece old mid → WritesEach pieces r mid new → WritesEach (piece ∷ pieces) r old new
+each_first piece pieces (Ok done) old mid new first h = Appends-then piece (concat pieces) old mid new first h
+each_first piece pieces (Err fault) old mid new first h =
+    (h.0, piece ∷ h.1, h.2, h.3, ap (λ (l : List (List ℕ)). piece ∷ l) h.4, Appends-then piece (concat h.1) old mid new first h.5, h.6)
+
+-- the last piece
+pub each_last : (piece : List ℕ) (r : Result Unit XdrFault) (old new : Writer) → Writes piece r old new → WritesEach (piece ∷ []) r old new
+each_last piece (Ok done) old new h = rw append-nil h
+each_last piece (Err fault) old new h = each_ends piece [] fault (Err fault) old new refl h
+
+-- for the fields of a function that writes them one by one
+pub ruleset each_piece = (each_ends, each_first, each_last)

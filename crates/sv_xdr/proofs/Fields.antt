@@ -1,13 +1,16 @@
 -- What is read is spelled so, and what is spelled so is read.
-use Rattle.std.proofs.Common.{◌≡◌, ℕ, ◌+◌, ◌%◌, ◌<◌, ◌≤◌, Bool, true, false, cond, eqb, ltb, List, [], ◌∷◌, ◌++◌, length, take, drop, get_or, Result, Ok, Err, refl, sym, ap, ◌∙◌, append_assoc, arith, eq-eqb}
+use Rattle.std.proofs.Common.{◌≡◌, ℕ, ◌+◌, ◌%◌, ◌<◌, ◌≤◌, ◌^◌, Bool, true, false, cond, eqb, ltb, List, [], ◌∷◌, ◌++◌, length, take, drop, get_or, Result, Ok, Err, refl, sym, ap, subst, ◌∙◌, append_assoc, arith, rules, eq-eqb}
 use Rattle.std.specs.List.{AllByRecursion, list_all}
+use Rattle.std.proofs.lemmas.Int.{ints, of_z-to_z}
+use Rattle.std.proofs.lemmas.Bool.Decides.{nat_tests}
 use Rattle.std.proofs.lemmas.Bool.{ltb-false, le-ltb, eqb-true, and_parts, and_from}
 use Rattle.std.proofs.lemmas.List.{get_or-append-add, take_at, drop_at, take-append-drop, length-append, length-take, length-drop, drop-drop}
-use Rattle.std.specs.Int.{w32, from_be_bytes}
+use Rattle.std.specs.Prelude.{ℤ, pos, negsuc, FitsSigned}
+use Rattle.std.specs.Int.{w32, from_be_bytes, cast_signed, cast_unsigned, from_bool}
 use Rattle.sv_xdr.specs.declared.fault.XdrFault.{XdrFault}
-use Rattle.sv_xdr.specs.declared.fault.XdrFault.TheVariants.{Short, BadPad, TooLong}
-use Rattle.sv_xdr.specs.Spelling.{Field, Unsigned, Opaque, IsWord, IsPad, Begins, pad_len}
-use Rattle.sv_xdr.specs.Reader.{◌>>=◌, unsigned_at, padded_at, opaque_at}
+use Rattle.sv_xdr.specs.declared.fault.XdrFault.TheVariants.{Short, BadPad, BadBool, TooLong}
+use Rattle.sv_xdr.specs.Spelling.{Field, Unsigned, Signed, Boolean, Opaque, IsWord, IsTwosComplement, IsPad, Begins, pad_len}
+use Rattle.sv_xdr.specs.Reader.{◌>>=◌, unsigned_at, signed_at, boolean_at, padded_at, opaque_at}
 
 -- the value of a step that did not fail
 pub bind_ok : {A B : Type 0} (r : Result A XdrFault) (f : A → Result B XdrFault) (y : B) → (r >>= f) ≡ Ok y → (x : A) × (r ≡ Ok x) × (f x ≡ Ok y)
@@ -156,3 +159,62 @@ opaque_at-takes max bytes text after fits e =
     let front = unsigned_takes bytes size.0.1 n fits size.1 in
     let short = guard_ok (ltb max n) TooLong _ (text, after) size.2 in
     opaque_takes bytes front.0 size.0.1 text after n max front.2 front.1 (ltb-false _ _ short.0) short.1
+
+-- a word is below 2 ^ 32
+pub word_fits : (bytes : List ℕ) (n : ℕ) → IsWord bytes n → n < 2 ^ 32
+word_fits [] n h = absurd h
+word_fits (a ∷ []) n h = absurd h
+word_fits (a ∷ b ∷ []) n h = absurd h
+word_fits (a ∷ b ∷ c ∷ []) n h = absurd h
+word_fits (a ∷ b ∷ c ∷ d ∷ []) n h = omega arith
+word_fits (a ∷ b ∷ c ∷ d ∷ e ∷ bytes) n h = absurd h
+
+-- a signed integer is in two's complement in the word that it is cast to
+complement_of : (z : ℤ) → FitsSigned w32 z → IsTwosComplement (cast_unsigned w32 z) z
+complement_of (pos k) h = (omega (arith, h.sfits), refl)
+complement_of (negsuc k) h = (omega (arith, h.sfits), omega (arith, h.sfits))
+
+-- a word stands for the signed integer that it is cast to
+signed_of : (n : ℕ) → n < 2 ^ 32 → IsTwosComplement n (cast_signed w32 n)
+signed_of n h = subst (λ (m : ℕ). IsTwosComplement m (cast_signed w32 n)) (of_z-to_z w32 n h) (complement_of (cast_signed w32 n) (search rules))
+
+-- and for no other
+signed_is : (n : ℕ) (z : ℤ) → IsTwosComplement n z → cast_signed w32 n ≡ z
+signed_is n (pos k) h = omega (arith, ints)
+signed_is n (negsuc k) h = grind (arith, ints)
+
+-- a signed integer that is spelled is read
+pub signed_begins : (bytes after : List ℕ) (z : ℤ) → Begins bytes (Signed z) after → signed_at bytes ≡ Ok (z, after)
+unfolding signed_at
+signed_begins bytes after z b = rw (unsigned_begins bytes after b.1.0 (b.0, b.1.1, b.2), signed_is b.1.0 z b.1.2) refl
+
+-- a signed integer that is read is spelled so
+pub signed_takes : (bytes after : List ℕ) (z : ℤ) → IsBytes bytes → signed_at bytes ≡ Ok (z, after) → Begins bytes (Signed z) after
+unfolding signed_at
+signed_takes bytes after z fits e =
+    let word = bind_ok (unsigned_at bytes) (λ n. Ok (cast_signed w32 n.0, n.1)) (z, after) e in
+    let n = word.0.0 in
+    let parts = pair_parts (cast_signed w32 n) z word.0.1 after word.2 in
+    let b = unsigned_takes bytes word.0.1 n fits word.1 in
+    (b.0, (n, b.1, subst (IsTwosComplement n) parts.0 (signed_of n (word_fits b.0 n b.1))), b.2 ∙ ap (λ (l : List ℕ). b.0 ++ l) parts.1)
+
+-- a boolean that is spelled is read
+pub boolean_begins : (bytes after : List ℕ) (value : Bool) → Begins bytes (Boolean value) after → boolean_at bytes ≡ Ok (value, after)
+unfolding boolean_at
+boolean_begins bytes after false b = rw (unsigned_begins bytes after 0 b) refl
+boolean_begins bytes after true b = rw (unsigned_begins bytes after 1 b) refl
+
+-- the truth that a number stands for
+truth_of : (n : ℕ) (rest after : List ℕ) (value : Bool)
+    → (let r : Result (Bool × List ℕ) XdrFault = cond (eqb n 0) (Ok (false, rest)) (cond (eqb n 1) (Ok (true, rest)) (Err BadBool)) in r) ≡ Ok (value, after)
+    → (n ≡ from_bool value) × (rest ≡ after)
+truth_of n rest after value e = (grind (arith, nat_tests), grind (arith, nat_tests))
+
+-- a boolean that is read is spelled so
+pub boolean_takes : (bytes after : List ℕ) (value : Bool) → IsBytes bytes → boolean_at bytes ≡ Ok (value, after) → Begins bytes (Boolean value) after
+unfolding boolean_at
+boolean_takes bytes after value fits e =
+    let word = bind_ok (unsigned_at bytes) _ (value, after) e in
+    let b = unsigned_takes bytes word.0.1 word.0.0 fits word.1 in
+    let truth = truth_of word.0.0 word.0.1 after value word.2 in
+    (b.0, subst (IsWord b.0) truth.0 b.1, b.2 ∙ ap (λ (l : List ℕ). b.0 ++ l) truth.1)

@@ -1,0 +1,82 @@
+-- A reply has room in the text that it is written into.
+use Rattle.std.proofs.Common.{◌≡◌, ℕ, ◌+◌, ◌≤◌, List, [], ◌∷◌, ◌++◌, length, take, Result, Ok, Err, refl, sym, ap, ◌∙◌, arith}
+use Rattle.std.specs.Prelude.{map, replicate}
+use Rattle.std.specs.List.{concat}
+use Rattle.std.proofs.lemmas.List.{length-append, length-take-le, length-replicate}
+use Rattle.std.proofs.lemmas.List.Folds.{concat-append}
+use Rattle.sv_xdr.specs.declared.fault.XdrFault.{XdrFault}
+use Rattle.sv_xdr.specs.declared.writer.Writer.{Writer}
+use Rattle.sv_xdr.specs.Spelling.{spelling, pad_len}
+use Rattle.sv_xdr.specs.Writer.{text_of, rest_of, Appends, WritesEach}
+use Rattle.sv_rpc.specs.declared.reply.Reply.{Reply}
+use Rattle.sv_rpc.specs.declared.reply.Reply.TheVariants.{Success, Mismatch, ProgUnavail, ProgMismatch, ProcUnavail, GarbageArgs}
+use Rattle.sv_rpc.specs.Reply.{reply_fields}
+use Rattle.sv_server.specs.Results.{Outcome, Link, Size, Read, result_fields, IsShort, FitsLength}
+
+-- bytes that were written leave so much less room
+room_left : (bytes : List ℕ) (old new : Writer) → Appends bytes old new → length bytes + length (rest_of new) ≡ length (rest_of old)
+room_left bytes old new a =
+    let front : length (take (length bytes) (rest_of old)) ≡ length bytes = length-take-le (length bytes) (rest_of old) a.fits in
+    omega (arith, ap length a.rest, length-append (take (length bytes) (rest_of old)) (rest_of new))
+
+-- pieces that have room together are all written
+pub whole_is_written : (pieces : List (List ℕ)) (r : Result Unit XdrFault) (old new : Writer) → WritesEach pieces r old new → length (concat pieces) ≤ length (rest_of old)
+    → Appends (concat pieces) old new
+whole_is_written pieces (Ok done) old new w room = w
+whole_is_written pieces (Err fault) old new w room =
+    let front = w.1 in
+    let behind = w.2 in
+    let piece = w.3 in
+    let parts : concat pieces ≡ concat front ++ (piece ++ concat behind) = ap concat w.4 ∙ concat-append front (piece ∷ behind) in
+    let left = room_left (concat front) old new w.5 in
+    absurd (omega (arith, ap length parts, length-append (concat front) (piece ++ concat behind), length-append piece (concat behind), w.6))
+
+-- the header of a reply is at most eight words
+pub reply_is_short : (xid : ℕ) (reply : Reply) → length (concat (map spelling (reply_fields xid reply))) ≤ 32
+reply_is_short xid Success = omega arith
+reply_is_short xid Mismatch = omega arith
+reply_is_short xid ProgUnavail = omega arith
+reply_is_short xid (ProgMismatch low high) = omega arith
+reply_is_short xid ProcUnavail = omega arith
+reply_is_short xid GarbageArgs = omega arith
+
+-- that of a reply with a result is six
+pub success_is_short : (xid : ℕ) → length (concat (map spelling (reply_fields xid Success))) ≡ 24
+success_is_short xid = refl
+
+-- a result is at most error, reason and 8,192 bytes
+pub result_is_short : (outcome : Outcome) → IsShort outcome → length (concat (map spelling (result_fields outcome))) ≤ 8204
+result_is_short (Link error lid abort_port max_size) h = omega arith
+result_is_short (Size error size) h = omega arith
+result_is_short (Read error reason bytes) h =
+    omega (
+      arith,
+      length-append bytes (replicate (pad_len (length bytes)) 0),
+      length-replicate {A = ℕ} (pad_len (length bytes)) 0,
+      length-append (bytes ++ replicate (pad_len (length bytes)) 0) [],
+    )
+
+pub short_fits : (outcome : Outcome) → IsShort outcome → FitsLength outcome
+short_fits (Link error lid abort_port max_size) h = tt
+short_fits (Size error size) h = tt
+short_fits (Read error reason bytes) h = omega arith
+
+-- the header of a reply and a result behind it are all written
+pub both_are_written : (xid : ℕ) (outcome : Outcome) (r s : Result Unit XdrFault) (old mid new : Writer) → text_of old ≡ [] → 8228 ≤ length (rest_of old) → IsShort outcome
+    → WritesEach (map spelling (reply_fields xid Success)) r old mid → WritesEach (map spelling (result_fields outcome)) s mid new
+    → text_of new ≡ concat (map spelling (reply_fields xid Success ++ result_fields outcome))
+both_are_written xid outcome r s old mid new empty room short first second =
+    let header = map spelling (reply_fields xid Success) in
+    let fields = map spelling (result_fields outcome) in
+    let size = result_is_short outcome short in
+    let one = whole_is_written header r old mid first (omega (arith, success_is_short xid)) in
+    let left = room_left (concat header) old mid one in
+    let two = whole_is_written fields s mid new second (omega (arith, success_is_short xid)) in
+    let text : text_of new ≡ ([] ++ concat header) ++ concat fields = two.text ∙ ap (λ (t : List ℕ). t ++ concat fields) (one.text ∙ ap (λ (t : List ℕ). t ++ concat header) empty) in
+    text ∙ sym (concat-append header fields)
+
+pub reply_fits : (xid : ℕ) (outcome : Outcome) → IsShort outcome → length (concat (map spelling (reply_fields xid Success ++ result_fields outcome))) ≤ 8228
+reply_fits xid outcome short =
+    let header = map spelling (reply_fields xid Success) in
+    let fields = map spelling (result_fields outcome) in
+    omega (arith, ap length (concat-append header fields), length-append (concat header) (concat fields), success_is_short xid, result_is_short outcome short)

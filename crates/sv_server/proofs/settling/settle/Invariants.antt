@@ -1,0 +1,10 @@
+use Rattle.sv_server.specs.ExchangeHeld.{work_of}
+use Rattle.sv_server.proofs.Steps.{AnyStepped}
+use Rattle.sv_server.proofs.settling.settle.Given as goal
+
+-- what the steps until now made of the log
+abbrev pub invariant-loop : goal.invariant-loop
+invariant-loop g l = AnyStepped l.initial.exchange l.exchange
+
+abbrev pub decreases-loop : goal.decreases-loop
+decreases-loop g l = work_of l.exchange

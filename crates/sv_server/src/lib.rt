@@ -1,0 +1,23 @@
+//! The server: events in, and out the bytes of every reply.
+#![tactic(auto)]
+
+mod arguments;
+mod calling;
+mod event;
+mod exchange;
+pub mod laws;
+mod line;
+mod links;
+mod message;
+mod place;
+mod read;
+mod results;
+mod sending;
+mod server;
+mod serving;
+mod settling;
+mod turn;
+mod units;
+
+pub use event::{Config, Dial, Did, Event, Port, Refused, Role};
+pub use server::Server;
