@@ -60,6 +60,7 @@ fn call_device<A: Allocator>(
     ensures err { OnErr result ((links.new ≡ links.old) × (exchange.new ≡ exchange.old) × (out.new.items ≡ out.old.items) × (makes_link (plain_arguments args.entry) ≡ true)
         × ((nat_lt (length links.old.links) 32 && nat_lt links.old.made 2147483647) ≡ true)) }
     ensures capacity { vec_capacity out.old ≤ vec_capacity out.new }
+    ensures grows { vec_len out.new ≤ vec_len out.old + 8232 }
 {
     match args {
         Args::CreateLink {
@@ -117,6 +118,7 @@ fn call_core<A: Allocator>(
     ensures err { OnErr result ((links.new ≡ links.old) × (exchange.new ≡ exchange.old) × (out.new.items ≡ out.old.items) × (call.entry.proc ≡ 10)
         × (spells_link (arguments_at call.entry.proc call.entry.args.now) ≡ true) × ((nat_lt (length links.old.links) 32 && nat_lt links.old.made 2147483647) ≡ true)) }
     ensures capacity { vec_capacity out.old ≤ vec_capacity out.new }
+    ensures grows { vec_len out.new ≤ vec_len out.old + 8232 }
 {
     match call.proc {
         NULL => {
@@ -161,6 +163,7 @@ pub fn serve<A: Allocator>(
     ensures err { OnErr result ((links.new ≡ links.old) × (exchange.new ≡ exchange.old) × (out.new.items ≡ out.old.items)) }
     ensures wants { (log : List Act) → IsTable links.old (link_acts log) → OnErr result (wants_memory (Some role) (call_at bytes.now) log ≡ true) }
     ensures capacity { vec_capacity out.old ≤ vec_capacity out.new }
+    ensures grows { vec_len out.new ≤ vec_len out.old + 8232 }
 {
     let Ok(call) = read_call(bytes) else {
         return Ok(true);

@@ -32,7 +32,7 @@ impl<A: Allocator> Model for Line<A> {
 
     ghost view = { λ a. record { role = a.role; input = a.input; output = a.output.items; faulted = a.faulted } };
 
-    ghost invariant = { λ a. 16384 ≤ vec_capacity a.output };
+    ghost invariant = { λ a. (length a.output.items ≤ 16384) × (16384 ≤ vec_capacity a.output) };
 }
 
 impl<A: Allocator + Copy> Line<A> {

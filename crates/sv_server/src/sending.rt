@@ -18,6 +18,7 @@ pub fn send_reply<A: Allocator>(out: &mut Vec<u8, A>, xid: u32, reply: Reply)
     requires { vec_len out.old + 8232 ≤ vec_capacity out.old }
     ensures sent { out.new.items ≡ out.old.items ++ reply_record xid reply [] }
     ensures capacity { vec_capacity out.old ≤ vec_capacity out.new }
+    ensures grows { vec_len out.new ≤ vec_len out.old + 8232 }
 {
     let mut text = [0; LONGEST];
     let mut writer = Writer::new(&mut text);
@@ -31,6 +32,7 @@ fn send<A: Allocator>(out: &mut Vec<u8, A>, text: &[u8])
     requires short { length text.now < 2 ^ 31 }
     ensures sent { out.new.items ≡ out.old.items ++ fragment true text.now }
     ensures capacity { vec_capacity out.old ≤ vec_capacity out.new }
+    ensures grows { vec_len out.new ≡ vec_len out.old + 4 + length text.now }
 {
     let header = text.len() as u32 + (1 << 31);
     append(out, &header.to_be_bytes());
@@ -53,6 +55,7 @@ pub fn send_result<A: Allocator>(out: &mut Vec<u8, A>, xid: u32, outcome: &VxiRe
     requires short { IsShort (plain_result outcome.now) }
     ensures sent { out.new.items ≡ out.old.items ++ reply_record xid Reply.Success (result_fields (plain_result outcome.now)) }
     ensures capacity { vec_capacity out.old ≤ vec_capacity out.new }
+    ensures grows { vec_len out.new ≤ vec_len out.old + 8232 }
 {
     let mut text = [0; LONGEST];
     let mut writer = Writer::new(&mut text);

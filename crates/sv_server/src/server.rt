@@ -81,7 +81,8 @@ impl<A: Allocator> Server<A> {
     /// The bytes that wait on a port, in the order in which they are to be sent; none where it isn't
     /// open.
     pub fn waiting(&self, port: Port) -> &[u8]
-        ensures { (config : Config) (history : List Happening) → StandsFor self.now config history → AreWaiting config history port result.now }
+        ensures waiting { (config : Config) (history : List Happening) → StandsFor self.now config history → AreWaiting config history port result.now }
+        ensures bounded { length result.now ≤ 16384 }
     {
         match port {
             Port::Conn(conn) => match self.line(conn) {

@@ -39,6 +39,7 @@ pub fn create_link<A: Allocator>(
     ensures err { OnErr result ((links.new ≡ links.old) × (out.new.items ≡ out.old.items) × (bytes_eq device.now (codes "inst0") ≡ true) × (lock_device ≡ false)
         × ((nat_lt (length links.old.links) 32 && nat_lt links.old.made 2147483647) ≡ true)) }
     ensures capacity { vec_capacity out.old ≤ vec_capacity out.new }
+    ensures grows { vec_len out.new ≤ vec_len out.old + 8232 }
 {
     if device != b"inst0".as_slice() {
         send_no_link(out, xid, ErrorCode::NotAccessible);
@@ -63,6 +64,7 @@ fn send_link<A: Allocator>(out: &mut Vec<u8, A>, xid: u32, lid: u32, abort_port:
     requires number { lid < 2 ^ 31 }
     ensures sent { out.new.items ≡ out.old.items ++ reply_record xid Reply.Success (result_fields (Link ErrorCode.NoError (pos lid) abort_port 4096)) }
     ensures capacity { vec_capacity out.old ≤ vec_capacity out.new }
+    ensures grows { vec_len out.new ≤ vec_len out.old + 8232 }
 {
     let made = VxiResult::Link {
         error: ErrorCode::NoError,
@@ -78,6 +80,7 @@ fn send_no_link<A: Allocator>(out: &mut Vec<u8, A>, xid: u32, error: ErrorCode)
     requires { vec_len out.old + 8232 ≤ vec_capacity out.old }
     ensures sent { out.new.items ≡ out.old.items ++ reply_record xid Reply.Success (result_fields (no_link error)) }
     ensures capacity { vec_capacity out.old ≤ vec_capacity out.new }
+    ensures grows { vec_len out.new ≤ vec_len out.old + 8232 }
 {
     let none = VxiResult::Link {
         error,
@@ -113,6 +116,7 @@ pub fn write_device_bytes<A: Allocator>(
     ensures serves { (log : List Act) → IsTable links.now (link_acts log) → HoldsExchange exchange.old (exchange_acts log)
         → Serves conn log (write_device conn xid lid flags.0 bytes.now log) links.now exchange.new out.old.items out.new.items false }
     ensures capacity { vec_capacity out.old ≤ vec_capacity out.new }
+    ensures grows { vec_len out.new ≤ vec_len out.old + 8232 }
 {
     if !owns(links, conn, lid) {
         return send_size(out, xid, ErrorCode::InvalidLink, 0);
@@ -132,6 +136,7 @@ fn send_size<A: Allocator>(out: &mut Vec<u8, A>, xid: u32, error: ErrorCode, siz
     requires { vec_len out.old + 8232 ≤ vec_capacity out.old }
     ensures sent { out.new.items ≡ out.old.items ++ reply_record xid Reply.Success (result_fields (Size error size)) }
     ensures capacity { vec_capacity out.old ≤ vec_capacity out.new }
+    ensures grows { vec_len out.new ≤ vec_len out.old + 8232 }
 {
     send_result(out, xid, &VxiResult::Size { error, size });
 }
@@ -152,6 +157,7 @@ pub fn read_device_bytes<A: Allocator>(
     ensures serves { (log : List Act) → IsTable links.now (link_acts log) → HoldsExchange exchange.old (exchange_acts log)
         → Serves conn log (read_device conn xid lid most term log) links.now exchange.new out.old.items out.new.items false }
     ensures capacity { vec_capacity out.old ≤ vec_capacity out.new }
+    ensures grows { vec_len out.new ≤ vec_len out.old + 8232 }
 {
     if !owns(links, conn, lid) {
         return send_no_bytes(out, xid, ErrorCode::InvalidLink);
@@ -171,6 +177,7 @@ fn send_no_bytes<A: Allocator>(out: &mut Vec<u8, A>, xid: u32, error: ErrorCode)
     requires { vec_len out.old + 8232 ≤ vec_capacity out.old }
     ensures sent { out.new.items ≡ out.old.items ++ reply_record xid Reply.Success (result_fields (no_bytes error)) }
     ensures capacity { vec_capacity out.old ≤ vec_capacity out.new }
+    ensures grows { vec_len out.new ≤ vec_len out.old + 8232 }
 {
     let none = VxiResult::Read {
         error,
@@ -196,6 +203,7 @@ fn send_response<A: Allocator>(
     ensures sent { out.new.items ≡ out.old.items ++ reply_record xid Reply.Success (result_fields (read_of (shown_by exchange.old) most term)) }
     ensures stands { (acts : List ExchangeAct) → HoldsExchange exchange.old acts → HoldsExchange exchange.new (ResponseRead (read_count (shown_by exchange.old) most term) ∷ acts) }
     ensures capacity { vec_capacity out.old ≤ vec_capacity out.new }
+    ensures grows { vec_len out.new ≤ vec_len out.old + 8232 }
 {
     let read = exchange.peek(most, term);
     let count = read.bytes.len();

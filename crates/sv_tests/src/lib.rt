@@ -1,11 +1,13 @@
-//! Tests of the fields, the records and the calls, by examples whose bytes were worked out from the standards, and of
-//! what a refusal of memory leaves. The library itself is empty.
+//! Tests of the fields, the records, the calls and the server, by examples whose bytes were worked out from the
+//! standards, and of what a refusal of memory leaves. The library itself is empty.
 #![tactic(auto)]
 
 #[cfg(test)]
 mod calls;
 #[cfg(test)]
 mod fields;
+#[cfg(test)]
+mod first_path;
 #[cfg(test)]
 mod memory;
 #[cfg(test)]

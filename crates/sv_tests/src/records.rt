@@ -7,7 +7,7 @@ use std::test::Fail;
 use sv_rpc::{Call, RecordBuf, RpcFault, read_call};
 
 /// The same call in three fragments: of 16 bytes, of none, and of 48 bytes, the last.
-const IN_FRAGMENTS: [u32; 19] = [
+pub(crate) const IN_FRAGMENTS: [u32; 19] = [
     0x00000010, 0x00000001, 0x00000000, 0x00000002, 0x000607AF, 0x00000000, 0x80000030, 0x00000001,
     0x0000000A, 0x00000000, 0x00000000, 0x00000000, 0x00000000, 0x00000000, 0x00000000, 0x00000000,
     0x00000005, 0x696E7374, 0x30000000,

@@ -1,0 +1,5 @@
+pub mod Hexes
+pub mod Lines
+pub mod Numbers
+pub mod Options
+pub mod Steps

@@ -1,0 +1,12 @@
+-- The bytes that were read are the word.
+use Rattle.std.proofs.Common.{◌≡◌, rules, arith}
+use Rattle.std.specs.Prelude.{codes}
+use Rattle.std.proofs.lemmas.Slice.Eq.{text_from_reads}
+use Rattle.scanvolt.specs.Reading.{event_at}
+use Rattle.scanvolt.proofs.line.event.Goals as goal
+
+pub returns-in-dialed : goal.returns-in-dialed
+unfolding event_at
+returns-in-dialed c =
+    let word : c.args.word.now ≡ codes "dialed" = text_from_reads c.args.word.now (codes "dialed") (omega arith) (search rules) in
+    rw word c.dialed.ensures

@@ -1,0 +1,9 @@
+-- What is read is what the line says.
+use Rattle.scanvolt.proofs.Lines.{line_found, line_only}
+use Rattle.scanvolt.proofs.line.read_line.Goals as goal
+
+pub returns-clause-found : goal.returns-clause-found
+returns-clause-found c = line_found c.args.line.now c.line_of.result c.line_of.ensures
+
+pub returns-clause-only : goal.returns-clause-only
+returns-clause-only c = λ what says. line_only c.args.line.now c.line_of.result what c.line_of.ensures says

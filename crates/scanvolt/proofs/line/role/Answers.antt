@@ -1,0 +1,12 @@
+-- The bytes that were read are the word.
+use Rattle.std.proofs.Common.{refl, ◌≡◌, rules, arith}
+use Rattle.std.specs.Prelude.{codes}
+use Rattle.std.proofs.lemmas.Slice.Eq.{text_from_reads}
+use Rattle.scanvolt.specs.Reading.{role_at}
+use Rattle.scanvolt.proofs.line.role.Goals as goal
+
+pub returns-in-portmap : goal.returns-in-portmap
+unfolding role_at
+returns-in-portmap c =
+    let word : c.args.word.now ≡ codes "portmap" = text_from_reads c.args.word.now (codes "portmap") (omega arith) (search rules) in
+    rw word refl

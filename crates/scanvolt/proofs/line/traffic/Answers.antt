@@ -1,0 +1,13 @@
+-- The bytes that were read are the word.
+use Rattle.std.proofs.Common.{◌≡◌, rules, ap, option_map, arith}
+use Rattle.std.specs.Prelude.{codes}
+use Rattle.std.proofs.lemmas.Slice.Eq.{text_from_reads}
+use Rattle.sv_server.specs.Event.{Refuse}
+use Rattle.scanvolt.specs.Reading.{traffic_at}
+use Rattle.scanvolt.proofs.line.traffic.Goals as goal
+
+pub returns-in_ok-byte-in-refuse : goal.returns-in_ok-byte-in-refuse
+unfolding traffic_at
+returns-in_ok-byte-in-refuse c =
+    let word : c.args.word.now ≡ codes "refuse" = text_from_reads c.args.word.now (codes "refuse") (omega arith) (search rules) in
+    rw word (ap (option_map Refuse) c.in_ok-byte-in-refuse.ensures)

@@ -1,0 +1,7 @@
+use Rattle.std.proofs.Common.{◌≡◌, ◌≤◌, drop}
+use Rattle.scanvolt.specs.Reading.{number_at, digits_onto}
+use Rattle.scanvolt.proofs.number.number.Given as goal
+
+-- the digits that are left, put onto the value, spell what all of them do
+abbrev pub invariant-loop-digit : goal.invariant-loop-digit
+invariant-loop-digit l = (digits_onto l.most l.value (drop l.digit-index l.digits) ≡ number_at l.most l.digits) × (l.value ≤ l.most)

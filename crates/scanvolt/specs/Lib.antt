@@ -1,0 +1,4 @@
+pub mod Line
+pub mod PlainLine
+pub mod Reading
+pub mod Laws

@@ -1,0 +1,77 @@
+-- A line of a replay, as a relation between its bytes and what it says.
+use Rattle.std.specs.Prelude.{◌≡◌, ◌≢◌, ◌⊎◌, ℕ, ◌+◌, ◌-◌, ◌*◌, ◌<◌, ◌≤◌, ℤ, pos, negsuc, Bool, true, false, List, [], ◌∷◌, ◌++◌, length, codes, fold}
+use Rattle.std.specs.List.{AllByRecursion}
+use Rattle.sv_server.specs.declared.event.Role.{Role}
+use Rattle.sv_server.specs.declared.event.Role.TheVariants.{Core, Abort, Portmap}
+use Rattle.sv_server.specs.declared.event.Port.TheVariants.{Conn, Intr}
+use Rattle.sv_server.specs.Event.{Happening, Open, Bytes, Turn, Refuse, Took, Close, Dialed, Input, External, Tick}
+
+-- nothing, one event, or so many ticks
+pub data Line : Type 0 where
+  Blank : Line
+  One : Happening → Line
+  Ticks : ℕ → Line
+
+-- Decimal digits, at least one, and the number that they spell.
+abbrev pub value_of : List ℕ → ℕ
+value_of digits = fold (λ n digit. 10 * n + (digit - 48)) 0 digits
+
+abbrev pub IsNumber : List ℕ → ℕ → Type 0
+IsNumber digits n = (digits ≢ []) × AllByRecursion (λ digit. (48 ≤ digit) × (digit ≤ 57)) digits × (n ≡ value_of digits)
+
+abbrev pub HasNoLeadingZero : List ℕ → Type 0
+HasNoLeadingZero [] = Unit {0}
+HasNoLeadingZero (digit ∷ []) = Unit {0}
+HasNoLeadingZero (digit ∷ other ∷ digits) = digit ≢ 48
+
+-- a number without leading zeros, of at most this
+abbrev pub IsPlain : ℕ → List ℕ → ℕ → Type 0
+IsPlain most digits n = IsNumber digits n × HasNoLeadingZero digits × (n ≤ most)
+
+-- a hexadecimal digit, in either case
+abbrev pub IsHexDigit : ℕ → ℕ → Type 0
+IsHexDigit digit n = (n < 16) × (((n < 10) × (digit ≡ n + 48)) ⊎ (((10 ≤ n) × (digit ≡ n + 55)) ⊎ ((10 ≤ n) × (digit ≡ n + 87))))
+
+abbrev pub IsPair : ℕ → ℕ → ℕ → Type 0
+IsPair high low byte = (h l : ℕ) × IsHexDigit high h × IsHexDigit low l × (byte ≡ 16 * h + l)
+
+-- bytes of two digits each, with at most one space between them
+abbrev pub IsHex : List ℕ → List ℕ → Type 0
+IsHex text [] = ⊥
+IsHex text (byte ∷ []) = (high low : ℕ) × IsPair high low byte × (text ≡ high ∷ low ∷ [])
+IsHex text (byte ∷ other ∷ bytes) = (high low : ℕ) × (rest : List ℕ) × IsPair high low byte × IsHex rest (other ∷ bytes)
+    × ((text ≡ high ∷ low ∷ rest) ⊎ (text ≡ high ∷ low ∷ 32 ∷ rest))
+
+-- a voltage: a sign where it is below zero (and allowed in front of zero), and at most 18 digits, which may begin with zeros
+abbrev pub IsVoltage : List ℕ → ℤ → Type 0
+IsVoltage text (pos n) = (digits : List ℕ) × IsNumber digits n × (length digits ≤ 18) × ((text ≡ digits) ⊎ ((n ≡ 0) × (text ≡ 45 ∷ digits)))
+IsVoltage text (negsuc n) = (digits : List ℕ) × IsNumber digits (n + 1) × (length digits ≤ 18) × (text ≡ 45 ∷ digits)
+
+abbrev pub role_word : Role → List ℕ
+role_word Core = codes "core"
+role_word Abort = codes "abort"
+role_word Portmap = codes "portmap"
+
+abbrev pub ok_word : Bool → List ℕ
+ok_word true = codes "ok"
+ok_word false = codes "failed"
+
+-- words are separated by one space
+abbrev pub SaysEvent : List ℕ → Happening → Type 0
+SaysEvent line (Open c role) = (number : List ℕ) × IsPlain 255 number c × (line ≡ codes "open " ++ (number ++ 32 ∷ role_word role))
+SaysEvent line (Bytes c piece) = (number hex : List ℕ) × IsPlain 255 number c × IsHex hex piece × (line ≡ codes "bytes " ++ (number ++ 32 ∷ hex))
+SaysEvent line (Turn c) = (number : List ℕ) × IsPlain 255 number c × (line ≡ codes "turn " ++ number)
+SaysEvent line (Refuse c) = (number : List ℕ) × IsPlain 255 number c × (line ≡ codes "refuse " ++ number)
+SaysEvent line (Took port count) = ⊥
+SaysEvent line (Close (Conn c)) = (number : List ℕ) × IsPlain 255 number c × (line ≡ codes "close c" ++ number)
+SaysEvent line (Close (Intr c)) = (number : List ℕ) × IsPlain 255 number c × (line ≡ codes "close i" ++ number)
+SaysEvent line (Dialed c ok) = (number : List ℕ) × IsPlain 255 number c × (line ≡ codes "dialed " ++ (number ++ 32 ∷ ok_word ok))
+SaysEvent line (Input channel microvolts) = (number voltage : List ℕ) × IsPlain 255 number channel × IsVoltage voltage microvolts
+    × (line ≡ codes "input " ++ (number ++ 32 ∷ voltage))
+SaysEvent line External = line ≡ codes "external"
+SaysEvent line Tick = line ≡ codes "tick"
+
+abbrev pub Says : List ℕ → Line → Type 0
+Says line Blank = line ≡ []
+Says line (One event) = SaysEvent line event
+Says line (Ticks n) = (number : List ℕ) × IsPlain 1000000 number n × (0 < n) × (line ≡ codes "tick " ++ number)

@@ -1,0 +1,11 @@
+-- What was read from a line, as plain data.
+use Rattle.sv_server.specs.Event.{plain}
+use Rattle.scanvolt.specs.Line.{Line as Said, Blank, One, Ticks}
+use Rattle.scanvolt.specs.declared.line.Line.{Line}
+use Rattle.scanvolt.specs.declared.line.Line.TheVariants as lines
+
+-- a line without where its bytes lie in memory
+abbrev pub plain_line : Line → Said
+plain_line lines.Blank = Blank
+plain_line (lines.One event) = One (plain event)
+plain_line (lines.Ticks n) = Ticks n

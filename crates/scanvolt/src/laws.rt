@@ -1,0 +1,9 @@
+//! Laws of the definitions, each on a function that does nothing.
+
+ghost use Rattle.scanvolt.specs.Laws.{OneLine};
+
+/// A line says one thing, or nothing.
+pub fn one_line()
+    ensures { OneLine }
+{
+}

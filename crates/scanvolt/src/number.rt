@@ -1,0 +1,72 @@
+//! Reading decimal numbers.
+
+ghost use Rattle.std.specs.Prelude.{◌≡◌, ◌<◌, ◌≤◌, ◌^◌, IfSome, option_map, pos, ◌≤ℤ◌};
+ghost use Rattle.scanvolt.specs.Reading.{number_at, plain_at, short_at, voltage_at};
+
+/// The greatest number of 18 digits.
+const MOST_OF_18: u64 = 999_999_999_999_999_999;
+
+/// The number that these digits spell, if it is at most `most`.
+fn number(digits: &[u8], most: u64) -> Option<u64>
+    requires { most < 10 ^ 18 }
+    ensures exact { result ≡ number_at most digits.now }
+    ensures bounded { IfSome result (λ n. n ≤ most) }
+{
+    if digits.is_empty() {
+        return None;
+    }
+    let mut value = 0;
+    for digit in digits {
+        if !digit.is_ascii_digit() {
+            return None;
+        }
+        value = 10 * value + u64::from(*digit - b'0');
+        if most < value {
+            return None;
+        }
+    }
+    Some(value)
+}
+
+/// The number that these digits spell without leading zeros, if it is at most `most`.
+#[tactic(auto, unfolding(crate::specs::Reading::plain_at))]
+pub(crate) fn plain(digits: &[u8], most: u64) -> Option<u64>
+    requires { most < 10 ^ 18 }
+    ensures exact { result ≡ plain_at most digits.now }
+    ensures bounded { IfSome result (λ n. n ≤ most) }
+{
+    if let [b'0', _, ..] = digits {
+        return None;
+    }
+    number(digits, most)
+}
+
+/// The number of a connection or of a channel, from 0 to 255.
+pub(crate) fn byte(digits: &[u8]) -> Option<u8>
+    ensures { result ≡ plain_at 255 digits.now }
+{
+    Some(plain(digits, 255)? as u8)
+}
+
+/// The number that at most 18 digits spell.
+#[tactic(auto, unfolding(crate::specs::Reading::short_at))]
+fn short(digits: &[u8]) -> Option<i64>
+    ensures exact { result ≡ option_map pos (short_at digits.now) }
+    ensures positive { IfSome result (λ n. pos 0 ≤ℤ n) }
+{
+    if digits.len() > 18 {
+        return None;
+    }
+    Some(number(digits, MOST_OF_18)? as i64)
+}
+
+/// The voltage that at most 18 digits spell, with a minus in front of them where it is below zero.
+#[tactic(auto, unfolding(crate::specs::Reading::voltage_at))]
+pub(crate) fn voltage(text: &[u8]) -> Option<i64>
+    ensures { result ≡ voltage_at text.now }
+{
+    match text {
+        [b'-', digits @ ..] => Some(-short(digits)?),
+        digits => short(digits),
+    }
+}

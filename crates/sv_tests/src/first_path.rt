@@ -1,0 +1,342 @@
+//! Links, writes and reads: from the bytes of calls to the bytes of replies.
+
+use crate::records::IN_FRAGMENTS;
+use crate::words::{CREATE_LINK, bytes_of};
+use rationing::Rationed;
+use std::alloc::{AllocError, Allocator, Global};
+use std::process::Abort;
+use std::test::Fail;
+use sv_server::{Config, Did, Event, Port, Refused, Role, Server};
+
+const CONFIG: Config = Config {
+    core: 4096,
+    abort: 4097,
+    clock: 0,
+};
+
+const CREATE: u32 = 10;
+
+const WRITE: u32 = 11;
+
+const READ: u32 = 12;
+/// The arguments of `create_link` for the device `inst0`.
+const FOR_DEVICE: [u32; 6] = [0, 0, 0, 5, 0x696E7374, 0x30000000];
+/// What `create_link` gives for no further link.
+const OUT_OF_RESOURCES: [u32; 4] = [9, 0, 0, 0];
+
+/// The reply to `CREATE_LINK` of the first link: the abort channel's port is 4097, and a write has at most 4,096 bytes.
+const FIRST_LINK: [u32; 11] = [
+    0x80000028, 0x00000001, 0x00000001, 0x00000000, 0x00000000, 0x00000000, 0x00000000, 0x00000000,
+    0x00000001, 0x00001001, 0x00001000,
+];
+/// A call of `device_write` on link 1: `*IDN?` and a new line, with END.
+const WRITE_IDN: [u32; 18] = [
+    0x80000044, 0x00000002, 0x00000000, 0x00000002, 0x000607AF, 0x00000001, 0x0000000B, 0x00000000,
+    0x00000000, 0x00000000, 0x00000000, 0x00000001, 0x000003E8, 0x00000000, 0x00000008, 0x00000006,
+    0x2A49444E, 0x3F0A0000,
+];
+/// Its reply: six bytes were written.
+const WRITTEN: [u32; 9] = [
+    0x80000020, 0x00000002, 0x00000001, 0x00000000, 0x00000000, 0x00000000, 0x00000000, 0x00000000,
+    0x00000006,
+];
+/// A call of `device_read` on link 1, of at most 256 bytes.
+const READ_256: [u32; 17] = [
+    0x80000040, 0x00000003, 0x00000000, 0x00000002, 0x000607AF, 0x00000001, 0x0000000C, 0x00000000,
+    0x00000000, 0x00000000, 0x00000000, 0x00000001, 0x00000100, 0x000003E8, 0x00000000, 0x00000000,
+    0x00000000,
+];
+/// Its reply: `SCANVOLT,SV32,0,1.0` and a new line, which end the response.
+const IDENTITY: [u32; 15] = [
+    0x80000038, 0x00000003, 0x00000001, 0x00000000, 0x00000000, 0x00000000, 0x00000000, 0x00000000,
+    0x00000004, 0x00000014, 0x5343414E, 0x564F4C54, 0x2C535633, 0x322C302C, 0x312E300A,
+];
+
+/// A record of one fragment: a header, and the words behind it.
+fn record(alloc: Global, header: &[u32], words: &[u32]) -> Result<Vec<u8>, AllocError> {
+    let mut mark = 0x80000000u32;
+    for _ in header.iter().chain(words) {
+        mark = mark.wrapping_add(4);
+    }
+    let mut bytes = bytes_of(alloc, &[mark])?;
+    bytes.extend_from_slice(bytes_of(alloc, header)?.as_slice())?;
+    bytes.extend_from_slice(bytes_of(alloc, words)?.as_slice())?;
+    Ok(bytes)
+}
+
+/// A call on the core channel.
+fn call(alloc: Global, xid: u32, proc: u32, args: &[u32]) -> Result<Vec<u8>, AllocError> {
+    record(alloc, &[xid, 0, 2, 0x0607AF, 1, proc, 0, 0, 0, 0], args)
+}
+
+/// The reply to a call that succeeded.
+fn reply(alloc: Global, xid: u32, fields: &[u32]) -> Result<Vec<u8>, AllocError> {
+    record(alloc, &[xid, 1, 0, 0, 0, 0], fields)
+}
+
+/// Applies an event, which has to be done.
+fn does<A: Allocator>(rt: &impl Abort, server: &mut Server<A>, event: Event<'_>) {
+    assert_eq!(rt; server.apply(event), Ok(Did::Done), "{event:?}");
+}
+
+/// Opens connection 0 on the core channel.
+fn open<A: Allocator>(rt: &impl Abort, server: &mut Server<A>) {
+    let role = Role::Core;
+    does(rt, server, Event::Open { conn: 0, role });
+}
+
+/// A server of which connection 0 is open on the core channel.
+fn opened(rt: &impl Abort, alloc: Global) -> Result<Server, AllocError> {
+    let mut server = Server::new(alloc, CONFIG)?;
+    open(rt, &mut server);
+    Ok(server)
+}
+
+/// Lets bytes come on connection 0.
+fn come<A: Allocator>(rt: &impl Abort, server: &mut Server<A>, piece: &[u8]) {
+    does(rt, server, Event::Bytes { conn: 0, piece });
+}
+
+/// Takes the bytes that wait on connection 0, which have to be these.
+fn take<A: Allocator>(rt: &impl Abort, server: &mut Server<A>, wanted: &[u8]) -> Result<(), Fail> {
+    let port = Port::Conn(0);
+    assert_eq!(rt; server.waiting(port), wanted);
+    let count = u32::try_from(wanted.len())?;
+    does(rt, server, Event::Took { port, count });
+    assert!(rt; server.waiting(port).is_empty());
+    Ok(())
+}
+
+/// Lets bytes come on connection 0, and takes a call and its reply.
+fn answers<A: Allocator>(
+    rt: &impl Abort,
+    server: &mut Server<A>,
+    asked: &[u8],
+    wanted: &[u8],
+) -> Result<(), Fail> {
+    come(rt, server, asked);
+    does(rt, server, Event::Turn { conn: 0 });
+    take(rt, server, wanted)
+}
+
+/// With ample memory it isn't refused, which no contract says.
+#[test]
+fn create_link_makes_the_first_link(rt: HostRuntime) -> Result<(), Fail> {
+    let asked = bytes_of(rt.alloc(), &CREATE_LINK)?;
+    let wanted = bytes_of(rt.alloc(), &FIRST_LINK)?;
+    let mut server = opened(&rt, rt.alloc())?;
+    answers(&rt, &mut server, asked.as_slice(), wanted.as_slice())
+}
+
+#[test]
+fn a_call_is_answered_alike_however_its_bytes_are_cut(rt: HostRuntime) -> Result<(), Fail> {
+    let whole = bytes_of(rt.alloc(), &CREATE_LINK)?;
+    let fragments = bytes_of(rt.alloc(), &IN_FRAGMENTS)?;
+    let wanted = bytes_of(rt.alloc(), &FIRST_LINK)?;
+    for stream in [whole.as_slice(), fragments.as_slice()] {
+        let mut server = opened(&rt, rt.alloc())?;
+        for byte in stream {
+            assert!(rt; !server.ready(0));
+            come(&rt, &mut server, &[*byte]);
+        }
+        answers(&rt, &mut server, &[], wanted.as_slice())?;
+
+        let mut server = opened(&rt, rt.alloc())?;
+        answers(&rt, &mut server, stream, wanted.as_slice())?;
+    }
+    Ok(())
+}
+
+#[test]
+fn idn_is_answered_at_the_next_read(rt: HostRuntime) -> Result<(), Fail> {
+    let mut server = opened(&rt, rt.alloc())?;
+    let run: [(&[u32], &[u32]); 3] = [
+        (&CREATE_LINK, &FIRST_LINK),
+        (&WRITE_IDN, &WRITTEN),
+        (&READ_256, &IDENTITY),
+    ];
+    for (asked, wanted) in run {
+        let asked = bytes_of(rt.alloc(), asked)?;
+        let wanted = bytes_of(rt.alloc(), wanted)?;
+        answers(&rt, &mut server, asked.as_slice(), wanted.as_slice())?;
+    }
+    Ok(())
+}
+
+#[test]
+fn a_message_may_come_in_several_writes(rt: HostRuntime) -> Result<(), Fail> {
+    let mut server = opened(&rt, rt.alloc())?;
+    let identity: [u32; 8] = [
+        0, 4, 20, 0x5343414E, 0x564F4C54, 0x2C535633, 0x322C302C, 0x312E300A,
+    ];
+    let run: [(u32, &[u32], &[u32]); 5] = [
+        (CREATE, &FOR_DEVICE, &[0, 1, 4097, 4096]),
+        // `*I` and `DN?` without END, and no bytes with END.
+        (WRITE, &[1, 0, 0, 0, 2, 0x2A490000], &[0, 2]),
+        (WRITE, &[1, 0, 0, 0, 3, 0x444E3F00], &[0, 3]),
+        (WRITE, &[1, 0, 0, 8, 0], &[0, 0]),
+        (READ, &[1, 256, 0, 0, 0, 0], &identity),
+    ];
+    for (proc, args, fields) in run {
+        let asked = call(rt.alloc(), proc, proc, args)?;
+        let wanted = reply(rt.alloc(), proc, fields)?;
+        answers(&rt, &mut server, asked.as_slice(), wanted.as_slice())?;
+    }
+    Ok(())
+}
+
+#[test]
+fn a_link_for_which_memory_was_refused_is_made_at_the_next_turn(
+    rt: HostRuntime,
+) -> Result<(), Fail> {
+    let asked = bytes_of(rt.alloc(), &CREATE_LINK)?;
+    let wanted = bytes_of(rt.alloc(), &FIRST_LINK)?;
+    let heap = Rationed::new(rt.alloc());
+    let mut server = Server::new(&heap, CONFIG)?;
+    open(&rt, &mut server);
+    come(&rt, &mut server, asked.as_slice());
+
+    heap.refuse(1);
+    let turn = Event::Turn { conn: 0 };
+    assert_eq!(rt; server.apply(turn), Err(Refused::NoMemory));
+    assert!(rt; server.waiting(Port::Conn(0)).is_empty());
+
+    does(&rt, &mut server, turn);
+    take(&rt, &mut server, wanted.as_slice())
+}
+
+#[test]
+fn a_33rd_link_is_out_of_resources(rt: HostRuntime) -> Result<(), Fail> {
+    let mut server = opened(&rt, rt.alloc())?;
+    for lid in 1..33u32 {
+        let asked = call(rt.alloc(), lid, CREATE, &FOR_DEVICE)?;
+        let wanted = reply(rt.alloc(), lid, &[0, lid, 4097, 4096])?;
+        answers(&rt, &mut server, asked.as_slice(), wanted.as_slice())?;
+    }
+    let asked = call(rt.alloc(), 33, CREATE, &FOR_DEVICE)?;
+    let wanted = reply(rt.alloc(), 33, &OUT_OF_RESOURCES)?;
+    answers(&rt, &mut server, asked.as_slice(), wanted.as_slice())
+}
+
+/// Each refused event, why, and the number of that.
+#[test]
+fn events_are_refused_for_their_reasons(rt: HostRuntime) -> Result<(), Fail> {
+    let zeros = vec![in rt.alloc(); 0u8; 16381]?;
+    let port = Port::Conn(0);
+    let input = |channel, microvolts| Event::Input {
+        channel,
+        microvolts,
+    };
+    let role = Role::Core;
+    let piece = zeros.as_slice();
+    for (event, why, number) in [
+        (Event::Open { conn: 0, role }, Refused::ConnInUse, 2),
+        (Event::Turn { conn: 5 }, Refused::NoConn, 3),
+        (Event::Bytes { conn: 0, piece }, Refused::NoRoom, 4),
+        (Event::Took { port, count: 1 }, Refused::NotSent, 5),
+        (Event::Dialed { conn: 0, ok: true }, Refused::NoDial, 6),
+        (Event::Refuse { conn: 0 }, Refused::NotRefusable, 7),
+        (input(33, 0), Refused::BadChannel, 8),
+        (input(1, 1_000_000_001), Refused::BadInput, 9),
+    ] {
+        let mut server = opened(&rt, rt.alloc())?;
+        assert_eq!(rt; server.apply(event), Err(why));
+        assert_eq!(rt; why as u8, number, "{why:?}");
+    }
+    Ok(())
+}
+
+#[test]
+fn the_clock_ends_at_its_last_value(rt: HostRuntime) -> Result<(), Fail> {
+    let config = Config {
+        core: 4096,
+        abort: 4097,
+        clock: 9_223_372_036_854_775_806,
+    };
+    let mut server = Server::new(rt.alloc(), config)?;
+    does(&rt, &mut server, Event::Tick);
+    assert_eq!(rt; server.apply(Event::Tick), Err(Refused::TimeOver));
+    assert_eq!(rt; Refused::TimeOver as u8, 10);
+    Ok(())
+}
+
+#[test]
+fn a_server_is_made_once_memory_is_there(rt: HostRuntime) -> Result<(), Fail> {
+    let asked = bytes_of(rt.alloc(), &CREATE_LINK)?;
+    let wanted = bytes_of(rt.alloc(), &FIRST_LINK)?;
+    let heap = Rationed::new(rt.alloc());
+    for number in 1..200u64 {
+        heap.refuse(number);
+        let made = Server::new(&heap, CONFIG);
+        if heap.waits() {
+            assert!(rt; made.is_ok(), "nothing was refused");
+            // The buffers of 16 connections, each with one for what comes and one for what is sent.
+            assert!(rt; number > 32, "{number}");
+            return Ok(());
+        }
+        assert!(rt; made.is_err(), "without allocation {number}");
+        let mut again = Server::new(&heap, CONFIG)?;
+        open(&rt, &mut again);
+        answers(&rt, &mut again, asked.as_slice(), wanted.as_slice())?;
+    }
+    panic!(rt; "each run was refused an allocation")
+}
+
+#[test]
+fn nothing_is_done_before_a_call_is_whole(rt: HostRuntime) -> Result<(), Fail> {
+    let stream = bytes_of(rt.alloc(), &CREATE_LINK)?;
+    assert_eq!(rt; stream.len(), 68);
+    for size in 0..68usize {
+        let mut server = opened(&rt, rt.alloc())?;
+        come(&rt, &mut server, &stream.as_slice()[..size]);
+        assert!(rt; !server.ready(0), "after {size} bytes");
+        assert!(rt;
+            server.waiting(Port::Conn(0)).is_empty(),
+            "after {size} bytes"
+        );
+        let turned = server.apply(Event::Turn { conn: 0 });
+        assert_eq!(rt; turned, Ok(Did::Idle), "after {size} bytes");
+    }
+    Ok(())
+}
+
+#[test]
+fn a_record_cut_short_faults_or_has_garbage_for_arguments(rt: HostRuntime) -> Result<(), Fail> {
+    let whole = bytes_of(rt.alloc(), &CREATE_LINK[1..])?;
+    let garbage = bytes_of(rt.alloc(), &[0x80000018, 1, 1, 0, 0, 0, 4])?;
+    assert_eq!(rt; whole.len(), 64);
+    for size in 0..64u8 {
+        let mut server = opened(&rt, rt.alloc())?;
+        come(&rt, &mut server, &[0x80, 0, 0, size]);
+        come(&rt, &mut server, &whole.as_slice()[..usize::from(size)]);
+        assert!(rt; server.ready(0), "of {size} bytes");
+        does(&rt, &mut server, Event::Turn { conn: 0 });
+        assert_eq!(rt; server.faulted(0), size < 40, "of {size} bytes");
+        let wanted = if size < 40 { &[] } else { garbage.as_slice() };
+        take(&rt, &mut server, wanted)?;
+    }
+    Ok(())
+}
+
+#[test]
+fn a_call_waits_until_its_reply_has_room(rt: HostRuntime) -> Result<(), Fail> {
+    let null = call(rt.alloc(), 1, 0, &[])?;
+    let mut server = opened(&rt, rt.alloc())?;
+    for _ in 0..293u16 {
+        come(&rt, &mut server, null.as_slice());
+    }
+    let turn = Event::Turn { conn: 0 };
+    for _ in 0..292u16 {
+        does(&rt, &mut server, turn);
+    }
+    let port = Port::Conn(0);
+    assert_eq!(rt; server.waiting(port).len(), 8176);
+    assert_eq!(rt; server.apply(turn), Err(Refused::NoRoom));
+    does(&rt, &mut server, Event::Took { port, count: 23 });
+    assert_eq!(rt; server.apply(turn), Err(Refused::NoRoom));
+    does(&rt, &mut server, Event::Took { port, count: 1 });
+    does(&rt, &mut server, turn);
+    assert_eq!(rt; server.waiting(port).len(), 8180);
+    assert_eq!(rt; server.apply(turn), Ok(Did::Idle));
+    Ok(())
+}
