@@ -5,5 +5,4 @@ ghost use Rattle.scanvolt.specs.Laws.{OneLine};
 /// A line says one thing, or nothing.
 pub fn one_line()
     ensures { OneLine }
-{
-}
+{}
