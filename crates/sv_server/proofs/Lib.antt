@@ -17,3 +17,7 @@ pub mod Fields
 pub mod Steps
 pub mod Turned
 pub mod Standing
+mod Taking
+mod Shown
+mod Ports
+mod Replayed

@@ -21,3 +21,7 @@ pub mod Acting
 pub mod Served
 pub mod Laws
 pub mod ReadGiven
+pub mod Print
+pub mod Written
+pub mod Replay
+pub mod Showing

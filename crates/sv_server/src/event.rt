@@ -1,5 +1,7 @@
 //! What happens to the server, and what it answers.
 
+ghost use Rattle.std.specs.Prelude.{◌≡◌};
+
 use thiserror::Error;
 
 /// What a connection is for.
@@ -143,4 +145,26 @@ pub enum Refused {
     /// The clock is at its last value, 9,223,372,036,854,775,807.
     #[error("the clock is at its end")]
     TimeOver = 10,
+}
+
+impl Refused {
+    ghost use Rattle.sv_server.specs.Print.{number};
+
+    /// Its number, from 1 to 10, as a replay prints it.
+    pub fn number(self) -> u8
+        ensures { result ≡ number self }
+    {
+        match self {
+            Refused::NoMemory => 1,
+            Refused::ConnInUse => 2,
+            Refused::NoConn => 3,
+            Refused::NoRoom => 4,
+            Refused::NotSent => 5,
+            Refused::NoDial => 6,
+            Refused::NotRefusable => 7,
+            Refused::BadChannel => 8,
+            Refused::BadInput => 9,
+            Refused::TimeOver => 10,
+        }
+    }
 }

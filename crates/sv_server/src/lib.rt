@@ -10,7 +10,9 @@ mod line;
 mod links;
 mod message;
 mod place;
+mod print;
 mod read;
+mod replay;
 mod results;
 mod sending;
 mod server;
@@ -20,4 +22,5 @@ mod turn;
 mod units;
 
 pub use event::{Config, Dial, Did, Event, Port, Refused, Role};
+pub use replay::ReplayFault;
 pub use server::Server;

@@ -7,7 +7,7 @@ ghost use Rattle.sv_server.specs.Event.{Happening, Open, Bytes, Turn, Took, Clos
 ghost use Rattle.sv_server.specs.History.{is_shut, IsLogOf, Answers, history_after};
 ghost use Rattle.sv_server.specs.Acting.{Acts, IsInput};
 ghost use Rattle.sv_server.specs.Act.{Act};
-ghost use Rattle.sv_server.specs.Connection.{is_open};
+ghost use Rattle.sv_server.specs.Connection.{is_open, waiting_on};
 ghost use Rattle.sv_server.specs.State.{Represents, StandsFor};
 ghost use Rattle.sv_server.specs.Asking.{AreWaiting, IsRoom, IsReady, HasFaulted};
 
@@ -82,6 +82,14 @@ impl<A: Allocator> Server<A> {
     /// open.
     pub fn waiting(&self, port: Port) -> &[u8]
         ensures waiting { (config : Config) (history : List Happening) → StandsFor self.now config history → AreWaiting config history port result.now }
+        ensures bounded { length result.now ≤ 16384 }
+    {
+        self.outgoing(port)
+    }
+
+    /// The bytes that wait on a port.
+    pub(crate) fn outgoing(&self, port: Port) -> &[u8]
+        ensures exact { (log : List Act) → Represents self.now log → result.now ≡ waiting_on port log }
         ensures bounded { length result.now ≤ 16384 }
     {
         match port {
@@ -249,7 +257,7 @@ impl<A: Allocator> Server<A> {
     }
 
     /// Lets bytes of a port go that the peer took.
-    fn port_took(&mut self, port: Port, count: u32) -> Result<Did, Refused>
+    pub(crate) fn port_took(&mut self, port: Port, count: u32) -> Result<Did, Refused>
         ensures acts { (log : List Act) → Represents self.old log → Acts self.old.config (Took port count) log result self.new }
         ensures err { OnErr result (self.new ≡ self.old) }
         ensures config { self.new.config ≡ self.old.config }

@@ -1,0 +1,32 @@
+-- What the replay of an event writes and leaves.
+use Rattle.std.specs.Prelude.{◌≡◌, ◌≢◌, ℕ, List, ◌++◌, Result, Ok, Err, ⊤}
+use Rattle.sv_server.specs.declared.event.Config.{Config}
+use Rattle.sv_server.specs.declared.event.Port.{Port}
+use Rattle.sv_server.specs.declared.event.Did.{Did}
+use Rattle.sv_server.specs.declared.event.Refused.{Refused}
+use Rattle.sv_server.specs.declared.event.Refused.TheVariants as refused
+use Rattle.sv_server.specs.declared.replay.ReplayFault.{ReplayFault}
+use Rattle.sv_server.specs.declared.replay.ReplayFault.TheVariants.{NoMemory, Write}
+use Rattle.sv_server.specs.Event.{Happening}
+use Rattle.sv_server.specs.Act.{Act}
+use Rattle.sv_server.specs.History.{IsLogOf, Answers, history_after}
+use Rattle.sv_server.specs.Print.{ports_after, with_tooks, print_of}
+use Rattle.sv_server.specs.Written.{IsFront}
+
+-- The print was written, and then the peer took all that it shows; where memory was refused the print is that alone; where the writer failed, a front
+-- of the print was written, and the peer took what some of the first ports show.
+abbrev pub Writes : Result Did Refused → List Act → List Happening → Result ⊤ ReplayFault → List ℕ → List Happening → Type 0
+Writes did log history (Ok all) text after = (did ≢ Err refused.NoMemory) × (text ≡ print_of did log) × (after ≡ with_tooks (ports_after did) log history)
+Writes did log history (Err NoMemory) text after = (did ≡ Err refused.NoMemory) × (text ≡ print_of did log) × (after ≡ history)
+Writes did log history (Err Write) text after = IsFront text (print_of did log)
+    × (shown others : List Port) × (ports_after did ≡ shown ++ others) × (after ≡ with_tooks shown log history)
+
+-- The event is done or refused, as the history says, and then its print is written, by the log of the history that this leaves.
+pub record Replays (config : Config) (history : List Happening) (event : Happening) (result : Result ⊤ ReplayFault) (text : List ℕ) (after : List Happening) : Type 0 where
+  pub before : List Act
+  pub is_before : IsLogOf config history before
+  pub did : Result Did Refused
+  pub answers : Answers config event before did
+  pub log : List Act
+  pub is_log : IsLogOf config (history_after event did history) log
+  pub writes : Writes did log (history_after event did history) result text after

@@ -1,0 +1,112 @@
+//! The replay of an event: it is done, and what then waits is written and taken.
+
+ghost use Rattle.std.specs.Prelude.{◌≡◌, ℕ, List};
+ghost use Rattle.std.specs.Io.KnownBytes.{Appends};
+ghost use Rattle.sv_server.specs.declared.event.Config.{Config};
+ghost use Rattle.sv_server.specs.declared.event.Did.{Did};
+ghost use Rattle.sv_server.specs.Event.{Happening, plain};
+ghost use Rattle.sv_server.specs.Act.{Act};
+ghost use Rattle.sv_server.specs.State.{StandsFor};
+ghost use Rattle.sv_server.specs.Print.{port_of, is_no_memory};
+ghost use Rattle.sv_server.specs.Replay.{Replays};
+ghost use Rattle.sv_server.specs.Showing.{StandsBy, ShowsPort, ShowsAll};
+
+use crate::event::{Event, Port, Refused};
+use crate::print::{WriteFault, put_line, put_refusal};
+use crate::server::Server;
+use std::alloc::Allocator;
+use std::io::Write;
+use thiserror::Error;
+
+/// Why a replay stopped.
+#[derive(Clone, Copy, Debug, PartialEq, Eq, Error)]
+pub enum ReplayFault {
+    /// Memory was refused for a link.
+    #[error("no memory was left")]
+    NoMemory,
+    /// The writer failed.
+    #[error("the output can't be written")]
+    Write,
+}
+
+impl From<WriteFault> for ReplayFault {
+    ghost use Rattle.sv_server.specs.declared.replay.ReplayFault.{ReplayFault};
+    ghost use Rattle.sv_server.specs.declared.replay.ReplayFault.TheVariants.{Write as WriteFailed};
+
+    ghost from_gives = { λ failed fault. fault ≡ WriteFailed };
+
+    fn from(_: WriteFault) -> ReplayFault {
+        ReplayFault::Write
+    }
+}
+
+impl<A: Allocator> Server<A> {
+    /// Applies an event and writes what follows from it: the refusal's number, and then a line for
+    /// each port on which bytes wait, which are taken.
+    pub fn replay<W: Write>(
+        &mut self,
+        event: Event<'_>,
+        writer: &mut W,
+    ) -> Result<(), ReplayFault>
+        ensures { (config : Config) (history : List Happening) → StandsFor self.old config history → (text : List ℕ) × (after : List Happening)
+            × Replays config history (plain event.entry) result text after × StandsFor self.new config after × Appends (W.contents writer.old) (W.contents writer.new) text }
+    {
+        match self.apply(event) {
+            Ok(_) => {
+                self.show_all(writer)?;
+                Ok(())
+            }
+            Err(refused) => {
+                put_refusal(writer, refused)?;
+                if is_no_memory(refused) {
+                    return Err(ReplayFault::NoMemory);
+                }
+                self.show_all(writer)?;
+                Ok(())
+            }
+        }
+    }
+
+    /// Writes the lines of all ports, and takes what they show.
+    fn show_all<W: Write>(&mut self, writer: &mut W) -> Result<(), WriteFault>
+        ensures { (config : Config) (history : List Happening) (log : List Act) → StandsBy self.old config history log
+            → (text : List ℕ) × Appends (W.contents writer.old) (W.contents writer.new) text × ShowsAll config history log result self.new text }
+    {
+        for number in 0..32 {
+            self.show(port_of(number), writer)?;
+        }
+        Ok(())
+    }
+
+    /// Writes the line of a port, and takes what it shows.
+    fn show<W: Write>(&mut self, port: Port, writer: &mut W) -> Result<(), WriteFault>
+        ensures { (config : Config) (history : List Happening) (log : List Act) → StandsBy self.old config history log
+            → (text : List ℕ) × Appends (W.contents writer.old) (W.contents writer.new) text × ShowsPort port config history log result self.new text }
+    {
+        let bytes = self.outgoing(port);
+        let count = bytes.len() as u32;
+        put_line(writer, port, bytes)?;
+        if count > 0 {
+            let _ = self.port_took(port, count);
+        }
+        Ok(())
+    }
+}
+
+/// Whether this is want of memory.
+fn is_no_memory(refused: Refused) -> bool
+    ensures { result ≡ is_no_memory refused }
+{
+    matches!(refused, Refused::NoMemory)
+}
+
+/// The port whose line is of this number: connections come first, and then their interrupt channels.
+fn port_of(number: u8) -> Port
+    ensures { result ≡ port_of number }
+{
+    if number < 16 {
+        Port::Conn(number)
+    } else {
+        Port::Intr(number - 16)
+    }
+}
