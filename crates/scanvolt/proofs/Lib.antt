@@ -3,3 +3,8 @@ pub mod Lines
 pub mod Numbers
 pub mod Options
 pub mod Steps
+pub mod Texts
+pub mod Parts
+pub mod Staged
+pub mod Printed
+pub mod Going

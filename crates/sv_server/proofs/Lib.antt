@@ -17,7 +17,7 @@ pub mod Fields
 pub mod Steps
 pub mod Turned
 pub mod Standing
-mod Taking
-mod Shown
-mod Ports
-mod Replayed
+pub mod Taking
+pub mod Shown
+pub mod Ports
+pub mod Replayed

@@ -1,0 +1,94 @@
+-- A run goes from stage to stage.
+use Rattle.std.proofs.Common.{◌≡◌, ℕ, ◌+◌, ◌<◌, ◌≤◌, true, false, Bool, List, [], ◌∷◌, ◌++◌, length, take, drop, Option, Some, None, inl, inr, refl, sym, ap, subst, ◌∙◌, append_assoc, append-nil, arith}
+use Rattle.std.specs.Prelude.{Result, Ok, Err, ⊤, IsErr, IsErrAnd}
+use Rattle.sv_server.specs.declared.replay.ReplayFault.{ReplayFault}
+use Rattle.sv_server.specs.declared.replay.ReplayFault.TheVariants.{NoMemory, Write}
+use Rattle.scanvolt.specs.Line.{Line, Says}
+use Rattle.std.proofs.lemmas.List.{length-append}
+use Rattle.std.specs.Io.KnownBytes.{Consumes, Appends, IsAtEnd}
+use Rattle.sv_server.specs.Event.{Happening}
+use Rattle.sv_server.specs.State.{State, StandsFor}
+use Rattle.sv_server.proofs.Taking.{appends_none, appends_then}
+use Rattle.scanvolt.specs.declared.fault.RunFault.{RunFault}
+use Rattle.scanvolt.specs.declared.fault.RunFault.TheVariants.{BadLine, Input, Output, Memory}
+use Rattle.scanvolt.specs.Text.{first_end}
+use Rattle.scanvolt.specs.Script.{parts, events_of, IsScript, Prints, Stops}
+use Rattle.scanvolt.specs.Run.{set_up, run_fault, Runs}
+use Rattle.scanvolt.specs.Stage.{IsStage, LineRuns, Goes}
+use Rattle.scanvolt.proofs.Parts.{parts_found, parts_none, parts_more}
+use Rattle.scanvolt.proofs.Printed.{script_push, prints_then, stops_then}
+
+-- at the start nothing was read or printed
+pub stage_start : (server : State) → StandsFor server set_up [] → IsStage server [] 0 [] []
+stage_start server s = ([], [], [], refl, refl, refl, (refl, refl), s)
+
+-- what a line does, for each history
+abbrev pub LineDone : State → State → List ℕ → ℕ → Result ⊤ RunFault → Option (List ℕ) → Option (List ℕ) → Type 0
+LineDone old new line number result first last = (history : List Happening) → StandsFor old set_up history → (text : List ℕ) × (after : List Happening) × LineRuns line number history result text after
+    × StandsFor new set_up after × Appends first last text
+
+-- a line was done
+pub stage_line : (old new : State) (left rest line : List ℕ) (number next : ℕ) (read text : List ℕ) (first last : Option (List ℕ)) → parts left ≡ line ∷ parts rest → next ≡ number + 1
+    → IsStage old left number read text → LineDone old new line next (Ok tt) first last → (other : List ℕ) × Appends first last other × IsStage new rest next read (text ++ other)
+stage_line old new left rest line number next read text first last cut up (lines, events, history, is, count, script, prints, stands) does =
+    let (other, after, (said, short, says, more), now, put) = does history stands in
+    (other, put, (lines ++ line ∷ [], events ++ events_of said, after,
+      is ∙ ap (λ (ps : List (List ℕ)). lines ++ ps) cut ∙ sym (append_assoc lines (line ∷ []) (parts rest)),
+      omega (arith, length-append lines (line ∷ [])), script_push lines events line said script short says,
+      prints_then set_up [] events (events_of said) text other history after prints more, now))
+
+-- the last line was done
+pub stage_last : (old new : State) (left line : List ℕ) (number next : ℕ) (read text : List ℕ) (first last : Option (List ℕ)) → parts left ≡ line ∷ []
+    → IsStage old left number read text → LineDone old new line next (Ok tt) first last → (other : List ℕ) × Appends first last other × Runs read (Ok tt) (text ++ other)
+stage_last old new left line number next read text first last cut (lines, events, history, is, count, script, prints, stands) does =
+    let (other, after, (said, short, says, more), now, put) = does history stands in
+    (other, put, (events ++ events_of said, after, rw (is, cut) (script_push lines events line said script short says),
+      prints_then set_up [] events (events_of said) text other history after prints more))
+
+-- a line stopped the run
+pub stage_stop : (old new : State) (left line : List ℕ) (behind : List (List ℕ)) (number next : ℕ) (fault : RunFault) (read text : List ℕ) (first last : Option (List ℕ)) → parts left ≡ line ∷ behind
+    → next ≡ number + 1 → IsStage old left number read text → LineDone old new line next (Err fault) first last → (other : List ℕ) × Appends first last other × Runs read (Err fault) (text ++ other)
+stage_stop old new left line behind number next (BadLine n) read text first last cut up (lines, events, history, is, count, script, prints, stands) does =
+    let (other, after, (at, bad, none), now, put) = does history stands in
+    (other, put, (lines, behind, line, is ∙ ap (λ (ps : List (List ℕ)). lines ++ ps) cut, at ∙ up ∙ ap (λ (m : ℕ). m + 1) count, bad,
+      (events, history, script, rw (none, append-nil text) prints)))
+stage_stop old new left line behind number next Input read text first last cut up (lines, events, history, is, count, script, prints, stands) does =
+    let (other, after, impossible, now, put) = does history stands in elim impossible [ ]
+stage_stop old new left line behind number next Output read text first last cut up (lines, events, history, is, count, script, prints, stands) does =
+    let (other, after, (said, short, says, stops), now, put) = does history stands in
+    (other, put, (lines ++ line ∷ [], behind, is ∙ ap (λ (ps : List (List ℕ)). lines ++ ps) cut ∙ sym (append_assoc lines (line ∷ []) behind),
+      inr (events ++ events_of said, after, script_push lines events line said script short says, stops_then set_up [] events (events_of said) _ text other history after prints stops)))
+stage_stop old new left line behind number next Memory read text first last cut up (lines, events, history, is, count, script, prints, stands) does =
+    let (other, after, (said, short, says, stops), now, put) = does history stands in
+    (other, put, inr (lines ++ line ∷ [], behind, is ∙ ap (λ (ps : List (List ℕ)). lines ++ ps) cut ∙ sym (append_assoc lines (line ∷ []) behind),
+      (events ++ events_of said, after, script_push lines events line said script short says, stops_then set_up [] events (events_of said) _ text other history after prints stops)))
+
+-- more was read
+pub stage_read : (server : State) (left : List ℕ) (number : ℕ) (read text more : List ℕ) → IsStage server left number read text → IsStage server (left ++ more) number (read ++ more) text
+stage_read server left number read text more (lines, events, history, is, count, script, prints, stands) = (lines, events, history, parts_more read left more lines is, count, script, prints, stands)
+
+-- a line that is too long
+pub stage_long : (server : State) (left : List ℕ) (number next : ℕ) (read text : List ℕ) → first_end left ≡ None → 65536 < length left → next ≡ number + 1 → IsStage server left number read text
+    → Runs read (Err (BadLine next)) text
+stage_long server left number next read text none long up (lines, events, history, is, count, script, prints, stands) =
+    (lines, [], left, is ∙ ap (λ (ps : List (List ℕ)). lines ++ ps) (parts_none left none), up ∙ ap (λ (m : ℕ). m + 1) count, inl long, (events, history, script, prints))
+
+-- the writer failed
+pub stage_output : (server : State) (left : List ℕ) (number : ℕ) (read text : List ℕ) → IsStage server left number read text → Runs read (Err Output) text
+stage_output server left number read text (lines, events, history, is, count, script, prints, stands) = (lines, parts left, is, inl (events, history, script, prints))
+
+-- and behind the last line
+pub all_output : (read text : List ℕ) → Runs read (Ok tt) text → Runs read (Err Output) text
+all_output read text printed = (parts read, [], sym (append-nil (parts read)), inl printed)
+
+-- the reader failed
+pub stage_input : (server : State) (left : List ℕ) (number : ℕ) (read text : List ℕ) → first_end left ≡ None → IsStage server left number read text → Runs read (Err Input) text
+stage_input server left number read text none (lines, events, history, is, count, script, prints, stands) =
+    (lines, left, is ∙ ap (λ (ps : List (List ℕ)). lines ++ ps) (parts_none left none), (events, history, script, prints))
+
+-- a replay's fault is told as the run's
+pub line_stops : (line : List ℕ) (number : ℕ) (history : List Happening) (said : Line) (fault : ReplayFault) (result : Result ⊤ RunFault) (text : List ℕ) (after : List Happening) → length line ≤ 65536
+    → Says line said → IsErr result → IsErrAnd result (λ e. e ≡ run_fault fault) → Stops set_up history (events_of said) fault text after → LineRuns line number history result text after
+line_stops line number history said fault (Ok all) text after short says failed is stops = absurd cc
+line_stops line number history said NoMemory (Err e) text after short says failed is stops = rw is (said, short, says, stops)
+line_stops line number history said Write (Err e) text after short says failed is stops = rw is (said, short, says, stops)

@@ -1,0 +1,196 @@
+-- Where the first new line of a text stands, and what a change of the fields makes of the text.
+use Rattle.std.proofs.Common.{◌≡◌, ℕ, zero, suc, ◌+◌, ◌-◌, ◌<◌, ◌≤◌, ◌==◌, max, Bool, true, false, not, cond, List, [], ◌∷◌, ◌++◌, length, take, drop, slice_range, Some, None, refl, sym, ap, ◌∙◌, arith}
+use Rattle.std.proofs.lemmas.Bool.{lt-ltb, le-ltb}
+use Rattle.std.proofs.lemmas.List.{length-drop, length-take-le, drop-take, drop-drop, take_at}
+use Rattle.std.proofs.lemmas.List.Sums.{prefix_len_is}
+use Rattle.std.proofs.Math.Seq.{take-add}
+use Rattle.memchr.specs.Find.{IsFirstByte, is_byte}
+use Rattle.scanvolt.specs.Text.{IsKept, line_size, first_end}
+
+-- more text does not make the first line shorter
+pub line_with : (text more : List ℕ) → line_size text ≤ line_size (text ++ more)
+line_with [] more = omega arith
+line_with (b ∷ text) more = at (b == 10) (line_with text more)
+  where
+    at : (t : Bool) → line_size text ≤ line_size (text ++ more) → cond (not t) (1 + line_size text) 0 ≤ cond (not t) (1 + line_size (text ++ more)) 0
+    at true h = omega arith
+    at false h = omega arith
+
+-- less text makes it shorter by no more than that
+pub line_behind : (n : ℕ) (text : List ℕ) → line_size text ≤ n + line_size (drop n text)
+line_behind zero text = omega arith
+line_behind (suc n) [] = omega arith
+line_behind (suc n) (b ∷ text) = at (b == 10) (line_behind n text)
+  where
+    at : (t : Bool) → line_size text ≤ n + line_size (drop n text) → cond (not t) (1 + line_size text) 0 ≤ suc n + line_size (drop n text)
+    at true h = omega arith
+    at false h = omega arith
+
+-- behind a part of the first line
+pub line_clean : (n : ℕ) (text : List ℕ) → n ≤ line_size text → line_size text ≡ n + line_size (drop n text)
+line_clean zero text h = omega arith
+line_clean (suc n) [] h = omega arith
+line_clean (suc n) (b ∷ text) h = at (b == 10) (line_clean n text) h
+  where
+    at : (t : Bool) → (n ≤ line_size text → line_size text ≡ n + line_size (drop n text)) → suc n ≤ cond (not t) (1 + line_size text) 0
+        → cond (not t) (1 + line_size text) 0 ≡ suc n + line_size (drop n text)
+    at true f h = omega arith
+    at false f h = omega (arith, f (omega arith))
+
+not_true : (b : Bool) → (b ≡ true → ⊥) → not b ≡ true
+not_true true h = absurd (h refl)
+not_true false h = refl
+
+-- a search that found a new line found the end of the first line
+pub line_found : (text : List ℕ) (k : ℕ) → IsFirstByte (is_byte 10) text (Some k) → (line_size text ≡ k) × (k < length text)
+line_found text k h = (
+  prefix_len_is (λ b. not (b == 10)) text k 0 (omega (arith, h.0.high)) (λ j lt. not_true _ (h.0.before j (omega arith) lt)) (λ _. ap not h.1),
+  h.0.high,
+)
+
+-- a search that found none
+pub line_open : (text : List ℕ) → IsFirstByte (is_byte 10) text None → line_size text ≡ length text
+line_open text h = prefix_len_is (λ b. not (b == 10)) text (length text) 0 (omega arith) (λ j lt. not_true _ (h j (omega arith) lt)) (λ lt. absurd (omega arith))
+
+-- where the first line ends
+pub end_found : (text : List ℕ) (k : ℕ) → line_size text ≡ k → k < length text → Some k ≡ first_end text
+end_found text k e lt = rw (e, lt-ltb k (length text) lt) refl
+
+pub end_open : (text : List ℕ) → line_size text ≡ length text → None ≡ first_end text
+end_open text e = rw (e, le-ltb (length text) (length text) (omega arith)) refl
+
+-- how long the text is
+pub text_size : (buffer : List ℕ) (start end : ℕ) → end ≤ length buffer → length (slice_range buffer start end) ≡ end - start
+text_size buffer start end within = length-take-le (end - start) (drop start buffer) (omega (arith, length-drop start buffer))
+
+-- the text without its first bytes
+pub text_behind : (buffer : List ℕ) (start next end : ℕ) → start ≤ next → next ≤ end → slice_range buffer next end ≡ drop (next - start) (slice_range buffer start end)
+text_behind buffer start next end le within =
+    let parts : end - start ≡ (next - start) + (end - next) = omega arith in
+    let reached : start + (next - start) ≡ next = omega arith in
+    sym (ap (λ (n : ℕ). drop (next - start) (take n (drop start buffer))) parts ∙ drop-take (next - start) (end - next) (drop start buffer)
+    ∙ ap (take (end - next)) (drop-drop (next - start) start buffer) ∙ ap (λ (n : ℕ). take (end - next) (drop n buffer)) reached)
+
+-- The first new line was found behind `clean`.
+pub found_keeps : (buffer : List ℕ) (start clean end reads k : ℕ) → IsKept buffer start clean end reads → IsFirstByte (is_byte 10) (slice_range buffer clean end) (Some k)
+    → IsKept buffer start (clean + k) end reads × (Some (clean + k - start) ≡ first_end (slice_range buffer start end))
+found_keeps buffer start clean end reads k kept found =
+    let text = slice_range buffer start end in
+    let rest : slice_range buffer clean end ≡ drop (clean - start) text = text_behind buffer start clean end kept.order.0 kept.order.1 in
+    let at = line_found (slice_range buffer clean end) k found in
+    let more = line_clean (clean - start) text (omega (arith, kept.order, kept.unbroken)) in
+    let line : line_size text ≡ clean + k - start = omega (arith, more, ap line_size rest, at.0, kept.order) in
+    let size = text_size buffer start end (omega (arith, kept.order, kept.size)) in
+    let left = text_size buffer clean end (omega (arith, kept.order, kept.size)) in (
+      record {
+        order = (omega (arith, kept.order), omega (arith, at.1, left, kept.order), kept.order.2);
+        size = kept.size;
+        unbroken = omega (arith, line, kept.order);
+        few = kept.few;
+      },
+      end_found text (clean + k - start) line (omega (arith, at.1, left, size, kept.order)),
+    )
+
+-- There is no new line.
+pub open_keeps : (buffer : List ℕ) (start clean end reads : ℕ) → IsKept buffer start clean end reads → IsFirstByte (is_byte 10) (slice_range buffer clean end) None
+    → IsKept buffer start end end reads × (None ≡ first_end (slice_range buffer start end))
+open_keeps buffer start clean end reads kept none =
+    let text = slice_range buffer start end in
+    let rest : slice_range buffer clean end ≡ drop (clean - start) text = text_behind buffer start clean end kept.order.0 kept.order.1 in
+    let all = line_open (slice_range buffer clean end) none in
+    let more = line_clean (clean - start) text (omega (arith, kept.order, kept.unbroken)) in
+    let size = text_size buffer start end (omega (arith, kept.order, kept.size)) in
+    let left = text_size buffer clean end (omega (arith, kept.order, kept.size)) in
+    let line : line_size text ≡ length text = omega (arith, more, ap line_size rest, all, left, size, kept.order) in (
+      record {
+        order = (omega (arith, kept.order), omega arith, kept.order.2);
+        size = kept.size;
+        unbroken = omega (arith, line, size, kept.order);
+        few = kept.few;
+      },
+      end_open text line,
+    )
+
+-- The first bytes were dropped.
+pub dropped_keeps : (buffer : List ℕ) (start clean later end reads n : ℕ) → IsKept buffer start clean end reads → n ≤ length (slice_range buffer start end) → later ≡ max clean (start + n)
+    → IsKept buffer (start + n) later end reads × (slice_range buffer (start + n) end ≡ drop n (slice_range buffer start end))
+dropped_keeps buffer start clean later end reads n kept some is =
+    let size = text_size buffer start end (omega (arith, kept.order, kept.size)) in
+    let count : start + n - start ≡ n = omega arith in
+    let rest : slice_range buffer (start + n) end ≡ drop n (slice_range buffer start end) =
+    text_behind buffer start (start + n) end (omega arith) (omega (arith, size, kept.order)) ∙ ap (λ (k : ℕ). drop k (slice_range buffer start end)) count in
+    let left = line_behind n (slice_range buffer start end) in (
+      record {
+        order = (omega arith, omega (arith, size, kept.order), kept.order.2);
+        size = kept.size;
+        unbroken = omega (arith, left, ap line_size rest, kept.unbroken);
+        few = kept.few;
+      },
+      rest,
+    )
+
+-- The text moved to the front of the buffer, or room was left behind it.
+pub record IsReady (buffer : List ℕ) (start clean end reads : ℕ) (text : List ℕ) : Type 0 where
+  pub kept : IsKept buffer start clean end reads
+  pub room : end ≤ 65536
+  pub same : slice_range buffer start end ≡ text
+
+pub moved_ready : (buffer moved : List ℕ) (start clean end reads count : ℕ) (text : List ℕ) → IsKept buffer start clean end reads → slice_range buffer start end ≡ text → length text ≤ 65536
+    → length moved ≡ length buffer → count ≤ start → slice_range moved (start - count) (end - count) ≡ slice_range buffer start end → (end - start ≤ 65536 → end - count ≤ 65536)
+    → IsReady moved (start - count) (clean - count) (end - count) reads text
+moved_ready buffer moved start clean end reads count text kept is short size within same room =
+    let few = text_size buffer start end (omega (arith, kept.order, kept.size)) in
+    record {
+      kept = record {
+        order = (omega (arith, kept.order), omega (arith, kept.order), omega (arith, kept.order));
+        size = size ∙ kept.size;
+        unbroken = omega (arith, ap line_size same, kept.unbroken, kept.order, within);
+        few = kept.few;
+      };
+      room = room (omega (arith, ap length is, few, short));
+      same = same ∙ is;
+    }
+
+-- The buffer was written behind the text, and so many of the bytes there belong to the text.
+pub filled_keeps : (buffer filled : List ℕ) (start clean end last reads count more : ℕ) (text : List ℕ) → IsReady buffer start clean end reads text → length filled ≡ length buffer
+    → take end filled ≡ take end buffer → count ≤ length (drop end filled) → last ≡ end + count → more ≤ 4294967294
+    → IsKept filled start clean last more × (slice_range filled start last ≡ text ++ take count (drop end filled))
+filled_keeps buffer filled start clean end last reads count more text ready size front some is few =
+    let old = ready.kept in
+    let m = end - start in
+    let parts : last - start ≡ m + count = omega (arith, old.order) in
+    let reached : start + m ≡ end = omega (arith, old.order) in
+    let head : take m (drop start filled) ≡ text =
+    sym (drop-take start m filled) ∙ ap (λ (k : ℕ). drop start (take k filled)) reached ∙ ap (drop start) front ∙ sym (ap (λ (k : ℕ). drop start (take k buffer)) reached) ∙ drop-take start m buffer ∙ ready.same in
+    let tail : drop m (drop start filled) ≡ drop end filled = drop-drop m start filled ∙ ap (λ (k : ℕ). drop k filled) reached in
+    let all : slice_range filled start last ≡ text ++ take count (drop end filled) =
+    ap (λ (k : ℕ). take k (drop start filled)) parts ∙ take-add m count (drop start filled) ∙ ap (λ (l : List ℕ). l ++ take count (drop m (drop start filled))) head
+    ∙ ap (λ (l : List ℕ). text ++ take count l) tail in
+    let longer = line_with text (take count (drop end filled)) in (
+      record {
+        order = (old.order.0, omega (arith, old.order), omega (arith, length-drop end filled, size, old.size, some, ready.room));
+        size = size ∙ old.size;
+        unbroken = omega (arith, longer, ap line_size all, ap line_size ready.same, old.unbroken);
+        few = few;
+      },
+      all,
+    )
+
+-- a buffer of this length after a write to all of it
+abbrev pub written : ℕ → List ℕ → List ℕ → List ℕ
+written len bytes buffer = take len (bytes ++ drop (length bytes) buffer)
+
+-- The text moved, and then so many bytes came behind it.
+pub read_keeps : (buffer first moved second filled : List ℕ) (len start clean end reads shift count last more : ℕ) (text : List ℕ)
+    → IsKept buffer start clean end reads → slice_range buffer start end ≡ text → length text ≤ 65536 → length buffer ≡ len
+    → first ≡ buffer → length moved ≡ length first → shift ≤ start → slice_range moved (start - shift) (end - shift) ≡ slice_range first start end → (end - start ≤ 65536 → end - shift ≤ 65536)
+    → second ≡ written len moved buffer → length filled ≡ length second → take (end - shift) filled ≡ take (end - shift) second → count ≤ length (drop (end - shift) filled)
+    → last ≡ end - shift + count → more ≤ 4294967294
+    → IsKept (written len filled (written len moved buffer)) (start - shift) (clean - shift) last more
+    × (slice_range (written len filled (written len moved buffer)) (start - shift) last ≡ text ++ take count (drop (end - shift) filled))
+read_keeps buffer first moved second filled len start clean end reads shift count last more text kept is short long first_is moved_long within moved_same room second_is filled_long front some last_is few =
+    let moved_len : length moved ≡ len = moved_long ∙ ap length first_is ∙ long in
+    let all : second ≡ moved = second_is ∙ take_at moved (drop (length moved) buffer) len moved_len in
+    let made : written len filled (written len moved buffer) ≡ filled = take_at filled (drop (length filled) (written len moved buffer)) len (filled_long ∙ ap length all ∙ moved_len) in
+    let ready = moved_ready buffer moved start clean end reads shift text kept is short (moved_long ∙ ap length first_is) within (moved_same ∙ ap (λ (l : List ℕ). slice_range l start end) first_is) room in
+    rw made (filled_keeps moved filled (start - shift) (clean - shift) (end - shift) last reads count more text ready (filled_long ∙ ap length all) (front ∙ ap (take (end - shift)) all) some last_is few)

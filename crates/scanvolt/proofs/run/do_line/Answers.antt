@@ -1,0 +1,16 @@
+use Rattle.std.proofs.Common.{arith}
+use Rattle.scanvolt.specs.PlainLine.{plain_line}
+use Rattle.scanvolt.specs.Run.{set_up}
+use Rattle.scanvolt.proofs.Staged.{line_stops}
+use Rattle.scanvolt.proofs.run.do_line.Goals as goal
+
+pub returns-in_err-perform-in-Some : goal.returns-in_err-perform-in-Some
+returns-in_err-perform-in-Some g c = λ history s.
+    let (text, after, stops, stands, put) = c.in_err-perform-in-Some.ensures set_up history s in
+    (text, after, line_stops c.args.line.now c.args.number history (plain_line c.in-Some.said) c.in_err-perform-in-Some.field-0.0 c.from_residual.result text after (omega arith) c.in-Some.ensures.found
+        c.from_residual.ensures.0 c.from_residual.ensures.1 stops, stands, put)
+
+pub returns-in_ok-perform-in-Some : goal.returns-in_ok-perform-in-Some
+returns-in_ok-perform-in-Some g c = λ history s.
+    let (text, after, prints, stands, put) = c.in_ok-perform-in-Some.ensures set_up history s in
+    (text, after, (plain_line c.in-Some.said, omega arith, c.in-Some.ensures.found, prints), stands, put)

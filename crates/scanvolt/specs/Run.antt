@@ -1,0 +1,45 @@
+-- What a run prints of the text that it read, and what it answers.
+use Rattle.std.specs.Prelude.{◌≡◌, ◌⊎◌, ℕ, ◌+◌, List, [], ◌∷◌, ◌++◌, length, Result, Ok, Err, ⊤}
+use Rattle.sv_server.specs.declared.event.Config.{Config}
+use Rattle.sv_server.specs.declared.replay.ReplayFault.{ReplayFault}
+use Rattle.sv_server.specs.declared.replay.ReplayFault.TheVariants.{NoMemory, Write}
+use Rattle.sv_server.specs.Event.{Happening}
+use Rattle.scanvolt.specs.declared.fault.RunFault.{RunFault}
+use Rattle.scanvolt.specs.declared.fault.RunFault.TheVariants.{BadLine, Input, Output, Memory}
+use Rattle.scanvolt.specs.declared.fault.ProgramFault.{ProgramFault}
+use Rattle.scanvolt.specs.declared.fault.ProgramFault.TheVariants.{BadWords, Run}
+use Rattle.scanvolt.specs.Script.{parts, IsScript, IsBad, Prints, Stops}
+
+-- how a replay's fault is told
+abbrev pub run_fault : ReplayFault → RunFault
+run_fault NoMemory = Memory
+run_fault Write = Output
+
+-- the exit status of a fault
+abbrev pub status : ProgramFault → ℕ
+status BadWords = 2
+status (Run (BadLine n)) = 2
+status (Run Input) = 3
+status (Run Output) = 3
+status (Run Memory) = 3
+
+-- what the program's server is set up with
+abbrev pub set_up : Config
+set_up = record { core = 4096; abort = 4097; clock = 0 }
+
+-- What the lines say is printed, by a server to which nothing happened.
+abbrev pub Printed : List (List ℕ) → List ℕ → Type 0
+Printed lines text = (events after : List Happening) × IsScript lines events × Prints set_up [] events text after
+
+-- What the lines say is printed up to an event at which the replay stopped.
+abbrev pub PrintedUpTo : List (List ℕ) → ReplayFault → List ℕ → Type 0
+PrintedUpTo lines fault text = (events after : List Happening) × IsScript lines events × Stops set_up [] events fault text after
+
+-- Of the text that was read this is printed: all that its lines say; at a bad line what those in front of it say; where the input failed what the
+-- whole lines say; where the output failed or memory was refused, what some first lines say, the last of them perhaps in part.
+abbrev pub Runs : List ℕ → Result ⊤ RunFault → List ℕ → Type 0
+Runs read (Ok all) text = Printed (parts read) text
+Runs read (Err (BadLine n)) text = (lines behind : List (List ℕ)) × (line : List ℕ) × (parts read ≡ lines ++ line ∷ behind) × (n ≡ length lines + 1) × IsBad line × Printed lines text
+Runs read (Err Input) text = (lines : List (List ℕ)) × (last : List ℕ) × (parts read ≡ lines ++ last ∷ []) × Printed lines text
+Runs read (Err Output) text = (lines behind : List (List ℕ)) × (parts read ≡ lines ++ behind) × (Printed lines text ⊎ PrintedUpTo lines Write text)
+Runs read (Err Memory) text = ((read ≡ []) × (text ≡ [])) ⊎ ((lines behind : List (List ℕ)) × (parts read ≡ lines ++ behind) × PrintedUpTo lines NoMemory text)

@@ -1,0 +1,43 @@
+-- The script of a text: the events that its lines say. And the print of events, one after the other.
+use Rattle.std.specs.Prelude.{◌≡◌, ◌⊎◌, ℕ, ◌<◌, ◌≤◌, ◌==◌, List, [], ◌∷◌, ◌++◌, length, replicate, Result, Ok, Err, ⊤, if◌then◌else◌}
+use Rattle.sv_server.specs.declared.event.Config.{Config}
+use Rattle.sv_server.specs.declared.replay.ReplayFault.{ReplayFault}
+use Rattle.sv_server.specs.Event.{Happening, Tick}
+use Rattle.sv_server.specs.Exchange.{onto}
+use Rattle.sv_server.specs.Replay.{Replays}
+use Rattle.scanvolt.specs.Line.{Line, Blank, One, Ticks, Says}
+
+-- the text cut at each new line: the last part is what stands behind the last one
+abbrev pub parts : List ℕ → List (List ℕ)
+parts [] = [] ∷ []
+parts (byte ∷ bytes) = if byte == 10 then [] ∷ parts bytes else onto byte (parts bytes)
+
+-- the events of a line, the first one first
+abbrev pub events_of : Line → List Happening
+events_of Blank = []
+events_of (One event) = event ∷ []
+events_of (Ticks n) = replicate n Tick
+
+-- The lines have at most 65,536 bytes each, and say these events.
+abbrev pub IsScript : List (List ℕ) → List Happening → Type 0
+IsScript [] events = events ≡ []
+IsScript (line ∷ lines) events = (said : Line) × (others : List Happening) × (length line ≤ 65536) × Says line said × IsScript lines others × (events ≡ events_of said ++ others)
+
+-- A line that is too long, or says nothing.
+abbrev pub IsBad : List ℕ → Type 0
+IsBad line = (65536 < length line) ⊎ ((said : Line) → Says line said → ⊥)
+
+-- After a history, the newest event first, these events are done, the first one first, and this is their print.
+abbrev pub Prints : Config → List Happening → List Happening → List ℕ → List Happening → Type 0
+Prints config history [] text after = (text ≡ []) × (after ≡ history)
+Prints config history (event ∷ events) text after = (first rest : List ℕ) × (middle : List Happening) × Replays config history event (Ok tt) first middle × Prints config middle events rest after
+    × (text ≡ first ++ rest)
+
+-- The print of the events up to one at which the replay stopped, and what was written of that one's.
+abbrev pub Stops : Config → List Happening → List Happening → ReplayFault → List ℕ → List Happening → Type 0
+Stops config history events fault text after = (done others : List Happening) × (event : Happening) × (events ≡ done ++ event ∷ others)
+    × (first last : List ℕ) × (middle : List Happening) × Prints config history done first middle × Replays config middle event (Err fault) last after × (text ≡ first ++ last)
+
+abbrev pub Performs : Config → List Happening → List Happening → Result ⊤ ReplayFault → List ℕ → List Happening → Type 0
+Performs config history events (Ok all) text after = Prints config history events text after
+Performs config history events (Err fault) text after = Stops config history events fault text after

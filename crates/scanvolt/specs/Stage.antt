@@ -1,0 +1,41 @@
+-- How far a run is, and how it goes on.
+use Rattle.std.specs.Prelude.{◌≡◌, ℕ, ◌+◌, ◌≤◌, List, [], ◌++◌, length, Bool, true, false, Option, Result, Ok, Err, ⊤}
+use Rattle.std.specs.Io.KnownBytes.{IsAtEnd}
+use Rattle.sv_server.specs.declared.replay.ReplayFault.{ReplayFault}
+use Rattle.sv_server.specs.declared.replay.ReplayFault.TheVariants.{NoMemory, Write}
+use Rattle.sv_server.specs.Event.{Happening}
+use Rattle.sv_server.specs.State.{State, StandsFor}
+use Rattle.scanvolt.specs.declared.fault.RunFault.{RunFault}
+use Rattle.scanvolt.specs.declared.fault.RunFault.TheVariants.{BadLine, Input, Output, Memory}
+use Rattle.scanvolt.specs.Line.{Line, Says}
+use Rattle.scanvolt.specs.Script.{parts, events_of, IsScript, IsBad, Prints, Stops}
+use Rattle.scanvolt.specs.Run.{set_up, Runs}
+
+-- Some lines of what was read are done, so many, and this is left of it; what they say is printed.
+abbrev pub IsStage : State → List ℕ → ℕ → List ℕ → List ℕ → Type 0
+IsStage server left number read text = (lines : List (List ℕ)) × (events history : List Happening) × (parts read ≡ lines ++ parts left) × (number ≡ length lines) × IsScript lines events
+    × Prints set_up [] events text history × StandsFor server set_up history
+
+-- A replay stops at an event of a line.
+abbrev pub StopsAt : List ℕ → List Happening → ReplayFault → List ℕ → List Happening → Type 0
+StopsAt line history fault text after = (said : Line) × (length line ≤ 65536) × Says line said × Stops set_up history (events_of said) fault text after
+
+-- What the line of this number does after a history.
+abbrev pub LineRuns : List ℕ → ℕ → List Happening → Result ⊤ RunFault → List ℕ → List Happening → Type 0
+LineRuns line number history (Ok all) text after = (said : Line) × (length line ≤ 65536) × Says line said × Prints set_up history (events_of said) text after
+LineRuns line number history (Err (BadLine n)) text after = (n ≡ number) × IsBad line × (text ≡ [])
+LineRuns line number history (Err Input) text after = ⊥
+LineRuns line number history (Err Output) text after = StopsAt line history Write text after
+LineRuns line number history (Err Memory) text after = StopsAt line history NoMemory text after
+
+-- A run goes on, is at the end of what the reader gives, or stops.
+abbrev pub Goes : State → List ℕ → ℕ → Option (List ℕ) → Result Bool RunFault → List ℕ → List ℕ → Type 0
+Goes server left number rest (Ok true) read text = IsStage server left number read text
+Goes server left number rest (Ok false) read text = IsAtEnd rest × Runs read (Ok tt) text
+Goes server left number rest (Err fault) read text = Runs read (Err fault) text
+
+-- This holds where the run goes on.
+abbrev pub WhileGoing : {E : Type 0} → Result Bool E → Type 0 → Type 0
+WhileGoing (Ok true) fact = fact
+WhileGoing (Ok false) fact = Unit {0}
+WhileGoing (Err fault) fact = Unit {0}

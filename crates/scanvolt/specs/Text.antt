@@ -1,0 +1,49 @@
+-- The text of a replay that was read and not yet used, and how it is kept.
+use Rattle.std.specs.Prelude.{◌≡◌, ℕ, ◌+◌, ◌==◌, ◌≤◌, Bool, true, false, List, [], ◌++◌, length, take, Option, Some, None, Result, Ok, Err, slice_range}
+use Rattle.std.specs.List.{position, position_or_len}
+use Rattle.std.specs.Io.KnownBytes.{Consumes, IsAtEnd}
+use Rattle.scanvolt.specs.declared.text.InputFault.{InputFault}
+
+-- the text, and how often a reader was read for it
+pub record Held : Type 0 where
+  pub text : List ℕ
+  pub reads : ℕ
+
+-- no text, and nothing was read
+abbrev pub nothing_held : Held
+nothing_held = record { text = []; reads = 0 }
+
+-- where the first new line stands
+abbrev pub first_end : List ℕ → Option ℕ
+first_end text = position (λ b. b == 10) text
+
+-- What a read gave, and what is left of the reader: after the end of the reader or a fault it is nothing.
+abbrev pub IsGiven : List ℕ → Option (List ℕ) → Result Bool InputFault → Type 0
+IsGiven more rest (Ok true) = Unit {0}
+IsGiven more rest (Ok false) = (more ≡ []) × IsAtEnd rest
+IsGiven more rest (Err fault) = more ≡ []
+
+-- What the reader lost stands behind the text.
+abbrev pub Filled : Option (List ℕ) → Option (List ℕ) → List ℕ → List ℕ → Result Bool InputFault → Type 0
+Filled before rest old new result = (more : List ℕ) × Consumes before rest more × (new ≡ old ++ more) × IsGiven more rest result
+
+-- What one read put in front of a buffer's free part: so many bytes; or none at the reader's end, or after a fault.
+abbrev pub IsBehind : Option (List ℕ) → Option (List ℕ) → List ℕ → Result (Option ℕ) InputFault → Type 0
+IsBehind before rest free (Ok (Some count)) = (count ≤ length free) × Consumes before rest (take count free)
+IsBehind before rest free (Ok None) = Consumes before rest [] × IsAtEnd rest
+IsBehind before rest free (Err fault) = Consumes before rest []
+
+-- the fields as what is held
+abbrev pub held_of : List ℕ → ℕ → ℕ → ℕ → Held
+held_of buffer start end reads = record { text = slice_range buffer start end; reads = reads }
+
+-- how many bytes stand in front of the first new line, or all of them
+abbrev pub line_size : List ℕ → ℕ
+line_size text = position_or_len (λ b. b == 10) text
+
+-- The fields are in order, the buffer has its size, and no new line stands in front of `clean`.
+pub record IsKept (buffer : List ℕ) (start clean end reads : ℕ) : Type 0 where
+  pub order : (start ≤ clean) × (clean ≤ end) × (end ≤ 131072)
+  pub size : length buffer ≡ 131072
+  pub unbroken : clean ≤ start + line_size (slice_range buffer start end)
+  pub few : reads ≤ 4294967294

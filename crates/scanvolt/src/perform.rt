@@ -1,0 +1,45 @@
+//! Doing what a line says.
+
+ghost use Rattle.std.specs.Prelude.{◌≡◌, ℕ, List, replicate};
+ghost use Rattle.std.specs.Io.KnownBytes.{Appends};
+ghost use Rattle.sv_server.specs.declared.event.Config.{Config};
+ghost use Rattle.sv_server.specs.Event.{Happening, Tick};
+ghost use Rattle.sv_server.specs.State.{StandsFor};
+ghost use Rattle.scanvolt.specs.PlainLine.{plain_line};
+ghost use Rattle.scanvolt.specs.Script.{events_of, Performs};
+
+use crate::line::Line;
+use std::alloc::Allocator;
+use std::io::Write;
+use sv_server::{Event, ReplayFault, Server};
+
+/// Does what a line says, and writes what follows from it.
+pub fn perform<A: Allocator, W: Write>(
+    server: &mut Server<A>,
+    line: Line<'_>,
+    writer: &mut W,
+) -> Result<(), ReplayFault>
+    ensures { (config : Config) (history : List Happening) → StandsFor server.old config history → (text : List ℕ) × (after : List Happening)
+        × Performs config history (events_of (plain_line line.entry)) result text after × StandsFor server.new config after × Appends (W.contents writer.old) (W.contents writer.new) text }
+{
+    match line {
+        Line::Blank => Ok(()),
+        Line::One(event) => server.replay(event, writer),
+        Line::Ticks(count) => pass(server, count, writer),
+    }
+}
+
+/// Lets milliseconds pass, one after the other.
+fn pass<A: Allocator, W: Write>(
+    server: &mut Server<A>,
+    count: u32,
+    writer: &mut W,
+) -> Result<(), ReplayFault>
+    ensures { (config : Config) (history : List Happening) → StandsFor server.old config history → (text : List ℕ) × (after : List Happening)
+        × Performs config history (replicate count Tick) result text after × StandsFor server.new config after × Appends (W.contents writer.old) (W.contents writer.new) text }
+{
+    for _ in 0..count {
+        server.replay(Event::Tick, writer)?;
+    }
+    Ok(())
+}

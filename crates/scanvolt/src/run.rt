@@ -1,0 +1,152 @@
+//! The run of a replay: the lines of a text, one after the other.
+
+ghost use Rattle.std.specs.Prelude.{◌≡◌, ℕ, ◌+◌, ◌-◌, ◌*◌, ◌^◌, ◌<◌, ◌≤◌, List, [], ◌++◌, length, None, IfOk, IfErr, OnOk};
+ghost use Rattle.std.specs.Io.KnownBytes.{Consumes, Appends, Keeps, IsAtEnd};
+ghost use Rattle.sv_server.specs.Event.{Happening};
+ghost use Rattle.sv_server.specs.State.{StandsFor};
+ghost use Rattle.scanvolt.specs.Text.{nothing_held, first_end};
+ghost use Rattle.scanvolt.specs.Run.{set_up, Runs};
+ghost use Rattle.scanvolt.specs.Stage.{IsStage, LineRuns, Goes, WhileGoing};
+
+use crate::fault::RunFault;
+use crate::line::read_line;
+use crate::perform::perform;
+use crate::text::{LONGEST_LINE, Text};
+use std::alloc::{AllocError, Allocator};
+use std::io::{Read, Write};
+use sv_server::{Config, Server};
+
+/// What the server is set up with.
+const SET_UP: Config = Config {
+    core: 4096,
+    abort: 4097,
+    clock: 0,
+};
+
+/// A replay that goes on.
+#[derive(Drop)]
+struct Run<A: Allocator> {
+    server: Server<A>,
+    text: Text<A>,
+    /// Where the bytes of a line are put.
+    bytes: Vec<u8, A>,
+    /// How many lines are done.
+    lines: u64,
+    ghost room: { length bytes.items ≡ 65536 },
+}
+
+/// Runs the replay that the reader gives, onto the writer. Before each read the writer is flushed,
+/// so that whoever waits for an answer before more is sent gets it.
+pub fn run_replay<A: Allocator + Copy, R: Read, W: Write>(
+    alloc: A,
+    reader: &mut R,
+    writer: &mut W,
+) -> Result<(), RunFault>
+    ensures runs { (read text : List ℕ) × Consumes (R.remaining reader.old) (R.remaining reader.new) read × Appends (W.contents writer.old) (W.contents writer.new) text × Runs read result text }
+    ensures end { OnOk result (IsAtEnd (R.remaining reader.new)) }
+{
+    let mut run = start(alloc)?;
+    for _ in 0..u64::MAX {
+        if !run.turn(reader, writer)? {
+            return Ok(());
+        }
+    }
+    Err(RunFault::Input)
+}
+
+/// A replay of which nothing is done.
+fn start<A: Allocator + Copy>(alloc: A) -> Result<Run<A>, AllocError>
+    ensures { IfOk result (λ run. StandsFor run.server set_up [] × (run.text ≡ nothing_held) × (run.lines ≡ 0)) }
+{
+    Ok(Run {
+        server: Server::new(alloc, SET_UP)?,
+        text: Text::new(alloc)?,
+        bytes: vec![in alloc; 0; LONGEST_LINE]?,
+        lines: 0,
+    })
+}
+
+/// Lets the writer pass on what it holds.
+fn flush<W: Write>(writer: &mut W) -> Result<(), RunFault>
+    ensures kept { Keeps (W.contents writer.old) (W.contents writer.new) }
+    ensures fault { IfErr result (λ fault. fault ≡ RunFault.Output) }
+{
+    match writer.flush() {
+        Ok(()) => Ok(()),
+        Err(_) => Err(RunFault::Output),
+    }
+}
+
+/// Does what a line says. The bytes of a `bytes` line are put into `bytes`.
+fn do_line<A: Allocator, W: Write>(
+    server: &mut Server<A>,
+    line: &[u8],
+    number: u64,
+    bytes: &mut [u8],
+    writer: &mut W,
+) -> Result<(), RunFault>
+    requires { length bytes.old ≡ 65536 }
+    ensures { (history : List Happening) → StandsFor server.old set_up history → (text : List ℕ) × (after : List Happening) × LineRuns line.now number history result text after
+        × StandsFor server.new set_up after × Appends (W.contents writer.old) (W.contents writer.new) text }
+{
+    if line.len() > LONGEST_LINE {
+        return Err(RunFault::BadLine(number));
+    }
+    match read_line(line, bytes) {
+        Some(said) => {
+            perform(server, said, writer)?;
+            Ok(())
+        }
+        None => Err(RunFault::BadLine(number)),
+    }
+}
+
+impl<A: Allocator> Run<A> {
+    /// Does the next line, or reads on where no line is whole; false at the end.
+    fn turn<R: Read, W: Write>(&mut self, reader: &mut R, writer: &mut W) -> Result<bool, RunFault>
+        requires countable { self.old.lines < 2 ^ 64 - 1 }
+        ensures goes { (read text : List ℕ) → IsStage self.old.server self.old.text.text self.old.lines read text → (more other : List ℕ) × Consumes (R.remaining reader.old) (R.remaining reader.new) more
+            × Appends (W.contents writer.old) (W.contents writer.new) other × Goes self.new.server self.new.text.text self.new.lines (R.remaining reader.new) result (read ++ more) (text ++ other) }
+        ensures counted { WhileGoing result (self.new.lines + self.new.text.reads ≡ self.old.lines + self.old.text.reads + 1) }
+        ensures bounded { WhileGoing result (self.old.lines + length self.old.text.text ≤ 131072 * self.old.text.reads → self.new.lines + length self.new.text.text ≤ 131072 * self.new.text.reads) }
+        ensures few { WhileGoing result (self.old.text.reads ≤ 4294967294 → self.new.text.reads ≤ 4294967294) }
+    {
+        match self.text.whole_line() {
+            Some(len) => {
+                let line = self.text.front(len);
+                do_line(&mut self.server, line, self.lines + 1, &mut self.bytes, writer)?;
+                self.lines += 1;
+                self.text.drop_front(len + 1);
+                Ok(true)
+            }
+            None => self.read_on(reader, writer),
+        }
+    }
+
+    /// Reads on; where the reader is at its end, does the last line. False at the end.
+    fn read_on<R: Read, W: Write>(
+        &mut self,
+        reader: &mut R,
+        writer: &mut W,
+    ) -> Result<bool, RunFault>
+        requires no_line { first_end self.old.text.text ≡ None }
+        requires countable { self.old.lines < 2 ^ 64 - 1 }
+        ensures goes { (read text : List ℕ) → IsStage self.old.server self.old.text.text self.old.lines read text → (more other : List ℕ) × Consumes (R.remaining reader.old) (R.remaining reader.new) more
+            × Appends (W.contents writer.old) (W.contents writer.new) other × Goes self.new.server self.new.text.text self.new.lines (R.remaining reader.new) result (read ++ more) (text ++ other) }
+        ensures counted { WhileGoing result (self.new.lines + self.new.text.reads ≡ self.old.lines + self.old.text.reads + 1) }
+        ensures bounded { WhileGoing result (self.old.lines + length self.old.text.text ≤ 131072 * self.old.text.reads → self.new.lines + length self.new.text.text ≤ 131072 * self.new.text.reads) }
+        ensures few { WhileGoing result (self.old.text.reads ≤ 4294967294 → self.new.text.reads ≤ 4294967294) }
+    {
+        if self.text.len() > LONGEST_LINE {
+            return Err(RunFault::BadLine(self.lines + 1));
+        }
+        flush(writer)?;
+        if self.text.fill(reader)? {
+            return Ok(true);
+        }
+        let line = self.text.front(self.text.len());
+        do_line(&mut self.server, line, self.lines + 1, &mut self.bytes, writer)?;
+        flush(writer)?;
+        Ok(false)
+    }
+}

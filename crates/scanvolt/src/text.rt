@@ -1,0 +1,172 @@
+//! The text of a replay, read in pieces.
+
+ghost use Rattle.std.specs.Prelude.{◌≡◌, ◌+◌, ◌-◌, ◌<◌, ◌≤◌, length, take, drop, slice_range, IfOk, OnOk, OnErr, IsErr};
+ghost use Rattle.scanvolt.specs.Text.{Filled, IsBehind, first_end, nothing_held};
+
+use memchr::memchr;
+use std::alloc::{AllocError, Allocator, Global};
+use std::io::{ErrorKind, Read};
+use std::marker::Model;
+
+/// How many bytes a line may have, without its new line.
+pub const LONGEST_LINE: usize = 65_536;
+/// How much text is kept: a line and its new line, and what is read behind it.
+const SIZE: usize = 131_072;
+/// How often a reader is read; the read after these is an input fault.
+const MOST_READS: u32 = 4_294_967_294;
+
+/// The reader failed, or was read too often.
+#[derive(Clone, Copy, Debug, PartialEq, Eq)]
+pub struct InputFault;
+
+/// Text that was read and not yet used.
+#[derive(Drop)]
+pub struct Text<A: Allocator = Global> {
+    /// As long as it ever gets.
+    buffer: Vec<u8, A>,
+    /// Where the text begins.
+    start: usize,
+    /// In front of this the text has no new line.
+    clean: usize,
+    /// Where the text ends.
+    end: usize,
+    /// How often a reader was read.
+    reads: u32,
+}
+
+impl<A: Allocator> Model for Text<A> {
+    ghost use Rattle.scanvolt.specs.Text.{Held};
+
+    ghost Value = { Held };
+
+    ghost use Rattle.scanvolt.specs.Text.{held_of, IsKept};
+
+    ghost view = { λ a. held_of a.buffer.items a.start a.end a.reads };
+
+    ghost invariant = { λ a. IsKept a.buffer.items a.start a.clean a.end a.reads };
+}
+
+impl<A: Allocator> Text<A> {
+    /// No text. It takes all the memory that it ever uses.
+    pub fn new(alloc: A) -> Result<Text<A>, AllocError>
+        ensures { IfOk result (λ text. text ≡ nothing_held) }
+    {
+        Ok(Text {
+            buffer: vec![in alloc; 0; SIZE]?,
+            start: 0,
+            clean: 0,
+            end: 0,
+            reads: 0,
+        })
+    }
+
+    /// How many bytes the text has.
+    pub fn len(&self) -> usize
+        ensures { result ≡ length self.now.text }
+    {
+        self.end - self.start
+    }
+
+    /// How long the first line is, without its new line, if its new line was read.
+    pub fn whole_line(&mut self) -> Option<usize>
+        ensures same { self.new ≡ self.old }
+        ensures value { result ≡ first_end self.old.text }
+    {
+        match memchr(b'\n', &self.buffer[self.clean..self.end]) {
+            Some(at) => {
+                self.clean += at;
+                Some(self.clean - self.start)
+            }
+            None => {
+                self.clean = self.end;
+                None
+            }
+        }
+    }
+
+    /// The first bytes of the text.
+    pub fn front(&self, len: usize) -> &[u8]
+        requires { len ≤ length self.now.text }
+        ensures { result.now ≡ take len self.now.text }
+    {
+        &self.buffer[self.start..self.start + len]
+    }
+
+    /// Drops the first bytes of the text, which the caller is done with.
+    pub fn drop_front(&mut self, len: usize)
+        requires { len ≤ length self.old.text }
+        ensures { self.new ≡ record { text = drop len self.old.text; reads = self.old.reads } }
+    {
+        self.start += len;
+        self.clean = self.clean.max(self.start);
+    }
+
+    /// Reads once, behind the text, and tells whether more may come: at the reader's end it doesn't,
+    /// and an interrupted read gives nothing, but another may. Where too little of the buffer is
+    /// free behind the text, it moves to the front first.
+    pub fn fill<R: Read>(&mut self, reader: &mut R) -> Result<bool, InputFault>
+        requires { length self.old.text ≤ 65536 }
+        ensures took { Filled (R.remaining reader.old) (R.remaining reader.new) self.old.text self.new.text result }
+        ensures counted { OnOk result (self.new.reads ≡ self.old.reads + 1) }
+        ensures kept { OnErr result (self.new.reads ≡ self.old.reads) }
+        ensures limit { 4294967294 ≤ self.old.reads → IsErr result }
+        ensures within { length self.new.text ≤ 131072 }
+    {
+        if self.reads >= MOST_READS {
+            return Err(InputFault);
+        }
+        let moved = make_room(&mut self.buffer, self.start, self.end);
+        self.start -= moved;
+        self.clean -= moved;
+        self.end -= moved;
+        let came = read_behind(reader, &mut self.buffer, self.end)?;
+        self.reads += 1;
+        match came {
+            Some(count) => {
+                self.end += count;
+                Ok(true)
+            }
+            None => Ok(false),
+        }
+    }
+}
+
+/// Moves a part of a buffer to the buffer's front, where too little is free behind the part, and
+/// tells by how much.
+fn make_room(buffer: &mut [u8], start: usize, end: usize) -> usize
+    requires order { (start ≤ end) × (end ≤ 131072) }
+    requires size { length buffer.old ≡ 131072 }
+    ensures within { result ≤ start }
+    ensures moved { slice_range buffer.new (start - result) (end - result) ≡ slice_range buffer.old start end }
+    ensures room { end - start ≤ 65536 → end - result ≤ 65536 }
+{
+    if SIZE - end >= LONGEST_LINE {
+        return 0;
+    }
+    buffer.copy_within(start..end, 0);
+    start
+}
+
+/// Reads once, behind so many bytes of a buffer, and tells how many bytes came, or none at the
+/// reader's end.
+fn read_behind<R: Read>(
+    reader: &mut R,
+    buffer: &mut [u8],
+    at: usize,
+) -> Result<Option<usize>, InputFault>
+    requires { at < length buffer.old }
+    ensures front { take at buffer.new ≡ take at buffer.old }
+    ensures came { IsBehind (R.remaining reader.old) (R.remaining reader.new) (drop at buffer.new) result }
+{
+    match reader.read(&mut buffer[at..]) {
+        Ok(0) => Ok(None),
+        Ok(count) => Ok(Some(count)),
+        Err(e) => {
+            if e.kind() == ErrorKind::Interrupted {
+                Ok(Some(0))
+            } else {
+                Err(InputFault)
+            }
+        }
+    }
+}
