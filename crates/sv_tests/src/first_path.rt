@@ -1,10 +1,10 @@
 //! Links, writes and reads: from the bytes of calls to the bytes of replies.
 
 use crate::records::IN_FRAGMENTS;
+use crate::same::{same, same_bytes};
 use crate::words::{CREATE_LINK, bytes_of};
 use rationing::Rationed;
 use std::alloc::{AllocError, Allocator, Global};
-use std::process::Abort;
 use std::test::Fail;
 use sv_server::{Config, Did, Event, Port, Refused, Role, Server};
 
@@ -75,48 +75,46 @@ fn reply(alloc: Global, xid: u32, fields: &[u32]) -> Result<Vec<u8>, AllocError>
 }
 
 /// Applies an event, which has to be done.
-fn does<A: Allocator>(rt: &impl Abort, server: &mut Server<A>, event: Event<'_>) {
-    assert_eq!(rt; server.apply(event), Ok(Did::Done), "{event:?}");
+fn does<A: Allocator>(server: &mut Server<A>, event: Event<'_>) -> Result<(), Fail> {
+    same(
+        server.apply(event),
+        Ok(Did::Done),
+        format_args!("{event:?}"),
+    )
 }
 
 /// Opens connection 0 on the core channel.
-fn open<A: Allocator>(rt: &impl Abort, server: &mut Server<A>) {
+fn open<A: Allocator>(server: &mut Server<A>) -> Result<(), Fail> {
     let role = Role::Core;
-    does(rt, server, Event::Open { conn: 0, role });
+    does(server, Event::Open { conn: 0, role })
 }
 
 /// A server of which connection 0 is open on the core channel.
-fn opened(rt: &impl Abort, alloc: Global) -> Result<Server, AllocError> {
+fn opened(alloc: Global) -> Result<Server, Fail> {
     let mut server = Server::new(alloc, CONFIG)?;
-    open(rt, &mut server);
+    open(&mut server)?;
     Ok(server)
 }
 
 /// Lets bytes come on connection 0.
-fn come<A: Allocator>(rt: &impl Abort, server: &mut Server<A>, piece: &[u8]) {
-    does(rt, server, Event::Bytes { conn: 0, piece });
+fn come<A: Allocator>(server: &mut Server<A>, piece: &[u8]) -> Result<(), Fail> {
+    does(server, Event::Bytes { conn: 0, piece })
 }
 
 /// Takes the bytes that wait on connection 0, which have to be these.
-fn take<A: Allocator>(rt: &impl Abort, server: &mut Server<A>, wanted: &[u8]) -> Result<(), Fail> {
+fn take<A: Allocator>(server: &mut Server<A>, wanted: &[u8]) -> Result<(), Fail> {
     let port = Port::Conn(0);
-    assert_eq!(rt; server.waiting(port), wanted);
+    same_bytes(server.waiting(port), wanted, "what waits")?;
     let count = u32::try_from(wanted.len())?;
-    does(rt, server, Event::Took { port, count });
-    assert!(rt; server.waiting(port).is_empty());
-    Ok(())
+    does(server, Event::Took { port, count })?;
+    same_bytes(server.waiting(port), &[], "what waits once all is taken")
 }
 
 /// Lets bytes come on connection 0, and takes a call and its reply.
-fn answers<A: Allocator>(
-    rt: &impl Abort,
-    server: &mut Server<A>,
-    asked: &[u8],
-    wanted: &[u8],
-) -> Result<(), Fail> {
-    come(rt, server, asked);
-    does(rt, server, Event::Turn { conn: 0 });
-    take(rt, server, wanted)
+fn answers<A: Allocator>(server: &mut Server<A>, asked: &[u8], wanted: &[u8]) -> Result<(), Fail> {
+    come(server, asked)?;
+    does(server, Event::Turn { conn: 0 })?;
+    take(server, wanted)
 }
 
 /// With ample memory it isn't refused, which no contract says.
@@ -124,8 +122,8 @@ fn answers<A: Allocator>(
 fn create_link_makes_the_first_link(rt: HostRuntime) -> Result<(), Fail> {
     let asked = bytes_of(rt.alloc(), &CREATE_LINK)?;
     let wanted = bytes_of(rt.alloc(), &FIRST_LINK)?;
-    let mut server = opened(&rt, rt.alloc())?;
-    answers(&rt, &mut server, asked.as_slice(), wanted.as_slice())
+    let mut server = opened(rt.alloc())?;
+    answers(&mut server, asked.as_slice(), wanted.as_slice())
 }
 
 #[test]
@@ -134,22 +132,22 @@ fn a_call_is_answered_alike_however_its_bytes_are_cut(rt: HostRuntime) -> Result
     let fragments = bytes_of(rt.alloc(), &IN_FRAGMENTS)?;
     let wanted = bytes_of(rt.alloc(), &FIRST_LINK)?;
     for stream in [whole.as_slice(), fragments.as_slice()] {
-        let mut server = opened(&rt, rt.alloc())?;
+        let mut server = opened(rt.alloc())?;
         for byte in stream {
             assert!(rt; !server.ready(0));
-            come(&rt, &mut server, &[*byte]);
+            come(&mut server, &[*byte])?;
         }
-        answers(&rt, &mut server, &[], wanted.as_slice())?;
+        answers(&mut server, &[], wanted.as_slice())?;
 
-        let mut server = opened(&rt, rt.alloc())?;
-        answers(&rt, &mut server, stream, wanted.as_slice())?;
+        let mut server = opened(rt.alloc())?;
+        answers(&mut server, stream, wanted.as_slice())?;
     }
     Ok(())
 }
 
 #[test]
 fn idn_is_answered_at_the_next_read(rt: HostRuntime) -> Result<(), Fail> {
-    let mut server = opened(&rt, rt.alloc())?;
+    let mut server = opened(rt.alloc())?;
     let run: [(&[u32], &[u32]); 3] = [
         (&CREATE_LINK, &FIRST_LINK),
         (&WRITE_IDN, &WRITTEN),
@@ -158,14 +156,14 @@ fn idn_is_answered_at_the_next_read(rt: HostRuntime) -> Result<(), Fail> {
     for (asked, wanted) in run {
         let asked = bytes_of(rt.alloc(), asked)?;
         let wanted = bytes_of(rt.alloc(), wanted)?;
-        answers(&rt, &mut server, asked.as_slice(), wanted.as_slice())?;
+        answers(&mut server, asked.as_slice(), wanted.as_slice())?;
     }
     Ok(())
 }
 
 #[test]
 fn a_message_may_come_in_several_writes(rt: HostRuntime) -> Result<(), Fail> {
-    let mut server = opened(&rt, rt.alloc())?;
+    let mut server = opened(rt.alloc())?;
     let identity: [u32; 8] = [
         0, 4, 20, 0x5343414E, 0x564F4C54, 0x2C535633, 0x322C302C, 0x312E300A,
     ];
@@ -180,7 +178,7 @@ fn a_message_may_come_in_several_writes(rt: HostRuntime) -> Result<(), Fail> {
     for (proc, args, fields) in run {
         let asked = call(rt.alloc(), proc, proc, args)?;
         let wanted = reply(rt.alloc(), proc, fields)?;
-        answers(&rt, &mut server, asked.as_slice(), wanted.as_slice())?;
+        answers(&mut server, asked.as_slice(), wanted.as_slice())?;
     }
     Ok(())
 }
@@ -193,29 +191,29 @@ fn a_link_for_which_memory_was_refused_is_made_at_the_next_turn(
     let wanted = bytes_of(rt.alloc(), &FIRST_LINK)?;
     let heap = Rationed::new(rt.alloc());
     let mut server = Server::new(&heap, CONFIG)?;
-    open(&rt, &mut server);
-    come(&rt, &mut server, asked.as_slice());
+    open(&mut server)?;
+    come(&mut server, asked.as_slice())?;
 
     heap.refuse(1);
     let turn = Event::Turn { conn: 0 };
     assert_eq!(rt; server.apply(turn), Err(Refused::NoMemory));
     assert!(rt; server.waiting(Port::Conn(0)).is_empty());
 
-    does(&rt, &mut server, turn);
-    take(&rt, &mut server, wanted.as_slice())
+    does(&mut server, turn)?;
+    take(&mut server, wanted.as_slice())
 }
 
 #[test]
 fn a_33rd_link_is_out_of_resources(rt: HostRuntime) -> Result<(), Fail> {
-    let mut server = opened(&rt, rt.alloc())?;
+    let mut server = opened(rt.alloc())?;
     for lid in 1..33u32 {
         let asked = call(rt.alloc(), lid, CREATE, &FOR_DEVICE)?;
         let wanted = reply(rt.alloc(), lid, &[0, lid, 4097, 4096])?;
-        answers(&rt, &mut server, asked.as_slice(), wanted.as_slice())?;
+        answers(&mut server, asked.as_slice(), wanted.as_slice())?;
     }
     let asked = call(rt.alloc(), 33, CREATE, &FOR_DEVICE)?;
     let wanted = reply(rt.alloc(), 33, &OUT_OF_RESOURCES)?;
-    answers(&rt, &mut server, asked.as_slice(), wanted.as_slice())
+    answers(&mut server, asked.as_slice(), wanted.as_slice())
 }
 
 /// Each refused event, why, and the number of that.
@@ -239,7 +237,7 @@ fn events_are_refused_for_their_reasons(rt: HostRuntime) -> Result<(), Fail> {
         (input(33, 0), Refused::BadChannel, 8),
         (input(1, 1_000_000_001), Refused::BadInput, 9),
     ] {
-        let mut server = opened(&rt, rt.alloc())?;
+        let mut server = opened(rt.alloc())?;
         assert_eq!(rt; server.apply(event), Err(why));
         assert_eq!(rt; why as u8, number, "{why:?}");
     }
@@ -254,7 +252,7 @@ fn the_clock_ends_at_its_last_value(rt: HostRuntime) -> Result<(), Fail> {
         clock: 9_223_372_036_854_775_806,
     };
     let mut server = Server::new(rt.alloc(), config)?;
-    does(&rt, &mut server, Event::Tick);
+    does(&mut server, Event::Tick)?;
     assert_eq!(rt; server.apply(Event::Tick), Err(Refused::TimeOver));
     assert_eq!(rt; Refused::TimeOver as u8, 10);
     Ok(())
@@ -276,8 +274,8 @@ fn a_server_is_made_once_memory_is_there(rt: HostRuntime) -> Result<(), Fail> {
         }
         assert!(rt; made.is_err(), "without allocation {number}");
         let mut again = Server::new(&heap, CONFIG)?;
-        open(&rt, &mut again);
-        answers(&rt, &mut again, asked.as_slice(), wanted.as_slice())?;
+        open(&mut again)?;
+        answers(&mut again, asked.as_slice(), wanted.as_slice())?;
     }
     panic!(rt; "each run was refused an allocation")
 }
@@ -287,8 +285,8 @@ fn nothing_is_done_before_a_call_is_whole(rt: HostRuntime) -> Result<(), Fail> {
     let stream = bytes_of(rt.alloc(), &CREATE_LINK)?;
     assert_eq!(rt; stream.len(), 68);
     for size in 0..68usize {
-        let mut server = opened(&rt, rt.alloc())?;
-        come(&rt, &mut server, &stream.as_slice()[..size]);
+        let mut server = opened(rt.alloc())?;
+        come(&mut server, &stream.as_slice()[..size])?;
         assert!(rt; !server.ready(0), "after {size} bytes");
         assert!(rt;
             server.waiting(Port::Conn(0)).is_empty(),
@@ -306,14 +304,14 @@ fn a_record_cut_short_faults_or_has_garbage_for_arguments(rt: HostRuntime) -> Re
     let garbage = bytes_of(rt.alloc(), &[0x80000018, 1, 1, 0, 0, 0, 4])?;
     assert_eq!(rt; whole.len(), 64);
     for size in 0..64u8 {
-        let mut server = opened(&rt, rt.alloc())?;
-        come(&rt, &mut server, &[0x80, 0, 0, size]);
-        come(&rt, &mut server, &whole.as_slice()[..usize::from(size)]);
+        let mut server = opened(rt.alloc())?;
+        come(&mut server, &[0x80, 0, 0, size])?;
+        come(&mut server, &whole.as_slice()[..usize::from(size)])?;
         assert!(rt; server.ready(0), "of {size} bytes");
-        does(&rt, &mut server, Event::Turn { conn: 0 });
+        does(&mut server, Event::Turn { conn: 0 })?;
         assert_eq!(rt; server.faulted(0), size < 40, "of {size} bytes");
         let wanted = if size < 40 { &[] } else { garbage.as_slice() };
-        take(&rt, &mut server, wanted)?;
+        take(&mut server, wanted)?;
     }
     Ok(())
 }
@@ -321,21 +319,21 @@ fn a_record_cut_short_faults_or_has_garbage_for_arguments(rt: HostRuntime) -> Re
 #[test]
 fn a_call_waits_until_its_reply_has_room(rt: HostRuntime) -> Result<(), Fail> {
     let null = call(rt.alloc(), 1, 0, &[])?;
-    let mut server = opened(&rt, rt.alloc())?;
+    let mut server = opened(rt.alloc())?;
     for _ in 0..293u16 {
-        come(&rt, &mut server, null.as_slice());
+        come(&mut server, null.as_slice())?;
     }
     let turn = Event::Turn { conn: 0 };
     for _ in 0..292u16 {
-        does(&rt, &mut server, turn);
+        does(&mut server, turn)?;
     }
     let port = Port::Conn(0);
     assert_eq!(rt; server.waiting(port).len(), 8176);
     assert_eq!(rt; server.apply(turn), Err(Refused::NoRoom));
-    does(&rt, &mut server, Event::Took { port, count: 23 });
+    does(&mut server, Event::Took { port, count: 23 })?;
     assert_eq!(rt; server.apply(turn), Err(Refused::NoRoom));
-    does(&rt, &mut server, Event::Took { port, count: 1 });
-    does(&rt, &mut server, turn);
+    does(&mut server, Event::Took { port, count: 1 })?;
+    does(&mut server, turn)?;
     assert_eq!(rt; server.waiting(port).len(), 8180);
     assert_eq!(rt; server.apply(turn), Ok(Did::Idle));
     Ok(())

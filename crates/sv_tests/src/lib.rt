@@ -15,4 +15,6 @@ mod ports;
 #[cfg(test)]
 mod records;
 #[cfg(test)]
+mod same;
+#[cfg(test)]
 mod words;

@@ -1,8 +1,8 @@
 //! Records of a stream that comes in pieces.
 
+use crate::same::{same, same_bytes};
 use crate::words::{CREATE_LINK, bytes_of};
 use std::alloc::Global;
-use std::process::Abort;
 use std::test::Fail;
 use sv_rpc::{Call, RecordBuf, RpcFault, read_call};
 
@@ -22,31 +22,30 @@ const LONGEST: [u8; 4] = [0x80, 0x00, 0x20, 0x00];
 const TOO_LONG: [u8; 4] = [0x80, 0x00, 0x20, 0x01];
 
 /// Pushes a piece for which there has to be room.
-fn push(rt: &impl Abort, buffer: &mut RecordBuf, piece: &[u8]) {
-    assert!(rt;
-        piece.len() <= buffer.room(),
-        "room for {} bytes",
-        piece.len()
-    );
+fn push(buffer: &mut RecordBuf, piece: &[u8]) -> Result<(), Fail> {
+    let room = buffer.room();
+    if piece.len() > room {
+        return Err(Fail::new(format_args!("room for {room} bytes, and not for {}", piece.len())));
+    }
     buffer.push(piece);
+    Ok(())
 }
 
 /// Drops the first record, which has to be this one.
-fn drop_this(rt: &impl Abort, buffer: &mut RecordBuf, wanted: &[u8]) {
-    match buffer.next() {
-        Ok(Some(found)) => assert_eq!(rt; found, wanted),
-        _ => panic!(rt; "no record"),
-    }
+fn drop_this(buffer: &mut RecordBuf, wanted: &[u8]) -> Result<(), Fail> {
+    let found = buffer.next()?.ok_or("no record")?;
+    same_bytes(found, wanted, "the record")?;
     buffer.drop_first();
+    Ok(())
 }
 
 /// Drops the one record that the buffer holds, which has to be the call of `create_link`.
-fn drop_create_link(rt: &impl Abort, alloc: Global, buffer: &mut RecordBuf) -> Result<(), Fail> {
+fn drop_create_link(alloc: Global, buffer: &mut RecordBuf) -> Result<(), Fail> {
     let record = bytes_of(alloc, &CREATE_LINK[1..])?;
     let arguments = bytes_of(alloc, &ARGUMENTS)?;
-    drop_this(rt, buffer, record.as_slice());
-    assert_eq!(rt; buffer.next(), Ok(None));
-    assert_eq!(rt; buffer.room(), 16380);
+    drop_this(buffer, record.as_slice())?;
+    same(buffer.next(), Ok(None), "the next record")?;
+    same(buffer.room(), 16380, "the room")?;
     let wanted = Call {
         xid: 1,
         prog: 0x0607AF,
@@ -54,16 +53,15 @@ fn drop_create_link(rt: &impl Abort, alloc: Global, buffer: &mut RecordBuf) -> R
         proc: 10,
         args: arguments.as_slice(),
     };
-    assert_eq!(rt; read_call(record.as_slice()), Ok(wanted));
-    Ok(())
+    same(read_call(record.as_slice()), Ok(wanted), "the call")
 }
 
 #[test]
 fn gives_a_record_that_comes_whole(rt: HostRuntime) -> Result<(), Fail> {
     let stream = bytes_of(rt.alloc(), &CREATE_LINK)?;
     let mut buffer = RecordBuf::new(rt.alloc())?;
-    push(&rt, &mut buffer, stream.as_slice());
-    drop_create_link(&rt, rt.alloc(), &mut buffer)
+    push(&mut buffer, stream.as_slice())?;
+    drop_create_link(rt.alloc(), &mut buffer)
 }
 
 #[test]
@@ -71,17 +69,17 @@ fn gives_a_record_that_comes_byte_by_byte(rt: HostRuntime) -> Result<(), Fail> {
     let stream = bytes_of(rt.alloc(), &CREATE_LINK)?;
     let mut buffer = RecordBuf::new(rt.alloc())?;
     for byte in stream.as_slice() {
-        push(&rt, &mut buffer, &[*byte]);
+        push(&mut buffer, &[*byte])?;
     }
-    drop_create_link(&rt, rt.alloc(), &mut buffer)
+    drop_create_link(rt.alloc(), &mut buffer)
 }
 
 #[test]
 fn joins_the_fragments_of_a_record(rt: HostRuntime) -> Result<(), Fail> {
     let stream = bytes_of(rt.alloc(), &IN_FRAGMENTS)?;
     let mut buffer = RecordBuf::new(rt.alloc())?;
-    push(&rt, &mut buffer, stream.as_slice());
-    drop_create_link(&rt, rt.alloc(), &mut buffer)
+    push(&mut buffer, stream.as_slice())?;
+    drop_create_link(rt.alloc(), &mut buffer)
 }
 
 #[test]
@@ -90,7 +88,7 @@ fn gives_nothing_of_an_unfinished_record(rt: HostRuntime) -> Result<(), Fail> {
     assert_eq!(rt; stream.len(), 68);
     for size in 0..68usize {
         let mut buffer = RecordBuf::new(rt.alloc())?;
-        push(&rt, &mut buffer, &stream.as_slice()[..size]);
+        push(&mut buffer, &stream.as_slice()[..size])?;
         assert_eq!(rt; buffer.next(), Ok(None), "after {size} bytes");
     }
     Ok(())
@@ -102,7 +100,7 @@ fn counts_the_room(rt: HostRuntime) -> Result<(), Fail> {
     assert_eq!(rt; stream.len(), 68);
     for (size, room) in [(0, 16380), (3, 16377), (4, 16380), (14, 16370), (68, 16312)] {
         let mut buffer = RecordBuf::new(rt.alloc())?;
-        push(&rt, &mut buffer, &stream.as_slice()[..size]);
+        push(&mut buffer, &stream.as_slice()[..size])?;
         assert_eq!(rt; buffer.room(), room, "after {size} bytes");
     }
     Ok(())
@@ -115,21 +113,21 @@ fn empty_fragments_take_no_room(rt: HostRuntime) -> Result<(), Fail> {
     let mut buffer = RecordBuf::new(rt.alloc())?;
     for _ in 0..100u8 {
         assert_eq!(rt; buffer.room(), 16380, "before");
-        push(&rt, &mut buffer, zeros.as_slice());
+        push(&mut buffer, zeros.as_slice())?;
         assert_eq!(rt; buffer.next(), Ok(None));
         assert_eq!(rt; buffer.room(), 16380, "after");
     }
-    push(&rt, &mut buffer, stream.as_slice());
-    drop_create_link(&rt, rt.alloc(), &mut buffer)
+    push(&mut buffer, stream.as_slice())?;
+    drop_create_link(rt.alloc(), &mut buffer)
 }
 
 #[test]
 fn gives_a_record_of_8192_bytes(rt: HostRuntime) -> Result<(), Fail> {
     let record = vec![in rt.alloc(); 0xA5u8; 8192]?;
     let mut buffer = RecordBuf::new(rt.alloc())?;
-    push(&rt, &mut buffer, &LONGEST);
-    push(&rt, &mut buffer, record.as_slice());
-    drop_this(&rt, &mut buffer, record.as_slice());
+    push(&mut buffer, &LONGEST)?;
+    push(&mut buffer, record.as_slice())?;
+    drop_this(&mut buffer, record.as_slice())?;
     assert_eq!(rt; buffer.next(), Ok(None));
     Ok(())
 }
@@ -137,7 +135,7 @@ fn gives_a_record_of_8192_bytes(rt: HostRuntime) -> Result<(), Fail> {
 #[test]
 fn refuses_a_record_of_8193_bytes_until_it_is_cleared(rt: HostRuntime) -> Result<(), Fail> {
     let mut buffer = RecordBuf::new(rt.alloc())?;
-    push(&rt, &mut buffer, &TOO_LONG);
+    push(&mut buffer, &TOO_LONG)?;
     assert_eq!(rt; buffer.next(), Err(RpcFault::RecordTooLong));
     assert_eq!(rt; buffer.room(), 0);
     buffer.clear();
@@ -151,9 +149,9 @@ fn gives_the_records_in_front_of_one_that_is_too_long(rt: HostRuntime) -> Result
     let stream = bytes_of(rt.alloc(), &CREATE_LINK)?;
     let record = bytes_of(rt.alloc(), &CREATE_LINK[1..])?;
     let mut buffer = RecordBuf::new(rt.alloc())?;
-    push(&rt, &mut buffer, stream.as_slice());
-    push(&rt, &mut buffer, &TOO_LONG);
-    drop_this(&rt, &mut buffer, record.as_slice());
+    push(&mut buffer, stream.as_slice())?;
+    push(&mut buffer, &TOO_LONG)?;
+    drop_this(&mut buffer, record.as_slice())?;
     assert_eq!(rt; buffer.next(), Err(RpcFault::RecordTooLong));
     assert_eq!(rt; buffer.room(), 0);
     Ok(())
