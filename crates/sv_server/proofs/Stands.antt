@@ -1,13 +1,14 @@
 -- What is held after an act stands for the acts with that one.
-use Rattle.std.proofs.Common.{◌≡◌, ◌≢◌, ℕ, ◌+◌, ◌≤◌, ◌<◌, ◌==◌, Bool, true, false, not, ◌&&◌, ◌||◌, cond, List, [], ◌∷◌, ◌++◌, length, take, drop, refl, sym, ap, ◌∙◌, nat_lt, append_assoc, IsTrue, arith}
+use Rattle.std.proofs.Common.{◌≡◌, ◌≢◌, ℕ, zero, suc, ◌+◌, ◌≤◌, ◌<◌, ◌==◌, Bool, true, false, not, ◌&&◌, ◌||◌, cond, List, [], ◌∷◌, ◌++◌, length, take, drop, refl, sym, ap, ◌∙◌, nat_lt, append_assoc, IsTrue, arith}
 use Rattle.std.proofs.lemmas.Bool.{lt-ltb, le-ltb, ltb-true}
-use Rattle.std.proofs.lemmas.List.{length-append, drop-drop, length-take-le}
-use Rattle.sv_server.specs.Exchange.{ExchangeAct, Accepted, UnitDone, Answered, AnswersDropped, Finished, text, messages, message, finished, current, units, has_dropped, answers, response, response_after, fits_response, is_something, joined}
-use Rattle.sv_server.specs.ExchangeHeld.{Held, StandsFor, IsSaid, IsUnitDue, symbols, following, shown_by, next_of, is_open, may_respond}
+use Rattle.std.proofs.lemmas.List.{length-append, drop-drop, drop_all, length-take-le}
+use Rattle.sv_server.specs.Exchange.{ExchangeAct, Accepted, UnitDone, Answered, AnswersDropped, Finished, ResponseRead, text, messages, message, finished, current, units, has_dropped, answers, response, fits_response, is_something, joined}
+use Rattle.sv_server.specs.ExchangeHeld.{Held, StandsFor, IsSaid, IsUnitDue, symbols, following, shown, shown_by, next_of, is_open, may_respond}
 use Rattle.sv_server.specs.ExchangeKept.{first_size, has_line, second_at, after_accept, after_finish, with_answer}
 use Rattle.sv_server.specs.FirstUnit.{IsFirst}
 use Rattle.sv_server.proofs.Places.{place_within}
 use Rattle.sv_server.proofs.Cuts.{messages-append, first_cut}
+use Rattle.sv_server.proofs.Responses.{response_after, response-finished, response-read}
 use Rattle.sv_server.proofs.Dues.{at_unit, readable_is}
 
 -- bytes that aren't something are none
@@ -75,7 +76,7 @@ finish_stands held new acts ended few is s =
       silent = λ unended. refl;
       told = refl;
       lost = refl;
-      said = (refl, said_after held.answering held.out (answers acts) (response acts) s.said);
+      said = (refl, response-finished acts ∙ said_after held.answering held.out (answers acts) (response acts) s.said);
     })
 
 -- what is so where an answer may come
@@ -200,4 +201,32 @@ accept_stands held new acts bytes ended open_now is s =
       told = s.told;
       lost = s.lost;
       said = s.said;
+    })
+
+-- what was read is taken from what is kept
+read_said : (answering : Bool) (out : List ℕ) (given : List (List ℕ)) (readable : List ℕ) (count : ℕ) → count ≤ length (shown answering out)
+    → IsSaid answering out given readable → IsSaid answering (drop count out) given (drop count readable)
+read_said true out given readable zero few said = said
+read_said true out given readable (suc count) few said = absurd (omega arith)
+read_said false out given readable count few said = (said.0, ap (drop count) said.1)
+
+-- bytes of the response were read
+pub read_stands : (held new : Held) (acts : List ExchangeAct) (count : ℕ) → count ≤ length (shown_by held) → new ≡ record held { out = drop count held.out }
+    → StandsFor held acts → StandsFor new (ResponseRead count ∷ acts)
+read_stands held new acts count few is s =
+    let left : response (ResponseRead count ∷ acts) ≡ drop count (response acts) = response-read acts count in
+    rw is (record {
+      message = s.message;
+      executed = s.executed;
+      text_left = s.text_left;
+      size = s.size;
+      units_left = s.units_left;
+      count = s.count;
+      quiet = λ later. left ∙ drop_all count (response acts) (omega (arith, ap length (s.quiet later)));
+      whole = s.whole;
+      unbegun = s.unbegun;
+      silent = s.silent;
+      told = s.told;
+      lost = s.lost;
+      said = rw left (read_said held.answering held.out (answers acts) (response acts) count few s.said);
     })

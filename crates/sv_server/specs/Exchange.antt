@@ -143,23 +143,29 @@ joined [] = []
 joined (answer ∷ []) = answer
 joined (answer ∷ other ∷ others) = answer ++ 59 ∷ joined (other ∷ others)
 
--- what finishing a message makes of the response before it
-abbrev pub response_after : List (List ℕ) → List ℕ → List ℕ
-response_after [] before = before
-response_after (answer ∷ others) before = joined (answer ∷ others) ++ 10 ∷ []
+-- whether there are answers
+abbrev pub is_answered : List (List ℕ) → Bool
+is_answered [] = false
+is_answered (answer ∷ others) = true
 
--- the answers of the last finished message that had any, joined and ended by a new line, without the bytes that were read since; none once interrupted
+-- the response as it was when it began: the answers of the last finished message that had any, joined and ended by a new line; none once interrupted
+abbrev pub whole_response : List ExchangeAct → List ℕ
+whole_response [] = []
+whole_response (Finished ∷ acts) = if is_answered (answers acts) then joined (answers acts) ++ 10 ∷ [] else whole_response acts
+whole_response (Interrupted ∷ acts) = []
+whole_response (_ ∷ acts) = whole_response acts
+
+-- how many bytes were read since it began, or was interrupted
+abbrev pub read_since : List ExchangeAct → ℕ
+read_since [] = 0
+read_since (Finished ∷ acts) = if is_answered (answers acts) then 0 else read_since acts
+read_since (Interrupted ∷ acts) = 0
+read_since (ResponseRead count ∷ acts) = read_since acts + count
+read_since (_ ∷ acts) = read_since acts
+
+-- what can be read: the response without the bytes that were read since it began
 abbrev pub response : List ExchangeAct → List ℕ
-response [] = []
-response (Finished ∷ acts) = response_after (answers acts) (response acts)
-response (Interrupted ∷ acts) = []
-response (ResponseRead count ∷ acts) = drop count (response acts)
-response (Accepted bytes ended ∷ acts) = response acts
-response (TextDropped ∷ acts) = response acts
-response (Overran ∷ acts) = response acts
-response (UnitDone ∷ acts) = response acts
-response (Answered answer ∷ acts) = response acts
-response (AnswersDropped ∷ acts) = response acts
+response acts = drop (read_since acts) (whole_response acts)
 
 -- what is due: an overlong message is told once; a unit starts, and where it is the first and a response stands, that is dropped before; else a
 -- message that has ended is finished
