@@ -66,9 +66,9 @@ one_end (suc n) (suc m) log a b x y = one_end n m (step_of log ++ log) a b x.1 y
 
 -- a history has at most one log
 pub one_log : OneLog
-one_log config [] a b x y = x ∙ sym y
+one_log config [] a b x y = x.1 ∙ sym y.1
 one_log config (event ∷ history) a b x y =
-    let before = sym (one_log config history x.0 y.0 x.2 y.2) in
-    let middle = sym (one_deed config event x.0 x.1 y.1 x.4 (subst (λ (log : List Act). Does config event log y.1) before y.4)) in
-    let settled = subst (λ (log : List Act). Settles log b) middle y.5 in
-    one_end x.5.0 settled.0 x.1 a b x.5.1 settled.1
+    let before = sym (one_log config history x.0 y.0 x.3 y.3) in
+    let middle = sym (one_deed config event x.0 x.1 y.1 x.5 (subst (λ (log : List Act). Does config event log y.1) before y.5)) in
+    let settled = subst (λ (log : List Act). Settles log b) middle y.6 in
+    one_end x.6.0 settled.0 x.1 a b x.6.1 settled.1

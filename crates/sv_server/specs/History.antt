@@ -12,7 +12,7 @@ use Rattle.sv_server.specs.declared.event.Did.{Did}
 use Rattle.sv_server.specs.declared.event.Did.TheVariants.{Done, Idle}
 use Rattle.sv_server.specs.declared.event.Refused.{Refused}
 use Rattle.sv_server.specs.declared.event.Refused.TheVariants.{NoMemory, ConnInUse, NoConn, NoRoom, NotSent, NoDial, NotRefusable, BadChannel, BadInput, TimeOver}
-use Rattle.sv_server.specs.Event.{Happening, Open, Bytes, Turn, Refuse, Took, Close, Dialed, Input, External, Tick}
+use Rattle.sv_server.specs.Event.{IsEvent, IsConfig, Happening, Open, Bytes, Turn, Refuse, Took, Close, Dialed, Input, External, Tick}
 use Rattle.sv_server.specs.Act.{Act, Opened, Piece, BytesTaken, PortClosed, Ticked, Linked, link_acts}
 use Rattle.sv_server.specs.Links.{closing, may_make}
 use Rattle.sv_server.specs.Arguments.{Arguments, CreateLink, DeviceWrite, DeviceRead, arguments_at}
@@ -80,10 +80,10 @@ Refuses config (Input channel microvolts) log refusal =
 Refuses config External log refusal = refusal ≡ None
 Refuses config Tick log refusal = refusal ≡ (if config.clock + ticks log == last_clock then Some TimeOver else None)
 
--- The log of a history: each event's own acts, and then the steps that are due.
+-- The log of a history: each event's own acts, and then the steps that are due. Each number of a history lies in its range.
 abbrev pub IsLogOf : Config → List Happening → List Act → Type 0
-IsLogOf config [] log = log ≡ []
-IsLogOf config (event ∷ history) log = (before middle : List Act) × IsLogOf config history before × Refuses config event before None
+IsLogOf config [] log = IsConfig config × (log ≡ [])
+IsLogOf config (event ∷ history) log = (before middle : List Act) × IsEvent event × IsLogOf config history before × Refuses config event before None
     × Does config event before middle × Settles middle log
 
 -- what an event that wasn't refused does: a Turn that finds no call to take is idle

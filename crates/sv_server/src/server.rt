@@ -3,7 +3,7 @@
 ghost use Rattle.std.specs.Prelude.{◌≡◌, ◌<◌, ◌≤◌, ℕ, List, [], length, slice_index_or, true, false, if◌then◌else◌, MatchOption, None, IfOk, OnErr};
 ghost use Rattle.sv_server.specs.Line.{Line as LineData, IsLine};
 ghost use Rattle.sv_server.specs.declared.event.Config.{Config};
-ghost use Rattle.sv_server.specs.Event.{Happening, Open, Bytes, Turn, Took, Close, Tick, plain};
+ghost use Rattle.sv_server.specs.Event.{Happening, Open, Bytes, Turn, Took, Close, Tick, plain, IsEvent};
 ghost use Rattle.sv_server.specs.History.{is_shut, IsLogOf, Answers, history_after};
 ghost use Rattle.sv_server.specs.Acting.{Acts, IsInput};
 ghost use Rattle.sv_server.specs.Act.{Act};
@@ -174,6 +174,7 @@ impl<A: Allocator> Server<A> {
 
     /// Takes in bytes of a connection.
     fn bytes(&mut self, conn: u8, piece: &[u8]) -> Result<Did, Refused>
+        ensures within { IsEvent (Bytes conn piece.now) }
         ensures acts { (log : List Act) → Represents self.old log → Acts self.old.config (Bytes conn piece.now) log result self.new }
         ensures err { OnErr result (self.new ≡ self.old) }
         ensures config { self.new.config ≡ self.old.config }
@@ -282,6 +283,7 @@ impl<A: Allocator> Server<A> {
 
     /// Does what an event asks for, but for the steps that follow it.
     fn act(&mut self, event: Event<'_>) -> Result<Did, Refused>
+        ensures within { IsEvent (plain event.entry) }
         ensures acts { (log : List Act) → Represents self.old log → Acts self.old.config (plain event.entry) log result self.new }
         ensures err { OnErr result (self.new ≡ self.old) }
         ensures config { self.new.config ≡ self.old.config }
