@@ -1,21 +1,20 @@
 -- A run goes from stage to stage.
-use Rattle.std.proofs.Common.{◌≡◌, ℕ, ◌+◌, ◌<◌, ◌≤◌, true, false, Bool, List, [], ◌∷◌, ◌++◌, length, take, drop, Option, Some, None, inl, inr, refl, sym, ap, subst, ◌∙◌, append_assoc, append-nil, arith}
+use Rattle.std.proofs.Common.{◌≡◌, ℕ, ◌+◌, ◌<◌, ◌≤◌, List, [], ◌∷◌, ◌++◌, length, Option, None, inl, inr, refl, sym, ap, ◌∙◌, append_assoc, append-nil, arith}
 use Rattle.std.specs.Prelude.{Result, Ok, Err, ⊤, IsErr, IsErrAnd}
 use Rattle.sv_server.specs.declared.replay.ReplayFault.{ReplayFault}
 use Rattle.sv_server.specs.declared.replay.ReplayFault.TheVariants.{NoMemory, Write}
 use Rattle.scanvolt.specs.Line.{Line, Says}
 use Rattle.std.proofs.lemmas.List.{length-append}
-use Rattle.std.specs.Io.KnownBytes.{Consumes, Appends, IsAtEnd}
+use Rattle.std.specs.Io.KnownBytes.{Appends}
 use Rattle.sv_server.specs.Event.{Happening}
 use Rattle.sv_server.specs.State.{State, StandsFor}
-use Rattle.sv_server.proofs.Taking.{appends_none, appends_then}
 use Rattle.scanvolt.specs.declared.fault.RunFault.{RunFault}
 use Rattle.scanvolt.specs.declared.fault.RunFault.TheVariants.{BadLine, Input, Output, Memory}
 use Rattle.scanvolt.specs.Text.{first_end}
-use Rattle.scanvolt.specs.Script.{parts, events_of, IsScript, Prints, Stops}
+use Rattle.scanvolt.specs.Script.{parts, events_of, Stops}
 use Rattle.scanvolt.specs.Run.{set_up, run_fault, Runs}
-use Rattle.scanvolt.specs.Stage.{IsStage, LineRuns, Goes}
-use Rattle.scanvolt.proofs.Parts.{parts_found, parts_none, parts_more}
+use Rattle.scanvolt.specs.Stage.{IsStage, LineRuns}
+use Rattle.scanvolt.proofs.Parts.{parts_none, parts_more}
 use Rattle.scanvolt.proofs.Printed.{script_push, prints_then, stops_then}
 
 -- at the start nothing was read or printed

@@ -1,5 +1,6 @@
 -- What a run prints of the text that it read, and what it answers.
-use Rattle.std.specs.Prelude.{◌≡◌, ◌⊎◌, ℕ, ◌+◌, List, [], ◌∷◌, ◌++◌, length, Result, Ok, Err, ⊤}
+use Rattle.std.specs.Prelude.{◌≡◌, ◌⊎◌, ℕ, ◌+◌, List, [], ◌∷◌, ◌++◌, length, codes, Bool, false, Option, Some, None, Result, Ok, Err, ⊤}
+use Rattle.std.specs.Str.{bytes_eq}
 use Rattle.sv_server.specs.declared.event.Config.{Config}
 use Rattle.sv_server.specs.declared.replay.ReplayFault.{ReplayFault}
 use Rattle.sv_server.specs.declared.replay.ReplayFault.TheVariants.{NoMemory, Write}
@@ -22,6 +23,12 @@ status (Run (BadLine n)) = 2
 status (Run Input) = 3
 status (Run Output) = 3
 status (Run Memory) = 3
+
+-- whether the words are the one word `replay`, by the first two of them
+abbrev pub is_replay : Option (List ℕ) → Option (List ℕ) → Bool
+is_replay (Some word) None = bytes_eq word (codes "replay")
+is_replay (Some word) (Some other) = false
+is_replay None other = false
 
 -- what the program's server is set up with
 abbrev pub set_up : Config

@@ -9,12 +9,14 @@ mod number;
 mod perform;
 mod run;
 mod text;
+mod words;
 
 use fault::{ProgramFault, RunFault};
 use run::run_replay;
 use std::env;
 use std::io::{self, BufWriter, Error, ErrorKind};
 use std::process::ExitCode;
+use words::is_replay;
 
 /// Runs the program: the one word `replay` stands for the replay of the standard input.
 fn main(rt: HostRuntime) -> ExitCode {
@@ -29,22 +31,21 @@ fn main(rt: HostRuntime) -> ExitCode {
 
 /// Reads the words, and does what they ask for.
 fn program(rt: &HostRuntime) -> Result<(), ProgramFault> {
-    if !is_replay(rt)? {
-        return Err(ProgramFault::BadWords);
-    }
+    read_words(rt)?;
     replay(rt)?;
     Ok(())
 }
 
-/// Whether the words of the command line are the one word `replay`.
-fn is_replay(rt: &HostRuntime) -> Result<bool, ProgramFault> {
+/// Reads the words, which have to be the one word `replay`.
+fn read_words(rt: &HostRuntime) -> Result<(), ProgramFault> {
     let mut words = env::args(rt).map_err(|error| words_fault(&error))?;
     let _program = words.next();
-    let is_first = match words.next() {
-        Some(word) => word.as_str() == "replay",
-        None => false,
-    };
-    Ok(is_first && words.next().is_none())
+    let (first, second) = (words.next(), words.next());
+    if is_replay(first.as_deref(), second.as_deref()) {
+        Ok(())
+    } else {
+        Err(ProgramFault::BadWords)
+    }
 }
 
 /// What is told where the words can't be read: memory was refused, or a word isn't text.

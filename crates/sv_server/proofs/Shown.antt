@@ -65,13 +65,14 @@ log_with_some port (byte ∷ bytes) log some = refl
 
 -- what is shown is taken
 pub stands_taken : (port : Port) (bytes : List ℕ) (config : Config) (history : List Happening) (log : List Act) (old new : State) (result : Result Did Refused) → StandsBy old config history log
-    → bytes ≡ waiting_on port log → 0 < length bytes → Acts old.config (Took port (length bytes)) log result new → new.config ≡ old.config
+    → bytes ≡ waiting_on port log → 0 < length bytes → length bytes ≤ 16384 → Acts old.config (Took port (length bytes)) log result new → new.config ≡ old.config
     → StandsBy new config (with_took port (waiting_on port log) history) (log_with_took port (waiting_on port log) log)
-stands_taken (Intr c) bytes config history log old new result s is some acts same = absurd (omega (arith, ap (λ (l : List ℕ). length l) is))
-stands_taken (Conn c) bytes config history log old new result (set_up, is_log, rep, settled) is some acts same =
+stands_taken (Intr c) bytes config history log old new result s is some few acts same = absurd (omega (arith, ap (λ (l : List ℕ). length l) is))
+stands_taken (Conn c) bytes config history log old new result (set_up, is_log, rep, settled) is some few acts same =
     let some_wait : 0 < length (waiting_on (Conn c) log) = rw (← is) some in
     let o = waits_open c log some_wait in
-    let none = took_free c (length bytes) config log (waits_within c old log rep o) o (ap (λ (l : List ℕ). length l) is) in
+    let within = waits_within c old log rep o in
+    let none = took_free c (length bytes) config log within o (ap (λ (l : List ℕ). length l) is) in
     let new_rep = took_done c (length bytes) config log result new none (subst (λ (k : Config). Acts k (Took (Conn c) (length bytes)) log result new) set_up acts) in
     rw (with_some (Conn c) (waiting_on (Conn c) log) history some_wait, log_with_some (Conn c) (waiting_on (Conn c) log) log some_wait, ← is)
-        (same ∙ set_up, (log, BytesTaken (Conn c) (length bytes) ∷ log, is_log, none, refl, (0, (settled, refl))), new_rep, settled)
+        (same ∙ set_up, (log, BytesTaken (Conn c) (length bytes) ∷ log, (omega (arith, within), omega arith), is_log, none, refl, (0, (settled, refl))), new_rep, settled)
