@@ -36,7 +36,10 @@ struct Run<A: Allocator> {
 }
 
 /// Runs the replay that the reader gives, onto the writer. Before each read the writer is flushed,
-/// so that whoever waits for an answer before more is sent gets it.
+/// so that whoever waits for an answer before more is sent gets it. What was printed before a fault
+/// stays: `BadLine` at the first line that isn't one of a replay, `Input` where the reader failed or
+/// was read 4,294,967,294 times, `Output` where the writer failed, and `Memory` where memory was
+/// refused at the start or to an event.
 pub fn run_replay<A: Allocator + Copy, R: Read, W: Write>(
     alloc: A,
     reader: &mut R,

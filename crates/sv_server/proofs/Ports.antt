@@ -106,9 +106,7 @@ so_far_stop config history log n old new text first mid last e (Err f) within (i
     let (part, more, (front, stands)) = shows (with_tooks (first_ports n) log history) now s in
     let here : waiting_on (port_of n) now ≡ waiting_on (port_of n) log = same n (omega arith) in
     let (others, split) = ports_split n within in
-    let whole : lines_of ports log ≡ (text ++ part) ++ (front.0 ++ lines_of others log) =
-    ap (λ (ps : List Port). lines_of ps log) split ∙ lines-append (first_ports n) (port_of n ∷ others) log
-    ∙ ap (λ (l : List ℕ). l ++ (port_line (port_of n) (waiting_on (port_of n) log) ++ lines_of others log)) (sym is)
-    ∙ ap (λ (l : List ℕ). text ++ (l ++ lines_of others log)) (sym (ap (port_line (port_of n)) here) ∙ front.1)
-    ∙ ap (λ (l : List ℕ). text ++ l) (append_assoc part front.0 (lines_of others log)) ∙ sym (append_assoc text part (front.0 ++ lines_of others log)) in
-    (text ++ part, appends_then first mid last text part put more, ((front.0 ++ lines_of others log, whole), first_ports n, port_of n ∷ others, split, now, stands))
+    let behind : lines_of (port_of n ∷ others) log ≡ part ++ (front.0 ++ lines_of others log) =
+    ap (λ (l : List ℕ). l ++ lines_of others log) (sym (ap (port_line (port_of n)) here) ∙ front.1) ∙ append_assoc part front.0 (lines_of others log) in
+    (text ++ part, appends_then first mid last text part put more,
+      (first_ports n, port_of n ∷ others, part, split, (front.0 ++ lines_of others log, behind), ap (λ (l : List ℕ). l ++ part) is, now, stands))

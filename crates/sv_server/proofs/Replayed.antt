@@ -1,5 +1,5 @@
 -- The replay of an event is its refusal's line, and then the lines of the ports.
-use Rattle.std.proofs.Common.{◌≡◌, ◌≢◌, ℕ, true, false, List, [], ◌++◌, Option, refl, sym, ap, subst, ◌∙◌, append_assoc, append-nil}
+use Rattle.std.proofs.Common.{◌≡◌, ◌≢◌, ℕ, true, false, List, ◌++◌, Option, refl, sym, ap, inl, inr, subst, ◌∙◌, append-nil}
 use Rattle.std.specs.Prelude.{Result, Ok, Err, ⊤, IsErr, IsErrAnd}
 use Rattle.std.specs.Io.KnownBytes.{Appends}
 use Rattle.sv_server.specs.declared.event.Config.{Config}
@@ -14,7 +14,7 @@ use Rattle.sv_server.specs.Act.{Act}
 use Rattle.sv_server.specs.History.{IsLogOf, Answers, history_after}
 use Rattle.sv_server.specs.State.{State, StandsFor}
 use Rattle.sv_server.specs.Written.{Takes}
-use Rattle.sv_server.specs.Print.{ports, ports_after, with_tooks, head_of, lines_of, refusal_line, is_no_memory}
+use Rattle.sv_server.specs.Print.{ports, ports_after, with_tooks, head_of, refusal_line, is_no_memory}
 use Rattle.sv_server.specs.Replay.{Writes, Replays}
 use Rattle.sv_server.specs.Showing.{StandsBy, ShowsAll}
 use Rattle.sv_server.proofs.Taking.{appends_then}
@@ -42,9 +42,9 @@ writes_all : (did : Result Did Refused) (log : List Act) (history : List Happeni
     → (after : List Happening) × (now : List Act) × Writes did log history fault (head ++ text) after × StandsBy new config after now
 writes_all did log history (Ok all) fault config new head text some shown is told (lines, now, stands) =
     (with_tooks ports log history, now, rw (told, is, lines, shown) (some, refl, refl), stands)
-writes_all did log history (Err e) fault config new head text some shown is told (front, first, others, split, now, stands) =
+writes_all did log history (Err e) fault config new head text some shown is told (first, others, part, split, front, lines, now, stands) =
     (with_tooks first log history, now,
-      rw (told, is, shown) ((front.0, ap (λ (l : List ℕ). head_of did ++ l) front.1 ∙ sym (append_assoc (head_of did) text front.0)), first, others, split, refl), stands)
+      rw told (inr (first, others, part, shown ∙ split, front, ap (λ (l : List ℕ). l ++ text) is ∙ ap (λ (l : List ℕ). head_of did ++ l) lines, refl)), stands)
 
 pub replay_shown : (config : Config) (history : List Happening) (event : Happening) (did : Result Did Refused) (mid new : State) (head : List ℕ) (first put last : Option (List ℕ)) (r : Result ⊤ WriteFault)
     (fault : Result ⊤ ReplayFault) → did ≢ Err refused.NoMemory → ports_after did ≡ ports → head ≡ head_of did → Told r fault → AnswersNow config history event did
@@ -70,8 +70,7 @@ replay_stopped config history event refusal mid first last e fault told answers 
         answers = answers.2;
         log = s.log;
         is_log = s.is_log;
-        writes = rw told ((front.0 ++ lines_of (ports_after (Err refusal)) s.log, ap (λ (l : List ℕ). l ++ lines_of (ports_after (Err refusal)) s.log) front.1 ∙ append_assoc part front.0 _),
-          [], ports_after (Err refusal), refl, refl);
+        writes = rw told (inl (front, refl));
       },
       s, begun)
 

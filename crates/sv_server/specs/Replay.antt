@@ -1,5 +1,5 @@
 -- What the replay of an event writes and leaves.
-use Rattle.std.specs.Prelude.{◌≡◌, ◌≢◌, ℕ, List, ◌++◌, Result, Ok, Err, ⊤}
+use Rattle.std.specs.Prelude.{◌≡◌, ◌≢◌, ◌⊎◌, ℕ, List, ◌++◌, Result, Ok, Err, ⊤}
 use Rattle.sv_server.specs.declared.event.Config.{Config}
 use Rattle.sv_server.specs.declared.event.Port.{Port}
 use Rattle.sv_server.specs.declared.event.Did.{Did}
@@ -10,16 +10,17 @@ use Rattle.sv_server.specs.declared.replay.ReplayFault.TheVariants.{NoMemory, Wr
 use Rattle.sv_server.specs.Event.{Happening}
 use Rattle.sv_server.specs.Act.{Act}
 use Rattle.sv_server.specs.History.{IsLogOf, Answers, history_after}
-use Rattle.sv_server.specs.Print.{ports_after, with_tooks, print_of}
+use Rattle.sv_server.specs.Print.{head_of, ports_after, lines_of, with_tooks, print_of}
 use Rattle.sv_server.specs.Written.{IsFront}
 
--- The print was written, and then the peer took all that it shows; where memory was refused the print is that alone; where the writer failed, a front
--- of the print was written, and the peer took what some of the first ports show.
+-- The print was written, and then the peer took all that it shows; where memory was refused the print is that alone. Where the writer failed, it failed
+-- in the refusal's line; or the lines of some first ports were written, and the peer took what they show, and of the others' lines a front was written.
 abbrev pub Writes : Result Did Refused → List Act → List Happening → Result ⊤ ReplayFault → List ℕ → List Happening → Type 0
 Writes did log history (Ok all) text after = (did ≢ Err refused.NoMemory) × (text ≡ print_of did log) × (after ≡ with_tooks (ports_after did) log history)
 Writes did log history (Err NoMemory) text after = (did ≡ Err refused.NoMemory) × (text ≡ print_of did log) × (after ≡ history)
-Writes did log history (Err Write) text after = IsFront text (print_of did log)
-    × (shown others : List Port) × (ports_after did ≡ shown ++ others) × (after ≡ with_tooks shown log history)
+Writes did log history (Err Write) text after = (IsFront text (head_of did) × (after ≡ history))
+    ⊎ ((shown others : List Port) × (part : List ℕ) × (ports_after did ≡ shown ++ others) × IsFront part (lines_of others log)
+    × (text ≡ head_of did ++ (lines_of shown log ++ part)) × (after ≡ with_tooks shown log history))
 
 -- The event is done or refused, as the history says, and then its print is written, by the log of the history that this leaves.
 pub record Replays (config : Config) (history : List Happening) (event : Happening) (result : Result ⊤ ReplayFault) (text : List ℕ) (after : List Happening) : Type 0 where

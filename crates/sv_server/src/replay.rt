@@ -41,8 +41,10 @@ impl From<WriteFault> for ReplayFault {
 }
 
 impl<A: Allocator> Server<A> {
-    /// Applies an event and writes what follows from it: the refusal's number, and then a line for
-    /// each port on which bytes wait, which are taken.
+    /// Applies an event and writes what follows from it: `refused` and the number of the refusal, if
+    /// it was refused, and then a line for each port on which bytes wait, which the peer takes.
+    /// Where memory was refused, it writes `refused 1` alone and answers `NoMemory`; where the writer
+    /// failed, `Write`, and nothing is taken that wasn't written.
     pub fn replay<W: Write>(
         &mut self,
         event: Event<'_>,
