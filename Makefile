@@ -1,7 +1,7 @@
 # What can be done here; the README says what each proves and how long it takes.
 RT ?= rt
 
-.PHONY: test check
+.PHONY: test check scanvolt run bench
 
 # Proves every crate and its tests from nothing, tries the must-fail edits, and runs the tests.
 test:
@@ -10,3 +10,15 @@ test:
 # Proves every crate over what earlier checks kept, lowest first.
 check:
 	@$(RT) all check
+
+# Proves the program over what earlier checks kept, and leaves it at crates/scanvolt/out/scanvolt.
+scanvolt:
+	@cd crates/scanvolt && $(RT) run -- replay < ../../examples/identity.replay > /dev/null
+
+# Replays the stored script with the program, built with run-time checks and no proof.
+run:
+	@cd crates/scanvolt && $(RT) try -- replay < ../../examples/identity.replay
+
+# Proves the program as above and measures it: its speed and memory, and what they are to be.
+bench: scanvolt
+	@bench/run crates/scanvolt/out/scanvolt
