@@ -51,35 +51,55 @@ pub go_line_stop : (old new : State) (left line rest : List ℕ) (len number nex
     → Going old new left rest number last_number reader reader first last result
 go_line_stop old new left line rest len number next last_number reader first last fault result found cut up failed is does read text stage =
     let whole : parts left ≡ line ∷ parts (drop (len + 1) left) = parts_found left len found ∙ ap (λ (l : List ℕ). l ∷ parts (drop (len + 1) left)) (sym cut) in
-    let (other, put, runs) = stage_stop old new left line _ number next fault read text first last whole up stage does in
-    ([], other, consumes_none reader, put,
-      goes_err new rest last_number reader fault result (read ++ []) (text ++ other) failed is (still (λ r. Runs r (Err fault) (text ++ other)) read [] refl runs))
+    let (other, put, runs) = stage_stop old new left line _ number next fault read text first last whole up stage does in (
+      [],
+      other,
+      consumes_none reader,
+      put,
+      goes_err new rest last_number reader fault result (read ++ []) (text ++ other) failed is (still (λ r. Runs r (Err fault) (text ++ other)) read [] refl runs),
+    )
 
 pub go_long : (old : State) (left : List ℕ) (number next : ℕ) (reader first : Option (List ℕ)) → first_end left ≡ None → 65536 < length left → next ≡ number + 1
     → Going old old left left number number reader reader first first (Err (BadLine next))
-go_long old left number next reader first none long up read text stage =
-    ([], [], consumes_none reader, appends_none first,
-      still (λ r. Runs r (Err (BadLine next)) (text ++ [])) read [] refl (still (λ t. Runs read (Err (BadLine next)) t) text [] refl (stage_long old left number next read text none long up stage)))
+go_long old left number next reader first none long up read text stage = (
+  [],
+  [],
+  consumes_none reader,
+  appends_none first,
+  still (λ r. Runs r (Err (BadLine next)) (text ++ [])) read [] refl (still (λ t. Runs read (Err (BadLine next)) t) text [] refl (stage_long old left number next read text none long up stage)),
+)
 
 pub go_output : (old : State) (left : List ℕ) (number : ℕ) (reader first last : Option (List ℕ)) (fault : RunFault) (result : Result Bool RunFault) → Keeps first last → fault ≡ Output
     → IsErr result → IsErrAnd result (λ e. e ≡ fault) → Going old old left left number number reader reader first last result
-go_output old left number reader first last fault result kept told failed is read text stage =
-    ([], [], consumes_none reader, appends_keeps first first last [] (appends_none first) kept,
-      goes_err old left number reader fault result (read ++ []) (text ++ []) failed is
-          (rw told (still (λ r. Runs r (Err Output) (text ++ [])) read [] refl (still (λ t. Runs read (Err Output) t) text [] refl (stage_output old left number read text stage)))))
+go_output old left number reader first last fault result kept told failed is read text stage = (
+  [],
+  [],
+  consumes_none reader,
+  appends_keeps first first last [] (appends_none first) kept,
+  goes_err old left number reader fault result (read ++ []) (text ++ []) failed is
+      (rw told (still (λ r. Runs r (Err Output) (text ++ [])) read [] refl (still (λ t. Runs read (Err Output) t) text [] refl (stage_output old left number read text stage)))),
+)
 
 pub go_input : (old : State) (left rest more : List ℕ) (number : ℕ) (reader after first last : Option (List ℕ)) (result : Result Bool RunFault) → first_end left ≡ None → Keeps first last → Consumes reader after more → more ≡ []
     → IsErr result → IsErrAnd result (λ e. e ≡ Input) → Going old old left rest number number reader after first last result
-go_input old left rest more number reader after first last result none kept took given failed is read text stage =
-    (more, [], took, appends_keeps first first last [] (appends_none first) kept,
-      goes_err old rest number after Input result (read ++ more) (text ++ []) failed is
-          (still (λ r. Runs r (Err Input) (text ++ [])) read more given (still (λ t. Runs read (Err Input) t) text [] refl (stage_input old left number read text none stage))))
+go_input old left rest more number reader after first last result none kept took given failed is read text stage = (
+  more,
+  [],
+  took,
+  appends_keeps first first last [] (appends_none first) kept,
+  goes_err old rest number after Input result (read ++ more) (text ++ []) failed is
+      (still (λ r. Runs r (Err Input) (text ++ [])) read more given (still (λ t. Runs read (Err Input) t) text [] refl (stage_input old left number read text none stage))),
+)
 
 pub go_read : (old : State) (left rest more : List ℕ) (number : ℕ) (reader after first last : Option (List ℕ)) → Keeps first last → Consumes reader after more → rest ≡ left ++ more
     → Going old old left rest number number reader after first last (Ok true)
-go_read old left rest more number reader after first last kept took is read text stage =
-    (more, [], took, appends_keeps first first last [] (appends_none first) kept,
-      rw is (still (λ t. IsStage old (left ++ more) number (read ++ more) t) text [] refl (stage_read old left number read text more stage)))
+go_read old left rest more number reader after first last kept took is read text stage = (
+  more,
+  [],
+  took,
+  appends_keeps first first last [] (appends_none first) kept,
+  rw is (still (λ t. IsStage old (left ++ more) number (read ++ more) t) text [] refl (stage_read old left number read text more stage)),
+)
 
 -- the last line is all that is left
 last_line : (left more rest line : List ℕ) → first_end left ≡ None → rest ≡ left ++ more → more ≡ [] → line ≡ take (length rest) rest → parts left ≡ line ∷ []
@@ -91,17 +111,25 @@ pub go_last_stop : (old new : State) (left rest line more : List ℕ) (number ne
     → rest ≡ left ++ more → more ≡ [] → line ≡ take (length rest) rest → next ≡ number + 1 → Consumes reader after more → Keeps first mid → IsErr result → IsErrAnd result (λ e. e ≡ fault)
     → LineDone old new line next (Err fault) mid last → Going old new left rest number last_number reader after first last result
 go_last_stop old new left rest line more number next last_number reader after first mid last fault result none is given cut up took kept failed told does read text stage =
-    let (other, put, runs) = stage_stop old new left line [] number next fault read text mid last (last_line left more rest line none is given cut) up stage does in
-    (more, other, took, keeps_appends first mid last other kept put,
-      goes_err new rest last_number after fault result (read ++ more) (text ++ other) failed told (still (λ r. Runs r (Err fault) (text ++ other)) read more given runs))
+    let (other, put, runs) = stage_stop old new left line [] number next fault read text mid last (last_line left more rest line none is given cut) up stage does in (
+      more,
+      other,
+      took,
+      keeps_appends first mid last other kept put,
+      goes_err new rest last_number after fault result (read ++ more) (text ++ other) failed told (still (λ r. Runs r (Err fault) (text ++ other)) read more given runs),
+    )
 
 pub go_last_output : (old new : State) (left rest line more : List ℕ) (number next last_number : ℕ) (reader after first mid put_to last : Option (List ℕ)) (fault : RunFault) (result : Result Bool RunFault) → first_end left ≡ None
     → rest ≡ left ++ more → more ≡ [] → line ≡ take (length rest) rest → Consumes reader after more → Keeps first mid → Keeps put_to last → fault ≡ Output → IsErr result → IsErrAnd result (λ e. e ≡ fault)
     → LineDone old new line next (Ok tt) mid put_to → Going old new left rest number last_number reader after first last result
 go_last_output old new left rest line more number next last_number reader after first mid put_to last fault result none is given cut took kept flushed told failed passed does read text stage =
-    let (other, put, runs) = stage_last old new left line number next read text mid put_to (last_line left more rest line none is given cut) stage does in
-    (more, other, took, appends_keeps first put_to last other (keeps_appends first mid put_to other kept put) flushed,
-      goes_err new rest last_number after fault result (read ++ more) (text ++ other) failed passed (rw told (still (λ r. Runs r (Err Output) (text ++ other)) read more given (all_output read (text ++ other) runs))))
+    let (other, put, runs) = stage_last old new left line number next read text mid put_to (last_line left more rest line none is given cut) stage does in (
+      more,
+      other,
+      took,
+      appends_keeps first put_to last other (keeps_appends first mid put_to other kept put) flushed,
+      goes_err new rest last_number after fault result (read ++ more) (text ++ other) failed passed (rw told (still (λ r. Runs r (Err Output) (text ++ other)) read more given (all_output read (text ++ other) runs))),
+    )
 
 pub go_last : (old new : State) (left rest line more : List ℕ) (number next last_number : ℕ) (reader after first mid put_to last : Option (List ℕ)) → first_end left ≡ None → rest ≡ left ++ more → more ≡ []
     → line ≡ take (length rest) rest → Consumes reader after more → IsAtEnd after → Keeps first mid → Keeps put_to last → LineDone old new line next (Ok tt) mid put_to
@@ -122,9 +150,13 @@ SoFar reader after first last fact = (read text : List ℕ) × Consumes reader a
 
 pub so_far_start : (server : State) (left : List ℕ) (number : ℕ) (reader first : Option (List ℕ)) → StandsFor server set_up [] → left ≡ [] → number ≡ 0
     → SoFar reader reader first first (λ read text. IsStage server left number read text)
-so_far_start server left number reader first s none zero_lines =
-    ([], [], consumes_none reader, appends_none first,
-      subst (λ (l : List ℕ). IsStage server l number [] []) (sym none) (subst (λ (n : ℕ). IsStage server [] n [] []) (sym zero_lines) (stage_start server s)))
+so_far_start server left number reader first s none zero_lines = (
+  [],
+  [],
+  consumes_none reader,
+  appends_none first,
+  subst (λ (l : List ℕ). IsStage server l number [] []) (sym none) (subst (λ (n : ℕ). IsStage server [] n [] []) (sym zero_lines) (stage_start server s)),
+)
 
 -- one turn more
 pub so_far_turn : (old new : State) (left rest : List ℕ) (number next : ℕ) (reader middle after first mid last : Option (List ℕ)) (result : Result Bool RunFault)

@@ -32,10 +32,10 @@ parts_open (b ∷ text) h = here (b == 10) (parts_open text) h
 -- by the place of the first new line
 found_is : (text : List ℕ) (len : ℕ) → first_end text ≡ Some len → (line_size text ≡ len) × (len < length text)
 found_is text len e = elim (cases_lt (line_size text) (length text)) [
-      inl less ↦ (let same : Some (line_size text) ≡ Some len = sym (ap (λ (b : Bool). cond b (Some (line_size text)) None) (lt-ltb (line_size text) (length text) less)) ∙ e in
-        let is : line_size text ≡ len = ap (λ (o : Option ℕ). unwrap_or o 0) same in (is, omega arith))
-    | inr more ↦ absurd (let z : None ≡ Some len = sym (ap (λ (b : Bool). cond b (Some (line_size text)) None) (le-ltb (line_size text) (length text) more)) ∙ e in cc)
-    ]
+  | inl less ↦ (let same : Some (line_size text) ≡ Some len = sym (ap (λ (b : Bool). cond b (Some (line_size text)) None) (lt-ltb (line_size text) (length text) less)) ∙ e in
+      let is : line_size text ≡ len = ap (λ (o : Option ℕ). unwrap_or o 0) same in (is, omega arith))
+  | inr more ↦ absurd (let z : None ≡ Some len = sym (ap (λ (b : Bool). cond b (Some (line_size text)) None) (le-ltb (line_size text) (length text) more)) ∙ e in cc)
+]
 
 pub parts_found : (text : List ℕ) (len : ℕ) → first_end text ≡ Some len → parts text ≡ take len text ∷ parts (drop (len + 1) text)
 parts_found text len e =
@@ -47,9 +47,9 @@ found_within text len e = let (is, less) = found_is text len e in less
 
 pub parts_none : (text : List ℕ) → first_end text ≡ None → parts text ≡ text ∷ []
 parts_none text e = elim (cases_lt (line_size text) (length text)) [
-      inl less ↦ absurd (let z : Some (line_size text) ≡ None = sym (ap (λ (b : Bool). cond b (Some (line_size text)) None) (lt-ltb (line_size text) (length text) less)) ∙ e in cc)
-    | inr more ↦ parts_open text (omega (arith, prefix_len-le-length (λ b. not (b == 10)) text))
-    ]
+  | inl less ↦ absurd (let z : Some (line_size text) ≡ None = sym (ap (λ (b : Bool). cond b (Some (line_size text)) None) (lt-ltb (line_size text) (length text) less)) ∙ e in cc)
+  | inr more ↦ parts_open text (omega (arith, prefix_len-le-length (λ b. not (b == 10)) text))
+]
 
 -- a text has a first part
 parts_some : (text : List ℕ) → (first : List ℕ) × (others : List (List ℕ)) × (parts text ≡ first ∷ others)

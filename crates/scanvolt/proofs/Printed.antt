@@ -12,9 +12,14 @@ use Rattle.scanvolt.specs.Script.{events_of, IsScript, Prints, Stops, Performs}
 pub script_push : (lines : List (List ℕ)) (events : List Happening) (line : List ℕ) (said : Line) → IsScript lines events → length line ≤ 65536 → Says line said
     → IsScript (lines ++ line ∷ []) (events ++ events_of said)
 script_push [] events line said is short says = (said, [], short, says, refl, ap (λ (es : List Happening). es ++ events_of said) is ∙ sym (append-nil (events_of said)))
-script_push (first ∷ lines) events line said (first_said, others, first_short, first_says, rest, is) short says =
-    (first_said, others ++ events_of said, first_short, first_says, script_push lines others line said rest short says,
-      ap (λ (es : List Happening). es ++ events_of said) is ∙ append_assoc (events_of first_said) others (events_of said))
+script_push (first ∷ lines) events line said (first_said, others, first_short, first_says, rest, is) short says = (
+  first_said,
+  others ++ events_of said,
+  first_short,
+  first_says,
+  script_push lines others line said rest short says,
+  ap (λ (es : List Happening). es ++ events_of said) is ∙ append_assoc (events_of first_said) others (events_of said),
+)
 
 pub prints_then : (config : Config) (history : List Happening) (events more : List Happening) (text other : List ℕ) (middle after : List Happening) → Prints config history events text middle
     → Prints config middle more other after → Prints config history (events ++ more) (text ++ other) after
@@ -32,9 +37,18 @@ stops_one config history event others fault text after replays = ([], others, ev
 
 pub stops_then : (config : Config) (history : List Happening) (events more : List Happening) (fault : ReplayFault) (text other : List ℕ) (middle after : List Happening) → Prints config history events text middle
     → Stops config middle more fault other after → Stops config history (events ++ more) fault (text ++ other) after
-stops_then config history events more fault text other middle after first (done, others, event, split, front, last, next, prints, replays, is) =
-    (events ++ done, others, event, ap (λ (es : List Happening). events ++ es) split ∙ sym (append_assoc events done (event ∷ others)), text ++ front, last, next,
-      prints_then config history events done text front middle next first prints, replays, ap (λ (l : List ℕ). text ++ l) is ∙ sym (append_assoc text front last))
+stops_then config history events more fault text other middle after first (done, others, event, split, front, last, next, prints, replays, is) = (
+  events ++ done,
+  others,
+  event,
+  ap (λ (es : List Happening). events ++ es) split ∙ sym (append_assoc events done (event ∷ others)),
+  text ++ front,
+  last,
+  next,
+  prints_then config history events done text front middle next first prints,
+  replays,
+  ap (λ (l : List ℕ). text ++ l) is ∙ sym (append_assoc text front last),
+)
 
 -- the ticks around one of them
 replicate_split : (i n : ℕ) → i < n → (others : List Happening) × (replicate n Tick ≡ replicate i Tick ++ Tick ∷ others)

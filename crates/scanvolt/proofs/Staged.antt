@@ -30,37 +30,77 @@ LineDone old new line number result first last = (history : List Happening) → 
 pub stage_line : (old new : State) (left rest line : List ℕ) (number next : ℕ) (read text : List ℕ) (first last : Option (List ℕ)) → parts left ≡ line ∷ parts rest → next ≡ number + 1
     → IsStage old left number read text → LineDone old new line next (Ok tt) first last → (other : List ℕ) × Appends first last other × IsStage new rest next read (text ++ other)
 stage_line old new left rest line number next read text first last cut up (lines, events, history, is, count, script, prints, stands) does =
-    let (other, after, (said, short, says, more), now, put) = does history stands in
-    (other, put, (lines ++ line ∷ [], events ++ events_of said, after,
-      is ∙ ap (λ (ps : List (List ℕ)). lines ++ ps) cut ∙ sym (append_assoc lines (line ∷ []) (parts rest)),
-      omega (arith, length-append lines (line ∷ [])), script_push lines events line said script short says,
-      prints_then set_up [] events (events_of said) text other history after prints more, now))
+    let (other, after, (said, short, says, more), now, put) = does history stands in (
+      other,
+      put,
+      (
+        lines ++ line ∷ [],
+        events ++ events_of said,
+        after,
+        is ∙ ap (λ (ps : List (List ℕ)). lines ++ ps) cut ∙ sym (append_assoc lines (line ∷ []) (parts rest)),
+        omega (arith, length-append lines (line ∷ [])),
+        script_push lines events line said script short says,
+        prints_then set_up [] events (events_of said) text other history after prints more,
+        now,
+      ),
+    )
 
 -- the last line was done
 pub stage_last : (old new : State) (left line : List ℕ) (number next : ℕ) (read text : List ℕ) (first last : Option (List ℕ)) → parts left ≡ line ∷ []
     → IsStage old left number read text → LineDone old new line next (Ok tt) first last → (other : List ℕ) × Appends first last other × Runs read (Ok tt) (text ++ other)
 stage_last old new left line number next read text first last cut (lines, events, history, is, count, script, prints, stands) does =
-    let (other, after, (said, short, says, more), now, put) = does history stands in
-    (other, put, (events ++ events_of said, after, rw (is, cut) (script_push lines events line said script short says),
-      prints_then set_up [] events (events_of said) text other history after prints more))
+    let (other, after, (said, short, says, more), now, put) = does history stands in (
+      other,
+      put,
+      (
+        events ++ events_of said,
+        after,
+        rw (is, cut) (script_push lines events line said script short says),
+        prints_then set_up [] events (events_of said) text other history after prints more,
+      ),
+    )
 
 -- a line stopped the run
 pub stage_stop : (old new : State) (left line : List ℕ) (behind : List (List ℕ)) (number next : ℕ) (fault : RunFault) (read text : List ℕ) (first last : Option (List ℕ)) → parts left ≡ line ∷ behind
     → next ≡ number + 1 → IsStage old left number read text → LineDone old new line next (Err fault) first last → (other : List ℕ) × Appends first last other × Runs read (Err fault) (text ++ other)
 stage_stop old new left line behind number next (BadLine n) read text first last cut up (lines, events, history, is, count, script, prints, stands) does =
-    let (other, after, (at, bad, none), now, put) = does history stands in
-    (other, put, (lines, behind, line, is ∙ ap (λ (ps : List (List ℕ)). lines ++ ps) cut, at ∙ up ∙ ap (λ (m : ℕ). m + 1) count, bad,
-      (events, history, script, rw (none, append-nil text) prints)))
+    let (other, after, (at, bad, none), now, put) = does history stands in (
+      other,
+      put,
+      (
+        lines,
+        behind,
+        line,
+        is ∙ ap (λ (ps : List (List ℕ)). lines ++ ps) cut,
+        at ∙ up ∙ ap (λ (m : ℕ). m + 1) count,
+        bad,
+        (events, history, script, rw (none, append-nil text) prints),
+      ),
+    )
 stage_stop old new left line behind number next Input read text first last cut up (lines, events, history, is, count, script, prints, stands) does =
     let (other, after, impossible, now, put) = does history stands in elim impossible [ ]
 stage_stop old new left line behind number next Output read text first last cut up (lines, events, history, is, count, script, prints, stands) does =
-    let (other, after, (said, short, says, stops), now, put) = does history stands in
-    (other, put, (lines ++ line ∷ [], behind, is ∙ ap (λ (ps : List (List ℕ)). lines ++ ps) cut ∙ sym (append_assoc lines (line ∷ []) behind),
-      inr (events ++ events_of said, after, script_push lines events line said script short says, stops_then set_up [] events (events_of said) _ text other history after prints stops)))
+    let (other, after, (said, short, says, stops), now, put) = does history stands in (
+      other,
+      put,
+      (
+        lines ++ line ∷ [],
+        behind,
+        is ∙ ap (λ (ps : List (List ℕ)). lines ++ ps) cut ∙ sym (append_assoc lines (line ∷ []) behind),
+        inr (events ++ events_of said, after, script_push lines events line said script short says, stops_then set_up [] events (events_of said) _ text other history after prints stops),
+      ),
+    )
 stage_stop old new left line behind number next Memory read text first last cut up (lines, events, history, is, count, script, prints, stands) does =
-    let (other, after, (said, short, says, stops), now, put) = does history stands in
-    (other, put, inr (lines ++ line ∷ [], behind, is ∙ ap (λ (ps : List (List ℕ)). lines ++ ps) cut ∙ sym (append_assoc lines (line ∷ []) behind),
-      (events ++ events_of said, after, script_push lines events line said script short says, stops_then set_up [] events (events_of said) _ text other history after prints stops)))
+    let (other, after, (said, short, says, stops), now, put) = does history stands in (
+      other,
+      put,
+      inr (
+        lines ++ line ∷ [],
+        behind,
+        is ∙ ap (λ (ps : List (List ℕ)). lines ++ ps) cut ∙ sym (append_assoc lines (line ∷ []) behind),
+        (events ++ events_of said, after, script_push lines events line said script short says, stops_then set_up [] events (events_of said) _ text other history after prints stops),
+      ),
+    )
 
 -- more was read
 pub stage_read : (server : State) (left : List ℕ) (number : ℕ) (read text more : List ℕ) → IsStage server left number read text → IsStage server (left ++ more) number (read ++ more) text

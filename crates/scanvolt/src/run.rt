@@ -117,7 +117,13 @@ impl<A: Allocator> Run<A> {
         match self.text.whole_line() {
             Some(len) => {
                 let line = self.text.front(len);
-                do_line(&mut self.server, line, self.lines + 1, &mut self.bytes, writer)?;
+                do_line(
+                    &mut self.server,
+                    line,
+                    self.lines + 1,
+                    &mut self.bytes,
+                    writer,
+                )?;
                 self.lines += 1;
                 self.text.drop_front(len + 1);
                 Ok(true)
@@ -148,7 +154,13 @@ impl<A: Allocator> Run<A> {
             return Ok(true);
         }
         let line = self.text.front(self.text.len());
-        do_line(&mut self.server, line, self.lines + 1, &mut self.bytes, writer)?;
+        do_line(
+            &mut self.server,
+            line,
+            self.lines + 1,
+            &mut self.bytes,
+            writer,
+        )?;
         flush(writer)?;
         Ok(false)
     }

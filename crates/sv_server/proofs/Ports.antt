@@ -47,9 +47,9 @@ tooks_more n log history = ap (λ (ps : List Port). with_tooks ps log history) (
 below_split : (k n : ℕ) → n < k → (others : List ℕ) × (below k ≡ below n ++ n ∷ others)
 below_split zero n h = absurd (omega arith)
 below_split (suc k) n h = elim (cases_lt n k) [
-      inl less ↦ (let (others, e) = below_split k n less in (others ++ k ∷ [], ap (λ (l : List ℕ). l ++ k ∷ []) e ∙ append_assoc (below n) (n ∷ others) (k ∷ [])))
-    | inr more ↦ (let same : k ≡ n = omega arith in ([], ap (λ (m : ℕ). below m ++ m ∷ []) same))
-    ]
+  | inl less ↦ (let (others, e) = below_split k n less in (others ++ k ∷ [], ap (λ (l : List ℕ). l ++ k ∷ []) e ∙ append_assoc (below n) (n ∷ others) (k ∷ [])))
+  | inr more ↦ (let same : k ≡ n = omega arith in ([], ap (λ (m : ℕ). below m ++ m ∷ []) same))
+]
 
 ports_split : (n : ℕ) → n < 32 → (others : List Port) × (ports ≡ first_ports n ++ port_of n ∷ others)
 ports_split n h =
@@ -63,9 +63,9 @@ waits_same d log new same = let opened : is_open d new ≡ is_open d log = ap is
 -- what was taken from one port changes nothing of a later one
 took_other : (n m count : ℕ) (log : List Act) → n < m → waiting_on (port_of m) (BytesTaken (port_of n) count ∷ log) ≡ waiting_on (port_of m) log
 took_other n m count log less = elim (cases_lt m 16) [
-      inl within ↦ (let here : n < 16 = omega arith in rw (lt-ltb n 16 here, lt-ltb m 16 within) (waits_same m log _ (others_stay n m (BytesTaken (Conn n) count) log refl (λ e. omega (arith, e)))))
-    | inr beyond ↦ rw (le-ltb m 16 beyond) refl
-    ]
+  | inl within ↦ (let here : n < 16 = omega arith in rw (lt-ltb n 16 here, lt-ltb m 16 within) (waits_same m log _ (others_stay n m (BytesTaken (Conn n) count) log refl (λ e. omega (arith, e)))))
+  | inr beyond ↦ rw (le-ltb m 16 beyond) refl
+]
 
 shown_other : (n m : ℕ) (bytes : List ℕ) (log : List Act) → n < m → waiting_on (port_of m) (log_with_took (port_of n) bytes log) ≡ waiting_on (port_of m) log
 shown_other n m [] log less = refl
@@ -85,13 +85,17 @@ pub so_far_more : (config : Config) (history : List Happening) (log : List Act) 
     → (whole : List ℕ) × Appends first last whole × SoFar config history log next new whole
 so_far_more config history log n next old new text first mid last up (is, now, s, same) put shows =
     let (line, more, (line_is, stands)) = shows (with_tooks (first_ports n) log history) now s in
-    let here : waiting_on (port_of n) now ≡ waiting_on (port_of n) log = same n (omega arith) in
-    (text ++ line, appends_then first mid last text line put more, rw up (
-      ap (λ (l : List ℕ). l ++ line) is ∙ ap (λ (l : List ℕ). lines_of (first_ports n) log ++ l) (line_is ∙ ap (port_line (port_of n)) here) ∙ sym (lines_more n log),
-      log_with_took (port_of n) (waiting_on (port_of n) now) now,
-      subst (λ (h : List Happening). StandsBy new config h (log_with_took (port_of n) (waiting_on (port_of n) now) now))
-          (ap (λ (bytes : List ℕ). with_took (port_of n) bytes (with_tooks (first_ports n) log history)) here ∙ sym (tooks_more n log history)) stands,
-      λ m h. shown_other n m (waiting_on (port_of n) now) now (omega arith) ∙ same m (omega arith)))
+    let here : waiting_on (port_of n) now ≡ waiting_on (port_of n) log = same n (omega arith) in (
+      text ++ line,
+      appends_then first mid last text line put more,
+      rw up (
+        ap (λ (l : List ℕ). l ++ line) is ∙ ap (λ (l : List ℕ). lines_of (first_ports n) log ++ l) (line_is ∙ ap (port_line (port_of n)) here) ∙ sym (lines_more n log),
+        log_with_took (port_of n) (waiting_on (port_of n) now) now,
+        subst (λ (h : List Happening). StandsBy new config h (log_with_took (port_of n) (waiting_on (port_of n) now) now))
+            (ap (λ (bytes : List ℕ). with_took (port_of n) bytes (with_tooks (first_ports n) log history)) here ∙ sym (tooks_more n log history)) stands,
+        λ m h. shown_other n m (waiting_on (port_of n) now) now (omega arith) ∙ same m (omega arith),
+      ),
+    )
 
 pub so_far_all : (config : Config) (history : List Happening) (log : List Act) (n : ℕ) (new : State) (text : List ℕ) → n ≡ 32 → SoFar config history log n new text → ShowsAll config history log (Ok tt) new text
 so_far_all config history log n new text up (is, now, s, same) =
@@ -107,6 +111,8 @@ so_far_stop config history log n old new text first mid last e (Err f) within (i
     let here : waiting_on (port_of n) now ≡ waiting_on (port_of n) log = same n (omega arith) in
     let (others, split) = ports_split n within in
     let behind : lines_of (port_of n ∷ others) log ≡ part ++ (front.0 ++ lines_of others log) =
-    ap (λ (l : List ℕ). l ++ lines_of others log) (sym (ap (port_line (port_of n)) here) ∙ front.1) ∙ append_assoc part front.0 (lines_of others log) in
-    (text ++ part, appends_then first mid last text part put more,
-      (first_ports n, port_of n ∷ others, part, split, (front.0 ++ lines_of others log, behind), ap (λ (l : List ℕ). l ++ part) is, now, stands))
+    ap (λ (l : List ℕ). l ++ lines_of others log) (sym (ap (port_line (port_of n)) here) ∙ front.1) ∙ append_assoc part front.0 (lines_of others log) in (
+      text ++ part,
+      appends_then first mid last text part put more,
+      (first_ports n, port_of n ∷ others, part, split, (front.0 ++ lines_of others log, behind), ap (λ (l : List ℕ). l ++ part) is, now, stands),
+    )

@@ -29,9 +29,9 @@ waits_open c log some = opened_by (is_open c log) (drop (given c log) (sent c lo
 -- whose number is at most 15
 pub waits_within : (c : ℕ) (state : State) (log : List Act) → Represents state log → is_open c log ≡ true → c ≤ 15
 waits_within c state log rep o = elim (cases_lt c 16) [
-      inl below_it ↦ omega arith
-    | inr above ↦ (let shut : is_open c log ≡ false = ap is_some (rep.beyond c above) in absurd (let z : true ≡ false = sym o ∙ shut in cc))
-    ]
+  | inl below_it ↦ omega arith
+  | inr above ↦ (let shut : is_open c log ≡ false = ap is_some (rep.beyond c above) in absurd (let z : true ≡ false = sym o ∙ shut in cc))
+]
 
 -- what a Took of all that waits is refused for: nothing
 pub took_free : (c count : ℕ) (config : Config) (log : List Act) → c ≤ 15 → is_open c log ≡ true → count ≡ length (waiting_on (Conn c) log) → Refuses config (Took (Conn c) count) log None
@@ -75,4 +75,4 @@ stands_taken (Conn c) bytes config history log old new result (set_up, is_log, r
     let none = took_free c (length bytes) config log within o (ap (λ (l : List ℕ). length l) is) in
     let new_rep = took_done c (length bytes) config log result new none (subst (λ (k : Config). Acts k (Took (Conn c) (length bytes)) log result new) set_up acts) in
     rw (with_some (Conn c) (waiting_on (Conn c) log) history some_wait, log_with_some (Conn c) (waiting_on (Conn c) log) log some_wait, ← is)
-        (same ∙ set_up, (log, BytesTaken (Conn c) (length bytes) ∷ log, (omega (arith, within), omega arith), is_log, none, refl, (0, (settled, refl))), new_rep, settled)
+    (same ∙ set_up, (log, BytesTaken (Conn c) (length bytes) ∷ log, (omega (arith, within), omega arith), is_log, none, refl, (0, (settled, refl))), new_rep, settled)

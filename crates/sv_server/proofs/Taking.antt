@@ -38,10 +38,11 @@ takes_then old mid new a b (Err e) x y = (a ++ y.0, (y.1.0, ap (λ (l : List ℕ
 pub took_more : (text done rest : List ℕ) (n : ℕ) (old mid new : Option (List ℕ)) → text ≡ done ++ rest → n ≤ length rest → Appends old mid done → Appends mid new (take n rest)
     → (more : List ℕ) × (text ≡ more ++ take (length rest - n) (drop n rest)) × Appends old new more
 took_more text done rest n old mid new e within x y =
-    let all : take (length rest - n) (drop n rest) ≡ drop n rest = take_all (length rest - n) (drop n rest) (omega (arith, length-drop n rest)) in
-    (done ++ take n rest,
+    let all : take (length rest - n) (drop n rest) ≡ drop n rest = take_all (length rest - n) (drop n rest) (omega (arith, length-drop n rest)) in (
+      done ++ take n rest,
       e ∙ ap (λ (l : List ℕ). done ++ l) (sym (take-append-drop n rest)) ∙ sym (append_assoc done (take n rest) (drop n rest)) ∙ ap (λ (l : List ℕ). (done ++ take n rest) ++ l) (sym all),
-      appends_then old mid new done (take n rest) x y)
+      appends_then old mid new done (take n rest) x y,
+    )
 
 -- bytes are spelled one after the other
 pub encode-append : (t a b : List ℕ) → encode_with t (a ++ b) ≡ encode_with t a ++ encode_with t b
@@ -57,10 +58,11 @@ hex_none old bytes = ([], refl, appends_none old)
 -- and a piece more
 pub hex_more : (bytes done rest piece others : List ℕ) (old mid new : Option (List ℕ)) → bytes ≡ done ++ rest → rest ≡ piece ++ others → Appends old mid (encode_lower done)
     → Appends mid new (encode_lower piece) → (more : List ℕ) × (bytes ≡ more ++ others) × Appends old new (encode_lower more)
-hex_more bytes done rest piece others old mid new e f x y =
-    (done ++ piece,
-      e ∙ ap (λ (l : List ℕ). done ++ l) f ∙ sym (append_assoc done piece others),
-      subst (λ (l : List ℕ). Appends old new l) (sym (encode-append lower_digits done piece)) (appends_then old mid new (encode_lower done) (encode_lower piece) x y))
+hex_more bytes done rest piece others old mid new e f x y = (
+  done ++ piece,
+  e ∙ ap (λ (l : List ℕ). done ++ l) f ∙ sym (append_assoc done piece others),
+  subst (λ (l : List ℕ). Appends old new l) (sym (encode-append lower_digits done piece)) (appends_then old mid new (encode_lower done) (encode_lower piece) x y),
+)
 
 -- or a part of it
 pub hex_stop : {E F : Type 0} (bytes done rest piece others : List ℕ) (old mid new : Option (List ℕ)) (e : E) (r : Result ⊤ F) → bytes ≡ done ++ rest → rest ≡ piece ++ others → IsErr r
@@ -70,7 +72,7 @@ hex_stop bytes done rest piece others old mid new e r is split h x y =
     ap encode_lower (is ∙ ap (λ (l : List ℕ). done ++ l) split ∙ sym (append_assoc done piece others))
     ∙ encode-append lower_digits (done ++ piece) others ∙ ap (λ (l : List ℕ). l ++ encode_lower others) (encode-append lower_digits done piece) in
     subst (λ (l : List ℕ). Takes old new r l) (sym whole)
-        (takes_stop old new (encode_lower done ++ encode_lower piece) (encode_lower others) e r h (takes_then old mid new (encode_lower done) (encode_lower piece) (Err e) x y))
+    (takes_stop old new (encode_lower done ++ encode_lower piece) (encode_lower others) e r h (takes_then old mid new (encode_lower done) (encode_lower piece) (Err e) x y))
 
 -- what was split is both parts
 pub halves : (n : ℕ) (all front back : List ℕ) → front ≡ take n all → back ≡ drop n all → all ≡ front ++ back

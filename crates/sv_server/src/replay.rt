@@ -45,11 +45,7 @@ impl<A: Allocator> Server<A> {
     /// it was refused, and then a line for each port on which bytes wait, which the peer takes.
     /// Where memory was refused, it writes `refused 1` alone and answers `NoMemory`; where the writer
     /// failed, `Write`, and nothing is taken that wasn't written.
-    pub fn replay<W: Write>(
-        &mut self,
-        event: Event<'_>,
-        writer: &mut W,
-    ) -> Result<(), ReplayFault>
+    pub fn replay<W: Write>(&mut self, event: Event<'_>, writer: &mut W) -> Result<(), ReplayFault>
         ensures { (config : Config) (history : List Happening) → StandsFor self.old config history → (text : List ℕ) × (after : List Happening)
             × Replays config history (plain event.entry) result text after × StandsFor self.new config after × Appends (W.contents writer.old) (W.contents writer.new) text }
     {

@@ -11,9 +11,14 @@ loop-init g c = λ config history s. ([], history, ticks_none config history, s,
 pub returns-in_err-replay : goal.returns-in_err-replay
 returns-in_err-replay g c = λ config history s.
     let (text, middle, prints, stands, put) = c.loop.invariant config history s in
-    let (other, after, replays, now, more) = c.in_err-replay.ensures config middle stands in
-    (text ++ other, after, performs_stop config history _ c.in_err-replay.field-0.0 c.from_residual.result _ after c.from_residual.ensures.0 c.from_residual.ensures.1
-        (ticks_stop config history c.loop.counter c.args.count c.in_err-replay.field-0.0 text other middle after c.loop-test.true prints replays), now, appends_then _ _ _ text other put more)
+    let (other, after, replays, now, more) = c.in_err-replay.ensures config middle stands in (
+      text ++ other,
+      after,
+      performs_stop config history _ c.in_err-replay.field-0.0 c.from_residual.result _ after c.from_residual.ensures.0 c.from_residual.ensures.1
+          (ticks_stop config history c.loop.counter c.args.count c.in_err-replay.field-0.0 text other middle after c.loop-test.true prints replays),
+      now,
+      appends_then _ _ _ text other put more,
+    )
 
 pub loop-preserved : goal.loop-preserved
 loop-preserved g c = λ config history s.

@@ -7,5 +7,5 @@ use Rattle.scanvolt.proofs.run.run_replay.Given as goal
 abbrev pub invariant-loop : goal.invariant-loop
 invariant-loop g l =
     ((read text : List ℕ) × Consumes (g.R.Read.remaining l.fn.reader) (g.R.Read.remaining l.reader) read × Appends (g.W.Write.contents l.fn.writer) (g.W.Write.contents l.writer) text
-        × IsStage l.run.server l.run.text.text l.run.lines read text)
+    × IsStage l.run.server l.run.text.text l.run.lines read text)
     × (l.run.lines + l.run.text.reads ≡ l.counter) × (l.run.lines + length l.run.text.text ≤ 131072 * l.run.text.reads) × (l.run.text.reads ≤ 4294967294)

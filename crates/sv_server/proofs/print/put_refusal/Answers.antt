@@ -11,9 +11,9 @@ returns-in_err-put g c =
 pub returns-in_err-put_number : goal.returns-in_err-put_number
 returns-in_err-put_number g c =
     takes_then _ _ _ (codes "refused ") (decimal (number c.args.refused) ++ 10 ∷ []) _ c.in_ok-put.ensures
-        (rw (← c.number.ensures) (takes_stop _ _ (decimal c.number.result) (10 ∷ []) c.in_err-put_number.field-0.0 c.from_residual-in_err-put_number.result c.from_residual-in_err-put_number.ensures.0 c.in_err-put_number.ensures))
+    (rw (← c.number.ensures) (takes_stop _ _ (decimal c.number.result) (10 ∷ []) c.in_err-put_number.field-0.0 c.from_residual-in_err-put_number.result c.from_residual-in_err-put_number.ensures.0 c.in_err-put_number.ensures))
 
 pub returns : goal.returns
 returns g c =
     takes_then _ _ _ (codes "refused ") (decimal (number c.args.refused) ++ 10 ∷ []) _ c.in_ok-put.ensures
-        (rw (← c.number.ensures) (takes_then _ _ _ (decimal c.number.result) (10 ∷ []) c.put-2.result c.in_ok-put_number.ensures c.put-2.ensures))
+    (rw (← c.number.ensures) (takes_then _ _ _ (decimal c.number.result) (10 ∷ []) c.put-2.result c.in_ok-put_number.ensures c.put-2.ensures))
