@@ -8,6 +8,8 @@ mod line;
 mod number;
 mod perform;
 mod run;
+#[cfg(test)]
+mod tests;
 mod text;
 mod words;
 
