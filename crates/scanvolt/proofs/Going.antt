@@ -1,5 +1,5 @@
 -- What one turn of a run makes of a stage.
-use Rattle.std.proofs.Common.{◌≡◌, ℕ, ◌+◌, ◌<◌, true, false, Bool, List, [], ◌∷◌, ◌++◌, length, take, drop, Option, Some, None, refl, sym, ap, subst, ◌∙◌, inl, append-nil, append_assoc, arith}
+use Rattle.std.proofs.Common.{◌≡◌, ℕ, ◌+◌, ◌<◌, true, false, Bool, List, [], ◌∷◌, ◌++◌, length, take, drop, Option, Some, None, refl, sym, ap, subst, ◌∙◌, inl, inr, append-nil, append_assoc, arith}
 use Rattle.std.specs.Prelude.{Result, Ok, Err, ⊤, IsErr, IsErrAnd}
 use Rattle.std.proofs.lemmas.List.{take_all}
 use Rattle.std.specs.Io.KnownBytes.{Consumes, Appends, Keeps, IsAtEnd}
@@ -11,7 +11,7 @@ use Rattle.scanvolt.specs.Text.{first_end}
 use Rattle.scanvolt.specs.Script.{parts}
 use Rattle.scanvolt.specs.Run.{set_up, Runs}
 use Rattle.scanvolt.specs.Stage.{IsStage, Goes}
-use Rattle.scanvolt.proofs.Parts.{parts_found, parts_none}
+use Rattle.scanvolt.proofs.Parts.{parts_found, parts_none, parts_never}
 use Rattle.scanvolt.proofs.Staged.{LineDone, stage_start, stage_line, stage_last, stage_stop, stage_read, stage_long, stage_output, all_output, stage_input}
 
 consumes_none : (old : Option (List ℕ)) → Consumes old old []
@@ -30,9 +30,9 @@ still fact read more none holds = subst fact (sym (append-nil read) ∙ ap (λ (
 
 -- a fault that is passed on
 goes_err : (server : State) (left : List ℕ) (number : ℕ) (rest : Option (List ℕ)) (fault : RunFault) (result : Result Bool RunFault) (read text : List ℕ) → IsErr result → IsErrAnd result (λ e. e ≡ fault)
-    → Runs read (Err fault) text → Goes server left number rest result read text
+    → Runs read rest (Err fault) text → Goes server left number rest result read text
 goes_err server left number rest fault (Ok more) read text failed is runs = absurd cc
-goes_err server left number rest fault (Err e) read text failed is runs = subst (λ (f : RunFault). Runs read (Err f) text) (sym is) runs
+goes_err server left number rest fault (Err e) read text failed is runs = subst (λ (f : RunFault). Runs read rest (Err f) text) (sym is) runs
 
 -- what a turn makes of each stage
 abbrev pub Going : State → State → List ℕ → List ℕ → ℕ → ℕ → Option (List ℕ) → Option (List ℕ) → Option (List ℕ) → Option (List ℕ) → Result Bool RunFault → Type 0
@@ -51,12 +51,12 @@ pub go_line_stop : (old new : State) (left line rest : List ℕ) (len number nex
     → Going old new left rest number last_number reader reader first last result
 go_line_stop old new left line rest len number next last_number reader first last fault result found cut up failed is does read text stage =
     let whole : parts left ≡ line ∷ parts (drop (len + 1) left) = parts_found left len found ∙ ap (λ (l : List ℕ). l ∷ parts (drop (len + 1) left)) (sym cut) in
-    let (other, put, runs) = stage_stop old new left line _ number next fault read text first last whole up stage does in (
+    let (other, put, runs) = stage_stop old new left line _ number next fault read text reader first last whole up (inl (parts_never (drop (len + 1) left))) stage does in (
       [],
       other,
       consumes_none reader,
       put,
-      goes_err new rest last_number reader fault result (read ++ []) (text ++ other) failed is (still (λ r. Runs r (Err fault) (text ++ other)) read [] refl runs),
+      goes_err new rest last_number reader fault result (read ++ []) (text ++ other) failed is (still (λ r. Runs r reader (Err fault) (text ++ other)) read [] refl runs),
     )
 
 pub go_long : (old : State) (left : List ℕ) (number next : ℕ) (reader first : Option (List ℕ)) → first_end left ≡ None → 65536 < length left → next ≡ number + 1
@@ -66,7 +66,7 @@ go_long old left number next reader first none long up read text stage = (
   [],
   consumes_none reader,
   appends_none first,
-  still (λ r. Runs r (Err (BadLine next)) (text ++ [])) read [] refl (still (λ t. Runs read (Err (BadLine next)) t) text [] refl (stage_long old left number next read text none long up stage)),
+  still (λ r. Runs r reader (Err (BadLine next)) (text ++ [])) read [] refl (still (λ t. Runs read reader (Err (BadLine next)) t) text [] refl (stage_long old left number next read text reader none long up stage)),
 )
 
 pub go_output : (old : State) (left : List ℕ) (number : ℕ) (reader first last : Option (List ℕ)) (fault : RunFault) (result : Result Bool RunFault) → Keeps first last → fault ≡ Output
@@ -77,7 +77,7 @@ go_output old left number reader first last fault result kept told failed is rea
   consumes_none reader,
   appends_keeps first first last [] (appends_none first) kept,
   goes_err old left number reader fault result (read ++ []) (text ++ []) failed is
-      (rw told (still (λ r. Runs r (Err Output) (text ++ [])) read [] refl (still (λ t. Runs read (Err Output) t) text [] refl (stage_output old left number read text stage)))),
+      (rw told (still (λ r. Runs r reader (Err Output) (text ++ [])) read [] refl (still (λ t. Runs read reader (Err Output) t) text [] refl (stage_output old left number read text reader stage)))),
 )
 
 pub go_input : (old : State) (left rest more : List ℕ) (number : ℕ) (reader after first last : Option (List ℕ)) (result : Result Bool RunFault) → first_end left ≡ None → Keeps first last → Consumes reader after more → more ≡ []
@@ -88,7 +88,7 @@ go_input old left rest more number reader after first last result none kept took
   took,
   appends_keeps first first last [] (appends_none first) kept,
   goes_err old rest number after Input result (read ++ more) (text ++ []) failed is
-      (still (λ r. Runs r (Err Input) (text ++ [])) read more given (still (λ t. Runs read (Err Input) t) text [] refl (stage_input old left number read text none stage))),
+      (still (λ r. Runs r after (Err Input) (text ++ [])) read more given (still (λ t. Runs read after (Err Input) t) text [] refl (stage_input old left number read text after none stage))),
 )
 
 pub go_read : (old : State) (left rest more : List ℕ) (number : ℕ) (reader after first last : Option (List ℕ)) → Keeps first last → Consumes reader after more → rest ≡ left ++ more
@@ -108,35 +108,35 @@ last_line left more rest line none is given cut =
     parts_none left none ∙ ap (λ (l : List ℕ). l ∷ []) (sym (cut ∙ take_all (length rest) rest (omega arith) ∙ same))
 
 pub go_last_stop : (old new : State) (left rest line more : List ℕ) (number next last_number : ℕ) (reader after first mid last : Option (List ℕ)) (fault : RunFault) (result : Result Bool RunFault) → first_end left ≡ None
-    → rest ≡ left ++ more → more ≡ [] → line ≡ take (length rest) rest → next ≡ number + 1 → Consumes reader after more → Keeps first mid → IsErr result → IsErrAnd result (λ e. e ≡ fault)
+    → rest ≡ left ++ more → more ≡ [] → line ≡ take (length rest) rest → next ≡ number + 1 → Consumes reader after more → IsAtEnd after → Keeps first mid → IsErr result → IsErrAnd result (λ e. e ≡ fault)
     → LineDone old new line next (Err fault) mid last → Going old new left rest number last_number reader after first last result
-go_last_stop old new left rest line more number next last_number reader after first mid last fault result none is given cut up took kept failed told does read text stage =
-    let (other, put, runs) = stage_stop old new left line [] number next fault read text mid last (last_line left more rest line none is given cut) up stage does in (
+go_last_stop old new left rest line more number next last_number reader after first mid last fault result none is given cut up took end kept failed told does read text stage =
+    let (other, put, runs) = stage_stop old new left line [] number next fault read text after mid last (last_line left more rest line none is given cut) up (inr end) stage does in (
       more,
       other,
       took,
       keeps_appends first mid last other kept put,
-      goes_err new rest last_number after fault result (read ++ more) (text ++ other) failed told (still (λ r. Runs r (Err fault) (text ++ other)) read more given runs),
+      goes_err new rest last_number after fault result (read ++ more) (text ++ other) failed told (still (λ r. Runs r after (Err fault) (text ++ other)) read more given runs),
     )
 
 pub go_last_output : (old new : State) (left rest line more : List ℕ) (number next last_number : ℕ) (reader after first mid put_to last : Option (List ℕ)) (fault : RunFault) (result : Result Bool RunFault) → first_end left ≡ None
-    → rest ≡ left ++ more → more ≡ [] → line ≡ take (length rest) rest → Consumes reader after more → Keeps first mid → Keeps put_to last → fault ≡ Output → IsErr result → IsErrAnd result (λ e. e ≡ fault)
+    → rest ≡ left ++ more → more ≡ [] → line ≡ take (length rest) rest → Consumes reader after more → IsAtEnd after → Keeps first mid → Keeps put_to last → fault ≡ Output → IsErr result → IsErrAnd result (λ e. e ≡ fault)
     → LineDone old new line next (Ok tt) mid put_to → Going old new left rest number last_number reader after first last result
-go_last_output old new left rest line more number next last_number reader after first mid put_to last fault result none is given cut took kept flushed told failed passed does read text stage =
-    let (other, put, runs) = stage_last old new left line number next read text mid put_to (last_line left more rest line none is given cut) stage does in (
+go_last_output old new left rest line more number next last_number reader after first mid put_to last fault result none is given cut took end kept flushed told failed passed does read text stage =
+    let (other, put, runs) = stage_last old new left line number next read text after mid put_to (last_line left more rest line none is given cut) stage does in (
       more,
       other,
       took,
       appends_keeps first put_to last other (keeps_appends first mid put_to other kept put) flushed,
-      goes_err new rest last_number after fault result (read ++ more) (text ++ other) failed passed (rw told (still (λ r. Runs r (Err Output) (text ++ other)) read more given (all_output read (text ++ other) runs))),
+      goes_err new rest last_number after fault result (read ++ more) (text ++ other) failed passed (rw told (still (λ r. Runs r after (Err Output) (text ++ other)) read more given (all_output read (text ++ other) after end runs))),
     )
 
 pub go_last : (old new : State) (left rest line more : List ℕ) (number next last_number : ℕ) (reader after first mid put_to last : Option (List ℕ)) → first_end left ≡ None → rest ≡ left ++ more → more ≡ []
     → line ≡ take (length rest) rest → Consumes reader after more → IsAtEnd after → Keeps first mid → Keeps put_to last → LineDone old new line next (Ok tt) mid put_to
     → Going old new left rest number last_number reader after first last (Ok false)
 go_last old new left rest line more number next last_number reader after first mid put_to last none is given cut took end kept flushed does read text stage =
-    let (other, put, runs) = stage_last old new left line number next read text mid put_to (last_line left more rest line none is given cut) stage does in
-    (more, other, took, appends_keeps first put_to last other (keeps_appends first mid put_to other kept put) flushed, (end, still (λ r. Runs r (Ok tt) (text ++ other)) read more given runs))
+    let (other, put, runs) = stage_last old new left line number next read text after mid put_to (last_line left more rest line none is given cut) stage does in
+    (more, other, took, appends_keeps first put_to last other (keeps_appends first mid put_to other kept put) flushed, (end, still (λ r. Runs r after (Ok tt) (text ++ other)) read more given runs))
 
 consumes_then : (old mid new : Option (List ℕ)) (a b : List ℕ) → Consumes old mid a → Consumes mid new b → Consumes old new (a ++ b)
 consumes_then None mid new a b x y = tt
@@ -167,18 +167,18 @@ so_far_turn old new left rest number next reader middle after first mid last res
     (read ++ more, text ++ other, consumes_then reader middle after read more took took_more, appends_then first mid last text other put put_more, goes)
 
 pub so_far_stop : (new : State) (rest : List ℕ) (next : ℕ) (reader after first last : Option (List ℕ)) (fault : RunFault) (result : Result ⊤ RunFault) → IsErr result → IsErrAnd result (λ e. e ≡ fault)
-    → SoFar reader after first last (λ read text. Goes new rest next after (Err fault) read text) → SoFar reader after first last (λ read text. Runs read result text)
+    → SoFar reader after first last (λ read text. Goes new rest next after (Err fault) read text) → SoFar reader after first last (λ read text. Runs read after result text)
 so_far_stop new rest next reader after first last fault (Ok all) failed is so = absurd cc
-so_far_stop new rest next reader after first last fault (Err e) failed is (read, text, took, put, runs) = (read, text, took, put, subst (λ (f : RunFault). Runs read (Err f) text) (sym is) runs)
+so_far_stop new rest next reader after first last fault (Err e) failed is (read, text, took, put, runs) = (read, text, took, put, subst (λ (f : RunFault). Runs read after (Err f) text) (sym is) runs)
 
 pub so_far_end : (new : State) (rest : List ℕ) (next : ℕ) (reader after first last : Option (List ℕ)) → SoFar reader after first last (λ read text. Goes new rest next after (Ok false) read text)
-    → SoFar reader after first last (λ read text. Runs read (Ok tt) text)
+    → SoFar reader after first last (λ read text. Runs read after (Ok tt) text)
 so_far_end new rest next reader after first last (read, text, took, put, (end, runs)) = (read, text, took, put, runs)
 
 pub so_far_at_end : (new : State) (rest : List ℕ) (next : ℕ) (reader after first last : Option (List ℕ)) → SoFar reader after first last (λ read text. Goes new rest next after (Ok false) read text) → IsAtEnd after
 so_far_at_end new rest next reader after first last (read, text, took, put, (end, runs)) = end
 
 -- memory was refused at the start
-pub no_memory : (reader first : Option (List ℕ)) (result : Result ⊤ RunFault) → IsErr result → IsErrAnd result (λ e. e ≡ Memory) → SoFar reader reader first first (λ read text. Runs read result text)
+pub no_memory : (reader first : Option (List ℕ)) (result : Result ⊤ RunFault) → IsErr result → IsErrAnd result (λ e. e ≡ Memory) → SoFar reader reader first first (λ read text. Runs read reader result text)
 no_memory reader first (Ok all) failed is = absurd cc
-no_memory reader first (Err e) failed is = ([], [], consumes_none reader, appends_none first, subst (λ (f : RunFault). Runs [] (Err f) []) (sym is) (inl (refl, refl)))
+no_memory reader first (Err e) failed is = ([], [], consumes_none reader, appends_none first, subst (λ (f : RunFault). Runs [] reader (Err f) []) (sym is) (inl (refl, refl)))

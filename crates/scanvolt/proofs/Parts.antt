@@ -1,5 +1,5 @@
 -- Where a text is cut into lines.
-use Rattle.std.proofs.Common.{◌≡◌, ℕ, suc, ◌+◌, ◌<◌, ◌==◌, cond, not, Bool, true, false, List, [], ◌∷◌, ◌++◌, length, take, drop, Option, Some, None, unwrap_or, refl, sym, ap, ◌∙◌, inl, inr, arith}
+use Rattle.std.proofs.Common.{◌≡◌, ◌≢◌, ℕ, suc, ◌+◌, ◌<◌, ◌==◌, cond, not, Bool, true, false, List, [], ◌∷◌, ◌++◌, length, take, drop, Option, Some, None, unwrap_or, refl, sym, ap, ◌∙◌, inl, inr, arith}
 use Rattle.std.proofs.lemmas.Bool.{lt-ltb, le-ltb, cases_lt}
 use Rattle.std.proofs.lemmas.List.Sums.{prefix_len-le-length}
 use Rattle.sv_server.specs.Exchange.{onto}
@@ -60,6 +60,10 @@ parts_some (b ∷ text) = here (b == 10) (parts_some text)
         → (first : List ℕ) × (others : List (List ℕ)) × (cond test ([] ∷ parts text) (onto b (parts text)) ≡ first ∷ others)
     here true (first, others, e) = ([], parts text, refl)
     here false (first, others, e) = (b ∷ first, others, ap (onto b) e)
+
+-- there is never none
+pub parts_never : (text : List ℕ) → parts text ≢ []
+parts_never text none = let (first, others, e) = parts_some text in absurd (let z : [] ≡ first ∷ others = sym none ∙ e in cc)
 
 -- the parts of more text: the last one grows
 abbrev glued : List (List ℕ) → List (List ℕ) → List (List ℕ)

@@ -5,16 +5,16 @@ use Rattle.sv_server.specs.declared.replay.ReplayFault.{ReplayFault}
 use Rattle.sv_server.specs.declared.replay.ReplayFault.TheVariants.{NoMemory, Write}
 use Rattle.scanvolt.specs.Line.{Line, Says}
 use Rattle.std.proofs.lemmas.List.{length-append}
-use Rattle.std.specs.Io.KnownBytes.{Appends}
+use Rattle.std.specs.Io.KnownBytes.{Appends, IsAtEnd}
 use Rattle.sv_server.specs.Event.{Happening}
 use Rattle.sv_server.specs.State.{State, StandsFor}
 use Rattle.scanvolt.specs.declared.fault.RunFault.{RunFault}
 use Rattle.scanvolt.specs.declared.fault.RunFault.TheVariants.{BadLine, Input, Output, Memory}
 use Rattle.scanvolt.specs.Text.{first_end}
 use Rattle.scanvolt.specs.Script.{parts, events_of, Stops}
-use Rattle.scanvolt.specs.Run.{set_up, run_fault, Runs}
+use Rattle.scanvolt.specs.Run.{set_up, run_fault, IsWhole, Runs}
 use Rattle.scanvolt.specs.Stage.{IsStage, LineRuns}
-use Rattle.scanvolt.proofs.Parts.{parts_none, parts_more}
+use Rattle.scanvolt.proofs.Parts.{parts_none, parts_more, parts_never}
 use Rattle.scanvolt.proofs.Printed.{script_push, prints_then, stops_then}
 
 -- at the start nothing was read or printed
@@ -46,9 +46,9 @@ stage_line old new left rest line number next read text first last cut up (lines
     )
 
 -- the last line was done
-pub stage_last : (old new : State) (left line : List ℕ) (number next : ℕ) (read text : List ℕ) (first last : Option (List ℕ)) → parts left ≡ line ∷ []
-    → IsStage old left number read text → LineDone old new line next (Ok tt) first last → (other : List ℕ) × Appends first last other × Runs read (Ok tt) (text ++ other)
-stage_last old new left line number next read text first last cut (lines, events, history, is, count, script, prints, stands) does =
+pub stage_last : (old new : State) (left line : List ℕ) (number next : ℕ) (read text : List ℕ) (tail first last : Option (List ℕ)) → parts left ≡ line ∷ []
+    → IsStage old left number read text → LineDone old new line next (Ok tt) first last → (other : List ℕ) × Appends first last other × Runs read tail (Ok tt) (text ++ other)
+stage_last old new left line number next read text tail first last cut (lines, events, history, is, count, script, prints, stands) does =
     let (other, after, (said, short, says, more), now, put) = does history stands in (
       other,
       put,
@@ -61,9 +61,9 @@ stage_last old new left line number next read text first last cut (lines, events
     )
 
 -- a line stopped the run
-pub stage_stop : (old new : State) (left line : List ℕ) (behind : List (List ℕ)) (number next : ℕ) (fault : RunFault) (read text : List ℕ) (first last : Option (List ℕ)) → parts left ≡ line ∷ behind
-    → next ≡ number + 1 → IsStage old left number read text → LineDone old new line next (Err fault) first last → (other : List ℕ) × Appends first last other × Runs read (Err fault) (text ++ other)
-stage_stop old new left line behind number next (BadLine n) read text first last cut up (lines, events, history, is, count, script, prints, stands) does =
+pub stage_stop : (old new : State) (left line : List ℕ) (behind : List (List ℕ)) (number next : ℕ) (fault : RunFault) (read text : List ℕ) (tail first last : Option (List ℕ)) → parts left ≡ line ∷ behind
+    → next ≡ number + 1 → IsWhole behind tail → IsStage old left number read text → LineDone old new line next (Err fault) first last → (other : List ℕ) × Appends first last other × Runs read tail (Err fault) (text ++ other)
+stage_stop old new left line behind number next (BadLine n) read text tail first last cut up whole (lines, events, history, is, count, script, prints, stands) does =
     let (other, after, (at, bad, none), now, put) = does history stands in (
       other,
       put,
@@ -74,12 +74,13 @@ stage_stop old new left line behind number next (BadLine n) read text first last
         is ∙ ap (λ (ps : List (List ℕ)). lines ++ ps) cut,
         at ∙ up ∙ ap (λ (m : ℕ). m + 1) count,
         bad,
+        inl whole,
         (events, history, script, rw (none, append-nil text) prints),
       ),
     )
-stage_stop old new left line behind number next Input read text first last cut up (lines, events, history, is, count, script, prints, stands) does =
+stage_stop old new left line behind number next Input read text tail first last cut up whole (lines, events, history, is, count, script, prints, stands) does =
     let (other, after, impossible, now, put) = does history stands in elim impossible [ ]
-stage_stop old new left line behind number next Output read text first last cut up (lines, events, history, is, count, script, prints, stands) does =
+stage_stop old new left line behind number next Output read text tail first last cut up whole (lines, events, history, is, count, script, prints, stands) does =
     let (other, after, (said, short, says, stops), now, put) = does history stands in (
       other,
       put,
@@ -87,10 +88,11 @@ stage_stop old new left line behind number next Output read text first last cut 
         lines ++ line ∷ [],
         behind,
         is ∙ ap (λ (ps : List (List ℕ)). lines ++ ps) cut ∙ sym (append_assoc lines (line ∷ []) behind),
+        whole,
         inr (events ++ events_of said, after, script_push lines events line said script short says, stops_then set_up [] events (events_of said) _ text other history after prints stops),
       ),
     )
-stage_stop old new left line behind number next Memory read text first last cut up (lines, events, history, is, count, script, prints, stands) does =
+stage_stop old new left line behind number next Memory read text tail first last cut up whole (lines, events, history, is, count, script, prints, stands) does =
     let (other, after, (said, short, says, stops), now, put) = does history stands in (
       other,
       put,
@@ -98,6 +100,7 @@ stage_stop old new left line behind number next Memory read text first last cut 
         lines ++ line ∷ [],
         behind,
         is ∙ ap (λ (ps : List (List ℕ)). lines ++ ps) cut ∙ sym (append_assoc lines (line ∷ []) behind),
+        whole,
         (events ++ events_of said, after, script_push lines events line said script short says, stops_then set_up [] events (events_of said) _ text other history after prints stops),
       ),
     )
@@ -107,22 +110,22 @@ pub stage_read : (server : State) (left : List ℕ) (number : ℕ) (read text mo
 stage_read server left number read text more (lines, events, history, is, count, script, prints, stands) = (lines, events, history, parts_more read left more lines is, count, script, prints, stands)
 
 -- a line that is too long
-pub stage_long : (server : State) (left : List ℕ) (number next : ℕ) (read text : List ℕ) → first_end left ≡ None → 65536 < length left → next ≡ number + 1 → IsStage server left number read text
-    → Runs read (Err (BadLine next)) text
-stage_long server left number next read text none long up (lines, events, history, is, count, script, prints, stands) =
-    (lines, [], left, is ∙ ap (λ (ps : List (List ℕ)). lines ++ ps) (parts_none left none), up ∙ ap (λ (m : ℕ). m + 1) count, inl long, (events, history, script, prints))
+pub stage_long : (server : State) (left : List ℕ) (number next : ℕ) (read text : List ℕ) (tail : Option (List ℕ)) → first_end left ≡ None → 65536 < length left → next ≡ number + 1 → IsStage server left number read text
+    → Runs read tail (Err (BadLine next)) text
+stage_long server left number next read text tail none long up (lines, events, history, is, count, script, prints, stands) =
+    (lines, [], left, is ∙ ap (λ (ps : List (List ℕ)). lines ++ ps) (parts_none left none), up ∙ ap (λ (m : ℕ). m + 1) count, inl long, inr long, (events, history, script, prints))
 
 -- the writer failed
-pub stage_output : (server : State) (left : List ℕ) (number : ℕ) (read text : List ℕ) → IsStage server left number read text → Runs read (Err Output) text
-stage_output server left number read text (lines, events, history, is, count, script, prints, stands) = (lines, parts left, is, inl (events, history, script, prints))
+pub stage_output : (server : State) (left : List ℕ) (number : ℕ) (read text : List ℕ) (tail : Option (List ℕ)) → IsStage server left number read text → Runs read tail (Err Output) text
+stage_output server left number read text tail (lines, events, history, is, count, script, prints, stands) = (lines, parts left, is, inl (parts_never left), inl (events, history, script, prints))
 
 -- and behind the last line
-pub all_output : (read text : List ℕ) → Runs read (Ok tt) text → Runs read (Err Output) text
-all_output read text printed = (parts read, [], sym (append-nil (parts read)), inl printed)
+pub all_output : (read text : List ℕ) (tail : Option (List ℕ)) → IsAtEnd tail → Runs read tail (Ok tt) text → Runs read tail (Err Output) text
+all_output read text tail end printed = (parts read, [], sym (append-nil (parts read)), inr end, inl printed)
 
 -- the reader failed
-pub stage_input : (server : State) (left : List ℕ) (number : ℕ) (read text : List ℕ) → first_end left ≡ None → IsStage server left number read text → Runs read (Err Input) text
-stage_input server left number read text none (lines, events, history, is, count, script, prints, stands) =
+pub stage_input : (server : State) (left : List ℕ) (number : ℕ) (read text : List ℕ) (tail : Option (List ℕ)) → first_end left ≡ None → IsStage server left number read text → Runs read tail (Err Input) text
+stage_input server left number read text tail none (lines, events, history, is, count, script, prints, stands) =
     (lines, left, is ∙ ap (λ (ps : List (List ℕ)). lines ++ ps) (parts_none left none), (events, history, script, prints))
 
 -- a replay's fault is told as the run's

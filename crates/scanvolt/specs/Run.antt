@@ -1,6 +1,7 @@
 -- What a run prints of the text that it read, and what it answers.
-use Rattle.std.specs.Prelude.{◌≡◌, ◌⊎◌, ℕ, ◌+◌, List, [], ◌∷◌, ◌++◌, length, codes, Bool, false, Option, Some, None, Result, Ok, Err, ⊤}
+use Rattle.std.specs.Prelude.{◌≡◌, ◌≢◌, ◌⊎◌, ℕ, ◌+◌, ◌<◌, List, [], ◌∷◌, ◌++◌, length, codes, Bool, false, Option, Some, None, Result, Ok, Err, ⊤}
 use Rattle.std.specs.Str.{bytes_eq}
+use Rattle.std.specs.Io.KnownBytes.{IsAtEnd}
 use Rattle.sv_server.specs.declared.event.Config.{Config}
 use Rattle.sv_server.specs.declared.replay.ReplayFault.{ReplayFault}
 use Rattle.sv_server.specs.declared.replay.ReplayFault.TheVariants.{NoMemory, Write}
@@ -42,11 +43,16 @@ Printed lines text = (events after : List Happening) × IsScript lines events ×
 abbrev pub PrintedUpTo : List (List ℕ) → ReplayFault → List ℕ → Type 0
 PrintedUpTo lines fault text = (events after : List Happening) × IsScript lines events × Stops set_up [] events fault text after
 
+-- A line is whole: another part stands behind it, or the reader is at its end.
+abbrev pub IsWhole : List (List ℕ) → Option (List ℕ) → Type 0
+IsWhole behind rest = (behind ≢ []) ⊎ IsAtEnd rest
+
 -- Of the text that was read this is printed: all that its lines say; at a bad line what those in front of it say; where the input failed what the
 -- whole lines say; where the output failed or memory was refused, what some first lines say, the last of them perhaps in part.
-abbrev pub Runs : List ℕ → Result ⊤ RunFault → List ℕ → Type 0
-Runs read (Ok all) text = Printed (parts read) text
-Runs read (Err (BadLine n)) text = (lines behind : List (List ℕ)) × (line : List ℕ) × (parts read ≡ lines ++ line ∷ behind) × (n ≡ length lines + 1) × IsBad line × Printed lines text
-Runs read (Err Input) text = (lines : List (List ℕ)) × (last : List ℕ) × (parts read ≡ lines ++ last ∷ []) × Printed lines text
-Runs read (Err Output) text = (lines behind : List (List ℕ)) × (parts read ≡ lines ++ behind) × (Printed lines text ⊎ PrintedUpTo lines Write text)
-Runs read (Err Memory) text = ((read ≡ []) × (text ≡ [])) ⊎ ((lines behind : List (List ℕ)) × (parts read ≡ lines ++ behind) × PrintedUpTo lines NoMemory text)
+abbrev pub Runs : List ℕ → Option (List ℕ) → Result ⊤ RunFault → List ℕ → Type 0
+Runs read rest (Ok all) text = Printed (parts read) text
+Runs read rest (Err (BadLine n)) text = (lines behind : List (List ℕ)) × (line : List ℕ) × (parts read ≡ lines ++ line ∷ behind) × (n ≡ length lines + 1) × IsBad line
+    × (IsWhole behind rest ⊎ (65536 < length line)) × Printed lines text
+Runs read rest (Err Input) text = (lines : List (List ℕ)) × (last : List ℕ) × (parts read ≡ lines ++ last ∷ []) × Printed lines text
+Runs read rest (Err Output) text = (lines behind : List (List ℕ)) × (parts read ≡ lines ++ behind) × IsWhole behind rest × (Printed lines text ⊎ PrintedUpTo lines Write text)
+Runs read rest (Err Memory) text = ((read ≡ []) × (text ≡ [])) ⊎ ((lines behind : List (List ℕ)) × (parts read ≡ lines ++ behind) × IsWhole behind rest × PrintedUpTo lines NoMemory text)

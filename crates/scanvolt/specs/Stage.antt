@@ -31,8 +31,8 @@ LineRuns line number history (Err Memory) text after = StopsAt line history NoMe
 -- A run goes on, is at the end of what the reader gives, or stops.
 abbrev pub Goes : State → List ℕ → ℕ → Option (List ℕ) → Result Bool RunFault → List ℕ → List ℕ → Type 0
 Goes server left number rest (Ok true) read text = IsStage server left number read text
-Goes server left number rest (Ok false) read text = IsAtEnd rest × Runs read (Ok tt) text
-Goes server left number rest (Err fault) read text = Runs read (Err fault) text
+Goes server left number rest (Ok false) read text = IsAtEnd rest × Runs read rest (Ok tt) text
+Goes server left number rest (Err fault) read text = Runs read rest (Err fault) text
 
 -- This holds where the run goes on.
 abbrev pub WhileGoing : {E : Type 0} → Result Bool E → Type 0 → Type 0

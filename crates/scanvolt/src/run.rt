@@ -45,7 +45,7 @@ pub fn run_replay<A: Allocator + Copy, R: Read, W: Write>(
     reader: &mut R,
     writer: &mut W,
 ) -> Result<(), RunFault>
-    ensures runs { (read text : List ℕ) × Consumes (R.remaining reader.old) (R.remaining reader.new) read × Appends (W.contents writer.old) (W.contents writer.new) text × Runs read result text }
+    ensures runs { (read text : List ℕ) × Consumes (R.remaining reader.old) (R.remaining reader.new) read × Appends (W.contents writer.old) (W.contents writer.new) text × Runs read (R.remaining reader.new) result text }
     ensures end { OnOk result (IsAtEnd (R.remaining reader.new)) }
 {
     let mut run = start(alloc)?;

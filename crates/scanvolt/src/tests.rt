@@ -183,17 +183,19 @@ fn an_input_that_fails_leaves_what_its_whole_lines_print(rt: HostRuntime) -> Res
 #[test]
 fn an_output_that_fails_took_the_front_of_the_print(rt: HostRuntime) -> Result<(), Fail> {
     let fails = Err(RunFault::Output);
-    for (room, wanted) in [
-        (0, fails),
-        (1, fails),
-        (91, fails),
-        (92, fails),
-        (291, fails),
-        (292, Ok(())),
+    for (room, is_silent, wanted) in [
+        (0, false, fails),
+        (0, true, fails),
+        (1, false, fails),
+        (91, false, fails),
+        (92, true, fails),
+        (291, false, fails),
+        (292, false, Ok(())),
     ] {
         let mut writer = Narrow {
             taken: Vec::new(rt.alloc()),
             room,
+            is_silent,
         };
         let answer = run_replay(rt.alloc(), &mut IDENTITY.as_bytes(), &mut writer);
         assert_eq!(rt; answer, wanted, "{room} bytes");
@@ -210,6 +212,7 @@ fn an_output_that_fails_behind_a_buffer_is_told(rt: HostRuntime) -> Result<(), F
         let narrow = Narrow {
             taken: Vec::new(rt.alloc()),
             room: 7,
+            is_silent: false,
         };
         let mut writer = BufWriter::new(rt.alloc(), narrow)?;
         let answer = run_replay(rt.alloc(), &mut script.as_bytes(), &mut writer);

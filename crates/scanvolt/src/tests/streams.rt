@@ -63,17 +63,18 @@ impl Write for Sipping {
     }
 }
 
-/// A writer that fails once it has taken so many bytes.
+/// A writer that fails once it has taken so many bytes, or takes no more and doesn't say why.
 #[derive(Drop)]
 pub(super) struct Narrow {
     pub(super) taken: Vec<u8>,
     pub(super) room: usize,
+    pub(super) is_silent: bool,
 }
 
 impl Write for Narrow {
     fn write(&mut self, buf: &[u8]) -> Result<usize> {
         let count = buf.len().min(self.room);
-        if count == 0 {
+        if count == 0 && !self.is_silent {
             return Err(Error::from(ErrorKind::BrokenPipe));
         }
         self.taken.extend_from_slice(&buf[..count])?;

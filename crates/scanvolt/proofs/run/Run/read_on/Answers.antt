@@ -27,14 +27,14 @@ pub returns-in_err-do_line-clause-goes : goal.returns-in_err-do_line-clause-goes
 returns-in_err-do_line-clause-goes g c =
     let (more, took, is, (given, end)) = rw c.if-branch.false at c.in_ok-fill.ensures.took in
     go_last_stop c.args.self.now.server c.do_line.new.server c.args.self.now.text.text c.fill.new.self.text c.front-line.result.now more c.args.self.now.lines (c.args.self.now.lines + 1) c.args.self.now.lines _ _ _ _ _
-    c.in_err-do_line.field-0.0 c.from_residual-in_err-do_line.result c.requires.no_line is given (rw (← c.len-2.ensures) c.front-line.ensures) refl took c.in_ok-flush.ensures.kept
+    c.in_err-do_line.field-0.0 c.from_residual-in_err-do_line.result c.requires.no_line is given (rw (← c.len-2.ensures) c.front-line.ensures) refl took end c.in_ok-flush.ensures.kept
     c.from_residual-in_err-do_line.ensures.0 c.from_residual-in_err-do_line.ensures.1 c.in_err-do_line.ensures
 
 pub returns-in_err-flush-2-clause-goes : goal.returns-in_err-flush-2-clause-goes
 returns-in_err-flush-2-clause-goes g c =
     let (more, took, is, (given, end)) = rw c.if-branch.false at c.in_ok-fill.ensures.took in
     go_last_output c.args.self.now.server c.do_line.new.server c.args.self.now.text.text c.fill.new.self.text c.front-line.result.now more c.args.self.now.lines (c.args.self.now.lines + 1) c.args.self.now.lines _ _ _ _ _ _
-    c.in_err-flush-2.field-0.0 c.from_residual-in_err-flush-2.result c.requires.no_line is given (rw (← c.len-2.ensures) c.front-line.ensures) took c.in_ok-flush.ensures.kept c.in_err-flush-2.ensures.kept
+    c.in_err-flush-2.field-0.0 c.from_residual-in_err-flush-2.result c.requires.no_line is given (rw (← c.len-2.ensures) c.front-line.ensures) took end c.in_ok-flush.ensures.kept c.in_err-flush-2.ensures.kept
     c.in_err-flush-2.ensures.fault c.from_residual-in_err-flush-2.ensures.0 c.from_residual-in_err-flush-2.ensures.1 c.in_ok-do_line.ensures
 
 pub returns-clause-goes : goal.returns-clause-goes
