@@ -1,21 +1,12 @@
 -- No header begins another.
 use Rattle.std.proofs.Common.{◌≡◌, ℕ, List, [], ◌∷◌, ◌++◌, refl, sym, ap, subst, ◌∙◌, arith}
-use Rattle.std.proofs.lemmas.List.{append_cancel_left}
-use Rattle.sv_xdr.specs.Spelling.{Field, Unsigned, Opaque, Begins, BeginsAll}
-use Rattle.sv_xdr.specs.Laws.{SameKind}
-use Rattle.sv_xdr.proofs.PrefixFree.{prefix_free}
+use Rattle.sv_xdr.specs.Spelling.{Field, Unsigned, Opaque, BeginsAll}
+use Rattle.sv_xdr.proofs.PrefixFree.{one_field}
 use Rattle.sv_rpc.specs.declared.reply.Reply.{Reply}
 use Rattle.sv_rpc.specs.declared.reply.Reply.TheVariants.{Success, Mismatch, ProgUnavail, ProgMismatch, ProcUnavail, GarbageArgs}
 use Rattle.sv_rpc.specs.Call.{heading}
 use Rattle.sv_rpc.specs.Reply.{reply_fields}
 use Rattle.sv_rpc.specs.Laws.{CallsPrefixFree, RepliesPrefixFree}
-
--- two fields of one kind that begin the same bytes
-one_field : (x y : Field) (bytes after behind : List ℕ) → SameKind x y → Begins bytes x after → Begins bytes y behind → (x ≡ y) × (after ≡ behind)
-one_field x y bytes after behind kind h k =
-    let e = sym h.2 ∙ k.2 in
-    let w = prefix_free x y h.0 k.0 after behind kind h.1 k.1 e in
-    (w.1, append_cancel_left k.0 after behind (ap (λ (l : List ℕ). l ++ after) (sym w.0) ∙ e))
 
 -- The fields are the same as far as they are words or opaque data in both lists, and so is what follows two lists that end together.
 abbrev Agree : List Field → List Field → List ℕ → List ℕ → Type 0

@@ -2,7 +2,7 @@
 use Rattle.std.specs.Prelude.{◌≡◌, ℕ, ◌&&◌, ◌==◌, List, [], ◌∷◌, Result, Ok, Err, if◌then◌else◌}
 use Rattle.sv_xdr.specs.Spelling.{Field, Unsigned, BeginsAll}
 use Rattle.sv_rpc.specs.declared.ports.Ports.{Ports}
-use Rattle.sv_rpc.specs.declared.ports.Garbage.{Garbage}
+use Rattle.sv_xdr.specs.declared.garbage.Garbage.{Garbage}
 
 -- what is asked for: a program, its version and a protocol; a port stands behind them, which nothing depends on
 pub record Mapping : Type 0 where

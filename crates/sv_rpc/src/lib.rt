@@ -13,9 +13,10 @@ mod record_buf;
 mod reply;
 
 pub use call::{Call, CallFault, read_call};
-pub use ports::{Garbage, Ports, getport};
+pub use ports::{Ports, getport};
 pub use record_buf::{RecordBuf, RpcFault};
 pub use reply::{Reply, write_call, write_reply};
+pub use sv_xdr::Garbage;
 
 /// No memory was left.
 pub type NoMemory = AllocError;

@@ -3,8 +3,7 @@
 ghost use Rattle.std.specs.Prelude.{◌≡◌};
 ghost use Rattle.sv_rpc.specs.Ports.{PortIs, port_of as port_for};
 
-use sv_xdr::{Reader, XdrFault};
-use thiserror::Error;
+use sv_xdr::{Garbage, Reader};
 
 /// The number of the core channel's program.
 const CORE: u32 = 0x0607AF;
@@ -22,17 +21,6 @@ pub struct Ports {
     pub core: u16,
     /// Of the abort channel.
     pub abort: u16,
-}
-
-/// The arguments are not spelled as the procedure wants them.
-#[derive(Clone, Copy, Debug, PartialEq, Eq, Error)]
-#[error("the arguments can't be read")]
-pub struct Garbage;
-
-impl From<XdrFault> for Garbage {
-    fn from(_fault: XdrFault) -> Garbage {
-        Garbage
-    }
 }
 
 /// Answers GETPORT: the port of the core or the abort channel, each at version 1 over TCP, and 0 for

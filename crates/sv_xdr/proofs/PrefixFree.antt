@@ -1,11 +1,11 @@
 -- No spelling begins another of its kind.
-use Rattle.std.proofs.Common.{◌≡◌, ℕ, ◌+◌, Bool, true, false, List, ◌++◌, length, refl, sym, ap, subst, ◌∙◌, arith}
+use Rattle.std.proofs.Common.{◌≡◌, ℕ, ◌+◌, Bool, true, false, List, [], ◌∷◌, ◌++◌, length, refl, sym, ap, subst, ◌∙◌, arith}
 use Rattle.std.specs.Prelude.{ℤ, pos, negsuc}
 use Rattle.std.specs.Int.{from_bool}
-use Rattle.std.proofs.lemmas.List.{append_cancel_right}
-use Rattle.sv_xdr.specs.Spelling.{Unsigned, Signed, Boolean, Opaque, IsWord, IsTwosComplement, Spells}
+use Rattle.std.proofs.lemmas.List.{append_cancel_left, append_cancel_right}
+use Rattle.sv_xdr.specs.Spelling.{Field, Unsigned, Signed, Boolean, Opaque, IsWord, IsTwosComplement, Spells, Begins, BeginsAll}
 use Rattle.sv_xdr.specs.Reader.{unsigned_at, opaque_at}
-use Rattle.sv_xdr.specs.Laws.{PrefixFree}
+use Rattle.sv_xdr.specs.Laws.{SameKind, PrefixFree}
 use Rattle.sv_xdr.proofs.Fields.{unsigned_again, opaque_again, pair_parts}
 
 -- two words that begin the same bytes
@@ -59,3 +59,27 @@ prefix_free (Boolean c) (Opaque t) a b after behind kind h k e = absurd kind
 prefix_free (Opaque s) (Unsigned n) a b after behind kind h k e = absurd kind
 prefix_free (Opaque s) (Signed z) a b after behind kind h k e = absurd kind
 prefix_free (Opaque s) (Boolean d) a b after behind kind h k e = absurd kind
+
+-- two fields of one kind that begin the same bytes are one, and so is what follows them
+pub one_field : (x y : Field) (bytes after behind : List ℕ) → SameKind x y → Begins bytes x after → Begins bytes y behind → (x ≡ y) × (after ≡ behind)
+one_field x y bytes after behind kind h k =
+    let e = sym h.2 ∙ k.2 in
+    let w = prefix_free x y h.0 k.0 after behind kind h.1 k.1 e in
+    (w.1, append_cancel_left k.0 after behind (ap (λ (l : List ℕ). l ++ after) (sym w.0) ∙ e))
+
+-- two lists have fields of the same kinds
+abbrev pub SameKinds : List Field → List Field → Type 0
+SameKinds [] [] = Unit {0}
+SameKinds (x ∷ xs) (y ∷ ys) = SameKind x y × SameKinds xs ys
+SameKinds [] (y ∷ ys) = ⊥
+SameKinds (x ∷ xs) [] = ⊥
+
+-- two such lists that begin the same bytes are one, and so is what follows them
+pub all_fields : (xs ys : List Field) (bytes after behind : List ℕ) → SameKinds xs ys → BeginsAll bytes xs after → BeginsAll bytes ys behind → (xs ≡ ys) × (after ≡ behind)
+all_fields [] [] bytes after behind kinds h k = (refl, sym h ∙ k)
+all_fields (x ∷ xs) (y ∷ ys) bytes after behind kinds h k =
+    let one = one_field x y bytes h.0 k.0 kinds.0 h.1 k.1 in
+    let rest = all_fields xs ys k.0 after behind kinds.1 (subst (λ (l : List ℕ). BeginsAll l xs after) one.1 h.2) k.2 in
+    (ap (λ (f : Field). f ∷ xs) one.0 ∙ ap (λ (l : List Field). y ∷ l) rest.0, rest.1)
+all_fields [] (y ∷ ys) bytes after behind kinds h k = absurd kinds
+all_fields (x ∷ xs) [] bytes after behind kinds h k = absurd kinds

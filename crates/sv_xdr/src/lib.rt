@@ -6,10 +6,12 @@
 #![tactic(auto)]
 
 mod fault;
+mod garbage;
 pub mod laws;
 mod reader;
 mod writer;
 
 pub use fault::XdrFault;
+pub use garbage::Garbage;
 pub use reader::Reader;
 pub use writer::Writer;

@@ -1,0 +1,3 @@
+mod Spelled
+mod ArgumentBytes
+mod PrefixFree

@@ -1,0 +1,44 @@
+//! Why a call failed (VXI-11 revision 1.0, section B.5.2).
+
+ghost use Rattle.std.specs.Prelude.{◌≡◌, pos};
+ghost use Rattle.sv_vxi.specs.ErrorCode.{error_number};
+
+/// Why a call failed.
+#[derive(Clone, Copy, Debug, PartialEq, Eq)]
+pub enum ErrorCode {
+    /// It didn't.
+    NoError = 0,
+    /// There is no device of that name.
+    NotAccessible = 3,
+    /// There is no such link, or it isn't one of this connection.
+    InvalidLink = 4,
+    /// A parameter can't be taken, as data that are longer than a write may have.
+    ParameterError = 5,
+    /// There is no interrupt channel.
+    NotEstablished = 6,
+    /// The operation isn't supported.
+    NotSupported = 8,
+    /// There are as many links or channels as there may be.
+    OutOfResources = 9,
+    /// Another link holds the lock.
+    Locked = 11,
+    /// The link holds no lock.
+    NoLock = 12,
+    /// Nothing came, or went, in time.
+    IoTimeout = 15,
+    /// The address isn't one that may be called back.
+    InvalidAddress = 21,
+    /// The call was aborted.
+    Abort = 23,
+    /// There is an interrupt channel already.
+    AlreadyEstablished = 29,
+}
+
+impl ErrorCode {
+    /// The number of the error.
+    pub fn number(self) -> i32
+        ensures { result ≡ pos (error_number self) }
+    {
+        self as i32
+    }
+}

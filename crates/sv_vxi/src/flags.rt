@@ -1,0 +1,31 @@
+//! The flags of a call (VXI-11 revision 1.0, section B.5.3).
+
+ghost use Rattle.std.specs.Prelude.{◌≡◌, ◌==◌};
+ghost use Rattle.std.specs.Int.{bit_at};
+
+/// The flags of a call, any word; bits other than those that are asked for are ignored.
+#[derive(Clone, Copy, Debug, PartialEq, Eq)]
+pub struct Flags(pub u32);
+
+impl Flags {
+    /// Whether the call waits for the lock where another link holds it (bit 0).
+    pub fn has_wait_lock(self) -> bool
+        ensures { result ≡ (bit_at self.0 0 == 1) }
+    {
+        self.0 % 2 == 1
+    }
+
+    /// Whether the last byte of a write ends its message (bit 3).
+    pub fn has_end(self) -> bool
+        ensures { result ≡ (bit_at self.0 3 == 1) }
+    {
+        self.0 / 8 % 2 == 1
+    }
+
+    /// Whether a read ends at the termination character (bit 7).
+    pub fn has_term_char(self) -> bool
+        ensures { result ≡ (bit_at self.0 7 == 1) }
+    {
+        self.0 / 128 % 2 == 1
+    }
+}

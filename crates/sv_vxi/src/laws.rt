@@ -1,0 +1,10 @@
+//! Laws of the spelling alone, on a function that does nothing.
+
+ghost use Rattle.sv_vxi.specs.Laws.{ArgumentsPrefixFree, ResultsPrefixFree};
+
+/// No arguments of a call are a proper prefix of others of that call, and no result of one that is
+/// answered alike: where two begin the same bytes, they are equal, and so is what follows them.
+pub fn prefix_free()
+    ensures arguments { ArgumentsPrefixFree }
+    ensures results { ResultsPrefixFree }
+{}

@@ -1,0 +1,22 @@
+//! The calls of VXI-11 (revision 1.0, sections B.5 and B.6): reading their arguments and writing their
+//! results, for the core and the abort channel.
+//!
+//! No call takes memory.
+#![tactic(auto)]
+
+mod arguments;
+mod error_code;
+mod flags;
+pub mod laws;
+pub mod procedure;
+mod reading;
+mod reason;
+mod results;
+
+pub use arguments::Args;
+pub use error_code::ErrorCode;
+pub use flags::Flags;
+pub use reading::read_args;
+pub use reason::Reason;
+pub use results::{VxiResult, write_result};
+pub use sv_xdr::Garbage;

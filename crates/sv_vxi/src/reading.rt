@@ -1,0 +1,206 @@
+//! Reading the arguments of calls (VXI-11 revision 1.0, sections B.5 and B.6).
+
+ghost use Rattle.std.specs.Prelude.{◌≡◌, ◌++◌, Result, true};
+ghost use Rattle.sv_xdr.specs.declared.garbage.Garbage.{Garbage};
+ghost use Rattle.sv_vxi.specs.Arguments.{Arguments, ArgumentsAre, core_calls, abort_calls, is_one_of};
+ghost use Rattle.sv_vxi.specs.Reading.{arguments_at, create_link_at, device_write_at, device_read_at, generic_at, device_lock_at, device_enable_srq_at, device_docmd_at, create_intr_chan_at, link_at, seen};
+
+use crate::arguments::Args;
+use crate::flags::Flags;
+use crate::procedure::{
+    CREATE_INTR_CHAN, CREATE_LINK, DESTROY_INTR_CHAN, DEVICE_ABORT, DEVICE_CLEAR, DEVICE_DOCMD,
+    DEVICE_ENABLE_SRQ, DEVICE_LOCAL, DEVICE_LOCK, DEVICE_READ, DEVICE_READSTB, DEVICE_REMOTE,
+    DEVICE_TRIGGER, DEVICE_UNLOCK, DEVICE_WRITE,
+};
+use sv_xdr::{Garbage, Reader};
+
+/// The longest handle of an interrupt, in bytes.
+const MAX_HANDLE: u32 = 40;
+
+/// Reads the arguments of a call; bytes behind the last field are ignored. They are garbage where the
+/// bytes don't begin with a spelling of them, as where a boolean is neither 0 nor 1, or a handle is
+/// longer than 40 bytes. `proc` has to be a call of the core channel or device_abort.
+pub fn read_args(proc: u32, bytes: &[u8]) -> Result<Args<'_>, Garbage>
+    requires { is_one_of (core_calls ++ abort_calls) proc ≡ true }
+    // What is read is spelled there, and is garbage only if nothing is.
+    ensures found { ArgumentsAre proc bytes.now (seen result) }
+    // There is no other reading.
+    ensures only { (outcome : Result Arguments Garbage) → ArgumentsAre proc bytes.now outcome → seen result ≡ outcome }
+    ensures exact { seen result ≡ arguments_at proc bytes.now }
+{
+    args_of(proc, bytes)
+}
+
+fn args_of(proc: u32, bytes: &[u8]) -> Result<Args<'_>, Garbage>
+    ensures { seen result ≡ arguments_at proc bytes.now }
+{
+    match proc {
+        CREATE_LINK => create_link(bytes),
+        DEVICE_WRITE => device_write(bytes),
+        DEVICE_READ => device_read(bytes),
+        DEVICE_READSTB | DEVICE_TRIGGER | DEVICE_CLEAR | DEVICE_REMOTE | DEVICE_LOCAL => {
+            generic(proc, bytes)
+        }
+        DEVICE_LOCK => device_lock(bytes),
+        DEVICE_ENABLE_SRQ => device_enable_srq(bytes),
+        DEVICE_DOCMD => device_docmd(bytes),
+        CREATE_INTR_CHAN => create_intr_chan(bytes),
+        DESTROY_INTR_CHAN => Ok(Args::DestroyIntrChan),
+        _ => link(proc, bytes),
+    }
+}
+
+#[tactic(auto, unfolding(crate::specs::Reading::create_link_at))]
+fn create_link(bytes: &[u8]) -> Result<Args<'_>, Garbage>
+    ensures { seen result ≡ create_link_at bytes.now }
+{
+    let mut reader = Reader::new(bytes);
+    Ok(Args::CreateLink {
+        client_id: reader.i32()?,
+        lock_device: reader.boolean()?,
+        lock_timeout: reader.u32()?,
+        device: reader.opaque(u32::MAX)?,
+    })
+}
+
+#[tactic(auto, unfolding(crate::specs::Reading::device_write_at))]
+fn device_write(bytes: &[u8]) -> Result<Args<'_>, Garbage>
+    ensures { seen result ≡ device_write_at bytes.now }
+{
+    let mut reader = Reader::new(bytes);
+    Ok(Args::DeviceWrite {
+        lid: reader.i32()?,
+        io_timeout: reader.u32()?,
+        lock_timeout: reader.u32()?,
+        flags: Flags(reader.u32()?),
+        bytes: reader.opaque(u32::MAX)?,
+    })
+}
+
+#[tactic(auto, unfolding(crate::specs::Reading::device_read_at))]
+fn device_read(bytes: &[u8]) -> Result<Args<'_>, Garbage>
+    ensures { seen result ≡ device_read_at bytes.now }
+{
+    let mut reader = Reader::new(bytes);
+    Ok(Args::DeviceRead {
+        lid: reader.i32()?,
+        request_size: reader.u32()?,
+        io_timeout: reader.u32()?,
+        lock_timeout: reader.u32()?,
+        flags: Flags(reader.u32()?),
+        term_char: reader.u32()?,
+    })
+}
+
+/// Reads the arguments of one of the calls that name a link and say how long to wait.
+#[tactic(auto, unfolding(crate::specs::Reading::generic_at))]
+fn generic(proc: u32, bytes: &[u8]) -> Result<Args<'_>, Garbage>
+    ensures { seen result ≡ generic_at proc bytes.now }
+{
+    let mut reader = Reader::new(bytes);
+    let lid = reader.i32()?;
+    let flags = Flags(reader.u32()?);
+    let lock_timeout = reader.u32()?;
+    let io_timeout = reader.u32()?;
+    Ok(match proc {
+        DEVICE_READSTB => Args::DeviceReadstb {
+            lid,
+            flags,
+            lock_timeout,
+            io_timeout,
+        },
+        DEVICE_TRIGGER => Args::DeviceTrigger {
+            lid,
+            flags,
+            lock_timeout,
+            io_timeout,
+        },
+        DEVICE_CLEAR => Args::DeviceClear {
+            lid,
+            flags,
+            lock_timeout,
+            io_timeout,
+        },
+        DEVICE_REMOTE => Args::DeviceRemote {
+            lid,
+            flags,
+            lock_timeout,
+            io_timeout,
+        },
+        _ => Args::DeviceLocal {
+            lid,
+            flags,
+            lock_timeout,
+            io_timeout,
+        },
+    })
+}
+
+#[tactic(auto, unfolding(crate::specs::Reading::device_lock_at))]
+fn device_lock(bytes: &[u8]) -> Result<Args<'_>, Garbage>
+    ensures { seen result ≡ device_lock_at bytes.now }
+{
+    let mut reader = Reader::new(bytes);
+    Ok(Args::DeviceLock {
+        lid: reader.i32()?,
+        flags: Flags(reader.u32()?),
+        lock_timeout: reader.u32()?,
+    })
+}
+
+#[tactic(auto, unfolding(crate::specs::Reading::device_enable_srq_at))]
+fn device_enable_srq(bytes: &[u8]) -> Result<Args<'_>, Garbage>
+    ensures { seen result ≡ device_enable_srq_at bytes.now }
+{
+    let mut reader = Reader::new(bytes);
+    Ok(Args::DeviceEnableSrq {
+        lid: reader.i32()?,
+        enable: reader.boolean()?,
+        handle: reader.opaque(MAX_HANDLE)?,
+    })
+}
+
+#[tactic(auto, unfolding(crate::specs::Reading::device_docmd_at))]
+fn device_docmd(bytes: &[u8]) -> Result<Args<'_>, Garbage>
+    ensures { seen result ≡ device_docmd_at bytes.now }
+{
+    let mut reader = Reader::new(bytes);
+    Ok(Args::DeviceDocmd {
+        lid: reader.i32()?,
+        flags: Flags(reader.u32()?),
+        io_timeout: reader.u32()?,
+        lock_timeout: reader.u32()?,
+        cmd: reader.i32()?,
+        network_order: reader.boolean()?,
+        datasize: reader.i32()?,
+        bytes: reader.opaque(u32::MAX)?,
+    })
+}
+
+#[tactic(auto, unfolding(crate::specs::Reading::create_intr_chan_at))]
+fn create_intr_chan(bytes: &[u8]) -> Result<Args<'_>, Garbage>
+    ensures { seen result ≡ create_intr_chan_at bytes.now }
+{
+    let mut reader = Reader::new(bytes);
+    Ok(Args::CreateIntrChan {
+        host_addr: reader.u32()?,
+        host_port: reader.u32()?,
+        prog_num: reader.u32()?,
+        prog_vers: reader.u32()?,
+        prog_family: reader.u32()?,
+    })
+}
+
+/// Reads the arguments of one of the calls that name a link alone.
+#[tactic(auto, unfolding(crate::specs::Reading::link_at))]
+fn link(proc: u32, bytes: &[u8]) -> Result<Args<'_>, Garbage>
+    ensures { seen result ≡ link_at proc bytes.now }
+{
+    let mut reader = Reader::new(bytes);
+    let lid = reader.i32()?;
+    Ok(match proc {
+        DEVICE_ABORT => Args::DeviceAbort { lid },
+        DEVICE_UNLOCK => Args::DeviceUnlock { lid },
+        _ => Args::DestroyLink { lid },
+    })
+}

@@ -1,0 +1,27 @@
+//! Why a read ended (VXI-11 revision 1.0, section B.6.4).
+
+ghost use Rattle.std.specs.Prelude.{◌≡◌, pos};
+ghost use Rattle.sv_vxi.specs.Reason.{reason_number};
+
+/// Why a read ended; several reasons may hold at once.
+#[derive(Clone, Copy, Debug, PartialEq, Eq)]
+pub struct Reason {
+    /// As many bytes were read as were asked for (REQCNT).
+    pub request_count: bool,
+    /// The last byte is the termination character (CHR).
+    pub character: bool,
+    /// The last byte ends the response (END).
+    pub end: bool,
+}
+
+impl Reason {
+    /// REQCNT 1, CHR 2 and END 4, as many as hold.
+    pub fn number(self) -> i32
+        ensures { result ≡ pos (reason_number self) }
+    {
+        let bits = u8::from(self.request_count)
+            + 2 * u8::from(self.character)
+            + 4 * u8::from(self.end);
+        i32::from(bits)
+    }
+}

@@ -1,0 +1,194 @@
+//! The results of calls (VXI-11 revision 1.0, sections B.5 and B.6).
+
+ghost use Rattle.std.specs.Prelude.{◌≡◌, ◌<◌, ◌≤◌, ◌^◌, [], map, length, IsErrOf};
+ghost use Rattle.sv_xdr.specs.Spelling.{spelling};
+ghost use Rattle.sv_xdr.specs.Writer.{WritesEach, Stays};
+ghost use Rattle.sv_vxi.specs.ErrorCode.{unless_error as unless_failed};
+ghost use Rattle.sv_vxi.specs.Results.{Link, Size, Read, Status, Plain, Data, plain_result, result_fields, data_of};
+
+use crate::error_code::ErrorCode;
+use crate::reason::Reason;
+use sv_xdr::{Writer, XdrFault};
+
+/// The result of a call, a variant for each shape. Behind an error all other fields are written as 0
+/// or empty, whatever they are.
+#[derive(Clone, Copy, Debug, PartialEq, Eq)]
+pub enum VxiResult<'a> {
+    /// Of create_link.
+    Link {
+        /// Why it failed, if it did.
+        error: ErrorCode,
+        /// The number of the link.
+        lid: i32,
+        /// The port of the abort channel.
+        abort_port: u16,
+        /// The most that a write may bring, in bytes.
+        max_recv_size: u32,
+    },
+    /// Of device_write.
+    Size {
+        /// Why it failed, if it did.
+        error: ErrorCode,
+        /// How many bytes were taken.
+        size: u32,
+    },
+    /// Of device_read.
+    Read {
+        /// Why it failed, if it did.
+        error: ErrorCode,
+        /// Why it ended.
+        reason: Reason,
+        /// The bytes that were read.
+        bytes: &'a [u8],
+    },
+    /// Of device_readstb.
+    Status {
+        /// Why it failed, if it did.
+        error: ErrorCode,
+        /// The status byte (IEEE 488.2, 11.2).
+        stb: u8,
+    },
+    /// Of the calls that tell nothing but whether they failed.
+    Plain {
+        /// Why it failed, if it did.
+        error: ErrorCode,
+    },
+    /// Of device_docmd.
+    Data {
+        /// Why it failed, if it did.
+        error: ErrorCode,
+        /// What the command answers.
+        bytes: &'a [u8],
+    },
+}
+
+impl<'a> VxiResult<'a> {
+    /// The data of the result, where it has any.
+    fn data(&self) -> &'a [u8]
+        ensures { result.now ≡ data_of (plain_result self.now) }
+    {
+        match *self {
+            VxiResult::Read { error, bytes, .. } | VxiResult::Data { error, bytes } => {
+                data_unless_error(error, bytes)
+            }
+            VxiResult::Link { .. }
+            | VxiResult::Size { .. }
+            | VxiResult::Status { .. }
+            | VxiResult::Plain { .. } => &[],
+        }
+    }
+}
+
+/// The data of a result, and none behind an error.
+fn data_unless_error(error: ErrorCode, bytes: &[u8]) -> &[u8]
+    ensures { result.now ≡ unless_failed error bytes.now [] }
+{
+    if error == ErrorCode::NoError {
+        bytes
+    } else {
+        &[]
+    }
+}
+
+/// Writes a result. The fault is `NoRoom`, and the whole fields in front of the one that has no room
+/// stay written; or, for data that no length can tell, `TooLong`, and nothing is written.
+pub fn write_result(writer: &mut Writer<'_>, outcome: &VxiResult<'_>) -> Result<(), XdrFault>
+    ensures same_buffer { writer.new.out.ghost_name ≡ writer.old.out.ghost_name }
+    ensures writes { length (data_of (plain_result outcome.now)) < 2 ^ 32
+        → WritesEach (map spelling (result_fields (plain_result outcome.now))) result writer.old writer.new }
+    ensures too_long { 2 ^ 32 ≤ length (data_of (plain_result outcome.now)) → IsErrOf result XdrFault.TooLong × Stays writer.old writer.new }
+{
+    if u32::try_from(outcome.data().len()).is_err() {
+        return Err(XdrFault::TooLong);
+    }
+    match *outcome {
+        VxiResult::Link {
+            error,
+            lid,
+            abort_port,
+            max_recv_size,
+        } => write_link(writer, error, lid, abort_port, max_recv_size),
+        VxiResult::Size { error, size } => write_number(writer, error, size),
+        VxiResult::Read {
+            error,
+            reason,
+            bytes,
+        } => write_read(writer, error, reason, bytes),
+        VxiResult::Status { error, stb } => write_number(writer, error, u32::from(stb)),
+        VxiResult::Plain { error } => write_error(writer, error),
+        VxiResult::Data { error, bytes } => write_data(writer, error, bytes),
+    }
+}
+
+/// A field of a result: what it is to be, and nothing behind an error.
+fn unless_error<T: Copy>(error: ErrorCode, value: T, nothing: T) -> T
+    ensures { result ≡ unless_failed error value nothing }
+{
+    if error == ErrorCode::NoError {
+        value
+    } else {
+        nothing
+    }
+}
+
+/// Writes the result of create_link.
+fn write_link(
+    writer: &mut Writer<'_>,
+    error: ErrorCode,
+    lid: i32,
+    abort_port: u16,
+    max_recv_size: u32,
+) -> Result<(), XdrFault>
+    ensures same_buffer { writer.new.out.ghost_name ≡ writer.old.out.ghost_name }
+    ensures writes { WritesEach (map spelling (result_fields (Link error lid abort_port max_recv_size))) result writer.old writer.new }
+{
+    writer.i32(error.number())?;
+    writer.i32(unless_error(error, lid, 0))?;
+    writer.u32(u32::from(unless_error(error, abort_port, 0)))?;
+    writer.u32(unless_error(error, max_recv_size, 0))
+}
+
+/// Writes a result that is an error and a number.
+#[tactic(auto, using(sv_xdr::proofs::Appended::each_piece))]
+fn write_number(writer: &mut Writer<'_>, error: ErrorCode, number: u32) -> Result<(), XdrFault>
+    ensures same_buffer { writer.new.out.ghost_name ≡ writer.old.out.ghost_name }
+    ensures writes { WritesEach (map spelling (result_fields (Size error number))) result writer.old writer.new }
+{
+    writer.i32(error.number())?;
+    writer.u32(unless_error(error, number, 0))
+}
+
+/// Writes the result of device_read.
+#[tactic(auto, using(sv_xdr::proofs::Appended::each_piece))]
+fn write_read(
+    writer: &mut Writer<'_>,
+    error: ErrorCode,
+    reason: Reason,
+    bytes: &[u8],
+) -> Result<(), XdrFault>
+    ensures same_buffer { writer.new.out.ghost_name ≡ writer.old.out.ghost_name }
+    ensures writes { length (data_of (Read error reason bytes.now)) < 2 ^ 32 → WritesEach (map spelling (result_fields (Read error reason bytes.now))) result writer.old writer.new }
+{
+    writer.i32(error.number())?;
+    writer.i32(unless_error(error, reason.number(), 0))?;
+    writer.opaque(data_unless_error(error, bytes))
+}
+
+/// Writes a result that is an error alone.
+#[tactic(auto, using(sv_xdr::proofs::Appended::each_piece))]
+fn write_error(writer: &mut Writer<'_>, error: ErrorCode) -> Result<(), XdrFault>
+    ensures same_buffer { writer.new.out.ghost_name ≡ writer.old.out.ghost_name }
+    ensures writes { WritesEach (map spelling (result_fields (Plain error))) result writer.old writer.new }
+{
+    writer.i32(error.number())
+}
+
+/// Writes the result of device_docmd.
+#[tactic(auto, using(sv_xdr::proofs::Appended::each_piece))]
+fn write_data(writer: &mut Writer<'_>, error: ErrorCode, bytes: &[u8]) -> Result<(), XdrFault>
+    ensures same_buffer { writer.new.out.ghost_name ≡ writer.old.out.ghost_name }
+    ensures writes { length (data_of (Data error bytes.now)) < 2 ^ 32 → WritesEach (map spelling (result_fields (Data error bytes.now))) result writer.old writer.new }
+{
+    writer.i32(error.number())?;
+    writer.opaque(data_unless_error(error, bytes))
+}

@@ -1,0 +1,16 @@
+//! Bytes that don't spell what is asked for.
+
+use crate::fault::XdrFault;
+use thiserror::Error;
+
+/// The bytes don't begin with a spelling of the fields that are asked for, as the arguments of a call
+/// that can't be read (RFC 5531, section 9, GARBAGE_ARGS). Which field it is isn't kept.
+#[derive(Clone, Copy, Debug, PartialEq, Eq, Error)]
+#[error("the arguments can't be read")]
+pub struct Garbage;
+
+impl From<XdrFault> for Garbage {
+    fn from(_fault: XdrFault) -> Garbage {
+        Garbage
+    }
+}
