@@ -106,7 +106,7 @@ device_enable_srq_takes bytes a fits e =
 -- of the calls of one shape: fields that are spelled are the arguments of this one
 generic_takes : (proc : ℕ)
     → ((lid : ℤ) (flags lock_timeout io_timeout : ℕ) (bytes after : List ℕ) → BeginsAll bytes (generic_fields lid flags lock_timeout io_timeout) after
-        → ArgumentsAre proc bytes (Ok (generic proc lid flags lock_timeout io_timeout)))
+    → ArgumentsAre proc bytes (Ok (generic proc lid flags lock_timeout io_timeout)))
     → Takes proc (generic_at proc)
 unfolding generic_at
 generic_takes proc is bytes a fits e =
@@ -140,22 +140,53 @@ of_each P [] proc all one = absurd cc
 of_each P (call ∷ calls) proc all one = either (proc == call) (is_one_of calls proc) one (λ same. subst P (sym (eqb-true proc call same)) all.0) (λ rest. of_each P calls proc all.1 rest)
 
 pub arguments_are : (proc : ℕ) (bytes : List ℕ) → IsBytes bytes → is_one_of (core_calls ++ abort_calls) proc ≡ true → ArgumentsAre proc bytes (arguments_at proc bytes)
-arguments_are proc bytes fits one = of_each (IsRead bytes) (core_calls ++ abort_calls) proc
-    (outcome_is 10 bytes (create_link_at bytes) (λ a. create_link_takes bytes a fits) refl,
-    (outcome_is 11 bytes (device_write_at bytes) (λ a. device_write_takes bytes a fits) refl,
-    (outcome_is 12 bytes (device_read_at bytes) (λ a. device_read_takes bytes a fits) refl,
-    (outcome_is 13 bytes (generic_at 13 bytes) (λ a. generic_takes 13 (λ lid flags lock_timeout io_timeout bytes after h. (refl, after, (tt, h))) bytes a fits) refl,
-    (outcome_is 14 bytes (generic_at 14 bytes) (λ a. generic_takes 14 (λ lid flags lock_timeout io_timeout bytes after h. (refl, after, (tt, h))) bytes a fits) refl,
-    (outcome_is 15 bytes (generic_at 15 bytes) (λ a. generic_takes 15 (λ lid flags lock_timeout io_timeout bytes after h. (refl, after, (tt, h))) bytes a fits) refl,
-    (outcome_is 16 bytes (generic_at 16 bytes) (λ a. generic_takes 16 (λ lid flags lock_timeout io_timeout bytes after h. (refl, after, (tt, h))) bytes a fits) refl,
-    (outcome_is 17 bytes (generic_at 17 bytes) (λ a. generic_takes 17 (λ lid flags lock_timeout io_timeout bytes after h. (refl, after, (tt, h))) bytes a fits) refl,
-    (outcome_is 18 bytes (device_lock_at bytes) (λ a. device_lock_takes bytes a fits) refl,
-    (outcome_is 19 bytes (link_at 19 bytes) (λ a. link_takes 19 (λ lid bytes after h. (refl, after, (tt, h))) bytes a fits) refl,
-    (outcome_is 20 bytes (device_enable_srq_at bytes) (λ a. device_enable_srq_takes bytes a fits) refl,
-    (outcome_is 22 bytes (device_docmd_at bytes) (λ a. device_docmd_takes bytes a fits) refl,
-    (outcome_is 23 bytes (link_at 23 bytes) (λ a. link_takes 23 (λ lid bytes after h. (refl, after, (tt, h))) bytes a fits) refl,
-    (outcome_is 25 bytes (create_intr_chan_at bytes) (λ a. create_intr_chan_takes bytes a fits) refl,
-    (outcome_is 26 bytes (Ok DestroyIntrChan) (λ a e. subst (ArgumentsAre 26 bytes) e (refl, bytes, (tt, refl))) refl,
-    (outcome_is 1 bytes (link_at 1 bytes) (λ a. link_takes 1 (λ lid bytes after h. (refl, after, (tt, h))) bytes a fits) refl,
-    tt))))))))))))))))
+arguments_are proc bytes fits one = of_each (IsRead bytes) (core_calls ++ abort_calls) proc (
+  outcome_is 10 bytes (create_link_at bytes) (λ a. create_link_takes bytes a fits) refl,
+  (
+    outcome_is 11 bytes (device_write_at bytes) (λ a. device_write_takes bytes a fits) refl,
+    (
+      outcome_is 12 bytes (device_read_at bytes) (λ a. device_read_takes bytes a fits) refl,
+      (
+        outcome_is 13 bytes (generic_at 13 bytes) (λ a. generic_takes 13 (λ lid flags lock_timeout io_timeout bytes after h. (refl, after, (tt, h))) bytes a fits) refl,
+        (
+          outcome_is 14 bytes (generic_at 14 bytes) (λ a. generic_takes 14 (λ lid flags lock_timeout io_timeout bytes after h. (refl, after, (tt, h))) bytes a fits) refl,
+          (
+            outcome_is 15 bytes (generic_at 15 bytes) (λ a. generic_takes 15 (λ lid flags lock_timeout io_timeout bytes after h. (refl, after, (tt, h))) bytes a fits) refl,
+            (
+              outcome_is 16 bytes (generic_at 16 bytes) (λ a. generic_takes 16 (λ lid flags lock_timeout io_timeout bytes after h. (refl, after, (tt, h))) bytes a fits) refl,
+              (
+                outcome_is 17 bytes (generic_at 17 bytes) (λ a. generic_takes 17 (λ lid flags lock_timeout io_timeout bytes after h. (refl, after, (tt, h))) bytes a fits) refl,
+                (
+                  outcome_is 18 bytes (device_lock_at bytes) (λ a. device_lock_takes bytes a fits) refl,
+                  (
+                    outcome_is 19 bytes (link_at 19 bytes) (λ a. link_takes 19 (λ lid bytes after h. (refl, after, (tt, h))) bytes a fits) refl,
+                    (
+                      outcome_is 20 bytes (device_enable_srq_at bytes) (λ a. device_enable_srq_takes bytes a fits) refl,
+                      (
+                        outcome_is 22 bytes (device_docmd_at bytes) (λ a. device_docmd_takes bytes a fits) refl,
+                        (
+                          outcome_is 23 bytes (link_at 23 bytes) (λ a. link_takes 23 (λ lid bytes after h. (refl, after, (tt, h))) bytes a fits) refl,
+                          (
+                            outcome_is 25 bytes (create_intr_chan_at bytes) (λ a. create_intr_chan_takes bytes a fits) refl,
+                            (
+                              outcome_is 26 bytes (Ok DestroyIntrChan) (λ a e. subst (ArgumentsAre 26 bytes) e (refl, bytes, (tt, refl))) refl,
+                              (
+                                outcome_is 1 bytes (link_at 1 bytes) (λ a. link_takes 1 (λ lid bytes after h. (refl, after, (tt, h))) bytes a fits) refl,
+                                tt,
+                              ),
+                            ),
+                          ),
+                        ),
+                      ),
+                    ),
+                  ),
+                ),
+              ),
+            ),
+          ),
+        ),
+      ),
+    ),
+  ),
+)
     one

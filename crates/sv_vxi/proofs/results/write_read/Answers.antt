@@ -19,5 +19,5 @@ returns-clause-writes c = λ fits.
     let last : Writes (spelling (Opaque text)) c.opaque.result c.i32-2.new.self c.opaque.new.self =
     subst (λ (l : List ℕ). length l < 4294967296 → Writes (spelling (Opaque l)) c.opaque.result c.i32-2.new.self c.opaque.new.self) c.data_unless_error.ensures c.opaque.ensures.exact fits in
     each_first (spelling (error_field c.args.error)) (reason ∷ spelling (Opaque text) ∷ []) c.opaque.result c.args.writer.now c.i32.new.self c.opaque.new.self first
-      (each_first reason (spelling (Opaque text) ∷ []) c.opaque.result c.i32.new.self c.i32-2.new.self c.opaque.new.self second
-        (each_last (spelling (Opaque text)) c.opaque.result c.i32-2.new.self c.opaque.new.self last))
+    (each_first reason (spelling (Opaque text) ∷ []) c.opaque.result c.i32.new.self c.i32-2.new.self c.opaque.new.self second
+    (each_last (spelling (Opaque text)) c.opaque.result c.i32-2.new.self c.opaque.new.self last))
