@@ -5,7 +5,6 @@ pub mod Frames
 pub mod Done
 pub mod ArgumentBytes
 pub mod Cases
-pub mod LiveLinks
 pub mod OneWay
 pub mod Settled
 pub mod Places

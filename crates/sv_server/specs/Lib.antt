@@ -1,6 +1,5 @@
 pub mod Since
 pub mod Event
-pub mod Links
 pub mod Exchange
 pub mod Read
 pub mod ExchangeHeld
@@ -9,7 +8,6 @@ pub mod FirstUnit
 pub mod Act
 pub mod Connection
 pub mod Line
-pub mod Table
 pub mod Arguments
 pub mod Results
 pub mod Serving

@@ -7,7 +7,6 @@ mod event;
 mod exchange;
 pub mod laws;
 mod line;
-mod links;
 mod message;
 mod place;
 mod print;

@@ -1,8 +1,8 @@
 -- What the table of links keeps of the acts.
 use Rattle.std.specs.Prelude.{◌≡◌, ℕ, ◌<◌, List, map, Some, None}
 use Rattle.std.specs.List.{AllByRecursion}
-use Rattle.sv_server.specs.declared.links.Link.{Link}
-use Rattle.sv_server.specs.Links.{LinkAct, made, owner, live}
+use Rattle.sv_links.specs.declared.links.Link.{Link}
+use Rattle.sv_links.specs.Links.{LinkAct, made, owner, live}
 
 -- how many links were ever made, and the live ones, by rising number
 pub record Table : Type 0 where

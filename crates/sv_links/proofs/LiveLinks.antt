@@ -6,9 +6,9 @@ use Rattle.std.proofs.lemmas.Bool.{ne_eqb, cases_eq, cases_lt}
 use Rattle.std.proofs.lemmas.Grind.{reverse_onto}
 use Rattle.std.proofs.lemmas.List.{map_push}
 use Rattle.std.proofs.lemmas.List.Elements.{filter-append, filter_agree}
-use Rattle.sv_server.specs.declared.links.Link.{Link}
-use Rattle.sv_server.specs.Links.{LinkAct, Made, Destroyed, made, owner, numbers_to, is_of, live, links_of, closing}
-use Rattle.sv_server.specs.Table.{Table, IsTable}
+use Rattle.sv_links.specs.declared.links.Link.{Link}
+use Rattle.sv_links.specs.Links.{LinkAct, Made, Destroyed, made, owner, numbers_to, is_of, live, links_of, closing}
+use Rattle.sv_links.specs.Table.{Table, IsTable}
 
 -- whether a number is in a list
 abbrev has : ℕ → List ℕ → Bool

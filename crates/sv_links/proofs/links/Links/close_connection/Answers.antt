@@ -1,7 +1,7 @@
 use Rattle.std.proofs.Common.{◌≡◌, rules}
 use Rattle.std.proofs.lemmas.Fn.{filter_same}
-use Rattle.sv_server.proofs.LiveLinks.{IsTable-closed, others_of}
-use Rattle.sv_server.proofs.links.Links.close_connection.Goals as goal
+use Rattle.sv_links.proofs.LiveLinks.{IsTable-closed, others_of}
+use Rattle.sv_links.proofs.links.Links.close_connection.Goals as goal
 
 pub returns : goal.returns
 returns g c acts is =

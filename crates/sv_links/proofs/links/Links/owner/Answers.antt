@@ -3,9 +3,9 @@ use Rattle.std.specs.Prelude.{None}
 use Rattle.std.specs.List.{AllWithin}
 use Rattle.std.proofs.lemmas.Iterator.{first_from_find, YieldsList-from_slice}
 use Rattle.std.proofs.lemmas.List.Elements.{All-from_all_within, recursion_from_All}
-use Rattle.sv_server.proofs.LiveLinks.{owner-none}
-use Rattle.sv_server.specs.declared.links.Link.{Link}
-use Rattle.sv_server.proofs.links.Links.owner.Goals as goal
+use Rattle.sv_links.proofs.LiveLinks.{owner-none}
+use Rattle.sv_links.specs.declared.links.Link.{Link}
+use Rattle.sv_links.proofs.links.Links.owner.Goals as goal
 
 pub returns-in_err-link : goal.returns-in_err-link
 returns-in_err-link g c acts is =

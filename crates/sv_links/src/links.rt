@@ -1,10 +1,10 @@
 //! Links: which connection made one, while it lives.
 
 ghost use Rattle.std.specs.Prelude.{◌≡◌, ◌+◌, ◌<◌, ◌^◌, ◌&&◌, ℕ, List, [], ◌∷◌, ◌++◌, length, nat_lt, IfOk, OnOk, OnErr, true};
-ghost use Rattle.sv_server.specs.Links.{LinkAct, Made, closing, made, owner, may_make};
-ghost use Rattle.sv_server.specs.Table.{IsTable};
+ghost use Rattle.sv_links.specs.Links.{LinkAct, Made, closing, made, owner, may_make};
+ghost use Rattle.sv_links.specs.Table.{IsTable};
 
-use std::alloc::{AllocError, Allocator};
+use std::alloc::{AllocError, Allocator, Global};
 use std::marker::Model;
 
 /// How many links may live.
@@ -21,15 +21,15 @@ pub struct Link {
     pub conn: u8,
 }
 
-/// The live links, and how many were ever made.
+/// The live links, at most 32, and how many were ever made.
 #[derive(Drop)]
-pub struct Links<A: Allocator> {
+pub struct Links<A: Allocator = Global> {
     made: u32,
     links: Vec<Link, A>,
 }
 
 impl<A: Allocator> Model for Links<A> {
-    ghost use Rattle.sv_server.specs.Table.{Table};
+    ghost use Rattle.sv_links.specs.Table.{Table};
 
     ghost Value = { Table };
 
@@ -59,7 +59,8 @@ impl<A: Allocator> Links<A> {
         self.links.len() < MOST && self.made < LAST as u32
     }
 
-    /// Makes a link, and gives its number. Without memory nothing changes.
+    /// Makes a link, which `may_make` has to allow, and gives its number: one above the last, the
+    /// first being 1. Without memory nothing changes.
     pub fn create(&mut self, conn: u8) -> Result<u32, AllocError>
         requires { (nat_lt (length self.old.links) 32 && nat_lt self.old.made 2147483647) ≡ true }
         ensures number { IfOk result (λ lid. (lid ≡ self.old.made + 1) × (lid < 2 ^ 31)) }
@@ -72,7 +73,7 @@ impl<A: Allocator> Links<A> {
         Ok(lid)
     }
 
-    /// The connection that made a link, while it lives.
+    /// The connection that made the link of this number, while it lives; else none.
     pub fn owner(&self, lid: u32) -> Option<u8>
         ensures { (acts : List LinkAct) → IsTable self.now acts → result ≡ owner lid acts }
     {
@@ -80,7 +81,7 @@ impl<A: Allocator> Links<A> {
         Some(link.conn)
     }
 
-    /// Destroys the links of a connection.
+    /// Destroys the links of a connection. Their numbers don't come again.
     pub fn close_connection(&mut self, conn: u8)
         ensures { (acts : List LinkAct) → IsTable self.old acts → IsTable self.new (closing conn acts ++ acts) }
     {
