@@ -1,10 +1,5 @@
 pub mod Since
 pub mod Event
-pub mod Exchange
-pub mod Read
-pub mod ExchangeHeld
-pub mod ExchangeKept
-pub mod FirstUnit
 pub mod Act
 pub mod Connection
 pub mod Line
@@ -18,7 +13,6 @@ pub mod Asking
 pub mod Acting
 pub mod Served
 pub mod Laws
-pub mod ReadGiven
 pub mod Print
 pub mod Written
 pub mod Replay
