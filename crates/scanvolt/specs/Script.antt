@@ -1,9 +1,9 @@
 -- The script of a text: the events that its lines say. And the print of events, one after the other.
 use Rattle.std.specs.Prelude.{◌≡◌, ◌⊎◌, ℕ, ◌<◌, ◌≤◌, ◌==◌, List, [], ◌∷◌, ◌++◌, length, replicate, Result, Ok, Err, ⊤, if◌then◌else◌}
+use Rattle.sv_exchange.specs.Exchange.{onto}
 use Rattle.sv_server.specs.declared.event.Config.{Config}
 use Rattle.sv_server.specs.declared.replay.ReplayFault.{ReplayFault}
 use Rattle.sv_server.specs.Event.{Happening, Tick}
-use Rattle.sv_server.specs.Exchange.{onto}
 use Rattle.sv_server.specs.Replay.{Replays}
 use Rattle.scanvolt.specs.Line.{Line, Blank, One, Ticks, Says}
 

@@ -1,13 +1,12 @@
 -- Which case of a call's checks it is.
-use Rattle.std.proofs.Common.{◌≡◌, ℕ, ◌<◌, ◌≤◌, Bool, true, false, cond, List, ◌∷◌, length, sym, ap, ◌∙◌}
+use Rattle.std.proofs.Common.{◌≡◌, ℕ, ◌<◌, ◌≤◌, Bool, true, false, cond, List, ◌∷◌, length, ap, ◌∙◌}
 use Rattle.std.specs.Prelude.{not, ◌==◌, Option, nat_lt}
 use Rattle.std.specs.Int.{bit_at}
 use Rattle.std.proofs.lemmas.Bool.{lt-ltb, le-ltb}
+use Rattle.sv_exchange.specs.Exchange.{Accepted, TextDropped, ResponseRead, has_ended, response, is_something}
+use Rattle.sv_exchange.specs.Read.{read_count}
 use Rattle.sv_server.specs.declared.results.ErrorCode.TheVariants.{NoError, InvalidLink, ParameterError, IoTimeout}
 use Rattle.sv_server.specs.Results.{Size}
-use Rattle.sv_server.specs.Exchange.{ExchangeAct, Accepted, TextDropped, answers, ResponseRead, has_ended, response, is_something}
-use Rattle.sv_server.specs.ExchangeHeld.{Held, StandsFor, IsSaid, shown, shown_by}
-use Rattle.sv_server.specs.Read.{read_count}
 use Rattle.sv_server.specs.Act.{Act, Exchanged, exchange_acts}
 use Rattle.sv_server.specs.Serving.{write_device, read_device, read_of, owns, succeeded, no_size, no_bytes}
 
@@ -21,14 +20,6 @@ if_false b x y e = ap (λ (c : Bool). cond c x y) e
 pub flipped : (b c : Bool) → not b ≡ c → b ≡ not c
 flipped true c e = ap not e
 flipped false c e = ap not e
-
-said_shown : (b : Bool) (out : List ℕ) (given : List (List ℕ)) (readable : List ℕ) → IsSaid b out given readable → shown b out ≡ readable
-said_shown true out given readable h = sym h.2
-said_shown false out given readable h = sym h.1
-
--- what can be read is the response
-pub shown_is : (held : Held) (acts : List ExchangeAct) → StandsFor held acts → shown_by held ≡ response acts
-shown_is held acts s = said_shown held.answering held.out (answers acts) (response acts) s.said
 
 -- a write on a link of another connection
 pub write_not_owned : (c xid : ℕ) (lid : Option ℕ) (flags : ℕ) (bytes : List ℕ) (log : List Act) → owns c lid log ≡ false → write_device c xid lid flags bytes log ≡ succeeded c xid (no_size InvalidLink) log

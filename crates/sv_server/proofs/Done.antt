@@ -2,10 +2,10 @@
 use Rattle.std.proofs.Common.{◌≡◌, ℕ, ◌<◌, Bool, List, [], ◌∷◌, ◌++◌, length, get_or, set, refl, sym, ap, subst, ◌∙◌, arith}
 use Rattle.std.specs.Prelude.{is_some, not, map}
 use Rattle.std.proofs.lemmas.Bool.{le-ltb}
-use Rattle.sv_server.specs.Links.{LinkAct, closing}
+use Rattle.sv_links.specs.Links.{LinkAct, closing}
+use Rattle.sv_links.specs.Table.{Table, IsTable}
 use Rattle.sv_server.specs.Act.{Act, PortClosed, Linked, link_acts, exchange_acts}
 use Rattle.sv_server.specs.Connection.{is_open, ticks}
-use Rattle.sv_server.specs.Table.{Table, IsTable}
 use Rattle.sv_server.specs.Line.{Line, IsLine}
 use Rattle.sv_server.specs.State.{State, Represents}
 use Rattle.sv_server.specs.History.{is_shut, closed}

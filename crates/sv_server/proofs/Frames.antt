@@ -3,13 +3,13 @@ use Rattle.std.proofs.Common.{◌≡◌, ◌≢◌, ℕ, ◌+◌, ◌<◌, true,
 use Rattle.std.specs.Prelude.{is_some}
 use Rattle.std.proofs.lemmas.Bool.{ne_eqb, cases_eq}
 use Rattle.std.proofs.lemmas.List.{append-nil}
+use Rattle.sv_links.specs.Links.{LinkAct}
+use Rattle.sv_links.specs.Table.{Table, IsTable}
+use Rattle.sv_exchange.specs.Exchange.{ExchangeAct}
+use Rattle.sv_exchange.specs.ExchangeHeld.{Held as HeldText, StandsFor as HoldsExchange}
 use Rattle.sv_server.specs.declared.event.Port.TheVariants.{Conn, Intr}
-use Rattle.sv_server.specs.Links.{LinkAct}
-use Rattle.sv_server.specs.Exchange.{ExchangeAct}
 use Rattle.sv_server.specs.Act.{Act, Opened, Piece, CallTaken, Faulted, Replied, PortClosed, BytesTaken, Ticked, Linked, Exchanged, link_acts, exchange_acts}
 use Rattle.sv_server.specs.Connection.{is_open, sent, ticks}
-use Rattle.sv_server.specs.Table.{Table, IsTable}
-use Rattle.sv_server.specs.ExchangeHeld.{Held as HeldText, StandsFor as HoldsExchange}
 use Rattle.sv_server.specs.Line.{Line, IsLine}
 use Rattle.sv_server.specs.Served.{SameLine, AddsReply, Serves}
 use Rattle.sv_server.specs.State.{State, Represents}

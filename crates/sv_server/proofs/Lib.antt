@@ -5,16 +5,8 @@ pub mod Frames
 pub mod Done
 pub mod ArgumentBytes
 pub mod Cases
-pub mod LiveLinks
 pub mod OneWay
 pub mod Settled
-pub mod Places
-pub mod Cuts
-pub mod Parts
-pub mod Responses
-pub mod Dues
-pub mod Stands
-pub mod Fields
 pub mod Steps
 pub mod Turned
 pub mod Standing

@@ -1,11 +1,11 @@
 -- An event that was done, and the steps that are due after it, leave what stands for the longer history.
 use Rattle.std.proofs.Common.{◌≡◌, ℕ, zero, suc, List, [], ◌∷◌, ◌∙◌, subst}
 use Rattle.std.specs.Prelude.{Ok}
+use Rattle.sv_exchange.specs.ExchangeHeld.{Held, StandsFor as HoldsExchange}
 use Rattle.sv_server.specs.declared.event.Config.{Config}
 use Rattle.sv_server.specs.declared.event.Did.{Did}
 use Rattle.sv_server.specs.Event.{Happening, IsEvent}
 use Rattle.sv_server.specs.Act.{Act, exchange_acts}
-use Rattle.sv_server.specs.ExchangeHeld.{Held, StandsFor as HoldsExchange}
 use Rattle.sv_server.specs.Settling.{step_of, SettlesIn}
 use Rattle.sv_server.specs.State.{State, Represents, StandsFor}
 use Rattle.sv_server.specs.Acting.{Acts}

@@ -1,11 +1,11 @@
 -- The steps that are due are of the exchange, and one after the other they settle a log.
 use Rattle.std.proofs.Common.{ℕ, suc, zero, true, false, List, [], ◌∷◌, ◌++◌, refl}
 use Rattle.std.specs.Prelude.{map}
-use Rattle.sv_server.specs.Exchange.{ExchangeAct}
+use Rattle.sv_exchange.specs.Exchange.{ExchangeAct}
+use Rattle.sv_exchange.specs.ExchangeHeld.{Held, StandsFor as HoldsExchange}
+use Rattle.sv_exchange.specs.Exchange.{due}
 use Rattle.sv_server.specs.Act.{Act, Exchanged, exchange_acts}
-use Rattle.sv_server.specs.ExchangeHeld.{Held, StandsFor as HoldsExchange}
 use Rattle.sv_server.specs.Settling.{step_acts, step_of, SettlesIn, Settles}
-use Rattle.sv_server.specs.Exchange.{due}
 use Rattle.sv_server.specs.Served.{OnlyExchange, StepDone}
 use Rattle.sv_server.proofs.Frames.{SameLine-then}
 

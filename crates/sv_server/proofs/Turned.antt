@@ -6,6 +6,8 @@ use Rattle.std.specs.Prelude.{Result, Option, Some, None, Ok, Err, is_none, is_s
 use Rattle.sv_rpc.specs.Record.{Tail}
 use Rattle.sv_rpc.specs.RecordBuf.{Held, StandsFor}
 use Rattle.sv_rpc.specs.Call.{call_at}
+use Rattle.sv_links.specs.Table.{Table}
+use Rattle.sv_exchange.specs.ExchangeHeld.{Held as HeldText}
 use Rattle.sv_server.specs.declared.event.Role.{Role}
 use Rattle.sv_server.specs.declared.event.Config.{Config}
 use Rattle.sv_server.specs.declared.event.Did.{Did}
@@ -15,8 +17,6 @@ use Rattle.sv_server.specs.declared.event.Refused.TheVariants.{NoMemory, ConnInU
 use Rattle.sv_server.specs.Event.{Turn}
 use Rattle.sv_server.specs.Act.{Act, CallTaken}
 use Rattle.sv_server.specs.Connection.{open_role, is_open, stream, taken, took_no_call, sent, given, Reads, next_call, is_idle, free}
-use Rattle.sv_server.specs.Table.{Table}
-use Rattle.sv_server.specs.ExchangeHeld.{Held as HeldText}
 use Rattle.sv_server.specs.Line.{Line, IsLine, line_idle, is_none_left, next_left}
 use Rattle.sv_server.specs.Serving.{served_call}
 use Rattle.sv_server.specs.History.{turned, take_call, wants_memory, Refuses, MayLackMemory}

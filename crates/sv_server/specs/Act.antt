@@ -1,9 +1,9 @@
 -- What is recorded of each event, act by act. A log is a list of acts, the newest first.
 use Rattle.std.specs.Prelude.{ℕ, List, [], ◌∷◌}
+use Rattle.sv_links.specs.Links.{LinkAct}
+use Rattle.sv_exchange.specs.Exchange.{ExchangeAct}
 use Rattle.sv_server.specs.declared.event.Role.{Role}
 use Rattle.sv_server.specs.declared.event.Port.{Port}
-use Rattle.sv_server.specs.Links.{LinkAct}
-use Rattle.sv_server.specs.Exchange.{ExchangeAct}
 
 pub data Act : Type 0 where
   Opened : (conn : ℕ) (role : Role) → Act

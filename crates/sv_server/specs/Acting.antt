@@ -1,5 +1,7 @@
 -- What a call of the server does to a log.
 use Rattle.std.specs.Prelude.{◌≡◌, ℕ, ℤ, ◌||◌, ◌==◌, false, nat_lt, List, Some, None, Result, Ok, Err, if◌then◌else◌}
+use Rattle.sv_links.specs.Table.{Table}
+use Rattle.sv_exchange.specs.ExchangeHeld.{Held}
 use Rattle.sv_server.specs.declared.event.Config.{Config}
 use Rattle.sv_server.specs.declared.event.Did.{Did}
 use Rattle.sv_server.specs.declared.event.Did.TheVariants.{Done}
@@ -9,8 +11,6 @@ use Rattle.sv_server.specs.Event.{Happening, Turn}
 use Rattle.sv_server.specs.Act.{Act}
 use Rattle.sv_server.specs.History.{Refuses, Does, DidIs, MayLackMemory, beyond_input}
 use Rattle.sv_server.specs.Line.{Line}
-use Rattle.sv_server.specs.Table.{Table}
-use Rattle.sv_server.specs.ExchangeHeld.{Held}
 use Rattle.sv_server.specs.Served.{OfLine}
 use Rattle.sv_server.specs.State.{State, Represents}
 

@@ -5,6 +5,7 @@ use Rattle.std.specs.Str.{bytes_eq}
 use Rattle.sv_rpc.specs.declared.call.CallFault.{CallFault}
 use Rattle.sv_rpc.specs.Record.{Tail}
 use Rattle.sv_rpc.specs.Call.{Asked, call_at}
+use Rattle.sv_links.specs.Links.{closing, may_make}
 use Rattle.sv_server.specs.declared.event.Role.{Role}
 use Rattle.sv_server.specs.declared.event.Port.TheVariants.{Conn, Intr}
 use Rattle.sv_server.specs.declared.event.Config.{Config}
@@ -14,7 +15,6 @@ use Rattle.sv_server.specs.declared.event.Refused.{Refused}
 use Rattle.sv_server.specs.declared.event.Refused.TheVariants.{NoMemory, ConnInUse, NoConn, NoRoom, NotSent, NoDial, NotRefusable, BadChannel, BadInput, TimeOver}
 use Rattle.sv_server.specs.Event.{IsEvent, IsConfig, Happening, Open, Bytes, Turn, Refuse, Took, Close, Dialed, Input, External, Tick}
 use Rattle.sv_server.specs.Act.{Act, Opened, Piece, BytesTaken, PortClosed, Ticked, Linked, link_acts}
-use Rattle.sv_server.specs.Links.{closing, may_make}
 use Rattle.sv_server.specs.Arguments.{Arguments, CreateLink, DeviceWrite, DeviceRead, arguments_at}
 use Rattle.sv_server.specs.Connection.{is_open, open_role, waiting_on, ticks, Reads, next_call, is_idle, room, free}
 use Rattle.sv_server.specs.Serving.{served, is_served}

@@ -1,15 +1,8 @@
 pub mod Since
 pub mod Event
-pub mod Links
-pub mod Exchange
-pub mod Read
-pub mod ExchangeHeld
-pub mod ExchangeKept
-pub mod FirstUnit
 pub mod Act
 pub mod Connection
 pub mod Line
-pub mod Table
 pub mod Arguments
 pub mod Results
 pub mod Serving
@@ -20,7 +13,6 @@ pub mod Asking
 pub mod Acting
 pub mod Served
 pub mod Laws
-pub mod ReadGiven
 pub mod Print
 pub mod Written
 pub mod Replay

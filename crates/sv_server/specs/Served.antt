@@ -1,11 +1,11 @@
 -- What serving a record leaves, of links, exchange and outgoing bytes.
 use Rattle.std.specs.Prelude.{◌≡◌, ◌≢◌, ℕ, Bool, true, false, List, [], ◌++◌, if◌then◌else◌}
+use Rattle.sv_links.specs.Table.{Table, IsTable}
+use Rattle.sv_exchange.specs.ExchangeHeld.{Held, StandsFor as HoldsExchange}
 use Rattle.sv_server.specs.Act.{Act, link_acts, exchange_acts}
 use Rattle.sv_server.specs.Connection.{open_role, stream, taken, took_no_call, sent, given, ticks}
-use Rattle.sv_server.specs.Table.{Table, IsTable}
 use Rattle.sv_server.specs.Line.{Line, IsLine}
 use Rattle.sv_server.specs.Settling.{step_of}
-use Rattle.sv_server.specs.ExchangeHeld.{Held, StandsFor as HoldsExchange}
 
 -- two logs say the same of a connection
 pub record SameLine (d : ℕ) (log new : List Act) : Type 0 where

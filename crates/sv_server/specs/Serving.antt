@@ -11,6 +11,9 @@ use Rattle.sv_rpc.specs.declared.ports.Garbage.{Garbage}
 use Rattle.sv_rpc.specs.Record.{fragment}
 use Rattle.sv_rpc.specs.Reply.{reply_fields}
 use Rattle.sv_rpc.specs.Call.{Asked, call_at}
+use Rattle.sv_links.specs.Links.{Made, made, owner, may_make, is_of}
+use Rattle.sv_exchange.specs.Exchange.{Accepted, TextDropped, ResponseRead, has_ended, response, is_something}
+use Rattle.sv_exchange.specs.Read.{read_count, ends_at_term}
 use Rattle.sv_server.specs.declared.event.Role.{Role}
 use Rattle.sv_server.specs.declared.event.Role.TheVariants.{Core, Abort, Portmap}
 use Rattle.sv_server.specs.declared.event.Config.{Config}
@@ -18,9 +21,6 @@ use Rattle.sv_server.specs.declared.results.ErrorCode.{ErrorCode}
 use Rattle.sv_server.specs.declared.results.ErrorCode.TheVariants.{NoError, NotAccessible, InvalidLink, ParameterError, NotSupported, OutOfResources, IoTimeout}
 use Rattle.sv_server.specs.Arguments.{Arguments, CreateLink, DeviceWrite, DeviceRead, arguments_at}
 use Rattle.sv_server.specs.Results.{Outcome, Link, Size, Read, result_fields}
-use Rattle.sv_server.specs.Links.{Made, made, owner, may_make, is_of}
-use Rattle.sv_server.specs.Exchange.{Accepted, TextDropped, ResponseRead, has_ended, response, is_something}
-use Rattle.sv_server.specs.Read.{read_count, ends_at_term}
 use Rattle.sv_server.specs.Act.{Act, CallTaken, Faulted, Replied, Linked, Exchanged, link_acts, exchange_acts}
 use Rattle.sv_server.specs.Connection.{open_role}
 

@@ -2,7 +2,7 @@
 use Rattle.std.specs.Prelude.{◌≡◌, ◌≢◌, ℕ, zero, suc, List, [], ◌∷◌, ◌++◌, Bool, map, codes, if◌then◌else◌}
 use Rattle.std.specs.Char.{to_ascii_lowercase}
 use Rattle.std.specs.Str.{bytes_eq}
-use Rattle.sv_server.specs.Exchange.{ExchangeAct, Overran, UnitDone, Answered, AnswersDropped, Finished, Interrupted, Due, NothingDue, OverrunDue, InterruptDue, UnitDue, FinishDue, due, answers, fits_response}
+use Rattle.sv_exchange.specs.Exchange.{ExchangeAct, Overran, UnitDone, Answered, AnswersDropped, Finished, Interrupted, Due, NothingDue, OverrunDue, InterruptDue, UnitDue, FinishDue, due, answers, fits_response}
 use Rattle.sv_server.specs.Act.{Act, Exchanged, exchange_acts}
 
 -- the answer to *IDN? (IEEE 488.2, 10.14)

@@ -1,10 +1,10 @@
 -- What the server keeps, and what of a log and of a history that stands for.
 use Rattle.std.specs.Prelude.{◌≡◌, ℕ, ◌+◌, ◌<◌, ◌≤◌, List, [], None, slice_index_or}
+use Rattle.sv_links.specs.Table.{Table, IsTable}
+use Rattle.sv_exchange.specs.ExchangeHeld.{Held, StandsFor as HoldsExchange}
 use Rattle.sv_server.specs.declared.event.Config.{Config}
 use Rattle.sv_server.specs.Event.{Happening}
 use Rattle.sv_server.specs.Act.{Act, link_acts, exchange_acts}
-use Rattle.sv_server.specs.Table.{Table, IsTable}
-use Rattle.sv_server.specs.ExchangeHeld.{Held, StandsFor as HoldsExchange}
 use Rattle.sv_server.specs.Connection.{open_role, ticks}
 use Rattle.sv_server.specs.Line.{Line, IsLine}
 use Rattle.sv_server.specs.Settling.{step_of}

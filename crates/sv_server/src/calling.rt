@@ -2,9 +2,9 @@
 
 ghost use Rattle.std.specs.Prelude.{◌≡◌, ◌+◌, ◌≤◌, ◌&&◌, List, length, nat_lt, true, false, Ok, Some, vec_len, vec_capacity, IfOk, OnOk, OnErr};
 ghost use Rattle.sv_rpc.specs.Call.{asked, call_at};
+ghost use Rattle.sv_links.specs.Table.{IsTable};
+ghost use Rattle.sv_exchange.specs.ExchangeHeld.{StandsFor as HoldsExchange};
 ghost use Rattle.sv_server.specs.Act.{Act, link_acts, exchange_acts};
-ghost use Rattle.sv_server.specs.Table.{IsTable};
-ghost use Rattle.sv_server.specs.ExchangeHeld.{StandsFor as HoldsExchange};
 ghost use Rattle.sv_server.specs.Arguments.{arguments_at, plain_arguments};
 ghost use Rattle.sv_server.specs.Serving.{lid_of as lid_for, term_of as term_for, called, core_call, is_served as serves_call, served_call};
 ghost use Rattle.sv_server.specs.History.{makes_link, spells_link, wants_memory};
@@ -12,11 +12,11 @@ ghost use Rattle.sv_server.specs.Served.{Serves};
 
 use crate::arguments::{Args, CREATE_LINK, DEVICE_READ, DEVICE_WRITE, Flags, read_args};
 use crate::event::{Config, Role};
-use crate::exchange::Exchange;
-use crate::links::Links;
 use crate::sending::send_reply;
 use crate::serving::{create_link, read_device_bytes, write_device_bytes};
 use std::alloc::{AllocError, Allocator};
+use sv_exchange::Exchange;
+use sv_links::Links;
 use sv_rpc::{Call, Reply, read_call};
 
 /// The number of the core channel's program.

@@ -4,14 +4,9 @@
 mod arguments;
 mod calling;
 mod event;
-mod exchange;
 pub mod laws;
 mod line;
-mod links;
-mod message;
-mod place;
 mod print;
-mod read;
 mod replay;
 mod results;
 mod sending;
@@ -19,7 +14,6 @@ mod server;
 mod serving;
 mod settling;
 mod turn;
-mod units;
 
 pub use event::{Config, Dial, Did, Event, Port, Refused, Role};
 pub use replay::ReplayFault;

@@ -12,13 +12,13 @@ ghost use Rattle.sv_server.specs.State.{Represents, StandsFor};
 ghost use Rattle.sv_server.specs.Asking.{AreWaiting, IsRoom, IsReady, HasFaulted};
 
 use crate::event::{Config, Dial, Did, Event, Port, Refused, Role};
-use crate::exchange::Exchange;
 use crate::line::Line;
-use crate::links::Links;
 use crate::settling::settle;
 use crate::turn::turn;
 use std::alloc::{AllocError, Allocator, Global};
 use std::marker::Model;
+use sv_exchange::Exchange;
+use sv_links::Links;
 
 /// How many connections there may be.
 const CONNECTIONS: usize = 16;

@@ -2,22 +2,22 @@
 
 ghost use Rattle.std.specs.Prelude.{◌≡◌, ◌+◌, ◌<◌, ◌≤◌, ◌^◌, ◌&&◌, pos, List, ◌∷◌, ◌++◌, length, nat_lt, codes, true, false, vec_len, vec_capacity, OnOk, OnErr};
 ghost use Rattle.std.specs.Str.{bytes_eq};
+ghost use Rattle.sv_links.specs.Table.{IsTable};
+ghost use Rattle.sv_exchange.specs.ExchangeHeld.{Held, StandsFor as HoldsExchange, shown_by};
+ghost use Rattle.sv_exchange.specs.Exchange.{ExchangeAct, ResponseRead};
+ghost use Rattle.sv_exchange.specs.Read.{read_count};
 ghost use Rattle.sv_server.specs.Act.{Act, link_acts, exchange_acts};
-ghost use Rattle.sv_server.specs.Table.{IsTable};
-ghost use Rattle.sv_server.specs.ExchangeHeld.{Held, StandsFor as HoldsExchange, shown_by};
-ghost use Rattle.sv_server.specs.Exchange.{ExchangeAct, ResponseRead};
-ghost use Rattle.sv_server.specs.Read.{read_count};
 ghost use Rattle.sv_server.specs.Results.{Link, Size, result_fields};
 ghost use Rattle.sv_server.specs.Serving.{create_link as link_made, owns as owns_link, write_device, read_device, read_of, no_link, no_bytes, reply_record};
 ghost use Rattle.sv_server.specs.Served.{Serves};
 
 use crate::arguments::Flags;
 use crate::event::Config;
-use crate::exchange::Exchange;
-use crate::links::Links;
 use crate::results::{ErrorCode, Reason, VxiResult};
 use crate::sending::send_result;
 use std::alloc::{AllocError, Allocator};
+use sv_exchange::Exchange;
+use sv_links::Links;
 use sv_rpc::Reply;
 
 /// The most that a write may bring, in bytes.

@@ -1,13 +1,13 @@
 //! The steps that follow an event.
 
 ghost use Rattle.std.specs.Prelude.{◌<◌, List, IsTrue};
+ghost use Rattle.sv_exchange.specs.ExchangeHeld.{StandsFor as HoldsExchange, work_of};
 ghost use Rattle.sv_server.specs.Act.{Act, exchange_acts};
-ghost use Rattle.sv_server.specs.ExchangeHeld.{StandsFor as HoldsExchange, work_of};
 ghost use Rattle.sv_server.specs.Settling.{Settles};
 ghost use Rattle.sv_server.specs.Served.{StepDone, OnlyExchange};
 
-use crate::exchange::{Exchange, Next};
 use std::alloc::Allocator;
+use sv_exchange::{Exchange, Next};
 
 /// The answer to `*IDN?` (IEEE 488.2, 10.14).
 const IDENTITY: &[u8] = b"SCANVOLT,SV32,0,1.0";

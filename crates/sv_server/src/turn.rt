@@ -1,18 +1,18 @@
 //! A connection's next call is taken and done.
 
 ghost use Rattle.std.specs.Prelude.{◌≡◌, ◌<◌, ◌≤◌, List, OnErr, option_map};
+ghost use Rattle.sv_links.specs.Table.{IsTable};
+ghost use Rattle.sv_exchange.specs.ExchangeHeld.{StandsFor as HoldsExchange};
 ghost use Rattle.sv_server.specs.Act.{Act, link_acts, exchange_acts};
 ghost use Rattle.sv_server.specs.Line.{IsLine, next_left};
-ghost use Rattle.sv_server.specs.Table.{IsTable};
-ghost use Rattle.sv_server.specs.ExchangeHeld.{StandsFor as HoldsExchange};
 ghost use Rattle.sv_server.specs.Acting.{Turns};
 
 use crate::calling::serve;
 use crate::event::{Config, Did, Refused};
-use crate::exchange::Exchange;
 use crate::line::{Line, OUTGOING};
-use crate::links::Links;
 use std::alloc::Allocator;
+use sv_exchange::Exchange;
+use sv_links::Links;
 use sv_rpc::RecordBuf;
 
 /// How many outgoing bytes have to be free for a call: those of the longest reply.

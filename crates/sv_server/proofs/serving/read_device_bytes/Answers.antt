@@ -1,8 +1,9 @@
 use Rattle.std.proofs.Common.{false, List, sym, subst, ◌∙◌}
+use Rattle.sv_exchange.proofs.Dues.{readable_is}
 use Rattle.sv_server.specs.Act.{Act, exchange_acts}
 use Rattle.sv_server.specs.Served.{Serves}
 use Rattle.sv_server.proofs.Frames.{just_replied, replied_by_exchange}
-use Rattle.sv_server.proofs.Cases.{flipped, shown_is, read_not_owned, read_goes, read_waits, read_drops}
+use Rattle.sv_server.proofs.Cases.{flipped, read_not_owned, read_goes, read_waits, read_drops}
 use Rattle.sv_server.proofs.serving.read_device_bytes.Goals as goal
 
 pub returns-then-not-owns-clause-serves : goal.returns-then-not-owns-clause-serves
@@ -13,7 +14,7 @@ returns-then-not-owns-clause-serves g c = λ log t x.
 
 pub returns-then-readable-clause-serves : goal.returns-then-readable-clause-serves
 returns-then-readable-clause-serves g c = λ log t x.
-    let shown = shown_is c.args.exchange.now (exchange_acts log) x in
+    let shown = sym (readable_is c.args.exchange.now (exchange_acts log) x) in
     let is = read_goes c.args.conn c.args.xid c.args.lid c.args.most c.args.term log (sym (c.owns.ensures log t) ∙ c.if-not-owns.false) (sym (c.readable.ensures.answer _ x) ∙ c.if-readable.true) in
     subst (λ (new : List Act). Serves c.args.conn log new c.args.links.now c.send_response.new.exchange c.args.out.now.items c.send_response.new.out.items false) (sym is)
     (replied_by_exchange c.args.conn _ _ log _ _ _ _ (rw shown at c.send_response.ensures.sent) t (rw shown at (c.send_response.ensures.stands _ x)))

@@ -1,7 +1,7 @@
 use Rattle.std.proofs.Common.{Bool, false, List, ◌∷◌, sym, subst, ◌∙◌}
+use Rattle.sv_exchange.specs.Exchange.{Accepted}
+use Rattle.sv_exchange.specs.ExchangeHeld.{StandsFor as HoldsExchange}
 use Rattle.sv_server.specs.Act.{Act, exchange_acts}
-use Rattle.sv_server.specs.Exchange.{Accepted}
-use Rattle.sv_server.specs.ExchangeHeld.{StandsFor as HoldsExchange}
 use Rattle.sv_server.specs.Served.{Serves}
 use Rattle.sv_server.proofs.Frames.{just_replied, replied_by_exchange}
 use Rattle.sv_server.proofs.Cases.{flipped, write_not_owned, write_too_long, write_waits, write_goes}

@@ -1,4 +1,4 @@
-use Rattle.sv_server.specs.ExchangeHeld.{work_of}
+use Rattle.sv_exchange.specs.ExchangeHeld.{work_of}
 use Rattle.sv_server.proofs.Steps.{AnyStepped}
 use Rattle.sv_server.proofs.settling.settle.Given as goal
 

@@ -1,0 +1,85 @@
+-- Program text cut into messages.
+use Rattle.std.proofs.Common.{◌≡◌, ℕ, zero, suc, ◌+◌, ◌==◌, Bool, true, false, not, ◌&&◌, ◌||◌, cond, List, [], ◌∷◌, ◌++◌, length, take, drop, refl, sym, ap, ◌∙◌, inl, inr, nat_lt, arith}
+use Rattle.std.proofs.lemmas.Bool.{cases_lt, lt-ltb, le-ltb}
+use Rattle.sv_exchange.specs.Exchange.{Symbol, Byte, End, messages, onto}
+use Rattle.sv_exchange.specs.ExchangeHeld.{symbols, following}
+use Rattle.sv_exchange.specs.ExchangeKept.{first_size, has_line, second_at}
+
+-- a byte in front of the first part leaves the parts behind it
+onto_some : (b : ℕ) (parts : List (List ℕ)) → (first : List ℕ) × (others : List (List ℕ)) × (onto b parts ≡ first ∷ others)
+onto_some b [] = (b ∷ [], [], refl)
+onto_some b (part ∷ parts) = (b ∷ part, parts, refl)
+
+-- The parts have a first one.
+abbrev HasFirst : List (List ℕ) → Type 0
+HasFirst parts = (first : List ℕ) × (others : List (List ℕ)) × (parts ≡ first ∷ others)
+
+-- there is always a first message
+pub messages_some : (symbols : List Symbol) → HasFirst (messages symbols)
+messages_some [] = ([], [], refl)
+messages_some (End ∷ symbols) = ([], messages symbols, refl)
+messages_some (Byte b ∷ symbols) = at (b == 10)
+  where
+    at : (t : Bool) → HasFirst (cond t ([] ∷ messages symbols) (onto b (messages symbols)))
+    at true = ([], messages symbols, refl)
+    at false = onto_some b (messages symbols)
+
+-- The last part goes on with the first of new ones.
+abbrev GoesOn : List (List ℕ) → List (List ℕ) → List (List ℕ) → Type 0
+GoesOn before after new = (k : ℕ) (last first : List ℕ) (others : List (List ℕ)) → drop k before ≡ last ∷ [] → new ≡ first ∷ others → drop k after ≡ (last ++ first) ∷ others
+
+-- so do the parts with an empty one in front
+goes_on-behind : (before after new : List (List ℕ)) → HasFirst before → GoesOn before after new → GoesOn ([] ∷ before) ([] ∷ after) new
+goes_on-behind before after new some goes zero last first others h e = let f = some.2 in absurd cc
+goes_on-behind before after new some goes (suc k) last first others h e = goes k last first others h e
+
+-- and those with a byte in front
+goes_on-onto : (b : ℕ) (before after new : List (List ℕ)) → HasFirst before → HasFirst after → GoesOn before after new → GoesOn (onto b before) (onto b after) new
+goes_on-onto b before after new some more goes zero last first others h e =
+    let o : onto b before ≡ (b ∷ some.0) ∷ some.1 = ap (onto b) some.2 in
+    let none : some.1 ≡ [] = cc in
+    let front : b ∷ some.0 ≡ last = cc in
+    let f = some.2 in
+    ap (onto b) (goes 0 some.0 first others (cc) e) ∙ ap (λ (l : List ℕ). (l ++ first) ∷ others) front
+goes_on-onto b before after new some more goes (suc k) last first others h e =
+    let rest : drop k some.1 ≡ last ∷ [] = sym (ap (λ (ps : List (List ℕ)). drop (suc k) (onto b ps)) some.2) ∙ h in
+    ap (λ (ps : List (List ℕ)). drop (suc k) (onto b ps)) more.2 ∙ sym (ap (drop (suc k)) more.2) ∙ goes (suc k) last first others (ap (drop (suc k)) some.2 ∙ rest) e
+
+-- more text goes on with the last message
+pub messages-append : (old new : List Symbol) → GoesOn (messages old) (messages (old ++ new)) (messages new)
+messages-append [] new zero last first others h e = let l : [] ≡ last = cc in e ∙ ap (λ (l : List ℕ). (l ++ first) ∷ others) l
+messages-append [] new (suc zero) last first others h e = absurd cc
+messages-append [] new (suc (suc k)) last first others h e = absurd cc
+messages-append (End ∷ old) new k last first others h e = goes_on-behind (messages old) (messages (old ++ new)) (messages new) (messages_some old) (messages-append old new) k last first others h e
+messages-append (Byte b ∷ old) new k last first others h e = at (b == 10) (messages-append old new) k last first others h e
+  where
+    at : (t : Bool) → GoesOn (messages old) (messages (old ++ new)) (messages new)
+        → GoesOn (cond t ([] ∷ messages old) (onto b (messages old))) (cond t ([] ∷ messages (old ++ new)) (onto b (messages (old ++ new)))) (messages new)
+    at true goes = goes_on-behind (messages old) (messages (old ++ new)) (messages new) (messages_some old) goes
+    at false goes = goes_on-onto b (messages old) (messages (old ++ new)) (messages new) (messages_some old) (messages_some (old ++ new)) goes
+
+-- the first message is cut off behind so many bytes of so many
+abbrev cut_at : ℕ → ℕ → List ℕ → Bool → List (List ℕ)
+cut_at n size bytes mark = take n bytes ∷ following (nat_lt n size || mark) (drop (cond (nat_lt n size) (n + 1) size) bytes) (nat_lt n size && mark)
+
+-- a byte in front
+cut_at-cons : (b n m : ℕ) (bytes : List ℕ) (mark : Bool) → m ≡ suc n → onto b (cut_at n (length bytes) bytes mark) ≡ cut_at m (suc (length bytes)) (b ∷ bytes) mark
+cut_at-cons b n m bytes mark e =
+    elim (cases_lt n (length bytes)) [
+      | inl lt ↦
+          let next : suc n + 1 ≡ suc (n + 1) = omega arith in
+          rw (e, lt-ltb n (length bytes) lt, lt-ltb (suc n) (suc (length bytes)) (omega arith), next) refl
+      | inr ge ↦ rw (e, le-ltb n (length bytes) ge, le-ltb (suc n) (suc (length bytes)) (omega arith)) refl
+    ]
+
+-- the first message, and those behind it
+pub first_cut : (bytes : List ℕ) (mark : Bool)
+    → messages (symbols bytes mark) ≡ take (first_size bytes) bytes ∷ following (has_line bytes || mark) (drop (second_at bytes) bytes) (has_line bytes && mark)
+first_cut [] true = refl
+first_cut [] false = refl
+first_cut (b ∷ bytes) mark = at (b == 10) (first_cut bytes mark)
+  where
+    at : (t : Bool) → messages (symbols bytes mark) ≡ cut_at (first_size bytes) (length bytes) bytes mark
+        → cond t ([] ∷ messages (symbols bytes mark)) (onto b (messages (symbols bytes mark))) ≡ cut_at (cond (not t) (1 + first_size bytes) 0) (suc (length bytes)) (b ∷ bytes) mark
+    at true h = rw (lt-ltb 0 (suc (length bytes)) (omega arith)) refl
+    at false h = ap (onto b) h ∙ cut_at-cons b (first_size bytes) (1 + first_size bytes) bytes mark (omega arith)

@@ -1,0 +1,8 @@
+pub mod Places
+pub mod Cuts
+pub mod Parts
+pub mod Responses
+pub mod Dues
+pub mod Stands
+pub mod Fields
+pub mod LeftToDo

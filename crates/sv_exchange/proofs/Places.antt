@@ -1,0 +1,45 @@
+-- Where an element first stands.
+use Rattle.std.proofs.Common.{◌≡◌, ℕ, zero, suc, ◌+◌, ◌≤◌, ◌==◌, Bool, true, false, not, cond, List, [], ◌∷◌, length, take, min, refl, inl, inr, unwrap_or, Some, arith}
+use Rattle.sv_exchange.specs.Read.{up_to, read_count}
+use Rattle.std.specs.List.{position, position_or_len}
+use Rattle.std.proofs.lemmas.Bool.{cases_lt, lt-ltb, le-ltb}
+use Rattle.std.proofs.lemmas.List.Sums.{prefix_len-le-length}
+
+-- no place is behind the end
+pub place_within : (p : ℕ → Bool) (bytes : List ℕ) → position_or_len p bytes ≤ length bytes
+place_within p bytes = prefix_len-le-length (λ b. not (p b)) bytes
+
+-- the place, or the length
+pub place_or_len : (p : ℕ → Bool) (bytes : List ℕ) → unwrap_or (position p bytes) (length bytes) ≡ position_or_len p bytes
+place_or_len p bytes =
+    let le = place_within p bytes in
+    elim (cases_lt (position_or_len p bytes) (length bytes)) [
+      | inl lt ↦ rw (lt-ltb (position_or_len p bytes) (length bytes) lt) refl
+      | inr ge ↦ rw (le-ltb (position_or_len p bytes) (length bytes) ge) (omega arith)
+    ]
+
+-- among the first k
+pub place-take : (p : ℕ → Bool) (bytes : List ℕ) (k : ℕ) → position_or_len p (take k bytes) ≡ min (position_or_len p bytes) (min k (length bytes))
+place-take p [] zero = refl
+place-take p [] (suc k) = omega arith
+place-take p (b ∷ bytes) zero = omega arith
+place-take p (b ∷ bytes) (suc k) = at (p b) (place-take p bytes k)
+  where
+    at : (t : Bool) → position_or_len p (take k bytes) ≡ min (position_or_len p bytes) (min k (length bytes))
+        → cond (not t) (1 + position_or_len p (take k bytes)) 0 ≡ min (cond (not t) (1 + position_or_len p bytes) 0) (min (suc k) (suc (length bytes)))
+    at true h = omega arith
+    at false h = omega arith
+
+-- up to the place and with it
+pub up_to_place : (p : ℕ → Bool) (bytes : List ℕ) → up_to (position p bytes) (length bytes) ≡ min (position_or_len p bytes + 1) (length bytes)
+up_to_place p bytes =
+    let le = place_within p bytes in
+    elim (cases_lt (position_or_len p bytes) (length bytes)) [
+      | inl lt ↦ rw (lt-ltb (position_or_len p bytes) (length bytes) lt) (omega arith)
+      | inr ge ↦ rw (le-ltb (position_or_len p bytes) (length bytes) ge) (omega arith)
+    ]
+
+-- how many bytes a read gives that looks for the termination character within its limit
+pub count_by_place : (response : List ℕ) (most last limit place count : ℕ) → limit ≡ min most (min 8192 (length response)) → place ≡ position_or_len (λ b. b == last) (take limit response)
+    → count ≡ min limit (place + 1) → count ≡ read_count response most (Some last)
+count_by_place response most last limit place count e f h = omega (arith, place-take (λ b. b == last) response limit, up_to_place (λ b. b == last) response)

@@ -1,0 +1,232 @@
+-- What is held after an act stands for the acts with that one.
+use Rattle.std.proofs.Common.{◌≡◌, ◌≢◌, ℕ, zero, suc, ◌+◌, ◌≤◌, ◌<◌, ◌==◌, Bool, true, false, not, ◌&&◌, ◌||◌, cond, List, [], ◌∷◌, ◌++◌, length, take, drop, refl, sym, ap, ◌∙◌, nat_lt, append_assoc, IsTrue, arith}
+use Rattle.std.proofs.lemmas.Bool.{lt-ltb, le-ltb, ltb-true}
+use Rattle.std.proofs.lemmas.List.{length-append, drop-drop, drop_all, length-take-le}
+use Rattle.sv_exchange.specs.Exchange.{ExchangeAct, Accepted, UnitDone, Answered, AnswersDropped, Finished, ResponseRead, text, messages, message, finished, current, units, has_dropped, answers, response, fits_response, is_something, joined}
+use Rattle.sv_exchange.specs.ExchangeHeld.{Held, StandsFor, IsSaid, IsUnitDue, symbols, following, shown, shown_by, next_of, is_open, may_respond}
+use Rattle.sv_exchange.specs.ExchangeKept.{first_size, has_line, second_at, after_accept, after_finish, with_answer}
+use Rattle.sv_exchange.specs.FirstUnit.{IsFirst}
+use Rattle.sv_exchange.proofs.Places.{place_within}
+use Rattle.sv_exchange.proofs.Cuts.{messages-append, first_cut}
+use Rattle.sv_exchange.proofs.Responses.{response_after, response-finished, response-read}
+use Rattle.sv_exchange.proofs.Dues.{at_unit, readable_is}
+
+-- bytes that aren't something are none
+nothing_there : (bytes : List ℕ) → is_something bytes ≡ false → bytes ≡ []
+nothing_there [] h = refl
+nothing_there (b ∷ bytes) h = absurd cc
+
+-- a unit was executed
+pub done_stands : (held new : Held) (acts : List ExchangeAct) (unit : List ℕ) (count : ℕ) → IsUnitDue (next_of held) → IsFirst held.rest unit count
+    → new ≡ record held { rest = drop count held.rest } → StandsFor held acts → StandsFor new (UnitDone ∷ acts)
+done_stands held new acts unit count due first is s =
+    let at = at_unit held due in
+    let more : units s.message ≡ (s.executed ++ unit ∷ []) ++ units (drop count held.rest) =
+    s.units_left at.short ∙ ap (λ (us : List (List ℕ)). s.executed ++ us) first.units ∙ sym (append_assoc s.executed (unit ∷ []) (units (drop count held.rest))) in
+    rw is (record {
+      message = s.message;
+      executed = s.executed ++ unit ∷ [];
+      text_left = s.text_left;
+      size = s.size;
+      units_left = λ short. more;
+      count = omega (arith, length-append s.executed (unit ∷ []), s.count);
+      quiet = λ later. readable_is held acts s ∙ nothing_there (shown_by held) at.quiet;
+      whole = λ unended. (let z : true ≡ false = sym at.ended ∙ unended in absurd cc);
+      unbegun = λ unended. (let z : true ≡ false = sym at.ended ∙ unended in absurd cc);
+      silent = s.silent;
+      told = s.told;
+      lost = s.lost;
+      said = s.said;
+    })
+
+-- the text behind a message that has ended
+following_ended : (ended : Bool) (later : List ℕ) (mark : Bool) → ended ≡ true → following ended later mark ≡ messages (symbols later mark)
+following_ended true later mark e = refl
+following_ended false later mark e = absurd cc
+
+-- and behind one that hasn't
+following_open : (ended : Bool) (later : List ℕ) (mark : Bool) → ended ≡ false → following ended later mark ≡ []
+following_open false later mark e = refl
+following_open true later mark e = absurd cc
+
+-- the answers become the response
+said_after : (answering : Bool) (out : List ℕ) (given : List (List ℕ)) (readable : List ℕ) → IsSaid answering out given readable
+    → response_after given readable ≡ cond answering (out ++ 10 ∷ []) out
+said_after true out [] readable said = absurd (said.0 refl)
+said_after true out (answer ∷ others) readable said = ap (λ (l : List ℕ). l ++ 10 ∷ []) (sym said.1)
+said_after false out given readable said = ap (λ (g : List (List ℕ)). response_after g readable) said.0 ∙ said.1
+
+-- a message was finished
+pub finish_stands : (held new : Held) (acts : List ExchangeAct) → held.ended ≡ true → length held.later ≤ 4096 → new ≡ after_finish held → StandsFor held acts → StandsFor new (Finished ∷ acts)
+finish_stands held new acts ended few is s =
+    let size = place_within (λ b. b == 10) held.later in
+    let first : List ℕ = take (first_size held.later) held.later in
+    let behind : drop 1 (drop (finished acts) (messages (text acts))) ≡ first ∷ following (has_line held.later || held.mark) (drop (second_at held.later) held.later) (has_line held.later && held.mark) =
+    ap (drop 1) s.text_left ∙ following_ended held.ended held.later held.mark ended ∙ first_cut held.later held.mark in
+    rw is (record {
+      message = first;
+      executed = [];
+      text_left = sym (drop-drop 1 (finished acts) (messages (text acts))) ∙ behind;
+      size = sym (le-ltb 4096 (length first) (omega (arith, length-take-le (first_size held.later) held.later size)));
+      units_left = λ short. refl;
+      count = refl;
+      quiet = λ later. absurd cc;
+      whole = λ unended short. refl;
+      unbegun = λ unended. refl;
+      silent = λ unended. refl;
+      told = refl;
+      lost = refl;
+      said = (refl, response-finished acts ∙ said_after held.answering held.out (answers acts) (response acts) s.said);
+    })
+
+-- what is so where an answer may come
+pub may_parts : (ended lost something : Bool) → IsTrue (ended && (not lost && not something)) → (ended ≡ true) × (lost ≡ false) × (something ≡ false)
+may_parts true false false h = (refl, refl, refl)
+may_parts true true something h = absurd cc
+may_parts true false true h = absurd cc
+may_parts false lost something h = absurd cc
+
+-- one more answer
+joined-push : (given : List (List ℕ)) (answer : List ℕ) → given ≢ [] → joined (given ++ answer ∷ []) ≡ joined given ++ 59 ∷ answer
+joined-push [] answer some = absurd (some refl)
+joined-push (first ∷ []) answer some = refl
+joined-push (first ∷ second ∷ given) answer some =
+    ap (λ (l : List ℕ). first ++ 59 ∷ l) (joined-push (second ∷ given) answer (λ e. cc)) ∙ sym (append_assoc first (59 ∷ joined (second ∷ given)) (59 ∷ answer))
+
+-- with one more answer there are some
+push_some : (given : List (List ℕ)) (answer : List ℕ) → given ++ answer ∷ [] ≢ []
+push_some [] answer e = cc
+push_some (first ∷ given) answer e = cc
+
+-- what is kept with an answer
+joined_with : (answering : Bool) (out : List ℕ) (given : List (List ℕ)) (readable answer : List ℕ) → IsSaid answering out given readable → joined (given ++ answer ∷ []) ≡ with_answer answering out answer
+joined_with true out given readable answer said = joined-push given answer said.0 ∙ ap (λ (l : List ℕ). l ++ 59 ∷ answer) (sym said.1)
+joined_with false out given readable answer said = ap (λ (g : List (List ℕ)). joined (g ++ answer ∷ [])) said.0
+
+-- whether an answer fits
+pub fits_is : (held : Held) (acts : List ExchangeAct) (answer : List ℕ) (size : ℕ) → length (with_answer held.answering held.out answer) ≡ size → StandsFor held acts → fits_response (answers acts) answer ≡ nat_lt size 8192
+fits_is held acts answer size e s =
+    ap (λ (l : List ℕ). nat_lt (length l) 8192) (joined_with held.answering held.out (answers acts) (response acts) answer s.said) ∙ ap (λ (n : ℕ). nat_lt n 8192) e
+
+-- an answer was put behind those before it
+pub answered_stands : (held new : Held) (acts : List ExchangeAct) (answer : List ℕ) → IsTrue (may_respond held) → new ≡ record held { answering = true; out = with_answer held.answering held.out answer }
+    → StandsFor held acts → StandsFor new (Answered answer ∷ acts)
+answered_stands held new acts answer may is s =
+    let parts = may_parts held.ended held.lost (is_something (shown_by held)) may in
+    let kept : has_dropped (current acts) ≡ false = s.lost ∙ parts.1 in
+    let now : answers (Answered answer ∷ acts) ≡ answers acts ++ answer ∷ [] = rw kept refl in
+    rw is (record {
+      message = s.message;
+      executed = s.executed;
+      text_left = s.text_left;
+      size = s.size;
+      units_left = s.units_left;
+      count = s.count;
+      quiet = s.quiet;
+      whole = s.whole;
+      unbegun = s.unbegun;
+      silent = λ unended. (let z : true ≡ false = sym parts.0 ∙ unended in absurd cc);
+      told = s.told;
+      lost = s.lost;
+      said = (
+        λ none. push_some (answers acts) answer (sym now ∙ none),
+        sym (joined_with held.answering held.out (answers acts) (response acts) answer s.said) ∙ ap joined (sym now),
+        readable_is held acts s ∙ nothing_there (shown_by held) parts.2,
+      );
+    })
+
+-- all answers were dropped
+pub dropped_stands : (held new : Held) (acts : List ExchangeAct) → IsTrue (may_respond held) → new ≡ record held { lost = true; answering = false; out = [] }
+    → StandsFor held acts → StandsFor new (AnswersDropped ∷ acts)
+dropped_stands held new acts may is s =
+    let parts = may_parts held.ended held.lost (is_something (shown_by held)) may in
+    rw is (record {
+      message = s.message;
+      executed = s.executed;
+      text_left = s.text_left;
+      size = s.size;
+      units_left = s.units_left;
+      count = s.count;
+      quiet = s.quiet;
+      whole = s.whole;
+      unbegun = s.unbegun;
+      silent = λ unended. refl;
+      told = s.told;
+      lost = refl;
+      said = (refl, readable_is held acts s ∙ nothing_there (shown_by held) parts.2);
+    })
+
+-- what isn't true is false
+pub not_true : (b : Bool) → IsTrue (not b) → b ≡ false
+not_true true h = absurd cc
+not_true false h = refl
+
+-- while a message is too long it stays so
+long_on : (long : Bool) (message first rest : List ℕ) (n : ℕ) → long ≡ nat_lt 4096 (length message) → length first ≡ n → (long ≡ false → message ≡ rest)
+    → (long || nat_lt 4096 (length rest + n)) ≡ nat_lt 4096 (length (message ++ first))
+long_on true message first rest n e f whole =
+    let more : 4096 < length (message ++ first) = omega (arith, length-append message first, ltb-true 4096 (length message) (sym e)) in
+    sym (lt-ltb 4096 (length (message ++ first)) more)
+long_on false message first rest n e f whole =
+    let size : length rest + n ≡ length (message ++ first) = omega (arith, length-append message first, ap length (whole refl)) in
+    ap (nat_lt 4096) size
+
+-- of a message that isn't too long all bytes are kept
+grown : (long more : Bool) (message first rest : List ℕ) → (long || more) ≡ false → (long ≡ false → message ≡ rest) → message ++ first ≡ cond (long || more) [] (rest ++ first)
+grown false false message first rest short whole = ap (λ (l : List ℕ). l ++ first) (whole refl)
+grown false true message first rest short whole = absurd cc
+grown true more message first rest short whole = absurd cc
+
+-- text was taken in
+pub accept_stands : (held new : Held) (acts : List ExchangeAct) (bytes : List ℕ) (ended : Bool) → IsTrue (is_open held) → new ≡ after_accept held bytes ended
+    → StandsFor held acts → StandsFor new (Accepted bytes ended ∷ acts)
+accept_stands held new acts bytes ended open_now is s =
+    let unended : held.ended ≡ false = not_true held.ended open_now in
+    let first : List ℕ = take (first_size bytes) bytes in
+    let size : length first ≡ first_size bytes = length-take-le (first_size bytes) bytes (place_within (λ b. b == 10) bytes) in
+    let alone : drop (finished acts) (messages (text acts)) ≡ s.message ∷ [] = s.text_left ∙ ap (λ (ms : List (List ℕ)). s.message ∷ ms) (following_open held.ended held.later held.mark unended) in
+    let more : Bool = nat_lt 4096 (length held.rest + first_size bytes) in
+    let rest : (held.long || more) ≡ false → s.message ++ first ≡ cond (held.long || more) [] (held.rest ++ first) = λ short. grown held.long more s.message first held.rest short (s.whole unended) in
+    rw is (record {
+      message = s.message ++ first;
+      executed = [];
+      text_left = messages-append (text acts) (symbols bytes ended) (finished acts) s.message first _ alone (first_cut bytes ended);
+      size = long_on held.long s.message first held.rest (first_size bytes) s.size size (s.whole unended);
+      units_left = λ short. ap units (rest short);
+      count = sym (ap length (s.unbegun unended)) ∙ s.count;
+      quiet = s.quiet;
+      whole = λ _ short. rest short;
+      unbegun = λ _. refl;
+      silent = λ _. s.silent unended;
+      told = s.told;
+      lost = s.lost;
+      said = s.said;
+    })
+
+-- what was read is taken from what is kept
+read_said : (answering : Bool) (out : List ℕ) (given : List (List ℕ)) (readable : List ℕ) (count : ℕ) → count ≤ length (shown answering out)
+    → IsSaid answering out given readable → IsSaid answering (drop count out) given (drop count readable)
+read_said true out given readable zero few said = said
+read_said true out given readable (suc count) few said = absurd (omega arith)
+read_said false out given readable count few said = (said.0, ap (drop count) said.1)
+
+-- bytes of the response were read
+pub read_stands : (held new : Held) (acts : List ExchangeAct) (count : ℕ) → count ≤ length (shown_by held) → new ≡ record held { out = drop count held.out }
+    → StandsFor held acts → StandsFor new (ResponseRead count ∷ acts)
+read_stands held new acts count few is s =
+    let left : response (ResponseRead count ∷ acts) ≡ drop count (response acts) = response-read acts count in
+    rw is (record {
+      message = s.message;
+      executed = s.executed;
+      text_left = s.text_left;
+      size = s.size;
+      units_left = s.units_left;
+      count = s.count;
+      quiet = λ later. left ∙ drop_all count (response acts) (omega (arith, ap length (s.quiet later)));
+      whole = s.whole;
+      unbegun = s.unbegun;
+      silent = s.silent;
+      told = s.told;
+      lost = s.lost;
+      said = rw left (read_said held.answering held.out (answers acts) (response acts) count few s.said);
+    })

@@ -1,0 +1,13 @@
+-- What a read gives, part by part.
+use Rattle.std.specs.Prelude.{◌≡◌, ℕ, ◌≤◌, ◌==◌, List, length, take, Option}
+use Rattle.sv_exchange.specs.declared.read.Read.{Read}
+use Rattle.sv_exchange.specs.Read.{read_count, ends_at_term}
+
+-- A read of at most so many bytes gives this of a response: its bytes, and the reasons why it ends there.
+pub record IsReadOf (read : Read) (response : List ℕ) (most : ℕ) (term : Option ℕ) : Type 0 where
+  pub bytes : read.bytes.now ≡ take (read_count response most term) response
+  pub size : length read.bytes.now ≡ read_count response most term
+  pub within : length read.bytes.now ≤ length response
+  pub request_count : read.request_count ≡ (read_count response most term == most)
+  pub character : read.character ≡ ends_at_term response (read_count response most term) term
+  pub end : read.end ≡ (read_count response most term == length response)

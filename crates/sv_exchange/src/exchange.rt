@@ -1,0 +1,332 @@
+//! Program messages in, and responses out.
+
+ghost use Rattle.std.specs.Prelude.{◌≡◌, ℕ, ◌+◌, ◌*◌, ◌<◌, ◌≤◌, ◌==◌, Bool, true, false, not, List, [], ◌∷◌, ◌++◌, Option, length, take, drop, nat_lt, vec_len, vec_capacity, IsTrue, IfOk, if◌then◌else◌};
+ghost use Rattle.sv_exchange.specs.Exchange.{ExchangeAct, Accepted, TextDropped, Overran, UnitDone, Answered, AnswersDropped, Finished, Interrupted, ResponseRead, OverrunDue, InterruptDue, FinishDue, due, has_ended, answers, response, fits_response, is_something};
+ghost use Rattle.sv_exchange.specs.ReadGiven.{IsReadOf};
+ghost use Rattle.sv_exchange.specs.ExchangeHeld.{Held, StandsFor, nothing_held, is_open, shown_by, next_of, IsUnitDue, may_respond, work_of, seen};
+ghost use Rattle.sv_exchange.specs.ExchangeKept.{after_accept, after_finish, after_answer, with_answer};
+
+use crate::message::first_message;
+use crate::read::{Read, read_of};
+use crate::units::first_unit;
+use std::alloc::{AllocError, Allocator, Global};
+use std::marker::Model;
+
+/// How long a program message may be, and how many bytes are written at once.
+const MAX_MESSAGE: usize = 4096;
+/// How long a response may be, with its new line.
+const MAX_RESPONSE: usize = 8192;
+/// How much text may wait: a message that hasn't ended, and a write.
+const MAX_TEXT: usize = 8192;
+
+/// What is due.
+#[derive(Clone, Copy)]
+pub enum Next<'a> {
+    /// Nothing, before more text comes.
+    Nothing,
+    /// The current message is too long, which is to be told.
+    Overrun,
+    /// A unit is about to be executed while a response stands, which is dropped before.
+    Interrupt,
+    /// This unit is to be executed.
+    Unit(&'a [u8]),
+    /// The current message is to be finished.
+    Finish,
+}
+
+/// The exchange of messages with an instrument (IEEE 488.2, 6.1 and 6.3): program text that waits,
+/// cut into messages and units, and the response. It holds no more than 8,192 bytes of each.
+#[derive(Drop)]
+pub struct Exchange<A: Allocator = Global> {
+    /// Program text, whose units are executed up to `at`.
+    text: Vec<u8, A>,
+    at: usize,
+    /// Where the current message ends.
+    end: usize,
+    /// Where the next message begins.
+    behind: usize,
+    /// Whether the current message has ended.
+    ended: bool,
+    /// Whether END came with the last byte of the later text.
+    mark: bool,
+    /// Whether the current message is too long, whose bytes are dropped then.
+    long: bool,
+    /// Whether that was told.
+    told: bool,
+    /// Whether the answers of the current message were dropped.
+    lost: bool,
+    /// Whether the response isn't a response yet, but the answers of the current message.
+    answering: bool,
+    response: Vec<u8, A>,
+    /// How many bytes of the response were read.
+    taken: usize,
+}
+
+impl<A: Allocator> Model for Exchange<A> {
+    ghost use Rattle.sv_exchange.specs.ExchangeHeld.{Held};
+
+    ghost Value = { Held };
+
+    ghost use Rattle.std.specs.Prelude.{vec_capacity};
+    ghost use Rattle.sv_exchange.specs.ExchangeKept.{held_of, IsKept};
+
+    ghost view = { λ a. held_of a.text.items a.at a.end a.behind a.ended a.mark a.long a.told a.lost a.answering a.response.items a.taken };
+
+    ghost invariant = { λ a. IsKept a.text.items a.at a.end a.behind a.ended (vec_capacity a.text) a.response.items a.taken a.answering (vec_capacity a.response) };
+}
+
+impl<A: Allocator + Copy> Exchange<A> {
+    /// An exchange with no text and no response. It takes all the memory that it ever uses.
+    pub fn new(alloc: A) -> Result<Exchange<A>, AllocError>
+        ensures { IfOk result (λ exchange. (exchange ≡ nothing_held) × StandsFor exchange []) }
+    {
+        Ok(Exchange {
+            text: Vec::with_capacity(alloc, MAX_TEXT)?,
+            at: 0,
+            end: 0,
+            behind: 0,
+            ended: false,
+            mark: false,
+            long: false,
+            told: false,
+            lost: false,
+            answering: false,
+            response: Vec::with_capacity(alloc, MAX_RESPONSE)?,
+            taken: 0,
+        })
+    }
+}
+
+impl<A: Allocator> Exchange<A> {
+    /// Whether no ended message waits to be finished, so that more text is taken.
+    pub fn open_for_write(&self) -> bool
+        ensures value { result ≡ is_open self.now }
+        ensures answer { (acts : List ExchangeAct) → StandsFor self.now acts → result ≡ not (has_ended acts) }
+    {
+        !self.ended
+    }
+
+    /// Takes in the bytes of a write, and whether END came with the last of them (VXI-11,
+    /// device_write). A message ends at END or at a new line (IEEE 488.2, 7.5). Of one that is too
+    /// long, above 4,096 bytes, none are kept. It has to be open for a write, of at most 4,096 bytes.
+    pub fn accept(&mut self, bytes: &[u8], ended: bool)
+        requires open { IsTrue (is_open self.old) }
+        requires short { length bytes.now ≤ 4096 }
+        ensures value { self.new ≡ after_accept self.old bytes.now ended }
+        ensures bounded { work_of self.new ≤ work_of self.old + 3 * length bytes.now + 4 }
+        ensures stands { (acts : List ExchangeAct) → StandsFor self.old acts → StandsFor self.new (Accepted bytes.now ended ∷ acts) }
+    {
+        self.text.drain(..self.at);
+        let before = self.text.len();
+        append(&mut self.text, bytes);
+        let cut = first_message(bytes, ended);
+        self.end = before + cut.size;
+        self.behind = before + cut.behind;
+        self.ended = cut.ended;
+        self.mark = cut.mark;
+        self.long |= self.end > MAX_MESSAGE;
+        self.at = if self.long { self.end } else { 0 };
+    }
+
+    /// What is due. Of a message that is too long or lost its answers no unit is.
+    pub fn next_unit(&self) -> Next<'_>
+        ensures value { seen result ≡ next_of self.now }
+        ensures answer { (acts : List ExchangeAct) → StandsFor self.now acts → seen result ≡ due acts }
+    {
+        if self.long && !self.told {
+            return Next::Overrun;
+        }
+        if !self.ended {
+            return Next::Nothing;
+        }
+        if self.long || self.lost {
+            return Next::Finish;
+        }
+        match first_unit(&self.text[self.at..self.end]) {
+            Some((unit, _)) => {
+                if self.readable() {
+                    Next::Interrupt
+                } else {
+                    Next::Unit(unit)
+                }
+            }
+            None => Next::Finish,
+        }
+    }
+
+    /// Steps over the unit that was due, which was executed.
+    pub fn done(&mut self)
+        requires { IsUnitDue (next_of self.old) }
+        ensures value { self.new ≡ record self.old { rest = self.new.rest } }
+        ensures less { work_of self.new < work_of self.old }
+        ensures as_open { is_open self.new ≡ is_open self.old }
+        ensures may_respond { IsTrue (may_respond self.new) }
+        ensures stands { (acts : List ExchangeAct) → StandsFor self.old acts → StandsFor self.new (UnitDone ∷ acts) }
+    {
+        if let Some((_, count)) = first_unit(&self.text[self.at..self.end]) {
+            self.at += count;
+        }
+    }
+
+    /// The message that is too long was told. It is dropped up to its end.
+    pub fn overran(&mut self)
+        requires { next_of self.old ≡ OverrunDue }
+        ensures value { self.new ≡ record self.old { told = true } }
+        ensures less { work_of self.new < work_of self.old }
+        ensures as_open { is_open self.new ≡ is_open self.old }
+        ensures stands { (acts : List ExchangeAct) → StandsFor self.old acts → StandsFor self.new (Overran ∷ acts) }
+    {
+        self.told = true;
+    }
+
+    /// Drops the response, which is interrupted by a new message (IEEE 488.2, 6.3.2.3).
+    pub fn drop_response(&mut self)
+        requires { next_of self.old ≡ InterruptDue }
+        ensures value { self.new ≡ record self.old { out = [] } }
+        ensures less { work_of self.new < work_of self.old }
+        ensures as_open { is_open self.new ≡ is_open self.old }
+        ensures stands { (acts : List ExchangeAct) → StandsFor self.old acts → StandsFor self.new (Interrupted ∷ acts) }
+    {
+        self.taken = self.response.len();
+    }
+
+    /// Goes on to the next message. Where there were answers, they become the response, with a new
+    /// line (IEEE 488.2, 8.5).
+    pub fn finish(&mut self)
+        requires { next_of self.old ≡ FinishDue }
+        ensures value { self.new ≡ after_finish self.old }
+        ensures less { work_of self.new < work_of self.old }
+        ensures stands { (acts : List ExchangeAct) → StandsFor self.old acts → StandsFor self.new (Finished ∷ acts) }
+    {
+        end_response(&mut self.response, self.answering);
+        let cut = first_message(&self.text[self.behind..], self.mark);
+        self.at = self.behind;
+        self.end = self.behind + cut.size;
+        self.behind += cut.behind;
+        self.ended = cut.ended;
+        self.mark = cut.mark;
+        self.long = false;
+        self.told = false;
+        self.lost = false;
+        self.answering = false;
+    }
+
+    /// Puts an answer behind those of the units before, with a semicolon between (IEEE 488.2,
+    /// 8.4.1); a unit has to have been executed before. It tells whether it fits: where the response
+    /// would be longer than 8,192 bytes, all answers of the message are dropped, and no further unit
+    /// of it is executed.
+    pub fn respond(&mut self, answer: &[u8]) -> bool
+        requires { IsTrue (may_respond self.old) }
+        ensures value { self.new ≡ after_answer self.old answer.now result }
+        ensures fits { result ≡ nat_lt (length (with_answer self.old.answering self.old.out answer.now)) 8192 }
+        ensures no_more { work_of self.new ≤ work_of self.old }
+        ensures as_open { is_open self.new ≡ is_open self.old }
+        ensures stands { (acts : List ExchangeAct) → StandsFor self.old acts → (result ≡ fits_response (answers acts) answer.now) × StandsFor self.new ((if result then Answered answer.now else AnswersDropped) ∷ acts) }
+    {
+        let before = if self.answering {
+            self.response.len() + 1
+        } else {
+            0
+        };
+        self.taken = 0;
+        if answer.len() >= MAX_RESPONSE - before {
+            self.response.clear();
+            self.answering = false;
+            self.lost = true;
+            return false;
+        }
+        put_answer(&mut self.response, self.answering, answer);
+        self.answering = true;
+        true
+    }
+
+    /// Whether there are bytes of a response to read. The answers of a message are a response once
+    /// it is finished.
+    pub fn readable(&self) -> bool
+        ensures value { result ≡ is_something (shown_by self.now) }
+        ensures answer { (acts : List ExchangeAct) → StandsFor self.now acts → result ≡ is_something (response acts) }
+    {
+        !self.shown().is_empty()
+    }
+
+    /// The next bytes of the response: at most as many as asked for, and no further than to the
+    /// first termination character (VXI-11, device_read). There are none where nothing is readable.
+    pub fn peek(&self, most: u32, term: Option<u8>) -> Read<'_>
+        ensures value { IsReadOf result (shown_by self.now) most term }
+        ensures answer { (acts : List ExchangeAct) → StandsFor self.now acts → IsReadOf result (response acts) most term }
+    {
+        read_of(self.shown(), most, term)
+    }
+
+    /// Drops so many bytes of the response, which were read (VXI-11, device_read).
+    pub fn take(&mut self, count: usize)
+        requires { count ≤ length (shown_by self.old) }
+        ensures value { self.new ≡ record self.old { out = drop count self.old.out } }
+        ensures as_open { is_open self.new ≡ is_open self.old }
+        ensures stands { (acts : List ExchangeAct) → StandsFor self.old acts → StandsFor self.new (ResponseRead count ∷ acts) }
+    {
+        self.taken += count;
+    }
+
+    /// Drops the text of the current message, which must not have ended (IEEE 488.2, 6.3.2.2).
+    pub fn drop_unfinished(&mut self)
+        requires { IsTrue (is_open self.old) }
+        ensures value { self.new ≡ record nothing_held { answering = self.old.answering; out = self.old.out } }
+        ensures still_open { IsTrue (is_open self.new) }
+        ensures stands { (acts : List ExchangeAct) → StandsFor self.old acts → StandsFor self.new (TextDropped ∷ acts) }
+    {
+        self.text.clear();
+        self.at = 0;
+        self.end = 0;
+        self.behind = 0;
+        self.mark = false;
+        self.long = false;
+        self.told = false;
+        self.lost = false;
+    }
+
+    /// What can be read.
+    fn shown(&self) -> &[u8]
+        ensures { result.now ≡ shown_by self.now }
+    {
+        if self.answering {
+            &[]
+        } else {
+            &self.response[self.taken..]
+        }
+    }
+}
+
+/// Puts a piece behind bytes that have room for it.
+fn append<A: Allocator>(bytes: &mut Vec<u8, A>, piece: &[u8])
+    requires { vec_len bytes.old + length piece.now ≤ vec_capacity bytes.old }
+    ensures items { bytes.new.items ≡ bytes.old.items ++ piece.now }
+    ensures capacity { vec_capacity bytes.old ≤ vec_capacity bytes.new }
+{
+    bytes.extend_from_slice(piece).unwrap();
+}
+
+/// Puts an answer behind those before it, with a semicolon between; or in the place of all bytes.
+fn put_answer<A: Allocator>(bytes: &mut Vec<u8, A>, joins: bool, answer: &[u8])
+    requires { length (with_answer joins bytes.old.items answer.now) ≤ vec_capacity bytes.old }
+    ensures items { bytes.new.items ≡ with_answer joins bytes.old.items answer.now }
+    ensures capacity { vec_capacity bytes.old ≤ vec_capacity bytes.new }
+{
+    if joins {
+        bytes.push_reserved(b';');
+    } else {
+        bytes.clear();
+    }
+    append(bytes, answer);
+}
+
+/// Ends answers by a new line, where there are any.
+fn end_response<A: Allocator>(bytes: &mut Vec<u8, A>, answers: bool)
+    requires { IsTrue answers → vec_len bytes.old < vec_capacity bytes.old }
+    ensures items { bytes.new.items ≡ (if answers then bytes.old.items ++ 10 ∷ [] else bytes.old.items) }
+    ensures capacity { vec_capacity bytes.old ≤ vec_capacity bytes.new }
+{
+    if answers {
+        bytes.push_reserved(b'\n');
+    }
+}

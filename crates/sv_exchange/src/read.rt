@@ -1,0 +1,60 @@
+//! Reading from a response.
+
+ghost use Rattle.std.specs.Prelude.{◌≡◌, ◌≤◌, length};
+ghost use Rattle.sv_exchange.specs.Read.{read_count, ends_at_term};
+ghost use Rattle.sv_exchange.specs.ReadGiven.{IsReadOf};
+
+use crate::place::place_of;
+
+/// How many bytes are given at once.
+const MAX_READ: usize = 8192;
+
+/// The next bytes of a response, and why they end there.
+#[derive(Clone, Copy)]
+pub struct Read<'a> {
+    /// As many bytes came as were asked for.
+    pub request_count: bool,
+    /// The last byte is the termination character.
+    pub character: bool,
+    /// The last byte is the response's last.
+    pub end: bool,
+    /// The bytes.
+    pub bytes: &'a [u8],
+}
+
+/// The first bytes of a response: at most as many as asked for, and no further than to the first
+/// termination character (VXI-11, device_read).
+pub(crate) fn read_of(response: &[u8], most: u32, term: Option<u8>) -> Read<'_>
+    ensures { IsReadOf result response.now most term }
+{
+    let count = count_of(response, most, term);
+    Read {
+        request_count: count == most as usize,
+        character: ends_at(response, count, term),
+        end: count == response.len(),
+        bytes: &response[..count],
+    }
+}
+
+/// How many bytes a read gives.
+fn count_of(response: &[u8], most: u32, term: Option<u8>) -> usize
+    ensures value { result ≡ read_count response.now most term }
+    ensures within { result ≤ length response.now }
+{
+    let limit = (most as usize).min(MAX_READ.min(response.len()));
+    match term {
+        Some(last) => limit.min(place_of(&response[..limit], last) + 1),
+        None => limit,
+    }
+}
+
+/// Whether the last of the first so many bytes is the termination character.
+fn ends_at(response: &[u8], count: usize, term: Option<u8>) -> bool
+    requires { count ≤ length response.now }
+    ensures { result ≡ ends_at_term response.now count term }
+{
+    match term {
+        Some(last) => count > 0 && response[count - 1] == last,
+        None => false,
+    }
+}
