@@ -213,3 +213,49 @@ IsTable-closed table c acts is = record {
   below = λ lid more. owner-closed table c lid acts is ∙ ap (other_owner c) (is.below lid (rw (made-destroyed (links_of c acts) acts) at more));
   zero = owner-closed table c 0 acts is ∙ ap (other_owner c) is.zero;
 }
+
+-- ---- one link that is destroyed
+
+-- the links but this
+abbrev pub links_but : ℕ → List Link → List Link
+links_but lid links = filter (λ link. not (eqb link.lid lid)) links
+
+gone_or_there : (b : Bool) (o : Option ℕ) → is_some (cond b None o) ≡ (is_some o && not b)
+gone_or_there true o = and_false (is_some o)
+gone_or_there false o = sym (and_true (is_some o))
+
+numbers_but : (lid : ℕ) (links : List Link) → filter (λ n. not (eqb lid n)) (map (λ link. link.lid) links) ≡ map (λ link. link.lid) (links_but lid links)
+numbers_but lid [] = refl
+numbers_but lid (link ∷ links) = elim (cases_eq link.lid lid) [
+  | inl e ↦ rw (eq-eqb lid link.lid (sym e), eq-eqb link.lid lid e) (numbers_but lid links)
+  | inr ne ↦ rw (ne_eqb lid link.lid (λ e. ne (sym e)), ne_eqb link.lid lid ne) (ap (λ (ns : List ℕ). link.lid ∷ ns) (numbers_but lid links))
+]
+
+live-but : (table : Table) (lid : ℕ) (acts : List LinkAct) → IsTable table acts → live (Destroyed lid ∷ acts) ≡ map (λ (link : Link). link.lid) (links_but lid table.links)
+live-but table lid acts is =
+    let p = λ (n : ℕ). is_some (owner n acts) in
+    let q = λ (n : ℕ). not (eqb lid n) in
+    filter_agree _ (λ n. p n && q n) (λ n. gone_or_there (eqb lid n) (owner n acts)) (numbers_to (made acts))
+    ∙ sym (filter-filter p q (numbers_to (made acts))) ∙ ap (filter q) (sym is.lids) ∙ numbers_but lid table.links
+
+owners-but : (lid : ℕ) (acts : List LinkAct) (links : List Link) → AllByRecursion (λ link. owner link.lid acts ≡ Some link.conn) links
+    → AllByRecursion (λ link. owner link.lid (Destroyed lid ∷ acts) ≡ Some link.conn) (links_but lid links)
+owners-but lid acts [] owned = tt
+owners-but lid acts (link ∷ links) owned = elim (cases_eq link.lid lid) [
+  | inl e ↦ rw (eq-eqb link.lid lid e) (owners-but lid acts links owned.1)
+  | inr ne ↦ rw (ne_eqb link.lid lid ne) ((rw (ne_eqb lid link.lid (λ e. ne (sym e))) owned.0), owners-but lid acts links owned.1)
+]
+
+gone_anyway : (b : Bool) (o : Option ℕ) → o ≡ None → cond b None o ≡ None
+gone_anyway true o e = refl
+gone_anyway false o e = e
+
+-- the table without a link
+pub IsTable-destroyed : (table : Table) (lid : ℕ) (acts : List LinkAct) → IsTable table acts → IsTable (record { made = table.made; links = links_but lid table.links }) (Destroyed lid ∷ acts)
+IsTable-destroyed table lid acts is = record {
+  count = is.count;
+  lids = sym (live-but table lid acts is);
+  owners = owners-but lid acts table.links is.owners;
+  below = λ n more. gone_anyway (eqb lid n) (owner n acts) (is.below n more);
+  zero = gone_anyway (eqb lid 0) (owner 0 acts) is.zero;
+}

@@ -1,7 +1,7 @@
 //! Links: which connection made one, while it lives.
 
 ghost use Rattle.std.specs.Prelude.{◌≡◌, ◌+◌, ◌<◌, ◌^◌, ◌&&◌, ℕ, List, [], ◌∷◌, ◌++◌, length, nat_lt, IfOk, OnOk, OnErr, true};
-ghost use Rattle.sv_links.specs.Links.{LinkAct, Made, closing, made, owner, may_make};
+ghost use Rattle.sv_links.specs.Links.{LinkAct, Made, Destroyed, closing, made, owner, may_make};
 ghost use Rattle.sv_links.specs.Table.{IsTable};
 
 use std::alloc::{AllocError, Allocator, Global};
@@ -79,6 +79,13 @@ impl<A: Allocator> Links<A> {
     {
         let link = self.links.iter().find(|link| link.lid == lid)?;
         Some(link.conn)
+    }
+
+    /// Destroys a link; one that doesn't live changes nothing.
+    pub fn destroy(&mut self, lid: u32)
+        ensures { (acts : List LinkAct) → IsTable self.old acts → IsTable self.new (Destroyed lid ∷ acts) }
+    {
+        self.links.retain(|link| link.lid != lid);
     }
 
     /// Destroys the links of a connection. Their numbers don't come again.

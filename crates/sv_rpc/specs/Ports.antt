@@ -1,6 +1,8 @@
 -- GETPORT of the port mapper, version 2 (RFC 1833, section 3).
 use Rattle.std.specs.Prelude.{◌≡◌, ℕ, ◌&&◌, ◌==◌, List, [], ◌∷◌, Result, Ok, Err, if◌then◌else◌}
 use Rattle.sv_xdr.specs.Spelling.{Field, Unsigned, BeginsAll}
+use Rattle.sv_xdr.specs.Reader.{unsigned_at}
+use Rattle.sv_xdr.specs.Garbage.{◌>>=◌}
 use Rattle.sv_rpc.specs.declared.ports.Ports.{Ports}
 use Rattle.sv_xdr.specs.declared.garbage.Garbage.{Garbage}
 
@@ -24,3 +26,12 @@ port_of ports m =
 abbrev pub PortIs : Ports → List ℕ → Result ℕ Garbage → Type 0
 PortIs ports args (Ok port) = (m : Mapping) × (after : List ℕ) × BeginsAll args (mapping_fields m) after × (port ≡ port_of ports m)
 PortIs ports args (Err garbage) = (m : Mapping) (after : List ℕ) → BeginsAll args (mapping_fields m) after → ⊥
+
+-- the answer, read from left to right
+unfoldable pub port_at : Ports → List ℕ → Result ℕ Garbage
+port_at ports args = do
+  prog ← unsigned_at args
+  vers ← unsigned_at prog.1
+  prot ← unsigned_at vers.1
+  port ← unsigned_at prot.1
+  Ok (port_of ports (record { prog = prog.0; vers = vers.0; prot = prot.0; port = port.0 }))

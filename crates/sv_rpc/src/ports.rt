@@ -1,7 +1,7 @@
 //! The port mapper's GETPORT (RFC 1833, section 3).
 
 ghost use Rattle.std.specs.Prelude.{◌≡◌};
-ghost use Rattle.sv_rpc.specs.Ports.{PortIs, port_of as port_for};
+ghost use Rattle.sv_rpc.specs.Ports.{PortIs, port_of as port_for, port_at};
 
 use sv_xdr::{Garbage, Reader};
 
@@ -25,8 +25,11 @@ pub struct Ports {
 
 /// Answers GETPORT: the port of the core or the abort channel, each at version 1 over TCP, and 0 for
 /// every other program, version or protocol. Bytes behind the arguments are ignored.
+#[tactic(auto, unfolding(crate::specs::Ports::port_at))]
 pub fn getport(args: &[u8], ports: Ports) -> Result<u32, Garbage>
-    ensures { PortIs ports args.now result }
+    ensures told { PortIs ports args.now result }
+    // Which answer it is, as a function of the bytes.
+    ensures exact { result ≡ port_at ports args.now }
 {
     let mut reader = Reader::new(args);
     let prog = reader.u32()?;

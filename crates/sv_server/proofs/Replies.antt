@@ -6,12 +6,12 @@ use Rattle.std.proofs.lemmas.List.{length-append, length-take-le, length-replica
 use Rattle.std.proofs.lemmas.List.Folds.{concat-append}
 use Rattle.sv_xdr.specs.declared.fault.XdrFault.{XdrFault}
 use Rattle.sv_xdr.specs.declared.writer.Writer.{Writer}
-use Rattle.sv_xdr.specs.Spelling.{spelling, pad_len}
+use Rattle.sv_xdr.specs.Spelling.{Field, Unsigned, Opaque, spelling, pad_len}
 use Rattle.sv_xdr.specs.Writer.{text_of, rest_of, Appends, WritesEach}
 use Rattle.sv_rpc.specs.declared.reply.Reply.{Reply}
 use Rattle.sv_rpc.specs.declared.reply.Reply.TheVariants.{Success, Mismatch, ProgUnavail, ProgMismatch, ProcUnavail, GarbageArgs}
 use Rattle.sv_rpc.specs.Reply.{reply_fields}
-use Rattle.sv_server.specs.Results.{Outcome, Link, Size, Read, result_fields, IsShort, FitsLength}
+use Rattle.sv_vxi.specs.Results.{Outcome, Link, Size, Read, Status, Plain, Data, result_fields, data_of}
 
 -- bytes that were written leave so much less room
 room_left : (bytes : List ℕ) (old new : Writer) → Appends bytes old new → length bytes + length (rest_of new) ≡ length (rest_of old)
@@ -44,39 +44,38 @@ reply_is_short xid GarbageArgs = omega arith
 pub success_is_short : (xid : ℕ) → length (concat (map spelling (reply_fields xid Success))) ≡ 24
 success_is_short xid = refl
 
+-- data of at most 8,192 bytes are spelled in four bytes more
+text_is_short : (bytes : List ℕ) → length bytes ≤ 8192 → length (spelling (Opaque bytes)) ≤ 8196
+text_is_short bytes h = omega (arith, length-append bytes (replicate (pad_len (length bytes)) 0), length-replicate {A = ℕ} (pad_len (length bytes)) 0)
+
 -- a result is at most error, reason and 8,192 bytes
-pub result_is_short : (outcome : Outcome) → IsShort outcome → length (concat (map spelling (result_fields outcome))) ≤ 8204
-result_is_short (Link error lid abort_port max_size) h = omega arith
+pub result_is_short : (outcome : Outcome) → length (data_of outcome) ≤ 8192 → length (concat (map spelling (result_fields outcome))) ≤ 8204
+result_is_short (Link error lid abort_port max_recv_size) h = omega arith
 result_is_short (Size error size) h = omega arith
 result_is_short (Read error reason bytes) h =
-    omega (
-      arith,
-      length-append bytes (replicate (pad_len (length bytes)) 0),
-      length-replicate {A = ℕ} (pad_len (length bytes)) 0,
-      length-append (bytes ++ replicate (pad_len (length bytes)) 0) [],
-    )
+    let text = data_of (Read error reason bytes) in
+    omega (arith, text_is_short text h, length-append (spelling (Opaque text)) [])
+result_is_short (Status error stb) h = omega arith
+result_is_short (Plain error) h = omega arith
+result_is_short (Data error bytes) h =
+    let text = data_of (Data error bytes) in
+    omega (arith, text_is_short text h, length-append (spelling (Opaque text)) [])
 
-pub short_fits : (outcome : Outcome) → IsShort outcome → FitsLength outcome
-short_fits (Link error lid abort_port max_size) h = tt
-short_fits (Size error size) h = tt
-short_fits (Read error reason bytes) h = omega arith
-
--- the header of a reply and a result behind it are all written
-pub both_are_written : (xid : ℕ) (outcome : Outcome) (r s : Result Unit XdrFault) (old mid new : Writer) → text_of old ≡ [] → 8228 ≤ length (rest_of old) → IsShort outcome
-    → WritesEach (map spelling (reply_fields xid Success)) r old mid → WritesEach (map spelling (result_fields outcome)) s mid new
-    → text_of new ≡ concat (map spelling (reply_fields xid Success ++ result_fields outcome))
-both_are_written xid outcome r s old mid new empty room short first second =
+-- the header of a reply and short fields behind it are all written
+pub both_are_written : (xid : ℕ) (fields : List Field) (r s : Result Unit XdrFault) (old mid new : Writer) → text_of old ≡ [] → 8228 ≤ length (rest_of old)
+    → length (concat (map spelling fields)) ≤ 8204 → WritesEach (map spelling (reply_fields xid Success)) r old mid → WritesEach (map spelling fields) s mid new
+    → text_of new ≡ concat (map spelling (reply_fields xid Success ++ fields))
+both_are_written xid fields r s old mid new empty room short first second =
     let header = map spelling (reply_fields xid Success) in
-    let fields = map spelling (result_fields outcome) in
-    let size = result_is_short outcome short in
+    let body = map spelling fields in
     let one = whole_is_written header r old mid first (omega (arith, success_is_short xid)) in
     let left = room_left (concat header) old mid one in
-    let two = whole_is_written fields s mid new second (omega (arith, success_is_short xid)) in
-    let text : text_of new ≡ ([] ++ concat header) ++ concat fields = two.text ∙ ap (λ (t : List ℕ). t ++ concat fields) (one.text ∙ ap (λ (t : List ℕ). t ++ concat header) empty) in
-    text ∙ sym (concat-append header fields)
+    let two = whole_is_written body s mid new second (omega (arith, success_is_short xid)) in
+    let text : text_of new ≡ ([] ++ concat header) ++ concat body = two.text ∙ ap (λ (t : List ℕ). t ++ concat body) (one.text ∙ ap (λ (t : List ℕ). t ++ concat header) empty) in
+    text ∙ sym (concat-append header body)
 
-pub reply_fits : (xid : ℕ) (outcome : Outcome) → IsShort outcome → length (concat (map spelling (reply_fields xid Success ++ result_fields outcome))) ≤ 8228
-reply_fits xid outcome short =
+pub reply_fits : (xid : ℕ) (fields : List Field) → length (concat (map spelling fields)) ≤ 8204 → length (concat (map spelling (reply_fields xid Success ++ fields))) ≤ 8228
+reply_fits xid fields short =
     let header = map spelling (reply_fields xid Success) in
-    let fields = map spelling (result_fields outcome) in
-    omega (arith, ap length (concat-append header fields), length-append (concat header) (concat fields), success_is_short xid, result_is_short outcome short)
+    let body = map spelling fields in
+    omega (arith, ap length (concat-append header body), length-append (concat header) (concat body), success_is_short xid)

@@ -1,12 +1,15 @@
 -- The log of a history, and what the history refuses. Histories are lists of events that weren't refused, the newest first.
-use Rattle.std.specs.Prelude.{◌≡◌, ℕ, ◌+◌, ◌||◌, ◌&&◌, ◌==◌, not, ℤ, pos, negsuc, Bool, true, false, List, [], ◌∷◌, ◌++◌, length, map, Option, Some, None, Result, Ok, Err, codes, nat_lt, if◌then◌else◌}
+use Rattle.std.specs.Prelude.{◌≡◌, ℕ, ◌+◌, ◌||◌, ◌&&◌, ◌==◌, not, ℤ, pos, negsuc, Bool, true, false, List, [], ◌∷◌, ◌++◌, length, map, Option, Some, None, is_none, Result, Ok, Err, codes, nat_lt, if◌then◌else◌}
 use Rattle.std.specs.Bool.{MatchBool}
 use Rattle.std.specs.Str.{bytes_eq}
 use Rattle.sv_rpc.specs.declared.call.CallFault.{CallFault}
 use Rattle.sv_rpc.specs.Record.{Tail}
 use Rattle.sv_rpc.specs.Call.{Asked, call_at}
+use Rattle.sv_vxi.specs.Arguments.{Arguments, CreateLink}
+use Rattle.sv_vxi.specs.Reading.{arguments_at}
 use Rattle.sv_links.specs.Links.{closing, may_make}
 use Rattle.sv_server.specs.declared.event.Role.{Role}
+use Rattle.sv_server.specs.declared.event.Role.TheVariants.{Core}
 use Rattle.sv_server.specs.declared.event.Port.TheVariants.{Conn, Intr}
 use Rattle.sv_server.specs.declared.event.Config.{Config}
 use Rattle.sv_server.specs.declared.event.Did.{Did}
@@ -15,9 +18,9 @@ use Rattle.sv_server.specs.declared.event.Refused.{Refused}
 use Rattle.sv_server.specs.declared.event.Refused.TheVariants.{NoMemory, ConnInUse, NoConn, NoRoom, NotSent, NoDial, NotRefusable, BadChannel, BadInput, TimeOver}
 use Rattle.sv_server.specs.Event.{IsEvent, IsConfig, Happening, Open, Bytes, Turn, Refuse, Took, Close, Dialed, Input, External, Tick}
 use Rattle.sv_server.specs.Act.{Act, Opened, Piece, BytesTaken, PortClosed, Ticked, Linked, link_acts}
-use Rattle.sv_server.specs.Arguments.{Arguments, CreateLink, DeviceWrite, DeviceRead, arguments_at}
 use Rattle.sv_server.specs.Connection.{is_open, open_role, waiting_on, ticks, Reads, next_call, is_idle, room, free}
-use Rattle.sv_server.specs.Serving.{served, is_served}
+use Rattle.sv_server.specs.Checks.{header_reply}
+use Rattle.sv_server.specs.Serving.{served}
 use Rattle.sv_server.specs.Settling.{Settles}
 
 -- the acts of a Turn: those of the next call, where there is one to take
@@ -91,10 +94,10 @@ abbrev pub DidIs : Happening → List Act → Did → Type 0
 DidIs (Turn c) log did = (records : List (List ℕ)) × (tail : Tail) × Reads c log records tail × (did ≡ (if is_idle c log records tail then Idle else Done))
 DidIs _ log did = did ≡ Done
 
+-- whether these are the arguments of a create_link that passes the checks of its name and of the lock
 abbrev pub makes_link : Arguments → Bool
-makes_link (CreateLink client lock_device lock_timeout device) = bytes_eq device (codes "inst0") && not lock_device
-makes_link (DeviceWrite lid io_timeout lock_timeout flags bytes) = false
-makes_link (DeviceRead lid request_size io_timeout lock_timeout flags term_char) = false
+makes_link (CreateLink client_id lock_device lock_timeout device) = bytes_eq device (codes "inst0") && not lock_device
+makes_link _ = false
 
 abbrev pub spells_link : {E : Type 0} → Result Arguments E → Bool
 spells_link (Ok arguments) = makes_link arguments
@@ -102,8 +105,8 @@ spells_link (Err e) = false
 
 -- whether a record is a create_link that passes the checks in front of its memory
 abbrev pub wants_memory : Option Role → Result Asked CallFault → List Act → Bool
-wants_memory role (Ok call) log = is_served role call && ((call.proc == 10) && (spells_link (arguments_at call.proc call.args) && may_make (link_acts log)))
-wants_memory role (Err fault) log = false
+wants_memory (Some Core) (Ok call) log = is_none (header_reply Core call) && (spells_link (arguments_at call.proc call.args) && may_make (link_acts log))
+wants_memory _ _ log = false
 
 -- Memory may be wanting only for a Turn that nothing else refuses and that isn't idle, and whose next call is such a create_link.
 abbrev pub MayLackMemory : Config → Happening → List Act → Type 0

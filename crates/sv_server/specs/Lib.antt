@@ -3,8 +3,7 @@ pub mod Event
 pub mod Act
 pub mod Connection
 pub mod Line
-pub mod Arguments
-pub mod Results
+pub mod Checks
 pub mod Serving
 pub mod Settling
 pub mod History

@@ -1,110 +1,30 @@
-//! Taking a record apart, and the checks in front of a call.
+//! A record that was taken: a call of the program that its connection serves, or none.
 
-ghost use Rattle.std.specs.Prelude.{◌≡◌, ◌+◌, ◌≤◌, ◌&&◌, List, length, nat_lt, true, false, Ok, Some, vec_len, vec_capacity, IfOk, OnOk, OnErr};
+ghost use Rattle.std.specs.Prelude.{◌≡◌, ◌+◌, ◌≤◌, ◌&&◌, ◌++◌, ◌∷◌, [], List, length, nat_lt, true, false, Some, None, vec_len, vec_capacity, IfOk, OnOk, OnErr};
 ghost use Rattle.sv_rpc.specs.Call.{asked, call_at};
-ghost use Rattle.sv_links.specs.Table.{IsTable};
-ghost use Rattle.sv_exchange.specs.ExchangeHeld.{StandsFor as HoldsExchange};
+ghost use Rattle.sv_vxi.specs.Arguments.{core_calls, abort_calls, is_one_of};
+ghost use Rattle.sv_vxi.specs.Reading.{arguments_at};
+ghost use Rattle.sv_rpc.specs.Ports.{port_at};
+ghost use Rattle.sv_links.specs.Table.{Table, IsTable};
+ghost use Rattle.sv_exchange.specs.ExchangeHeld.{Held, StandsFor as HoldsExchange};
 ghost use Rattle.sv_server.specs.Act.{Act, link_acts, exchange_acts};
-ghost use Rattle.sv_server.specs.Arguments.{arguments_at, plain_arguments};
-ghost use Rattle.sv_server.specs.Serving.{lid_of as lid_for, term_of as term_for, called, core_call, is_served as serves_call, served_call};
-ghost use Rattle.sv_server.specs.History.{makes_link, spells_link, wants_memory};
+ghost use Rattle.sv_server.specs.Serving.{called, ports_of, port_told, procedure_acts, served_call};
+ghost use Rattle.sv_server.specs.Checks.{header_reply as reply_to};
+ghost use Rattle.sv_server.specs.History.{spells_link, wants_memory};
 ghost use Rattle.sv_server.specs.Served.{Serves};
 
-use crate::arguments::{Args, CREATE_LINK, DEVICE_READ, DEVICE_WRITE, Flags, read_args};
+use crate::checks::header_reply;
+use crate::device::do_call;
 use crate::event::{Config, Role};
-use crate::sending::send_reply;
-use crate::serving::{create_link, read_device_bytes, write_device_bytes};
+use crate::sending::{send_number, send_reply};
 use std::alloc::{AllocError, Allocator};
 use sv_exchange::Exchange;
 use sv_links::Links;
-use sv_rpc::{Call, Reply, read_call};
+use sv_rpc::{Call, CallFault, Ports, Reply, getport, read_call};
+use sv_vxi::read_args;
 
-/// The number of the core channel's program.
-const CORE: u32 = 0x0607AF;
-/// Its version.
-const VERSION: u32 = 1;
-/// The procedure that does nothing.
-const NULL: u32 = 0;
-
-/// The number of a link, where it may be one.
-fn lid_of(lid: i32) -> Option<u32>
-    ensures { result ≡ lid_for lid }
-{
-    u32::try_from(lid).ok()
-}
-
-/// The termination character, where the flag for it is set: the low eight bits.
-fn term_of(flags: Flags, term_char: u32) -> Option<u8>
-    ensures { result ≡ term_for flags.0 term_char }
-{
-    if flags.has_term_char() {
-        Some((term_char % 256) as u8)
-    } else {
-        None
-    }
-}
-
-/// Does a call whose arguments were read.
+/// Does a call of the core or the abort channel.
 fn call_device<A: Allocator>(
-    config: Config,
-    conn: u8,
-    xid: u32,
-    args: Args<'_>,
-    links: &mut Links<A>,
-    exchange: &mut Exchange<A>,
-    out: &mut Vec<u8, A>,
-) -> Result<(), AllocError>
-    requires { vec_len out.old + 8232 ≤ vec_capacity out.old }
-    ensures ok { (log : List Act) → IsTable links.old (link_acts log) → HoldsExchange exchange.old (exchange_acts log)
-        → OnOk result (Serves conn log (called config conn xid (Ok (plain_arguments args.entry)) log) links.new exchange.new out.old.items out.new.items false) }
-    ensures err { OnErr result ((links.new ≡ links.old) × (exchange.new ≡ exchange.old) × (out.new.items ≡ out.old.items) × (makes_link (plain_arguments args.entry) ≡ true)
-        × ((nat_lt (length links.old.links) 32 && nat_lt links.old.made 2147483647) ≡ true)) }
-    ensures capacity { vec_capacity out.old ≤ vec_capacity out.new }
-    ensures grows { vec_len out.new ≤ vec_len out.old + 8232 }
-{
-    match args {
-        Args::CreateLink {
-            client_id: _,
-            lock_device,
-            lock_timeout: _,
-            device,
-        } => create_link(config, conn, xid, lock_device, device, links, out),
-        Args::DeviceWrite {
-            lid,
-            io_timeout: _,
-            lock_timeout: _,
-            flags,
-            bytes,
-        } => {
-            write_device_bytes(conn, xid, lid_of(lid), flags, bytes, links, exchange, out);
-            Ok(())
-        }
-        Args::DeviceRead {
-            lid,
-            request_size,
-            io_timeout: _,
-            lock_timeout: _,
-            flags,
-            term_char,
-        } => {
-            let term = term_of(flags, term_char);
-            read_device_bytes(
-                conn,
-                xid,
-                lid_of(lid),
-                request_size,
-                term,
-                links,
-                exchange,
-                out,
-            );
-            Ok(())
-        }
-    }
-}
-
-/// Does a call of the core channel.
-fn call_core<A: Allocator>(
     config: Config,
     conn: u8,
     call: Call<'_>,
@@ -112,42 +32,74 @@ fn call_core<A: Allocator>(
     exchange: &mut Exchange<A>,
     out: &mut Vec<u8, A>,
 ) -> Result<(), AllocError>
-    requires { vec_len out.old + 8232 ≤ vec_capacity out.old }
+    requires room { vec_len out.old + 8232 ≤ vec_capacity out.old }
+    requires procedure { is_one_of (core_calls ++ abort_calls) call.proc ≡ true }
     ensures ok { (log : List Act) → IsTable links.old (link_acts log) → HoldsExchange exchange.old (exchange_acts log)
-        → OnOk result (Serves conn log (core_call config conn (asked call.entry) log) links.new exchange.new out.old.items out.new.items false) }
-    ensures err { OnErr result ((links.new ≡ links.old) × (exchange.new ≡ exchange.old) × (out.new.items ≡ out.old.items) × (call.entry.proc ≡ 10)
+        → OnOk result (Serves conn log (called config conn call.entry.xid (arguments_at call.entry.proc call.entry.args.now) log) links.new exchange.new out.old.items out.new.items false) }
+    ensures err { OnErr result ((links.new ≡ links.old) × (exchange.new ≡ exchange.old) × (out.new.items ≡ out.old.items)
         × (spells_link (arguments_at call.entry.proc call.entry.args.now) ≡ true) × ((nat_lt (length links.old.links) 32 && nat_lt links.old.made 2147483647) ≡ true)) }
     ensures capacity { vec_capacity out.old ≤ vec_capacity out.new }
     ensures grows { vec_len out.new ≤ vec_len out.old + 8232 }
 {
-    match call.proc {
-        NULL => {
-            send_reply(out, call.xid, Reply::Success);
-            Ok(())
-        }
-        CREATE_LINK | DEVICE_WRITE | DEVICE_READ => match read_args(call.proc, call.args) {
-            Ok(args) => call_device(config, conn, call.xid, args, links, exchange, out),
-            Err(_) => {
-                send_reply(out, call.xid, Reply::GarbageArgs);
-                Ok(())
-            }
-        },
-        _ => {
-            send_reply(out, call.xid, Reply::ProcUnavail);
+    let Ok(args) = read_args(call.proc, call.args) else {
+        send_reply(out, call.xid, Reply::GarbageArgs);
+        return Ok(());
+    };
+    do_call(config, conn, call.xid, args, links, exchange, out)
+}
+
+/// Answers GETPORT.
+fn call_port_mapper<A: Allocator>(
+    config: Config,
+    conn: u8,
+    call: Call<'_>,
+    out: &mut Vec<u8, A>,
+)
+    requires { vec_len out.old + 8232 ≤ vec_capacity out.old }
+    ensures serves { (log : List Act) (links : Table) (exchange : Held) → IsTable links (link_acts log) → HoldsExchange exchange (exchange_acts log)
+        → Serves conn log (port_told conn call.entry.xid (port_at (ports_of config) call.entry.args.now) log) links exchange out.old.items out.new.items false }
+    ensures capacity { vec_capacity out.old ≤ vec_capacity out.new }
+    ensures grows { vec_len out.new ≤ vec_len out.old + 8232 }
+{
+    let ports = Ports {
+        core: config.core,
+        abort: config.abort,
+    };
+    match getport(call.args, ports) {
+        Ok(port) => send_number(out, call.xid, port),
+        Err(_) => send_reply(out, call.xid, Reply::GarbageArgs),
+    }
+}
+
+/// Does a call of a program's procedure.
+fn call_procedure<A: Allocator>(
+    config: Config,
+    conn: u8,
+    role: Role,
+    call: Call<'_>,
+    links: &mut Links<A>,
+    exchange: &mut Exchange<A>,
+    out: &mut Vec<u8, A>,
+) -> Result<(), AllocError>
+    requires room { vec_len out.old + 8232 ≤ vec_capacity out.old }
+    requires goes_on { reply_to role (asked call) ≡ None }
+    ensures ok { (log : List Act) → IsTable links.old (link_acts log) → HoldsExchange exchange.old (exchange_acts log)
+        → OnOk result (Serves conn log (procedure_acts config conn role (asked call.entry) log) links.new exchange.new out.old.items out.new.items false) }
+    ensures err { OnErr result ((links.new ≡ links.old) × (exchange.new ≡ exchange.old) × (out.new.items ≡ out.old.items) × (role ≡ Role.Core)
+        × (spells_link (arguments_at call.entry.proc call.entry.args.now) ≡ true) × ((nat_lt (length links.old.links) 32 && nat_lt links.old.made 2147483647) ≡ true)) }
+    ensures capacity { vec_capacity out.old ≤ vec_capacity out.new }
+    ensures grows { vec_len out.new ≤ vec_len out.old + 8232 }
+{
+    match role {
+        Role::Core | Role::Abort => call_device(config, conn, call, links, exchange, out),
+        Role::Portmap => {
+            call_port_mapper(config, conn, call, out);
             Ok(())
         }
     }
 }
 
-/// Whether a connection of this role serves the call's program, in this version.
-fn is_served(role: Role, call: &Call<'_>) -> bool
-    ensures { result ≡ serves_call (Some role) (asked call.now) }
-{
-    matches!(role, Role::Core) && call.prog == CORE && call.vers == VERSION
-}
-
-/// Serves a record, and tells whether it faults its connection: where it is no call, or none that is
-/// served here.
+/// Serves a record, and tells whether it faults its connection: where it is no call.
 pub fn serve<A: Allocator>(
     config: Config,
     conn: u8,
@@ -165,12 +117,18 @@ pub fn serve<A: Allocator>(
     ensures capacity { vec_capacity out.old ≤ vec_capacity out.new }
     ensures grows { vec_len out.new ≤ vec_len out.old + 8232 }
 {
-    let Ok(call) = read_call(bytes) else {
-        return Ok(true);
+    let call = match read_call(bytes) {
+        Ok(call) => call,
+        Err(CallFault::BadHeader) => return Ok(true),
+        Err(CallFault::Version(xid)) => {
+            send_reply(out, xid, Reply::Mismatch);
+            return Ok(false);
+        }
     };
-    if !is_served(role, &call) {
-        return Ok(true);
+    if let Some(reply) = header_reply(role, &call) {
+        send_reply(out, call.xid, reply);
+        return Ok(false);
     }
-    call_core(config, conn, call, links, exchange, out)?;
+    call_procedure(config, conn, role, call, links, exchange, out)?;
     Ok(false)
 }

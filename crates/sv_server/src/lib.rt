@@ -1,14 +1,14 @@
 //! The server: events in, and out the bytes of every reply.
 #![tactic(auto)]
 
-mod arguments;
 mod calling;
+mod checks;
+mod device;
 mod event;
 pub mod laws;
 mod line;
 mod print;
 mod replay;
-mod results;
 mod sending;
 mod server;
 mod serving;

@@ -1,13 +1,14 @@
 //! Replies as they are sent.
 
-ghost use Rattle.std.specs.Prelude.{◌≡◌, ◌+◌, ◌<◌, ◌≤◌, ◌^◌, ◌++◌, [], true, length, vec_len, vec_capacity};
+ghost use Rattle.std.specs.Prelude.{◌≡◌, ◌+◌, ◌<◌, ◌≤◌, ◌^◌, ◌++◌, [], ◌∷◌, true, length, vec_len, vec_capacity};
 ghost use Rattle.sv_rpc.specs.Record.{fragment};
-ghost use Rattle.sv_server.specs.Results.{IsShort, plain_result, result_fields};
+ghost use Rattle.sv_xdr.specs.Spelling.{Unsigned};
+ghost use Rattle.sv_vxi.specs.Results.{plain_result, result_fields, data_of};
 ghost use Rattle.sv_server.specs.Serving.{reply_record};
 
-use crate::results::{VxiResult, write_result};
 use std::alloc::Allocator;
 use sv_rpc::{Reply, write_reply};
+use sv_vxi::{VxiResult, write_result};
 use sv_xdr::Writer;
 
 /// The longest reply without the header of its fragment: header, error, reason and 8,192 bytes.
@@ -52,7 +53,7 @@ fn append<A: Allocator>(bytes: &mut Vec<u8, A>, piece: &[u8])
 /// Puts the reply of a call that was executed behind the outgoing bytes.
 pub fn send_result<A: Allocator>(out: &mut Vec<u8, A>, xid: u32, outcome: &VxiResult<'_>)
     requires room { vec_len out.old + 8232 ≤ vec_capacity out.old }
-    requires short { IsShort (plain_result outcome.now) }
+    requires short { length (data_of (plain_result outcome.now)) ≤ 8192 }
     ensures sent { out.new.items ≡ out.old.items ++ reply_record xid Reply.Success (result_fields (plain_result outcome.now)) }
     ensures capacity { vec_capacity out.old ≤ vec_capacity out.new }
     ensures grows { vec_len out.new ≤ vec_len out.old + 8232 }
@@ -61,5 +62,19 @@ pub fn send_result<A: Allocator>(out: &mut Vec<u8, A>, xid: u32, outcome: &VxiRe
     let mut writer = Writer::new(&mut text);
     let _ = write_reply(&mut writer, xid, Reply::Success);
     let _ = write_result(&mut writer, outcome);
+    send(out, writer.text());
+}
+
+/// Puts the reply of a call that answers a number behind the outgoing bytes.
+pub fn send_number<A: Allocator>(out: &mut Vec<u8, A>, xid: u32, number: u32)
+    requires { vec_len out.old + 8232 ≤ vec_capacity out.old }
+    ensures sent { out.new.items ≡ out.old.items ++ reply_record xid Reply.Success (Unsigned number ∷ []) }
+    ensures capacity { vec_capacity out.old ≤ vec_capacity out.new }
+    ensures grows { vec_len out.new ≤ vec_len out.old + 8232 }
+{
+    let mut text = [0; LONGEST];
+    let mut writer = Writer::new(&mut text);
+    let _ = write_reply(&mut writer, xid, Reply::Success);
+    let _ = writer.u32(number);
     send(out, writer.text());
 }

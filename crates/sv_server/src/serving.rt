@@ -1,24 +1,23 @@
-//! What a taken record does: checks in order, the call, and its reply.
+//! The calls that change links or the exchange, and their replies.
 
 ghost use Rattle.std.specs.Prelude.{◌≡◌, ◌+◌, ◌<◌, ◌≤◌, ◌^◌, ◌&&◌, pos, List, ◌∷◌, ◌++◌, length, nat_lt, codes, true, false, vec_len, vec_capacity, OnOk, OnErr};
 ghost use Rattle.std.specs.Str.{bytes_eq};
-ghost use Rattle.sv_links.specs.Table.{IsTable};
+ghost use Rattle.sv_links.specs.Table.{Table, IsTable};
 ghost use Rattle.sv_exchange.specs.ExchangeHeld.{Held, StandsFor as HoldsExchange, shown_by};
 ghost use Rattle.sv_exchange.specs.Exchange.{ExchangeAct, ResponseRead};
 ghost use Rattle.sv_exchange.specs.Read.{read_count};
 ghost use Rattle.sv_server.specs.Act.{Act, link_acts, exchange_acts};
-ghost use Rattle.sv_server.specs.Results.{Link, Size, result_fields};
-ghost use Rattle.sv_server.specs.Serving.{create_link as link_made, owns as owns_link, write_device, read_device, read_of, no_link, no_bytes, reply_record};
+ghost use Rattle.sv_vxi.specs.Results.{Link, Size, Plain, result_fields};
+ghost use Rattle.sv_server.specs.Serving.{create_link as link_made, destroy_link as link_destroyed, write_device, read_device, read_of, no_bytes, reply_record};
 ghost use Rattle.sv_server.specs.Served.{Serves};
 
-use crate::arguments::Flags;
 use crate::event::Config;
-use crate::results::{ErrorCode, Reason, VxiResult};
 use crate::sending::send_result;
 use std::alloc::{AllocError, Allocator};
 use sv_exchange::Exchange;
 use sv_links::Links;
 use sv_rpc::Reply;
+use sv_vxi::{ErrorCode, Flags, Reason, VxiResult};
 
 /// The most that a write may bring, in bytes.
 const MAX_WRITE: usize = 4096;
@@ -70,7 +69,7 @@ fn send_link<A: Allocator>(out: &mut Vec<u8, A>, xid: u32, lid: u32, abort_port:
         error: ErrorCode::NoError,
         lid: lid as i32,
         abort_port,
-        max_size: 4096,
+        max_recv_size: 4096,
     };
     send_result(out, xid, &made);
 }
@@ -78,7 +77,7 @@ fn send_link<A: Allocator>(out: &mut Vec<u8, A>, xid: u32, lid: u32, abort_port:
 /// The reply of a create_link that made none.
 fn send_no_link<A: Allocator>(out: &mut Vec<u8, A>, xid: u32, error: ErrorCode)
     requires { vec_len out.old + 8232 ≤ vec_capacity out.old }
-    ensures sent { out.new.items ≡ out.old.items ++ reply_record xid Reply.Success (result_fields (no_link error)) }
+    ensures sent { out.new.items ≡ out.old.items ++ reply_record xid Reply.Success (result_fields (Link error (pos 0) 0 0)) }
     ensures capacity { vec_capacity out.old ≤ vec_capacity out.new }
     ensures grows { vec_len out.new ≤ vec_len out.old + 8232 }
 {
@@ -86,41 +85,57 @@ fn send_no_link<A: Allocator>(out: &mut Vec<u8, A>, xid: u32, error: ErrorCode)
         error,
         lid: 0,
         abort_port: 0,
-        max_size: 0,
+        max_recv_size: 0,
     };
     send_result(out, xid, &none);
 }
 
-/// Whether a link is one of this connection.
-fn owns<A: Allocator>(links: &Links<A>, conn: u8, lid: Option<u32>) -> bool
-    ensures { (log : List Act) → IsTable links.now (link_acts log) → result ≡ owns_link conn lid log }
+/// destroy_link.
+pub fn destroy_link<A: Allocator>(
+    conn: u8,
+    xid: u32,
+    lid: Option<u32>,
+    links: &mut Links<A>,
+    out: &mut Vec<u8, A>,
+)
+    requires { vec_len out.old + 8232 ≤ vec_capacity out.old }
+    ensures serves { (log : List Act) (exchange : Held) → IsTable links.old (link_acts log) → HoldsExchange exchange (exchange_acts log)
+        → Serves conn log (link_destroyed conn xid lid log) links.new exchange out.old.items out.new.items false }
+    ensures capacity { vec_capacity out.old ≤ vec_capacity out.new }
+    ensures grows { vec_len out.new ≤ vec_len out.old + 8232 }
 {
-    match lid {
-        Some(lid) => links.owner(lid) == Some(conn),
-        None => false,
-    }
+    let Some(lid) = lid else {
+        return send_plain(out, xid, ErrorCode::InvalidLink);
+    };
+    links.destroy(lid);
+    send_plain(out, xid, ErrorCode::NoError);
+}
+
+/// The reply of a call that tells nothing but whether it failed.
+pub fn send_plain<A: Allocator>(out: &mut Vec<u8, A>, xid: u32, error: ErrorCode)
+    requires { vec_len out.old + 8232 ≤ vec_capacity out.old }
+    ensures sent { out.new.items ≡ out.old.items ++ reply_record xid Reply.Success (result_fields (Plain error)) }
+    ensures capacity { vec_capacity out.old ≤ vec_capacity out.new }
+    ensures grows { vec_len out.new ≤ vec_len out.old + 8232 }
+{
+    send_result(out, xid, &VxiResult::Plain { error });
 }
 
 /// device_write: the bytes are accepted, and END ends their message.
 pub fn write_device_bytes<A: Allocator>(
     conn: u8,
     xid: u32,
-    lid: Option<u32>,
     flags: Flags,
     bytes: &[u8],
-    links: &Links<A>,
     exchange: &mut Exchange<A>,
     out: &mut Vec<u8, A>,
 )
     requires { vec_len out.old + 8232 ≤ vec_capacity out.old }
-    ensures serves { (log : List Act) → IsTable links.now (link_acts log) → HoldsExchange exchange.old (exchange_acts log)
-        → Serves conn log (write_device conn xid lid flags.0 bytes.now log) links.now exchange.new out.old.items out.new.items false }
+    ensures serves { (log : List Act) (links : Table) → IsTable links (link_acts log) → HoldsExchange exchange.old (exchange_acts log)
+        → Serves conn log (write_device conn xid flags.0 bytes.now log) links exchange.new out.old.items out.new.items false }
     ensures capacity { vec_capacity out.old ≤ vec_capacity out.new }
     ensures grows { vec_len out.new ≤ vec_len out.old + 8232 }
 {
-    if !owns(links, conn, lid) {
-        return send_size(out, xid, ErrorCode::InvalidLink, 0);
-    }
     if bytes.len() > MAX_WRITE {
         return send_size(out, xid, ErrorCode::ParameterError, 0);
     }
@@ -146,22 +161,17 @@ fn send_size<A: Allocator>(out: &mut Vec<u8, A>, xid: u32, error: ErrorCode, siz
 pub fn read_device_bytes<A: Allocator>(
     conn: u8,
     xid: u32,
-    lid: Option<u32>,
     most: u32,
     term: Option<u8>,
-    links: &Links<A>,
     exchange: &mut Exchange<A>,
     out: &mut Vec<u8, A>,
 )
     requires { vec_len out.old + 8232 ≤ vec_capacity out.old }
-    ensures serves { (log : List Act) → IsTable links.now (link_acts log) → HoldsExchange exchange.old (exchange_acts log)
-        → Serves conn log (read_device conn xid lid most term log) links.now exchange.new out.old.items out.new.items false }
+    ensures serves { (log : List Act) (links : Table) → IsTable links (link_acts log) → HoldsExchange exchange.old (exchange_acts log)
+        → Serves conn log (read_device conn xid most term log) links exchange.new out.old.items out.new.items false }
     ensures capacity { vec_capacity out.old ≤ vec_capacity out.new }
     ensures grows { vec_len out.new ≤ vec_len out.old + 8232 }
 {
-    if !owns(links, conn, lid) {
-        return send_no_bytes(out, xid, ErrorCode::InvalidLink);
-    }
     if exchange.readable() {
         return send_response(xid, most, term, exchange, out);
     }

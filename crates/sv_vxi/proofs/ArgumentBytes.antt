@@ -3,11 +3,12 @@ use Rattle.std.proofs.Common.{◌≡◌, ℕ, ◌≤◌, ◌++◌, Bool, true, f
 use Rattle.std.specs.List.{AllByRecursion}
 use Rattle.sv_xdr.specs.declared.fault.XdrFault.{XdrFault}
 use Rattle.sv_xdr.specs.declared.garbage.Garbage.{Garbage}
+use Rattle.sv_xdr.specs.Garbage.{◌>>=◌}
 use Rattle.sv_xdr.specs.Spelling.{Field, Unsigned, Signed, Boolean, Opaque, Begins, BeginsAll}
 use Rattle.sv_xdr.specs.Reader.{unsigned_at, signed_at, boolean_at, opaque_at}
 use Rattle.sv_xdr.proofs.Fields.{IsBytes, bytes_after, unsigned_takes, signed_takes, boolean_takes, opaque_at-takes}
 use Rattle.sv_vxi.specs.Arguments.{Arguments, DestroyIntrChan, generic_fields, link_fields, max_handle, core_calls, abort_calls, is_one_of, InBounds, ArgumentsAre}
-use Rattle.sv_vxi.specs.Reading.{any_length, ◌>>=◌, create_link_at, device_write_at, device_read_at, generic, generic_at, device_lock_at, device_enable_srq_at, device_docmd_at, create_intr_chan_at, of_link, link_at, arguments_at}
+use Rattle.sv_vxi.specs.Reading.{any_length, create_link_at, device_write_at, device_read_at, generic, generic_at, device_lock_at, device_enable_srq_at, device_docmd_at, create_intr_chan_at, of_link, link_at, arguments_at}
 use Rattle.sv_vxi.proofs.Spelled.{arguments_read}
 
 -- the value of a step that did not fail

@@ -1,7 +1,7 @@
 -- Reading the arguments of a call from left to right.
 use Rattle.std.specs.Prelude.{ℕ, ℤ, List, [], ◌∷◌, Result, Ok, Err, ◌==◌, if◌then◌else◌}
-use Rattle.sv_xdr.specs.declared.fault.XdrFault.{XdrFault}
 use Rattle.sv_xdr.specs.declared.garbage.Garbage.{Garbage}
+use Rattle.sv_xdr.specs.Garbage.{◌>>=◌}
 use Rattle.sv_xdr.specs.Reader.{unsigned_at, signed_at, boolean_at, opaque_at}
 use Rattle.sv_vxi.specs.declared.arguments.Args.{Args}
 use Rattle.sv_vxi.specs.declared.arguments.Args.TheVariants as args
@@ -10,11 +10,6 @@ use Rattle.sv_vxi.specs.Arguments.{Arguments, DeviceAbort, CreateLink, DeviceWri
 -- the longest opaque data that a length can tell
 abbrev pub any_length : ℕ
 any_length = 4294967295
-
-infixl 10 ◌>>=◌
-abbrev pub ◌>>=◌ : {A B : Type 0} → Result A XdrFault → (A → Result B Garbage) → Result B Garbage
-(Ok x) >>= f = f x
-(Err fault) >>= f = Err (record {})
 
 unfoldable pub create_link_at : List ℕ → Result Arguments Garbage
 create_link_at bytes = do

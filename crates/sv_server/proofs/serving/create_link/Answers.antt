@@ -3,8 +3,8 @@ use Rattle.std.specs.Prelude.{not, codes, pos}
 use Rattle.std.specs.Str.{bytes_eq}
 use Rattle.sv_rpc.specs.declared.reply.Reply.TheVariants.{Success}
 use Rattle.sv_links.specs.Links.{made}
-use Rattle.sv_server.specs.declared.results.ErrorCode.TheVariants.{NoError}
-use Rattle.sv_server.specs.Results.{Link, result_fields}
+use Rattle.sv_vxi.specs.declared.error_code.ErrorCode.TheVariants.{NoError}
+use Rattle.sv_vxi.specs.Results.{Link, result_fields}
 use Rattle.sv_server.specs.Act.{link_acts}
 use Rattle.sv_server.specs.Serving.{reply_record}
 use Rattle.sv_server.proofs.Frames.{just_replied, replied_by_link}

@@ -1,0 +1,9 @@
+-- Reading fields one behind the other, where any fault of one is garbage.
+use Rattle.std.specs.Prelude.{Result, Ok, Err}
+use Rattle.sv_xdr.specs.declared.fault.XdrFault.{XdrFault}
+use Rattle.sv_xdr.specs.declared.garbage.Garbage.{Garbage}
+
+infixl 10 ◌>>=◌
+abbrev pub ◌>>=◌ : {A B : Type 0} → Result A XdrFault → (A → Result B Garbage) → Result B Garbage
+(Ok x) >>= f = f x
+(Err fault) >>= f = Err (record {})
