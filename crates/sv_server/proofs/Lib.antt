@@ -3,7 +3,6 @@ pub mod Idle
 pub mod Represented
 pub mod Frames
 pub mod Done
-pub mod ArgumentBytes
 pub mod Cases
 pub mod OneWay
 pub mod Settled
@@ -14,3 +13,4 @@ pub mod Taking
 pub mod Shown
 pub mod Ports
 pub mod Replayed
+pub mod Channels

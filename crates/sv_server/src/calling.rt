@@ -91,7 +91,8 @@ fn call_procedure<A: Allocator>(
     ensures grows { vec_len out.new ≤ vec_len out.old + 8232 }
 {
     match role {
-        Role::Core | Role::Abort => call_device(config, conn, call, links, exchange, out),
+        Role::Core => call_device(config, conn, call, links, exchange, out),
+        Role::Abort => call_device(config, conn, call, links, exchange, out),
         Role::Portmap => {
             call_port_mapper(config, conn, call, out);
             Ok(())

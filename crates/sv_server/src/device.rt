@@ -7,7 +7,6 @@ ghost use Rattle.sv_links.specs.Table.{IsTable};
 ghost use Rattle.sv_exchange.specs.ExchangeHeld.{StandsFor as HoldsExchange};
 ghost use Rattle.sv_server.specs.Act.{Act, link_acts, exchange_acts};
 ghost use Rattle.sv_server.specs.Serving.{called, own_acts, abort_error as abort_told, failure as failed, term_of as term_for};
-ghost use Rattle.sv_server.specs.Checks.{lid_of as lid_for};
 ghost use Rattle.sv_server.specs.History.{makes_link};
 ghost use Rattle.sv_server.specs.Served.{Serves};
 
@@ -72,10 +71,10 @@ fn failure(args: &Args<'_>, error: ErrorCode) -> VxiResult<'static>
 }
 
 /// What device_abort answers: no call waits yet that could be aborted.
-fn abort_error<A: Allocator>(links: &Links<A>, lid: i32) -> ErrorCode
-    ensures { (log : List Act) → IsTable links.now (link_acts log) → result ≡ abort_told (lid_for lid) log }
+fn abort_error<A: Allocator>(links: &Links<A>, lid: Option<u32>) -> ErrorCode
+    ensures { (log : List Act) → IsTable links.now (link_acts log) → result ≡ abort_told lid log }
 {
-    if lives(links, lid_of(lid)) {
+    if lives(links, lid) {
         ErrorCode::NoError
     } else {
         ErrorCode::InvalidLink
@@ -116,10 +115,9 @@ fn do_own<A: Allocator>(
             ..
         } => read_device_bytes(conn, xid, request_size, term_of(flags, term_char), exchange, out),
         Args::DestroyLink { lid } => destroy_link(conn, xid, lid_of(lid), links, out),
-        Args::DeviceAbort { lid } => send_plain(out, xid, abort_error(links, lid)),
-        Args::DeviceRemote { .. } | Args::DeviceLocal { .. } => {
-            send_plain(out, xid, ErrorCode::NoError)
-        }
+        Args::DeviceAbort { lid } => send_plain(out, xid, abort_error(links, lid_of(lid))),
+        Args::DeviceRemote { .. } => send_plain(out, xid, ErrorCode::NoError),
+        Args::DeviceLocal { .. } => send_plain(out, xid, ErrorCode::NoError),
         Args::DeviceReadstb { .. }
         | Args::DeviceTrigger { .. }
         | Args::DeviceClear { .. }

@@ -17,8 +17,8 @@ pub returns-then-not-open_for_write-clause-serves : goal.returns-then-not-open_f
 returns-then-not-open_for_write-clause-serves g c = λ log links t x.
     let is = read_waits c.args.conn c.args.xid c.args.most c.args.term log (sym (c.readable.ensures.answer _ x) ∙ c.if-readable.false)
     (flipped _ _ (sym (c.open_for_write.ensures.answer _ x) ∙ c.if-not-open_for_write.true)) in
-    subst (λ (new : List Act). Serves c.args.conn log new links c.args.exchange.now c.args.out.now.items c.send_no_bytes-then-not-open_for_write.new.out.items false) (sym is)
-    (just_replied c.args.conn _ log _ _ _ _ c.send_no_bytes-then-not-open_for_write.ensures.sent t x)
+    subst (λ (new : List Act). Serves c.args.conn log new links c.args.exchange.now c.args.out.now.items c.send_no_bytes.new.out.items false) (sym is)
+    (just_replied c.args.conn _ log _ _ _ _ c.send_no_bytes.ensures.sent t x)
 
 pub returns-clause-serves : goal.returns-clause-serves
 returns-clause-serves g c = λ log links t x.

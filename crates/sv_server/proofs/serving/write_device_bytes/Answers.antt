@@ -10,8 +10,8 @@ use Rattle.sv_server.proofs.serving.write_device_bytes.Goals as goal
 pub returns-then-bytes-gt-MAX_WRITE-clause-serves : goal.returns-then-bytes-gt-MAX_WRITE-clause-serves
 returns-then-bytes-gt-MAX_WRITE-clause-serves g c = λ log links t x.
     let is = write_too_long c.args.conn c.args.xid c.args.flags.0 c.args.bytes.now log c.if-bytes-gt-MAX_WRITE.true in
-    subst (λ (new : List Act). Serves c.args.conn log new links c.args.exchange.now c.args.out.now.items c.send_size-then-bytes-gt-MAX_WRITE.new.out.items false) (sym is)
-    (just_replied c.args.conn _ log _ _ _ _ c.send_size-then-bytes-gt-MAX_WRITE.ensures.sent t x)
+    subst (λ (new : List Act). Serves c.args.conn log new links c.args.exchange.now c.args.out.now.items c.send_size.new.out.items false) (sym is)
+    (just_replied c.args.conn _ log _ _ _ _ c.send_size.ensures.sent t x)
 
 pub returns-then-not-open_for_write-clause-serves : goal.returns-then-not-open_for_write-clause-serves
 returns-then-not-open_for_write-clause-serves g c = λ log links t x.
