@@ -1,26 +1,14 @@
 //! Links, writes and reads: from the bytes of calls to the bytes of replies.
 
 use crate::records::IN_FRAGMENTS;
-use crate::same::{same, same_bytes};
+use crate::session::{
+    CONFIG, CREATE, FOR_DEVICE, READ, WRITE, answers, call, come, does, open, opened, reply, take,
+};
 use crate::words::{CREATE_LINK, bytes_of};
 use rationing::Rationed;
-use std::alloc::{AllocError, Allocator, Global};
 use std::test::Fail;
 use sv_server::{Config, Did, Event, Port, Refused, Role, Server};
 
-const CONFIG: Config = Config {
-    core: 4096,
-    abort: 4097,
-    clock: 0,
-};
-
-const CREATE: u32 = 10;
-
-const WRITE: u32 = 11;
-
-const READ: u32 = 12;
-/// The arguments of `create_link` for the device `inst0`.
-const FOR_DEVICE: [u32; 6] = [0, 0, 0, 5, 0x696E7374, 0x30000000];
 /// What `create_link` gives for no further link.
 const OUT_OF_RESOURCES: [u32; 4] = [9, 0, 0, 0];
 
@@ -51,71 +39,6 @@ const IDENTITY: [u32; 15] = [
     0x80000038, 0x00000003, 0x00000001, 0x00000000, 0x00000000, 0x00000000, 0x00000000, 0x00000000,
     0x00000004, 0x00000014, 0x5343414E, 0x564F4C54, 0x2C535633, 0x322C302C, 0x312E300A,
 ];
-
-/// A record of one fragment: a header, and the words behind it.
-fn record(alloc: Global, header: &[u32], words: &[u32]) -> Result<Vec<u8>, AllocError> {
-    let mut mark = 0x80000000u32;
-    for _ in header.iter().chain(words) {
-        mark = mark.wrapping_add(4);
-    }
-    let mut bytes = bytes_of(alloc, &[mark])?;
-    bytes.extend_from_slice(bytes_of(alloc, header)?.as_slice())?;
-    bytes.extend_from_slice(bytes_of(alloc, words)?.as_slice())?;
-    Ok(bytes)
-}
-
-/// A call on the core channel.
-fn call(alloc: Global, xid: u32, proc: u32, args: &[u32]) -> Result<Vec<u8>, AllocError> {
-    record(alloc, &[xid, 0, 2, 0x0607AF, 1, proc, 0, 0, 0, 0], args)
-}
-
-/// The reply to a call that succeeded.
-fn reply(alloc: Global, xid: u32, fields: &[u32]) -> Result<Vec<u8>, AllocError> {
-    record(alloc, &[xid, 1, 0, 0, 0, 0], fields)
-}
-
-/// Applies an event, which has to be done.
-fn does<A: Allocator>(server: &mut Server<A>, event: Event<'_>) -> Result<(), Fail> {
-    same(
-        server.apply(event),
-        Ok(Did::Done),
-        format_args!("{event:?}"),
-    )
-}
-
-/// Opens connection 0 on the core channel.
-fn open<A: Allocator>(server: &mut Server<A>) -> Result<(), Fail> {
-    let role = Role::Core;
-    does(server, Event::Open { conn: 0, role })
-}
-
-/// A server of which connection 0 is open on the core channel.
-fn opened(alloc: Global) -> Result<Server, Fail> {
-    let mut server = Server::new(alloc, CONFIG)?;
-    open(&mut server)?;
-    Ok(server)
-}
-
-/// Lets bytes come on connection 0.
-fn come<A: Allocator>(server: &mut Server<A>, piece: &[u8]) -> Result<(), Fail> {
-    does(server, Event::Bytes { conn: 0, piece })
-}
-
-/// Takes the bytes that wait on connection 0, which have to be these.
-fn take<A: Allocator>(server: &mut Server<A>, wanted: &[u8]) -> Result<(), Fail> {
-    let port = Port::Conn(0);
-    same_bytes(server.waiting(port), wanted, "what waits")?;
-    let count = u32::try_from(wanted.len())?;
-    does(server, Event::Took { port, count })?;
-    same_bytes(server.waiting(port), &[], "what waits once all is taken")
-}
-
-/// Lets bytes come on connection 0, and takes a call and its reply.
-fn answers<A: Allocator>(server: &mut Server<A>, asked: &[u8], wanted: &[u8]) -> Result<(), Fail> {
-    come(server, asked)?;
-    does(server, Event::Turn { conn: 0 })?;
-    take(server, wanted)
-}
 
 /// With ample memory it isn't refused, which no contract says.
 #[test]

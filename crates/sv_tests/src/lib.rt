@@ -5,6 +5,8 @@
 #[cfg(test)]
 mod calls;
 #[cfg(test)]
+mod channels;
+#[cfg(test)]
 mod fields;
 #[cfg(test)]
 mod first_path;
@@ -16,5 +18,7 @@ mod ports;
 mod records;
 #[cfg(test)]
 mod same;
+#[cfg(test)]
+mod session;
 #[cfg(test)]
 mod words;
