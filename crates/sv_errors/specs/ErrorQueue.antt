@@ -1,0 +1,77 @@
+-- The error queue (SCPI-1999, volume 2, section 21.8): what it holds, found by a search of its acts, which are read from the newest. A place of the
+-- acts is told by how many acts there are up to it.
+use Rattle.std.specs.Prelude.{◌≡◌, ℕ, ◌+◌, ◌-◌, ◌==◌, ◌&&◌, Bool, true, false, List, [], ◌∷◌, ◌++◌, length, map, drop, Option, nat_lt, slice_get, if◌then◌else◌}
+use Rattle.sv_errors.specs.declared.code.Code.{Code}
+use Rattle.sv_errors.specs.declared.code.Code.TheVariants.{NoError, QueueOverflow}
+use Rattle.sv_errors.specs.declared.error_queue.QueueAct.{QueueAct}
+use Rattle.sv_errors.specs.declared.error_queue.QueueAct.TheVariants.{Report, Take, Clear}
+
+-- how many entries there may be
+abbrev pub most : ℕ
+most = 16
+
+-- the places of the reports since the last clearing that found room, in order, and how many of these were taken
+pub record Counted : Type 0 where
+  pub admitted : List ℕ
+  pub taken : ℕ
+
+-- what is left of them
+abbrev pub left : Counted → List ℕ
+left counted = drop counted.taken counted.admitted
+
+abbrev pub is_any : List ℕ → Bool
+is_any [] = false
+is_any (place ∷ places) = true
+
+-- a report finds room where fewer than 16 entries are left; taking from an empty queue takes none
+abbrev pub admit : Counted → ℕ → Counted
+admit before place = if nat_lt (length (left before)) most then record before { admitted = before.admitted ++ place ∷ [] } else before
+
+abbrev pub take_one : Counted → Counted
+take_one before = if is_any (left before) then record before { taken = before.taken + 1 } else before
+
+abbrev pub counted : List QueueAct → Counted
+counted [] = record { admitted = []; taken = 0 }
+counted (Report code ∷ acts) = admit (counted acts) (length acts + 1)
+counted (Take ∷ acts) = take_one (counted acts)
+counted (Clear ∷ acts) = record { admitted = []; taken = 0 }
+
+-- the entries, oldest first, each by the place of its report
+abbrev pub entries : List QueueAct → List ℕ
+entries acts = left (counted acts)
+
+-- whether a report overflows: it finds 16 entries
+abbrev pub is_full : List QueueAct → Bool
+is_full acts = length (entries acts) == most
+
+-- the acts up to a place
+abbrev pub up_to : ℕ → List QueueAct → List QueueAct
+up_to place acts = drop (length acts - place) acts
+
+abbrev pub reported : List QueueAct → Code
+reported (Report code ∷ acts) = code
+reported _ = NoError
+
+abbrev pub is_report : List QueueAct → Bool
+is_report (Report code ∷ acts) = true
+is_report _ = false
+
+-- whether another report came next, and not a taking
+abbrev pub is_overtaken : ℕ → List QueueAct → Bool
+is_overtaken place acts = nat_lt place (length acts) && is_report (up_to (place + 1) acts)
+
+-- An entry shows its report's code; but the one that made the queue full shows the overflow, once another report came before the next taking.
+abbrev pub shown : List QueueAct → ℕ → Code
+shown acts place = if is_full (up_to place acts) && is_overtaken place acts then QueueOverflow else reported (up_to place acts)
+
+-- what can be taken, oldest first
+abbrev pub held : List QueueAct → List Code
+held acts = map (shown acts) (entries acts)
+
+-- the oldest of it, where there is any
+abbrev pub oldest : List QueueAct → Option Code
+oldest acts = slice_get (held acts) 0
+
+-- The codes that are kept stand for the acts.
+abbrev pub StandsFor : List Code → List QueueAct → Type 0
+StandsFor codes acts = codes ≡ held acts

@@ -1,0 +1,4 @@
+pub mod Since
+pub mod Code
+pub mod ErrorQueue
+pub mod Answered

@@ -1,0 +1,139 @@
+//! The error codes (SCPI-1999, volume 2, section 21.8).
+
+ghost use Rattle.std.specs.Prelude.{◌≡◌};
+ghost use Rattle.sv_errors.specs.Code.{number_of, text_of};
+
+/// An error that the instrument can report; the closed list.
+#[derive(Clone, Copy, Debug, PartialEq, Eq)]
+pub enum Code {
+    /// Nothing is wrong.
+    NoError,
+    /// A byte that no command has.
+    InvalidCharacter,
+    /// A header or a parameter that is spelled like none.
+    SyntaxError,
+    /// A parameter of another kind than the command takes.
+    DataTypeError,
+    /// More parameters than the command takes.
+    ParameterNotAllowed,
+    /// Fewer parameters than the command wants.
+    MissingParameter,
+    /// A mnemonic of more than 12 characters.
+    ProgramMnemonicTooLong,
+    /// A header that is no command's.
+    UndefinedHeader,
+    /// A byte in a number that no number has there.
+    InvalidCharacterInNumber,
+    /// An exponent whose magnitude is above 32,000.
+    ExponentTooLarge,
+    /// A mantissa of more than 255 digits.
+    TooManyDigits,
+    /// A suffix that is no unit of the parameter.
+    InvalidSuffix,
+    /// A suffix where the parameter has no unit.
+    SuffixNotAllowed,
+    /// Character data with a byte that it may not have.
+    InvalidCharacterData,
+    /// An expression that is spelled like none.
+    InvalidExpression,
+    /// A trigger that nothing waited for.
+    TriggerIgnored,
+    /// An initiation while a measurement is under way.
+    InitIgnored,
+    /// A reading that would wait for a trigger which can't come.
+    TriggerDeadlock,
+    /// A setting that can't be changed now.
+    SettingsConflict,
+    /// A value that the parameter may not have.
+    DataOutOfRange,
+    /// A list of more than the parameter may have.
+    TooMuchData,
+    /// A choice that the parameter doesn't offer.
+    IllegalParameterValue,
+    /// Readings that aren't valid.
+    DataCorruptOrStale,
+    /// Errors were lost for want of room.
+    QueueOverflow,
+    /// A message longer than the input may be.
+    InputBufferOverrun,
+    /// A message came before the response to the last one was read.
+    QueryInterrupted,
+    /// A response was asked for that nothing gives.
+    QueryUnterminated,
+    /// A response longer than the output may be.
+    QueryDeadlocked,
+}
+
+impl Code {
+    /// The number of the error: 0, or below it.
+    pub fn number(self) -> i16
+        ensures { result ≡ number_of self }
+    {
+        match self {
+            Code::NoError => 0,
+            Code::InvalidCharacter => -101,
+            Code::SyntaxError => -102,
+            Code::DataTypeError => -104,
+            Code::ParameterNotAllowed => -108,
+            Code::MissingParameter => -109,
+            Code::ProgramMnemonicTooLong => -112,
+            Code::UndefinedHeader => -113,
+            Code::InvalidCharacterInNumber => -121,
+            Code::ExponentTooLarge => -123,
+            Code::TooManyDigits => -124,
+            Code::InvalidSuffix => -131,
+            Code::SuffixNotAllowed => -138,
+            Code::InvalidCharacterData => -141,
+            Code::InvalidExpression => -171,
+            Code::TriggerIgnored => -211,
+            Code::InitIgnored => -213,
+            Code::TriggerDeadlock => -214,
+            Code::SettingsConflict => -221,
+            Code::DataOutOfRange => -222,
+            Code::TooMuchData => -223,
+            Code::IllegalParameterValue => -224,
+            Code::DataCorruptOrStale => -230,
+            Code::QueueOverflow => -350,
+            Code::InputBufferOverrun => -363,
+            Code::QueryInterrupted => -410,
+            Code::QueryUnterminated => -420,
+            Code::QueryDeadlocked => -430,
+        }
+    }
+
+    /// The text of the error.
+    pub fn text(self) -> &'static str
+        ensures { result.now ≡ text_of self }
+    {
+        match self {
+            Code::NoError => "No error",
+            Code::InvalidCharacter => "Invalid character",
+            Code::SyntaxError => "Syntax error",
+            Code::DataTypeError => "Data type error",
+            Code::ParameterNotAllowed => "Parameter not allowed",
+            Code::MissingParameter => "Missing parameter",
+            Code::ProgramMnemonicTooLong => "Program mnemonic too long",
+            Code::UndefinedHeader => "Undefined header",
+            Code::InvalidCharacterInNumber => "Invalid character in number",
+            Code::ExponentTooLarge => "Exponent too large",
+            Code::TooManyDigits => "Too many digits",
+            Code::InvalidSuffix => "Invalid suffix",
+            Code::SuffixNotAllowed => "Suffix not allowed",
+            Code::InvalidCharacterData => "Invalid character data",
+            Code::InvalidExpression => "Invalid expression",
+            Code::TriggerIgnored => "Trigger ignored",
+            Code::InitIgnored => "Init ignored",
+            Code::TriggerDeadlock => "Trigger deadlock",
+            Code::SettingsConflict => "Settings conflict",
+            Code::DataOutOfRange => "Data out of range",
+            Code::TooMuchData => "Too much data",
+            Code::IllegalParameterValue => "Illegal parameter value",
+            Code::DataCorruptOrStale => "Data corrupt or stale",
+            Code::QueueOverflow => "Queue overflow",
+            Code::InputBufferOverrun => "Input buffer overrun",
+            Code::QueryInterrupted => "Query INTERRUPTED",
+            Code::QueryUnterminated => "Query UNTERMINATED",
+            Code::QueryDeadlocked => "Query DEADLOCKED",
+        }
+    }
+}

@@ -1,0 +1,129 @@
+//! The error queue (SCPI-1999, volume 2, section 21.8).
+
+ghost use Rattle.std.specs.Prelude.{◌≡◌, ◌==◌, ◌≤◌, [], ◌∷◌, List, length, IfOk};
+ghost use Rattle.sv_errors.specs.ErrorQueue.{StandsFor, entries, is_full, oldest};
+
+use crate::code::Code;
+use crate::layer::Layer;
+use circular_buffer::HeapCircularBuffer;
+use std::alloc::{AllocError, Allocator, Global};
+use std::marker::Model;
+
+/// How many entries there may be.
+const MOST: usize = 16;
+
+/// What happens to the error queue.
+#[derive(Clone, Copy, Debug, PartialEq, Eq)]
+pub enum QueueAct {
+    /// An error is reported.
+    Report(Code),
+    /// The oldest entry is taken.
+    Take,
+    /// All entries are dropped.
+    Clear,
+}
+
+/// What it tells of that.
+#[derive(Clone, Copy, Debug, PartialEq, Eq)]
+pub enum QueueAnswer {
+    /// Whether the report overflowed.
+    Reported(bool),
+    /// What was taken, where there was any.
+    Taken(Option<Code>),
+    /// All entries were dropped.
+    Cleared,
+}
+
+/// The errors that were reported and not taken yet, oldest first, at most 16. A report to a full queue
+/// replaces the newest entry by [`Code::QueueOverflow`].
+#[derive(Drop)]
+pub struct ErrorQueue<A: Allocator = Global> {
+    codes: HeapCircularBuffer<Code, A>,
+}
+
+impl<A: Allocator> Model for ErrorQueue<A> {
+    ghost use Rattle.std.specs.Prelude.{List};
+    ghost use Rattle.sv_errors.specs.declared.code.Code.{Code};
+
+    ghost Value = { List Code };
+
+    ghost use Rattle.std.specs.Prelude.{◌≡◌, ◌≤◌, length};
+
+    ghost view = { λ a. a.codes.items };
+
+    ghost invariant = { λ a. (a.codes.capacity ≡ 16) × (length a.codes.items ≤ 16) };
+}
+
+impl<A: Allocator> ErrorQueue<A> {
+    /// An empty queue. Takes the memory of all its entries.
+    pub fn new(alloc: A) -> Result<ErrorQueue<A>, AllocError>
+        ensures { IfOk result (λ queue. StandsFor queue []) }
+    {
+        let codes = HeapCircularBuffer::with_capacity(alloc, MOST)?;
+        Ok(ErrorQueue { codes })
+    }
+
+    /// Reports an error, and tells whether it overflowed: a full queue shows -350 in place of its newest
+    /// entry, and the error itself is lost.
+    pub fn report(&mut self, code: Code) -> bool
+        ensures stands { (acts : List QueueAct) → StandsFor self.old acts → StandsFor self.new (QueueAct.Report code ∷ acts) }
+        ensures answer { (acts : List QueueAct) → StandsFor self.old acts → result ≡ is_full acts }
+        ensures full { result ≡ (length self.old == 16) }
+    {
+        let full = self.codes.len() >= MOST;
+        if full {
+            self.codes.pop_back();
+            self.codes.push_back(Code::QueueOverflow);
+        } else {
+            self.codes.push_back(code);
+        }
+        full
+    }
+
+    /// Takes the oldest entry, where there is one.
+    pub fn take(&mut self) -> Option<Code>
+        ensures stands { (acts : List QueueAct) → StandsFor self.old acts → StandsFor self.new (QueueAct.Take ∷ acts) }
+        ensures answer { (acts : List QueueAct) → StandsFor self.old acts → result ≡ oldest acts }
+    {
+        self.codes.pop_front()
+    }
+
+    /// How many entries there are.
+    pub fn count(&self) -> u8
+        ensures answer { (acts : List QueueAct) → StandsFor self.now acts → result ≡ length (entries acts) }
+        ensures few { result ≤ 16 }
+    {
+        self.codes.len() as u8
+    }
+
+    /// Drops all entries.
+    pub fn clear(&mut self)
+        ensures { (acts : List QueueAct) → StandsFor self.old acts → StandsFor self.new (QueueAct.Clear ∷ acts) }
+    {
+        self.codes.clear();
+    }
+}
+
+impl<A: Allocator> Layer for ErrorQueue<A> {
+    ghost use Rattle.sv_errors.specs.ErrorQueue.{StandsFor};
+    ghost use Rattle.sv_errors.specs.Answered.{Gives};
+
+    type Act = QueueAct;
+
+    type Answer = QueueAnswer;
+
+    ghost stands_for = { StandsFor };
+
+    ghost gives = { Gives };
+
+    fn act(&mut self, act: QueueAct) -> QueueAnswer {
+        match act {
+            QueueAct::Report(code) => QueueAnswer::Reported(self.report(code)),
+            QueueAct::Take => QueueAnswer::Taken(self.take()),
+            QueueAct::Clear => {
+                self.clear();
+                QueueAnswer::Cleared
+            }
+        }
+    }
+}
