@@ -1,0 +1,4 @@
+pub mod Register
+pub mod StandardEvent
+pub mod StatusByte
+pub mod Answered

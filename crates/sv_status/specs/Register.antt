@@ -1,0 +1,73 @@
+-- A status register (SCPI-1999, volume 1, chapter 20): condition, filters, event and enable, each found by a search of the acts, which are read
+-- from the newest.
+use Rattle.std.specs.Prelude.{◌≡◌, ◌↔◌, ◌⊎◌, ℕ, ◌%◌, ◌^◌, ⊤, List, [], ◌∷◌}
+use Rattle.std.specs.Int.{bit_at}
+use Rattle.sv_errors.specs.Since.{Since}
+use Rattle.sv_status.specs.declared.register.RegisterAct.{RegisterAct}
+use Rattle.sv_status.specs.declared.register.RegisterAct.TheVariants.{Condition, SetFilter, SetEnable, ReadEvent, Preset, Clear}
+
+-- the condition that came last
+abbrev pub condition : List RegisterAct → ℕ
+condition [] = 0
+condition (Condition word ∷ acts) = word
+condition (_ ∷ acts) = condition acts
+
+-- a mask that is written loses bit 15
+abbrev pub masked : ℕ → ℕ
+masked word = word % 2 ^ 15
+
+-- the filters and the enable: as they were last set or preset
+abbrev pub rise : List RegisterAct → ℕ
+rise [] = 32767
+rise (SetFilter up down ∷ acts) = masked up
+rise (Preset ∷ acts) = 32767
+rise (_ ∷ acts) = rise acts
+
+abbrev pub fall : List RegisterAct → ℕ
+fall [] = 0
+fall (SetFilter up down ∷ acts) = masked down
+fall (Preset ∷ acts) = 0
+fall (_ ∷ acts) = fall acts
+
+abbrev pub enable : List RegisterAct → ℕ
+enable [] = 0
+enable (SetEnable word ∷ acts) = masked word
+enable (Preset ∷ acts) = 0
+enable (_ ∷ acts) = enable acts
+
+-- At the newest act a bit of the condition changes in a direction whose filter was on before.
+abbrev pub Passes : ℕ → List RegisterAct → Type 0
+Passes k [] = ⊥
+Passes k (act ∷ before) =
+    ((bit_at (condition before) k ≡ 0) × (bit_at (condition (act ∷ before)) k ≡ 1) × (bit_at (rise before) k ≡ 1))
+    ⊎ ((bit_at (condition before) k ≡ 1) × (bit_at (condition (act ∷ before)) k ≡ 0) × (bit_at (fall before) k ≡ 1))
+
+-- The newest act doesn't clear the event register.
+abbrev pub IsKept : List RegisterAct → Type 0
+IsKept (ReadEvent ∷ acts) = ⊥
+IsKept (Clear ∷ acts) = ⊥
+IsKept _ = ⊤
+
+-- A bit of the event register stands exactly if it passed its filter after the last clearing.
+abbrev pub EventStands : ℕ → List RegisterAct → Type 0
+EventStands k acts = Since (Passes k) IsKept acts
+
+-- Some bit stands that is enabled.
+abbrev pub Summary : List RegisterAct → Type 0
+Summary acts = (k : ℕ) × EventStands k acts × (bit_at (enable acts) k ≡ 1)
+
+-- what a register holds
+pub record Held : Type 0 where
+  pub condition : ℕ
+  pub rise : ℕ
+  pub fall : ℕ
+  pub event : ℕ
+  pub enable : ℕ
+
+-- What it holds stands for the acts.
+pub record StandsFor (held : Held) (acts : List RegisterAct) : Type 0 where
+  pub condition : held.condition ≡ condition acts
+  pub rise : held.rise ≡ rise acts
+  pub fall : held.fall ≡ fall acts
+  pub enable : held.enable ≡ enable acts
+  pub event : (k : ℕ) → (bit_at held.event k ≡ 1) ↔ EventStands k acts

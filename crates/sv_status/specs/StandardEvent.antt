@@ -1,0 +1,42 @@
+-- The standard event status register (IEEE 488.2, 11.5.1), found by a search of the acts, which are read from the newest.
+use Rattle.std.specs.Prelude.{◌≡◌, ◌↔◌, ℕ, ⊤, List, [], ◌∷◌}
+use Rattle.std.specs.Int.{bit_at}
+use Rattle.sv_errors.specs.Since.{Since}
+use Rattle.sv_status.specs.declared.standard_event.StandardAct.{StandardAct}
+use Rattle.sv_status.specs.declared.standard_event.StandardAct.TheVariants.{Occur, Read, SetEnable, Clear}
+
+-- An event occurs at the newest act; power on, bit 7, before all acts.
+abbrev pub Occurs : ℕ → List StandardAct → Type 0
+Occurs k [] = k ≡ 7
+Occurs k (Occur bits ∷ acts) = bit_at bits k ≡ 1
+Occurs k (_ ∷ acts) = ⊥
+
+-- The newest act doesn't clear the register.
+abbrev pub IsKept : List StandardAct → Type 0
+IsKept (Read ∷ acts) = ⊥
+IsKept (Clear ∷ acts) = ⊥
+IsKept _ = ⊤
+
+-- A bit stands exactly if its event occurred after the last clearing.
+abbrev pub Stands : ℕ → List StandardAct → Type 0
+Stands k acts = Since (Occurs k) IsKept acts
+
+-- the enable that was set last
+abbrev pub enable : List StandardAct → ℕ
+enable [] = 0
+enable (SetEnable word ∷ acts) = word
+enable (_ ∷ acts) = enable acts
+
+-- Some event stands that is enabled.
+abbrev pub Summary : List StandardAct → Type 0
+Summary acts = (k : ℕ) × Stands k acts × (bit_at (enable acts) k ≡ 1)
+
+-- what the register holds
+pub record Held : Type 0 where
+  pub event : ℕ
+  pub enable : ℕ
+
+-- What it holds stands for the acts.
+pub record StandsFor (held : Held) (acts : List StandardAct) : Type 0 where
+  pub enable : held.enable ≡ enable acts
+  pub event : (k : ℕ) → (bit_at held.event k ≡ 1) ↔ Stands k acts

@@ -1,0 +1,63 @@
+-- The status byte and requests for service (IEEE 488.2, 11.2 and 11.3), found by a search of the acts, which are read from the newest.
+use Rattle.std.specs.Prelude.{◌≡◌, ◌≢◌, ◌↔◌, ◌⊎◌, ℕ, Bool, true, ⊤, List, [], ◌∷◌}
+use Rattle.std.specs.Int.{bit_at}
+use Rattle.sv_errors.specs.Since.{Since}
+use Rattle.sv_status.specs.declared.status_byte.StatusAct.{StatusAct}
+use Rattle.sv_status.specs.declared.status_byte.StatusAct.TheVariants.{Update, Poll}
+
+-- the summary bits, and which of them ask for service, as they came last
+abbrev pub bits : List StatusAct → ℕ
+bits [] = 0
+bits (Update word mask ∷ acts) = word
+bits (Poll ∷ acts) = bits acts
+
+abbrev pub enable : List StatusAct → ℕ
+enable [] = 0
+enable (Update word mask ∷ acts) = mask
+enable (Poll ∷ acts) = enable acts
+
+-- A summary bit stands and is enabled; bit 6 is no summary bit.
+abbrev pub Asks : ℕ → ℕ → ℕ → Type 0
+Asks k word mask = (k ≢ 6) × (bit_at word k ≡ 1) × (bit_at mask k ≡ 1)
+
+abbrev pub AsksAt : ℕ → List StatusAct → Type 0
+AsksAt k acts = Asks k (bits acts) (enable acts)
+
+-- the master summary
+abbrev pub Master : List StatusAct → Type 0
+Master acts = (k : ℕ) × AsksAt k acts
+
+-- A reason arises at the newest act: some bit asks that didn't before.
+abbrev pub Reason : List StatusAct → Type 0
+Reason [] = ⊥
+Reason (act ∷ before) = (k : ℕ) × AsksAt k (act ∷ before) × (AsksAt k before → ⊥)
+
+-- The newest act leaves a request: it is no poll, and the master summary stands.
+abbrev pub IsKept : List StatusAct → Type 0
+IsKept (Poll ∷ acts) = ⊥
+IsKept acts = Master acts
+
+-- A request stands exactly if a reason arose, and since then the master summary stood at each place and no poll came.
+abbrev pub Request : List StatusAct → Type 0
+Request acts = Since Reason IsKept acts
+
+-- A request is raised at the newest act: it stands there, and didn't before.
+abbrev pub IsRaised : List StatusAct → Type 0
+IsRaised [] = ⊥
+IsRaised (act ∷ before) = Request (act ∷ before) × (Request before → ⊥)
+
+-- a bit of the status byte as a poll gives it
+abbrev pub StatusBit : ℕ → List StatusAct → Type 0
+StatusBit k acts = ((k ≢ 6) × (bit_at (bits acts) k ≡ 1)) ⊎ ((k ≡ 6) × Request acts)
+
+-- what the status byte holds
+pub record Held : Type 0 where
+  pub bits : ℕ
+  pub enable : ℕ
+  pub request : Bool
+
+-- What it holds stands for the acts.
+pub record StandsFor (held : Held) (acts : List StatusAct) : Type 0 where
+  pub bits : held.bits ≡ bits acts
+  pub enable : held.enable ≡ enable acts
+  pub request : (held.request ≡ true) ↔ Request acts

@@ -1,0 +1,196 @@
+//! A status register with its filters (SCPI-1999, volume 1, chapter 20).
+
+ghost use Rattle.std.specs.Prelude.{◌≡◌, ◌↔◌, ◌%◌, ◌^◌, ℕ, true, [], ◌∷◌, List};
+ghost use Rattle.std.specs.Int.{bit_at};
+ghost use Rattle.sv_status.specs.Register.{StandsFor, EventStands, Summary, condition as condition_of, rise as rise_of, fall as fall_of, enable as enable_of};
+
+use std::marker::Model;
+use sv_errors::Layer;
+
+/// Above all bits of a mask that is written: bit 15 is dropped.
+const MASK_END: u16 = 1 << 15;
+/// The filter that lets each bit pass.
+const ALL: u16 = 32767;
+
+/// What happens to a register.
+#[derive(Clone, Copy, Debug, PartialEq, Eq)]
+pub enum RegisterAct {
+    /// Its condition becomes this.
+    Condition(u16),
+    /// Its transition filters are set.
+    SetFilter {
+        /// Which bits pass when they rise.
+        rise: u16,
+        /// Which bits pass when they fall.
+        fall: u16,
+    },
+    /// Its enable is set.
+    SetEnable(u16),
+    /// Its event register is read, and cleared thereby.
+    ReadEvent,
+    /// Its filters and its enable are preset.
+    Preset,
+    /// Its event register is cleared.
+    Clear,
+}
+
+/// What it tells of that.
+#[derive(Clone, Copy, Debug, PartialEq, Eq)]
+pub enum RegisterAnswer {
+    /// The event register as it was before it was read.
+    Event(u16),
+    /// There is nothing to tell.
+    Done,
+}
+
+/// Condition, transition filters, event and enable of a status register.
+#[derive(Debug)]
+pub struct Register {
+    condition: u16,
+    rise: u16,
+    fall: u16,
+    event: u16,
+    enable: u16,
+}
+
+impl Model for Register {
+    ghost use Rattle.sv_status.specs.Register.{Held};
+
+    ghost Value = { Held };
+
+    ghost view = { λ r. record { condition = r.condition; rise = r.rise; fall = r.fall; event = r.event; enable = r.enable } };
+}
+
+impl Register {
+    /// Nothing happened yet: the filter for rising bits is 32767, all else is 0.
+    pub fn new() -> Register
+        ensures { StandsFor result [] }
+    {
+        Register {
+            condition: 0,
+            rise: ALL,
+            fall: 0,
+            event: 0,
+            enable: 0,
+        }
+    }
+
+    /// The condition becomes this word. A bit of the event register is set where the bit rises and its
+    /// rising filter is on, or falls and its falling filter is on.
+    pub fn condition(&mut self, word: u16)
+        ensures { (acts : List RegisterAct) → StandsFor self.old acts → StandsFor self.new (RegisterAct.Condition word ∷ acts) }
+    {
+        let changed = self.condition ^ word;
+        self.event |= changed & word & self.rise;
+        self.event |= changed & self.condition & self.fall;
+        self.condition = word;
+    }
+
+    /// Sets the transition filters, without bit 15.
+    pub fn set_filter(&mut self, rise: u16, fall: u16)
+        ensures { (acts : List RegisterAct) → StandsFor self.old acts → StandsFor self.new (RegisterAct.SetFilter rise fall ∷ acts) }
+    {
+        self.rise = rise % MASK_END;
+        self.fall = fall % MASK_END;
+    }
+
+    /// Sets the enable, without bit 15.
+    pub fn set_enable(&mut self, enable: u16)
+        ensures { (acts : List RegisterAct) → StandsFor self.old acts → StandsFor self.new (RegisterAct.SetEnable enable ∷ acts) }
+    {
+        self.enable = enable % MASK_END;
+    }
+
+    /// Reads the event register, which clears it.
+    pub fn read_event(&mut self) -> u16
+        ensures stands { (acts : List RegisterAct) → StandsFor self.old acts → StandsFor self.new (RegisterAct.ReadEvent ∷ acts) }
+        ensures answer { (acts : List RegisterAct) → StandsFor self.old acts → (k : ℕ) → (bit_at result k ≡ 1) ↔ EventStands k acts }
+    {
+        let event = self.event;
+        self.event = 0;
+        event
+    }
+
+    /// Presets the enable to 0 and the filters to 32767 for rising and 0 for falling bits. Events stay.
+    pub fn preset(&mut self)
+        ensures { (acts : List RegisterAct) → StandsFor self.old acts → StandsFor self.new (RegisterAct.Preset ∷ acts) }
+    {
+        self.rise = ALL;
+        self.fall = 0;
+        self.enable = 0;
+    }
+
+    /// Clears the event register. Filters and enable stay.
+    pub fn clear(&mut self)
+        ensures { (acts : List RegisterAct) → StandsFor self.old acts → StandsFor self.new (RegisterAct.Clear ∷ acts) }
+    {
+        self.event = 0;
+    }
+
+    /// The condition as it is now.
+    pub fn condition_word(&self) -> u16
+        ensures { (acts : List RegisterAct) → StandsFor self.now acts → result ≡ condition_of acts }
+    {
+        self.condition
+    }
+
+    /// The filter for rising bits.
+    pub fn rise(&self) -> u16
+        ensures { (acts : List RegisterAct) → StandsFor self.now acts → result ≡ rise_of acts }
+    {
+        self.rise
+    }
+
+    /// The filter for falling bits.
+    pub fn fall(&self) -> u16
+        ensures { (acts : List RegisterAct) → StandsFor self.now acts → result ≡ fall_of acts }
+    {
+        self.fall
+    }
+
+    /// The event register, which stays as it is.
+    pub fn event(&self) -> u16
+        ensures { (acts : List RegisterAct) → StandsFor self.now acts → (k : ℕ) → (bit_at result k ≡ 1) ↔ EventStands k acts }
+    {
+        self.event
+    }
+
+    /// The enable.
+    pub fn enable(&self) -> u16
+        ensures { (acts : List RegisterAct) → StandsFor self.now acts → result ≡ enable_of acts }
+    {
+        self.enable
+    }
+
+    /// Whether some bit stands that is enabled.
+    pub fn summary(&self) -> bool
+        ensures { (acts : List RegisterAct) → StandsFor self.now acts → (result ≡ true) ↔ Summary acts }
+    {
+        self.event & self.enable != 0
+    }
+}
+
+impl Layer for Register {
+    ghost use Rattle.sv_status.specs.Register.{StandsFor};
+    ghost use Rattle.sv_status.specs.Answered.{RegisterGives};
+
+    type Act = RegisterAct;
+
+    type Answer = RegisterAnswer;
+
+    ghost stands_for = { StandsFor };
+
+    ghost gives = { RegisterGives };
+
+    fn act(&mut self, act: RegisterAct) -> RegisterAnswer {
+        match act {
+            RegisterAct::Condition(word) => self.condition(word),
+            RegisterAct::SetFilter { rise, fall } => self.set_filter(rise, fall),
+            RegisterAct::SetEnable(enable) => self.set_enable(enable),
+            RegisterAct::ReadEvent => return RegisterAnswer::Event(self.read_event()),
+            RegisterAct::Preset => self.preset(),
+            RegisterAct::Clear => self.clear(),
+        }
+        RegisterAnswer::Done
+    }
+}

@@ -1,0 +1,135 @@
+//! The standard event status register (IEEE 488.2, 11.5.1).
+
+ghost use Rattle.std.specs.Prelude.{◌≡◌, ◌↔◌, ℕ, true, [], ◌∷◌, List};
+ghost use Rattle.std.specs.Int.{bit_at};
+ghost use Rattle.sv_status.specs.StandardEvent.{StandsFor, Stands, Summary, enable as enable_of};
+
+use std::marker::Model;
+use sv_errors::Layer;
+
+/// Power on, which has happened when the register is new.
+const POWER_ON: u8 = 1 << 7;
+
+/// What happens to the register.
+#[derive(Clone, Copy, Debug, PartialEq, Eq)]
+pub enum StandardAct {
+    /// Events occur: the bits of this word.
+    Occur(u8),
+    /// It is read, and cleared thereby.
+    Read,
+    /// Its enable is set.
+    SetEnable(u8),
+    /// It is cleared.
+    Clear,
+}
+
+/// What it tells of that.
+#[derive(Clone, Copy, Debug, PartialEq, Eq)]
+pub enum StandardAnswer {
+    /// The register as it was before it was read.
+    Event(u8),
+    /// There is nothing to tell.
+    Done,
+}
+
+/// The standard events that occurred and weren't cleared, and their enable.
+#[derive(Debug)]
+pub struct StandardEvent {
+    event: u8,
+    enable: u8,
+}
+
+impl Model for StandardEvent {
+    ghost use Rattle.sv_status.specs.StandardEvent.{Held};
+
+    ghost Value = { Held };
+
+    ghost view = { λ r. record { event = r.event; enable = r.enable } };
+}
+
+impl StandardEvent {
+    /// Power on stands, and no other event; nothing is enabled.
+    pub fn new() -> StandardEvent
+        ensures { StandsFor result [] }
+    {
+        StandardEvent {
+            event: POWER_ON,
+            enable: 0,
+        }
+    }
+
+    /// The events of these bits occur.
+    pub fn occur(&mut self, bits: u8)
+        ensures { (acts : List StandardAct) → StandsFor self.old acts → StandsFor self.new (StandardAct.Occur bits ∷ acts) }
+    {
+        self.event |= bits;
+    }
+
+    /// Reads the register, which clears it.
+    pub fn read(&mut self) -> u8
+        ensures stands { (acts : List StandardAct) → StandsFor self.old acts → StandsFor self.new (StandardAct.Read ∷ acts) }
+        ensures answer { (acts : List StandardAct) → StandsFor self.old acts → (k : ℕ) → (bit_at result k ≡ 1) ↔ Stands k acts }
+    {
+        let event = self.event;
+        self.event = 0;
+        event
+    }
+
+    /// Sets the enable, all eight bits.
+    pub fn set_enable(&mut self, enable: u8)
+        ensures { (acts : List StandardAct) → StandsFor self.old acts → StandsFor self.new (StandardAct.SetEnable enable ∷ acts) }
+    {
+        self.enable = enable;
+    }
+
+    /// Clears the register. The enable stays.
+    pub fn clear(&mut self)
+        ensures { (acts : List StandardAct) → StandsFor self.old acts → StandsFor self.new (StandardAct.Clear ∷ acts) }
+    {
+        self.event = 0;
+    }
+
+    /// The register, which stays as it is.
+    pub fn event(&self) -> u8
+        ensures { (acts : List StandardAct) → StandsFor self.now acts → (k : ℕ) → (bit_at result k ≡ 1) ↔ Stands k acts }
+    {
+        self.event
+    }
+
+    /// The enable.
+    pub fn enable(&self) -> u8
+        ensures { (acts : List StandardAct) → StandsFor self.now acts → result ≡ enable_of acts }
+    {
+        self.enable
+    }
+
+    /// Whether some event stands that is enabled.
+    pub fn summary(&self) -> bool
+        ensures { (acts : List StandardAct) → StandsFor self.now acts → (result ≡ true) ↔ Summary acts }
+    {
+        self.event & self.enable != 0
+    }
+}
+
+impl Layer for StandardEvent {
+    ghost use Rattle.sv_status.specs.StandardEvent.{StandsFor};
+    ghost use Rattle.sv_status.specs.Answered.{StandardGives};
+
+    type Act = StandardAct;
+
+    type Answer = StandardAnswer;
+
+    ghost stands_for = { StandsFor };
+
+    ghost gives = { StandardGives };
+
+    fn act(&mut self, act: StandardAct) -> StandardAnswer {
+        match act {
+            StandardAct::Occur(bits) => self.occur(bits),
+            StandardAct::Read => return StandardAnswer::Event(self.read()),
+            StandardAct::SetEnable(enable) => self.set_enable(enable),
+            StandardAct::Clear => self.clear(),
+        }
+        StandardAnswer::Done
+    }
+}

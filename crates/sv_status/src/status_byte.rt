@@ -1,0 +1,131 @@
+//! The status byte and requests for service (IEEE 488.2, 11.2 and 11.3).
+
+ghost use Rattle.std.specs.Prelude.{◌≡◌, ◌↔◌, ℕ, true, [], ◌∷◌, List};
+ghost use Rattle.std.specs.Int.{bit_at};
+ghost use Rattle.sv_status.specs.StatusByte.{StandsFor, Asks, StatusBit, IsRaised, Master, Request};
+
+use std::marker::Model;
+use sv_errors::Layer;
+
+/// Bit 6, which is no summary bit: it shows the request for service, or the master summary.
+const REQUEST: u8 = 1 << 6;
+
+/// What happens to the status byte.
+#[derive(Clone, Copy, Debug, PartialEq, Eq)]
+pub enum StatusAct {
+    /// The summary bits and the enable become these.
+    Update {
+        /// The summary bits; bit 6 is ignored.
+        bits: u8,
+        /// Which of them ask for service; bit 6 is ignored.
+        enable: u8,
+    },
+    /// It is polled, which ends a request for service.
+    Poll,
+}
+
+/// What it tells of that.
+#[derive(Clone, Copy, Debug, PartialEq, Eq)]
+pub enum StatusAnswer {
+    /// Whether a request for service is raised.
+    Raised(bool),
+    /// The status byte as it was before it was polled.
+    Status(u8),
+}
+
+/// The summary bits, which of them ask for service, and whether a request stands.
+#[derive(Debug)]
+pub struct StatusByte {
+    bits: u8,
+    enable: u8,
+    request: bool,
+}
+
+impl Model for StatusByte {
+    ghost use Rattle.sv_status.specs.StatusByte.{Held};
+
+    ghost Value = { Held };
+
+    ghost view = { λ s. record { bits = s.bits; enable = s.enable; request = s.request } };
+}
+
+impl StatusByte {
+    /// No bit stands, none is enabled, and no service is asked for.
+    pub fn new() -> StatusByte
+        ensures { StandsFor result [] }
+    {
+        StatusByte {
+            bits: 0,
+            enable: 0,
+            request: false,
+        }
+    }
+
+    /// Summary bits and enable become these, and the answer tells whether a request for service is
+    /// raised: where a bit now stands and is enabled that didn't both before, and no request stood.
+    pub fn update(&mut self, bits: u8, enable: u8) -> bool
+        ensures stands { (acts : List StatusAct) → StandsFor self.old acts → StandsFor self.new (StatusAct.Update bits enable ∷ acts) }
+        ensures answer { (acts : List StatusAct) → StandsFor self.old acts → (result ≡ true) ↔ IsRaised (StatusAct.Update bits enable ∷ acts) }
+    {
+        let before = asking(self.bits, self.enable);
+        let now = asking(bits, enable);
+        let reason = (before ^ now) & now != 0;
+        let raised = reason & !self.request;
+        self.bits = bits;
+        self.enable = enable;
+        self.request = (reason | self.request) & (now != 0);
+        raised
+    }
+
+    /// The status byte with the request for service in bit 6, which then ends.
+    pub fn poll(&mut self) -> u8
+        ensures stands { (acts : List StatusAct) → StandsFor self.old acts → StandsFor self.new (StatusAct.Poll ∷ acts) }
+        ensures answer { (acts : List StatusAct) → StandsFor self.old acts → (k : ℕ) → (bit_at result k ≡ 1) ↔ StatusBit k acts }
+    {
+        let bits = self.bits & !REQUEST;
+        let status = if self.request { bits | REQUEST } else { bits };
+        self.request = false;
+        status
+    }
+
+    /// The master summary: whether some bit stands that is enabled.
+    pub fn mss(&self) -> bool
+        ensures { (acts : List StatusAct) → StandsFor self.now acts → (result ≡ true) ↔ Master acts }
+    {
+        asking(self.bits, self.enable) != 0
+    }
+
+    /// Whether a request for service stands.
+    pub fn rqs(&self) -> bool
+        ensures { (acts : List StatusAct) → StandsFor self.now acts → (result ≡ true) ↔ Request acts }
+    {
+        self.request
+    }
+}
+
+/// The summary bits that stand and are enabled.
+fn asking(bits: u8, enable: u8) -> u8
+    ensures { (k : ℕ) → (bit_at result k ≡ 1) ↔ Asks k bits enable }
+{
+    bits & enable & !REQUEST
+}
+
+impl Layer for StatusByte {
+    ghost use Rattle.sv_status.specs.StatusByte.{StandsFor};
+    ghost use Rattle.sv_status.specs.Answered.{StatusGives};
+
+    type Act = StatusAct;
+
+    type Answer = StatusAnswer;
+
+    ghost stands_for = { StandsFor };
+
+    ghost gives = { StatusGives };
+
+    fn act(&mut self, act: StatusAct) -> StatusAnswer {
+        match act {
+            StatusAct::Update { bits, enable } => StatusAnswer::Raised(self.update(bits, enable)),
+            StatusAct::Poll => StatusAnswer::Status(self.poll()),
+        }
+    }
+}
