@@ -1,0 +1,4 @@
+pub mod Words
+pub mod Registers
+pub mod StandardEvents
+pub mod StatusBytes

@@ -1,0 +1,109 @@
+-- Words and their bits.
+use Rattle.std.proofs.Common.{◌≡◌, ◌≢◌, ℕ, zero, suc, ◌+◌, ◌-◌, ◌<◌, ◌≤◌, ◌^◌, ◌%◌, ◌/◌, Bool, true, false, eqb, refl, sym, ap, subst, ◌∙◌, ◌⊎◌, inl, inr, arith, bit_and, bit_or}
+use Rattle.std.specs.Prelude.{◌↔◌, not, min, max, bit_xor}
+use Rattle.std.specs.Int.{bit_at}
+use Rattle.std.proofs.lemmas.Bool.{cases_eq, cases_lt, ne_eqb}
+use Rattle.std.proofs.Common.{eq-eqb}
+use Rattle.std.proofs.lemmas.Nat.Bits.{bit_at_and, bit_at_or, bit_at_xor, bit_at-lt, bit_at-zero, bit_at_lowest, bit_at-suc, bit_at_above}
+
+-- a word that isn't 0 has a bit
+bit_within : (most w : ℕ) → w ≤ most → w ≢ 0 → (k : ℕ) × (bit_at w k ≡ 1)
+bit_within zero w le ne = absurd (ne (omega arith))
+bit_within (suc most) w le ne = elim (cases_eq (w % 2) 1) [
+  | inl odd ↦ (0, bit_at_lowest w ∙ odd)
+  | inr even ↦
+      let rest = bit_within most (w / 2) (grind arith) (λ e. even (grind arith)) in
+      (suc rest.0, bit_at-suc w rest.0 ∙ rest.1)
+]
+
+pub some_bit : (w : ℕ) → w ≢ 0 → (k : ℕ) × (bit_at w k ≡ 1)
+some_bit w ne = bit_within w w (omega arith) ne
+
+pub no_bit : (w k : ℕ) → bit_at w k ≡ 1 → w ≢ 0
+no_bit w k h e = absurd (omega (arith, h, ap (λ (n : ℕ). bit_at n k) e, bit_at-zero k))
+
+both_of : (a b : ℕ) → a < 2 → b < 2 → min a b ≡ 1 → (a ≡ 1) × (b ≡ 1)
+both_of a b p q h = (grind arith, grind arith)
+
+-- a bit stands in both of two words
+pub both_bits : (a b k : ℕ) → (bit_at (bit_and a b) k ≡ 1) ↔ ((bit_at a k ≡ 1) × (bit_at b k ≡ 1))
+both_bits a b k = (
+  (λ h. both_of (bit_at a k) (bit_at b k) (bit_at-lt a k) (bit_at-lt b k) (sym (bit_at_and a b k) ∙ h)),
+  (λ h. bit_at_and a b k ∙ ap (λ (n : ℕ). min n (bit_at b k)) h.0 ∙ ap (min 1) h.1),
+)
+
+-- a test whether a word is 0
+pub not_zero : (w : ℕ) → (not (eqb w 0) ≡ true) ↔ ((k : ℕ) × (bit_at w k ≡ 1))
+not_zero w = (
+  (λ h. some_bit w (λ e. let yes : eqb w 0 ≡ true = eq-eqb w 0 e in absurd cc)),
+  (λ h. ap not (ne_eqb w 0 (no_bit w h.0 h.1))),
+)
+
+-- two words meet in some bit
+pub meets : (a b : ℕ) → (not (eqb (bit_and a b) 0) ≡ true) ↔ ((k : ℕ) × (bit_at a k ≡ 1) × (bit_at b k ≡ 1))
+meets a b = (
+  (λ h. let some = (not_zero (bit_and a b)).0 h in let both = (both_bits a b some.0).0 some.1 in (some.0, both.0, both.1)),
+  (λ h. (not_zero (bit_and a b)).1 (h.0, (both_bits a b h.0).1 (h.1, h.2))),
+)
+
+-- one bit or another
+either_of : (a b : ℕ) → a < 2 → b < 2 → max a b ≡ 1 → (a ≡ 1) ⊎ (b ≡ 1)
+either_of a b p q h = elim (cases_eq a 1) [ inl e ↦ inl e | inr ne ↦ inr (grind arith) ]
+
+pub either_bit : (a b k : ℕ) → (bit_at (bit_or a b) k ≡ 1) ↔ ((bit_at a k ≡ 1) ⊎ (bit_at b k ≡ 1))
+either_bit a b k = (
+  (λ h. either_of (bit_at a k) (bit_at b k) (bit_at-lt a k) (bit_at-lt b k) (sym (bit_at_or a b k) ∙ h)),
+  (λ h. elim h [ inl e ↦ bit_at_or a b k ∙ (let l = bit_at-lt a k in let m = bit_at-lt b k in grind arith) | inr e ↦ bit_at_or a b k ∙ (let l = bit_at-lt a k in let m = bit_at-lt b k in grind arith) ]),
+)
+
+-- a bit that changed
+changed_of : (a b : ℕ) → a < 2 → b < 2 → (a + b) % 2 ≡ 1 → b ≡ 1 → a ≡ 0
+changed_of a b p q h e = grind arith
+
+pub rose : (a b k : ℕ) → (bit_at (bit_and (bit_xor a b) b) k ≡ 1) ↔ ((bit_at a k ≡ 0) × (bit_at b k ≡ 1))
+rose a b k = (
+  (λ h. let both = (both_bits (bit_xor a b) b k).0 h in
+    (changed_of (bit_at a k) (bit_at b k) (bit_at-lt a k) (bit_at-lt b k) (sym (bit_at_xor a b k) ∙ both.0) both.1, both.1)),
+  (λ h. (both_bits (bit_xor a b) b k).1 (bit_at_xor a b k ∙ ap (λ (n : ℕ). (n + bit_at b k) % 2) h.0 ∙ ap (λ (n : ℕ). (0 + n) % 2) h.1, h.1)),
+)
+
+pub fell : (a b k : ℕ) → (bit_at (bit_and (bit_xor a b) a) k ≡ 1) ↔ ((bit_at a k ≡ 1) × (bit_at b k ≡ 0))
+fell a b k = (
+  (λ h. let both = (both_bits (bit_xor a b) a k).0 h in
+    let sum : (bit_at b k + bit_at a k) % 2 ≡ 1 = (let x = sym (bit_at_xor a b k) ∙ both.0 in grind arith) in
+    (both.1, changed_of (bit_at b k) (bit_at a k) (bit_at-lt b k) (bit_at-lt a k) sum both.1)),
+  (λ h. (both_bits (bit_xor a b) a k).1 (bit_at_xor a b k ∙ ap (λ (n : ℕ). (n + bit_at b k) % 2) h.0 ∙ ap (λ (n : ℕ). (1 + n) % 2) h.1, h.0)),
+)
+
+-- a byte has eight bits
+pub within_byte : (w k : ℕ) → w < 256 → bit_at w k ≡ 1 → k < 8
+within_byte w k fits h = elim (cases_lt k 8) [ inl lt ↦ lt | inr le ↦ absurd (let none = bit_at_above w 8 k fits le in omega arith) ]
+
+-- the byte without bit 6 has the others
+others_of_mask : (k : ℕ) → k < 8 → k ≢ 6 → bit_at 191 k ≡ 1
+others_of_mask zero lt ne = refl
+others_of_mask (suc zero) lt ne = refl
+others_of_mask (suc (suc zero)) lt ne = refl
+others_of_mask (suc (suc (suc zero))) lt ne = refl
+others_of_mask (suc (suc (suc (suc zero)))) lt ne = refl
+others_of_mask (suc (suc (suc (suc (suc zero))))) lt ne = refl
+others_of_mask (suc (suc (suc (suc (suc (suc zero)))))) lt ne = absurd (ne refl)
+others_of_mask (suc (suc (suc (suc (suc (suc (suc zero))))))) lt ne = refl
+others_of_mask (suc (suc (suc (suc (suc (suc (suc (suc k)))))))) lt ne = absurd (omega arith)
+
+-- bits of a byte without bit 6
+pub without_six : (w k : ℕ) → w < 256 → (bit_at (bit_and w 191) k ≡ 1) ↔ ((k ≢ 6) × (bit_at w k ≡ 1))
+without_six w k fits = (
+  (λ h. let both = (both_bits w 191 k).0 h in ((λ e. let six : bit_at 191 k ≡ 0 = ap (bit_at 191) e in absurd (omega arith)), both.0)),
+  (λ h. (both_bits w 191 k).1 (h.1, others_of_mask k (within_byte w k fits h.1) h.0)),
+)
+
+-- bits of two bytes, without bit 6
+pub asking_bit : (a b k : ℕ) → a < 256 → (bit_at (bit_and (bit_and a b) 191) k ≡ 1) ↔ ((k ≢ 6) × (bit_at a k ≡ 1) × (bit_at b k ≡ 1))
+asking_bit a b k fits = (
+  (λ h.
+    let outer = (both_bits (bit_and a b) 191 k).0 h in
+    let inner = (both_bits a b k).0 outer.0 in
+    ((λ e. let six : bit_at 191 k ≡ 0 = ap (bit_at 191) e in absurd (omega arith)), inner.0, inner.1)),
+  (λ h. (both_bits (bit_and a b) 191 k).1 ((both_bits a b k).1 (h.1, h.2), others_of_mask k (within_byte a k fits h.1) h.0)),
+)

@@ -1,0 +1,7 @@
+use Rattle.std.proofs.Common.{bit_and, arith}
+use Rattle.std.proofs.lemmas.Nat.Bits.{bit_at_and}
+use Rattle.sv_status.proofs.Words.{asking_bit}
+use Rattle.sv_status.proofs.status_byte.asking.Goals as goal
+
+pub returns : goal.returns
+returns c k = asking_bit c.args.bits c.args.enable k (omega arith)
