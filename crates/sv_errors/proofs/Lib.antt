@@ -1,1 +1,2 @@
 pub mod Since
+mod Queue

@@ -1,0 +1,286 @@
+-- What an act makes of what the error queue holds.
+use Rattle.std.proofs.Common.{◌≡◌, ℕ, suc, ◌+◌, ◌-◌, ◌<◌, ◌≤◌, Bool, true, false, ◌&&◌, cond, List, [], ◌∷◌, ◌++◌, length, take, drop, refl, sym, ap, subst, ◌∙◌, add-one, arith, ◌⊎◌, inl, inr, length-append, length-drop}
+use Rattle.std.specs.Prelude.{map}
+use Rattle.std.specs.List.{AllByRecursion}
+use Rattle.std.proofs.lemmas.Bool.{cases_lt, lt-ltb, le-ltb, eq-eqb, ne_eqb}
+use Rattle.std.proofs.lemmas.List.{drop-drop, drop-append-le, drop-map, map_push, take_at, length-map}
+use Rattle.sv_errors.specs.declared.code.Code.{Code}
+use Rattle.sv_errors.specs.declared.code.Code.TheVariants.{QueueOverflow}
+use Rattle.sv_errors.specs.declared.error_queue.QueueAct.{QueueAct}
+use Rattle.sv_errors.specs.declared.error_queue.QueueAct.TheVariants.{Report, Take, Clear}
+use Rattle.sv_errors.specs.ErrorQueue.{Counted, left, is_any, admit, take_one, counted, entries, is_full, up_to, reported, is_report, is_overtaken, shown, held, StandsFor}
+
+-- ---- what is left of the admitted reports
+
+-- a report that finds room is the newest of it
+left-admitted : (before : Counted) (place : ℕ) → before.taken ≤ length before.admitted → length (left before) < 16 → left (admit before place) ≡ left before ++ place ∷ []
+left-admitted before place few room = rw (lt-ltb (length (left before)) 16 room) (drop-append-le before.taken before.admitted (place ∷ []) few)
+
+-- a report that finds none changes nothing
+admit-full : (before : Counted) (place : ℕ) → 16 ≤ length (left before) → admit before place ≡ before
+admit-full before place full = rw (le-ltb (length (left before)) 16 full) refl
+
+any_or_none : (places : List ℕ) → (is_any places ≡ true) × (1 ≤ length places) ⊎ (is_any places ≡ false) × (places ≡ [])
+any_or_none [] = inr (refl, refl)
+any_or_none (place ∷ places) = inl (refl, omega arith)
+
+-- taking leaves out the oldest
+left-taken : (before : Counted) → left (take_one before) ≡ drop 1 (left before)
+left-taken before = elim (any_or_none (left before)) [
+  | inl some ↦ rw some.0 (sym (drop-drop 1 before.taken before.admitted))
+  | inr none ↦ rw none.0 (none.1 ∙ sym (ap (drop 1) none.1))
+]
+
+-- no more are taken than were admitted
+taken-admitted : (before : Counted) (place : ℕ) → before.taken ≤ length before.admitted → (admit before place).taken ≤ length (admit before place).admitted
+taken-admitted before place few = elim (cases_lt (length (left before)) 16) [
+  | inl room ↦ rw (lt-ltb (length (left before)) 16 room) (omega (arith, length-append before.admitted (place ∷ [])))
+  | inr full ↦ rw (le-ltb (length (left before)) 16 full) few
+]
+
+taken-taken : (before : Counted) → before.taken ≤ length before.admitted → (take_one before).taken ≤ length (take_one before).admitted
+taken-taken before few = elim (any_or_none (left before)) [
+  | inl some ↦ rw some.0 (omega (arith, some.1, length-drop before.taken before.admitted))
+  | inr none ↦ rw none.0 few
+]
+
+-- ---- what an entry shows, one act later
+
+-- the acts up to a place stay
+up_to-more : (place : ℕ) (act : QueueAct) (acts : List QueueAct) → place ≤ length acts → up_to place (act ∷ acts) ≡ up_to place acts
+up_to-more place act acts le = let e : length (act ∷ acts) - place ≡ suc (length acts - place) = omega arith in ap (λ (n : ℕ). drop n (act ∷ acts)) e
+
+-- those up to the newest are all
+up_to-all : (acts : List QueueAct) → up_to (length acts) acts ≡ acts
+up_to-all acts = let e : length acts - length acts ≡ 0 = omega arith in ap (λ (n : ℕ). drop n acts) e
+
+-- what came next after an older place stays
+overtaken-more : (place : ℕ) (act : QueueAct) (acts : List QueueAct) → place < length acts → is_overtaken place (act ∷ acts) ≡ is_overtaken place acts
+overtaken-more place act acts lt =
+    ap (λ (b : Bool). b && is_report (up_to (place + 1) (act ∷ acts))) (lt-ltb place (suc (length acts)) (omega arith)) ∙ ap is_report (up_to-more (place + 1) act acts (omega arith))
+    ∙ sym (ap (λ (b : Bool). b && is_report (up_to (place + 1) acts)) (lt-ltb place (length acts) lt))
+
+-- nothing came after the newest place
+overtaken-newest : (acts : List QueueAct) → is_overtaken (length acts) acts ≡ false
+overtaken-newest acts = ap (λ (b : Bool). b && is_report (up_to (length acts + 1) acts)) (le-ltb (length acts) (length acts) (omega arith))
+
+-- the new act comes next after it
+overtaken-next : (act : QueueAct) (acts : List QueueAct) → is_overtaken (length acts) (act ∷ acts) ≡ is_report (act ∷ acts)
+overtaken-next act acts =
+    ap (λ (b : Bool). b && is_report (up_to (length acts + 1) (act ∷ acts))) (lt-ltb (length acts) (suc (length acts)) (omega arith))
+    ∙ ap (λ (n : ℕ). is_report (up_to n (act ∷ acts))) (add-one (length acts)) ∙ ap is_report (up_to-all (act ∷ acts))
+
+-- what is shown, by the acts up to the place
+abbrev shows : List QueueAct → Bool → Code
+shows acts overtaken = cond (is_full acts && overtaken) QueueOverflow (reported acts)
+
+shown-older : (place : ℕ) (act : QueueAct) (acts : List QueueAct) → place < length acts → shown (act ∷ acts) place ≡ shown acts place
+shown-older place act acts lt =
+    ap (λ (rest : List QueueAct). shows rest (is_overtaken place (act ∷ acts))) (up_to-more place act acts (omega arith)) ∙ ap (shows (up_to place acts)) (overtaken-more place act acts lt)
+
+shown-next : (act : QueueAct) (acts : List QueueAct) → shown (act ∷ acts) (length acts) ≡ shows acts (is_report (act ∷ acts))
+shown-next act acts =
+    ap (λ (rest : List QueueAct). shows rest (is_overtaken (length acts) (act ∷ acts))) (up_to-more (length acts) act acts (omega arith) ∙ up_to-all acts) ∙ ap (shows acts) (overtaken-next act acts)
+
+and_false : (a : Bool) → (a && false) ≡ false
+and_false true = refl
+and_false false = refl
+
+-- the newest entry shows its report's code
+shown-newest : (acts : List QueueAct) → shown acts (length acts) ≡ reported acts
+shown-newest acts =
+    ap (λ (rest : List QueueAct). shows rest (is_overtaken (length acts) acts)) (up_to-all acts) ∙ ap (shows acts) (overtaken-newest acts)
+    ∙ ap (λ (b : Bool). cond b QueueOverflow (reported acts)) (and_false (is_full acts))
+
+-- an act that is no report to a full queue changes nothing of what is shown
+shown-same : (place : ℕ) (act : QueueAct) (acts : List QueueAct) → (is_full acts && is_report (act ∷ acts)) ≡ false → place ≤ length acts → shown (act ∷ acts) place ≡ shown acts place
+shown-same place act acts quiet le = elim (cases_lt place (length acts)) [
+  | inl lt ↦ shown-older place act acts lt
+  | inr ge ↦ let e : place ≡ length acts = omega arith in
+      ap (shown (act ∷ acts)) e ∙ shown-next act acts ∙ ap (λ (b : Bool). cond b QueueOverflow (reported acts)) quiet ∙ sym (shown-newest acts) ∙ sym (ap (shown acts) e)
+]
+
+-- ---- lists whose elements all have a property
+
+all-push : (P : ℕ → Type 0) (xs : List ℕ) (x : ℕ) → AllByRecursion P xs → P x → AllByRecursion P (xs ++ x ∷ [])
+all-push P [] x all p = (p, tt)
+all-push P (y ∷ xs) x all p = (all.0, all-push P xs x all.1 p)
+
+all-weaker : (P Q : ℕ → Type 0) (xs : List ℕ) → ((x : ℕ) → P x → Q x) → AllByRecursion P xs → AllByRecursion Q xs
+all-weaker P Q [] h all = tt
+all-weaker P Q (x ∷ xs) h all = (h x all.0, all-weaker P Q xs h all.1)
+
+all-rest : (P : ℕ → Type 0) (xs : List ℕ) → AllByRecursion P xs → AllByRecursion P (drop 1 xs)
+all-rest P [] all = tt
+all-rest P (x ∷ xs) all = all.1
+
+map-same : (P : ℕ → Type 0) (f g : ℕ → Code) (xs : List ℕ) → ((x : ℕ) → P x → f x ≡ g x) → AllByRecursion P xs → map f xs ≡ map g xs
+map-same P f g [] h all = refl
+map-same P f g (x ∷ xs) h all = ap (λ (c : Code). c ∷ map f xs) (h x all.0) ∙ ap (λ (cs : List Code). g x ∷ cs) (map-same P f g xs h all.1)
+
+-- ---- what the entries are like
+
+-- The newest entry of a full queue is the newest act, or shows the overflow, and the others are older.
+record IsFull (acts : List QueueAct) : Type 0 where
+  front : List ℕ
+  last : ℕ
+  split : entries acts ≡ front ++ last ∷ []
+  size : length front ≡ 15
+  older : AllByRecursion (λ place. place < length acts) front
+  newest : (last ≡ length acts) ⊎ (last < length acts) × (shown acts last ≡ QueueOverflow)
+
+-- There are at most 16 entries, each at a place of the acts.
+record IsKept (acts : List QueueAct) : Type 0 where
+  taken : (counted acts).taken ≤ length (counted acts).admitted
+  few : length (entries acts) ≤ 16
+  within : AllByRecursion (λ place. place ≤ length acts) (entries acts)
+  full : length (entries acts) ≡ 16 → IsFull acts
+
+-- ---- a report that finds room
+
+entries-reported : (code : Code) (acts : List QueueAct) → IsKept acts → length (entries acts) < 16 → entries (Report code ∷ acts) ≡ entries acts ++ (length acts + 1) ∷ []
+entries-reported code acts is room = left-admitted (counted acts) (length acts + 1) is.taken room
+
+reported-full : (code : Code) (acts : List QueueAct) → IsKept acts → length (entries acts) < 16 → length (entries (Report code ∷ acts)) ≡ 16 → IsFull (Report code ∷ acts)
+reported-full code acts is room many =
+    let split = entries-reported code acts is room in
+    record {
+      front = entries acts;
+      last = length acts + 1;
+      split = split;
+      size = omega (arith, ap length split, length-append (entries acts) ((length acts + 1) ∷ []));
+      older = all-weaker (λ place. place ≤ length acts) (λ place. place < length (Report code ∷ acts)) (entries acts) (λ place le. omega arith) is.within;
+      newest = inl (add-one (length acts));
+    }
+
+kept-reported : (code : Code) (acts : List QueueAct) → IsKept acts → length (entries acts) < 16 → IsKept (Report code ∷ acts)
+kept-reported code acts is room =
+    let split = entries-reported code acts is room in
+    let wider = all-weaker (λ place. place ≤ length acts) (λ place. place ≤ length (Report code ∷ acts)) (entries acts) (λ place le. omega arith) is.within in
+    record {
+      taken = taken-admitted (counted acts) (length acts + 1) is.taken;
+      few = omega (arith, ap length split, length-append (entries acts) ((length acts + 1) ∷ []));
+      within = subst (AllByRecursion (λ place. place ≤ length (Report code ∷ acts))) (sym split) (all-push (λ place. place ≤ length (Report code ∷ acts)) (entries acts) (length acts + 1) wider (omega arith));
+      full = reported-full code acts is room;
+    }
+
+-- ---- a report that finds none
+
+entries-overflowed : (code : Code) (acts : List QueueAct) → 16 ≤ length (entries acts) → entries (Report code ∷ acts) ≡ entries acts
+entries-overflowed code acts full = ap left (admit-full (counted acts) (length acts + 1) full)
+
+-- the newest entry shows the overflow
+shown-overflowed : (code : Code) (acts : List QueueAct) (last : ℕ) → length (entries acts) ≡ 16 → (last ≡ length acts) ⊎ (last < length acts) × (shown acts last ≡ QueueOverflow)
+    → shown (Report code ∷ acts) last ≡ QueueOverflow
+shown-overflowed code acts last many (inl e) =
+    ap (shown (Report code ∷ acts)) e ∙ shown-next (Report code) acts ∙ ap (λ (b : Bool). cond (b && true) QueueOverflow (reported acts)) (eq-eqb (length (entries acts)) 16 many)
+shown-overflowed code acts last many (inr older) = shown-older last (Report code) acts older.0 ∙ older.1
+
+newest-within : (acts : List QueueAct) (last : ℕ) → (last ≡ length acts) ⊎ (last < length acts) × (shown acts last ≡ QueueOverflow) → last < suc (length acts)
+newest-within acts last (inl e) = omega arith
+newest-within acts last (inr older) = omega (arith, older.0)
+
+overflowed-full : (code : Code) (acts : List QueueAct) → length (entries acts) ≡ 16 → IsFull acts → IsFull (Report code ∷ acts)
+overflowed-full code acts many is = record {
+  front = is.front;
+  last = is.last;
+  split = entries-overflowed code acts (omega arith) ∙ is.split;
+  size = is.size;
+  older = all-weaker (λ place. place < length acts) (λ place. place < length (Report code ∷ acts)) is.front (λ place lt. omega arith) is.older;
+  newest = inr (newest-within acts is.last is.newest, shown-overflowed code acts is.last many is.newest);
+}
+
+kept-overflowed : (code : Code) (acts : List QueueAct) → IsKept acts → 16 ≤ length (entries acts) → IsKept (Report code ∷ acts)
+kept-overflowed code acts is full =
+    let same = entries-overflowed code acts full in
+    let few = is.few in
+    let many : length (entries acts) ≡ 16 = omega arith in
+    record {
+      taken = taken-admitted (counted acts) (length acts + 1) is.taken;
+      few = omega (arith, ap length same);
+      within = subst (AllByRecursion (λ place. place ≤ length (Report code ∷ acts))) (sym same)
+          (all-weaker (λ place. place ≤ length acts) (λ place. place ≤ length (Report code ∷ acts)) (entries acts) (λ place le. omega arith) is.within);
+      full = λ e. overflowed-full code acts many (is.full many);
+    }
+
+-- ---- a taking
+
+entries-taken : (acts : List QueueAct) → entries (Take ∷ acts) ≡ drop 1 (entries acts)
+entries-taken acts = left-taken (counted acts)
+
+kept-taken : (acts : List QueueAct) → IsKept acts → IsKept (Take ∷ acts)
+kept-taken acts is =
+    let rest = entries-taken acts in
+    let few = is.few in
+    let size : length (entries (Take ∷ acts)) ≡ length (entries acts) - 1 = ap length rest ∙ length-drop 1 (entries acts) in
+    record {
+      taken = taken-taken (counted acts) is.taken;
+      few = omega arith;
+      within = subst (AllByRecursion (λ place. place ≤ length (Take ∷ acts))) (sym rest) (all-rest (λ place. place ≤ length (Take ∷ acts)) (entries acts)
+          (all-weaker (λ place. place ≤ length acts) (λ place. place ≤ length (Take ∷ acts)) (entries acts) (λ place le. omega arith) is.within));
+      full = λ many. absurd (omega arith);
+    }
+
+-- all acts keep this
+kept : (acts : List QueueAct) → IsKept acts
+kept [] = record { taken = omega arith; few = omega arith; within = tt; full = λ many. absurd (omega arith) }
+kept (Report code ∷ acts) = elim (cases_lt (length (entries acts)) 16) [ inl room ↦ kept-reported code acts (kept acts) room | inr full ↦ kept-overflowed code acts (kept acts) full ]
+kept (Take ∷ acts) = kept-taken acts (kept acts)
+kept (Clear ∷ acts) = record { taken = omega arith; few = omega arith; within = tt; full = λ many. absurd (omega arith) }
+
+-- ---- what is held, one act later
+
+-- what the entries show stays, but where a report overflows
+shown-entries : (act : QueueAct) (acts : List QueueAct) → (is_full acts && is_report (act ∷ acts)) ≡ false → map (shown (act ∷ acts)) (entries acts) ≡ held acts
+shown-entries act acts quiet = map-same (λ place. place ≤ length acts) (shown (act ∷ acts)) (shown acts) (entries acts) (λ place le. shown-same place act acts quiet le) (kept acts).within
+
+-- a report that finds room becomes the newest
+held-reported : (code : Code) (acts : List QueueAct) → length (entries acts) < 16 → held (Report code ∷ acts) ≡ held acts ++ code ∷ []
+held-reported code acts room =
+    let quiet : (is_full acts && true) ≡ false = ap (λ (b : Bool). b && true) (ne_eqb (length (entries acts)) 16 (λ e. omega arith)) in
+    ap (map (shown (Report code ∷ acts))) (entries-reported code acts (kept acts) room)
+    ∙ map_push (shown (Report code ∷ acts)) (entries acts) (length acts + 1)
+    ∙ ap (λ (cs : List Code). cs ++ shown (Report code ∷ acts) (length acts + 1) ∷ []) (shown-entries (Report code) acts quiet)
+    ∙ ap (λ (n : ℕ). held acts ++ shown (Report code ∷ acts) n ∷ []) (add-one (length acts))
+    ∙ ap (λ (c : Code). held acts ++ c ∷ []) (shown-newest (Report code ∷ acts))
+
+-- the entries of a full queue
+full-shown : (acts : List QueueAct) (now : List QueueAct) (is : IsFull acts) → map (shown now) (entries acts) ≡ map (shown now) is.front ++ shown now is.last ∷ []
+full-shown acts now is = ap (map (shown now)) is.split ∙ map_push (shown now) is.front is.last
+
+-- a report that finds none shows the overflow in the place of the newest
+held-overflowed : (code : Code) (acts : List QueueAct) → length (entries acts) ≡ 16 → held (Report code ∷ acts) ≡ take 15 (held acts) ++ QueueOverflow ∷ []
+held-overflowed code acts many =
+    let is = (kept acts).full many in
+    let front : take 15 (held acts) ≡ map (shown acts) is.front =
+    ap (take 15) (full-shown acts acts is) ∙ take_at (map (shown acts) is.front) (shown acts is.last ∷ []) 15 (length-map is.front (shown acts) ∙ is.size) in
+    ap (map (shown (Report code ∷ acts))) (entries-overflowed code acts (omega arith))
+    ∙ full-shown acts (Report code ∷ acts) is
+    ∙ ap (λ (c : Code). map (shown (Report code ∷ acts)) is.front ++ c ∷ []) (shown-overflowed code acts is.last many is.newest)
+    ∙ ap (λ (cs : List Code). cs ++ QueueOverflow ∷ [])
+    (map-same (λ place. place < length acts) (shown (Report code ∷ acts)) (shown acts) is.front (λ place lt. shown-older place (Report code) acts lt) is.older ∙ sym front)
+
+-- a taking leaves out the oldest
+held-taken : (acts : List QueueAct) → held (Take ∷ acts) ≡ drop 1 (held acts)
+held-taken acts =
+    ap (map (shown (Take ∷ acts))) (entries-taken acts) ∙ sym (drop-map (shown (Take ∷ acts)) 1 (entries acts)) ∙ ap (drop 1) (shown-entries Take acts (and_false (is_full acts)))
+
+-- ---- the codes that are kept
+
+-- as many codes as entries
+count-entries : (codes : List Code) (acts : List QueueAct) → StandsFor codes acts → length (entries acts) ≡ length codes
+count-entries codes acts stands = sym (ap length stands ∙ length-map (entries acts) (shown acts))
+
+-- a report that finds room
+pub StandsFor-reported : (codes : List Code) (code : Code) (acts : List QueueAct) → length codes < 16 → StandsFor codes acts → StandsFor (codes ++ code ∷ []) (Report code ∷ acts)
+StandsFor-reported codes code acts room stands =
+    let size = count-entries codes acts stands in ap (λ (cs : List Code). cs ++ code ∷ []) stands ∙ sym (held-reported code acts (omega arith))
+
+-- a report that finds none
+pub StandsFor-overflowed : (codes : List Code) (code : Code) (acts : List QueueAct) → length codes ≡ 16 → StandsFor codes acts → StandsFor (take 15 codes ++ QueueOverflow ∷ []) (Report code ∷ acts)
+StandsFor-overflowed codes code acts full stands =
+    let size = count-entries codes acts stands in ap (λ (cs : List Code). take 15 cs ++ QueueOverflow ∷ []) stands ∙ sym (held-overflowed code acts (omega arith))
+
+-- a taking
+pub StandsFor-taken : (codes : List Code) (acts : List QueueAct) → StandsFor codes acts → StandsFor (drop 1 codes) (Take ∷ acts)
+StandsFor-taken codes acts stands = ap (drop 1) stands ∙ sym (held-taken acts)
