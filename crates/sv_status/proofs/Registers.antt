@@ -76,16 +76,16 @@ latched_bit held word k =
     let fall_is = fell held.condition word k in (
       (λ h. elim (all.0 h) [
         | inl some ↦ elim (first.0 some) [
-            | inl event ↦ inr event
-            | inr rises ↦ let r = rising.0 rises in let c = rise_is.0 r.0 in inl (inl (c.0, c.1, r.1))
-          ]
+          | inl event ↦ inr event
+          | inr rises ↦ let r = rising.0 rises in let c = rise_is.0 r.0 in inl (inl (c.0, c.1, r.1))
+        ]
         | inr falls ↦ let f = falling.0 falls in let c = fall_is.0 f.0 in inl (inr (c.0, c.1, f.1))
       ]),
       (λ h. elim h [
         | inl passes ↦ elim passes [
-            | inl r ↦ all.1 (inl (first.1 (inr (rising.1 (rise_is.1 (r.0, r.1), r.2)))))
-            | inr f ↦ all.1 (inr (falling.1 (fall_is.1 (f.0, f.1), f.2)))
-          ]
+          | inl r ↦ all.1 (inl (first.1 (inr (rising.1 (rise_is.1 (r.0, r.1), r.2)))))
+          | inr f ↦ all.1 (inr (falling.1 (fall_is.1 (f.0, f.1), f.2)))
+        ]
         | inr event ↦ all.1 (inl (first.1 (inl event)))
       ]),
     )
@@ -98,13 +98,13 @@ StandsFor-condition held acts word is = record {
   fall = is.fall;
   enable = is.enable;
   event = λ k.
-    let bit = latched_bit held word k in
-    let law = since_step (Passes k) IsKept (Condition word) acts in
-    let to = same_passing k held.condition (condition acts) word held.rise (rise acts) held.fall (fall acts) is.condition is.rise is.fall in
-    let from = same_passing k (condition acts) held.condition word (rise acts) held.rise (fall acts) held.fall (sym is.condition) (sym is.rise) (sym is.fall) in (
-      (λ h. law.1 (tt, elim (bit.0 h) [ inl passes ↦ inl (to passes) | inr event ↦ inr ((is.event k).0 event) ])),
-      (λ s. bit.1 (elim (law.0 s).1 [ inl passes ↦ inl (from passes) | inr before ↦ inr ((is.event k).1 before) ])),
-    );
+      let bit = latched_bit held word k in
+      let law = since_step (Passes k) IsKept (Condition word) acts in
+      let to = same_passing k held.condition (condition acts) word held.rise (rise acts) held.fall (fall acts) is.condition is.rise is.fall in
+      let from = same_passing k (condition acts) held.condition word (rise acts) held.rise (fall acts) held.fall (sym is.condition) (sym is.rise) (sym is.fall) in (
+        (λ h. law.1 (tt, elim (bit.0 h) [ inl passes ↦ inl (to passes) | inr event ↦ inr ((is.event k).0 event) ])),
+        (λ s. bit.1 (elim (law.0 s).1 [ inl passes ↦ inl (from passes) | inr before ↦ inr ((is.event k).1 before) ])),
+      );
 }
 
 -- some bit stands that is enabled

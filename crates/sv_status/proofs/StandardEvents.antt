@@ -26,19 +26,19 @@ pub StandsFor-occurred : (held : Held) (acts : List StandardAct) (bits : ℕ) �
 StandsFor-occurred held acts bits is = record {
   enable = is.enable;
   event = λ k.
-    let bit = either_bit held.event bits k in
-    let law = since_step (Occurs k) IsKept (Occur bits) acts in (
-      (λ h. law.1 (tt, elim (bit.0 h) [ inl event ↦ inr ((is.event k).0 event) | inr occurs ↦ inl occurs ])),
-      (λ s. bit.1 (elim (law.0 s).1 [ inl occurs ↦ inr occurs | inr before ↦ inl ((is.event k).1 before) ])),
-    );
+      let bit = either_bit held.event bits k in
+      let law = since_step (Occurs k) IsKept (Occur bits) acts in (
+        (λ h. law.1 (tt, elim (bit.0 h) [ inl event ↦ inr ((is.event k).0 event) | inr occurs ↦ inl occurs ])),
+        (λ s. bit.1 (elim (law.0 s).1 [ inl occurs ↦ inr occurs | inr before ↦ inl ((is.event k).1 before) ])),
+      );
 }
 
 pub StandsFor-enable : (held : Held) (acts : List StandardAct) (word : ℕ) → StandsFor held acts → StandsFor (record held { enable = word }) (SetEnable word ∷ acts)
 StandsFor-enable held acts word is = record {
   enable = refl;
   event = λ k.
-    let law = since_step (Occurs k) IsKept (SetEnable word) acts in
-    ((λ h. law.1 (tt, inr ((is.event k).0 h))), (λ s. elim (law.0 s).1 [ inl none ↦ absurd none | inr before ↦ (is.event k).1 before ]));
+      let law = since_step (Occurs k) IsKept (SetEnable word) acts in
+      ((λ h. law.1 (tt, inr ((is.event k).0 h))), (λ s. elim (law.0 s).1 [ inl none ↦ absurd none | inr before ↦ (is.event k).1 before ]));
 }
 
 -- some event stands that is enabled

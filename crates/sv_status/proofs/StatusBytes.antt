@@ -56,9 +56,9 @@ reason_is : (before now : ℕ) (held : Held) (acts : List StatusAct) (word mask 
 reason_is before now held acts word mask is was asks =
     let zero = not_zero (bit_and (bit_xor before now) now) in (
       (λ h.
-        let some = zero.0 h in
-        let r = (rose before now some.0).0 some.1 in
-        (some.0, (asks some.0).0 r.1, λ old. let one = (was some.0).1 (rw (is.bits, is.enable) old) in absurd (omega arith))),
+          let some = zero.0 h in
+          let r = (rose before now some.0).0 some.1 in
+          (some.0, (asks some.0).0 r.1, λ old. let one = (was some.0).1 (rw (is.bits, is.enable) old) in absurd (omega arith))),
       (λ m. zero.1 (m.0, (rose before now m.0).1 (zero_bit before m.0 (λ one. m.2 (rw (is.bits, is.enable) at ((was m.0).0 one))), (asks m.0).1 m.1))),
     )
 
@@ -70,12 +70,12 @@ request_is before now held acts word mask is was asks =
     let reason = reason_is before now held acts word mask is was asks in
     let zero = not_zero now in (
       (λ h.
-        let both = and_is (not (eqb (bit_and (bit_xor before now) now) 0) || held.request) (not (eqb now 0)) h in
-        let some = zero.0 both.1 in
-        law.1 ((some.0, (asks some.0).0 some.1), elim (or_is (not (eqb (bit_and (bit_xor before now) now) 0)) held.request both.0) [ inl r ↦ inl (reason.0 r) | inr stood ↦ inr (is.request.0 stood) ])),
+          let both = and_is (not (eqb (bit_and (bit_xor before now) now) 0) || held.request) (not (eqb now 0)) h in
+          let some = zero.0 both.1 in
+          law.1 ((some.0, (asks some.0).0 some.1), elim (or_is (not (eqb (bit_and (bit_xor before now) now) 0)) held.request both.0) [ inl r ↦ inl (reason.0 r) | inr stood ↦ inr (is.request.0 stood) ])),
       (λ s.
-        let parts = law.0 s in
-        and_true (not (eqb (bit_and (bit_xor before now) now) 0) || held.request) (not (eqb now 0))
+          let parts = law.0 s in
+          and_true (not (eqb (bit_and (bit_xor before now) now) 0) || held.request) (not (eqb now 0))
           (elim parts.1 [ inl r ↦ or_left _ held.request (reason.1 r) | inr stood ↦ or_right (not (eqb (bit_and (bit_xor before now) now) 0)) _ (is.request.1 stood) ])
           (zero.1 (parts.0.0, (asks parts.0.0).1 parts.0.1))),
     )
@@ -87,12 +87,12 @@ raised_is before now held acts word mask is was asks =
     let law = since_step Reason IsKept (Update word mask) acts in
     let reason = reason_is before now held acts word mask is was asks in (
       (λ h.
-        let both = and_is (not (eqb (bit_and (bit_xor before now) now) 0)) (not held.request) h in
-        let r = reason.0 both.0 in
-        (law.1 ((r.0, r.1), inl r), λ stood. let one = is.request.1 stood in absurd (cc))),
+          let both = and_is (not (eqb (bit_and (bit_xor before now) now) 0)) (not held.request) h in
+          let r = reason.0 both.0 in
+          (law.1 ((r.0, r.1), inl r), λ stood. let one = is.request.1 stood in absurd (cc))),
       (λ s.
-        let parts = law.0 s.0 in
-        and_true (not (eqb (bit_and (bit_xor before now) now) 0)) (not held.request) (reason.1 (elim parts.1 [ inl r ↦ r | inr stood ↦ absurd (s.1 stood) ])) (not_stood held.request (λ one. s.1 (is.request.0 one)))),
+          let parts = law.0 s.0 in
+          and_true (not (eqb (bit_and (bit_xor before now) now) 0)) (not held.request) (reason.1 (elim parts.1 [ inl r ↦ r | inr stood ↦ absurd (s.1 stood) ])) (not_stood held.request (λ one. s.1 (is.request.0 one)))),
     )
 
 -- a poll ends the request

@@ -63,15 +63,15 @@ changed_of a b p q h e = grind arith
 pub rose : (a b k : ℕ) → (bit_at (bit_and (bit_xor a b) b) k ≡ 1) ↔ ((bit_at a k ≡ 0) × (bit_at b k ≡ 1))
 rose a b k = (
   (λ h. let both = (both_bits (bit_xor a b) b k).0 h in
-    (changed_of (bit_at a k) (bit_at b k) (bit_at-lt a k) (bit_at-lt b k) (sym (bit_at_xor a b k) ∙ both.0) both.1, both.1)),
+      (changed_of (bit_at a k) (bit_at b k) (bit_at-lt a k) (bit_at-lt b k) (sym (bit_at_xor a b k) ∙ both.0) both.1, both.1)),
   (λ h. (both_bits (bit_xor a b) b k).1 (bit_at_xor a b k ∙ ap (λ (n : ℕ). (n + bit_at b k) % 2) h.0 ∙ ap (λ (n : ℕ). (0 + n) % 2) h.1, h.1)),
 )
 
 pub fell : (a b k : ℕ) → (bit_at (bit_and (bit_xor a b) a) k ≡ 1) ↔ ((bit_at a k ≡ 1) × (bit_at b k ≡ 0))
 fell a b k = (
   (λ h. let both = (both_bits (bit_xor a b) a k).0 h in
-    let sum : (bit_at b k + bit_at a k) % 2 ≡ 1 = (let x = sym (bit_at_xor a b k) ∙ both.0 in grind arith) in
-    (both.1, changed_of (bit_at b k) (bit_at a k) (bit_at-lt b k) (bit_at-lt a k) sum both.1)),
+      let sum : (bit_at b k + bit_at a k) % 2 ≡ 1 = (let x = sym (bit_at_xor a b k) ∙ both.0 in grind arith) in
+      (both.1, changed_of (bit_at b k) (bit_at a k) (bit_at-lt b k) (bit_at-lt a k) sum both.1)),
   (λ h. (both_bits (bit_xor a b) a k).1 (bit_at_xor a b k ∙ ap (λ (n : ℕ). (n + bit_at b k) % 2) h.0 ∙ ap (λ (n : ℕ). (1 + n) % 2) h.1, h.0)),
 )
 
@@ -102,8 +102,8 @@ without_six w k fits = (
 pub asking_bit : (a b k : ℕ) → a < 256 → (bit_at (bit_and (bit_and a b) 191) k ≡ 1) ↔ ((k ≢ 6) × (bit_at a k ≡ 1) × (bit_at b k ≡ 1))
 asking_bit a b k fits = (
   (λ h.
-    let outer = (both_bits (bit_and a b) 191 k).0 h in
-    let inner = (both_bits a b k).0 outer.0 in
-    ((λ e. let six : bit_at 191 k ≡ 0 = ap (bit_at 191) e in absurd (omega arith)), inner.0, inner.1)),
+      let outer = (both_bits (bit_and a b) 191 k).0 h in
+      let inner = (both_bits a b k).0 outer.0 in
+      ((λ e. let six : bit_at 191 k ≡ 0 = ap (bit_at 191) e in absurd (omega arith)), inner.0, inner.1)),
   (λ h. (both_bits (bit_and a b) 191 k).1 ((both_bits a b k).1 (h.1, h.2), others_of_mask k (within_byte a k fits h.1) h.0)),
 )

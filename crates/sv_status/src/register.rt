@@ -5,6 +5,7 @@ ghost use Rattle.std.specs.Int.{bit_at};
 ghost use Rattle.sv_status.specs.Register.{StandsFor, EventStands, Summary, condition as condition_of, rise as rise_of, fall as fall_of, enable as enable_of};
 
 use std::marker::Model;
+use std::mem::replace;
 use sv_errors::Layer;
 
 /// Above all bits of a mask that is written: bit 15 is dropped.
@@ -106,9 +107,7 @@ impl Register {
         ensures stands { (acts : List RegisterAct) → StandsFor self.old acts → StandsFor self.new (RegisterAct.ReadEvent ∷ acts) }
         ensures answer { (acts : List RegisterAct) → StandsFor self.old acts → (k : ℕ) → (bit_at result k ≡ 1) ↔ EventStands k acts }
     {
-        let event = self.event;
-        self.event = 0;
-        event
+        replace(&mut self.event, 0)
     }
 
     /// Presets the enable to 0 and the filters to 32767 for rising and 0 for falling bits. Events stay.

@@ -5,6 +5,7 @@ ghost use Rattle.std.specs.Int.{bit_at};
 ghost use Rattle.sv_status.specs.StandardEvent.{StandsFor, Stands, Summary, enable as enable_of};
 
 use std::marker::Model;
+use std::mem::replace;
 use sv_errors::Layer;
 
 /// Power on, which has happened when the register is new.
@@ -70,9 +71,7 @@ impl StandardEvent {
         ensures stands { (acts : List StandardAct) → StandsFor self.old acts → StandsFor self.new (StandardAct.Read ∷ acts) }
         ensures answer { (acts : List StandardAct) → StandsFor self.old acts → (k : ℕ) → (bit_at result k ≡ 1) ↔ Stands k acts }
     {
-        let event = self.event;
-        self.event = 0;
-        event
+        replace(&mut self.event, 0)
     }
 
     /// Sets the enable, all eight bits.
