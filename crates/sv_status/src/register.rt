@@ -45,7 +45,7 @@ pub enum RegisterAnswer {
 }
 
 /// Condition, transition filters, event and enable of a status register.
-#[derive(Debug)]
+#[derive(Debug, Drop)]
 pub struct Register {
     condition: u16,
     rise: u16,

@@ -34,7 +34,7 @@ pub enum StandardAnswer {
 }
 
 /// The standard events that occurred and weren't cleared, and their enable.
-#[derive(Debug)]
+#[derive(Debug, Drop)]
 pub struct StandardEvent {
     event: u8,
     enable: u8,

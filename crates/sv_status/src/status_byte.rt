@@ -34,7 +34,7 @@ pub enum StatusAnswer {
 }
 
 /// The summary bits, which of them ask for service, and whether a request stands.
-#[derive(Debug)]
+#[derive(Debug, Drop)]
 pub struct StatusByte {
     bits: u8,
     enable: u8,

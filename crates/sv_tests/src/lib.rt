@@ -21,4 +21,6 @@ mod same;
 #[cfg(test)]
 mod session;
 #[cfg(test)]
+mod status;
+#[cfg(test)]
 mod words;
