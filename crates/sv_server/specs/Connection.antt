@@ -5,7 +5,7 @@ use Rattle.sv_rpc.specs.RecordBuf.{used_by}
 use Rattle.sv_server.specs.declared.event.Role.{Role}
 use Rattle.sv_server.specs.declared.event.Port.{Port}
 use Rattle.sv_server.specs.declared.event.Port.TheVariants.{Conn, Intr}
-use Rattle.sv_server.specs.Since.{since}
+use Rattle.sv_errors.specs.Since.{since}
 use Rattle.sv_server.specs.Act.{Act, Opened, Piece, CallTaken, Faulted, Replied, PortClosed, BytesTaken, Ticked}
 
 -- what the connection is open for, where its newest opening or closing is an opening

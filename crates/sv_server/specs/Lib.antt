@@ -1,4 +1,3 @@
-pub mod Since
 pub mod Event
 pub mod Act
 pub mod Connection
