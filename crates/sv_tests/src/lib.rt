@@ -1,4 +1,4 @@
-//! Tests of the fields, the records, the calls and the server, by examples whose bytes were worked out from the
+//! Tests of the fields, the records, the calls, the errors and the server, by examples whose bytes were worked out from the
 //! standards, and of what a refusal of memory leaves. The library itself is empty.
 #![tactic(auto)]
 
@@ -6,6 +6,8 @@
 mod calls;
 #[cfg(test)]
 mod channels;
+#[cfg(test)]
+mod errors;
 #[cfg(test)]
 mod fields;
 #[cfg(test)]
