@@ -30,7 +30,7 @@ the_one false e = absurd cc
 abort_call : (call : Asked) → header_reply Abort call ≡ None → call.proc ≡ 1
 abort_call call e =
     eqb-true call.proc 1 (the_one (call.proc == 1) (last_passed (not (call.prog == program_of Abort)) (not (call.vers == version_of Abort)) (call.proc == 0) (not ((call.proc == 1) || false))
-        ProgUnavail (ProgMismatch (version_of Abort) (version_of Abort)) Success ProcUnavail e))
+    ProgUnavail (ProgMismatch (version_of Abort) (version_of Abort)) Success ProcUnavail e))
 
 -- makes no link
 read_lid : (r : Result (ℤ × List ℕ) XdrFault) → spells_link (r >>= (λ lid. let got : Result Arguments Garbage = Ok (DeviceAbort lid.0) in got)) ≡ false

@@ -1,13 +1,12 @@
 -- A register after one more act.
-use Rattle.std.proofs.Common.{◌≡◌, ℕ, List, [], ◌∷◌, refl, ap, ◌∙◌, subst, sym, ◌⊎◌, inl, inr, bit_and, bit_or, arith}
-use Rattle.std.specs.Prelude.{◌↔◌, ⊤, bit_xor}
+use Rattle.std.proofs.Common.{◌≡◌, ℕ, List, ◌∷◌, refl, ap, ◌∙◌, subst, sym, ◌⊎◌, inl, inr, bit_and, bit_or, arith}
+use Rattle.std.specs.Prelude.{◌↔◌, bit_xor}
 use Rattle.std.specs.Int.{bit_at}
-use Rattle.sv_errors.specs.Since.{Since}
 use Rattle.sv_errors.proofs.Since.{since_step}
 use Rattle.sv_status.specs.declared.register.RegisterAct.{RegisterAct}
-use Rattle.sv_status.specs.declared.register.RegisterAct.TheVariants.{Condition, SetFilter, SetEnable, ReadEvent, Preset, Clear}
+use Rattle.sv_status.specs.declared.register.RegisterAct.TheVariants.{Condition, SetFilter, SetEnable, Preset}
 use Rattle.sv_status.specs.Register.{Held, StandsFor, EventStands, Passes, IsKept, Summary, condition, rise, fall, masked}
-use Rattle.sv_status.proofs.Words.{both_bits, either_bit, meets, rose, fell}
+use Rattle.sv_status.proofs.Words.{both_bits, either_bit, rose, fell}
 
 -- a bit that doesn't change passes no filter
 no_change : (c k : ℕ) (P Q : Type 0) → ((bit_at c k ≡ 0) × (bit_at c k ≡ 1) × P) ⊎ ((bit_at c k ≡ 1) × (bit_at c k ≡ 0) × Q) → ⊥

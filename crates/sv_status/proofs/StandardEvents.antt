@@ -1,13 +1,12 @@
 -- The standard events after one more act.
-use Rattle.std.proofs.Common.{◌≡◌, ℕ, List, [], ◌∷◌, refl, ap, ◌∙◌, sym, ◌⊎◌, inl, inr, bit_or, arith}
-use Rattle.std.specs.Prelude.{◌↔◌, ◌^◌}
+use Rattle.std.proofs.Common.{◌≡◌, ℕ, List, [], ◌∷◌, refl, ap, ◌∙◌, sym, inl, inr, bit_or, arith}
+use Rattle.std.specs.Prelude.{◌↔◌}
 use Rattle.std.specs.Int.{bit_at}
 use Rattle.std.proofs.lemmas.Bool.{cases_eq}
-use Rattle.std.proofs.lemmas.Nat.Bits.{bit_at-pow_same, bit_at-pow_other}
-use Rattle.sv_errors.specs.Since.{Since}
+use Rattle.std.proofs.lemmas.Nat.Bits.{bit_at-pow_other}
 use Rattle.sv_errors.proofs.Since.{since_empty, since_step}
 use Rattle.sv_status.specs.declared.standard_event.StandardAct.{StandardAct}
-use Rattle.sv_status.specs.declared.standard_event.StandardAct.TheVariants.{Occur, Read, SetEnable, Clear}
+use Rattle.sv_status.specs.declared.standard_event.StandardAct.TheVariants.{Occur, SetEnable}
 use Rattle.sv_status.specs.StandardEvent.{Held, StandsFor, Stands, Occurs, IsKept, Summary}
 use Rattle.sv_status.proofs.Words.{either_bit}
 

@@ -1,10 +1,9 @@
 -- The status byte after one more act.
-use Rattle.std.proofs.Common.{◌≡◌, ◌≢◌, ℕ, Bool, true, false, ◌&&◌, ◌||◌, eqb, List, [], ◌∷◌, refl, ap, ◌∙◌, sym, subst, ◌⊎◌, inl, inr, bit_and, bit_or, ◌<◌, arith}
+use Rattle.std.proofs.Common.{◌≡◌, ℕ, Bool, true, false, ◌&&◌, ◌||◌, eqb, List, ◌∷◌, refl, ap, ◌∙◌, sym, ◌⊎◌, inl, inr, bit_and, bit_or, ◌<◌, arith}
 use Rattle.std.specs.Prelude.{◌↔◌, not, bit_xor}
 use Rattle.std.specs.Int.{bit_at}
 use Rattle.std.proofs.lemmas.Bool.{cases_eq}
 use Rattle.std.proofs.lemmas.Nat.Bits.{bit_at-lt, bit_at-pow_other}
-use Rattle.sv_errors.specs.Since.{Since}
 use Rattle.sv_errors.proofs.Since.{since_step}
 use Rattle.sv_status.specs.declared.status_byte.StatusAct.{StatusAct}
 use Rattle.sv_status.specs.declared.status_byte.StatusAct.TheVariants.{Update, Poll}

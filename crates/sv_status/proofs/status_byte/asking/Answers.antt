@@ -1,5 +1,4 @@
-use Rattle.std.proofs.Common.{bit_and, arith}
-use Rattle.std.proofs.lemmas.Nat.Bits.{bit_at_and}
+use Rattle.std.proofs.Common.{arith}
 use Rattle.sv_status.proofs.Words.{asking_bit}
 use Rattle.sv_status.proofs.status_byte.asking.Goals as goal
 

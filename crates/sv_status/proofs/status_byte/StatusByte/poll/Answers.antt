@@ -1,5 +1,4 @@
-use Rattle.std.proofs.Common.{true, false, subst, ◌≡◌, ◌∙◌, sym, Bool, arith}
-use Rattle.sv_status.specs.StatusByte.{StatusBit}
+use Rattle.std.proofs.Common.{true, false, arith}
 use Rattle.sv_status.proofs.StatusBytes.{status_of}
 use Rattle.sv_status.proofs.status_byte.StatusByte.poll.Goals as goal
 use Rattle.sv_status.proofs.status_byte.StatusByte.poll.Goals.{then-self, else-self}
