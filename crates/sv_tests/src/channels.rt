@@ -1,9 +1,9 @@
 //! The programs of the three channels: what is checked of a call, GETPORT, and every call of VXI-11 once.
 
-use crate::same::same;
-use crate::session::{
+use crate::controller::{
     CREATE, FOR_DEVICE, WRITE, answers, call, come, does, opened, opened_for, record, reply,
 };
+use crate::same::same;
 use crate::words::bytes_of;
 use std::alloc::{AllocError, Global};
 use std::test::Fail;

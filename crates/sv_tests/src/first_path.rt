@@ -1,9 +1,9 @@
 //! Links, writes and reads: from the bytes of calls to the bytes of replies.
 
-use crate::records::IN_FRAGMENTS;
-use crate::session::{
+use crate::controller::{
     CONFIG, CREATE, FOR_DEVICE, READ, WRITE, answers, call, come, does, open, opened, reply, take,
 };
+use crate::records::IN_FRAGMENTS;
 use crate::words::{CREATE_LINK, bytes_of};
 use rationing::Rationed;
 use std::test::Fail;

@@ -7,6 +7,8 @@ mod calls;
 #[cfg(test)]
 mod channels;
 #[cfg(test)]
+mod controller;
+#[cfg(test)]
 mod errors;
 #[cfg(test)]
 mod fields;
@@ -20,8 +22,6 @@ mod ports;
 mod records;
 #[cfg(test)]
 mod same;
-#[cfg(test)]
-mod session;
 #[cfg(test)]
 mod status;
 #[cfg(test)]

@@ -1,4 +1,4 @@
-//! A controller's session with a server: bytes of calls on connection 0, and the bytes of their replies.
+//! A controller that talks to a server: bytes of calls on connection 0, and the bytes of their replies.
 
 use crate::same::{same, same_bytes};
 use crate::words::bytes_of;
