@@ -1,2 +1,2 @@
 pub mod Since
-mod Queue
+pub mod Queue

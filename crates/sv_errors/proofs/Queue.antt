@@ -284,3 +284,7 @@ StandsFor-overflowed codes code acts full stands =
 -- a taking
 pub StandsFor-taken : (codes : List Code) (acts : List QueueAct) → StandsFor codes acts → StandsFor (drop 1 codes) (Take ∷ acts)
 StandsFor-taken codes acts stands = ap (drop 1) stands ∙ sym (held-taken acts)
+
+-- clearing leaves nothing
+pub StandsFor-cleared : (acts : List QueueAct) → StandsFor [] (Clear ∷ acts)
+StandsFor-cleared acts = refl

@@ -2,9 +2,10 @@
 use Rattle.std.proofs.Common.{◌≡◌, ℕ, List, ◌∷◌, refl, ap, ◌∙◌, subst, sym, ◌⊎◌, inl, inr, bit_and, bit_or, arith}
 use Rattle.std.specs.Prelude.{◌↔◌, bit_xor}
 use Rattle.std.specs.Int.{bit_at}
+use Rattle.std.proofs.lemmas.Nat.Bits.{bit_at-zero}
 use Rattle.sv_errors.proofs.Since.{since_step}
 use Rattle.sv_status.specs.declared.register.RegisterAct.{RegisterAct}
-use Rattle.sv_status.specs.declared.register.RegisterAct.TheVariants.{Condition, SetFilter, SetEnable, Preset}
+use Rattle.sv_status.specs.declared.register.RegisterAct.TheVariants.{Condition, SetFilter, SetEnable, ReadEvent, Preset, Clear}
 use Rattle.sv_status.specs.Register.{Held, StandsFor, EventStands, Passes, IsKept, Summary, condition, rise, fall, masked}
 use Rattle.sv_status.proofs.Words.{both_bits, either_bit, rose, fell}
 
@@ -14,7 +15,7 @@ no_change c k P Q (inl h) = absurd (omega arith)
 no_change c k P Q (inr h) = absurd (omega arith)
 
 -- an act that keeps a bit, and at which it doesn't pass
-same_event : (k : ℕ) (act : RegisterAct) (acts : List RegisterAct) → IsKept (act ∷ acts) → (Passes k (act ∷ acts) → ⊥) → EventStands k acts ↔ EventStands k (act ∷ acts)
+pub same_event : (k : ℕ) (act : RegisterAct) (acts : List RegisterAct) → IsKept (act ∷ acts) → (Passes k (act ∷ acts) → ⊥) → EventStands k acts ↔ EventStands k (act ∷ acts)
 same_event k act acts kept none =
     let law = since_step (Passes k) IsKept act acts in
     ((λ s. law.1 (kept, inr s)), (λ s. elim (law.0 s).1 [ inl passes ↦ absurd (none passes) | inr before ↦ before ]))
@@ -112,3 +113,25 @@ summary_is held acts is = (
   (λ h. (h.0, (is.event h.0).0 h.1, ap (λ (w : ℕ). bit_at w h.0) (sym is.enable) ∙ h.2)),
   (λ h. (h.0, (is.event h.0).1 h.1, ap (λ (w : ℕ). bit_at w h.0) is.enable ∙ h.2)),
 )
+
+-- the event register is cleared, by reading it or by itself
+none_stands : (k : ℕ) (act : RegisterAct) (acts : List RegisterAct) → (IsKept (act ∷ acts) → ⊥) → (bit_at 0 k ≡ 1) ↔ EventStands k (act ∷ acts)
+none_stands k act acts cleared = ((λ h. absurd (let zero = bit_at-zero k in omega arith)), (λ s. absurd (cleared ((since_step (Passes k) IsKept act acts).0 s).0)))
+
+pub StandsFor-read : (held : Held) (acts : List RegisterAct) → StandsFor held acts → StandsFor (record held { event = 0 }) (ReadEvent ∷ acts)
+StandsFor-read held acts is = record {
+  condition = is.condition;
+  rise = is.rise;
+  fall = is.fall;
+  enable = is.enable;
+  event = λ k. none_stands k ReadEvent acts (λ kept. kept);
+}
+
+pub StandsFor-cleared : (held : Held) (acts : List RegisterAct) → StandsFor held acts → StandsFor (record held { event = 0 }) (Clear ∷ acts)
+StandsFor-cleared held acts is = record {
+  condition = is.condition;
+  rise = is.rise;
+  fall = is.fall;
+  enable = is.enable;
+  event = λ k. none_stands k Clear acts (λ kept. kept);
+}

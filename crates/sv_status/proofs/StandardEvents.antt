@@ -3,10 +3,10 @@ use Rattle.std.proofs.Common.{◌≡◌, ℕ, List, [], ◌∷◌, refl, ap, ◌
 use Rattle.std.specs.Prelude.{◌↔◌}
 use Rattle.std.specs.Int.{bit_at}
 use Rattle.std.proofs.lemmas.Bool.{cases_eq}
-use Rattle.std.proofs.lemmas.Nat.Bits.{bit_at-pow_other}
+use Rattle.std.proofs.lemmas.Nat.Bits.{bit_at-pow_other, bit_at-zero}
 use Rattle.sv_errors.proofs.Since.{since_empty, since_step}
 use Rattle.sv_status.specs.declared.standard_event.StandardAct.{StandardAct}
-use Rattle.sv_status.specs.declared.standard_event.StandardAct.TheVariants.{Occur, SetEnable}
+use Rattle.sv_status.specs.declared.standard_event.StandardAct.TheVariants.{Occur, Read, SetEnable, Clear}
 use Rattle.sv_status.specs.StandardEvent.{Held, StandsFor, Stands, Occurs, IsKept, Summary}
 use Rattle.sv_status.proofs.Words.{either_bit}
 
@@ -46,3 +46,13 @@ summary_is held acts is = (
   (λ h. (h.0, (is.event h.0).0 h.1, ap (λ (w : ℕ). bit_at w h.0) (sym is.enable) ∙ h.2)),
   (λ h. (h.0, (is.event h.0).1 h.1, ap (λ (w : ℕ). bit_at w h.0) is.enable ∙ h.2)),
 )
+
+-- the register is cleared, by reading it or by itself
+none_stands : (k : ℕ) (act : StandardAct) (acts : List StandardAct) → (IsKept (act ∷ acts) → ⊥) → (bit_at 0 k ≡ 1) ↔ Stands k (act ∷ acts)
+none_stands k act acts cleared = ((λ h. absurd (let zero = bit_at-zero k in omega arith)), (λ s. absurd (cleared ((since_step (Occurs k) IsKept act acts).0 s).0)))
+
+pub StandsFor-read : (held : Held) (acts : List StandardAct) → StandsFor held acts → StandsFor (record held { event = 0 }) (Read ∷ acts)
+StandsFor-read held acts is = record { enable = is.enable; event = λ k. none_stands k Read acts (λ kept. kept) }
+
+pub StandsFor-cleared : (held : Held) (acts : List StandardAct) → StandsFor held acts → StandsFor (record held { event = 0 }) (Clear ∷ acts)
+StandsFor-cleared held acts is = record { enable = is.enable; event = λ k. none_stands k Clear acts (λ kept. kept) }

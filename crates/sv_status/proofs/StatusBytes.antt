@@ -62,7 +62,7 @@ reason_is before now held acts word mask is was asks =
     )
 
 -- a request after an update: it stands where a bit asks, and a reason arises or it stood before
-pub request_is : (before now : ℕ) (held : Held) (acts : List StatusAct) (word mask : ℕ) → StandsFor held acts → HasAsking before held.bits held.enable → HasAsking now word mask
+request_is : (before now : ℕ) (held : Held) (acts : List StatusAct) (word mask : ℕ) → StandsFor held acts → HasAsking before held.bits held.enable → HasAsking now word mask
     → (((not (eqb (bit_and (bit_xor before now) now) 0) || held.request) && not (eqb now 0)) ≡ true) ↔ Request (Update word mask ∷ acts)
 request_is before now held acts word mask is was asks =
     let law = since_step Reason IsKept (Update word mask) acts in
@@ -93,6 +93,11 @@ raised_is before now held acts word mask is was asks =
           let parts = law.0 s.0 in
           and_true (not (eqb (bit_and (bit_xor before now) now) 0)) (not held.request) (reason.1 (elim parts.1 [ inl r ↦ r | inr stood ↦ absurd (s.1 stood) ])) (not_stood held.request (λ one. s.1 (is.request.0 one)))),
     )
+
+-- the bits that asked before an update, and those that ask after it, decide the request
+pub StandsFor-updated : (before now : ℕ) (held : Held) (acts : List StatusAct) (word mask : ℕ) → StandsFor held acts → HasAsking before held.bits held.enable → HasAsking now word mask
+    → StandsFor (record { bits = word; enable = mask; request = (not (eqb (bit_and (bit_xor before now) now) 0) || held.request) && not (eqb now 0) }) (Update word mask ∷ acts)
+StandsFor-updated before now held acts word mask is was asks = record { bits = refl; enable = refl; request = request_is before now held acts word mask is was asks }
 
 -- a poll ends the request
 pub StandsFor-polled : (held : Held) (acts : List StatusAct) → StandsFor held acts → StandsFor (record held { request = false }) (Poll ∷ acts)
