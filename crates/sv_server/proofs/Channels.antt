@@ -1,6 +1,6 @@
 -- The abort channel makes no links.
-use Rattle.std.proofs.Common.{◌≡◌, ℕ, ℤ, ◌==◌, Bool, true, false, not, cond, ◌||◌, List, [], ◌∷◌, Result, Ok, Err, refl, sym, ap, subst, ◌∙◌, eqb-true}
-use Rattle.std.specs.Prelude.{Option, Some, None, OnErr}
+use Rattle.std.proofs.Common.{◌≡◌, ℕ, ℤ, ◌==◌, Bool, true, false, not, cond, ◌||◌, List, Result, Ok, Err, refl, ap, ◌∙◌, eqb-true}
+use Rattle.std.specs.Prelude.{Some, None, OnErr}
 use Rattle.sv_xdr.specs.declared.fault.XdrFault.{XdrFault}
 use Rattle.sv_xdr.specs.declared.garbage.Garbage.{Garbage}
 use Rattle.sv_xdr.specs.Garbage.{◌>>=◌}
@@ -30,7 +30,7 @@ the_one false e = absurd cc
 abort_call : (call : Asked) → header_reply Abort call ≡ None → call.proc ≡ 1
 abort_call call e =
     eqb-true call.proc 1 (the_one (call.proc == 1) (last_passed (not (call.prog == program_of Abort)) (not (call.vers == version_of Abort)) (call.proc == 0) (not ((call.proc == 1) || false))
-        ProgUnavail (ProgMismatch (version_of Abort) (version_of Abort)) Success ProcUnavail e))
+    ProgUnavail (ProgMismatch (version_of Abort) (version_of Abort)) Success ProcUnavail e))
 
 -- makes no link
 read_lid : (r : Result (ℤ × List ℕ) XdrFault) → spells_link (r >>= (λ lid. let got : Result Arguments Garbage = Ok (DeviceAbort lid.0) in got)) ≡ false

@@ -49,12 +49,7 @@ fn call_device<A: Allocator>(
 }
 
 /// Answers GETPORT.
-fn call_port_mapper<A: Allocator>(
-    config: Config,
-    conn: u8,
-    call: Call<'_>,
-    out: &mut Vec<u8, A>,
-)
+fn call_port_mapper<A: Allocator>(config: Config, conn: u8, call: Call<'_>, out: &mut Vec<u8, A>)
     requires { vec_len out.old + 8232 ≤ vec_capacity out.old }
     ensures serves { (log : List Act) (links : Table) (exchange : Held) → IsTable links (link_acts log) → HoldsExchange exchange (exchange_acts log)
         → Serves conn log (port_told conn call.entry.xid (port_at (ports_of config) call.entry.args.now) log) links exchange out.old.items out.new.items false }

@@ -113,7 +113,14 @@ fn do_own<A: Allocator>(
             flags,
             term_char,
             ..
-        } => read_device_bytes(conn, xid, request_size, term_of(flags, term_char), exchange, out),
+        } => read_device_bytes(
+            conn,
+            xid,
+            request_size,
+            term_of(flags, term_char),
+            exchange,
+            out,
+        ),
         Args::DestroyLink { lid } => destroy_link(conn, xid, lid_of(lid), links, out),
         Args::DeviceAbort { lid } => send_plain(out, xid, abort_error(links, lid_of(lid))),
         Args::DeviceRemote { .. } => send_plain(out, xid, ErrorCode::NoError),
