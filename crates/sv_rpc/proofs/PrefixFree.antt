@@ -1,5 +1,5 @@
 -- No header begins another.
-use Rattle.std.proofs.Common.{◌≡◌, ℕ, List, [], ◌∷◌, ◌++◌, refl, sym, ap, subst, ◌∙◌, arith}
+use Rattle.std.proofs.Common.{◌≡◌, ℕ, List, [], ◌∷◌, refl, sym, subst, ◌∙◌, arith}
 use Rattle.sv_xdr.specs.Spelling.{Field, Unsigned, Opaque, BeginsAll}
 use Rattle.sv_xdr.proofs.PrefixFree.{one_field}
 use Rattle.sv_rpc.specs.declared.reply.Reply.{Reply}

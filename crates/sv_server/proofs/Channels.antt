@@ -1,6 +1,6 @@
 -- The abort channel makes no links.
-use Rattle.std.proofs.Common.{◌≡◌, ℕ, ℤ, ◌==◌, Bool, true, false, not, cond, ◌||◌, List, [], ◌∷◌, Result, Ok, Err, refl, sym, ap, subst, ◌∙◌, eqb-true}
-use Rattle.std.specs.Prelude.{Option, Some, None, OnErr}
+use Rattle.std.proofs.Common.{◌≡◌, ℕ, ℤ, ◌==◌, Bool, true, false, not, cond, ◌||◌, List, Result, Ok, Err, refl, ap, ◌∙◌, eqb-true}
+use Rattle.std.specs.Prelude.{Some, None, OnErr}
 use Rattle.sv_xdr.specs.declared.fault.XdrFault.{XdrFault}
 use Rattle.sv_xdr.specs.declared.garbage.Garbage.{Garbage}
 use Rattle.sv_xdr.specs.Garbage.{◌>>=◌}

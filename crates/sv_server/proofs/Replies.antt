@@ -6,7 +6,7 @@ use Rattle.std.proofs.lemmas.List.{length-append, length-take-le, length-replica
 use Rattle.std.proofs.lemmas.List.Folds.{concat-append}
 use Rattle.sv_xdr.specs.declared.fault.XdrFault.{XdrFault}
 use Rattle.sv_xdr.specs.declared.writer.Writer.{Writer}
-use Rattle.sv_xdr.specs.Spelling.{Field, Unsigned, Opaque, spelling, pad_len}
+use Rattle.sv_xdr.specs.Spelling.{Field, Opaque, spelling, pad_len}
 use Rattle.sv_xdr.specs.Writer.{text_of, rest_of, Appends, WritesEach}
 use Rattle.sv_rpc.specs.declared.reply.Reply.{Reply}
 use Rattle.sv_rpc.specs.declared.reply.Reply.TheVariants.{Success, Mismatch, ProgUnavail, ProgMismatch, ProcUnavail, GarbageArgs}

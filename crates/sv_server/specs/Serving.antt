@@ -1,5 +1,5 @@
 -- What a taken record does (RFC 5531, section 9; VXI-11 revision 1.0, section B.6): the acts behind its CallTaken, put in front of the log.
-use Rattle.std.specs.Prelude.{ℕ, ◌+◌, ◌%◌, ◌==◌, not, ℤ, pos, Bool, true, false, List, [], ◌∷◌, ◌++◌, length, take, map, Option, Some, None, Result, Ok, Err, codes, nat_lt, if◌then◌else◌}
+use Rattle.std.specs.Prelude.{ℕ, ◌+◌, ◌%◌, ◌==◌, not, pos, Bool, true, false, List, [], ◌∷◌, ◌++◌, length, take, map, Option, Some, None, Result, Ok, Err, codes, nat_lt, if◌then◌else◌}
 use Rattle.std.specs.List.{concat}
 use Rattle.std.specs.Int.{bit_at}
 use Rattle.std.specs.Str.{bytes_eq}

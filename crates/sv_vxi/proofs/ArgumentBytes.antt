@@ -1,5 +1,5 @@
 -- What is read as arguments is spelled so, and what isn't read is spelled by none.
-use Rattle.std.proofs.Common.{◌≡◌, ℕ, ◌≤◌, ◌++◌, Bool, true, false, ◌||◌, ◌==◌, ℤ, List, [], ◌∷◌, length, Result, Ok, Err, refl, sym, subst, eqb-true, arith}
+use Rattle.std.proofs.Common.{◌≡◌, ℕ, ◌++◌, Bool, true, false, ◌||◌, ◌==◌, ℤ, List, [], ◌∷◌, Result, Ok, Err, refl, sym, subst, eqb-true}
 use Rattle.std.specs.List.{AllByRecursion}
 use Rattle.sv_xdr.specs.declared.fault.XdrFault.{XdrFault}
 use Rattle.sv_xdr.specs.declared.garbage.Garbage.{Garbage}
@@ -7,7 +7,7 @@ use Rattle.sv_xdr.specs.Garbage.{◌>>=◌}
 use Rattle.sv_xdr.specs.Spelling.{Field, Unsigned, Signed, Boolean, Opaque, Begins, BeginsAll}
 use Rattle.sv_xdr.specs.Reader.{unsigned_at, signed_at, boolean_at, opaque_at}
 use Rattle.sv_xdr.proofs.Fields.{IsBytes, bytes_after, unsigned_takes, signed_takes, boolean_takes, opaque_at-takes}
-use Rattle.sv_vxi.specs.Arguments.{Arguments, DestroyIntrChan, generic_fields, link_fields, max_handle, core_calls, abort_calls, is_one_of, InBounds, ArgumentsAre}
+use Rattle.sv_vxi.specs.Arguments.{Arguments, DestroyIntrChan, generic_fields, link_fields, max_handle, core_calls, abort_calls, is_one_of, ArgumentsAre}
 use Rattle.sv_vxi.specs.Reading.{any_length, create_link_at, device_write_at, device_read_at, generic, generic_at, device_lock_at, device_enable_srq_at, device_docmd_at, create_intr_chan_at, of_link, link_at, arguments_at}
 use Rattle.sv_vxi.proofs.Spelled.{arguments_read}
 

@@ -1,12 +1,12 @@
 -- No arguments and no result begin others.
-use Rattle.std.proofs.Common.{◌≡◌, ℕ, List, Result, Ok, Err, [], ◌∷◌, refl, sym, ap, subst, ◌∙◌}
+use Rattle.std.proofs.Common.{◌≡◌, ℕ, List, Result, Ok, [], ◌∷◌, sym, ap, subst, ◌∙◌}
 use Rattle.sv_xdr.specs.declared.garbage.Garbage.{Garbage}
 use Rattle.sv_xdr.specs.Spelling.{Field, Unsigned, Signed, Boolean, Opaque, BeginsAll}
 use Rattle.sv_xdr.specs.Laws.{SameKind}
 use Rattle.sv_xdr.proofs.PrefixFree.{SameKinds, all_fields}
-use Rattle.sv_vxi.specs.Arguments.{Arguments, procedure_of, argument_fields}
+use Rattle.sv_vxi.specs.Arguments.{Arguments, argument_fields}
 use Rattle.sv_vxi.specs.Reading.{arguments_at}
-use Rattle.sv_vxi.specs.Results.{Outcome, Link, Size, Read, Status, Plain, Data}
+use Rattle.sv_vxi.specs.Results.{Link, Size, Read, Status, Plain, Data}
 use Rattle.sv_vxi.specs.Laws.{ArgumentsPrefixFree, ResultsPrefixFree}
 use Rattle.sv_vxi.proofs.Spelled.{arguments_begin}
 

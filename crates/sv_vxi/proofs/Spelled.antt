@@ -1,9 +1,8 @@
 -- Arguments that are spelled are read.
-use Rattle.std.proofs.Common.{◌≡◌, ℕ, ℤ, List, [], ◌∷◌, length, Result, Ok, Err, refl, sym, ap, ◌∙◌, arith}
+use Rattle.std.proofs.Common.{◌≡◌, ℕ, ℤ, List, length, Result, Ok, Err, refl, sym, ap, ◌∙◌, arith}
 use Rattle.sv_xdr.specs.Spelling.{Opaque, Begins, BeginsAll}
 use Rattle.sv_xdr.specs.Reader.{opaque_at}
 use Rattle.sv_xdr.specs.declared.garbage.Garbage.{Garbage}
-use Rattle.sv_xdr.specs.Garbage.{◌>>=◌}
 use Rattle.sv_xdr.proofs.Fields.{unsigned_begins, signed_begins, boolean_begins, opaque_again, word_fits}
 use Rattle.sv_vxi.specs.Arguments.{Arguments, DeviceAbort, CreateLink, DeviceWrite, DeviceRead, DeviceReadstb, DeviceTrigger, DeviceClear, DeviceRemote, DeviceLocal, DeviceLock, DeviceUnlock, DeviceEnableSrq, DeviceDocmd, DestroyLink, CreateIntrChan, DestroyIntrChan, procedure_of, generic_fields, link_fields, max_handle, BeginsWith, ArgumentsAre}
 use Rattle.sv_vxi.specs.Reading.{any_length, create_link_at, device_write_at, device_read_at, generic, generic_at, device_lock_at, device_enable_srq_at, device_docmd_at, create_intr_chan_at, of_link, link_at, arguments_at}

@@ -1,5 +1,5 @@
 -- The results of the calls (VXI-11 revision 1.0, sections B.5 and B.6).
-use Rattle.std.specs.Prelude.{◌≡◌, ℕ, ◌<◌, ◌≤◌, ◌^◌, ℤ, pos, List, [], ◌∷◌, length}
+use Rattle.std.specs.Prelude.{ℕ, ℤ, pos, List, [], ◌∷◌}
 use Rattle.sv_xdr.specs.Spelling.{Field, Unsigned, Signed, Opaque}
 use Rattle.sv_vxi.specs.declared.error_code.ErrorCode.{ErrorCode}
 use Rattle.sv_vxi.specs.declared.reason.Reason.{Reason}

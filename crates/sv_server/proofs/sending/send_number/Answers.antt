@@ -1,8 +1,6 @@
-use Rattle.std.proofs.Common.{◌++◌, ◌≡◌, List, ℕ, [], ◌∷◌, length, ap, ◌∙◌, arith}
-use Rattle.std.specs.Prelude.{true, map}
-use Rattle.std.specs.List.{concat}
+use Rattle.std.proofs.Common.{◌++◌, List, ℕ, [], ◌∷◌, length, ap, ◌∙◌, arith}
+use Rattle.std.specs.Prelude.{true}
 use Rattle.sv_xdr.specs.Spelling.{Field, Unsigned, spelling}
-use Rattle.sv_xdr.specs.Writer.{WritesEach}
 use Rattle.sv_xdr.proofs.Appended.{each_last}
 use Rattle.sv_rpc.specs.Record.{fragment}
 use Rattle.sv_server.proofs.Replies.{both_are_written}
