@@ -3,7 +3,7 @@
 ghost use Rattle.std.specs.Prelude.{◌≡◌};
 ghost use Rattle.sv_errors.specs.Code.{number_of, text_of};
 
-/// An error that the instrument can report; the closed list.
+/// What the instrument can answer when it is asked for errors: one of them, or that there is none.
 #[derive(Clone, Copy, Debug, PartialEq, Eq)]
 pub enum Code {
     /// Nothing is wrong.
@@ -26,7 +26,7 @@ pub enum Code {
     InvalidCharacterInNumber,
     /// An exponent whose magnitude is above 32,000.
     ExponentTooLarge,
-    /// A mantissa of more than 255 digits.
+    /// A mantissa of more than 255 digits, not counting zeros in front.
     TooManyDigits,
     /// A suffix that is no unit of the parameter.
     InvalidSuffix,

@@ -15,7 +15,7 @@ const REQUEST: u8 = 1 << 6;
 pub enum StatusAct {
     /// The summary bits and the enable become these.
     Update {
-        /// The summary bits; bit 6 is ignored.
+        /// The summary bits; bit 6 is ignored. Bits 1 and 0 are the caller's, who keeps them 0.
         bits: u8,
         /// Which of them ask for service; bit 6 is ignored.
         enable: u8,
@@ -88,7 +88,7 @@ impl StatusByte {
         status
     }
 
-    /// The master summary: whether some bit stands that is enabled.
+    /// The master summary: whether some bit but bit 6 stands that is enabled.
     pub fn mss(&self) -> bool
         ensures { (acts : List StatusAct) → StandsFor self.now acts → (result ≡ true) ↔ Master acts }
     {

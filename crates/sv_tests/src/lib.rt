@@ -1,5 +1,5 @@
-//! Tests of the fields, the records, the calls, the errors and the server, by examples whose bytes were worked out from the
-//! standards, and of what a refusal of memory leaves. The library itself is empty.
+//! Tests of the fields, the records, the calls, the errors, the status and the server, by examples that were worked out
+//! from the standards, and of what a refusal of memory leaves. The library itself is empty.
 #![tactic(auto)]
 
 #[cfg(test)]

@@ -76,3 +76,12 @@ fn a_request_ends_with_the_last_bit_that_asks(rt: HostRuntime) {
     assert!(rt; !status.rqs());
     assert_eq!(rt; status.poll(), 0);
 }
+
+/// A bit asks in place of another while a request stands.
+#[test]
+fn a_reason_that_finds_a_request_raises_none(rt: HostRuntime) {
+    let mut status = StatusByte::new();
+    assert!(rt; status.update(4, 4));
+    assert!(rt; !status.update(16, 16));
+    assert_eq!(rt; status.poll(), 80);
+}

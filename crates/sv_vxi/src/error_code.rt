@@ -18,7 +18,7 @@ pub enum ErrorCode {
     NotEstablished = 6,
     /// The operation isn't supported.
     NotSupported = 8,
-    /// There are as many links or channels as there may be.
+    /// There are as many links as there may be, no number is left for one, or memory is wanting.
     OutOfResources = 9,
     /// Another link holds the lock.
     Locked = 11,
@@ -26,7 +26,7 @@ pub enum ErrorCode {
     NoLock = 12,
     /// Nothing came, or went, in time.
     IoTimeout = 15,
-    /// The address isn't one that may be called back.
+    /// The address or the port isn't one that may be called back.
     InvalidAddress = 21,
     /// The call was aborted.
     Abort = 23,

@@ -15,7 +15,7 @@ impl Flags {
         self.0 % 2 == 1
     }
 
-    /// Whether the last byte of a write ends its message (bit 3).
+    /// Whether a write ends its message, behind its last byte or, of an empty one, by itself (bit 3).
     pub fn has_end(self) -> bool
         ensures { result ≡ (bit_at self.0 3 == 1) }
     {
