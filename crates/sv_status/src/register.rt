@@ -1,4 +1,4 @@
-//! A status register with its filters (SCPI-1999, volume 1, chapter 9, and volume 2, chapter 20).
+//! A status register with its filters (SCPI-1999, chapter 20, STATus).
 
 ghost use Rattle.std.specs.Prelude.{◌≡◌, ◌↔◌, ◌%◌, ◌^◌, ℕ, true, [], ◌∷◌, List};
 ghost use Rattle.std.specs.Int.{bit_at};

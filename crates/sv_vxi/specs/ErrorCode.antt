@@ -1,4 +1,4 @@
--- The numbers of the errors (VXI-11 revision 1.0, section B.5.2).
+-- The numbers of the errors (VXI-11 revision 1.0, section B.5).
 use Rattle.std.specs.Prelude.{ℕ, ◌==◌, if◌then◌else◌}
 use Rattle.sv_vxi.specs.declared.error_code.ErrorCode.{ErrorCode}
 use Rattle.sv_vxi.specs.declared.error_code.ErrorCode.TheVariants.{NoError, NotAccessible, InvalidLink, ParameterError, NotEstablished, NotSupported, OutOfResources, Locked, NoLock, IoTimeout, InvalidAddress, Abort, AlreadyEstablished}

@@ -1,4 +1,4 @@
--- Why a read ended (VXI-11 revision 1.0, section B.6.4).
+-- Why a read ended (VXI-11 revision 1.0, section B.6).
 use Rattle.std.specs.Prelude.{ℕ, ◌+◌, if◌then◌else◌}
 use Rattle.sv_vxi.specs.declared.reason.Reason.{Reason}
 

@@ -1,4 +1,4 @@
-//! Why a call failed (VXI-11 revision 1.0, section B.5.2).
+//! Why a call failed (VXI-11 revision 1.0, section B.5).
 
 ghost use Rattle.std.specs.Prelude.{◌≡◌, pos};
 ghost use Rattle.sv_vxi.specs.ErrorCode.{error_number};

@@ -1,4 +1,4 @@
-//! The flags of a call (VXI-11 revision 1.0, section B.5.3).
+//! The flags of a call (VXI-11 revision 1.0, section B.5).
 
 ghost use Rattle.std.specs.Prelude.{◌≡◌, ◌==◌};
 ghost use Rattle.std.specs.Int.{bit_at};

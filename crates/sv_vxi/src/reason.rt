@@ -1,4 +1,4 @@
-//! Why a read ended (VXI-11 revision 1.0, section B.6.4).
+//! Why a read ended (VXI-11 revision 1.0, section B.6).
 
 ghost use Rattle.std.specs.Prelude.{◌≡◌, pos};
 ghost use Rattle.sv_vxi.specs.Reason.{reason_number};
