@@ -1,0 +1,56 @@
+-- The first part of text, and those behind it.
+use Rattle.std.proofs.Common.{◌≡◌, ℕ, suc, ◌+◌, ◌<◌, ◌≤◌, ◌==◌, Bool, true, false, not, cond, List, [], ◌∷◌, ◌++◌, length, take, drop, refl, ap, ◌∙◌, inl, inr, nat_lt, arith}
+use Rattle.std.specs.List.{position_or_len}
+use Rattle.std.proofs.lemmas.Bool.{cases_lt, lt-ltb, le-ltb, eqb-true}
+use Rattle.std.proofs.lemmas.List.{take_all}
+use Rattle.sv_text.specs.Cut.{cut_at, onto}
+
+-- where the first separator stands
+abbrev pub part_size : ℕ → List ℕ → ℕ
+part_size separator bytes = position_or_len (λ b. b == separator) bytes
+
+-- the first part is cut off behind so many bytes of so many
+abbrev pub parts_at : ℕ → ℕ → ℕ → List ℕ → List (List ℕ)
+parts_at separator n size bytes = take n bytes ∷ cond (nat_lt n size) (cut_at separator (drop (n + 1) bytes)) []
+
+-- a byte in front
+parts_at-cons : (s b n m : ℕ) (bytes : List ℕ) → m ≡ suc n → onto b (parts_at s n (length bytes) bytes) ≡ parts_at s m (suc (length bytes)) (b ∷ bytes)
+parts_at-cons s b n m bytes e =
+    elim (cases_lt n (length bytes)) [
+      | inl lt ↦
+          let next : suc n + 1 ≡ suc (n + 1) = omega arith in
+          rw (e, lt-ltb n (length bytes) lt, lt-ltb (suc n) (suc (length bytes)) (omega arith), next) refl
+      | inr ge ↦ rw (e, le-ltb n (length bytes) ge, le-ltb (suc n) (suc (length bytes)) (omega arith)) refl
+    ]
+
+-- the first part, and those behind it
+pub parts_cut : (s : ℕ) (bytes : List ℕ) → cut_at s bytes ≡ parts_at s (part_size s bytes) (length bytes) bytes
+parts_cut s [] = refl
+parts_cut s (b ∷ bytes) = at (b == s) (parts_cut s bytes)
+  where
+    at : (t : Bool) → cut_at s bytes ≡ parts_at s (part_size s bytes) (length bytes) bytes
+        → cond t ([] ∷ cut_at s bytes) (onto b (cut_at s bytes)) ≡ parts_at s (cond (not t) (1 + part_size s bytes) 0) (suc (length bytes)) (b ∷ bytes)
+    at true h = rw (lt-ltb 0 (suc (length bytes)) (omega arith)) refl
+    at false h = ap (onto b) h ∙ parts_at-cons s b (part_size s bytes) (1 + part_size s bytes) bytes (omega arith)
+
+-- a part that a separator ends, and those behind it
+pub part_ended : (s n : ℕ) (bytes : List ℕ) → n ≡ part_size s bytes → n < length bytes → cut_at s bytes ≡ take n bytes ∷ cut_at s (drop (n + 1) bytes)
+part_ended s n bytes e lt = parts_cut s bytes ∙ rw (← e, lt-ltb n (length bytes) lt) refl
+
+-- a part that no separator ends is all
+pub part_last : (s n : ℕ) (bytes : List ℕ) → n ≡ part_size s bytes → length bytes ≤ n → cut_at s bytes ≡ bytes ∷ []
+part_last s n bytes e ge = parts_cut s bytes ∙ rw (← e, le-ltb n (length bytes) ge, take_all n bytes ge) refl
+
+-- the separator stands between the first part and the others
+pub whole_ended : (s n : ℕ) (bytes : List ℕ) → n ≡ part_size s bytes → n < length bytes → bytes ≡ take n bytes ++ s ∷ drop (n + 1) bytes
+whole_ended s n [] e lt = absurd (omega arith)
+whole_ended s n (b ∷ bytes) e lt = at (b == s) refl e lt (whole_ended s (part_size s bytes) bytes refl)
+  where
+    at : (t : Bool) → (b == s) ≡ t → n ≡ cond (not t) (1 + part_size s bytes) 0 → n < suc (length bytes)
+        → (part_size s bytes < length bytes → bytes ≡ take (part_size s bytes) bytes ++ s ∷ drop (part_size s bytes + 1) bytes)
+        → b ∷ bytes ≡ take n (b ∷ bytes) ++ s ∷ drop (n + 1) (b ∷ bytes)
+    at true is e lt h = rw e (ap (λ x. x ∷ bytes) (eqb-true b s is))
+    at false is e lt h =
+        let size : n ≡ suc (part_size s bytes) = omega (arith, e) in
+        let next : n + 1 ≡ suc (part_size s bytes + 1) = omega (arith, e) in
+        rw (next, size) (ap (λ xs. b ∷ xs) (h (omega (arith, e))))

@@ -1,0 +1,13 @@
+//! Bytes of program text: what is white space, where a byte first stands, and what stands between
+//! separators (IEEE 488.2, 7.4).
+//!
+//! Nothing here takes memory: each answer is a place or a slice of what is asked about.
+#![tactic(auto)]
+
+mod part;
+mod place;
+mod white;
+
+pub use part::first_part;
+pub use place::place_of;
+pub use white::{is_space, trim, without_end, without_start};
