@@ -54,3 +54,7 @@ whole_ended s n (b ∷ bytes) e lt = at (b == s) refl e lt (whole_ended s (part_
         let size : n ≡ suc (part_size s bytes) = omega (arith, e) in
         let next : n + 1 ≡ suc (part_size s bytes + 1) = omega (arith, e) in
         rw (next, size) (ap (λ xs. b ∷ xs) (h (omega (arith, e))))
+
+-- there is always a part
+pub parts_some : (s : ℕ) (bytes : List ℕ) → 1 ≤ length (cut_at s bytes)
+parts_some s bytes = rw (parts_cut s bytes) (omega arith)

@@ -1,0 +1,70 @@
+//! The parts of a header.
+
+ghost use Rattle.std.specs.Prelude.{◌≡◌};
+ghost use Rattle.sv_text.specs.Header.{body, is_query, lead as lead_of, unsigned};
+
+/// What leads a header.
+#[derive(Clone, Copy, Debug, PartialEq, Eq)]
+pub enum Lead {
+    /// An asterisk: a common command (IEEE 488.2, 7.6.1).
+    Common,
+    /// A colon: the header starts at the root.
+    Root,
+    /// Nothing: the header goes on from the one before it.
+    Onward,
+}
+
+/// A header in its parts. Any bytes have them, also such as are no header.
+#[derive(Clone, Copy, Debug)]
+pub struct Header<'a> {
+    /// What leads it.
+    pub lead: Lead,
+    /// The mnemonics and the colons between them.
+    pub body: &'a [u8],
+    /// Whether a query sign stands at its end.
+    pub query: bool,
+}
+
+/// The parts of a header.
+pub fn header_parts(header: &[u8]) -> Header<'_>
+    ensures lead { result.lead ≡ lead_of header.now }
+    ensures body { result.body.now ≡ body header.now }
+    ensures query { result.query ≡ is_query header.now }
+{
+    let query = has_sign(header);
+    let text = without_sign(header);
+    let lead = lead_in(header);
+    let body = match lead {
+        Lead::Common | Lead::Root => text.get(1..).unwrap_or(&[]),
+        Lead::Onward => text,
+    };
+    Header { lead, body, query }
+}
+
+/// What leads a header.
+fn lead_in(header: &[u8]) -> Lead
+    ensures { result ≡ lead_of header.now }
+{
+    match header {
+        [b'*', ..] => Lead::Common,
+        [b':', ..] => Lead::Root,
+        _ => Lead::Onward,
+    }
+}
+
+/// A header without the query sign at its end.
+fn without_sign(header: &[u8]) -> &[u8]
+    ensures { result.now ≡ unsigned header.now }
+{
+    match header {
+        [front @ .., b'?'] => front,
+        _ => header,
+    }
+}
+
+/// Whether a header ends in a query sign.
+fn has_sign(header: &[u8]) -> bool
+    ensures { result ≡ is_query header.now }
+{
+    matches!(header, [.., b'?'])
+}
