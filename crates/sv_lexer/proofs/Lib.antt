@@ -1,0 +1,4 @@
+pub mod Standing
+pub mod Cuts
+pub mod Tokens
+pub mod Order

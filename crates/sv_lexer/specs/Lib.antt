@@ -1,0 +1,5 @@
+pub mod Spelled
+pub mod Token
+pub mod Unit
+pub mod Parameters
+pub mod Order

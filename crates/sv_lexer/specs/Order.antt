@@ -1,0 +1,9 @@
+-- The order of a unit's tokens.
+use Rattle.std.specs.Prelude.{ℕ, ◌+◌, ◌<◌, ◌≤◌, List, length}
+use Rattle.sv_lexer.specs.Unit.{header, header_place}
+use Rattle.sv_lexer.specs.Parameters.{count, parameter, parameter_place}
+
+-- Each parameter stands behind the header, and behind the parameters in front of it and their commas.
+abbrev pub InOrder : Type 0
+InOrder = ((unit : List ℕ) (index : ℕ) → header_place unit + length (header unit) ≤ parameter_place unit index)
+    × ((unit : List ℕ) (first second : ℕ) → first < second → second < count unit → parameter_place unit first + length (parameter unit first) < parameter_place unit second)

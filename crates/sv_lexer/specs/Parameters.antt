@@ -1,0 +1,65 @@
+-- The parameters of a program message unit (IEEE 488.2, 7.3.3 and 7.4.2).
+use Rattle.std.specs.Prelude.{ℕ, ◌+◌, ◌==◌, ◌&&◌, not, Bool, true, false, List, [], ◌∷◌, length, take, reverse, slice_index_or, Option, Some, None, if◌then◌else◌}
+use Rattle.std.specs.List.{list_any, sum_by}
+use Rattle.sv_errors.specs.declared.code.Code.{Code}
+use Rattle.sv_errors.specs.declared.code.Code.TheVariants.{InvalidExpression, SyntaxError}
+use Rattle.sv_text.specs.White.{trim}
+use Rattle.sv_text.specs.Cut.{onto}
+use Rattle.sv_lexer.specs.Unit.{rest, rest_place, white_size}
+
+-- whether a parenthesis is open behind some bytes, which are read from the last: the last parenthesis is one that opens
+abbrev pub is_open : List ℕ → Bool
+is_open [] = false
+is_open (b ∷ before) = if b == 40 then true else if b == 41 then false else is_open before
+
+-- the bytes cut at each comma in front of which no parenthesis is open
+abbrev pub cut_outside : (before bytes : List ℕ) → List (List ℕ)
+cut_outside before [] = [] ∷ []
+cut_outside before (b ∷ bytes) = if b == 44 && not (is_open before) then [] ∷ cut_outside (b ∷ before) bytes else onto b (cut_outside (b ∷ before) bytes)
+
+-- the parts between these commas; none where there is no text
+abbrev pub parts : List ℕ → List (List ℕ)
+parts [] = []
+parts (b ∷ text) = cut_outside [] (b ∷ text)
+
+-- where a part stands: behind the parts before it, and their commas
+abbrev pub part_place : ℕ → List (List ℕ) → ℕ
+part_place index parts = sum_by (λ part. length part + 1) (take index parts)
+
+-- how many parameters a unit has
+abbrev pub count : List ℕ → ℕ
+count unit = length (parts (rest unit))
+
+abbrev part : List ℕ → ℕ → List ℕ
+part unit index = slice_index_or (parts (rest unit)) index []
+
+-- a parameter: a part without white space around it
+abbrev pub parameter : List ℕ → ℕ → List ℕ
+parameter unit index = trim (part unit index)
+
+-- and where it stands
+abbrev pub parameter_place : List ℕ → ℕ → ℕ
+parameter_place unit index = rest_place unit + part_place index (parts (rest unit)) + white_size (part unit index)
+
+abbrev pub is_blank : List ℕ → Bool
+is_blank part = nothing (trim part)
+  where
+    nothing : List ℕ → Bool
+    nothing [] = true
+    nothing (b ∷ bytes) = false
+
+-- what is wrong with the parameters, the first of these: a parenthesis stays open, or one of them is empty
+abbrev pub parameters_fault : List ℕ → Option Code
+parameters_fault unit =
+    if is_open (reverse (rest unit)) then Some InvalidExpression
+    else if list_any is_blank (parts (rest unit)) then Some SyntaxError
+    else None
+
+-- whether a parenthesis is open behind a byte, if one was in front of it
+abbrev pub opens : Bool → ℕ → Bool
+opens inside b = if b == 40 then true else if b == 41 then false else inside
+
+-- how long the first part is, if a parenthesis is open in front of it or none is
+abbrev pub first_size : Bool → List ℕ → ℕ
+first_size inside [] = 0
+first_size inside (b ∷ bytes) = if b == 44 && not inside then 0 else 1 + first_size (opens inside b) bytes

@@ -1,0 +1,45 @@
+-- The header of a program message unit, what stands behind it, and the faults of its spelling (IEEE 488.2, 7.3 and 7.6).
+use Rattle.std.specs.Prelude.{ℕ, ◌+◌, ◌&&◌, ◌||◌, not, Bool, List, take, drop, Option, Some, None, nat_lt, if◌then◌else◌}
+use Rattle.std.specs.List.{prefix_len, position_or_len, list_all}
+use Rattle.sv_errors.specs.declared.code.Code.{Code}
+use Rattle.sv_errors.specs.declared.code.Code.TheVariants.{InvalidCharacter, SyntaxError, ProgramMnemonicTooLong}
+use Rattle.sv_text.specs.White.{is_white, trim, trim_start}
+use Rattle.sv_lexer.specs.Spelled.{is_header, is_brief, words}
+
+-- how many bytes of white space stand in front
+abbrev pub white_size : List ℕ → ℕ
+white_size bytes = prefix_len is_white bytes
+
+-- how many bytes there are up to the first white space
+abbrev pub header_size : List ℕ → ℕ
+header_size unit = position_or_len is_white (trim unit)
+
+-- the header, and where it stands
+abbrev pub header : List ℕ → List ℕ
+header unit = take (header_size unit) (trim unit)
+
+abbrev pub header_place : List ℕ → ℕ
+header_place unit = white_size unit
+
+-- what stands behind the header
+abbrev behind : List ℕ → List ℕ
+behind unit = drop (header_size unit) (trim unit)
+
+-- the text of the parameters, and where it stands
+abbrev pub rest : List ℕ → List ℕ
+rest unit = trim_start (behind unit)
+
+abbrev pub rest_place : List ℕ → ℕ
+rest_place unit = header_place unit + header_size unit + white_size (behind unit)
+
+-- a byte that a unit may have: white space, or a printable one but the space
+abbrev pub is_legal : ℕ → Bool
+is_legal b = is_white b || (nat_lt 32 b && nat_lt b 127)
+
+-- what is wrong with the bytes or the header of a unit, the first of these
+abbrev pub unit_fault : List ℕ → Option Code
+unit_fault unit =
+    if not (list_all is_legal unit) then Some InvalidCharacter
+    else if not (is_header (header unit)) then Some SyntaxError
+    else if not (list_all is_brief (words (header unit))) then Some ProgramMnemonicTooLong
+    else None

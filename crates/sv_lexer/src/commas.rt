@@ -1,0 +1,110 @@
+//! Commas outside of parentheses.
+
+ghost use Rattle.std.specs.Prelude.{◌≡◌, ◌<◌, ◌≤◌, ◌+◌, ◌++◌, [], ◌∷◌, true, false, reverse, length, slice_index_or, MatchOption};
+ghost use Rattle.std.specs.List.{list_any};
+ghost use Rattle.sv_lexer.specs.Token.{StandsAt};
+ghost use Rattle.sv_lexer.specs.Parameters.{cut_outside, first_size, is_blank as is_blank_part, is_open as is_open_behind, opens, part_place, parts};
+
+use sv_text::trim;
+
+/// Whether a parenthesis has none behind it that closes it.
+pub(crate) fn is_open(text: &[u8]) -> bool
+    ensures { result ≡ is_open_behind (reverse text.now) }
+{
+    let mut rest = text;
+    while let [front @ .., last] = rest {
+        match last {
+            b'(' => return true,
+            b')' => return false,
+            _ => rest = front,
+        }
+    }
+    false
+}
+
+/// How many parts there are between commas; none where one of them is blank.
+pub(crate) fn filled(text: &[u8]) -> Option<usize>
+    ensures { MatchOption result (list_any is_blank_part (parts text.now) ≡ true) (λ count. (list_any is_blank_part (parts text.now) ≡ false) × (count ≡ length (parts text.now))) }
+{
+    if text.is_empty() {
+        return Some(0);
+    }
+    let mut rest = text;
+    let mut count = 1;
+    while let (part, Some(behind)) = first_outside(rest) {
+        if is_blank(part) {
+            return None;
+        }
+        count += 1;
+        rest = behind;
+    }
+    if is_blank(rest) { None } else { Some(count) }
+}
+
+/// The part at this place of their order, and where it stands; none where there are fewer.
+pub(crate) fn part_at(text: &[u8], index: usize) -> Option<(&[u8], usize)>
+    ensures { MatchOption result (length (cut_outside [] text.now) ≤ index) (λ found. (index < length (cut_outside [] text.now)) × (found.0.now ≡ slice_index_or (cut_outside [] text.now) index []) × (found.1 ≡ part_place index (cut_outside [] text.now)) × StandsAt text.now found.1 found.0.now) }
+{
+    let mut rest = text;
+    let mut place = 0;
+    let mut passed = 0;
+    while passed < index {
+        let (part, behind) = first_outside(rest);
+        rest = behind?;
+        place += part.len() + 1;
+        passed += 1;
+    }
+    Some((first_outside(rest).0, place))
+}
+
+/// Whether a part is nothing but white space.
+fn is_blank(part: &[u8]) -> bool
+    ensures { result ≡ is_blank_part part.now }
+{
+    trim(part).is_empty()
+}
+
+/// The part in front of the first comma outside of parentheses, and what stands behind that; none where
+/// there is no such comma, and then the part is all of the text.
+fn first_outside(text: &[u8]) -> (&[u8], Option<&[u8]>)
+    ensures parts { MatchOption result.1 (cut_outside [] text.now ≡ result.0.now ∷ []) (λ behind. cut_outside [] text.now ≡ result.0.now ∷ cut_outside [] behind.now) }
+    ensures whole { MatchOption result.1 (result.0.now ≡ text.now) (λ behind. text.now ≡ result.0.now ++ 44 ∷ behind.now) }
+    ensures shorter { MatchOption result.1 (length result.0.now ≡ length text.now) (λ behind. length result.0.now + 1 + length behind.now ≡ length text.now) }
+{
+    let size = comma_in(text);
+    if size < text.len() {
+        (&text[..size], Some(&text[size + 1..]))
+    } else {
+        (text, None)
+    }
+}
+
+/// Where the first comma outside of parentheses stands, or the length where there is none.
+fn comma_in(text: &[u8]) -> usize
+    ensures value { result ≡ first_size false text.now }
+    ensures within { result ≤ length text.now }
+{
+    let mut inside = false;
+    let mut place = 0;
+    let mut rest = text;
+    while let [byte, behind @ ..] = rest {
+        if *byte == b',' && !inside {
+            break;
+        }
+        inside = opened(inside, *byte);
+        place += 1;
+        rest = behind;
+    }
+    place
+}
+
+/// Whether a parenthesis is open behind a byte, if one was in front of it.
+fn opened(inside: bool, byte: u8) -> bool
+    ensures { result ≡ opens inside byte }
+{
+    match byte {
+        b'(' => true,
+        b')' => false,
+        _ => inside,
+    }
+}

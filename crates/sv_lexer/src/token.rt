@@ -1,0 +1,54 @@
+//! The tokens of a unit.
+
+ghost use Rattle.std.specs.Prelude.{◌≡◌, min};
+ghost use Rattle.sv_lexer.specs.Token.{kind_of, told};
+
+/// What kind of data a token is, told by its first byte.
+#[derive(Clone, Copy, Debug, PartialEq, Eq)]
+pub enum Kind {
+    /// A decimal number: a digit, a sign or a point begins it.
+    Number,
+    /// A number in another base: `#` begins it.
+    Base,
+    /// Character data: a letter begins it.
+    Word,
+    /// An expression: `(` begins it.
+    Expression,
+    /// Anything else.
+    Other,
+}
+
+/// A slice of a unit.
+#[derive(Clone, Copy, Debug)]
+pub struct Token<'a> {
+    /// Its bytes, without white space around them.
+    pub text: &'a [u8],
+    /// Where it stands in the unit, in bytes; 4,294,967,295 where that is more.
+    pub start: u32,
+    /// What its first byte tells.
+    pub kind: Kind,
+}
+
+/// The token of a text at a place.
+pub(crate) fn token_at(text: &[u8], place: usize) -> Token<'_>
+    ensures text { result.text.now ≡ text.now }
+    ensures start { result.start ≡ told place }
+    ensures kind { result.kind ≡ kind_of text.now }
+{
+    let start = u32::try_from(place).unwrap_or(u32::MAX);
+    let kind = kind_in(text);
+    Token { text, start, kind }
+}
+
+/// The kind that the first byte tells.
+fn kind_in(text: &[u8]) -> Kind
+    ensures { result ≡ kind_of text.now }
+{
+    match text {
+        [b'0'..=b'9' | b'+' | b'-' | b'.', ..] => Kind::Number,
+        [b'#', ..] => Kind::Base,
+        [b'A'..=b'Z' | b'a'..=b'z', ..] => Kind::Word,
+        [b'(', ..] => Kind::Expression,
+        _ => Kind::Other,
+    }
+}
