@@ -1,7 +1,8 @@
 -- Program text cut into messages.
 use Rattle.std.proofs.Common.{◌≡◌, ℕ, zero, suc, ◌+◌, ◌==◌, Bool, true, false, not, ◌&&◌, ◌||◌, cond, List, [], ◌∷◌, ◌++◌, length, take, drop, refl, sym, ap, ◌∙◌, inl, inr, nat_lt, arith}
 use Rattle.std.proofs.lemmas.Bool.{cases_lt, lt-ltb, le-ltb}
-use Rattle.sv_exchange.specs.Exchange.{Symbol, Byte, End, messages, onto}
+use Rattle.sv_text.specs.Cut.{onto}
+use Rattle.sv_exchange.specs.Exchange.{Symbol, Byte, End, messages}
 use Rattle.sv_exchange.specs.ExchangeHeld.{symbols, following}
 use Rattle.sv_exchange.specs.ExchangeKept.{first_size, has_line, second_at}
 
@@ -59,12 +60,12 @@ messages-append (Byte b ∷ old) new k last first others h e = at (b == 10) (mes
     at false goes = goes_on-onto b (messages old) (messages (old ++ new)) (messages new) (messages_some old) (messages_some (old ++ new)) goes
 
 -- the first message is cut off behind so many bytes of so many
-abbrev cut_at : ℕ → ℕ → List ℕ → Bool → List (List ℕ)
-cut_at n size bytes mark = take n bytes ∷ following (nat_lt n size || mark) (drop (cond (nat_lt n size) (n + 1) size) bytes) (nat_lt n size && mark)
+abbrev cut_behind : ℕ → ℕ → List ℕ → Bool → List (List ℕ)
+cut_behind n size bytes mark = take n bytes ∷ following (nat_lt n size || mark) (drop (cond (nat_lt n size) (n + 1) size) bytes) (nat_lt n size && mark)
 
 -- a byte in front
-cut_at-cons : (b n m : ℕ) (bytes : List ℕ) (mark : Bool) → m ≡ suc n → onto b (cut_at n (length bytes) bytes mark) ≡ cut_at m (suc (length bytes)) (b ∷ bytes) mark
-cut_at-cons b n m bytes mark e =
+cut_behind-cons : (b n m : ℕ) (bytes : List ℕ) (mark : Bool) → m ≡ suc n → onto b (cut_behind n (length bytes) bytes mark) ≡ cut_behind m (suc (length bytes)) (b ∷ bytes) mark
+cut_behind-cons b n m bytes mark e =
     elim (cases_lt n (length bytes)) [
       | inl lt ↦
           let next : suc n + 1 ≡ suc (n + 1) = omega arith in
@@ -79,7 +80,7 @@ first_cut [] true = refl
 first_cut [] false = refl
 first_cut (b ∷ bytes) mark = at (b == 10) (first_cut bytes mark)
   where
-    at : (t : Bool) → messages (symbols bytes mark) ≡ cut_at (first_size bytes) (length bytes) bytes mark
-        → cond t ([] ∷ messages (symbols bytes mark)) (onto b (messages (symbols bytes mark))) ≡ cut_at (cond (not t) (1 + first_size bytes) 0) (suc (length bytes)) (b ∷ bytes) mark
+    at : (t : Bool) → messages (symbols bytes mark) ≡ cut_behind (first_size bytes) (length bytes) bytes mark
+        → cond t ([] ∷ messages (symbols bytes mark)) (onto b (messages (symbols bytes mark))) ≡ cut_behind (cond (not t) (1 + first_size bytes) 0) (suc (length bytes)) (b ∷ bytes) mark
     at true h = rw (lt-ltb 0 (suc (length bytes)) (omega arith)) refl
-    at false h = ap (onto b) h ∙ cut_at-cons b (first_size bytes) (1 + first_size bytes) bytes mark (omega arith)
+    at false h = ap (onto b) h ∙ cut_behind-cons b (first_size bytes) (1 + first_size bytes) bytes mark (omega arith)

@@ -1,46 +1,20 @@
 -- A message cut into units.
-use Rattle.std.proofs.Common.{◌≡◌, ℕ, suc, ◌+◌, ◌<◌, ◌==◌, Bool, true, false, not, cond, List, [], ◌∷◌, length, take, drop, map, min, refl, sym, ap, ◌∙◌, inl, inr, nat_lt, arith}
+use Rattle.std.proofs.Common.{◌≡◌, ℕ, suc, ◌+◌, ◌<◌, ◌==◌, true, false, cond, List, [], ◌∷◌, length, take, drop, map, min, refl, sym, ap, ◌∙◌, inl, inr, nat_lt, arith}
 use Rattle.std.specs.Prelude.{filter}
-use Rattle.std.specs.List.{position_or_len}
 use Rattle.std.proofs.lemmas.Bool.{cases_lt, lt-ltb, le-ltb, eqb-true}
 use Rattle.std.proofs.lemmas.List.{drop_all, drop-drop, length-drop}
-use Rattle.sv_exchange.specs.Exchange.{cut_at_semicolons, onto, trim, units, is_something}
+use Rattle.sv_text.specs.Cut.{cut_at}
+use Rattle.sv_text.specs.White.{trim}
+use Rattle.sv_text.proofs.Parts.{part_size, parts_cut}
+use Rattle.sv_exchange.specs.Exchange.{units, is_something}
 use Rattle.sv_exchange.specs.FirstUnit.{IsFirst}
-
--- the first part is cut off behind so many bytes of so many
-abbrev parts_at : ℕ → ℕ → List ℕ → List (List ℕ)
-parts_at n size bytes = take n bytes ∷ cond (nat_lt n size) (cut_at_semicolons (drop (n + 1) bytes)) []
-
--- a byte in front
-parts_at-cons : (b n m : ℕ) (bytes : List ℕ) → m ≡ suc n → onto b (parts_at n (length bytes) bytes) ≡ parts_at m (suc (length bytes)) (b ∷ bytes)
-parts_at-cons b n m bytes e =
-    elim (cases_lt n (length bytes)) [
-      | inl lt ↦
-          let next : suc n + 1 ≡ suc (n + 1) = omega arith in
-          rw (e, lt-ltb n (length bytes) lt, lt-ltb (suc n) (suc (length bytes)) (omega arith), next) refl
-      | inr ge ↦ rw (e, le-ltb n (length bytes) ge, le-ltb (suc n) (suc (length bytes)) (omega arith)) refl
-    ]
-
--- the place of the first semicolon
-abbrev pub part_size : List ℕ → ℕ
-part_size bytes = position_or_len (λ b. b == 59) bytes
-
--- the first part, and those behind it
-parts_cut : (bytes : List ℕ) → cut_at_semicolons bytes ≡ parts_at (part_size bytes) (length bytes) bytes
-parts_cut [] = refl
-parts_cut (b ∷ bytes) = at (b == 59) (parts_cut bytes)
-  where
-    at : (t : Bool) → cut_at_semicolons bytes ≡ parts_at (part_size bytes) (length bytes) bytes
-        → cond t ([] ∷ cut_at_semicolons bytes) (onto b (cut_at_semicolons bytes)) ≡ parts_at (cond (not t) (1 + part_size bytes) 0) (suc (length bytes)) (b ∷ bytes)
-    at true h = rw (lt-ltb 0 (suc (length bytes)) (omega arith)) refl
-    at false h = ap (onto b) h ∙ parts_at-cons b (part_size bytes) (1 + part_size bytes) bytes (omega arith)
 
 -- what parts leave as units
 abbrev kept : List (List ℕ) → List (List ℕ)
 kept parts = filter is_something (map trim parts)
 
 -- the units behind the first part
-kept_behind : (bytes : List ℕ) (n count : ℕ) → count ≡ min (length bytes) (n + 1) → kept (cond (nat_lt n (length bytes)) (cut_at_semicolons (drop (n + 1) bytes)) []) ≡ units (drop count bytes)
+kept_behind : (bytes : List ℕ) (n count : ℕ) → count ≡ min (length bytes) (n + 1) → kept (cond (nat_lt n (length bytes)) (cut_at 59 (drop (n + 1) bytes)) []) ≡ units (drop count bytes)
 kept_behind bytes n count e =
     elim (cases_lt n (length bytes)) [
       | inl lt ↦ let next : n + 1 ≡ count = omega arith in rw (lt-ltb n (length bytes) lt, next) refl
@@ -48,21 +22,21 @@ kept_behind bytes n count e =
     ]
 
 -- the units by the first part, where that is a unit or isn't
-units_by_first : (bytes : List ℕ) (count : ℕ) → count ≡ min (length bytes) (part_size bytes + 1)
-    → units bytes ≡ cond (is_something (trim (take (part_size bytes) bytes))) (trim (take (part_size bytes) bytes) ∷ units (drop count bytes)) (units (drop count bytes))
+units_by_first : (bytes : List ℕ) (count : ℕ) → count ≡ min (length bytes) (part_size 59 bytes + 1)
+    → units bytes ≡ cond (is_something (trim (take (part_size 59 bytes) bytes))) (trim (take (part_size 59 bytes) bytes) ∷ units (drop count bytes)) (units (drop count bytes))
 units_by_first bytes count e =
-    ap kept (parts_cut bytes)
-    ∙ ap (λ (us : List (List ℕ)). cond (is_something (trim (take (part_size bytes) bytes))) (trim (take (part_size bytes) bytes) ∷ us) us) (kept_behind bytes (part_size bytes) count e)
+    ap kept (parts_cut 59 bytes)
+    ∙ ap (λ (us : List (List ℕ)). cond (is_something (trim (take (part_size 59 bytes) bytes))) (trim (take (part_size 59 bytes) bytes) ∷ us) us) (kept_behind bytes (part_size 59 bytes) count e)
 
 -- The part of a message that comes first behind some bytes is this, without white space, and so many bytes are stepped over with it.
 pub record IsPart (message : List ℕ) (before count : ℕ) (unit : List ℕ) : Type 0 where
   pub same : units message ≡ units (drop before message)
-  pub size : count ≡ min (length (drop before message)) (part_size (drop before message) + 1)
-  pub trimmed : unit ≡ trim (take (part_size (drop before message)) (drop before message))
+  pub size : count ≡ min (length (drop before message)) (part_size 59 (drop before message) + 1)
+  pub trimmed : unit ≡ trim (take (part_size 59 (drop before message)) (drop before message))
 
 -- the part, found by the place of its semicolon
 pub is_part : (message rest : List ℕ) (before place count : ℕ) (unit : List ℕ) → units message ≡ units (drop before message) → rest ≡ drop before message
-    → place ≡ part_size rest → count ≡ min (length rest) (place + 1) → unit ≡ trim (take place rest) → IsPart message before count unit
+    → place ≡ part_size 59 rest → count ≡ min (length rest) (place + 1) → unit ≡ trim (take place rest) → IsPart message before count unit
 is_part message rest before place count unit same e p c t = record {
   same = same;
   size = rw (← e, ← p) c;
@@ -82,7 +56,7 @@ is_some (b ∷ unit) h = refl
 -- a part that is no unit is stepped over
 pub step_over : (message : List ℕ) (before count : ℕ) (unit : List ℕ) → IsPart message before count unit → true ≡ (length unit == 0) → units message ≡ units (drop (before + count) message)
 step_over message before count unit part none =
-    let empty : trim (take (part_size (drop before message)) (drop before message)) ≡ [] = sym part.trimmed ∙ is_empty unit none in
+    let empty : trim (take (part_size 59 (drop before message)) (drop before message)) ≡ [] = sym part.trimmed ∙ is_empty unit none in
     part.same ∙ units_by_first (drop before message) count part.size ∙ rw empty (ap units (drop-drop count before message))
 
 -- the first part that is one

@@ -1,22 +1,9 @@
 -- Where an element first stands.
-use Rattle.std.proofs.Common.{◌≡◌, ℕ, zero, suc, ◌+◌, ◌≤◌, ◌==◌, Bool, true, false, not, cond, List, [], ◌∷◌, length, take, min, refl, inl, inr, unwrap_or, Some, arith}
+use Rattle.std.proofs.Common.{◌≡◌, ℕ, zero, suc, ◌+◌, ◌==◌, Bool, true, false, not, cond, List, [], ◌∷◌, length, take, min, refl, inl, inr, Some, arith}
 use Rattle.sv_exchange.specs.Read.{up_to, read_count}
 use Rattle.std.specs.List.{position, position_or_len}
 use Rattle.std.proofs.lemmas.Bool.{cases_lt, lt-ltb, le-ltb}
-use Rattle.std.proofs.lemmas.List.Sums.{prefix_len-le-length}
-
--- no place is behind the end
-pub place_within : (p : ℕ → Bool) (bytes : List ℕ) → position_or_len p bytes ≤ length bytes
-place_within p bytes = prefix_len-le-length (λ b. not (p b)) bytes
-
--- the place, or the length
-pub place_or_len : (p : ℕ → Bool) (bytes : List ℕ) → unwrap_or (position p bytes) (length bytes) ≡ position_or_len p bytes
-place_or_len p bytes =
-    let le = place_within p bytes in
-    elim (cases_lt (position_or_len p bytes) (length bytes)) [
-      | inl lt ↦ rw (lt-ltb (position_or_len p bytes) (length bytes) lt) refl
-      | inr ge ↦ rw (le-ltb (position_or_len p bytes) (length bytes) ge) (omega arith)
-    ]
+use Rattle.sv_text.proofs.Places.{place_within}
 
 -- among the first k
 pub place-take : (p : ℕ → Bool) (bytes : List ℕ) (k : ℕ) → position_or_len p (take k bytes) ≡ min (position_or_len p bytes) (min k (length bytes))

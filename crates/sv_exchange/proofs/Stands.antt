@@ -6,7 +6,7 @@ use Rattle.sv_exchange.specs.Exchange.{ExchangeAct, Accepted, UnitDone, Answered
 use Rattle.sv_exchange.specs.ExchangeHeld.{Held, StandsFor, IsSaid, IsUnitDue, symbols, following, shown, shown_by, next_of, is_open, may_respond}
 use Rattle.sv_exchange.specs.ExchangeKept.{first_size, has_line, second_at, after_accept, after_finish, with_answer}
 use Rattle.sv_exchange.specs.FirstUnit.{IsFirst}
-use Rattle.sv_exchange.proofs.Places.{place_within}
+use Rattle.sv_text.proofs.Places.{place_within}
 use Rattle.sv_exchange.proofs.Cuts.{messages-append, first_cut}
 use Rattle.sv_exchange.proofs.Responses.{response_after, response-finished, response-read}
 use Rattle.sv_exchange.proofs.Dues.{at_unit, readable_is}

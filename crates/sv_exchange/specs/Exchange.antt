@@ -1,6 +1,8 @@
 -- Message exchange (IEEE 488.2, 6.1 and 6.3): program text, its messages and units, and the response, each found by a search of the acts, which are
 -- read from the newest.
-use Rattle.std.specs.Prelude.{ℕ, ◌+◌, ◌==◌, Bool, true, false, not, ◌&&◌, List, [], ◌∷◌, ◌++◌, length, drop, map, filter, reverse, Option, Some, None, nat_lt, slice_get, slice_index_or, if◌then◌else◌}
+use Rattle.std.specs.Prelude.{ℕ, ◌+◌, ◌==◌, Bool, true, false, not, ◌&&◌, List, [], ◌∷◌, ◌++◌, length, drop, map, filter, Option, Some, None, nat_lt, slice_get, slice_index_or, if◌then◌else◌}
+use Rattle.sv_text.specs.Cut.{cut_at, onto}
+use Rattle.sv_text.specs.White.{trim}
 
 -- what happens to program text and responses
 pub data ExchangeAct : Type 0 where
@@ -35,11 +37,6 @@ text (AnswersDropped ∷ acts) = text acts
 text (Finished ∷ acts) = text acts
 text (Interrupted ∷ acts) = text acts
 text (ResponseRead count ∷ acts) = text acts
-
--- a byte in front of the first part
-abbrev pub onto : ℕ → List (List ℕ) → List (List ℕ)
-onto b [] = (b ∷ []) ∷ []
-onto b (part ∷ parts) = (b ∷ part) ∷ parts
 
 -- The text cut at each new line and each mark: each part but the last is a message that has ended; the last is one that hasn't.
 abbrev pub messages : List Symbol → List (List ℕ)
@@ -107,30 +104,13 @@ has_ended acts = nat_lt (finished acts + 1) (length (messages (text acts)))
 abbrev pub is_long : List ExchangeAct → Bool
 is_long acts = nat_lt 4096 (length (message acts))
 
--- bytes 0 to 9 and 11 to 32
-abbrev pub is_white : ℕ → Bool
-is_white b = nat_lt b 33 && not (b == 10)
-
-abbrev pub trim_start : List ℕ → List ℕ
-trim_start [] = []
-trim_start (b ∷ bytes) = if is_white b then trim_start bytes else b ∷ bytes
-
--- without white space at both ends
-abbrev pub trim : List ℕ → List ℕ
-trim bytes = reverse (trim_start (reverse (trim_start bytes)))
-
--- the bytes cut at each semicolon
-abbrev pub cut_at_semicolons : List ℕ → List (List ℕ)
-cut_at_semicolons [] = [] ∷ []
-cut_at_semicolons (b ∷ bytes) = if b == 59 then [] ∷ cut_at_semicolons bytes else onto b (cut_at_semicolons bytes)
-
 abbrev pub is_something : List ℕ → Bool
 is_something [] = false
 is_something (b ∷ bytes) = true
 
 -- the units of a message: what stands between semicolons, without white space around it, where anything is left
 abbrev pub units : List ℕ → List (List ℕ)
-units bytes = filter is_something (map trim (cut_at_semicolons bytes))
+units bytes = filter is_something (map trim (cut_at 59 bytes))
 
 -- the unit to execute next: of a message that has ended, is not too long, and lost no answers
 abbrev pub next_unit : List ExchangeAct → Option (List ℕ)

@@ -1,10 +1,6 @@
 -- The first unit of a message, and what is left behind it.
-use Rattle.std.specs.Prelude.{◌≡◌, ◌≢◌, ℕ, ◌<◌, ◌≤◌, List, [], ◌∷◌, length, drop, reverse}
-use Rattle.sv_exchange.specs.Exchange.{trim_start, units}
-
--- without white space behind
-abbrev pub trim_end : List ℕ → List ℕ
-trim_end bytes = reverse (trim_start (reverse bytes))
+use Rattle.std.specs.Prelude.{◌≡◌, ◌≢◌, ℕ, ◌<◌, ◌≤◌, List, [], ◌∷◌, length, drop}
+use Rattle.sv_exchange.specs.Exchange.{units}
 
 -- The message has this unit first, and the units of what is left behind so many bytes.
 pub record IsFirst (message unit : List ℕ) (count : ℕ) : Type 0 where

@@ -2,12 +2,12 @@
 //! response.
 //!
 //! [`Exchange`] takes the bytes of writes, says what is due, and gives the response to reads. Only
-//! [`Exchange::new`] takes memory.
+//! [`Exchange::new`] takes memory. White space, parts between semicolons, and where a byte stands
+//! are as `sv_text` has them.
 #![tactic(auto)]
 
 mod exchange;
 mod message;
-mod place;
 mod read;
 mod units;
 

@@ -3,7 +3,7 @@
 ghost use Rattle.std.specs.Prelude.{◌≡◌, ◌≤◌, ◌&&◌, ◌||◌, length};
 ghost use Rattle.sv_exchange.specs.ExchangeKept.{first_size, second_at, has_line};
 
-use crate::place::place_of;
+use sv_text::place_of;
 
 /// The first message of some text.
 #[derive(Clone, Copy)]

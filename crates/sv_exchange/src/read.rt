@@ -4,7 +4,7 @@ ghost use Rattle.std.specs.Prelude.{◌≡◌, ◌≤◌, length};
 ghost use Rattle.sv_exchange.specs.Read.{read_count, ends_at_term};
 ghost use Rattle.sv_exchange.specs.ReadGiven.{IsReadOf};
 
-use crate::place::place_of;
+use sv_text::place_of;
 
 /// How many bytes are given at once.
 const MAX_READ: usize = 8192;

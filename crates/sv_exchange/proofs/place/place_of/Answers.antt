@@ -1,6 +1,0 @@
-use Rattle.std.proofs.Common.{◌∙◌, ap, ◌==◌, length, unwrap_or}
-use Rattle.sv_exchange.proofs.Places.{place_or_len}
-use Rattle.sv_exchange.proofs.place.place_of.Goals as goal
-
-pub returns-clause-value : goal.returns-clause-value
-returns-clause-value c = c.unwrap_or.ensures ∙ ap (λ o. unwrap_or o (length c.args.bytes.now)) c.position_of.ensures ∙ place_or_len (λ b. b == c.args.byte) c.args.bytes.now
