@@ -1,33 +1,10 @@
 -- Where a text is cut into lines.
-use Rattle.std.proofs.Common.{◌≡◌, ◌≢◌, ℕ, suc, ◌+◌, ◌<◌, ◌==◌, cond, not, Bool, true, false, List, [], ◌∷◌, ◌++◌, length, take, drop, Option, Some, None, unwrap_or, refl, sym, ap, ◌∙◌, inl, inr, arith}
+use Rattle.std.proofs.Common.{◌≡◌, ◌≢◌, ℕ, ◌+◌, ◌<◌, ◌==◌, cond, Bool, true, false, List, [], ◌∷◌, ◌++◌, length, take, drop, Option, Some, None, unwrap_or, refl, sym, ap, ◌∙◌, inl, inr, arith}
 use Rattle.std.proofs.lemmas.Bool.{lt-ltb, le-ltb, cases_lt}
-use Rattle.std.proofs.lemmas.List.Sums.{prefix_len-le-length}
-use Rattle.sv_exchange.specs.Exchange.{onto}
+use Rattle.sv_text.specs.Cut.{onto}
+use Rattle.sv_text.proofs.Parts.{part_ended, part_last}
 use Rattle.scanvolt.specs.Script.{parts}
 use Rattle.scanvolt.specs.Text.{line_size, first_end}
-
--- the first line of a text, and the parts behind it
-parts_line : (text : List ℕ) → line_size text < length text → parts text ≡ take (line_size text) text ∷ parts (drop (line_size text + 1) text)
-parts_line [] h = absurd (omega arith)
-parts_line (b ∷ text) h = here (b == 10) (parts_line text) h
-  where
-    here : (test : Bool) → (line_size text < length text → parts text ≡ take (line_size text) text ∷ parts (drop (line_size text + 1) text)) → cond (not test) (1 + line_size text) 0 < suc (length text)
-        → cond test ([] ∷ parts text) (onto b (parts text)) ≡ take (cond (not test) (1 + line_size text) 0) (b ∷ text) ∷ parts (drop (cond (not test) (1 + line_size text) 0 + 1) (b ∷ text))
-    here true rest less = refl
-    here false rest less =
-        let up : 1 + line_size text ≡ suc (line_size text) = omega arith in
-        let on : 1 + line_size text + 1 ≡ suc (line_size text + 1) = omega arith in
-        rw (on, up) (ap (onto b) (rest (omega arith)))
-
--- a text without a new line is one part
-parts_open : (text : List ℕ) → line_size text ≡ length text → parts text ≡ text ∷ []
-parts_open [] h = refl
-parts_open (b ∷ text) h = here (b == 10) (parts_open text) h
-  where
-    here : (test : Bool) → (line_size text ≡ length text → parts text ≡ text ∷ []) → cond (not test) (1 + line_size text) 0 ≡ suc (length text)
-        → cond test ([] ∷ parts text) (onto b (parts text)) ≡ (b ∷ text) ∷ []
-    here true rest same = absurd (omega arith)
-    here false rest same = ap (onto b) (rest (omega arith))
 
 -- by the place of the first new line
 found_is : (text : List ℕ) (len : ℕ) → first_end text ≡ Some len → (line_size text ≡ len) × (len < length text)
@@ -40,7 +17,7 @@ found_is text len e = elim (cases_lt (line_size text) (length text)) [
 pub parts_found : (text : List ℕ) (len : ℕ) → first_end text ≡ Some len → parts text ≡ take len text ∷ parts (drop (len + 1) text)
 parts_found text len e =
     let (is, less) = found_is text len e in
-    rw (← is) (parts_line text (omega arith))
+    part_ended 10 len text (sym is) less
 
 pub found_within : (text : List ℕ) (len : ℕ) → first_end text ≡ Some len → len < length text
 found_within text len e = let (is, less) = found_is text len e in less
@@ -48,7 +25,7 @@ found_within text len e = let (is, less) = found_is text len e in less
 pub parts_none : (text : List ℕ) → first_end text ≡ None → parts text ≡ text ∷ []
 parts_none text e = elim (cases_lt (line_size text) (length text)) [
   | inl less ↦ absurd (let z : Some (line_size text) ≡ None = sym (ap (λ (b : Bool). cond b (Some (line_size text)) None) (lt-ltb (line_size text) (length text) less)) ∙ e in cc)
-  | inr more ↦ parts_open text (omega (arith, prefix_len-le-length (λ b. not (b == 10)) text))
+  | inr more ↦ part_last 10 (line_size text) text refl more
 ]
 
 -- a text has a first part

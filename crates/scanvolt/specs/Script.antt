@@ -1,6 +1,6 @@
 -- The script of a text: the events that its lines say. And the print of events, one after the other.
-use Rattle.std.specs.Prelude.{◌≡◌, ◌⊎◌, ℕ, ◌<◌, ◌≤◌, ◌==◌, List, [], ◌∷◌, ◌++◌, length, replicate, Result, Ok, Err, ⊤, if◌then◌else◌}
-use Rattle.sv_exchange.specs.Exchange.{onto}
+use Rattle.std.specs.Prelude.{◌≡◌, ◌⊎◌, ℕ, ◌<◌, ◌≤◌, List, [], ◌∷◌, ◌++◌, length, replicate, Result, Ok, Err, ⊤}
+use Rattle.sv_text.specs.Cut.{cut_at}
 use Rattle.sv_server.specs.declared.event.Config.{Config}
 use Rattle.sv_server.specs.declared.replay.ReplayFault.{ReplayFault}
 use Rattle.sv_server.specs.Event.{Happening, Tick}
@@ -9,8 +9,7 @@ use Rattle.scanvolt.specs.Line.{Line, Blank, One, Ticks, Says}
 
 -- the text cut at each new line: the last part is what stands behind the last one
 abbrev pub parts : List ℕ → List (List ℕ)
-parts [] = [] ∷ []
-parts (byte ∷ bytes) = if byte == 10 then [] ∷ parts bytes else onto byte (parts bytes)
+parts text = cut_at 10 text
 
 -- the events of a line, the first one first
 abbrev pub events_of : Line → List Happening
