@@ -1,0 +1,29 @@
+-- Numbers in another base (IEEE 488.2, 7.7.4).
+use Rattle.std.specs.Prelude.{ℕ, ℤ, pos, ◌==◌, ◌||◌, not, Bool, true, false, List, [], ◌∷◌, Option, Some, None, Result, Ok, Err, if◌then◌else◌}
+use Rattle.std.specs.Char.{is_digit}
+use Rattle.std.specs.List.{list_all}
+use Rattle.std.specs.Str.Parse.{digits_value}
+use Rattle.sv_errors.specs.declared.code.Code.{Code}
+use Rattle.sv_errors.specs.declared.code.Code.TheVariants.{SyntaxError, InvalidCharacterInNumber}
+
+-- H, Q or B, in either case
+abbrev pub base_of : ℕ → Option ℕ
+base_of letter =
+    if letter == 72 || letter == 104 then Some 16 else if letter == 81 || letter == 113 then Some 8 else if letter == 66 || letter == 98 then Some 2 else None
+
+abbrev begins_with_digit : ℕ → List ℕ → Bool
+begins_with_digit base [] = false
+begins_with_digit base (b ∷ digits) = is_digit b base
+
+abbrev pub read_digits : Option ℕ → List ℕ → Result ℤ Code
+read_digits None digits = Err SyntaxError
+read_digits (Some base) digits =
+    if not (begins_with_digit base digits) then Err SyntaxError
+    else if not (list_all (λ b. is_digit b base) digits) then Err InvalidCharacterInNumber
+    else Ok (pos (digits_value base digits))
+
+-- a number sign, a letter for the base, and digits; or what is wrong with them
+abbrev pub read_based : List ℕ → Result ℤ Code
+read_based [] = Err SyntaxError
+read_based (sign ∷ []) = Err SyntaxError
+read_based (sign ∷ letter ∷ digits) = read_digits (base_of letter) digits

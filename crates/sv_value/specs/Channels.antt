@@ -1,0 +1,73 @@
+-- Channel lists (SCPI-1999, volume 1, chapter 8): `(@`, items with commas between, `)`; an item is a channel, or two with a colon between.
+use Rattle.std.specs.Prelude.{ℕ, ◌+◌, ◌-◌, ◌==◌, ◌&&◌, not, Bool, true, false, List, [], ◌∷◌, ◌++◌, length, take, reverse, nat_le, nat_lt, slice_get, Option, Some, None, is_some, Result, Ok, Err, map, if◌then◌else◌}
+use Rattle.std.specs.List.{list_all, range_with_len}
+use Rattle.std.specs.Char.{is_ascii_digit}
+use Rattle.std.specs.Str.Parse.{digits_value}
+use Rattle.sv_errors.specs.declared.code.Code.{Code}
+use Rattle.sv_errors.specs.declared.code.Code.TheVariants.{DataOutOfRange, TooMuchData, InvalidExpression}
+use Rattle.sv_text.specs.White.{trim}
+use Rattle.sv_text.specs.Cut.{cut_at}
+use Rattle.sv_value.specs.Decimal.{is_nothing}
+
+abbrev closes : Option ℕ → Bool
+closes None = false
+closes (Some b) = b == 41
+
+abbrev closed : List ℕ → Option (List ℕ)
+closed text = if closes (slice_get text (length text - 1)) then Some (take (length text - 1) text) else None
+
+-- what stands between `(@` and `)`
+abbrev pub inner : List ℕ → Option (List ℕ)
+inner [] = None
+inner (a ∷ []) = None
+inner (a ∷ b ∷ text) = if a == 40 && b == 64 then closed text else None
+
+-- digits, and perhaps white space around them
+abbrev pub is_number : List ℕ → Bool
+is_number text = not (is_nothing (trim text)) && list_all is_ascii_digit (trim text)
+
+abbrev pub number : List ℕ → ℕ
+number text = digits_value 10 (trim text)
+
+-- the two ends of an item
+pub record Span : Type 0 where
+  pub first : ℕ
+  pub last : ℕ
+
+abbrev span_of : List (List ℕ) → Option Span
+span_of [] = None
+span_of (a ∷ []) = if is_number a then Some (record { first = number a; last = number a }) else None
+span_of (a ∷ b ∷ []) = if is_number a && is_number b then Some (record { first = number a; last = number b }) else None
+span_of (a ∷ b ∷ c ∷ others) = None
+
+abbrev pub span : List ℕ → Option Span
+span item = span_of (cut_at 58 item)
+
+abbrev pub is_channel : ℕ → Bool
+is_channel n = nat_le 1 n && nat_le n 32
+
+-- the channels from one end to the other, upwards or downwards
+abbrev pub run : ℕ → ℕ → List ℕ
+run first last = if nat_le first last then range_with_len first (last - first + 1) else reverse (range_with_len last (first - last + 1))
+
+-- the channels of an item behind others, and those of the items behind it; or what is wrong with it: an end that is no channel, then more than
+-- 32 channels so far. An item that is no span was refused before.
+abbrev next : Option Span → List ℕ → (List ℕ → Result (List ℕ) Code) → Result (List ℕ) Code
+next None before others = Err InvalidExpression
+next (Some ends) before others =
+    if not (is_channel ends.first && is_channel ends.last) then Err DataOutOfRange
+    else if nat_lt 32 (length (before ++ run ends.first ends.last)) then Err TooMuchData
+    else others (before ++ run ends.first ends.last)
+
+-- the channels of all items behind others, or what is wrong with the first that is at fault
+abbrev pub listed : List ℕ → List (List ℕ) → Result (List ℕ) Code
+listed before [] = Ok before
+listed before (item ∷ items) = next (span item) before (λ so_far. listed so_far items)
+
+abbrev read_items : Option (List ℕ) → Result (List ℕ) Code
+read_items None = Err InvalidExpression
+read_items (Some text) = if list_all (λ item. is_some (span item)) (cut_at 44 text) then listed [] (cut_at 44 text) else Err InvalidExpression
+
+-- the channels of a list, or what is wrong with it
+abbrev pub read_list : List ℕ → Result (List ℕ) Code
+read_list text = read_items (inner text)

@@ -1,0 +1,87 @@
+-- How decimal numbers are spelled (IEEE 488.2, 7.7.2 and 7.7.3): a sign, digits with a point, an exponent, and a suffix.
+use Rattle.std.specs.Prelude.{ℕ, ◌==◌, ◌&&◌, ◌||◌, not, Bool, true, false, List, [], ◌∷◌, ◌++◌, take, drop, if◌then◌else◌}
+use Rattle.std.specs.List.{position_or_len}
+use Rattle.std.specs.Char.{is_ascii_digit, is_ascii_alphabetic}
+use Rattle.sv_text.specs.White.{trim_start}
+
+abbrev pub is_nothing : List ℕ → Bool
+is_nothing [] = true
+is_nothing (b ∷ text) = false
+
+-- the digits in front, up to the first byte that is none, and what stands behind them
+abbrev pub digits_size : List ℕ → ℕ
+digits_size text = position_or_len (λ b. not (is_ascii_digit b)) text
+
+abbrev pub digits_in : List ℕ → List ℕ
+digits_in text = take (digits_size text) text
+
+abbrev pub behind_digits : List ℕ → List ℕ
+behind_digits text = drop (digits_size text) text
+
+-- whether a minus stands in front
+abbrev pub has_minus : List ℕ → Bool
+has_minus [] = false
+has_minus (b ∷ text) = b == 45
+
+-- without the sign in front
+abbrev pub behind_sign : List ℕ → List ℕ
+behind_sign [] = []
+behind_sign (b ∷ text) = if b == 43 || b == 45 then text else b ∷ text
+
+-- the digits behind a point in front, and what stands behind those
+abbrev pub fraction_in : List ℕ → List ℕ
+fraction_in [] = []
+fraction_in (b ∷ text) = if b == 46 then digits_in text else []
+
+abbrev pub behind_fraction : List ℕ → List ℕ
+behind_fraction [] = []
+behind_fraction (b ∷ text) = if b == 46 then behind_digits text else b ∷ text
+
+abbrev pub behind_letter : List ℕ → List ℕ
+behind_letter [] = []
+behind_letter (b ∷ text) = if b == 69 || b == 101 then trim_start text else []
+
+-- what stands behind an E and the white space around it; nothing where there is no E
+abbrev pub behind_mark : List ℕ → List ℕ
+behind_mark text = behind_letter (trim_start text)
+
+-- the digits of an exponent; where there are none, there is no exponent
+abbrev pub exponent_in : List ℕ → List ℕ
+exponent_in text = digits_in (behind_sign (behind_mark text))
+
+abbrev pub behind_exponent : List ℕ → List ℕ
+behind_exponent text = if is_nothing (exponent_in text) then text else behind_digits (behind_sign (behind_mark text))
+
+-- the parts of a number
+pub record Parts : Type 0 where
+  pub negative : Bool
+  pub whole : List ℕ
+  pub fraction : List ℕ
+  pub down : Bool
+  pub exponent : List ℕ
+  pub suffix : List ℕ
+
+abbrev pub behind_whole : List ℕ → List ℕ
+behind_whole text = behind_digits (behind_sign text)
+
+abbrev pub behind_mantissa : List ℕ → List ℕ
+behind_mantissa text = behind_fraction (behind_whole text)
+
+abbrev pub parts : List ℕ → Parts
+parts text = record {
+  negative = has_minus text;
+  whole = digits_in (behind_sign text);
+  fraction = fraction_in (behind_whole text);
+  down = has_minus (behind_mark (behind_mantissa text));
+  exponent = exponent_in (behind_mantissa text);
+  suffix = trim_start (behind_exponent (behind_mantissa text));
+}
+
+-- whether a letter begins a suffix, where there is one
+abbrev pub begins_well : List ℕ → Bool
+begins_well [] = true
+begins_well (b ∷ suffix) = is_ascii_alphabetic b
+
+-- whether there is a digit, and what stands behind the number begins with a letter
+abbrev pub is_spelled : Parts → Bool
+is_spelled number = not (is_nothing number.whole && is_nothing number.fraction) && begins_well number.suffix

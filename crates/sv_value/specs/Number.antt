@@ -1,0 +1,48 @@
+-- The value of a decimal number: a fraction of two whole numbers, rounded to the nearest, half away from zero.
+use Rattle.std.specs.Prelude.{ℕ, ◌+◌, ◌-◌, ◌*◌, ◌/◌, ◌^◌, ℤ, pos, neg_ℤ, ◌==◌, Bool, true, false, List, [], ◌∷◌, ◌++◌, length, nat_lt, not, Option, Some, None, Result, Ok, Err, if◌then◌else◌}
+use Rattle.std.specs.List.{position_or_len}
+use Rattle.std.specs.Str.Parse.{digits_value}
+use Rattle.sv_errors.specs.declared.code.Code.{Code}
+use Rattle.sv_errors.specs.declared.code.Code.TheVariants.{InvalidCharacterInNumber, TooManyDigits, ExponentTooLarge}
+use Rattle.sv_value.specs.Decimal.{Parts, parts, is_spelled}
+
+-- the whole number nearest to a fraction; half is rounded up
+abbrev pub nearest : ℕ → ℕ → ℕ
+nearest numerator denominator = (2 * numerator + denominator) / (2 * denominator)
+
+-- how far an exponent moves the point to the right, and to the left
+abbrev pub right : Parts → ℕ
+right number = if number.down then 0 else digits_value 10 number.exponent
+
+abbrev pub left : Parts → ℕ
+left number = if number.down then digits_value 10 number.exponent else 0
+
+-- a number without its sign, in a unit of which the power of ten make its own: its digits over a power of ten, rounded
+abbrev pub magnitude : ℕ → Parts → ℕ
+magnitude power number = nearest (digits_value 10 (number.whole ++ number.fraction) * 10 ^ (power + right number)) (10 ^ (length number.fraction + left number))
+
+abbrev pub signed : Bool → ℕ → ℤ
+signed true n = neg_ℤ (pos n)
+signed false n = pos n
+
+abbrev pub value : ℕ → Parts → ℤ
+value power number = signed number.negative (magnitude power number)
+
+-- how many digits a mantissa has, without the zeros in front
+abbrev pub zeros : List ℕ → ℕ
+zeros digits = position_or_len (λ b. not (b == 48)) digits
+
+abbrev pub significant : Parts → ℕ
+significant number = length (number.whole ++ number.fraction) - zeros (number.whole ++ number.fraction)
+
+-- a number in a unit that its suffix gives, or else what is wrong with it: the first of these
+abbrev pub read_with : Option ℕ → Code → Parts → Result ℤ Code
+read_with None suffix_code number = if not (is_spelled number) then Err InvalidCharacterInNumber else Err suffix_code
+read_with (Some power) suffix_code number =
+    if not (is_spelled number) then Err InvalidCharacterInNumber
+    else if nat_lt 255 (significant number) then Err TooManyDigits
+    else if nat_lt 32000 (digits_value 10 number.exponent) then Err ExponentTooLarge
+    else Ok (value power number)
+
+abbrev pub read_decimal : (List ℕ → Option ℕ) → Code → List ℕ → Result ℤ Code
+read_decimal power_of suffix_code text = read_with (power_of (parts text).suffix) suffix_code (parts text)

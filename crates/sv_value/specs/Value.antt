@@ -1,0 +1,90 @@
+-- What the value of a parameter is, by its kind, or which error it is.
+use Rattle.std.specs.Prelude.{ℕ, ℤ, pos, negsuc, neg_ℤ, int_le, nat_le, ◌&&◌, ◌==◌, Bool, true, false, List, [], ◌∷◌, codes, Option, Some, None, Result, Ok, Err, if◌then◌else◌}
+use Rattle.sv_errors.specs.declared.code.Code.{Code}
+use Rattle.sv_errors.specs.declared.code.Code.TheVariants.{SyntaxError, DataTypeError, InvalidSuffix, SuffixNotAllowed, DataOutOfRange}
+use Rattle.sv_lexer.specs.declared.token.Kind.{Kind}
+use Rattle.sv_lexer.specs.declared.token.Kind.TheVariants.{Number, Base, Word, Expression, Other}
+use Rattle.sv_value.specs.Decimal.{is_nothing}
+use Rattle.sv_value.specs.Number.{read_decimal}
+use Rattle.sv_value.specs.Based.{read_based}
+use Rattle.sv_value.specs.Choice.{is_same, read_switch, read_keyword}
+use Rattle.sv_value.specs.Channels.{read_list}
+use Rattle.sv_value.specs.declared.choice.Keyword.{Keyword}
+
+-- how many powers of ten a unit of voltage is above the microvolt; no suffix is volts
+abbrev pub power_of_volts : List ℕ → Option ℕ
+power_of_volts suffix =
+    if is_nothing suffix then Some 6
+    else if is_same suffix (codes "V") then Some 6
+    else if is_same suffix (codes "KV") then Some 9
+    else if is_same suffix (codes "MV") then Some 3
+    else if is_same suffix (codes "UV") then Some 0
+    else None
+
+-- a number without a unit takes no suffix
+abbrev pub power_of_none : List ℕ → Option ℕ
+power_of_none suffix = if is_nothing suffix then Some 0 else None
+
+-- data of a kind that the place doesn't take
+abbrev pub wrong_kind : Kind → Code
+wrong_kind Other = SyntaxError
+wrong_kind Number = DataTypeError
+wrong_kind Base = DataTypeError
+wrong_kind Word = DataTypeError
+wrong_kind Expression = DataTypeError
+
+-- up to 1,000 V in magnitude
+abbrev within_volts : Result ℤ Code → Result ℤ Code
+within_volts (Err code) = Err code
+within_volts (Ok value) = if int_le (neg_ℤ (pos 1000000000)) value && int_le value (pos 1000000000) then Ok value else Err DataOutOfRange
+
+-- a voltage, in microvolts
+abbrev pub read_voltage : Kind → List ℕ → Result ℤ Code
+read_voltage Number text = within_volts (read_decimal power_of_volts InvalidSuffix text)
+read_voltage Base text = Err (wrong_kind Base)
+read_voltage Word text = Err (wrong_kind Word)
+read_voltage Expression text = Err (wrong_kind Expression)
+read_voltage Other text = Err (wrong_kind Other)
+
+abbrev within : ℕ → ℕ → Result ℤ Code → Result ℕ Code
+within low high (Err code) = Err code
+within low high (Ok (negsuc n)) = Err DataOutOfRange
+within low high (Ok (pos n)) = if nat_le low n && nat_le n high then Ok n else Err DataOutOfRange
+
+-- a whole number
+abbrev pub read_whole : ℕ → ℕ → Kind → List ℕ → Result ℕ Code
+read_whole low high Number text = within low high (read_decimal power_of_none SuffixNotAllowed text)
+read_whole low high Base text = within low high (read_based text)
+read_whole low high Word text = Err (wrong_kind Word)
+read_whole low high Expression text = Err (wrong_kind Expression)
+read_whole low high Other text = Err (wrong_kind Other)
+
+-- 0 is off, all others are on
+abbrev is_on : Result ℤ Code → Result Bool Code
+is_on (Err code) = Err code
+is_on (Ok (negsuc n)) = Ok true
+is_on (Ok (pos n)) = Ok (if n == 0 then false else true)
+
+-- a boolean
+abbrev pub read_boolean : Kind → List ℕ → Result Bool Code
+read_boolean Number text = is_on (read_decimal power_of_none SuffixNotAllowed text)
+read_boolean Base text = is_on (read_based text)
+read_boolean Word text = read_switch text
+read_boolean Expression text = Err (wrong_kind Expression)
+read_boolean Other text = Err (wrong_kind Other)
+
+-- a source of triggers
+abbrev pub read_source : Kind → List ℕ → Result Keyword Code
+read_source Word text = read_keyword text
+read_source Number text = Err (wrong_kind Number)
+read_source Base text = Err (wrong_kind Base)
+read_source Expression text = Err (wrong_kind Expression)
+read_source Other text = Err (wrong_kind Other)
+
+-- a channel list
+abbrev pub read_channels : Kind → List ℕ → Result (List ℕ) Code
+read_channels Expression text = read_list text
+read_channels Number text = Err (wrong_kind Number)
+read_channels Base text = Err (wrong_kind Base)
+read_channels Word text = Err (wrong_kind Word)
+read_channels Other text = Err (wrong_kind Other)

@@ -1,0 +1,68 @@
+//! Choices by name.
+
+ghost use Rattle.std.specs.Prelude.{◌≡◌, IsTrue};
+ghost use Rattle.std.specs.List.{list_all};
+ghost use Rattle.sv_lexer.specs.Spelled.{is_word_byte};
+ghost use Rattle.sv_value.specs.Choice.{is_same as is_same_text, read_keyword, read_switch};
+
+use sv_errors::Code;
+
+/// Where triggers come from, as a parameter names it.
+#[derive(Clone, Copy, Debug, PartialEq, Eq)]
+pub enum Keyword {
+    /// `IMMediate`.
+    Immediate,
+    /// `BUS`.
+    Bus,
+    /// `EXTernal`.
+    External,
+}
+
+/// The keyword that character data are.
+pub(crate) fn keyword_of(text: &[u8]) -> Result<Keyword, Code>
+    ensures { result ≡ read_keyword text.now }
+{
+    if !is_word(text) {
+        return Err(Code::InvalidCharacterData);
+    }
+    if is_same(text, b"IMM") || is_same(text, b"IMMEDIATE") {
+        return Ok(Keyword::Immediate);
+    }
+    if is_same(text, b"BUS") {
+        return Ok(Keyword::Bus);
+    }
+    if is_same(text, b"EXT") || is_same(text, b"EXTERNAL") {
+        return Ok(Keyword::External);
+    }
+    Err(Code::IllegalParameterValue)
+}
+
+/// Whether character data are ON or OFF.
+pub(crate) fn switch_of(text: &[u8]) -> Result<bool, Code>
+    ensures { result ≡ read_switch text.now }
+{
+    if !is_word(text) {
+        return Err(Code::InvalidCharacterData);
+    }
+    if is_same(text, b"ON") {
+        return Ok(true);
+    }
+    if is_same(text, b"OFF") {
+        return Ok(false);
+    }
+    Err(Code::IllegalParameterValue)
+}
+
+/// Whether two texts are the same in any case.
+pub(crate) fn is_same(text: &[u8], other: &[u8]) -> bool
+    ensures { result ≡ is_same_text text.now other.now }
+{
+    text.eq_ignore_ascii_case(other)
+}
+
+/// Whether all bytes are letters, digits or underscores.
+fn is_word(text: &[u8]) -> bool
+    ensures { result ≡ list_all is_word_byte text.now }
+{
+    text.iter().all(|byte| byte.is_ascii_alphanumeric() | (*byte == b'_'))
+}

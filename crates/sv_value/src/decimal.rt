@@ -1,0 +1,106 @@
+//! Decimal numbers in their parts.
+
+ghost use Rattle.std.specs.Prelude.{◌≡◌, [], List};
+ghost use Rattle.sv_value.specs.Decimal.{behind_exponent, behind_fraction, behind_mark as mark_behind, behind_sign, exponent_in, fraction_in, has_minus, begins_well as begins_well_text, is_spelled as is_spelled_number, parts as parts_of};
+ghost use Rattle.sv_value.specs.Plain.{plain};
+
+use crate::digits::digits;
+use sv_text::without_start;
+
+/// A decimal number in its parts.
+#[derive(Clone, Copy, Debug)]
+pub(crate) struct Decimal<'a> {
+    /// Whether a minus stands in front.
+    pub(crate) negative: bool,
+    /// The digits in front of the point.
+    pub(crate) whole: &'a [u8],
+    /// The digits behind the point.
+    pub(crate) fraction: &'a [u8],
+    /// Whether a minus stands in front of the exponent.
+    pub(crate) down: bool,
+    /// The digits of the exponent; none where there is no exponent.
+    pub(crate) exponent: &'a [u8],
+    /// What stands behind the number.
+    pub(crate) suffix: &'a [u8],
+}
+
+impl<'a> Decimal<'a> {
+    /// The parts of a text.
+    pub(crate) fn of(text: &'a [u8]) -> Decimal<'a>
+        ensures { plain result ≡ parts_of text.now }
+    {
+        let (negative, rest) = signed(text);
+        let (whole, rest) = digits(rest);
+        let (fraction, rest) = fraction(rest);
+        let (down, exponent, rest) = exponent(rest);
+        let suffix = without_start(rest);
+        Decimal { negative, whole, fraction, down, exponent, suffix }
+    }
+
+    /// Whether it is spelled as a number: it has a digit, and what stands behind begins with a letter.
+    pub(crate) fn is_spelled(&self) -> bool
+        ensures { result ≡ is_spelled_number (plain self.now) }
+    {
+        let none = self.whole.is_empty() & self.fraction.is_empty();
+        !none & begins_well(self.suffix)
+    }
+}
+
+/// Whether a letter begins a suffix, where there is one.
+fn begins_well(suffix: &[u8]) -> bool
+    ensures { result ≡ begins_well_text suffix.now }
+{
+    match suffix {
+        [first, ..] => first.is_ascii_alphabetic(),
+        [] => true,
+    }
+}
+
+/// Whether a minus stands in front, and what stands behind the sign.
+fn signed(text: &[u8]) -> (bool, &[u8])
+    ensures minus { result.0 ≡ has_minus text.now }
+    ensures behind { result.1.now ≡ behind_sign text.now }
+{
+    match text {
+        [b'-', behind @ ..] => (true, behind),
+        [b'+', behind @ ..] => (false, behind),
+        _ => (false, text),
+    }
+}
+
+/// The digits behind a point in front, and what stands behind them.
+fn fraction(text: &[u8]) -> (&[u8], &[u8])
+    ensures digits { result.0.now ≡ fraction_in text.now }
+    ensures behind { result.1.now ≡ behind_fraction text.now }
+{
+    match text {
+        [b'.', behind @ ..] => digits(behind),
+        _ => (&[], text),
+    }
+}
+
+/// Whether the exponent in front is negative, its digits, and what stands behind them; no digits where
+/// there is no exponent.
+fn exponent(text: &[u8]) -> (bool, &[u8], &[u8])
+    ensures minus { result.0 ≡ has_minus (mark_behind text.now) }
+    ensures digits { result.1.now ≡ exponent_in text.now }
+    ensures behind { result.2.now ≡ behind_exponent text.now }
+{
+    let (down, unsigned) = signed(behind_mark(text));
+    let (exponent, behind) = digits(unsigned);
+    if exponent.is_empty() {
+        (down, exponent, text)
+    } else {
+        (down, exponent, behind)
+    }
+}
+
+/// What stands behind an `E` and the white space around it; nothing where there is no `E`.
+fn behind_mark(text: &[u8]) -> &[u8]
+    ensures { result.now ≡ mark_behind text.now }
+{
+    match without_start(text) {
+        [b'E' | b'e', behind @ ..] => without_start(behind),
+        _ => &[],
+    }
+}

@@ -1,0 +1,99 @@
+//! The value of a decimal number, without numbers larger than a machine's: where it is past every range,
+//! it is [`MOST`].
+
+ghost use Rattle.std.specs.Prelude.{◌≡◌, ◌≤◌, ◌<◌, ◌*◌, ◌^◌, ◌+◌, ◌++◌, true, min, length, take, slice_index_or, nat_le, if◌then◌else◌};
+ghost use Rattle.std.specs.Char.{digit_value, is_ascii_digit};
+ghost use Rattle.std.specs.List.{list_all};
+ghost use Rattle.std.specs.Str.Parse.{digits_value};
+ghost use Rattle.sv_value.specs.Number.{left, magnitude as magnitude_of, nearest, right};
+ghost use Rattle.sv_value.specs.Plain.{plain};
+
+use crate::decimal::Decimal;
+use crate::digits::{MOST, value_after, value_of};
+
+/// A number without its sign, rounded to the nearest unit of which the power of ten make its own, half
+/// up; or [`MOST`] where it is more.
+pub(crate) fn magnitude(number: &Decimal<'_>, power: u64) -> u64
+    requires power { power ≤ 9 }
+    requires moved { digits_value 10 number.now.exponent.now ≤ 32000 }
+    requires whole { list_all is_ascii_digit number.now.whole.now ≡ true }
+    requires fraction { list_all is_ascii_digit number.now.fraction.now ≡ true }
+    ensures { result ≡ min (magnitude_of power (plain number.now)) 1000000000000000000 }
+{
+    let (right, left) = moved(number);
+    let up = power + right;
+    let down = number.fraction.len() as u64 + left;
+    if up >= down {
+        let value = value_after(10, value_after(10, 0, number.whole), number.fraction);
+        shifted(value, up - down)
+    } else {
+        rounded(number.whole, number.fraction, down - up)
+    }
+}
+
+/// How far the exponent moves the point to the right, and to the left.
+fn moved(number: &Decimal<'_>) -> (u64, u64)
+    requires { digits_value 10 number.now.exponent.now ≤ 32000 }
+    ensures right { result.0 ≡ right (plain number.now) }
+    ensures left { result.1 ≡ left (plain number.now) }
+    ensures few { (result.0 ≤ 32000) × (result.1 ≤ 32000) }
+{
+    let exponent = value_after(10, 0, number.exponent);
+    if number.down {
+        (0, exponent)
+    } else {
+        (exponent, 0)
+    }
+}
+
+/// A value times a power of ten, or [`MOST`] where it is more.
+fn shifted(value: u64, tens: u64) -> u64
+    requires { value ≤ 1000000000000000000 }
+    ensures { result ≡ min (value * 10 ^ tens) 1000000000000000000 }
+{
+    if value == 0 {
+        return 0;
+    }
+    if tens > 18 {
+        return MOST;
+    }
+    MOST.min(value.saturating_mul(10_u64.pow(tens as u32)))
+}
+
+/// The digits in front of the last so many, plus one where what is left out is half or more; or [`MOST`]
+/// where it is more.
+fn rounded(whole: &[u8], fraction: &[u8], left_out: u64) -> u64
+    requires some { 1 ≤ left_out }
+    requires whole { list_all is_ascii_digit whole.now ≡ true }
+    requires fraction { list_all is_ascii_digit fraction.now ≡ true }
+    ensures { result ≡ min (nearest (digits_value 10 (whole.now ++ fraction.now)) (10 ^ left_out)) 1000000000000000000 }
+{
+    let count = whole.len() as u64 + fraction.len() as u64;
+    if left_out > count {
+        return 0;
+    }
+    let (front, next) = front_of(whole, fraction, (count - left_out) as usize);
+    MOST.min(front + carry(next))
+}
+
+/// What the first digit that is left out adds to those in front of it: 1 from 5 on.
+fn carry(digit: u8) -> u64
+    ensures { result ≡ (if nat_le 5 digit then 1 else 0) }
+{
+    if digit >= 5 { 1 } else { 0 }
+}
+
+/// The value of the first so many digits, or [`MOST`] where it is more; and the digit behind them.
+fn front_of(whole: &[u8], fraction: &[u8], kept: usize) -> (u64, u8)
+    requires { kept < length whole.now + length fraction.now }
+    ensures front { result.0 ≡ min (digits_value 10 (take kept (whole.now ++ fraction.now))) 1000000000000000000 }
+    ensures next { result.1 ≡ digit_value (slice_index_or (whole.now ++ fraction.now) kept 0) }
+{
+    if kept < whole.len() {
+        (value_after(10, 0, &whole[..kept]), value_of(whole[kept]))
+    } else {
+        let behind = kept - whole.len();
+        let front = value_after(10, value_after(10, 0, whole), &fraction[..behind]);
+        (front, value_of(fraction[behind]))
+    }
+}
