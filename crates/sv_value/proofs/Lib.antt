@@ -1,2 +1,5 @@
 pub mod Capped
 pub mod Rounding
+pub mod Runs
+pub mod Spans
+pub mod Printed

@@ -34,7 +34,7 @@ pub record Span : Type 0 where
   pub first : ℕ
   pub last : ℕ
 
-abbrev span_of : List (List ℕ) → Option Span
+abbrev pub span_of : List (List ℕ) → Option Span
 span_of [] = None
 span_of (a ∷ []) = if is_number a then Some (record { first = number a; last = number a }) else None
 span_of (a ∷ b ∷ []) = if is_number a && is_number b then Some (record { first = number a; last = number b }) else None
@@ -52,7 +52,7 @@ run first last = if nat_le first last then range_with_len first (last - first + 
 
 -- the channels of an item behind others, and those of the items behind it; or what is wrong with it: an end that is no channel, then more than
 -- 32 channels so far. An item that is no span was refused before.
-abbrev next : Option Span → List ℕ → (List ℕ → Result (List ℕ) Code) → Result (List ℕ) Code
+abbrev pub next : Option Span → List ℕ → (List ℕ → Result (List ℕ) Code) → Result (List ℕ) Code
 next None before others = Err InvalidExpression
 next (Some ends) before others =
     if not (is_channel ends.first && is_channel ends.last) then Err DataOutOfRange

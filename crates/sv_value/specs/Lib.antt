@@ -1,8 +1,8 @@
 pub mod Decimal
-pub mod Plain
 pub mod Number
 pub mod Based
 pub mod Choice
 pub mod Channels
+pub mod Plain
 pub mod Value
 pub mod Written

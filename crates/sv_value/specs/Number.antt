@@ -32,8 +32,11 @@ value power number = signed number.negative (magnitude power number)
 abbrev pub zeros : List ℕ → ℕ
 zeros digits = position_or_len (λ b. not (b == 48)) digits
 
+abbrev pub significant_digits : List ℕ → ℕ
+significant_digits digits = length digits - zeros digits
+
 abbrev pub significant : Parts → ℕ
-significant number = length (number.whole ++ number.fraction) - zeros (number.whole ++ number.fraction)
+significant number = significant_digits (number.whole ++ number.fraction)
 
 -- a number in a unit that its suffix gives, or else what is wrong with it: the first of these
 abbrev pub read_with : Option ℕ → Code → Parts → Result ℤ Code

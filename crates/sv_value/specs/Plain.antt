@@ -1,6 +1,12 @@
 -- What the types of the code say, in those of the definitions.
+use Rattle.std.specs.Prelude.{◌≡◌, ℕ, ℤ, min, List, Option, Some, None, Result, Ok, if◌then◌else◌}
+use Rattle.sv_errors.specs.declared.code.Code.{Code}
+use Rattle.sv_value.specs.declared.amount.Amount.{Amount}
 use Rattle.sv_value.specs.declared.decimal.Decimal.{Decimal}
+use Rattle.sv_value.specs.declared.channels.Span.{Span}
+use Rattle.sv_value.specs.Channels.{Span as Ends, is_number, number}
 use Rattle.sv_value.specs.Decimal.{Parts}
+use Rattle.sv_value.specs.Number.{signed}
 
 abbrev pub plain : Decimal → Parts
 plain number = record {
@@ -11,3 +17,16 @@ plain number = record {
   exponent = number.exponent.now;
   suffix = number.suffix.now;
 }
+
+-- An amount stands for an answer that is a number: the same sign, and the same magnitude up to the bound.
+abbrev pub StandsFor : Amount → Result ℤ Code → Type 0
+StandsFor amount answer = (magnitude : ℕ) × (answer ≡ Ok (signed amount.negative magnitude)) × (amount.magnitude ≡ min magnitude 1000000000000000000)
+
+-- a number of a channel list, up to the bound
+abbrev pub number_up_to : List ℕ → Option ℕ
+number_up_to text = if is_number text then Some (min (number text) 1000000000000000000) else None
+
+-- the two ends of an item, up to the bound
+abbrev pub ends_up_to : Option Ends → Option Span
+ends_up_to None = None
+ends_up_to (Some ends) = Some (record { first = min ends.first 1000000000000000000; last = min ends.last 1000000000000000000 })

@@ -34,7 +34,7 @@ wrong_kind Word = DataTypeError
 wrong_kind Expression = DataTypeError
 
 -- up to 1,000 V in magnitude
-abbrev within_volts : Result ℤ Code → Result ℤ Code
+abbrev pub within_volts : Result ℤ Code → Result ℤ Code
 within_volts (Err code) = Err code
 within_volts (Ok value) = if int_le (neg_ℤ (pos 1000000000)) value && int_le value (pos 1000000000) then Ok value else Err DataOutOfRange
 
@@ -46,7 +46,7 @@ read_voltage Word text = Err (wrong_kind Word)
 read_voltage Expression text = Err (wrong_kind Expression)
 read_voltage Other text = Err (wrong_kind Other)
 
-abbrev within : ℕ → ℕ → Result ℤ Code → Result ℕ Code
+abbrev pub within : ℕ → ℕ → Result ℤ Code → Result ℕ Code
 within low high (Err code) = Err code
 within low high (Ok (negsuc n)) = Err DataOutOfRange
 within low high (Ok (pos n)) = if nat_le low n && nat_le n high then Ok n else Err DataOutOfRange
@@ -60,7 +60,7 @@ read_whole low high Expression text = Err (wrong_kind Expression)
 read_whole low high Other text = Err (wrong_kind Other)
 
 -- 0 is off, all others are on
-abbrev is_on : Result ℤ Code → Result Bool Code
+abbrev pub is_on : Result ℤ Code → Result Bool Code
 is_on (Err code) = Err code
 is_on (Ok (negsuc n)) = Ok true
 is_on (Ok (pos n)) = Ok (if n == 0 then false else true)

@@ -4,12 +4,12 @@ use Rattle.sv_lexer.specs.Token.{kind_of}
 use Rattle.sv_value.specs.Value.{read_voltage}
 
 -- a plus for 0 too
-abbrev sign : ℤ → ℕ
+abbrev pub sign : ℤ → ℕ
 sign (pos n) = 43
 sign (negsuc n) = 45
 
 -- six digits, with zeros in front
-abbrev six_digits : ℕ → List ℕ
+abbrev pub six_digits : ℕ → List ℕ
 six_digits n = replicate (6 - length (decimal n)) 48 ++ decimal n
 
 -- a voltage of so many microvolts: a sign, whole volts, a point, and six digits

@@ -1,6 +1,8 @@
 //! Decimal numbers in their parts.
 
-ghost use Rattle.std.specs.Prelude.{◌≡◌, [], List};
+ghost use Rattle.std.specs.Prelude.{◌≡◌, true};
+ghost use Rattle.std.specs.Char.{is_ascii_digit};
+ghost use Rattle.std.specs.List.{list_all};
 ghost use Rattle.sv_value.specs.Decimal.{behind_exponent, behind_fraction, behind_mark as mark_behind, behind_sign, exponent_in, fraction_in, has_minus, begins_well as begins_well_text, is_spelled as is_spelled_number, parts as parts_of};
 ghost use Rattle.sv_value.specs.Plain.{plain};
 
@@ -27,7 +29,9 @@ pub(crate) struct Decimal<'a> {
 impl<'a> Decimal<'a> {
     /// The parts of a text.
     pub(crate) fn of(text: &'a [u8]) -> Decimal<'a>
-        ensures { plain result ≡ parts_of text.now }
+        ensures parts { plain result ≡ parts_of text.now }
+        ensures whole { list_all is_ascii_digit result.whole.now ≡ true }
+        ensures fraction { list_all is_ascii_digit result.fraction.now ≡ true }
     {
         let (negative, rest) = signed(text);
         let (whole, rest) = digits(rest);
@@ -71,6 +75,7 @@ fn signed(text: &[u8]) -> (bool, &[u8])
 /// The digits behind a point in front, and what stands behind them.
 fn fraction(text: &[u8]) -> (&[u8], &[u8])
     ensures digits { result.0.now ≡ fraction_in text.now }
+    ensures all { list_all is_ascii_digit result.0.now ≡ true }
     ensures behind { result.1.now ≡ behind_fraction text.now }
 {
     match text {

@@ -1,7 +1,8 @@
 //! Runs of digits and their values.
 
-ghost use Rattle.std.specs.Prelude.{◌≡◌, ◌≤◌, min, not, length, position};
+ghost use Rattle.std.specs.Prelude.{◌≡◌, ◌≤◌, true, min, not, length, position};
 ghost use Rattle.std.specs.Char.{digit_value, is_ascii_digit};
+ghost use Rattle.std.specs.List.{list_all};
 ghost use Rattle.std.specs.Str.Parse.{digits_value_after};
 ghost use Rattle.sv_value.specs.Decimal.{behind_digits, digits_in, digits_size};
 
@@ -41,6 +42,7 @@ pub(crate) fn value_of(byte: u8) -> u8
 /// The digits in front, and what stands behind them.
 pub(crate) fn digits(text: &[u8]) -> (&[u8], &[u8])
     ensures digits { result.0.now ≡ digits_in text.now }
+    ensures all { list_all is_ascii_digit result.0.now ≡ true }
     ensures behind { result.1.now ≡ behind_digits text.now }
 {
     text.split_at(size_of(text))

@@ -4,9 +4,17 @@
 //! Nothing here takes memory, and nothing is a floating-point number.
 #![tactic(auto)]
 
+mod amount;
+mod based;
+mod channels;
 mod choice;
 mod decimal;
 mod digits;
 mod number;
+mod suffix;
+mod value;
+mod writing;
 
 pub use choice::Keyword;
+pub use value::{boolean, channel_list, keyword, microvolts, whole};
+pub use writing::write_microvolts;

@@ -1,0 +1,115 @@
+//! Numbers before it is known whether they are in range.
+
+ghost use Rattle.std.specs.Prelude.{◌≡◌, ◌≤◌, ◌++◌, ◌==◌, ℤ, not, true, length, position, Result, Ok, Err, MatchResult, IfSome};
+ghost use Rattle.std.specs.Char.{is_ascii_digit};
+ghost use Rattle.std.specs.List.{list_all};
+ghost use Rattle.sv_errors.specs.declared.code.Code.{Code as ErrorCode};
+ghost use Rattle.sv_value.specs.Number.{read_with, significant_digits, zeros};
+ghost use Rattle.sv_value.specs.Plain.{plain, StandsFor};
+ghost use Rattle.sv_value.specs.Value.{is_on, within, within_volts};
+
+use crate::decimal::Decimal;
+use crate::digits::value_after;
+use crate::number::magnitude;
+use sv_errors::Code;
+
+/// The most digits of a mantissa, without the zeros in front.
+const MOST_DIGITS: usize = 255;
+
+/// The largest magnitude of an exponent.
+const MOST_EXPONENT: u64 = 32_000;
+
+/// The largest magnitude of a voltage, in microvolts.
+const MOST_MICROVOLTS: u64 = 1_000_000_000;
+
+/// A whole number, counted to a bound that is past every range.
+#[derive(Clone, Copy, Debug)]
+pub(crate) struct Amount {
+    /// Whether a minus stands in front.
+    pub(crate) negative: bool,
+    /// The number without its sign, or [`crate::digits::MOST`].
+    pub(crate) magnitude: u64,
+}
+
+impl Amount {
+    /// The amount of a decimal number in the unit of its suffix, or what is wrong with it.
+    pub(crate) fn of(number: &Decimal<'_>, power: Option<u64>, suffix_code: Code) -> Result<Amount, Code>
+        requires power { IfSome power (λ p. p ≤ 9) }
+        requires whole { list_all is_ascii_digit number.now.whole.now ≡ true }
+        requires fraction { list_all is_ascii_digit number.now.fraction.now ≡ true }
+        ensures { MatchResult result (λ amount. StandsFor amount (read_with power suffix_code (plain number.now))) (λ code. read_with power suffix_code (plain number.now) ≡ Err code) }
+    {
+        if !number.is_spelled() {
+            return Err(Code::InvalidCharacterInNumber);
+        }
+        let Some(power) = power else {
+            return Err(suffix_code);
+        };
+        if significant(number.whole, number.fraction) > MOST_DIGITS {
+            return Err(Code::TooManyDigits);
+        }
+        if value_after(10, 0, number.exponent) > MOST_EXPONENT {
+            return Err(Code::ExponentTooLarge);
+        }
+        Ok(Amount {
+            negative: number.negative,
+            magnitude: magnitude(number, power),
+        })
+    }
+
+    /// The voltage, in microvolts, where it is within 1,000 V.
+    pub(crate) fn in_volts(self) -> Result<i64, Code>
+        ensures { (answer : Result ℤ ErrorCode) → StandsFor self answer → result ≡ within_volts answer }
+    {
+        if self.magnitude > MOST_MICROVOLTS {
+            return Err(Code::DataOutOfRange);
+        }
+        let value = self.magnitude as i64;
+        Ok(if self.negative { -value } else { value })
+    }
+
+    /// The number, where it is from the lowest to the highest.
+    pub(crate) fn in_range(self, low: u16, high: u16) -> Result<u16, Code>
+        ensures { (answer : Result ℤ ErrorCode) → StandsFor self answer → result ≡ within low high answer }
+    {
+        let below = self.negative && self.magnitude > 0 || self.magnitude < u64::from(low);
+        if below || self.magnitude > u64::from(high) {
+            return Err(Code::DataOutOfRange);
+        }
+        Ok(self.magnitude as u16)
+    }
+
+    /// Whether it isn't 0.
+    pub(crate) fn is_some(self) -> bool
+        ensures { (answer : Result ℤ ErrorCode) → StandsFor self answer → is_on answer ≡ Ok result }
+    {
+        self.magnitude != 0
+    }
+}
+
+/// How many digits a mantissa has, without the zeros in front.
+fn significant(whole: &[u8], fraction: &[u8]) -> usize
+    ensures { result ≡ significant_digits (whole.now ++ fraction.now) }
+{
+    let zeros = zeros_in(whole);
+    if zeros < whole.len() {
+        whole.len() - zeros + fraction.len()
+    } else {
+        fraction.len() - zeros_in(fraction)
+    }
+}
+
+/// How many zeros stand in front.
+fn zeros_in(digits: &[u8]) -> usize
+    ensures value { result ≡ zeros digits.now }
+    ensures within { result ≤ length digits.now }
+{
+    zeros_end(digits).unwrap_or(digits.len())
+}
+
+/// Where the first byte stands that is no zero.
+fn zeros_end(digits: &[u8]) -> Option<usize>
+    ensures { result ≡ position (λ b. not (b == 48)) digits.now }
+{
+    digits.iter().position(|byte| *byte != b'0')
+}

@@ -1,0 +1,72 @@
+//! Numbers in another base.
+
+ghost use Rattle.std.specs.Prelude.{◌≡◌, ◌≤◌, Some, Err, IfSome, MatchResult};
+ghost use Rattle.std.specs.Char.{is_digit};
+ghost use Rattle.std.specs.List.{list_all};
+ghost use Rattle.sv_value.specs.Based.{base_of as base_by, begins_with_digit, read_based, read_digits};
+ghost use Rattle.sv_value.specs.Plain.{StandsFor};
+
+use crate::amount::Amount;
+use crate::digits::{value_after, value_of};
+use sv_errors::Code;
+
+/// The number that a number sign, a letter for the base and digits are, or what is wrong with them.
+pub(crate) fn based(text: &[u8]) -> Result<Amount, Code>
+    ensures { MatchResult result (λ amount. StandsFor amount (read_based text.now)) (λ code. read_based text.now ≡ Err code) }
+{
+    let [_, letter, digits @ ..] = text else {
+        return Err(Code::SyntaxError);
+    };
+    match base_of(*letter) {
+        Some(base) => in_base(base, digits),
+        None => Err(Code::SyntaxError),
+    }
+}
+
+/// The base that a letter names.
+fn base_of(letter: u8) -> Option<u8>
+    ensures value { result ≡ base_by letter }
+    ensures few { IfSome result (λ base. (2 ≤ base) × (base ≤ 16)) }
+{
+    match letter {
+        b'H' | b'h' => Some(16),
+        b'Q' | b'q' => Some(8),
+        b'B' | b'b' => Some(2),
+        _ => None,
+    }
+}
+
+/// The number that digits are in a base, or what is wrong with them.
+fn in_base(base: u8, digits: &[u8]) -> Result<Amount, Code>
+    requires low { 2 ≤ base }
+    requires high { base ≤ 16 }
+    ensures { MatchResult result (λ amount. StandsFor amount (read_digits (Some base) digits.now)) (λ code. read_digits (Some base) digits.now ≡ Err code) }
+{
+    if !begins_well(base, digits) {
+        return Err(Code::SyntaxError);
+    }
+    if !are_digits(base, digits) {
+        return Err(Code::InvalidCharacterInNumber);
+    }
+    Ok(Amount {
+        negative: false,
+        magnitude: value_after(base, 0, digits),
+    })
+}
+
+/// Whether a digit of a base stands in front.
+fn begins_well(base: u8, digits: &[u8]) -> bool
+    ensures { result ≡ begins_with_digit base digits.now }
+{
+    match digits {
+        [first, ..] => value_of(*first) < base,
+        [] => false,
+    }
+}
+
+/// Whether all bytes are digits of a base.
+fn are_digits(base: u8, digits: &[u8]) -> bool
+    ensures { result ≡ list_all (λ b. is_digit b base) digits.now }
+{
+    digits.iter().all(|digit| value_of(*digit) < base)
+}

@@ -1,0 +1,30 @@
+//! Units of a number, by its suffix.
+
+ghost use Rattle.std.specs.Prelude.{◌≡◌};
+ghost use Rattle.sv_value.specs.Value.{power_of_none, power_of_volts};
+
+use crate::choice::is_same;
+
+/// How many powers of ten a unit of voltage is above the microvolt; none where the suffix names no such
+/// unit. No suffix is volts.
+pub(crate) fn volts(suffix: &[u8]) -> Option<u64>
+    ensures { result ≡ power_of_volts suffix.now }
+{
+    if suffix.is_empty() || is_same(suffix, b"V") {
+        return Some(6);
+    }
+    if is_same(suffix, b"KV") {
+        return Some(9);
+    }
+    if is_same(suffix, b"MV") {
+        return Some(3);
+    }
+    if is_same(suffix, b"UV") { Some(0) } else { None }
+}
+
+/// The power of a number without a unit; none where there is a suffix.
+pub(crate) fn none(suffix: &[u8]) -> Option<u64>
+    ensures { result ≡ power_of_none suffix.now }
+{
+    if suffix.is_empty() { Some(0) } else { None }
+}

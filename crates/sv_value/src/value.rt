@@ -1,0 +1,137 @@
+//! The values of parameters.
+
+ghost use Rattle.std.specs.Prelude.{◌≡◌, Ok, Err, MatchResult};
+ghost use Rattle.sv_value.specs.Number.{read_decimal};
+ghost use Rattle.sv_value.specs.Plain.{StandsFor};
+ghost use Rattle.sv_value.specs.Value.{power_of_none, read_boolean, read_channels, read_source, read_voltage, read_whole, wrong_kind};
+ghost use Rattle.sv_lexer.specs.declared.token.Kind.TheVariants.{Number};
+ghost use Rattle.sv_errors.specs.declared.code.Code.TheVariants.{SuffixNotAllowed};
+
+use crate::amount::Amount;
+use crate::based::based;
+use crate::channels::channels_of;
+use crate::choice::{Keyword, keyword_of, switch_of};
+use crate::decimal::Decimal;
+use crate::suffix;
+use arrayvec::ArrayVec;
+use sv_errors::Code;
+use sv_lexer::{Kind, Token};
+
+/// A voltage, in microvolts, up to 1,000 V in magnitude: a decimal number, and `V`, `KV`, `MV` (a
+/// thousandth of a volt) or `UV` behind it; volts where nothing is. It is rounded to the nearest
+/// microvolt, half away from zero.
+///
+/// # Errors
+/// [`Code::SyntaxError`] or [`Code::DataTypeError`] for other data; [`Code::InvalidCharacterInNumber`],
+/// [`Code::InvalidSuffix`], [`Code::TooManyDigits`], [`Code::ExponentTooLarge`], [`Code::DataOutOfRange`],
+/// the first of these.
+pub fn microvolts(token: &Token<'_>) -> Result<i64, Code>
+    ensures { result ≡ read_voltage token.now.kind token.now.text.now }
+{
+    match token.kind {
+        Kind::Number => voltage(token.text),
+        Kind::Base | Kind::Word | Kind::Expression | Kind::Other => Err(wrong(token.kind)),
+    }
+}
+
+/// A whole number from the lowest to the highest: a decimal number that is rounded to the nearest, half
+/// away from zero, or digits in another base.
+///
+/// # Errors
+/// [`Code::SyntaxError`] or [`Code::DataTypeError`] for other data; [`Code::InvalidCharacterInNumber`],
+/// [`Code::SuffixNotAllowed`], [`Code::TooManyDigits`], [`Code::ExponentTooLarge`],
+/// [`Code::DataOutOfRange`], the first of these; in another base [`Code::SyntaxError`] without a digit in
+/// front, [`Code::InvalidCharacterInNumber`], [`Code::DataOutOfRange`].
+pub fn whole(token: &Token<'_>, low: u16, high: u16) -> Result<u16, Code>
+    ensures { result ≡ read_whole low high token.now.kind token.now.text.now }
+{
+    let amount = match token.kind {
+        Kind::Number => unitless(token.text),
+        Kind::Base => based(token.text),
+        Kind::Word | Kind::Expression | Kind::Other => Err(wrong(token.kind)),
+    };
+    match amount {
+        Ok(amount) => amount.in_range(low, high),
+        Err(code) => Err(code),
+    }
+}
+
+/// A boolean: `ON` or `OFF` in any case, or a number of any size, rounded; 0 is off, all others are on.
+///
+/// # Errors
+/// Those of a number, without its range; [`Code::InvalidCharacterData`] and
+/// [`Code::IllegalParameterValue`] of character data; [`Code::SyntaxError`] or [`Code::DataTypeError`] for
+/// other data.
+pub fn boolean(token: &Token<'_>) -> Result<bool, Code>
+    ensures { result ≡ read_boolean token.now.kind token.now.text.now }
+{
+    let amount = match token.kind {
+        Kind::Number => unitless(token.text),
+        Kind::Base => based(token.text),
+        Kind::Word => return switch_of(token.text),
+        Kind::Expression | Kind::Other => Err(wrong(token.kind)),
+    };
+    match amount {
+        Ok(amount) => Ok(amount.is_some()),
+        Err(code) => Err(code),
+    }
+}
+
+/// Where triggers come from: `IMMediate`, `BUS` or `EXTernal`, in short or long form and in any case.
+///
+/// # Errors
+/// [`Code::InvalidCharacterData`] where a byte is no letter, digit or underscore;
+/// [`Code::IllegalParameterValue`] for another word; [`Code::SyntaxError`] or [`Code::DataTypeError`] for
+/// other data.
+pub fn keyword(token: &Token<'_>) -> Result<Keyword, Code>
+    ensures { result ≡ read_source token.now.kind token.now.text.now }
+{
+    match token.kind {
+        Kind::Word => keyword_of(token.text),
+        Kind::Number | Kind::Base | Kind::Expression | Kind::Other => Err(wrong(token.kind)),
+    }
+}
+
+/// A channel list, as `(@1,5:3)`: its channels in order, at most 32, each 1 to 32.
+///
+/// # Errors
+/// [`Code::InvalidExpression`] where it isn't spelled so, then, from the left,
+/// [`Code::DataOutOfRange`] where an end of an item is no channel and [`Code::TooMuchData`] where there
+/// are more than 32 channels so far; [`Code::SyntaxError`] or [`Code::DataTypeError`] for other data.
+pub fn channel_list(token: &Token<'_>) -> Result<ArrayVec<u8, 32>, Code>
+    ensures { MatchResult result (λ list. read_channels token.now.kind token.now.text.now ≡ Ok list.items) (λ code. read_channels token.now.kind token.now.text.now ≡ Err code) }
+{
+    match token.kind {
+        Kind::Expression => channels_of(token.text),
+        Kind::Number | Kind::Base | Kind::Word | Kind::Other => Err(wrong(token.kind)),
+    }
+}
+
+/// The voltage that a decimal number is.
+fn voltage(text: &[u8]) -> Result<i64, Code>
+    ensures { result ≡ read_voltage Number text.now }
+{
+    let number = Decimal::of(text);
+    match Amount::of(&number, suffix::volts(number.suffix), Code::InvalidSuffix) {
+        Ok(amount) => amount.in_volts(),
+        Err(code) => Err(code),
+    }
+}
+
+/// The number that a decimal number without a unit is.
+fn unitless(text: &[u8]) -> Result<Amount, Code>
+    ensures { MatchResult result (λ amount. StandsFor amount (read_decimal power_of_none SuffixNotAllowed text.now)) (λ code. read_decimal power_of_none SuffixNotAllowed text.now ≡ Err code) }
+{
+    let number = Decimal::of(text);
+    Amount::of(&number, suffix::none(number.suffix), Code::SuffixNotAllowed)
+}
+
+/// The error of data of a kind that isn't wanted.
+fn wrong(kind: Kind) -> Code
+    ensures { result ≡ wrong_kind kind }
+{
+    match kind {
+        Kind::Other => Code::SyntaxError,
+        Kind::Number | Kind::Base | Kind::Word | Kind::Expression => Code::DataTypeError,
+    }
+}
