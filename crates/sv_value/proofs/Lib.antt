@@ -3,3 +3,4 @@ pub mod Rounding
 pub mod Runs
 pub mod Spans
 pub mod Printed
+pub mod ReadAgain

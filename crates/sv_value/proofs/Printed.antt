@@ -46,7 +46,7 @@ pub all-behind : (old new volts six : List ℕ) (sign : ℕ) → length six ≡ 
 all-behind old new volts six sign size h =
     let whole : length (sign ∷ (volts ++ 46 ∷ six)) ≡ 1 + length volts + 1 + 6 = let inner = length-append volts (46 ∷ six) in omega (arith, inner, size) in
     let dropped : drop 6 (drop 1 (drop (length volts) (drop 1 old))) ≡ drop (length (sign ∷ (volts ++ 46 ∷ six))) old =
-      ap (λ xs. drop 6 (drop 1 xs)) (drop-drop (length volts) 1 old) ∙ ap (drop 6) (drop-drop 1 (1 + length volts) old) ∙ drop-drop 6 (1 + length volts + 1) old ∙ ap (λ n. drop n old) (sym whole) in
+    ap (λ xs. drop 6 (drop 1 xs)) (drop-drop (length volts) 1 old) ∙ ap (drop 6) (drop-drop 1 (1 + length volts) old) ∙ drop-drop 6 (1 + length volts + 1) old ∙ ap (λ n. drop n old) (sym whole) in
     h ∙ ap (λ r. (((sign ∷ []) ++ volts) ++ 46 ∷ []) ++ (six ++ r)) dropped ∙ simp append_assoc refl
 
 -- a text in front of what it leaves of another

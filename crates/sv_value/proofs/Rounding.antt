@@ -1,5 +1,5 @@
 -- Rounding by the digit behind those that are kept.
-use Rattle.std.proofs.Common.{◌≡◌, ℕ, zero, suc, ◌+◌, ◌-◌, ◌*◌, ◌/◌, ◌^◌, ◌<◌, ◌≤◌, ◌&&◌, Bool, true, false, List, [], ◌∷◌, ◌++◌, length, take, drop, slice_index_or, refl, sym, ap, ◌∙◌, inl, inr, arith}
+use Rattle.std.proofs.Common.{◌≡◌, ℕ, zero, suc, ◌+◌, ◌-◌, ◌*◌, ◌^◌, ◌<◌, ◌≤◌, ◌&&◌, Bool, true, false, List, [], ◌∷◌, ◌++◌, length, take, drop, slice_index_or, refl, sym, ap, ◌∙◌, arith}
 use Rattle.std.specs.Prelude.{nat_le, if◌then◌else◌}
 use Rattle.std.proofs.lemmas.Bool.Decides.{nat_tests}
 use Rattle.std.specs.Char.{digit_value, is_ascii_digit}
@@ -18,7 +18,7 @@ after-join b n [] ys = refl
 after-join b n (x ∷ xs) ys = after-join b (n * b + digit_value x) xs ys
 
 -- the digits behind a value move it
-after-moves : (n : ℕ) (ds : List ℕ) → digits_value_after 10 n ds ≡ n * 10 ^ length ds + digits_value 10 ds
+pub after-moves : (n : ℕ) (ds : List ℕ) → digits_value_after 10 n ds ≡ n * 10 ^ length ds + digits_value 10 ds
 after-moves n [] = omega arith
 after-moves n (d ∷ ds) =
     let a = after-moves (n * 10 + digit_value d) ds in
@@ -93,8 +93,10 @@ half kept digit behind p most lt = at (nat_le 5 digit) refl
   where
     spread : (kept * 10 + digit) * p ≡ 10 * (kept * p) + digit * p
     spread = omega arith
+
     high : digit * p ≤ 9 * p
     high = mul-le digit p 9 p most (omega arith)
+
     at : (t : Bool) → nat_le 5 digit ≡ t → nearest ((kept * 10 + digit) * p + behind) (10 * p) ≡ kept + (if t then 1 else 0)
     at true five =
         let low : 5 * p ≤ digit * p = mul-le 5 p digit p (leb-true 5 digit five) (omega arith) in
@@ -122,8 +124,8 @@ nearest-digits ds c kept h some size =
     let digits = both (is_ascii_digit digit) (list_all is_ascii_digit behind) parts.1 in
     let few : length behind ≡ c - 1 = length-drop (suc kept) ds ∙ omega (arith, some, size) in
     let value : digits_value 10 ds ≡ (digits_value 10 front * 10 + digit_value digit) * 10 ^ (c - 1) + digits_value 10 behind =
-      ap (digits_value 10) split ∙ value-join front (digit ∷ behind) ∙ after-moves (digits_value 10 front * 10 + digit_value digit) behind
-      ∙ ap (λ n. (digits_value 10 front * 10 + digit_value digit) * 10 ^ n + digits_value 10 behind) few in
+    ap (digits_value 10) split ∙ value-join front (digit ∷ behind) ∙ after-moves (digits_value 10 front * 10 + digit_value digit) behind
+    ∙ ap (λ n. (digits_value 10 front * 10 + digit_value digit) * 10 ^ n + digits_value 10 behind) few in
     let less : digits_value 10 behind < 10 ^ (c - 1) = rw (← few) (value-less behind digits.1) in
     let tens : 10 ^ c ≡ 10 * 10 ^ (c - 1) = ap (λ n. 10 ^ n) (let e : c ≡ suc (c - 1) = omega (arith, some) in e) ∙ pow-succ' 10 (c - 1) in
     ap (λ n. nearest n (10 ^ c)) value ∙ ap (nearest ((digits_value 10 front * 10 + digit_value digit) * 10 ^ (c - 1) + digits_value 10 behind)) tens

@@ -1,5 +1,5 @@
 -- Choices by name (IEEE 488.2, 7.7.1; SCPI-1999, volume 1, chapter 7).
-use Rattle.std.specs.Prelude.{◌==◌, ◌||◌, Bool, true, false, ℕ, List, codes, not, Result, Ok, Err, if◌then◌else◌}
+use Rattle.std.specs.Prelude.{◌||◌, Bool, true, false, ℕ, List, codes, not, Result, Ok, Err, if◌then◌else◌}
 use Rattle.std.specs.List.{list_all}
 use Rattle.std.specs.Str.{str_eq_ignore_ascii_case}
 use Rattle.sv_errors.specs.declared.code.Code.{Code}

@@ -1,5 +1,5 @@
 -- The value of a decimal number: a fraction of two whole numbers, rounded to the nearest, half away from zero.
-use Rattle.std.specs.Prelude.{ℕ, ◌+◌, ◌-◌, ◌*◌, ◌/◌, ◌^◌, ℤ, pos, neg_ℤ, ◌==◌, Bool, true, false, List, [], ◌∷◌, ◌++◌, length, nat_lt, not, Option, Some, None, Result, Ok, Err, if◌then◌else◌}
+use Rattle.std.specs.Prelude.{ℕ, ◌+◌, ◌-◌, ◌*◌, ◌/◌, ◌^◌, ℤ, pos, neg_ℤ, ◌==◌, Bool, true, false, List, ◌++◌, length, nat_lt, not, Option, Some, None, Result, Ok, Err, if◌then◌else◌}
 use Rattle.std.specs.List.{position_or_len}
 use Rattle.std.specs.Str.Parse.{digits_value}
 use Rattle.sv_errors.specs.declared.code.Code.{Code}

@@ -1,5 +1,5 @@
 -- What the value of a parameter is, by its kind, or which error it is.
-use Rattle.std.specs.Prelude.{ℕ, ℤ, pos, negsuc, neg_ℤ, int_le, nat_le, ◌&&◌, ◌==◌, Bool, true, false, List, [], ◌∷◌, codes, Option, Some, None, Result, Ok, Err, if◌then◌else◌}
+use Rattle.std.specs.Prelude.{ℕ, ℤ, pos, negsuc, neg_ℤ, int_le, nat_le, ◌&&◌, ◌==◌, Bool, true, false, List, codes, Option, Some, None, Result, Ok, Err, if◌then◌else◌}
 use Rattle.sv_errors.specs.declared.code.Code.{Code}
 use Rattle.sv_errors.specs.declared.code.Code.TheVariants.{SyntaxError, DataTypeError, InvalidSuffix, SuffixNotAllowed, DataOutOfRange}
 use Rattle.sv_lexer.specs.declared.token.Kind.{Kind}

@@ -1,5 +1,5 @@
 -- How voltages are printed.
-use Rattle.std.specs.Prelude.{◌≡◌, ℕ, ◌+◌, ◌-◌, ◌/◌, ◌%◌, ◌≤◌, ℤ, pos, negsuc, List, [], ◌∷◌, ◌++◌, length, replicate, decimal, unsigned_abs, Result, Ok}
+use Rattle.std.specs.Prelude.{◌≡◌, ℕ, ◌-◌, ◌/◌, ◌%◌, ◌≤◌, ℤ, pos, negsuc, List, ◌∷◌, ◌++◌, length, replicate, decimal, unsigned_abs, Ok}
 use Rattle.sv_lexer.specs.Token.{kind_of}
 use Rattle.sv_value.specs.Value.{read_voltage}
 

@@ -33,7 +33,11 @@ pub(crate) struct Amount {
 
 impl Amount {
     /// The amount of a decimal number in the unit of its suffix, or what is wrong with it.
-    pub(crate) fn of(number: &Decimal<'_>, power: Option<u64>, suffix_code: Code) -> Result<Amount, Code>
+    pub(crate) fn of(
+        number: &Decimal<'_>,
+        power: Option<u64>,
+        suffix_code: Code,
+    ) -> Result<Amount, Code>
         requires power { IfSome power (λ p. p ≤ 9) }
         requires whole { list_all is_ascii_digit number.now.whole.now ≡ true }
         requires fraction { list_all is_ascii_digit number.now.fraction.now ≡ true }

@@ -64,5 +64,6 @@ pub(crate) fn is_same(text: &[u8], other: &[u8]) -> bool
 fn is_word(text: &[u8]) -> bool
     ensures { result ≡ list_all is_word_byte text.now }
 {
-    text.iter().all(|byte| byte.is_ascii_alphanumeric() | (*byte == b'_'))
+    text.iter()
+        .all(|byte| byte.is_ascii_alphanumeric() | (*byte == b'_'))
 }

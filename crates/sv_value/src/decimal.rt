@@ -38,7 +38,14 @@ impl<'a> Decimal<'a> {
         let (fraction, rest) = fraction(rest);
         let (down, exponent, rest) = exponent(rest);
         let suffix = without_start(rest);
-        Decimal { negative, whole, fraction, down, exponent, suffix }
+        Decimal {
+            negative,
+            whole,
+            fraction,
+            down,
+            exponent,
+            suffix,
+        }
     }
 
     /// Whether it is spelled as a number: it has a digit, and what stands behind begins with a letter.

@@ -10,6 +10,7 @@ mod channels;
 mod choice;
 mod decimal;
 mod digits;
+pub mod laws;
 mod number;
 mod suffix;
 mod value;

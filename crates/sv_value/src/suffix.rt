@@ -19,7 +19,11 @@ pub(crate) fn volts(suffix: &[u8]) -> Option<u64>
     if is_same(suffix, b"MV") {
         return Some(3);
     }
-    if is_same(suffix, b"UV") { Some(0) } else { None }
+    if is_same(suffix, b"UV") {
+        Some(0)
+    } else {
+        None
+    }
 }
 
 /// The power of a number without a unit; none where there is a suffix.

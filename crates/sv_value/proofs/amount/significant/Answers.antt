@@ -1,7 +1,6 @@
-use Rattle.std.proofs.Common.{◌≡◌, ◌∙◌, ◌+◌, ◌++◌, not, ap, sym, length, arith}
+use Rattle.std.proofs.Common.{not, arith}
 use Rattle.std.specs.Prelude.{◌==◌}
 use Rattle.std.proofs.lemmas.List.{length-append}
-use Rattle.sv_value.specs.Number.{zeros, significant_digits}
 use Rattle.sv_value.proofs.Runs.{first-in, first-behind}
 use Rattle.sv_value.proofs.amount.significant.Goals as goal
 

@@ -1,4 +1,4 @@
-use Rattle.std.proofs.Common.{◌≡◌, ◌∙◌, ap, sym, arith}
+use Rattle.std.proofs.Common.{◌∙◌, sym, arith}
 use Rattle.sv_value.proofs.Spans.{add-full, add-done}
 use Rattle.sv_value.proofs.channels.add.Goals as goal
 

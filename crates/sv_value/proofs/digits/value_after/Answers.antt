@@ -1,4 +1,4 @@
-use Rattle.std.proofs.Common.{◌≡◌, ◌∙◌, ◌+◌, ◌*◌, ap, min, arith}
+use Rattle.std.proofs.Common.{◌∙◌, ◌+◌, ◌*◌, ap, min, arith}
 use Rattle.sv_value.proofs.Capped.{cap_digit}
 use Rattle.sv_value.proofs.digits.value_after.Goals as goal
 

@@ -1,4 +1,4 @@
-use Rattle.std.proofs.Common.{◌∙◌, ◌-◌, ◌++◌, ap, sym, min, take, length}
+use Rattle.std.proofs.Common.{◌∙◌, ◌-◌, ap, sym, min, take, length}
 use Rattle.std.specs.Str.Parse.{digits_value, digits_value_after}
 use Rattle.sv_value.proofs.Capped.{cap_join, take-join}
 use Rattle.sv_value.proofs.number.front_of.Goals as goal

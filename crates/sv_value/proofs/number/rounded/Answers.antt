@@ -1,4 +1,4 @@
-use Rattle.std.proofs.Common.{◌≡◌, ◌∙◌, ◌+◌, ◌-◌, ◌++◌, ◌&&◌, List, ℕ, ap, sym, true, refl, min, length, arith}
+use Rattle.std.proofs.Common.{◌≡◌, ◌∙◌, ◌+◌, ◌-◌, ◌++◌, List, ℕ, ap, true, refl, length, arith}
 use Rattle.std.specs.Char.{is_ascii_digit}
 use Rattle.std.specs.List.{list_all}
 use Rattle.std.specs.Prelude.{nat_le, if◌then◌else◌}
@@ -22,6 +22,6 @@ returns c =
     let all = digits c.args.whole.now c.args.fraction.now c.requires.whole c.requires.fraction in
     let size = length-append c.args.whole.now c.args.fraction.now in
     let round = nearest-digits (c.args.whole.now ++ c.args.fraction.now) c.args.left_out (length c.args.whole.now + length c.args.fraction.now - c.args.left_out) all c.requires.some
-      (omega (arith, size, c.if-left_out-count.false)) in
+    (omega (arith, size, c.if-left_out-count.false)) in
     let up = c.carry.ensures ∙ ap (λ (d : ℕ). if nat_le 5 d then 1 else 0) c.front_of-front.ensures.next in
     rw round (cap_round 1000000000000000000 _ _ c.front_of-front.result.0 c.carry.result c.min.result c.front_of-front.ensures.front up c.min.ensures)

@@ -1,4 +1,4 @@
-use Rattle.std.proofs.Common.{◌≡◌, ◌≤◌, ℕ, zero, suc, arith}
+use Rattle.std.proofs.Common.{◌≡◌, ◌≤◌, ℕ, arith}
 use Rattle.sv_value.proofs.Capped.{past}
 use Rattle.sv_value.proofs.number.shifted.Goals as goal
 

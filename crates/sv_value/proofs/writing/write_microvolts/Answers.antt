@@ -1,4 +1,4 @@
-use Rattle.std.proofs.Common.{◌≡◌, ◌∙◌, ◌+◌, ◌/◌, ◌%◌, ◌<◌, ◌++◌, [], ◌∷◌, List, ℕ, refl, ap, sym, length, take, drop, arith, w64}
+use Rattle.std.proofs.Common.{◌≡◌, ◌∙◌, ◌+◌, ◌/◌, ◌%◌, ◌<◌, ◌++◌, [], ◌∷◌, List, ℕ, refl, ap, sym, length, drop, arith, w64}
 use Rattle.std.proofs.lemmas.Int.{to_z-of_z}
 use Rattle.std.specs.Prelude.{decimal, unsigned_abs}
 use Rattle.std.proofs.lemmas.List.{append_assoc, length-append}
@@ -27,7 +27,7 @@ returns-clause-text c =
     let three = c.put-size-3.ensures.text ((c.sign_of.result ∷ []) ++ volts) (drop (length volts) (drop 1 old)) (omega (arith, c.put-size.ensures.place, c.put-size-2.ensures.place)) two in
     let point : length (((c.sign_of.result ∷ []) ++ volts) ++ 46 ∷ []) ≡ length volts + 2 = length-append ((c.sign_of.result ∷ []) ++ volts) (46 ∷ []) ∙ omega arith in
     let four = c.put_six.ensures.text (((c.sign_of.result ∷ []) ++ volts) ++ 46 ∷ []) (drop 1 (drop (length volts) (drop 1 old)))
-      (omega (arith, point, c.put-size.ensures.place, c.put-size-2.ensures.place, c.put-size-3.ensures.place)) (three ∙ simp append_assoc refl) in
+    (omega (arith, point, c.put-size.ensures.place, c.put-size-2.ensures.place, c.put-size-3.ensures.place)) (three ∙ simp append_assoc refl) in
     all-behind old c.put_six.new.out volts (six_digits (c.unsigned_abs-magnitude.result % 1000000)) c.sign_of.result (length-six (c.unsigned_abs-magnitude.result % 1000000) (below c.unsigned_abs-magnitude.result)) four
     ∙ voltage-same old volts (decimal (unsigned_abs c.args.value / 1000000)) c.sign_of.result (sign c.args.value) (c.unsigned_abs-magnitude.result % 1000000) (unsigned_abs c.args.value % 1000000)
-      (c.sign_of.ensures ∙ ap sign same) (c.as_bytes.ensures.value ∙ c.format.ensures.text ∙ ap (λ n. decimal (n / 1000000)) absolute) (ap (λ n. n % 1000000) absolute)
+    (c.sign_of.ensures ∙ ap sign same) (c.as_bytes.ensures.value ∙ c.format.ensures.text ∙ ap (λ n. decimal (n / 1000000)) absolute) (ap (λ n. n % 1000000) absolute)

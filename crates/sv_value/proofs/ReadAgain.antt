@@ -1,0 +1,153 @@
+-- What is printed of a voltage is read as that voltage.
+use Rattle.std.proofs.Common.{◌≡◌, ℕ, zero, suc, ◌+◌, ◌-◌, ◌*◌, ◌/◌, ◌%◌, ◌^◌, ◌<◌, ◌≤◌, ◌&&◌, Bool, true, false, not, cond, List, [], ◌∷◌, ◌++◌, length, take, drop, refl, ap, ◌∙◌, pos, negsuc, Some, arith}
+use Rattle.std.specs.Prelude.{decimal, replicate, Ok}
+use Rattle.std.specs.Char.{is_ascii_digit, digit_value}
+use Rattle.std.specs.List.{list_all}
+use Rattle.std.specs.Str.Parse.{digits_value, digits_value_after, AllDigits}
+use Rattle.std.proofs.lemmas.Bool.{le-ltb, le-leb}
+use Rattle.std.proofs.lemmas.Bool.Decides.{nat_tests}
+use Rattle.std.proofs.lemmas.List.{length-append}
+use Rattle.std.proofs.lemmas.List.Folds.{list_all-append}
+use Rattle.std.proofs.lemmas.Fmt.{decimal_is_IsNumeral}
+use Rattle.std.proofs.Math.Seq.{take-append_seam}
+use Rattle.sv_text.specs.White.{trim_start}
+use Rattle.sv_errors.specs.declared.code.Code.TheVariants.{InvalidSuffix}
+use Rattle.sv_value.specs.Decimal.{Parts, digits_size, digits_in, behind_digits, is_nothing, fraction_in, behind_fraction, has_minus, behind_mark, exponent_in, behind_exponent}
+use Rattle.sv_value.specs.Number.{magnitude, nearest, significant, signed, read_with}
+use Rattle.sv_value.specs.Value.{power_of_volts, within_volts}
+use Rattle.sv_value.specs.Written.{PrintedIsRead, six_digits}
+use Rattle.sv_value.proofs.Rounding.{value-join, after-moves, nearest-right}
+use Rattle.sv_value.proofs.Printed.{length-six, volts_short}
+
+-- digits up to a byte that is none, and up to the end
+size-to : (digits behind : List ℕ) → list_all is_ascii_digit digits ≡ true → digits_size (digits ++ 46 ∷ behind) ≡ length digits
+size-to [] behind h = refl
+size-to (d ∷ digits) behind h = at (is_ascii_digit d) h (size-to digits behind)
+  where
+    at : (t : Bool) → (t && list_all is_ascii_digit digits) ≡ true → (list_all is_ascii_digit digits ≡ true → digits_size (digits ++ 46 ∷ behind) ≡ length digits)
+        → cond (not (not t)) (1 + digits_size (digits ++ 46 ∷ behind)) 0 ≡ suc (length digits)
+    at true h ih = let e = ih h in omega (arith, e)
+    at false h ih = absurd cc
+
+size-all : (digits : List ℕ) → list_all is_ascii_digit digits ≡ true → digits_size digits ≡ length digits
+size-all [] h = refl
+size-all (d ∷ digits) h = at (is_ascii_digit d) h (size-all digits)
+  where
+    at : (t : Bool) → (t && list_all is_ascii_digit digits) ≡ true → (list_all is_ascii_digit digits ≡ true → digits_size digits ≡ length digits)
+        → cond (not (not t)) (1 + digits_size digits) 0 ≡ suc (length digits)
+    at true h ih = let e = ih h in omega (arith, e)
+    at false h ih = absurd cc
+
+drop-seam : (front behind : List ℕ) → drop (length front) (front ++ behind) ≡ behind
+drop-seam [] behind = refl
+drop-seam (b ∷ front) behind = drop-seam front behind
+
+take-whole : (bytes : List ℕ) → take (length bytes) bytes ≡ bytes
+take-whole [] = refl
+take-whole (b ∷ bytes) = ap (λ bs. b ∷ bs) (take-whole bytes)
+
+drop-whole : (bytes : List ℕ) → drop (length bytes) bytes ≡ []
+drop-whole [] = refl
+drop-whole (b ∷ bytes) = drop-whole bytes
+
+-- decimal digits
+is-digit : (b : ℕ) → digit_value b < 10 → is_ascii_digit b ≡ true
+is-digit b lt = grind (arith, nat_tests, lt)
+
+all-digits : (ds : List ℕ) → AllDigits 10 ds → list_all is_ascii_digit ds ≡ true
+all-digits [] h = refl
+all-digits (d ∷ ds) h = rw (is-digit d h.0) (all-digits ds h.1)
+
+decimal-digits : (n : ℕ) → n < 2 ^ 64 → list_all is_ascii_digit (decimal n) ≡ true
+decimal-digits n lt = all-digits (decimal n) (decimal_is_IsNumeral n lt).0.1
+
+zeros-digits : (k : ℕ) → list_all is_ascii_digit (replicate k 48) ≡ true
+zeros-digits zero = refl
+zeros-digits (suc k) = zeros-digits k
+
+six-digits : (n : ℕ) → n < 1000000 → list_all is_ascii_digit (six_digits n) ≡ true
+six-digits n lt =
+    let zeros = zeros-digits (6 - length (decimal n)) in
+    let digits = decimal-digits n (omega (arith, lt)) in
+    list_all-append is_ascii_digit (replicate (6 - length (decimal n)) 48) (decimal n) ∙ rw (zeros, digits) refl
+
+-- zeros in front are worth nothing
+zeros-value : (k : ℕ) → digits_value 10 (replicate k 48) ≡ 0
+zeros-value zero = refl
+zeros-value (suc k) = zeros-value k
+
+six-value : (n : ℕ) → n < 1000000 → digits_value 10 (six_digits n) ≡ n
+six-value n lt =
+    value-join (replicate (6 - length (decimal n)) 48) (decimal n)
+    ∙ ap (λ v. digits_value_after 10 v (decimal n)) (zeros-value (6 - length (decimal n)))
+    ∙ (decimal_is_IsNumeral n (omega (arith, lt))).1
+
+-- the digits of a voltage
+whole-value : (m : ℕ) → m ≤ 1000000000 → digits_value 10 (decimal (m / 1000000) ++ six_digits (m % 1000000)) ≡ m
+whole-value m le =
+    let front = (decimal_is_IsNumeral (m / 1000000) (omega (arith, le))).1 in
+    let behind = six-value (m % 1000000) (omega arith) in
+    let size = length-six (m % 1000000) (omega arith) in
+    value-join (decimal (m / 1000000)) (six_digits (m % 1000000))
+    ∙ after-moves (digits_value 10 (decimal (m / 1000000))) (six_digits (m % 1000000))
+    ∙ rw (front, behind, size) (omega arith)
+
+-- the parts of digits, a point and digits behind a sign
+abbrev parts-of : Bool → List ℕ → List ℕ → List ℕ → Parts
+parts-of negative whole fraction rest = record {
+  negative = negative;
+  whole = whole;
+  fraction = fraction;
+  down = has_minus (behind_mark rest);
+  exponent = exponent_in rest;
+  suffix = trim_start (behind_exponent rest);
+}
+
+-- are these
+parts-printed : (negative : Bool) (whole fraction : List ℕ) → list_all is_ascii_digit whole ≡ true → list_all is_ascii_digit fraction ≡ true
+    → parts-of negative (digits_in (whole ++ 46 ∷ fraction)) (fraction_in (behind_digits (whole ++ 46 ∷ fraction))) (behind_fraction (behind_digits (whole ++ 46 ∷ fraction))) ≡ parts-of negative whole fraction []
+parts-printed negative whole fraction w f =
+    let text : List ℕ = whole ++ 46 ∷ fraction in
+    let front : digits_in text ≡ whole = ap (λ n. take n text) (size-to whole fraction w) ∙ take-append_seam whole (46 ∷ fraction) in
+    let behind : behind_digits text ≡ 46 ∷ fraction = ap (λ n. drop n text) (size-to whole fraction w) ∙ drop-seam whole (46 ∷ fraction) in
+    let all : digits_in fraction ≡ fraction = ap (λ n. take n fraction) (size-all fraction f) ∙ take-whole fraction in
+    let none : behind_digits fraction ≡ [] = ap (λ n. drop n fraction) (size-all fraction f) ∙ drop-whole fraction in
+    ap (λ d. parts-of negative d (fraction_in (behind_digits text)) (behind_fraction (behind_digits text))) front
+    ∙ ap (λ b. parts-of negative whole (fraction_in b) (behind_fraction b)) behind
+    ∙ ap (λ d. parts-of negative whole d (behind_digits fraction)) all
+    ∙ ap (parts-of negative whole fraction) none
+
+-- something is there
+some-there : (digits : List ℕ) → 0 < length digits → is_nothing digits ≡ false
+some-there [] lt = absurd (omega (arith, lt))
+some-there (d ∷ digits) lt = refl
+
+-- a voltage's parts are read as it
+read-parts : (negative : Bool) (m : ℕ) → m ≤ 1000000000
+    → read_with (Some 6) InvalidSuffix (parts-of negative (decimal (m / 1000000)) (six_digits (m % 1000000)) []) ≡ Ok (signed negative m)
+read-parts negative m le =
+    let whole : List ℕ = decimal (m / 1000000) in
+    let fraction : List ℕ = six_digits (m % 1000000) in
+    let some = some-there whole (decimal_is_IsNumeral (m / 1000000) (omega (arith, le))).0.0 in
+    let short = volts_short m le in
+    let six = length-six (m % 1000000) (omega arith) in
+    let joined = length-append whole fraction in
+    let few : significant (parts-of negative whole fraction []) ≤ 255 = omega (arith, short, six, joined) in
+    let even : length fraction + 0 ≡ 6 = omega (arith, six) in
+    let value : magnitude 6 (parts-of negative whole fraction []) ≡ m =
+    ap (λ k. nearest (digits_value 10 (whole ++ fraction) * 10 ^ 6) (10 ^ k)) even ∙ nearest-right (digits_value 10 (whole ++ fraction)) 6 6 (omega arith) ∙ (let v = whole-value m le in omega (arith, v)) in
+    rw (some, le-ltb 255 (significant (parts-of negative whole fraction [])) few, value) refl
+
+pub read-again : PrintedIsRead
+read-again (pos n) le =
+    let whole = decimal-digits (n / 1000000) (omega (arith, le)) in
+    let fraction = six-digits (n % 1000000) (omega arith) in
+    ap (λ p. within_volts (read_with (power_of_volts p.suffix) InvalidSuffix p)) (parts-printed false (decimal (n / 1000000)) (six_digits (n % 1000000)) whole fraction)
+    ∙ ap within_volts (read-parts false n le)
+    ∙ rw (le-leb n 1000000000 le) refl
+read-again (negsuc n) le =
+    let whole = decimal-digits (suc n / 1000000) (omega (arith, le)) in
+    let fraction = six-digits (suc n % 1000000) (omega arith) in
+    ap (λ p. within_volts (read_with (power_of_volts p.suffix) InvalidSuffix p)) (parts-printed true (decimal (suc n / 1000000)) (six_digits (suc n % 1000000)) whole fraction)
+    ∙ ap within_volts (read-parts true (suc n) le)
+    ∙ rw (le-leb n 999999999 (omega (arith, le))) refl
