@@ -1,5 +1,5 @@
-//! Tests of the fields, the records, the calls, the errors, the status and the server, by examples that were worked out
-//! from the standards, and of what a refusal of memory leaves. The library itself is empty.
+//! Tests of the fields, the records, the calls, the errors, the status, the units and the server, by examples that were
+//! worked out from the standards, and of what a refusal of memory leaves. The library itself is empty.
 #![tactic(auto)]
 
 #[cfg(test)]
@@ -24,5 +24,7 @@ mod records;
 mod same;
 #[cfg(test)]
 mod status;
+#[cfg(test)]
+mod units;
 #[cfg(test)]
 mod words;
