@@ -1,0 +1,76 @@
+-- What fits the table is small: it has few mnemonics, and none is long.
+use Rattle.std.proofs.Common.{◌≡◌, ℕ, zero, suc, ◌<◌, ◌≤◌, ◌&&◌, Bool, true, false, List, [], ◌∷◌, ◌++◌, length, refl, sym, ap, ◌∙◌, inl, inr, slice_index_or, arith, leb-true}
+use Rattle.std.specs.Prelude.{nat_le, map}
+use Rattle.std.specs.List.{list_all, Contains}
+use Rattle.std.specs.Char.{to_ascii_lowercase}
+use Rattle.std.proofs.lemmas.List.{length-map}
+use Rattle.sv_header.specs.declared.command.CommandId.{CommandId}
+use Rattle.sv_header.specs.Pattern.{Part, Row, Same, IsForm, Fits}
+use Rattle.sv_header.specs.Plain.{is_short}
+use Rattle.sv_header.specs.Table.{table}
+use Rattle.sv_header.specs.Resolve.{Resolves, full, but_last}
+
+-- forms of at most 12 characters
+abbrev is_small : Part → Bool
+is_small part = nat_le (length part.short) 12 && nat_le (length part.long) 12
+
+-- at most five of them
+abbrev is_small_row : Row → Bool
+is_small_row row = nat_le (length row.parts) 5 && list_all is_small row.parts
+
+-- both
+both : (a b : Bool) → (a && b) ≡ true → (a ≡ true) × (b ≡ true)
+both true true h = (refl, refl)
+both true false h = absurd cc
+both false b h = absurd cc
+
+-- a mnemonic that has as many characters as one of at most 12
+short-same : (sent form : List ℕ) → nat_le (length form) 12 ≡ true → Same sent form → is_short sent ≡ true
+short-same sent form h same =
+    let e : length sent ≡ length form = sym (length-map sent _) ∙ ap length same ∙ length-map form _ in
+    rw e h
+
+form-short : (sent : List ℕ) (part : Part) → is_small part ≡ true → IsForm sent part → is_short sent ≡ true
+form-short sent part s (inl h) = short-same sent part.short (both _ _ s).0 h
+form-short sent part s (inr h) = short-same sent part.long (both _ _ s).1 h
+
+at_most : (n m : ℕ) → nat_le n m ≡ true → n ≤ m
+at_most n m h = leb-true n m h
+
+-- what fits has no more mnemonics than nodes, and none of more than 12 characters
+pub fits-small : (sent : List (List ℕ)) (parts : List Part) → list_all is_small parts ≡ true → Fits sent parts → (length sent ≤ length parts) × (list_all is_short sent ≡ true)
+fits-small sent [] s e = rw e (omega arith, refl)
+fits-small [] (part ∷ parts) s (inl f) = absurd f
+fits-small (mnemonic ∷ others) (part ∷ parts) s (inl f) =
+    let b = both _ _ s in
+    let rest = fits-small others parts b.1 f.1 in
+    (omega (arith, rest.0), rw (form-short mnemonic part b.0 f.0) rest.1)
+fits-small sent (part ∷ parts) s (inr f) =
+    let b = both _ _ s in
+    let rest = fits-small sent parts b.1 f.1 in
+    (omega (arith, rest.0), rest.1)
+
+-- each row of a table that passes a test passes it
+passes : (test : Row → Bool) (rows : List Row) (k : ℕ) (row : Row) → list_all test rows ≡ true → k < length rows → slice_index_or rows k row ≡ row → test row ≡ true
+passes test [] k row all lt e = absurd (omega arith)
+passes test (r ∷ rows) zero row all lt e = ap test (sym e) ∙ (both _ _ all).0
+passes test (r ∷ rows) (suc k) row all lt e = passes test rows k row (both _ _ all).1 (omega arith) e
+
+table-small : list_all is_small_row table ≡ true
+table-small = refl
+
+-- what names a command is small
+pub resolves-small : (path : List (List ℕ)) (header : List ℕ) (command : CommandId) → Resolves path header command
+    → (length (full path header) ≤ 5) × (list_all is_short (full path header) ≡ true)
+resolves-small path header command h =
+    let row = h.0 in
+    let b = both _ _ (passes is_small_row table h.1.0 row table-small h.1.1 h.1.2) in
+    let f = fits-small (full path header) row.parts b.1 h.3.2 in
+    let l = at_most _ _ b.0 in
+    (omega (arith, l, f.0), f.1)
+
+-- a list without its last
+pub but_last-push : (path : List (List ℕ)) (last : List ℕ) → but_last (path ++ last ∷ []) ≡ path
+but_last-push [] last = refl
+but_last-push (part ∷ []) last = refl
+but_last-push (part ∷ other ∷ others) last = ap (λ ps. part ∷ ps) (but_last-push (other ∷ others) last)

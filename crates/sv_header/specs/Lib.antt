@@ -1,0 +1,4 @@
+pub mod Pattern
+pub mod Table
+pub mod Plain
+pub mod Resolve

@@ -1,0 +1,62 @@
+-- Patterns of headers (SCPI-1999, volume 1, chapter 6).
+use Rattle.std.specs.Prelude.{◌≡◌, ◌⊎◌, ℕ, Bool, true, false, List, [], ◌∷◌, ◌++◌, map, codes}
+use Prim.Native.String.{String}
+use Rattle.std.specs.Char.{to_ascii_lowercase}
+use Rattle.sv_header.specs.declared.command.CommandId.{CommandId}
+use Rattle.sv_header.specs.declared.pattern.Form.{Form}
+use Rattle.sv_header.specs.declared.pattern.Form.TheVariants.{CommonCommand, CommonQuery, Command, Query}
+
+-- a node of a pattern: the short and the long form of its mnemonic, and whether it may be absent
+pub record Part : Type 0 where
+  pub short : List ℕ
+  pub long : List ℕ
+  pub optional : Bool
+
+-- a row of the table: a command and its pattern
+pub record Row : Type 0 where
+  pub form : Form
+  pub parts : List Part
+  pub command : CommandId
+
+-- a node that is always there: its short form, and what the long form has behind it
+abbrev pub node : String → String → Part
+node short more = record { short = codes short; long = codes short ++ codes more; optional = false }
+
+-- one that may be absent
+abbrev pub maybe : String → String → Part
+maybe short more = record { short = codes short; long = codes short ++ codes more; optional = true }
+
+abbrev pub row : Form → List Part → CommandId → Row
+row form parts command = record { form = form; parts = parts; command = command }
+
+-- The same letters, in any case.
+abbrev pub Same : List ℕ → List ℕ → Type 0
+Same sent form = map to_ascii_lowercase sent ≡ map to_ascii_lowercase form
+
+-- A mnemonic is the short or the long form of a node, in any case, and nothing between.
+abbrev pub IsForm : List ℕ → Part → Type 0
+IsForm sent part = Same sent part.short ⊎ Same sent part.long
+
+-- The first mnemonic is a node's, and the others are so.
+abbrev IsThere : List (List ℕ) → Part → (List (List ℕ) → Type 0) → Type 0
+IsThere [] part Others = ⊥
+IsThere (sent ∷ others) part Others = IsForm sent part × Others others
+
+-- Mnemonics fit nodes: each node is there, or absent where it may be.
+abbrev pub Fits : List (List ℕ) → List Part → Type 0
+Fits sent [] = sent ≡ []
+Fits sent (part ∷ parts) = IsThere sent part (λ others. Fits others parts) ⊎ ((part.optional ≡ true) × Fits sent parts)
+
+-- whether a form is that of common commands
+abbrev pub is_common : Form → Bool
+is_common CommonCommand = true
+is_common CommonQuery = true
+is_common Command = false
+is_common Query = false
+
+-- whether it has the query sign
+abbrev pub has_sign : Form → Bool
+has_sign CommonCommand = false
+has_sign CommonQuery = true
+has_sign Command = false
+has_sign Query = true

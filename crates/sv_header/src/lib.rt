@@ -1,0 +1,14 @@
+//! Headers of commands: which command one names, and what it leaves for the next (SCPI-1999, volume 1,
+//! chapter 6).
+//!
+//! [`Table::new`] takes the memory of the table; no other call takes any.
+#![tactic(auto)]
+
+mod command;
+mod left;
+mod path;
+mod pattern;
+
+pub use command::CommandId;
+pub use path::Path;
+pub use pattern::{Form, Node, Pattern};

@@ -1,0 +1,116 @@
+//! The path that a header leaves for the next one.
+
+ghost use Rattle.std.specs.Prelude.{◌≡◌, ◌≤◌, ◌+◌, [], ◌++◌, true, length};
+ghost use Rattle.sv_header.specs.declared.command.CommandId.{CommandId as Command};
+ghost use Rattle.std.specs.List.{list_all};
+ghost use Rattle.sv_text.specs.Cut.{cut_at};
+ghost use Rattle.sv_header.specs.Plain.{is_short};
+ghost use Rattle.sv_header.specs.Resolve.{Resolves, but_last, kept};
+
+use arrayvec::ArrayVec;
+use std::marker::Model;
+use sv_text::{Lead, first_part, header_parts};
+
+/// A mnemonic of at most 12 characters.
+#[derive(Debug, Drop)]
+pub(crate) struct Mnemonic {
+    text: ArrayVec<u8, 12>,
+}
+
+impl Model for Mnemonic {
+    ghost use Rattle.std.specs.Prelude.{ℕ, List};
+
+    ghost Value = { List ℕ };
+
+    ghost view = { λ mnemonic. mnemonic.text.items };
+}
+
+impl Default for Mnemonic {
+    ghost is_default = { λ mnemonic. mnemonic ≡ [] };
+
+    fn default() -> Mnemonic {
+        Mnemonic { text: ArrayVec::new() }
+    }
+}
+
+impl Mnemonic {
+    /// Its characters.
+    pub(crate) fn text(&self) -> &[u8]
+        ensures { result.now ≡ self.now }
+    {
+        self.text.as_slice()
+    }
+
+    /// The mnemonic of these characters.
+    fn new(characters: &[u8]) -> Mnemonic
+        requires { length characters.now ≤ 12 }
+        ensures { result ≡ characters.now }
+    {
+        let mut text = ArrayVec::new();
+        if text.try_extend_from_slice(characters).is_err() {
+            text.clear();
+        }
+        Mnemonic { text }
+    }
+}
+
+/// The mnemonics, as they were sent, that stand in front of a header which neither starts at the root
+/// nor is a common command. At most four, since no pattern has more than five.
+#[derive(Debug, Drop)]
+pub struct Path {
+    mnemonics: ArrayVec<Mnemonic, 4>,
+}
+
+impl Model for Path {
+    ghost use Rattle.std.specs.Prelude.{ℕ, List};
+
+    ghost Value = { List (List ℕ) };
+
+    ghost view = { λ path. path.mnemonics.items };
+}
+
+impl Path {
+    /// The path at the beginning of a message: nothing.
+    pub fn root() -> Path
+        ensures { result ≡ [] }
+    {
+        Path { mnemonics: ArrayVec::new() }
+    }
+
+    /// Follows a header that names a command: its mnemonics but the last are the path from now on, with
+    /// the path in front of them where it didn't start at the root. A common command leaves the path.
+    pub fn follow(&mut self, header: &[u8])
+        requires { (command : Command) × Resolves self.old header.now command }
+        ensures { self.new ≡ kept self.old header.now }
+    {
+        let parts = header_parts(header);
+        match parts.lead {
+            Lead::Common => {}
+            Lead::Root => {
+                self.mnemonics.clear();
+                self.go_on(parts.body);
+            }
+            Lead::Onward => self.go_on(parts.body),
+        }
+    }
+
+    /// The mnemonics but the last come behind the path.
+    fn go_on(&mut self, body: &[u8])
+        requires few { length self.old + length (cut_at 58 body.now) ≤ 5 }
+        requires short { list_all is_short (cut_at 58 body.now) ≡ true }
+        ensures { self.new ≡ but_last (self.old ++ cut_at 58 body.now) }
+    {
+        let mut rest = body;
+        while let (first, Some(behind)) = first_part(rest, b':') {
+            self.mnemonics.push(Mnemonic::new(first));
+            rest = behind;
+        }
+    }
+
+    /// The mnemonics of the path.
+    pub(crate) fn mnemonics(&self) -> &[Mnemonic]
+        ensures { result.now ≡ self.now }
+    {
+        self.mnemonics.as_slice()
+    }
+}
