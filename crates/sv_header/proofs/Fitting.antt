@@ -1,14 +1,16 @@
 -- What fits the table is small: it has few mnemonics, and none is long.
-use Rattle.std.proofs.Common.{◌≡◌, ℕ, zero, suc, ◌<◌, ◌≤◌, ◌&&◌, Bool, true, false, List, [], ◌∷◌, ◌++◌, length, refl, sym, ap, ◌∙◌, inl, inr, slice_index_or, arith, leb-true}
-use Rattle.std.specs.Prelude.{nat_le, map}
-use Rattle.std.specs.List.{list_all, Contains}
-use Rattle.std.specs.Char.{to_ascii_lowercase}
+use Rattle.std.proofs.Common.{◌≡◌, ℕ, zero, suc, ◌+◌, ◌<◌, ◌≤◌, ◌&&◌, Bool, true, false, List, [], ◌∷◌, ◌++◌, length, refl, sym, ap, ◌∙◌, inl, inr, slice_index_or, arith, leb-true, length-append, subst}
+use Rattle.std.specs.Prelude.{nat_le}
+use Rattle.std.specs.List.{list_all}
 use Rattle.std.proofs.lemmas.List.{length-map}
+use Rattle.sv_text.specs.Header.{lead, mnemonics}
+use Rattle.sv_text.specs.declared.header.Lead.{Lead}
+use Rattle.sv_text.specs.declared.header.Lead.TheVariants.{Root, Onward}
 use Rattle.sv_header.specs.declared.command.CommandId.{CommandId}
 use Rattle.sv_header.specs.Pattern.{Part, Row, Same, IsForm, Fits}
 use Rattle.sv_header.specs.Plain.{is_short}
 use Rattle.sv_header.specs.Table.{table}
-use Rattle.sv_header.specs.Resolve.{Resolves, full, but_last}
+use Rattle.sv_header.specs.Resolve.{Resolves, path_before, full, but_last}
 
 -- forms of at most 12 characters
 abbrev is_small : Part → Bool
@@ -42,12 +44,12 @@ pub fits-small : (sent : List (List ℕ)) (parts : List Part) → list_all is_sm
 fits-small sent [] s e = rw e (omega arith, refl)
 fits-small [] (part ∷ parts) s (inl f) = absurd f
 fits-small (mnemonic ∷ others) (part ∷ parts) s (inl f) =
-    let b = both _ _ s in
-    let rest = fits-small others parts b.1 f.1 in
+    let b : (is_small part ≡ true) × (list_all is_small parts ≡ true) = both _ _ s in
+    let rest : (length others ≤ length parts) × (list_all is_short others ≡ true) = fits-small others parts b.1 f.1 in
     (omega (arith, rest.0), rw (form-short mnemonic part b.0 f.0) rest.1)
 fits-small sent (part ∷ parts) s (inr f) =
-    let b = both _ _ s in
-    let rest = fits-small sent parts b.1 f.1 in
+    let b : (is_small part ≡ true) × (list_all is_small parts ≡ true) = both _ _ s in
+    let rest : (length sent ≤ length parts) × (list_all is_short sent ≡ true) = fits-small sent parts b.1 f.1 in
     (omega (arith, rest.0), rest.1)
 
 -- each row of a table that passes a test passes it
@@ -74,3 +76,28 @@ pub but_last-push : (path : List (List ℕ)) (last : List ℕ) → but_last (pat
 but_last-push [] last = refl
 but_last-push (part ∷ []) last = refl
 but_last-push (part ∷ other ∷ others) last = ap (λ ps. part ∷ ps) (but_last-push (other ∷ others) last)
+
+-- what is so of each of two lists together is so of each of the second
+all-behind : (test : List ℕ → Bool) (front behind : List (List ℕ)) → list_all test (front ++ behind) ≡ true → list_all test behind ≡ true
+all-behind test [] behind h = h
+all-behind test (part ∷ front) behind h = all-behind test front behind (both _ _ h).1
+
+-- a path and mnemonics are small together
+abbrev AreSmall : List (List ℕ) → List (List ℕ) → Type 0
+AreSmall path sent = (length path + length sent ≤ 5) × (list_all is_short sent ≡ true)
+
+small-at : (l : Lead) (path sent : List (List ℕ)) → (length (path_before l path ++ sent) ≤ 5) × (list_all is_short (path_before l path ++ sent) ≡ true)
+    → AreSmall (path_before l path) sent
+small-at l path sent h = (omega (arith, h.0, length-append (path_before l path) sent), all-behind is_short (path_before l path) sent h.1)
+
+-- what names a command from the root is small
+pub root-small : (path : List (List ℕ)) (header : List ℕ) (command : CommandId) → lead header ≡ Root → Resolves path header command → AreSmall [] (mnemonics header)
+root-small path header command e h =
+    let s : AreSmall (path_before (lead header) path) (mnemonics header) = small-at (lead header) path (mnemonics header) (resolves-small path header command h) in
+    subst (λ l. AreSmall (path_before l path) (mnemonics header)) e s
+
+-- what names one behind the path is so with the path
+pub onward-small : (path : List (List ℕ)) (header : List ℕ) (command : CommandId) → lead header ≡ Onward → Resolves path header command → AreSmall path (mnemonics header)
+onward-small path header command e h =
+    let s : AreSmall (path_before (lead header) path) (mnemonics header) = small-at (lead header) path (mnemonics header) (resolves-small path header command h) in
+    subst (λ l. AreSmall (path_before l path) (mnemonics header)) e s

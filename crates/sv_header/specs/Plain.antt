@@ -1,11 +1,12 @@
 -- What the types of the code say, in those of the definitions.
-use Rattle.std.specs.Prelude.{ℕ, Bool, nat_le, length, List, [], ◌∷◌, ◌++◌, map, Option, Some, None}
+use Rattle.std.specs.Prelude.{◌≡◌, ℕ, Bool, nat_le, length, List, [], ◌++◌, map, Option, Some, None}
 use Rattle.std.specs.Borrow.{Bor}
 use Rattle.sv_text.specs.Cut.{cut_at}
 use Rattle.sv_header.specs.declared.pattern.Node.{Node}
 use Rattle.sv_header.specs.declared.pattern.Pattern.{Pattern}
 use Rattle.sv_header.specs.declared.left.Mnemonics.{Mnemonics}
-use Rattle.sv_header.specs.Pattern.{Part, Row}
+use Rattle.sv_header.specs.declared.sent.Sent.{Sent}
+use Rattle.sv_header.specs.Pattern.{Part, Row, Fits, is_common, has_sign}
 
 -- a node of the table
 abbrev pub part : Node → Part
@@ -30,3 +31,7 @@ left_of left = left.kept.now ++ sent_of left.sent
 -- whether a mnemonic has at most 12 characters
 abbrev pub is_short : List ℕ → Bool
 is_short mnemonic = nat_le (length mnemonic) 12
+
+-- a header with the path in front of it fits a row
+abbrev pub FitsSent : Sent → Row → Type 0
+FitsSent sent row = (sent.common ≡ is_common row.form) × (sent.query ≡ has_sign row.form) × Fits (left_of sent.mnemonics) row.parts

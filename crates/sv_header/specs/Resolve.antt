@@ -1,5 +1,5 @@
 -- The command that a header names, and the path that it leaves (SCPI-1999, volume 1, chapter 6; common commands: IEEE 488.2, 7.6.1).
-use Rattle.std.specs.Prelude.{◌≡◌, ℕ, Bool, true, false, List, [], ◌∷◌, ◌++◌, if◌then◌else◌}
+use Rattle.std.specs.Prelude.{◌≡◌, ℕ, Bool, true, false, List, [], ◌∷◌, ◌++◌}
 use Rattle.std.specs.List.{Contains}
 use Rattle.sv_text.specs.Header.{lead, mnemonics, is_query}
 use Rattle.sv_text.specs.declared.header.Lead.{Lead}
@@ -9,7 +9,7 @@ use Rattle.sv_header.specs.Pattern.{Row, Fits, is_common, has_sign}
 use Rattle.sv_header.specs.Table.{table}
 
 -- what stands in front of a header: the path, unless it starts at the root or is a common command
-abbrev path_before : Lead → List (List ℕ) → List (List ℕ)
+abbrev pub path_before : Lead → List (List ℕ) → List (List ℕ)
 path_before Common path = []
 path_before Root path = []
 path_before Onward path = path
@@ -37,7 +37,7 @@ but_last [] = []
 but_last (part ∷ []) = []
 but_last (part ∷ other ∷ others) = part ∷ but_last (other ∷ others)
 
-abbrev kept_by : Lead → List (List ℕ) → List (List ℕ) → List (List ℕ)
+abbrev pub kept_by : Lead → List (List ℕ) → List (List ℕ) → List (List ℕ)
 kept_by Common path all = path
 kept_by Root path all = but_last all
 kept_by Onward path all = but_last all

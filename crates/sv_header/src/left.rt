@@ -21,11 +21,20 @@ impl<'a> Mnemonics<'a> {
         ensures { MatchOption result (left_of self.entry ≡ []) (λ found. left_of self.entry ≡ found.0.now ∷ left_of found.1) }
     {
         if let [first, behind @ ..] = self.kept {
-            let others = Mnemonics { kept: behind, sent: self.sent };
+            let others = Mnemonics {
+                kept: behind,
+                sent: self.sent,
+            };
             return Some((first.text(), others));
         }
         let (first, behind) = first_part(self.sent?, b':');
-        Some((first, Mnemonics { kept: self.kept, sent: behind }))
+        Some((
+            first,
+            Mnemonics {
+                kept: self.kept,
+                sent: behind,
+            },
+        ))
     }
 
     /// Whether none is left.

@@ -6,9 +6,14 @@
 
 mod command;
 mod left;
+mod nodes;
 mod path;
 mod pattern;
+mod resolving;
+mod sent;
+mod table;
 
 pub use command::CommandId;
 pub use path::Path;
 pub use pattern::{Form, Node, Pattern};
+pub use resolving::Table;

@@ -29,7 +29,9 @@ impl Default for Mnemonic {
     ghost is_default = { λ mnemonic. mnemonic ≡ [] };
 
     fn default() -> Mnemonic {
-        Mnemonic { text: ArrayVec::new() }
+        Mnemonic {
+            text: ArrayVec::new(),
+        }
     }
 }
 
@@ -74,7 +76,9 @@ impl Path {
     pub fn root() -> Path
         ensures { result ≡ [] }
     {
-        Path { mnemonics: ArrayVec::new() }
+        Path {
+            mnemonics: ArrayVec::new(),
+        }
     }
 
     /// Follows a header that names a command: its mnemonics but the last are the path from now on, with
@@ -100,10 +104,10 @@ impl Path {
         requires short { list_all is_short (cut_at 58 body.now) ≡ true }
         ensures { self.new ≡ but_last (self.old ++ cut_at 58 body.now) }
     {
-        let mut rest = body;
-        while let (first, Some(behind)) = first_part(rest, b':') {
+        let (mut first, mut behind) = first_part(body, b':');
+        while let Some(rest) = behind {
             self.mnemonics.push(Mnemonic::new(first));
-            rest = behind;
+            (first, behind) = first_part(rest, b':');
         }
     }
 

@@ -1,12 +1,12 @@
 //! Patterns of headers.
 
 ghost use Rattle.std.specs.Prelude.{◌≡◌, ◌↔◌, true, IsTrue};
-ghost use Rattle.sv_text.specs.Header.{lead as lead_of, is_query};
 ghost use Rattle.sv_header.specs.Pattern.{Fits, IsForm, is_common as is_common_form, has_sign as has_sign_of};
-ghost use Rattle.sv_header.specs.Plain.{part, parts, left_of};
+ghost use Rattle.sv_header.specs.Plain.{FitsSent, part, parts, left_of, row_of};
 
 use crate::command::CommandId;
 use crate::left::Mnemonics;
+use crate::sent::Sent;
 
 /// What a pattern's headers are led by, and whether they end in a query sign.
 #[derive(Clone, Copy, Debug, PartialEq, Eq)]
@@ -60,6 +60,17 @@ impl Node {
 /// The headers of a command: their form, their nodes from the root, and the command.
 #[derive(Clone, Copy, Debug)]
 pub struct Pattern(pub Form, pub &'static [Node], pub CommandId);
+
+impl Pattern {
+    /// Whether a header is one of them.
+    pub(crate) fn takes(&self, sent: Sent<'_>) -> bool
+        ensures { IsTrue result ↔ FitsSent sent.entry (row_of self.now) }
+    {
+        sent.common == self.0.is_common()
+            && sent.query == self.0.has_sign()
+            && fits(sent.mnemonics, self.1)
+    }
+}
 
 /// Whether mnemonics fit nodes: each node is there, or absent where it may be.
 pub(crate) fn fits(left: Mnemonics<'_>, nodes: &[Node]) -> bool

@@ -1,0 +1,46 @@
+//! A header behind a path, as the patterns are asked about it.
+
+ghost use Rattle.std.specs.Prelude.{◌≡◌};
+ghost use Rattle.sv_text.specs.Header.{is_query, lead as lead_of};
+ghost use Rattle.sv_header.specs.Plain.{left_of};
+ghost use Rattle.sv_header.specs.Resolve.{full, leads_common};
+
+use crate::left::Mnemonics;
+use crate::path::Path;
+use sv_text::{Lead, header_parts};
+
+/// A header with the path in front of it.
+#[derive(Clone, Copy, Debug)]
+pub(crate) struct Sent<'a> {
+    /// Whether it is a common command.
+    pub(crate) common: bool,
+    /// Whether a query sign ends it.
+    pub(crate) query: bool,
+    /// Its mnemonics: those of the path, unless it starts at the root or is a common command, and its
+    /// own behind them.
+    pub(crate) mnemonics: Mnemonics<'a>,
+}
+
+impl<'a> Sent<'a> {
+    /// A header behind a path.
+    pub(crate) fn new(path: &'a Path, header: &'a [u8]) -> Sent<'a>
+        ensures common { result.common ≡ leads_common (lead_of header.now) }
+        ensures query { result.query ≡ is_query header.now }
+        ensures mnemonics { left_of result.mnemonics ≡ full path.now header.now }
+    {
+        let parts = header_parts(header);
+        let kept: &[_] = match parts.lead {
+            Lead::Common | Lead::Root => &[],
+            Lead::Onward => path.mnemonics(),
+        };
+        let mnemonics = Mnemonics {
+            kept,
+            sent: Some(parts.body),
+        };
+        Sent {
+            common: matches!(parts.lead, Lead::Common),
+            query: parts.query,
+            mnemonics,
+        }
+    }
+}
