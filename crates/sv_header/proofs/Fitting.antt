@@ -21,7 +21,7 @@ abbrev is_small_row : Row → Bool
 is_small_row row = nat_le (length row.parts) 5 && list_all is_small row.parts
 
 -- both
-both : (a b : Bool) → (a && b) ≡ true → (a ≡ true) × (b ≡ true)
+pub both : (a b : Bool) → (a && b) ≡ true → (a ≡ true) × (b ≡ true)
 both true true h = (refl, refl)
 both true false h = absurd cc
 both false b h = absurd cc
@@ -53,7 +53,7 @@ fits-small sent (part ∷ parts) s (inr f) =
     (omega (arith, rest.0), rest.1)
 
 -- each row of a table that passes a test passes it
-passes : (test : Row → Bool) (rows : List Row) (k : ℕ) (row : Row) → list_all test rows ≡ true → k < length rows → slice_index_or rows k row ≡ row → test row ≡ true
+pub passes : (test : Row → Bool) (rows : List Row) (k : ℕ) (row : Row) → list_all test rows ≡ true → k < length rows → slice_index_or rows k row ≡ row → test row ≡ true
 passes test [] k row all lt e = absurd (omega arith)
 passes test (r ∷ rows) zero row all lt e = ap test (sym e) ∙ (both _ _ all).0
 passes test (r ∷ rows) (suc k) row all lt e = passes test rows k row (both _ _ all).1 (omega arith) e

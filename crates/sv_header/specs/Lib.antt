@@ -2,3 +2,4 @@ pub mod Pattern
 pub mod Table
 pub mod Plain
 pub mod Resolve
+pub mod Laws

@@ -5,6 +5,7 @@
 #![tactic(auto)]
 
 mod command;
+pub mod laws;
 mod left;
 mod nodes;
 mod path;

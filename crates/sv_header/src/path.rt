@@ -89,12 +89,12 @@ impl Path {
     {
         let parts = header_parts(header);
         match parts.lead {
-            Lead::Common => {}
             Lead::Root => {
                 self.mnemonics.clear();
                 self.go_on(parts.body);
             }
             Lead::Onward => self.go_on(parts.body),
+            Lead::Common => {}
         }
     }
 

@@ -1,0 +1,164 @@
+-- No two rows of the table fit the same mnemonics.
+use Rattle.std.proofs.Common.{◌≡◌, ℕ, zero, suc, ◌<◌, ◌&&◌, ◌||◌, ◌==◌, not, Bool, true, false, List, [], ◌∷◌, length, map, refl, sym, ap, ◌∙◌, subst, inl, inr, slice_index_or, arith, eq-eqb}
+use Rattle.std.specs.List.{list_all, Contains}
+use Rattle.std.specs.Char.{to_ascii_lowercase}
+use Rattle.std.proofs.lemmas.Bool.{cases_lt}
+use Rattle.std.proofs.lemmas.List.{get_or_default}
+use Rattle.sv_header.specs.Pattern.{Part, Row, Same, IsForm, Fits, is_common, has_sign}
+use Rattle.sv_header.specs.Table.{table}
+use Rattle.sv_header.specs.Resolve.{FitsRow}
+use Rattle.sv_header.specs.Laws.{OnePattern}
+use Rattle.sv_header.proofs.Fitting.{both, passes}
+
+-- a second test is asked where the first holds
+where_both : (a b : Bool) → a ≡ true → b ≡ true → (elim a [ true ↦ b | false ↦ false ]) ≡ true
+where_both true b h e = e
+where_both false b h e = absurd cc
+
+-- whether two lists are the same
+same : List ℕ → List ℕ → Bool
+same [] [] = true
+same [] (b ∷ bs) = false
+same (a ∷ others) [] = false
+same (a ∷ others) (b ∷ bs) = elim (a == b) [ true ↦ same others bs | false ↦ false ]
+
+same_self : (xs : List ℕ) → same xs xs ≡ true
+unfolding same
+same_self [] = refl
+same_self (x ∷ xs) = rw (eq-eqb x x refl, same) (same_self xs)
+
+-- whether a mnemonic may be a form of each
+shares_form : List ℕ → List ℕ → Bool
+shares_form a b = same (map to_ascii_lowercase a) (map to_ascii_lowercase b)
+
+shares : Part → Part → Bool
+shares p q = (shares_form p.short q.short || shares_form p.short q.long) || (shares_form p.long q.short || shares_form p.long q.long)
+
+form-shared : (sent a b : List ℕ) → Same sent a → Same sent b → shares_form a b ≡ true
+unfolding shares_form
+form-shared sent a b f g = subst (λ x. same (map to_ascii_lowercase a) x ≡ true) (sym f ∙ g) (same_self (map to_ascii_lowercase a))
+
+or_left : (a b : Bool) → a ≡ true → (a || b) ≡ true
+or_left true b h = refl
+or_left false b h = absurd cc
+
+or_right : (a b : Bool) → b ≡ true → (a || b) ≡ true
+or_right true b h = refl
+or_right false b h = h
+
+is-shared : (sent : List ℕ) (p q : Part) → IsForm sent p → IsForm sent q → shares p q ≡ true
+unfolding shares
+is-shared sent p q (inl f) (inl g) = or_left _ _ (or_left _ _ (form-shared sent p.short q.short f g))
+is-shared sent p q (inl f) (inr g) = or_left _ _ (or_right _ _ (form-shared sent p.short q.long f g))
+is-shared sent p q (inr f) (inl g) = or_right _ _ (or_left _ _ (form-shared sent p.long q.short f g))
+is-shared sent p q (inr f) (inr g) = or_right _ _ (or_right _ _ (form-shared sent p.long q.long f g))
+
+-- whether all may be absent
+all_absent : List Part → Bool
+all_absent [] = true
+all_absent (q ∷ qs) = elim q.optional [ true ↦ all_absent qs | false ↦ false ]
+
+-- whether mnemonics may fit both, a first part being given and what the others of its list say of a list
+clash_with : Part → (List Part → Bool) → List Part → Bool
+clash_with p others [] = elim p.optional [ true ↦ others [] | false ↦ false ]
+clash_with p others (q ∷ qs) =
+    elim (shares p q) [ true ↦ others qs | false ↦ false ]
+    || elim p.optional [ true ↦ others (q ∷ qs) | false ↦ false ]
+    || elim q.optional [ true ↦ clash_with p others qs | false ↦ false ]
+
+clash : List Part → List Part → Bool
+clash [] qs = all_absent qs
+clash (p ∷ ps) qs = clash_with p (clash ps) qs
+
+absent-fit : (qs : List Part) → Fits [] qs → all_absent qs ≡ true
+unfolding all_absent
+absent-fit [] h = refl
+absent-fit (q ∷ qs) (inl h) = absurd h
+absent-fit (q ∷ qs) (inr h) = rw h.0 (absent-fit qs h.1)
+
+with-fit : (p : Part) (ps : List Part) → ((sent : List (List ℕ)) (qs : List Part) → Fits sent ps → Fits sent qs → clash ps qs ≡ true)
+    → (sent : List (List ℕ)) (qs : List Part) → Fits sent (p ∷ ps) → Fits sent qs → clash_with p (clash ps) qs ≡ true
+unfolding clash_with
+with-fit p ps others [] [] (inl f) g = absurd f
+with-fit p ps others (mnemonic ∷ sent) [] (inl f) g = absurd cc
+with-fit p ps others sent [] (inr f) g = rw f.0 (others sent [] f.1 g)
+with-fit p ps others sent (q ∷ qs) (inr f) g = or_left _ _ (or_right _ _ (where_both p.optional (clash ps (q ∷ qs)) f.0 (others sent (q ∷ qs) f.1 g)))
+with-fit p ps others [] (q ∷ qs) (inl f) (inl g) = absurd f
+with-fit p ps others (mnemonic ∷ sent) (q ∷ qs) (inl f) (inl g) = or_left _ _ (or_left _ _ (where_both (shares p q) (clash ps qs) (is-shared mnemonic p q f.0 g.0) (others sent qs f.1 g.1)))
+with-fit p ps others sent (q ∷ qs) (inl f) (inr g) = or_right _ _ (where_both q.optional (clash_with p (clash ps) qs) g.0 (with-fit p ps others sent qs (inl f) g.1))
+
+-- what fits two lists of nodes makes them clash
+both-fit : (ps : List Part) (sent : List (List ℕ)) (qs : List Part) → Fits sent ps → Fits sent qs → clash ps qs ≡ true
+unfolding clash
+both-fit [] sent qs f g = absent-fit qs (subst (λ s. Fits s qs) f g)
+both-fit (p ∷ ps) sent qs f g = with-fit p ps (both-fit ps) sent qs f g
+
+-- whether two tests tell the same
+agree : Bool → Bool → Bool
+agree true b = b
+agree false b = not b
+
+agree-same : (a b c : Bool) → a ≡ b → a ≡ c → agree b c ≡ true
+unfolding agree
+agree-same a true true f g = refl
+agree-same a true false f g = absurd cc
+agree-same a false true f g = absurd cc
+agree-same a false false f g = refl
+
+-- whether a header may fit both rows
+rows_clash : Row → Row → Bool
+rows_clash r s =
+    elim (agree (is_common r.form) (is_common s.form)) [
+      | true ↦ elim (agree (has_sign r.form) (has_sign s.form)) [ true ↦ clash r.parts s.parts | false ↦ false ]
+      | false ↦ false
+    ]
+
+rows-clash : (path : List (List ℕ)) (header : List ℕ) (r s : Row) → FitsRow path header r → FitsRow path header s → rows_clash r s ≡ true
+unfolding rows_clash
+rows-clash path header r s f g =
+    where_both _ _ (agree-same _ (is_common r.form) (is_common s.form) f.0 g.0)
+    (where_both _ _ (agree-same _ (has_sign r.form) (has_sign s.form) f.1 g.1) (both-fit r.parts _ s.parts f.2 g.2))
+
+-- whether no row clashes with one behind it
+apart : List Row → Bool
+apart [] = true
+apart (r ∷ rows) = list_all (λ s. not (rows_clash r s)) rows && apart rows
+
+table-apart : apart table ≡ true
+unfolding apart rows_clash agree clash clash_with all_absent shares shares_form same
+table-apart = refl
+
+-- a row stands apart from each behind it
+apart-behind : (rows : List Row) (r s : Row) (k : ℕ) → list_all (λ t. not (rows_clash r t)) rows ≡ true → k < length rows → slice_index_or rows k s ≡ s → rows_clash r s ≡ true → ⊥
+apart-behind rows r s k all lt e clashes =
+    let a : not (rows_clash r s) ≡ true = passes (λ t. not (rows_clash r t)) rows k s all lt e in
+    let b : not true ≡ true = ap not (sym clashes) ∙ a in
+    cc
+
+-- rows at two places don't clash
+apart-places : (rows : List Row) (j k : ℕ) (r s : Row) → apart rows ≡ true → j < k → k < length rows → slice_index_or rows j r ≡ r → slice_index_or rows k s ≡ s
+    → rows_clash r s ≡ true → ⊥
+unfolding apart
+apart-places [] j k r s a lt in_bounds e f = absurd (omega arith)
+apart-places (row ∷ rows) j zero r s a lt in_bounds e f = absurd (omega arith)
+apart-places (row ∷ rows) zero (suc k) r s a lt in_bounds e f =
+    subst (λ x. rows_clash x s ≡ true → ⊥) e (apart-behind rows row s k (both _ _ a).0 (omega arith) f)
+apart-places (row ∷ rows) (suc j) (suc k) r s a lt in_bounds e f = apart-places rows j k r s (both _ _ a).1 (omega arith) (omega arith) e f
+
+-- two rows that a header fits are one
+one-row : (path : List (List ℕ)) (header : List ℕ) (r s : Row) → Contains table r → Contains table s → FitsRow path header r → FitsRow path header s → r ≡ s
+one-row path header r s a b f g =
+    elim (cases_lt a.0 b.0) [
+      | inl lt ↦ absurd (apart-places table a.0 b.0 r s table-apart lt b.1 a.2 b.2 (rows-clash path header r s f g))
+      | inr ge ↦
+          elim (cases_lt b.0 a.0) [
+            | inl lt ↦ absurd (apart-places table b.0 a.0 s r table-apart lt a.1 b.2 a.2 (rows-clash path header s r g f))
+            | inr le ↦
+                let same_place : a.0 ≡ b.0 = omega arith in
+                sym a.2 ∙ ap (λ k. slice_index_or table k r) same_place ∙ get_or_default table b.0 r s b.1 ∙ b.2
+          ]
+    ]
+
+-- so a header names at most one command
+pub one-pattern : OnePattern
+one-pattern path header first second a b = sym a.2 ∙ ap (λ row. row.command) (one-row path header a.0 b.0 a.1 b.1 a.3 b.3) ∙ b.2
