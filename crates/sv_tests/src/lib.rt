@@ -1,5 +1,6 @@
-//! Tests of the fields, the records, the calls, the errors, the status, the units and the server, by examples that were
-//! worked out from the standards, and of what a refusal of memory leaves. The library itself is empty.
+//! Tests of the fields, the records, the calls, the parts of the instrument and the server, by examples
+//! that were worked out from the standards, and of what a refusal of memory leaves. The library itself
+//! is empty.
 #![tactic(auto)]
 
 #[cfg(test)]
@@ -14,6 +15,8 @@ mod errors;
 mod fields;
 #[cfg(test)]
 mod first_path;
+#[cfg(test)]
+mod headers;
 #[cfg(test)]
 mod memory;
 #[cfg(test)]
