@@ -234,15 +234,15 @@ fn name(table: &Table, path: &mut Path, header: &str) -> Result<CommandId, Code>
 #[test]
 fn each_command_has_its_header_in_short_and_in_long_forms(rt: HostRuntime) -> Result<(), Fail> {
     let table = Table::new(rt.alloc())?;
-    for (short, long, command) in COMMANDS {
+    for (short, long, command) in &COMMANDS {
         assert_eq!(rt;
             table.resolve(&Path::root(), short.as_bytes()),
-            Ok(command),
+            Ok(*command),
             "{short}"
         );
         assert_eq!(rt;
             table.resolve(&Path::root(), long.as_bytes()),
-            Ok(command),
+            Ok(*command),
             "{long}"
         );
     }
