@@ -1,0 +1,45 @@
+-- The condition words (SCPI-1999, volume 1, chapter 20), by the acts that count.
+use Rattle.std.specs.Prelude.{ℕ, ◌+◌, ◌^◌, ℤ, int_lt, ◌&&◌, ◌||◌, not, Bool, true, false, List, Option, Some, None, if◌then◌else◌}
+use Rattle.sv_scan.specs.declared.setting.Reading.{Reading}
+use Rattle.sv_scan.specs.declared.setting.Reading.TheVariants.{Value, Over, Under}
+use Rattle.sv_scan.specs.declared.acts.ScanAct.{ScanAct}
+use Rattle.sv_scan.specs.Setting.{limits, upper, lower, monitor, input}
+use Rattle.sv_scan.specs.Scan.{state, last_reading}
+use Rattle.sv_scan.specs.Counted.{is_idle, is_waiting, is_scanning}
+
+-- a bit of a word, where its condition holds
+abbrev pub bit : ℕ → Bool → ℕ
+bit place true = 2 ^ place
+bit place false = 0
+
+abbrev pub operation : List ScanAct → ℕ
+operation log = bit 4 (is_scanning (state log)) + bit 5 (is_waiting (state log)) + bit 8 (not (is_idle (state log)))
+
+abbrev pub is_overload : Option Reading → Bool
+is_overload None = false
+is_overload (Some (Value value)) = false
+is_overload (Some Over) = true
+is_overload (Some Under) = true
+
+-- a reading below a limit: a negative overload is below every limit
+abbrev pub is_below : Option Reading → ℤ → Bool
+is_below None limit = false
+is_below (Some (Value value)) limit = int_lt value limit
+is_below (Some Over) limit = false
+is_below (Some Under) limit = true
+
+-- a reading above a limit: a positive overload is above every limit
+abbrev pub is_above : Option Reading → ℤ → Bool
+is_above None limit = false
+is_above (Some (Value value)) limit = int_lt limit value
+is_above (Some Over) limit = true
+is_above (Some Under) limit = false
+
+-- whether the live input of the monitored channel is outside the limits
+abbrev pub is_outside : List ScanAct → Bool
+is_outside log = int_lt (input (monitor log) log) (lower log) || int_lt (upper log) (input (monitor log) log)
+
+abbrev pub questionable : List ScanAct → ℕ
+questionable log =
+    bit 0 (is_overload (last_reading log)) + bit 9 (limits log && is_below (last_reading log) (lower log)) + bit 10 (limits log && is_above (last_reading log) (upper log))
+    + bit 11 (limits log && is_outside log)

@@ -1,0 +1,68 @@
+-- Which acts count: a call that is refused doesn't, nor a sample outside a scan, nor the input of a channel that isn't there.
+use Rattle.std.specs.Prelude.{ℕ, ◌&&◌, not, Bool, true, false, List, [], ◌∷◌, Option, Some, None, is_none, if◌then◌else◌}
+use Rattle.sv_errors.specs.declared.code.Code.{Code}
+use Rattle.sv_errors.specs.declared.code.Code.TheVariants.{DataOutOfRange, SettingsConflict, TriggerIgnored, InitIgnored, TriggerDeadlock, DataCorruptOrStale}
+use Rattle.sv_scan.specs.declared.setting.Setting.{Setting}
+use Rattle.sv_scan.specs.declared.setting.Source.{Source}
+use Rattle.sv_scan.specs.declared.setting.Source.TheVariants.{Immediate, Bus, External}
+use Rattle.sv_scan.specs.declared.setting.State.{State}
+use Rattle.sv_scan.specs.declared.setting.State.TheVariants.{Idle, Waiting, Scanning}
+use Rattle.sv_scan.specs.declared.acts.ScanAct.{ScanAct}
+use Rattle.sv_scan.specs.declared.acts.ScanAct.TheVariants.{Input, Configure, Init, Abort, Reset, Trigger, Sample}
+use Rattle.sv_scan.specs.Setting.{is_channel, is_possible, is_fixed, source}
+use Rattle.sv_scan.specs.Scan.{state, is_complete}
+
+abbrev pub is_idle : State → Bool
+is_idle Idle = true
+is_idle Waiting = false
+is_idle Scanning = false
+
+abbrev pub is_waiting : State → Bool
+is_waiting Waiting = true
+is_waiting Idle = false
+is_waiting Scanning = false
+
+abbrev pub is_scanning : State → Bool
+is_scanning Scanning = true
+is_scanning Idle = false
+is_scanning Waiting = false
+
+abbrev pub same_source : Source → Source → Bool
+same_source Immediate Immediate = true
+same_source Bus Bus = true
+same_source External External = true
+same_source _ _ = false
+
+-- what a setting is refused with behind these acts
+abbrev pub setting_fault : List ScanAct → Setting → Option Code
+setting_fault log setting =
+    if not (is_possible setting) then Some DataOutOfRange else if is_fixed setting && not (is_idle (state log)) then Some SettingsConflict else None
+
+abbrev pub init_fault : List ScanAct → Option Code
+init_fault log = if is_idle (state log) then None else Some InitIgnored
+
+-- a trigger has to be waited for, from that source
+abbrev pub trigger_fault : List ScanAct → Source → Option Code
+trigger_fault log from = if is_waiting (state log) && same_source (source log) from then None else Some TriggerIgnored
+
+-- a reading that the controller would have to trigger can't be waited for
+abbrev pub read_fault : List ScanAct → Option Code
+read_fault log = if same_source (source log) Bus then Some TriggerDeadlock else None
+
+abbrev pub readings_fault : List ScanAct → Option Code
+readings_fault log = if is_complete log then None else Some DataCorruptOrStale
+
+-- whether an act counts behind those that count
+abbrev pub counts : List ScanAct → ScanAct → Bool
+counts log (Input channel microvolts) = is_channel channel
+counts log (Configure setting) = is_none (setting_fault log setting)
+counts log Init = is_none (init_fault log)
+counts log Abort = true
+counts log Reset = true
+counts log (Trigger source) = is_none (trigger_fault log source)
+counts log Sample = is_scanning (state log)
+
+-- the acts that count, of all that happened
+abbrev pub kept : List ScanAct → List ScanAct
+kept [] = []
+kept (act ∷ acts) = if counts (kept acts) act then act ∷ kept acts else kept acts

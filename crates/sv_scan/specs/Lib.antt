@@ -1,0 +1,6 @@
+pub mod Setting
+pub mod Scan
+pub mod Counted
+pub mod Condition
+pub mod Stands
+pub mod Answered

@@ -1,0 +1,94 @@
+-- The trigger state and the readings (SCPI-1999, volume 2, chapter 24), by counts over the acts that count, which are read from the newest.
+use Rattle.std.specs.Prelude.{ℕ, ◌*◌, ◌%◌, ◌==◌, ℤ, neg_ℤ, int_lt, ◌&&◌, Bool, true, false, List, [], ◌∷◌, ◌++◌, length, filter, Option, Some, None, slice_index_or, if◌then◌else◌}
+use Rattle.sv_errors.specs.Since.{since}
+use Rattle.sv_scan.specs.declared.setting.Reading.{Reading}
+use Rattle.sv_scan.specs.declared.setting.Reading.TheVariants.{Value, Over, Under}
+use Rattle.sv_scan.specs.declared.setting.State.{State}
+use Rattle.sv_scan.specs.declared.setting.State.TheVariants.{Idle, Waiting, Scanning}
+use Rattle.sv_scan.specs.declared.acts.ScanAct.{ScanAct}
+use Rattle.sv_scan.specs.declared.acts.ScanAct.TheVariants.{Input, Configure, Init, Abort, Reset, Trigger, Sample}
+use Rattle.sv_scan.specs.Setting.{scan_list, count, range, input}
+
+-- what begins a measurement or ends it
+abbrev pub is_turn : ScanAct → Bool
+is_turn Init = true
+is_turn Abort = true
+is_turn Reset = true
+is_turn _ = false
+
+-- the acts in front of the newest of these, where it was an initiation
+abbrev pub before_init : List ScanAct → Option (List ScanAct)
+before_init [] = None
+before_init (Init ∷ log) = Some log
+before_init (Abort ∷ log) = None
+before_init (Reset ∷ log) = None
+before_init (_ ∷ log) = before_init log
+
+abbrev is_trigger : ScanAct → Bool
+is_trigger (Trigger source) = true
+is_trigger _ = false
+
+abbrev is_sample : ScanAct → Bool
+is_sample Sample = true
+is_sample _ = false
+
+-- how many triggers and samples came since
+abbrev pub triggers : List ScanAct → ℕ
+triggers log = length (filter is_trigger (since is_turn log))
+
+abbrev pub samples : List ScanAct → ℕ
+samples log = length (filter is_sample (since is_turn log))
+
+-- the state of a measurement, by how many triggers and samples it had, how many channels its list has, and how many scans are wanted
+abbrev pub state_by : ℕ → ℕ → ℕ → ℕ → State
+state_by triggers samples channels scans = if samples == scans * channels then Idle else if samples == triggers * channels then Waiting else Scanning
+
+abbrev state_since : Option (List ScanAct) → ℕ → ℕ → State
+state_since None triggers samples = Idle
+state_since (Some before) triggers samples = state_by triggers samples (length (scan_list before)) (count before)
+
+-- the state: that of the measurement since the last initiation, whose list and count are those of that moment; idle without one
+abbrev pub state : List ScanAct → State
+state log = state_since (before_init log) (triggers log) (samples log)
+
+-- a voltage as it reads in a range
+abbrev pub reading_in : ℤ → ℤ → Reading
+reading_in range value = if int_lt range value then Over else if int_lt value (neg_ℤ range) then Under else Value value
+
+-- the channel of the sample that has so many before it: they go round the list
+abbrev channel_at : List ℕ → ℕ → ℕ
+channel_at channels before = slice_index_or channels (before % length channels) 0
+
+abbrev list_since : Option (List ScanAct) → List ℕ
+list_since None = []
+list_since (Some before) = scan_list before
+
+-- what a sample reads behind these acts: the channel whose turn it is, with its input and the range as they stand there
+abbrev pub reading : List ScanAct → Reading
+reading log = reading_in (range log) (input (channel_at (list_since (before_init log)) (samples log)) log)
+
+-- the readings of the measurement, oldest first
+abbrev pub readings : List ScanAct → List Reading
+readings [] = []
+readings (Sample ∷ log) = readings log ++ reading log ∷ []
+readings (Init ∷ log) = []
+readings (Abort ∷ log) = []
+readings (Reset ∷ log) = []
+readings (_ ∷ log) = readings log
+
+-- the newest of them
+abbrev pub last_reading : List ScanAct → Option Reading
+last_reading [] = None
+last_reading (Sample ∷ log) = Some (reading log)
+last_reading (Init ∷ log) = None
+last_reading (Abort ∷ log) = None
+last_reading (Reset ∷ log) = None
+last_reading (_ ∷ log) = last_reading log
+
+abbrev complete_since : Option (List ScanAct) → ℕ → Bool
+complete_since None samples = false
+complete_since (Some before) samples = samples == count before * length (scan_list before)
+
+-- whether the readings are valid: each channel of each scan was read
+abbrev pub is_complete : List ScanAct → Bool
+is_complete log = complete_since (before_init log) (samples log)

@@ -1,0 +1,51 @@
+-- What the scanner holds, and the acts that it stands for.
+use Rattle.std.specs.Prelude.{◌≡◌, ℕ, ◌-◌, ℤ, pos, Bool, true, List, length, Option, slice_index_or}
+use Rattle.std.specs.Prelude.{option_map}
+use Rattle.sv_scan.specs.declared.setting.Reading.{Reading}
+use Rattle.sv_scan.specs.declared.setting.Source.{Source}
+use Rattle.sv_scan.specs.declared.acts.ScanAct.{ScanAct}
+use Rattle.sv_scan.specs.Setting.{scan_list, monitor, range, upper, lower, limits, source, count, input, is_channel}
+use Rattle.sv_scan.specs.Scan.{before_init, triggers, readings}
+use Rattle.sv_scan.specs.Counted.{kept}
+
+-- a measurement: its list and its count, fixed when it was initiated, and how many triggers it had
+pub record Run : Type 0 where
+  pub channels : List ℕ
+  pub scans : ℕ
+  pub triggers : ℕ
+
+-- the measurement since the last initiation
+abbrev pub run : List ScanAct → Option Run
+run log = option_map (λ before. record { channels = scan_list before; scans = count before; triggers = triggers log }) (before_init log)
+
+-- what the scanner holds
+pub record Held : Type 0 where
+  pub inputs : List ℤ
+  pub list : List ℕ
+  pub monitor : ℕ
+  pub range : ℤ
+  pub upper : ℤ
+  pub lower : ℤ
+  pub limits : Bool
+  pub source : Source
+  pub count : ℕ
+  pub run : Option Run
+  pub readings : List Reading
+
+-- Each thing that it holds is what a search of the acts that count finds.
+pub record Holds (held : Held) (log : List ScanAct) : Type 0 where
+  pub inputs : (channel : ℕ) → is_channel channel ≡ true → slice_index_or held.inputs (channel - 1) (pos 0) ≡ input channel log
+  pub list : held.list ≡ scan_list log
+  pub monitor : held.monitor ≡ monitor log
+  pub range : held.range ≡ range log
+  pub upper : held.upper ≡ upper log
+  pub lower : held.lower ≡ lower log
+  pub limits : held.limits ≡ limits log
+  pub source : held.source ≡ source log
+  pub count : held.count ≡ count log
+  pub run : held.run ≡ run log
+  pub readings : held.readings ≡ readings log
+
+-- What it holds stands for all that happened, of which some counts.
+abbrev pub StandsFor : Held → List ScanAct → Type 0
+StandsFor held acts = Holds held (kept acts)

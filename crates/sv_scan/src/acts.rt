@@ -1,0 +1,34 @@
+//! What happens to the scanner.
+
+use crate::setting::{Setting, Source};
+use sv_errors::Code;
+
+/// What happens to the scanner.
+#[derive(Debug, Drop)]
+pub enum ScanAct {
+    /// The voltage of a channel's input, in microvolts.
+    Input(u8, i64),
+    /// A setting is changed.
+    Configure(Setting),
+    /// A measurement is initiated.
+    Init,
+    /// The measurement is aborted.
+    Abort,
+    /// The measurement is aborted, and every setting takes its default.
+    Reset,
+    /// A trigger comes.
+    Trigger(Source),
+    /// The next channel is read.
+    Sample,
+}
+
+/// What it tells of that.
+#[derive(Clone, Copy, Debug, PartialEq, Eq)]
+pub enum ScanAnswer {
+    /// There is nothing to tell.
+    Done,
+    /// The act was done, or refused with this error.
+    Answered(Result<(), Code>),
+    /// Whether a channel was read.
+    Sampled(bool),
+}

@@ -1,0 +1,17 @@
+//! The scanner: input voltages, settings, the trigger state, the readings of a scan, and the
+//! conditions that the status registers watch (SCPI-1999, volume 1, chapter 20, and volume 2,
+//! chapters 18 and 24).
+//!
+//! Voltages are in microvolts. [`Scanner::new`] takes the memory of all readings, and no other call
+//! takes any.
+#![tactic(auto)]
+
+mod acts;
+mod scan_list;
+mod setting;
+mod words;
+
+pub use acts::{ScanAct, ScanAnswer};
+pub use scan_list::ScanList;
+pub use setting::{Reading, Setting, Source, State};
+pub use words::Conditions;

@@ -1,0 +1,58 @@
+//! What can be set, and what a scan gives.
+
+use crate::scan_list::ScanList;
+
+/// Where triggers come from.
+#[derive(Clone, Copy, Debug, PartialEq, Eq)]
+pub enum Source {
+    /// From the instrument itself, as soon as it waits for one.
+    Immediate,
+    /// From the controller.
+    Bus,
+    /// From the trigger input.
+    External,
+}
+
+/// A setting and its value. Each but [`Setting::Monitor`] and those of the limits can be changed in
+/// the idle state alone.
+#[derive(Debug, Drop)]
+pub enum Setting {
+    /// The channels that a scan reads, in their order: 1 to 32 of them, each 1 to 32. At first channel 1.
+    List(ScanList),
+    /// The channel whose live input is compared with the limits: 1 to 32. At first 1.
+    Monitor(u8),
+    /// The range, in microvolts, 0 to 100 V: the least of 1, 10 and 100 V that isn't below it. At first 10 V.
+    Range(i64),
+    /// The upper limit, in microvolts, up to 1,000 V in magnitude. At first 1,000 V.
+    Upper(i64),
+    /// The lower limit, in microvolts, up to 1,000 V in magnitude. At first -1,000 V.
+    Lower(i64),
+    /// Whether the limits count. At first they don't.
+    Limits(bool),
+    /// Where triggers come from. At first [`Source::Immediate`].
+    Source(Source),
+    /// How many scans a measurement has, one for each trigger: 1 to 16. At first 1.
+    Count(u8),
+}
+
+/// What the trigger system does (SCPI-1999, volume 2, chapter 24).
+#[derive(Clone, Copy, Debug, PartialEq, Eq)]
+pub enum State {
+    /// No measurement is under way.
+    Idle,
+    /// The next scan waits for its trigger.
+    Waiting,
+    /// A scan was triggered and isn't complete.
+    Scanning,
+}
+
+/// What one sample gives.
+#[derive(Clone, Copy, Debug, PartialEq, Eq)]
+pub enum Reading {
+    /// A voltage within the range, in microvolts.
+    Value(i64),
+    /// A voltage above the range.
+    Over,
+    /// A voltage below the range's negative.
+    Under,
+}
