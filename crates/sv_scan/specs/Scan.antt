@@ -1,12 +1,12 @@
 -- The trigger state and the readings (SCPI-1999, volume 2, chapter 24), by counts over the acts that count, which are read from the newest.
-use Rattle.std.specs.Prelude.{ℕ, ◌*◌, ◌%◌, ◌==◌, ℤ, neg_ℤ, int_lt, ◌&&◌, Bool, true, false, List, [], ◌∷◌, ◌++◌, length, filter, Option, Some, None, slice_index_or, if◌then◌else◌}
+use Rattle.std.specs.Prelude.{ℕ, ◌*◌, ◌%◌, ◌==◌, ℤ, neg_ℤ, int_lt, Bool, true, false, List, [], ◌∷◌, ◌++◌, length, filter, Option, Some, None, slice_index_or, if◌then◌else◌}
 use Rattle.sv_errors.specs.Since.{since}
 use Rattle.sv_scan.specs.declared.setting.Reading.{Reading}
 use Rattle.sv_scan.specs.declared.setting.Reading.TheVariants.{Value, Over, Under}
 use Rattle.sv_scan.specs.declared.setting.State.{State}
 use Rattle.sv_scan.specs.declared.setting.State.TheVariants.{Idle, Waiting, Scanning}
 use Rattle.sv_scan.specs.declared.acts.ScanAct.{ScanAct}
-use Rattle.sv_scan.specs.declared.acts.ScanAct.TheVariants.{Input, Configure, Init, Abort, Reset, Trigger, Sample}
+use Rattle.sv_scan.specs.declared.acts.ScanAct.TheVariants.{Init, Abort, Reset, Trigger, Sample}
 use Rattle.sv_scan.specs.Setting.{scan_list, count, range, input}
 
 -- what begins a measurement or ends it
@@ -24,11 +24,11 @@ before_init (Abort ∷ log) = None
 before_init (Reset ∷ log) = None
 before_init (_ ∷ log) = before_init log
 
-abbrev is_trigger : ScanAct → Bool
+abbrev pub is_trigger : ScanAct → Bool
 is_trigger (Trigger source) = true
 is_trigger _ = false
 
-abbrev is_sample : ScanAct → Bool
+abbrev pub is_sample : ScanAct → Bool
 is_sample Sample = true
 is_sample _ = false
 
@@ -43,7 +43,7 @@ samples log = length (filter is_sample (since is_turn log))
 abbrev pub state_by : ℕ → ℕ → ℕ → ℕ → State
 state_by triggers samples channels scans = if samples == scans * channels then Idle else if samples == triggers * channels then Waiting else Scanning
 
-abbrev state_since : Option (List ScanAct) → ℕ → ℕ → State
+abbrev pub state_since : Option (List ScanAct) → ℕ → ℕ → State
 state_since None triggers samples = Idle
 state_since (Some before) triggers samples = state_by triggers samples (length (scan_list before)) (count before)
 
@@ -56,10 +56,10 @@ abbrev pub reading_in : ℤ → ℤ → Reading
 reading_in range value = if int_lt range value then Over else if int_lt value (neg_ℤ range) then Under else Value value
 
 -- the channel of the sample that has so many before it: they go round the list
-abbrev channel_at : List ℕ → ℕ → ℕ
+abbrev pub channel_at : List ℕ → ℕ → ℕ
 channel_at channels before = slice_index_or channels (before % length channels) 0
 
-abbrev list_since : Option (List ScanAct) → List ℕ
+abbrev pub list_since : Option (List ScanAct) → List ℕ
 list_since None = []
 list_since (Some before) = scan_list before
 
@@ -85,7 +85,7 @@ last_reading (Abort ∷ log) = None
 last_reading (Reset ∷ log) = None
 last_reading (_ ∷ log) = last_reading log
 
-abbrev complete_since : Option (List ScanAct) → ℕ → Bool
+abbrev pub complete_since : Option (List ScanAct) → ℕ → Bool
 complete_since None samples = false
 complete_since (Some before) samples = samples == count before * length (scan_list before)
 

@@ -1,12 +1,12 @@
 -- Settings and inputs: the value last given, found by a search of the acts that count, which are read from the newest.
-use Rattle.std.specs.Prelude.{ℕ, ℤ, pos, neg_ℤ, int_lt, int_le, nat_le, ◌==◌, ◌&&◌, Bool, true, false, List, [], ◌∷◌, length, Option, Some, None, unwrap_or, if◌then◌else◌}
+use Rattle.std.specs.Prelude.{ℕ, ℤ, pos, neg_ℤ, int_le, nat_le, ◌==◌, ◌&&◌, Bool, true, false, List, [], ◌∷◌, length, Option, Some, None, unwrap_or, if◌then◌else◌}
 use Rattle.std.specs.List.{list_all}
 use Rattle.sv_scan.specs.declared.setting.Setting.{Setting}
 use Rattle.sv_scan.specs.declared.setting.Setting.TheVariants.{List as SetList, Monitor, Range, Upper, Lower, Limits, Source as SetSource, Count}
 use Rattle.sv_scan.specs.declared.setting.Source.{Source}
-use Rattle.sv_scan.specs.declared.setting.Source.TheVariants.{Immediate, Bus, External}
+use Rattle.sv_scan.specs.declared.setting.Source.TheVariants.{Immediate}
 use Rattle.sv_scan.specs.declared.acts.ScanAct.{ScanAct}
-use Rattle.sv_scan.specs.declared.acts.ScanAct.TheVariants.{Input, Configure, Init, Abort, Reset, Trigger, Sample}
+use Rattle.sv_scan.specs.declared.acts.ScanAct.TheVariants.{Input, Configure, Reset}
 
 -- what was last set, where a setting gives it, or the default where none was since the newest reset
 abbrev pub last_set : {A : Type 0} → (Setting → Option A) → A → List ScanAct → A
@@ -15,7 +15,7 @@ last_set gives default (Configure setting ∷ log) = unwrap_or (gives setting) (
 last_set gives default (Reset ∷ log) = default
 last_set gives default (_ ∷ log) = last_set gives default log
 
-abbrev gives_list : Setting → Option (List ℕ)
+abbrev pub gives_list : Setting → Option (List ℕ)
 gives_list (SetList channels) = Some channels
 gives_list _ = None
 
@@ -23,7 +23,7 @@ gives_list _ = None
 abbrev pub scan_list : List ScanAct → List ℕ
 scan_list = last_set gives_list (1 ∷ [])
 
-abbrev gives_monitor : Setting → Option ℕ
+abbrev pub gives_monitor : Setting → Option ℕ
 gives_monitor (Monitor channel) = Some channel
 gives_monitor _ = None
 
@@ -34,42 +34,42 @@ monitor = last_set gives_monitor 1
 abbrev pub least_range : ℤ → ℤ
 least_range wanted = if int_le wanted (pos 1000000) then pos 1000000 else if int_le wanted (pos 10000000) then pos 10000000 else pos 100000000
 
-abbrev gives_range : Setting → Option ℤ
+abbrev pub gives_range : Setting → Option ℤ
 gives_range (Range wanted) = Some (least_range wanted)
 gives_range _ = None
 
 abbrev pub range : List ScanAct → ℤ
 range = last_set gives_range (pos 10000000)
 
-abbrev gives_upper : Setting → Option ℤ
+abbrev pub gives_upper : Setting → Option ℤ
 gives_upper (Upper limit) = Some limit
 gives_upper _ = None
 
 abbrev pub upper : List ScanAct → ℤ
 upper = last_set gives_upper (pos 1000000000)
 
-abbrev gives_lower : Setting → Option ℤ
+abbrev pub gives_lower : Setting → Option ℤ
 gives_lower (Lower limit) = Some limit
 gives_lower _ = None
 
 abbrev pub lower : List ScanAct → ℤ
 lower = last_set gives_lower (neg_ℤ (pos 1000000000))
 
-abbrev gives_limits : Setting → Option Bool
+abbrev pub gives_limits : Setting → Option Bool
 gives_limits (Limits on) = Some on
 gives_limits _ = None
 
 abbrev pub limits : List ScanAct → Bool
 limits = last_set gives_limits false
 
-abbrev gives_source : Setting → Option Source
+abbrev pub gives_source : Setting → Option Source
 gives_source (SetSource source) = Some source
 gives_source _ = None
 
 abbrev pub source : List ScanAct → Source
 source = last_set gives_source Immediate
 
-abbrev gives_count : Setting → Option ℕ
+abbrev pub gives_count : Setting → Option ℕ
 gives_count (Count scans) = Some scans
 gives_count _ = None
 
@@ -86,11 +86,11 @@ abbrev pub is_channel : ℕ → Bool
 is_channel channel = nat_le 1 channel && nat_le channel 32
 
 -- between two voltages, both included
-abbrev is_between : ℤ → ℤ → ℤ → Bool
+abbrev pub is_between : ℤ → ℤ → ℤ → Bool
 is_between low value high = int_le low value && int_le value high
 
 -- up to 1,000 V in magnitude
-abbrev is_limit : ℤ → Bool
+abbrev pub is_limit : ℤ → Bool
 is_limit value = is_between (neg_ℤ (pos 1000000000)) value (pos 1000000000)
 
 -- whether a setting may have its value

@@ -1,5 +1,5 @@
 -- What the scanner holds, and the acts that it stands for.
-use Rattle.std.specs.Prelude.{◌≡◌, ℕ, ◌-◌, ℤ, pos, Bool, true, List, length, Option, slice_index_or}
+use Rattle.std.specs.Prelude.{◌≡◌, ℕ, ◌-◌, ℤ, pos, Bool, true, List, Option, slice_index_or}
 use Rattle.std.specs.Prelude.{option_map}
 use Rattle.sv_scan.specs.declared.setting.Reading.{Reading}
 use Rattle.sv_scan.specs.declared.setting.Source.{Source}

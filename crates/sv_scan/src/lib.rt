@@ -7,11 +7,18 @@
 #![tactic(auto)]
 
 mod acts;
+mod possible;
+mod reading;
+mod run;
 mod scan_list;
+mod scanner;
 mod setting;
+mod settings;
+mod state;
 mod words;
 
 pub use acts::{ScanAct, ScanAnswer};
 pub use scan_list::ScanList;
+pub use scanner::Scanner;
 pub use setting::{Reading, Setting, Source, State};
 pub use words::Conditions;

@@ -1,6 +1,6 @@
 //! The channels that a scan reads.
 
-ghost use Rattle.std.specs.Prelude.{◌≡◌, [], ◌∷◌};
+ghost use Rattle.std.specs.Prelude.{◌≡◌, ◌≤◌, [], ◌∷◌, length};
 
 use arrayvec::ArrayVec;
 use std::marker::Model;
@@ -36,9 +36,19 @@ impl ScanList {
         ScanList { channels }
     }
 
+    /// The same list once more. Takes no memory.
+    pub fn copied(&self) -> ScanList
+        ensures { result ≡ self.now }
+    {
+        let mut channels = ArrayVec::new();
+        let _fits = channels.try_extend_from_slice(self.channels.as_slice());
+        ScanList { channels }
+    }
+
     /// The channels, in their order.
     pub fn channels(&self) -> &[u8]
-        ensures { result.now ≡ self.now }
+        ensures same { result.now ≡ self.now }
+        ensures few { length result.now ≤ 32 }
     {
         self.channels.as_slice()
     }

@@ -1,0 +1,61 @@
+-- What is true of a measurement: its channels are there, and there is room for its readings.
+use Rattle.std.proofs.Common.{◌≡◌, ℕ, ◌*◌, ◌%◌, ◌<◌, ◌≤◌, Bool, true, false, List, length, Some, Option, refl, subst, arith, if◌then◌else◌}
+use Rattle.std.proofs.Math.Nat.{mul-le-mul}
+use Rattle.std.proofs.lemmas.Bool.{and_parts, eqb-false}
+use Rattle.std.proofs.lemmas.Bool.Decides.{nat_tests}
+use Rattle.std.proofs.lemmas.Nat.{mod_below}
+use Rattle.std.proofs.lemmas.List.Elements.{All-get_or}
+use Rattle.std.proofs.lemmas.List.Sums.{AllPass-from_list_all}
+use Rattle.std.specs.List.{list_all}
+use Rattle.std.specs.Prelude.{◌==◌, nat_le, ◌&&◌}
+use Rattle.sv_scan.specs.declared.setting.Setting.TheVariants.{List as SetList}
+use Rattle.sv_scan.specs.declared.setting.State.TheVariants.{Idle, Waiting, Scanning}
+use Rattle.sv_scan.specs.Setting.{is_channel, is_possible}
+use Rattle.sv_scan.specs.Scan.{channel_at, state_by}
+use Rattle.sv_scan.specs.Counted.{is_scanning}
+use Rattle.sv_scan.specs.Stands.{Run, Held}
+use Rattle.sv_scan.specs.Kept.{IsKept, IsRun, IsRunOf, run_state}
+
+-- a list that may be scanned
+size_is : (n : ℕ) → nat_le 1 n ≡ true → nat_le n 32 ≡ true → (1 ≤ n) × (n ≤ 32)
+size_is n some few = grind (arith, nat_tests)
+
+pub size_in : (channels : List ℕ) → is_possible (SetList channels) ≡ true → (1 ≤ length channels) × (length channels ≤ 32)
+size_in channels possible =
+    let parts = and_parts (nat_le 1 (length channels)) (nat_le (length channels) 32 && list_all is_channel channels) possible in
+    size_is (length channels) parts.0 (and_parts (nat_le (length channels) 32) (list_all is_channel channels) parts.1).0
+
+pub channel_in : (channels : List ℕ) (read : ℕ) → is_possible (SetList channels) ≡ true → is_channel (channel_at channels read) ≡ true
+channel_in channels read possible =
+    let size = size_in channels possible in
+    let parts = and_parts (nat_le 1 (length channels)) (nat_le (length channels) 32 && list_all is_channel channels) possible in
+    let all = (and_parts (nat_le (length channels) 32) (list_all is_channel channels) parts.1).1 in
+    All-get_or (λ (channel : ℕ). is_channel channel ≡ true) channels (read % length channels) 0 (mod_below read (length channels) (omega arith)) (AllPass-from_list_all is_channel channels all)
+
+-- the channel whose turn it is
+pub turn_is : (held : Held) (capacity : ℕ) (r : Run) → held.run ≡ Some r → IsKept held capacity → is_channel (channel_at r.channels (length held.readings)) ≡ true
+turn_is held capacity r e kept =
+    let run : IsRun r (length held.readings) = subst (λ (o : Option Run). IsRunOf o (length held.readings)) e kept.run in channel_in r.channels (length held.readings) run.channels
+
+-- in a scan not each triggered channel was read
+is_short : (all triggered : Bool) → is_scanning (if all then Idle else if triggered then Waiting else Scanning) ≡ true → triggered ≡ false
+is_short true triggered e = cc
+is_short false true e = cc
+is_short false false e = refl
+
+short_in : (r : Run) (read : ℕ) → is_scanning (state_by r.triggers read (length r.channels) r.scans) ≡ true → read ≡ r.triggers * length r.channels → ⊥
+short_in r read e = eqb-false read (r.triggers * length r.channels) (is_short (read == r.scans * length r.channels) (read == r.triggers * length r.channels) e)
+
+-- so there is room for one more
+room_in : (r : Run) (read capacity : ℕ) → 512 ≤ capacity → IsRun r read → (read ≡ r.triggers * length r.channels → ⊥) → read < capacity
+room_in r read capacity room run short =
+    let size = size_in r.channels run.channels in
+    let triggers : r.triggers ≤ 16 = omega (arith, run.scans, run.triggers) in
+    let bound : r.triggers * length r.channels ≤ 16 * 32 = mul-le-mul triggers size.1 in
+    omega (arith, run.read, short)
+
+pub has_room : (held : Held) (capacity : ℕ) (r : Run) → held.run ≡ Some r → IsKept held capacity → is_scanning (run_state held.run (length held.readings)) ≡ true → length held.readings < capacity
+has_room held capacity r e kept scanning =
+    let run : IsRun r (length held.readings) = subst (λ (o : Option Run). IsRunOf o (length held.readings)) e kept.run in
+    let now : is_scanning (run_state (Some r) (length held.readings)) ≡ true = subst (λ (o : Option Run). is_scanning (run_state o (length held.readings)) ≡ true) e scanning in
+    room_in r (length held.readings) capacity kept.room run (short_in r (length held.readings) now)

@@ -1,0 +1,78 @@
+-- What the searches of the acts find, by what the scanner holds.
+use Rattle.std.proofs.Common.{◌≡◌, ℕ, ◌+◌, ◌-◌, List, [], ◌∷◌, ◌++◌, length, Some, None, Option, refl, ap, ◌∙◌, arith, length-append, add-one}
+use Rattle.std.proofs.lemmas.Option.{slice_get-get_or}
+use Rattle.std.proofs.Math.Seq.{get_or-append_seam}
+use Rattle.std.specs.Prelude.{slice_get, option_map}
+use Rattle.sv_scan.specs.declared.setting.Reading.{Reading}
+use Rattle.sv_scan.specs.declared.acts.ScanAct.{ScanAct}
+use Rattle.sv_scan.specs.declared.acts.ScanAct.TheVariants.{Input, Configure, Init, Abort, Reset, Trigger, Sample}
+use Rattle.sv_scan.specs.Setting.{scan_list, count}
+use Rattle.sv_scan.specs.Scan.{before_init, triggers, samples, state, state_since, complete_since, is_complete, list_since, readings, reading, last_reading}
+use Rattle.sv_scan.specs.Stands.{Run, Held, Holds, run}
+use Rattle.sv_scan.specs.Kept.{run_state, run_complete}
+
+-- there are as many readings as samples
+pub length-readings : (log : List ScanAct) → length (readings log) ≡ samples log
+length-readings [] = refl
+length-readings (Sample ∷ log) = length-append (readings log) (reading log ∷ []) ∙ ap (λ (n : ℕ). n + 1) (length-readings log) ∙ add-one (samples log)
+length-readings (Init ∷ log) = refl
+length-readings (Abort ∷ log) = refl
+length-readings (Reset ∷ log) = refl
+length-readings (Input channel microvolts ∷ log) = length-readings log
+length-readings (Configure setting ∷ log) = length-readings log
+length-readings (Trigger source ∷ log) = length-readings log
+
+-- the last one of a list that ends so
+last_of : (xs : List Reading) (x : Reading) → slice_get (xs ++ x ∷ []) (length (xs ++ x ∷ []) - 1) ≡ Some x
+last_of xs x =
+    let size = length-append xs (x ∷ []) in
+    let place : length (xs ++ x ∷ []) - 1 ≡ length xs = omega arith in
+    ap (slice_get (xs ++ x ∷ [])) place ∙ slice_get-get_or (xs ++ x ∷ []) (length xs) x (omega arith) ∙ ap (λ (y : Reading). Some y) (get_or-append_seam xs x [] x)
+
+-- the last reading is the newest
+last_is : (log : List ScanAct) → slice_get (readings log) (length (readings log) - 1) ≡ last_reading log
+last_is [] = refl
+last_is (Sample ∷ log) = last_of (readings log) (reading log)
+last_is (Init ∷ log) = refl
+last_is (Abort ∷ log) = refl
+last_is (Reset ∷ log) = refl
+last_is (Input channel microvolts ∷ log) = last_is log
+last_is (Configure setting ∷ log) = last_is log
+last_is (Trigger source ∷ log) = last_is log
+
+pub last_found : (found held : List Reading) (log : List ScanAct) → found ≡ held → held ≡ readings log → slice_get found (length found - 1) ≡ last_reading log
+last_found found held log same is = ap (λ (xs : List Reading). slice_get xs (length xs - 1)) (same ∙ is) ∙ last_is log
+
+-- a measurement, as the acts in front of its initiation give it
+abbrev run_of : ℕ → List ScanAct → Run
+run_of count_of before = record { channels = scan_list before; scans = count before; triggers = count_of }
+
+-- the state of the measurement that is held
+state_of_run : (before : Option (List ScanAct)) (had read : ℕ) → run_state (option_map (run_of had) before) read ≡ state_since before had read
+state_of_run None had read = refl
+state_of_run (Some before) had read = refl
+
+pub state_is : (held : Held) (log : List ScanAct) → Holds held log → run_state held.run (length held.readings) ≡ state log
+state_is held log is =
+    ap (λ (r : Option Run). run_state r (length held.readings)) is.run
+    ∙ ap (run_state (run log)) (ap length is.readings ∙ length-readings log)
+    ∙ state_of_run (before_init log) (triggers log) (samples log)
+
+-- whether its readings are complete
+complete_of_run : (before : Option (List ScanAct)) (had read : ℕ) → run_complete (option_map (run_of had) before) read ≡ complete_since before read
+complete_of_run None had read = refl
+complete_of_run (Some before) had read = refl
+
+pub complete_is : (held : Held) (log : List ScanAct) → Holds held log → run_complete held.run (length held.readings) ≡ is_complete log
+complete_is held log is =
+    ap (λ (r : Option Run). run_complete r (length held.readings)) is.run
+    ∙ ap (run_complete (run log)) (ap length is.readings ∙ length-readings log)
+    ∙ complete_of_run (before_init log) (triggers log) (samples log)
+
+-- the list of the measurement that is held
+list_of_run : (before : Option (List ScanAct)) (had : ℕ) (r : Run) → option_map (run_of had) before ≡ Some r → list_since before ≡ r.channels
+list_of_run None had r e = cc
+list_of_run (Some before) had r e = let same : run_of had before ≡ r = cc in ap (λ (run : Run). run.channels) same
+
+pub list_is : (log : List ScanAct) (r : Run) → run log ≡ Some r → list_since (before_init log) ≡ r.channels
+list_is log r e = list_of_run (before_init log) (triggers log) r e

@@ -1,0 +1,57 @@
+-- What is true of all that the scanner holds.
+use Rattle.std.specs.Prelude.{◌≡◌, ℕ, ◌*◌, ◌==◌, ◌≤◌, ℤ, pos, int_le, Bool, true, false, List, length, Option, Some, None}
+use Rattle.sv_scan.specs.declared.setting.Setting.TheVariants.{List as SetList, Count}
+use Rattle.sv_scan.specs.declared.setting.Reading.{Reading}
+use Rattle.sv_scan.specs.declared.setting.State.{State}
+use Rattle.sv_scan.specs.declared.setting.State.TheVariants.{Idle}
+use Rattle.sv_scan.specs.declared.settings.Settings.{Settings}
+use Rattle.sv_scan.specs.Setting.{is_channel, is_possible}
+use Rattle.sv_scan.specs.Scan.{state_by}
+use Rattle.sv_scan.specs.Stands.{Run, Held}
+
+-- the state of a measurement behind so many samples; idle without one
+abbrev pub run_state : Option Run → ℕ → State
+run_state None samples = Idle
+run_state (Some run) samples = state_by run.triggers samples (length run.channels) run.scans
+
+-- whether each channel of each of its scans was read
+abbrev pub run_complete : Option Run → ℕ → Bool
+run_complete None samples = false
+run_complete (Some run) samples = samples == run.scans * length run.channels
+
+-- A measurement has a list that may be scanned, up to 16 scans, no more triggers than scans, and no more samples than its triggered scans have.
+pub record IsRun (run : Run) (samples : ℕ) : Type 0 where
+  pub channels : is_possible (SetList run.channels) ≡ true
+  pub scans : run.scans ≤ 16
+  pub triggers : run.triggers ≤ run.scans
+  pub read : samples ≤ run.triggers * length run.channels
+
+abbrev pub IsRunOf : Option Run → ℕ → Type 0
+IsRunOf None samples = samples ≡ 0
+IsRunOf (Some run) samples = IsRun run samples
+
+-- There are 32 inputs and room for 512 readings, and list, monitor, range, count and measurement are legal.
+pub record IsKept (held : Held) (capacity : ℕ) : Type 0 where
+  pub inputs : length held.inputs ≡ 32
+  pub room : 512 ≤ capacity
+  pub list : is_possible (SetList held.list) ≡ true
+  pub monitor : is_channel held.monitor ≡ true
+  pub range : int_le (pos 0) held.range ≡ true
+  pub count : is_possible (Count held.count) ≡ true
+  pub run : IsRunOf held.run (length held.readings)
+
+-- what is held, by its parts
+abbrev pub held_of : List ℤ → Settings → Option Run → List Reading → Held
+held_of inputs settings run readings = record {
+  inputs = inputs;
+  list = settings.list;
+  monitor = settings.monitor;
+  range = settings.range;
+  upper = settings.upper;
+  lower = settings.lower;
+  limits = settings.limits;
+  source = settings.source;
+  count = settings.count;
+  run = run;
+  readings = readings;
+}

@@ -1,0 +1,87 @@
+//! Which values a setting may have, and when it can be changed.
+
+ghost use Rattle.std.specs.Prelude.{◌≡◌};
+ghost use Rattle.std.specs.List.{list_all};
+ghost use Rattle.sv_scan.specs.Setting.{is_channel as is_channel_number, is_limit as is_limit_value, is_possible as may_have, is_fixed as has_to_wait, least_range as least_range_of};
+
+use crate::setting::Setting;
+
+/// How many channels there are.
+const CHANNELS: u8 = 32;
+/// How long a scan list may be.
+const MAX_LIST: usize = 32;
+/// How many scans a measurement may have.
+const MAX_COUNT: u8 = 16;
+/// The magnitude of a limit, in microvolts: up to 1,000 V.
+const MAX_LIMIT: i64 = 1_000_000_000;
+/// The ranges, in microvolts: 1, 10 and 100 V.
+const RANGES: (i64, i64, i64) = (1_000_000, 10_000_000, 100_000_000);
+
+/// Whether there is a channel of this number: 1 to 32.
+pub(crate) fn is_channel(channel: u8) -> bool
+    ensures { result ≡ is_channel_number channel }
+{
+    1 <= channel && channel <= CHANNELS
+}
+
+/// Whether there is a channel of each of these numbers.
+fn are_channels(channels: &[u8]) -> bool
+    ensures { result ≡ list_all is_channel_number channels.now }
+{
+    channels.iter().all(|channel| is_channel(*channel))
+}
+
+/// Whether a limit may be this, in microvolts: up to 1,000 V in magnitude.
+fn is_limit(microvolts: i64) -> bool
+    ensures { result ≡ is_limit_value microvolts }
+{
+    -MAX_LIMIT <= microvolts && microvolts <= MAX_LIMIT
+}
+
+/// The least range that isn't below this one, in microvolts.
+pub(crate) fn least_range(wanted: i64) -> i64
+    ensures { result ≡ least_range_of wanted }
+{
+    if wanted <= RANGES.0 {
+        RANGES.0
+    } else if wanted <= RANGES.1 {
+        RANGES.1
+    } else {
+        RANGES.2
+    }
+}
+
+/// Whether a setting may have its value.
+pub(crate) fn is_possible(setting: &Setting) -> bool
+    ensures { result ≡ may_have setting.now }
+{
+    match setting {
+        Setting::List(list) => {
+            let channels = list.channels();
+            1 <= channels.len() && (channels.len() <= MAX_LIST && are_channels(channels))
+        }
+        Setting::Monitor(channel) => is_channel(*channel),
+        Setting::Range(wanted) => 0 <= *wanted && *wanted <= RANGES.2,
+        Setting::Upper(limit) => is_limit(*limit),
+        Setting::Lower(limit) => is_limit(*limit),
+        Setting::Limits(_on) => true,
+        Setting::Source(_source) => true,
+        Setting::Count(scans) => 1 <= *scans && *scans <= MAX_COUNT,
+    }
+}
+
+/// Whether a setting can be changed in the idle state alone.
+pub(crate) fn is_fixed(setting: &Setting) -> bool
+    ensures { result ≡ has_to_wait setting.now }
+{
+    match setting {
+        Setting::List(_list) => true,
+        Setting::Range(_wanted) => true,
+        Setting::Source(_source) => true,
+        Setting::Count(_scans) => true,
+        Setting::Monitor(_channel) => false,
+        Setting::Upper(_limit) => false,
+        Setting::Lower(_limit) => false,
+        Setting::Limits(_on) => false,
+    }
+}

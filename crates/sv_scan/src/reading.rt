@@ -1,0 +1,68 @@
+//! Voltages and readings.
+
+ghost use Rattle.std.specs.Prelude.{◌≡◌, ◌-◌, pos, int_le, IsTrue, length, slice_index_or};
+ghost use Rattle.sv_scan.specs.Setting.{is_channel};
+ghost use Rattle.sv_scan.specs.Scan.{reading_in as reading_of};
+ghost use Rattle.sv_scan.specs.Condition.{is_overload as overloads, is_below as lies_below, is_above as lies_above};
+
+use crate::setting::Reading;
+
+/// The voltage of a channel's input, in microvolts.
+pub(crate) fn voltage(inputs: &[i64; 32], channel: u8) -> i64
+    requires { IsTrue (is_channel channel) }
+    ensures { result ≡ slice_index_or inputs.now (channel - 1) (pos 0) }
+{
+    inputs[usize::from(channel) - 1]
+}
+
+/// A voltage as it reads in a range, both in microvolts.
+pub(crate) fn reading_in(range: i64, microvolts: i64) -> Reading
+    requires { IsTrue (int_le (pos 0) range) }
+    ensures { result ≡ reading_of range microvolts }
+{
+    if microvolts > range {
+        Reading::Over
+    } else if microvolts < -range {
+        Reading::Under
+    } else {
+        Reading::Value(microvolts)
+    }
+}
+
+/// Whether there is a reading and it is an overload.
+pub(crate) fn is_overload(reading: Option<Reading>) -> bool
+    ensures { result ≡ overloads reading }
+{
+    match reading {
+        None => false,
+        Some(Reading::Value(_microvolts)) => false,
+        Some(Reading::Over) => true,
+        Some(Reading::Under) => true,
+    }
+}
+
+/// Whether there is a reading and it is below a limit, in microvolts: a negative overload is below
+/// every limit.
+pub(crate) fn is_below(reading: Option<Reading>, limit: i64) -> bool
+    ensures { result ≡ lies_below reading limit }
+{
+    match reading {
+        None => false,
+        Some(Reading::Value(microvolts)) => microvolts < limit,
+        Some(Reading::Over) => false,
+        Some(Reading::Under) => true,
+    }
+}
+
+/// Whether there is a reading and it is above a limit, in microvolts: a positive overload is above
+/// every limit.
+pub(crate) fn is_above(reading: Option<Reading>, limit: i64) -> bool
+    ensures { result ≡ lies_above reading limit }
+{
+    match reading {
+        None => false,
+        Some(Reading::Value(microvolts)) => microvolts > limit,
+        Some(Reading::Over) => true,
+        Some(Reading::Under) => false,
+    }
+}

@@ -1,0 +1,77 @@
+//! A measurement from its initiation on.
+
+ghost use Rattle.std.specs.Prelude.{◌≡◌, ◌+◌, ◌*◌, ◌<◌, ◌==◌, length};
+ghost use Rattle.sv_scan.specs.Scan.{state_by, channel_at};
+
+use crate::scan_list::ScanList;
+use crate::setting::State;
+use std::marker::Model;
+
+/// A measurement: what was fixed when it was initiated, and how many triggers it had.
+#[derive(Drop)]
+pub(crate) struct Run {
+    /// The channels that each scan reads.
+    list: ScanList,
+    /// How many scans are wanted.
+    scans: u8,
+    triggers: u8,
+}
+
+impl Model for Run {
+    ghost use Rattle.sv_scan.specs.Stands.{Run as Measurement};
+
+    ghost Value = { Measurement };
+
+    ghost view = { λ r. record { channels = r.list; scans = r.scans; triggers = r.triggers } };
+}
+
+impl Run {
+    /// A measurement that had no trigger.
+    pub(crate) fn new(list: ScanList, scans: u8) -> Run
+        ensures { result ≡ record { channels = list; scans = scans; triggers = 0 } }
+    {
+        Run {
+            list,
+            scans,
+            triggers: 0,
+        }
+    }
+
+    /// Its state behind so many samples.
+    pub(crate) fn state(&self, samples: usize) -> State
+        ensures { result ≡ state_by self.now.triggers samples (length self.now.channels) self.now.scans }
+    {
+        let channels = self.list.channels().len();
+        if samples == usize::from(self.scans) * channels {
+            State::Idle
+        } else if samples == usize::from(self.triggers) * channels {
+            State::Waiting
+        } else {
+            State::Scanning
+        }
+    }
+
+    /// Whether each channel of each scan was read, behind so many samples.
+    pub(crate) fn is_complete(&self, samples: usize) -> bool
+        ensures { result ≡ (samples == self.now.scans * length self.now.channels) }
+    {
+        samples == usize::from(self.scans) * self.list.channels().len()
+    }
+
+    /// The channel whose turn it is behind so many samples: they go round the list.
+    pub(crate) fn channel(&self, samples: usize) -> u8
+        requires { 0 < length self.now.channels }
+        ensures { result ≡ channel_at self.now.channels samples }
+    {
+        let channels = self.list.channels();
+        channels[samples % channels.len()]
+    }
+
+    /// It had one trigger more.
+    pub(crate) fn trigger(&mut self)
+        requires { self.old.triggers < 16 }
+        ensures { self.new ≡ record self.old { triggers = self.old.triggers + 1 } }
+    {
+        self.triggers += 1;
+    }
+}

@@ -1,0 +1,271 @@
+//! The scanner.
+
+ghost use Rattle.std.specs.Prelude.{◌≡◌, ◌&&◌, true, false, [], ◌∷◌, List, length, IfOk, OnErr, MatchResult};
+ghost use Rattle.sv_errors.specs.declared.code.Code.TheVariants.{DataCorruptOrStale};
+ghost use Rattle.sv_scan.specs.Setting.{source as source_of};
+ghost use Rattle.sv_scan.specs.Scan.{state as state_of, readings as readings_of, last_reading as last_of, is_complete as completes};
+ghost use Rattle.sv_scan.specs.Counted.{kept, setting_fault, init_fault, trigger_fault, read_fault, is_waiting as waits, is_scanning as scans, same_source};
+ghost use Rattle.sv_scan.specs.Condition.{operation, questionable, is_outside as lies_outside};
+ghost use Rattle.sv_scan.specs.Answered.{refused_by};
+ghost use Rattle.sv_scan.specs.Stands.{StandsFor};
+ghost use Rattle.sv_scan.specs.Kept.{run_state};
+
+use crate::acts::{ScanAct, ScanAnswer};
+use crate::possible::{is_channel, is_fixed, is_possible};
+use crate::reading::{is_above, is_below, is_overload, reading_in, voltage};
+use crate::run::Run;
+use crate::setting::{Reading, Setting, Source, State};
+use crate::settings::Settings;
+use crate::state::{is_complete, is_idle, is_same, is_scanning, is_waiting, state_in};
+use crate::words::{Conditions, operation_word, questionable_word};
+use std::alloc::{AllocError, Allocator, Global};
+use std::marker::Model;
+use sv_errors::{Code, Layer};
+
+/// How many readings there may be: 16 scans of 32 channels.
+const MAX_READINGS: usize = 512;
+
+/// The measuring part of the instrument: 32 inputs, its settings, the measurement that is under way or
+/// was the last, and its readings.
+#[derive(Drop)]
+pub struct Scanner<A: Allocator = Global> {
+    /// The input of each channel, in microvolts; that of channel 1 first.
+    inputs: [i64; 32],
+    settings: Settings,
+    /// The measurement since the last initiation.
+    run: Option<Run>,
+    /// Its readings, oldest first; none without a measurement.
+    readings: Vec<Reading, A>,
+}
+
+impl<A: Allocator> Model for Scanner<A> {
+    ghost use Rattle.sv_scan.specs.Stands.{Held};
+
+    ghost Value = { Held };
+
+    ghost use Rattle.std.specs.Prelude.{vec_capacity};
+    ghost use Rattle.sv_scan.specs.Kept.{held_of, IsKept};
+
+    ghost view = { λ a. held_of a.inputs a.settings a.run a.readings.items };
+
+    ghost invariant = { λ a. IsKept (held_of a.inputs a.settings a.run a.readings.items) (vec_capacity a.readings) };
+}
+
+impl<A: Allocator> Scanner<A> {
+    /// A scanner whose settings are their defaults and whose inputs are 0. Takes the memory of all
+    /// readings.
+    pub fn new(alloc: A) -> Result<Scanner<A>, AllocError>
+        ensures { IfOk result (λ scanner. StandsFor scanner []) }
+    {
+        Ok(Scanner {
+            inputs: [0; 32],
+            settings: Settings::new(),
+            run: None,
+            readings: Vec::with_capacity(alloc, MAX_READINGS)?,
+        })
+    }
+
+    /// The voltage of a channel's input is this from now on, in microvolts. A channel that isn't 1 to 32
+    /// has no input: nothing changes.
+    pub fn input(&mut self, channel: u8, microvolts: i64)
+        ensures { (acts : List ScanAct) → StandsFor self.old acts → StandsFor self.new (ScanAct.Input channel microvolts ∷ acts) }
+    {
+        if is_channel(channel) {
+            self.inputs[usize::from(channel) - 1] = microvolts;
+        }
+    }
+
+    /// Changes a setting.
+    ///
+    /// # Errors
+    /// [`Code::DataOutOfRange`] where it may not have this value, then [`Code::SettingsConflict`] where it
+    /// can't be changed now; then nothing changes.
+    pub fn configure(&mut self, setting: Setting) -> Result<(), Code>
+        ensures stands { (acts : List ScanAct) → StandsFor self.old acts → StandsFor self.new (ScanAct.Configure setting ∷ acts) }
+        ensures answer { (acts : List ScanAct) → StandsFor self.old acts → result ≡ refused_by (setting_fault (kept acts) setting) }
+        ensures refused { OnErr result (self.new ≡ self.old) }
+    {
+        if !is_possible(&setting) {
+            return Err(Code::DataOutOfRange);
+        }
+        if is_fixed(&setting) && !is_idle(self.state()) {
+            return Err(Code::SettingsConflict);
+        }
+        self.settings.set(setting);
+        Ok(())
+    }
+
+    /// Initiates a measurement, with the scan list and the count as they are set now.
+    ///
+    /// # Errors
+    /// [`Code::InitIgnored`] where one is under way; then nothing changes.
+    pub fn init(&mut self) -> Result<(), Code>
+        ensures stands { (acts : List ScanAct) → StandsFor self.old acts → StandsFor self.new (ScanAct.Init ∷ acts) }
+        ensures answer { (acts : List ScanAct) → StandsFor self.old acts → result ≡ refused_by (init_fault (kept acts)) }
+        ensures refused { OnErr result (self.new ≡ self.old) }
+    {
+        if !is_idle(self.state()) {
+            return Err(Code::InitIgnored);
+        }
+        self.readings.clear();
+        self.run = Some(Run::new(self.settings.list.copied(), self.settings.count));
+        Ok(())
+    }
+
+    /// Whether a reading can be waited for.
+    ///
+    /// # Errors
+    /// [`Code::TriggerDeadlock`] where triggers come from the controller, which would be waiting.
+    pub fn may_read(&self) -> Result<(), Code>
+        ensures { (acts : List ScanAct) → StandsFor self.now acts → result ≡ refused_by (read_fault (kept acts)) }
+    {
+        if is_same(self.settings.source, Source::Bus) {
+            return Err(Code::TriggerDeadlock);
+        }
+        Ok(())
+    }
+
+    /// Ends the measurement; its readings are gone.
+    pub fn abort(&mut self)
+        ensures { (acts : List ScanAct) → StandsFor self.old acts → StandsFor self.new (ScanAct.Abort ∷ acts) }
+    {
+        self.run = None;
+        self.readings.clear();
+    }
+
+    /// Ends the measurement, and gives each setting its default. The inputs stay.
+    pub fn reset(&mut self)
+        ensures { (acts : List ScanAct) → StandsFor self.old acts → StandsFor self.new (ScanAct.Reset ∷ acts) }
+    {
+        self.run = None;
+        self.readings.clear();
+        self.settings = Settings::new();
+    }
+
+    /// A trigger from this source: the next scan begins.
+    ///
+    /// # Errors
+    /// [`Code::TriggerIgnored`] where none is waited for, or one from another source; then nothing changes.
+    pub fn trigger(&mut self, source: Source) -> Result<(), Code>
+        ensures stands { (acts : List ScanAct) → StandsFor self.old acts → StandsFor self.new (ScanAct.Trigger source ∷ acts) }
+        ensures answer { (acts : List ScanAct) → StandsFor self.old acts → result ≡ refused_by (trigger_fault (kept acts) source) }
+        ensures refused { OnErr result (self.new ≡ self.old) }
+    {
+        let awaited = self.awaits(source);
+        let Some(run) = &mut self.run else {
+            return Err(Code::TriggerIgnored);
+        };
+        if !awaited {
+            return Err(Code::TriggerIgnored);
+        }
+        run.trigger();
+        Ok(())
+    }
+
+    /// Reads the next channel of the scan, and tells whether one was read: outside of a scan nothing changes.
+    pub fn sample(&mut self) -> bool
+        ensures stands { (acts : List ScanAct) → StandsFor self.old acts → StandsFor self.new (ScanAct.Sample ∷ acts) }
+        ensures answer { (acts : List ScanAct) → StandsFor self.old acts → result ≡ scans (state_of (kept acts)) }
+    {
+        if !is_scanning(self.state()) {
+            return false;
+        }
+        let Some(run) = &self.run else {
+            return false;
+        };
+        let channel = run.channel(self.readings.len());
+        let reading = reading_in(self.settings.range, voltage(&self.inputs, channel));
+        self.readings.push_reserved(reading);
+        true
+    }
+
+    /// What the trigger system does.
+    pub fn state(&self) -> State
+        ensures value { result ≡ run_state self.now.run (length self.now.readings) }
+        ensures answer { (acts : List ScanAct) → StandsFor self.now acts → result ≡ state_of (kept acts) }
+    {
+        state_in(&self.run, self.readings.len())
+    }
+
+    /// Whether a trigger from this source is waited for.
+    fn awaits(&self, from: Source) -> bool
+        ensures value { result ≡ (waits (run_state self.now.run (length self.now.readings)) && same_source self.now.source from) }
+        ensures answer { (acts : List ScanAct) → StandsFor self.now acts → result ≡ (waits (state_of (kept acts)) && same_source (source_of (kept acts)) from) }
+    {
+        is_waiting(self.state()) && is_same(self.settings.source, from)
+    }
+
+    /// The newest reading of the measurement, where there is one.
+    fn last_reading(&self) -> Option<Reading>
+        ensures { (acts : List ScanAct) → StandsFor self.now acts → result ≡ last_of (kept acts) }
+    {
+        self.readings.last().copied()
+    }
+
+    /// Whether the live input of the monitored channel is outside the limits.
+    fn is_outside(&self) -> bool
+        ensures { (acts : List ScanAct) → StandsFor self.now acts → result ≡ lies_outside (kept acts) }
+    {
+        let live = voltage(&self.inputs, self.settings.monitor);
+        live < self.settings.lower || self.settings.upper < live
+    }
+
+    /// The condition words as they are now.
+    pub fn conditions(&self) -> Conditions
+        ensures operation { (acts : List ScanAct) → StandsFor self.now acts → result.operation ≡ operation (kept acts) }
+        ensures questionable { (acts : List ScanAct) → StandsFor self.now acts → result.questionable ≡ questionable (kept acts) }
+    {
+        let last = self.last_reading();
+        Conditions {
+            operation: operation_word(self.state()),
+            questionable: questionable_word(
+                is_overload(last),
+                self.settings.limits,
+                is_below(last, self.settings.lower),
+                is_above(last, self.settings.upper),
+                self.is_outside(),
+            ),
+        }
+    }
+
+    /// The readings of the last measurement, oldest first: scan by scan, each in the order of its list.
+    ///
+    /// # Errors
+    /// [`Code::DataCorruptOrStale`] where they aren't complete, or were aborted.
+    pub fn readings(&self) -> Result<&[Reading], Code>
+        ensures { (acts : List ScanAct) → StandsFor self.now acts
+            → MatchResult result (λ found. (completes (kept acts) ≡ true) × (found.now ≡ readings_of (kept acts))) (λ code. (completes (kept acts) ≡ false) × (code ≡ DataCorruptOrStale)) }
+    {
+        if is_complete(&self.run, self.readings.len()) {
+            Ok(self.readings.as_slice())
+        } else {
+            Err(Code::DataCorruptOrStale)
+        }
+    }
+}
+
+impl<A: Allocator> Layer for Scanner<A> {
+    ghost use Rattle.sv_scan.specs.Stands.{StandsFor};
+    ghost use Rattle.sv_scan.specs.Answered.{Gives};
+
+    type Act = ScanAct;
+
+    type Answer = ScanAnswer;
+
+    ghost stands_for = { StandsFor };
+
+    ghost gives = { Gives };
+
+    fn act(&mut self, act: ScanAct) -> ScanAnswer {
+        match act {
+            ScanAct::Input(channel, microvolts) => self.input(channel, microvolts),
+            ScanAct::Configure(setting) => return ScanAnswer::Answered(self.configure(setting)),
+            ScanAct::Init => return ScanAnswer::Answered(self.init()),
+            ScanAct::Abort => self.abort(),
+            ScanAct::Reset => self.reset(),
+            ScanAct::Trigger(source) => return ScanAnswer::Answered(self.trigger(source)),
+            ScanAct::Sample => return ScanAnswer::Sampled(self.sample()),
+        }
+        ScanAnswer::Done
+    }
+}

@@ -1,0 +1,68 @@
+//! The state of the trigger system.
+
+ghost use Rattle.std.specs.Prelude.{◌≡◌};
+ghost use Rattle.sv_scan.specs.Counted.{is_idle as idles, is_waiting as waits, is_scanning as scans, same_source};
+ghost use Rattle.sv_scan.specs.Kept.{run_state, run_complete};
+
+use crate::run::Run;
+use crate::setting::{Source, State};
+
+/// The state of a measurement behind so many samples; idle without one.
+pub(crate) fn state_in(run: &Option<Run>, samples: usize) -> State
+    ensures { result ≡ run_state run.now samples }
+{
+    match run {
+        None => State::Idle,
+        Some(run) => run.state(samples),
+    }
+}
+
+/// Whether there is a measurement and each channel of each of its scans was read.
+pub(crate) fn is_complete(run: &Option<Run>, samples: usize) -> bool
+    ensures { result ≡ run_complete run.now samples }
+{
+    match run {
+        None => false,
+        Some(run) => run.is_complete(samples),
+    }
+}
+
+/// Whether no measurement is under way.
+pub(crate) fn is_idle(state: State) -> bool
+    ensures { result ≡ idles state }
+{
+    match state {
+        State::Idle => true,
+        State::Waiting => false,
+        State::Scanning => false,
+    }
+}
+
+/// Whether a scan waits for its trigger.
+pub(crate) fn is_waiting(state: State) -> bool
+    ensures { result ≡ waits state }
+{
+    match state {
+        State::Idle => false,
+        State::Waiting => true,
+        State::Scanning => false,
+    }
+}
+
+/// Whether a scan is under way.
+pub(crate) fn is_scanning(state: State) -> bool
+    ensures { result ≡ scans state }
+{
+    match state {
+        State::Idle => false,
+        State::Waiting => false,
+        State::Scanning => true,
+    }
+}
+
+/// Whether triggers from the one come from the other.
+pub(crate) fn is_same(first: Source, second: Source) -> bool
+    ensures { result ≡ same_source first second }
+{
+    first == second
+}
