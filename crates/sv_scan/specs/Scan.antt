@@ -24,11 +24,11 @@ before_init (Abort ∷ log) = None
 before_init (Reset ∷ log) = None
 before_init (_ ∷ log) = before_init log
 
-abbrev pub is_trigger : ScanAct → Bool
+abbrev is_trigger : ScanAct → Bool
 is_trigger (Trigger source) = true
 is_trigger _ = false
 
-abbrev pub is_sample : ScanAct → Bool
+abbrev is_sample : ScanAct → Bool
 is_sample Sample = true
 is_sample _ = false
 

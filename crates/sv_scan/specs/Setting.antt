@@ -86,7 +86,7 @@ abbrev pub is_channel : ℕ → Bool
 is_channel channel = nat_le 1 channel && nat_le channel 32
 
 -- between two voltages, both included
-abbrev pub is_between : ℤ → ℤ → ℤ → Bool
+abbrev is_between : ℤ → ℤ → ℤ → Bool
 is_between low value high = int_le low value && int_le value high
 
 -- up to 1,000 V in magnitude

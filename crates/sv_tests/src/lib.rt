@@ -26,6 +26,8 @@ mod records;
 #[cfg(test)]
 mod same;
 #[cfg(test)]
+mod scanner;
+#[cfg(test)]
 mod status;
 #[cfg(test)]
 mod units;
