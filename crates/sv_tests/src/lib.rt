@@ -32,4 +32,6 @@ mod status;
 #[cfg(test)]
 mod units;
 #[cfg(test)]
+mod values;
+#[cfg(test)]
 mod words;
