@@ -9,12 +9,14 @@ use itoa::Buffer;
 const VOLT: u64 = 1_000_000;
 
 /// Prints a voltage of so many microvolts, up to 1,000 V in magnitude: a sign (`+` for 0), whole volts, a
-/// point and six digits. Writes it at the front of at least 16 bytes, and tells how many it took.
+/// point and six digits. Writes it at the front of at least 16 bytes, and tells how many it
+/// took, at most 12.
 #[tactic(auto, using(crate::proofs::Printed::volts_short))]
 pub fn write_microvolts(value: i64, out: &mut [u8]) -> usize
     requires room { 16 ≤ length out.old }
     requires small { unsigned_abs value ≤ 1000000000 }
     ensures size { result ≡ length (voltage_text value) }
+    ensures few { result ≤ 12 }
     ensures text { out.new ≡ voltage_text value ++ drop (length (voltage_text value)) out.old }
 {
     let magnitude = value.unsigned_abs();
