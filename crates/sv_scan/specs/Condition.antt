@@ -1,4 +1,4 @@
--- The condition words (SCPI-1999, volume 1, chapter 20), by the acts that count.
+-- The condition words (SCPI-1999, chapter 20), by the acts that count.
 use Rattle.std.specs.Prelude.{ℕ, ◌+◌, ◌^◌, ℤ, int_lt, ◌&&◌, ◌||◌, not, Bool, true, false, List, Option, Some, None}
 use Rattle.sv_scan.specs.declared.setting.Reading.{Reading}
 use Rattle.sv_scan.specs.declared.setting.Reading.TheVariants.{Value, Over, Under}

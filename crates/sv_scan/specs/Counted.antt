@@ -1,7 +1,7 @@
 -- Which acts count: a call that is refused doesn't, nor a sample outside a scan, nor the input of a channel that isn't there.
 use Rattle.std.specs.Prelude.{◌&&◌, not, Bool, true, false, List, [], ◌∷◌, Option, Some, None, is_none, if◌then◌else◌}
 use Rattle.sv_errors.specs.declared.code.Code.{Code}
-use Rattle.sv_errors.specs.declared.code.Code.TheVariants.{DataOutOfRange, SettingsConflict, TriggerIgnored, InitIgnored, TriggerDeadlock, DataCorruptOrStale}
+use Rattle.sv_errors.specs.declared.code.Code.TheVariants.{DataOutOfRange, SettingsConflict, TriggerIgnored, InitIgnored, TriggerDeadlock}
 use Rattle.sv_scan.specs.declared.setting.Setting.{Setting}
 use Rattle.sv_scan.specs.declared.setting.Source.{Source}
 use Rattle.sv_scan.specs.declared.setting.Source.TheVariants.{Immediate, Bus, External}
@@ -10,7 +10,7 @@ use Rattle.sv_scan.specs.declared.setting.State.TheVariants.{Idle, Waiting, Scan
 use Rattle.sv_scan.specs.declared.acts.ScanAct.{ScanAct}
 use Rattle.sv_scan.specs.declared.acts.ScanAct.TheVariants.{Input, Configure, Init, Abort, Reset, Trigger, Sample}
 use Rattle.sv_scan.specs.Setting.{is_channel, is_possible, is_fixed, source}
-use Rattle.sv_scan.specs.Scan.{state, is_complete}
+use Rattle.sv_scan.specs.Scan.{state}
 
 abbrev pub is_idle : State → Bool
 is_idle Idle = true
@@ -48,9 +48,6 @@ trigger_fault log from = if is_waiting (state log) && same_source (source log) f
 -- a reading that the controller would have to trigger can't be waited for
 abbrev pub read_fault : List ScanAct → Option Code
 read_fault log = if same_source (source log) Bus then Some TriggerDeadlock else None
-
-abbrev pub readings_fault : List ScanAct → Option Code
-readings_fault log = if is_complete log then None else Some DataCorruptOrStale
 
 -- whether an act counts behind those that count
 abbrev pub counts : List ScanAct → ScanAct → Bool

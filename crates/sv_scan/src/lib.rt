@@ -1,6 +1,5 @@
 //! The scanner: input voltages, settings, the trigger state, the readings of a scan, and the
-//! conditions that the status registers watch (SCPI-1999, volume 1, chapter 20, and volume 2,
-//! chapters 18 and 24).
+//! conditions that the status registers watch (SCPI-1999: chapter 20, and chapter 24 of volume 2).
 //!
 //! Voltages are in microvolts. [`Scanner::new`] takes the memory of all readings, and no other call
 //! takes any.

@@ -22,7 +22,7 @@ const ABOVE: u16 = 1 << 10;
 const OUTSIDE: u16 = 1 << 11;
 
 /// The condition words of the operation and the questionable register, as they are now (SCPI-1999,
-/// volume 1, chapter 20).
+/// chapter 20).
 #[derive(Clone, Copy, Debug, PartialEq, Eq)]
 pub struct Conditions {
     /// Bit 4 measuring, bit 5 waiting for a trigger, bit 8 acquisition in progress.
