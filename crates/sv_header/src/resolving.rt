@@ -9,10 +9,16 @@ use crate::command::CommandId;
 use crate::path::Path;
 use crate::pattern::Pattern;
 use crate::sent::Sent;
-use crate::table::PATTERNS;
+use crate::table::{
+    common_commands, measuring_commands, operation_commands, questionable_commands,
+    setting_commands, system_commands,
+};
 use std::alloc::{AllocError, Allocator, Global};
 use std::marker::Model;
 use sv_errors::Code;
+
+/// How many patterns the table has.
+const PATTERNS: usize = 56;
 
 /// The table of commands, in memory.
 #[derive(Drop)]
@@ -35,8 +41,13 @@ impl<A: Allocator> Model for Table<A> {
 impl<A: Allocator> Table<A> {
     /// Takes the memory of the table.
     pub fn new(alloc: A) -> Result<Table<A>, AllocError> {
-        let mut patterns = Vec::with_capacity(alloc, PATTERNS.len())?;
-        patterns.extend_from_slice(&PATTERNS)?;
+        let mut patterns = Vec::with_capacity(alloc, PATTERNS)?;
+        patterns.extend_from_slice(common_commands())?;
+        patterns.extend_from_slice(system_commands())?;
+        patterns.extend_from_slice(operation_commands())?;
+        patterns.extend_from_slice(questionable_commands())?;
+        patterns.extend_from_slice(setting_commands())?;
+        patterns.extend_from_slice(measuring_commands())?;
         Ok(Table { patterns })
     }
 

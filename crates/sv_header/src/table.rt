@@ -1,4 +1,8 @@
-//! The table of commands.
+//! The table of commands, in parts.
+
+ghost use Rattle.std.specs.Prelude.{◌≡◌, map};
+ghost use Rattle.sv_header.specs.Plain.{row_of};
+ghost use Rattle.sv_header.specs.Table.{common_commands, system_commands, operation_commands, questionable_commands, setting_commands, measuring_commands};
 
 use crate::command::CommandId;
 use crate::nodes::{
@@ -11,8 +15,7 @@ use crate::nodes::{
 use crate::pattern::Form::{Command, CommonCommand, CommonQuery, Query};
 use crate::pattern::Pattern;
 
-/// The pattern of each command (SCPI-1999, volume 2; common commands: IEEE 488.2, chapter 10).
-pub(crate) const PATTERNS: [Pattern; 56] = [
+const COMMON_COMMANDS: [Pattern; 14] = [
     Pattern(CommonCommand, &[CLS], CommandId::ClearStatus),
     Pattern(CommonCommand, &[ESE], CommandId::StandardEventEnable),
     Pattern(CommonQuery, &[ESE], CommandId::StandardEventEnableQuery),
@@ -27,6 +30,16 @@ pub(crate) const PATTERNS: [Pattern; 56] = [
     Pattern(CommonCommand, &[TRG], CommandId::Trigger),
     Pattern(CommonQuery, &[TST], CommandId::SelfTestQuery),
     Pattern(CommonCommand, &[WAI], CommandId::WaitToContinue),
+];
+
+/// The common commands (IEEE 488.2, chapter 10).
+pub(crate) fn common_commands() -> &'static [Pattern]
+    ensures { map row_of result.now ≡ common_commands }
+{
+    &COMMON_COMMANDS
+}
+
+const SYSTEM_QUERIES: [Pattern; 4] = [
     Pattern(
         Query,
         &[SYSTEM, ERROR, MAYBE_NEXT],
@@ -39,6 +52,16 @@ pub(crate) const PATTERNS: [Pattern; 56] = [
     ),
     Pattern(Query, &[SYSTEM, VERSION], CommandId::SystemVersionQuery),
     Pattern(Command, &[STATUS, PRESET], CommandId::StatusPreset),
+];
+
+/// The queries of the system, and the preset of the status registers (SCPI-1999, volume 2).
+pub(crate) fn system_commands() -> &'static [Pattern]
+    ensures { map row_of result.now ≡ system_commands }
+{
+    &SYSTEM_QUERIES
+}
+
+const OPERATION_REGISTER: [Pattern; 8] = [
     Pattern(
         Query,
         &[STATUS, OPERATION, MAYBE_EVENT],
@@ -79,6 +102,16 @@ pub(crate) const PATTERNS: [Pattern; 56] = [
         &[STATUS, OPERATION, NTRANSITION],
         CommandId::OperationNegativeTransitionQuery,
     ),
+];
+
+/// The commands of the operation register (SCPI-1999, volume 2).
+pub(crate) fn operation_commands() -> &'static [Pattern]
+    ensures { map row_of result.now ≡ operation_commands }
+{
+    &OPERATION_REGISTER
+}
+
+const QUESTIONABLE_REGISTER: [Pattern; 8] = [
     Pattern(
         Query,
         &[STATUS, QUESTIONABLE, MAYBE_EVENT],
@@ -119,6 +152,16 @@ pub(crate) const PATTERNS: [Pattern; 56] = [
         &[STATUS, QUESTIONABLE, NTRANSITION],
         CommandId::QuestionableNegativeTransitionQuery,
     ),
+];
+
+/// The commands of the questionable register (SCPI-1999, volume 2).
+pub(crate) fn questionable_commands() -> &'static [Pattern]
+    ensures { map row_of result.now ≡ questionable_commands }
+{
+    &QUESTIONABLE_REGISTER
+}
+
+const SETTINGS: [Pattern; 16] = [
     Pattern(Command, &[ROUTE, SCAN], CommandId::RouteScan),
     Pattern(Query, &[ROUTE, SCAN], CommandId::RouteScanQuery),
     Pattern(Command, &[ROUTE, MONITOR], CommandId::RouteMonitor),
@@ -155,6 +198,16 @@ pub(crate) const PATTERNS: [Pattern; 56] = [
     Pattern(Query, &[TRIGGER, SOURCE], CommandId::TriggerSourceQuery),
     Pattern(Command, &[TRIGGER, COUNT], CommandId::TriggerCount),
     Pattern(Query, &[TRIGGER, COUNT], CommandId::TriggerCountQuery),
+];
+
+/// What is measured, and how (SCPI-1999, volume 2).
+pub(crate) fn setting_commands() -> &'static [Pattern]
+    ensures { map row_of result.now ≡ setting_commands }
+{
+    &SETTINGS
+}
+
+const MEASURING: [Pattern; 6] = [
     Pattern(Command, &[INITIATE, MAYBE_IMMEDIATE], CommandId::Initiate),
     Pattern(Command, &[ABORT], CommandId::Abort),
     Pattern(Query, &[FETCH], CommandId::FetchQuery),
@@ -170,3 +223,10 @@ pub(crate) const PATTERNS: [Pattern; 56] = [
         CommandId::MeasureVoltageQuery,
     ),
 ];
+
+/// Measuring (SCPI-1999, volume 2).
+pub(crate) fn measuring_commands() -> &'static [Pattern]
+    ensures { map row_of result.now ≡ measuring_commands }
+{
+    &MEASURING
+}
