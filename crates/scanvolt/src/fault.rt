@@ -2,60 +2,8 @@
 
 ghost use Rattle.std.specs.Prelude.{◌≡◌};
 
-use crate::text::InputFault;
-use std::alloc::AllocError;
-use sv_server::ReplayFault;
+use sv_replay::RunFault;
 use thiserror::Error;
-
-/// Why a replay stopped. What was printed before stays.
-#[derive(Clone, Copy, Debug, PartialEq, Eq, Error)]
-pub enum RunFault {
-    /// The line of this number, from 1, is above 65,536 bytes or says nothing that a replay knows.
-    #[error("bad line {0}")]
-    BadLine(u64),
-    /// The input failed, or was read 4,294,967,295 times.
-    #[error("input")]
-    Input,
-    /// The output failed.
-    #[error("output")]
-    Output,
-    /// Memory was refused.
-    #[error("memory")]
-    Memory,
-}
-
-impl From<ReplayFault> for RunFault {
-    ghost use Rattle.scanvolt.specs.Run.{run_fault};
-
-    ghost from_gives = { λ replayed fault. fault ≡ run_fault replayed };
-
-    fn from(fault: ReplayFault) -> RunFault {
-        match fault {
-            ReplayFault::NoMemory => RunFault::Memory,
-            ReplayFault::Write => RunFault::Output,
-        }
-    }
-}
-
-impl From<InputFault> for RunFault {
-    ghost use Rattle.scanvolt.specs.declared.fault.RunFault.TheVariants.{Input};
-
-    ghost from_gives = { λ failed fault. fault ≡ Input };
-
-    fn from(_: InputFault) -> RunFault {
-        RunFault::Input
-    }
-}
-
-impl From<AllocError> for RunFault {
-    ghost use Rattle.scanvolt.specs.declared.fault.RunFault.TheVariants.{Memory};
-
-    ghost from_gives = { λ refused fault. fault ≡ Memory };
-
-    fn from(_: AllocError) -> RunFault {
-        RunFault::Memory
-    }
-}
 
 /// Why the program stopped.
 #[derive(Clone, Copy, Debug, PartialEq, Eq, Error)]
@@ -69,7 +17,7 @@ pub enum ProgramFault {
 }
 
 impl ProgramFault {
-    ghost use Rattle.scanvolt.specs.Run.{status};
+    ghost use Rattle.scanvolt.specs.Program.{status};
 
     /// The status with which the program exits: 2 for words and lines, 3 for the world around it.
     pub fn status(self) -> u8

@@ -2,22 +2,15 @@
 #![tactic(auto)]
 
 mod fault;
-mod hex;
-mod laws;
-mod line;
-mod number;
-mod perform;
-mod run;
 #[cfg(test)]
 mod tests;
-mod text;
 mod words;
 
-use fault::{ProgramFault, RunFault};
-use run::run_replay;
+use fault::ProgramFault;
 use std::env;
 use std::io::{self, BufWriter, Error, ErrorKind};
 use std::process::ExitCode;
+use sv_replay::{RunFault, run_replay};
 use words::is_replay;
 
 /// Runs the program: the one word `replay` stands for the replay of the standard input.

@@ -1,7 +1,7 @@
 //! The words of the command line.
 
 ghost use Rattle.std.specs.Prelude.{◌≡◌, option_map};
-ghost use Rattle.scanvolt.specs.Run.{is_replay};
+ghost use Rattle.scanvolt.specs.Program.{is_replay};
 
 /// Whether the words behind the program's name are the one word `replay`: what the first two of them
 /// are, if there are so many.

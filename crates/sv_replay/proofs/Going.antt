@@ -5,14 +5,14 @@ use Rattle.std.proofs.lemmas.List.{take_all}
 use Rattle.std.specs.Io.KnownBytes.{Consumes, Appends, Keeps, IsAtEnd}
 use Rattle.sv_server.specs.State.{State, StandsFor}
 use Rattle.sv_server.proofs.Taking.{appends_none, appends_keeps, appends_then}
-use Rattle.scanvolt.specs.declared.fault.RunFault.{RunFault}
-use Rattle.scanvolt.specs.declared.fault.RunFault.TheVariants.{BadLine, Input, Output, Memory}
-use Rattle.scanvolt.specs.Text.{first_end}
-use Rattle.scanvolt.specs.Script.{parts}
-use Rattle.scanvolt.specs.Run.{set_up, Runs}
-use Rattle.scanvolt.specs.Stage.{IsStage, Goes}
-use Rattle.scanvolt.proofs.Parts.{parts_found, parts_none, parts_never}
-use Rattle.scanvolt.proofs.Staged.{LineDone, stage_start, stage_line, stage_last, stage_stop, stage_read, stage_long, stage_output, all_output, stage_input}
+use Rattle.sv_replay.specs.declared.fault.RunFault.{RunFault}
+use Rattle.sv_replay.specs.declared.fault.RunFault.TheVariants.{BadLine, Input, Output, Memory}
+use Rattle.sv_replay.specs.Text.{first_end}
+use Rattle.sv_replay.specs.Script.{parts}
+use Rattle.sv_replay.specs.Run.{set_up, Runs}
+use Rattle.sv_replay.specs.Stage.{IsStage, Goes}
+use Rattle.sv_replay.proofs.Parts.{parts_found, parts_none, parts_never}
+use Rattle.sv_replay.proofs.Staged.{LineDone, stage_start, stage_line, stage_last, stage_stop, stage_read, stage_long, stage_output, all_output, stage_input}
 
 consumes_none : (old : Option (List ℕ)) → Consumes old old []
 consumes_none None = tt

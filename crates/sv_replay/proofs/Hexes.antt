@@ -2,9 +2,9 @@
 use Rattle.std.proofs.Common.{◌≡◌, ℕ, ◌+◌, ◌-◌, ◌*◌, ◌<◌, ◌≤◌, true, false, eqb, leb, ◌&&◌, List, [], ◌∷◌, Some, option_map, refl, sym, subst, ap, ◌∙◌, ◌⊎◌, inl, inr, arith}
 use Rattle.std.proofs.lemmas.Bool.{and_from, and_parts, and_left, and_right, le-leb, lt-leb, leb-true, eqb-true, ne_eqb}
 use Rattle.std.proofs.lemmas.Option.{none-some, same_Some, option_and_then_some}
-use Rattle.scanvolt.specs.Line.{IsHexDigit, IsPair, IsHex}
-use Rattle.scanvolt.specs.Reading.{hex_digit_at, pair_at, hex_at}
-use Rattle.scanvolt.proofs.Options.{map_some, chosen}
+use Rattle.sv_replay.specs.Line.{IsHexDigit, IsPair, IsHex}
+use Rattle.sv_replay.specs.Reading.{hex_digit_at, pair_at, hex_at}
+use Rattle.sv_replay.proofs.Options.{map_some, chosen}
 
 -- a number between two is between them
 within : (low high n : ℕ) → low ≤ n → n ≤ high → (leb low n && leb n high) ≡ true

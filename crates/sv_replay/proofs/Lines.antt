@@ -8,13 +8,13 @@ use Rattle.sv_server.specs.declared.event.Role.TheVariants.{Core, Abort, Portmap
 use Rattle.sv_server.specs.declared.event.Port.{Port}
 use Rattle.sv_server.specs.declared.event.Port.TheVariants.{Conn, Intr}
 use Rattle.sv_server.specs.Event.{Happening, Open, Bytes, Turn, Refuse, Took, Close, Dialed, Input, External, Tick}
-use Rattle.scanvolt.specs.Line.{Line, Blank, One, Ticks, IsPlain, role_word, ok_word, SaysEvent, Says}
-use Rattle.scanvolt.specs.Reading.{cut_at, plain_at, voltage_at, hex_at, numbered_at, role_at, ok_at, port_at, ticks_at, open_at, bytes_at, dialed_at, input_at, traffic_at, event_at, lone_at, words_at, cut_line_at, line_at}
-use Rattle.scanvolt.specs.PlainLine.{plain_line}
-use Rattle.scanvolt.specs.declared.line.Line.{Line as Command}
-use Rattle.scanvolt.proofs.Options.{map_some, chosen, by_word}
-use Rattle.scanvolt.proofs.Numbers.{AreDigits, plain_reads, plain_takes, voltage_reads, voltage_takes}
-use Rattle.scanvolt.proofs.Hexes.{hex_reads, hex_takes}
+use Rattle.sv_replay.specs.Line.{Line, Blank, One, Ticks, IsPlain, role_word, ok_word, SaysEvent, Says}
+use Rattle.sv_replay.specs.Reading.{cut_at, plain_at, voltage_at, hex_at, numbered_at, role_at, ok_at, port_at, ticks_at, open_at, bytes_at, dialed_at, input_at, traffic_at, event_at, lone_at, words_at, cut_line_at, line_at}
+use Rattle.sv_replay.specs.PlainLine.{plain_line}
+use Rattle.sv_replay.specs.declared.line.Line.{Line as Command}
+use Rattle.sv_replay.proofs.Options.{map_some, chosen, by_word}
+use Rattle.sv_replay.proofs.Numbers.{AreDigits, plain_reads, plain_takes, voltage_reads, voltage_takes}
+use Rattle.sv_replay.proofs.Hexes.{hex_reads, hex_takes}
 
 -- digits in front of a space are cut off there
 cut_reads : (digits rest : List ℕ) → AreDigits digits → cut_at (digits ++ 32 ∷ rest) ≡ Some (digits, rest)

@@ -5,9 +5,9 @@ use Rattle.std.specs.List.{AllByRecursion}
 use Rattle.std.proofs.lemmas.Bool.{and_from, and_parts, le-leb, leb-true, le-ltb, ltb-false, eqb-true, eqb-false, ne_eqb}
 use Rattle.std.proofs.lemmas.Option.{none-some, same_Some}
 use Rattle.std.proofs.Math.Nat.{mul-le-mul_right, mul_assoc, pow-succ', pow-le-pow_right, le_trans}
-use Rattle.scanvolt.specs.Line.{IsNumber, HasNoLeadingZero, IsPlain, IsVoltage}
-use Rattle.scanvolt.specs.Reading.{digits_onto, number_at, has_leading_zero, plain_at, short_at, has_minus, voltage_at}
-use Rattle.scanvolt.proofs.Options.{map_some, chosen}
+use Rattle.sv_replay.specs.Line.{IsNumber, HasNoLeadingZero, IsPlain, IsVoltage}
+use Rattle.sv_replay.specs.Reading.{digits_onto, number_at, has_leading_zero, plain_at, short_at, has_minus, voltage_at}
+use Rattle.sv_replay.proofs.Options.{map_some, chosen}
 
 -- decimal digits alone
 abbrev pub AreDigits : List ℕ → Type 0

@@ -3,8 +3,8 @@ use Rattle.std.proofs.Common.{◌≡◌, ◌≢◌, ℕ, ◌+◌, ◌<◌, ◌==
 use Rattle.std.proofs.lemmas.Bool.{lt-ltb, le-ltb, cases_lt}
 use Rattle.sv_text.specs.Cut.{onto}
 use Rattle.sv_text.proofs.Parts.{part_ended, part_last}
-use Rattle.scanvolt.specs.Script.{parts}
-use Rattle.scanvolt.specs.Text.{line_size, first_end}
+use Rattle.sv_replay.specs.Script.{parts}
+use Rattle.sv_replay.specs.Text.{line_size, first_end}
 
 -- by the place of the first new line
 found_is : (text : List ℕ) (len : ℕ) → first_end text ≡ Some len → (line_size text ≡ len) × (len < length text)

@@ -6,8 +6,8 @@ use Rattle.sv_server.specs.declared.event.Config.{Config}
 use Rattle.sv_server.specs.declared.replay.ReplayFault.{ReplayFault}
 use Rattle.sv_server.specs.Event.{Happening, Tick}
 use Rattle.sv_server.specs.Replay.{Replays}
-use Rattle.scanvolt.specs.Line.{Line, Says}
-use Rattle.scanvolt.specs.Script.{events_of, IsScript, Prints, Stops, Performs}
+use Rattle.sv_replay.specs.Line.{Line, Says}
+use Rattle.sv_replay.specs.Script.{events_of, IsScript, Prints, Stops, Performs}
 
 pub script_push : (lines : List (List ℕ)) (events : List Happening) (line : List ℕ) (said : Line) → IsScript lines events → length line ≤ 65536 → Says line said
     → IsScript (lines ++ line ∷ []) (events ++ events_of said)

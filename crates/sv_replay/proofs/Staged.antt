@@ -3,19 +3,19 @@ use Rattle.std.proofs.Common.{◌≡◌, ℕ, ◌+◌, ◌<◌, ◌≤◌, List,
 use Rattle.std.specs.Prelude.{Result, Ok, Err, ⊤, IsErr, IsErrAnd}
 use Rattle.sv_server.specs.declared.replay.ReplayFault.{ReplayFault}
 use Rattle.sv_server.specs.declared.replay.ReplayFault.TheVariants.{NoMemory, Write}
-use Rattle.scanvolt.specs.Line.{Line, Says}
+use Rattle.sv_replay.specs.Line.{Line, Says}
 use Rattle.std.proofs.lemmas.List.{length-append}
 use Rattle.std.specs.Io.KnownBytes.{Appends, IsAtEnd}
 use Rattle.sv_server.specs.Event.{Happening}
 use Rattle.sv_server.specs.State.{State, StandsFor}
-use Rattle.scanvolt.specs.declared.fault.RunFault.{RunFault}
-use Rattle.scanvolt.specs.declared.fault.RunFault.TheVariants.{BadLine, Input, Output, Memory}
-use Rattle.scanvolt.specs.Text.{first_end}
-use Rattle.scanvolt.specs.Script.{parts, events_of, Stops}
-use Rattle.scanvolt.specs.Run.{set_up, run_fault, IsWhole, Runs}
-use Rattle.scanvolt.specs.Stage.{IsStage, LineRuns}
-use Rattle.scanvolt.proofs.Parts.{parts_none, parts_more, parts_never}
-use Rattle.scanvolt.proofs.Printed.{script_push, prints_then, stops_then}
+use Rattle.sv_replay.specs.declared.fault.RunFault.{RunFault}
+use Rattle.sv_replay.specs.declared.fault.RunFault.TheVariants.{BadLine, Input, Output, Memory}
+use Rattle.sv_replay.specs.Text.{first_end}
+use Rattle.sv_replay.specs.Script.{parts, events_of, Stops}
+use Rattle.sv_replay.specs.Run.{set_up, run_fault, IsWhole, Runs}
+use Rattle.sv_replay.specs.Stage.{IsStage, LineRuns}
+use Rattle.sv_replay.proofs.Parts.{parts_none, parts_more, parts_never}
+use Rattle.sv_replay.proofs.Printed.{script_push, prints_then, stops_then}
 
 -- at the start nothing was read or printed
 pub stage_start : (server : State) → StandsFor server set_up [] → IsStage server [] 0 [] []

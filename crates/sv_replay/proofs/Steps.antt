@@ -5,7 +5,7 @@ use Rattle.std.specs.List.{position_or_len}
 use Rattle.std.proofs.lemmas.Bool.{cases_Bool, eqb-true, ltb-true, ltb-false, lt-ltb, le-ltb}
 use Rattle.std.proofs.lemmas.List.{at_drop_more, at_drop_all, take_more_set, take_all, length-drop, append_assoc}
 use Rattle.std.proofs.lemmas.Option.{none-some, same_Some}
-use Rattle.scanvolt.specs.Reading.{digits_onto, number_at, pair_at, after_space, hex_at, cut_at}
+use Rattle.sv_replay.specs.Reading.{digits_onto, number_at, pair_at, after_space, hex_at, cut_at}
 
 -- digits are read as a number
 pub number_starts : (most : ℕ) (digits : List ℕ) → (0 ≡ length digits → ⊥) → digits_onto most 0 digits ≡ number_at most digits

@@ -5,7 +5,7 @@ use Rattle.std.proofs.lemmas.List.{length-drop, length-take-le, drop-take, drop-
 use Rattle.std.proofs.lemmas.List.Sums.{prefix_len_is}
 use Rattle.std.proofs.Math.Seq.{take-add}
 use Rattle.memchr.specs.Find.{IsFirstByte, is_byte}
-use Rattle.scanvolt.specs.Text.{IsKept, line_size, first_end}
+use Rattle.sv_replay.specs.Text.{IsKept, line_size, first_end}
 
 -- more text does not make the first line shorter
 pub line_with : (text more : List ℕ) → line_size text ≤ line_size (text ++ more)

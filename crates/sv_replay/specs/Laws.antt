@@ -1,6 +1,6 @@
 -- Laws of the definitions alone.
 use Rattle.std.specs.Prelude.{◌≡◌, ℕ, List}
-use Rattle.scanvolt.specs.Line.{Line, Says}
+use Rattle.sv_replay.specs.Line.{Line, Says}
 
 -- A line says at most one thing.
 abbrev pub OneLine : Type 0

@@ -1,8 +1,8 @@
 -- What was read from a line, as plain data.
 use Rattle.sv_server.specs.Event.{plain}
-use Rattle.scanvolt.specs.Line.{Line as Said, Blank, One, Ticks}
-use Rattle.scanvolt.specs.declared.line.Line.{Line}
-use Rattle.scanvolt.specs.declared.line.Line.TheVariants as lines
+use Rattle.sv_replay.specs.Line.{Line as Said, Blank, One, Ticks}
+use Rattle.sv_replay.specs.declared.line.Line.{Line}
+use Rattle.sv_replay.specs.declared.line.Line.TheVariants as lines
 
 -- a line without where its bytes lie in memory
 abbrev pub plain_line : Line → Said

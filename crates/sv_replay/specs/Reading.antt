@@ -7,7 +7,7 @@ use Rattle.sv_server.specs.declared.event.Role.TheVariants.{Core, Abort, Portmap
 use Rattle.sv_server.specs.declared.event.Port.{Port}
 use Rattle.sv_server.specs.declared.event.Port.TheVariants.{Conn, Intr}
 use Rattle.sv_server.specs.Event.{Happening, Open, Bytes, Turn, Refuse, Close, Dialed, Input, External, Tick}
-use Rattle.scanvolt.specs.Line.{Line, Blank, One, Ticks}
+use Rattle.sv_replay.specs.Line.{Line, Blank, One, Ticks}
 
 -- a part that is read, or else nothing is
 infixl 10 ◌>>=◌

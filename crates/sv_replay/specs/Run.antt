@@ -1,37 +1,20 @@
 -- What a run prints of the text that it read, and what it answers.
-use Rattle.std.specs.Prelude.{◌≡◌, ◌≢◌, ◌⊎◌, ℕ, ◌+◌, ◌<◌, List, [], ◌∷◌, ◌++◌, length, codes, Bool, false, Option, Some, None, Result, Ok, Err, ⊤}
-use Rattle.std.specs.Str.{bytes_eq}
+use Rattle.std.specs.Prelude.{◌≡◌, ◌≢◌, ◌⊎◌, ℕ, ◌+◌, ◌<◌, List, [], ◌∷◌, ◌++◌, length, Option, Result, Ok, Err, ⊤}
 use Rattle.std.specs.Io.KnownBytes.{IsAtEnd}
 use Rattle.sv_server.specs.declared.event.Config.{Config}
 use Rattle.sv_server.specs.declared.replay.ReplayFault.{ReplayFault}
 use Rattle.sv_server.specs.declared.replay.ReplayFault.TheVariants.{NoMemory, Write}
 use Rattle.sv_server.specs.Event.{Happening}
-use Rattle.scanvolt.specs.declared.fault.RunFault.{RunFault}
-use Rattle.scanvolt.specs.declared.fault.RunFault.TheVariants.{BadLine, Input, Output, Memory}
-use Rattle.scanvolt.specs.declared.fault.ProgramFault.{ProgramFault}
-use Rattle.scanvolt.specs.declared.fault.ProgramFault.TheVariants.{BadWords, Run}
-use Rattle.scanvolt.specs.Script.{parts, IsScript, IsBad, Prints, Stops}
+use Rattle.sv_replay.specs.declared.fault.RunFault.{RunFault}
+use Rattle.sv_replay.specs.declared.fault.RunFault.TheVariants.{BadLine, Input, Output, Memory}
+use Rattle.sv_replay.specs.Script.{parts, IsScript, IsBad, Prints, Stops}
 
 -- how a replay's fault is told
 abbrev pub run_fault : ReplayFault → RunFault
 run_fault NoMemory = Memory
 run_fault Write = Output
 
--- the exit status of a fault
-abbrev pub status : ProgramFault → ℕ
-status BadWords = 2
-status (Run (BadLine n)) = 2
-status (Run Input) = 3
-status (Run Output) = 3
-status (Run Memory) = 3
-
--- whether the words are the one word `replay`, by the first two of them
-abbrev pub is_replay : Option (List ℕ) → Option (List ℕ) → Bool
-is_replay (Some word) None = bytes_eq word (codes "replay")
-is_replay (Some word) (Some other) = false
-is_replay None other = false
-
--- what the program's server is set up with
+-- what the replay's server is set up with
 abbrev pub set_up : Config
 set_up = record { core = 4096; abort = 4097; clock = 0 }
 

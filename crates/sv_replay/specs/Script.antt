@@ -5,7 +5,7 @@ use Rattle.sv_server.specs.declared.event.Config.{Config}
 use Rattle.sv_server.specs.declared.replay.ReplayFault.{ReplayFault}
 use Rattle.sv_server.specs.Event.{Happening, Tick}
 use Rattle.sv_server.specs.Replay.{Replays}
-use Rattle.scanvolt.specs.Line.{Line, Blank, One, Ticks, Says}
+use Rattle.sv_replay.specs.Line.{Line, Blank, One, Ticks, Says}
 
 -- the text cut at each new line: the last part is what stands behind the last one
 abbrev pub parts : List ℕ → List (List ℕ)

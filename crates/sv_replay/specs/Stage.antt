@@ -5,11 +5,11 @@ use Rattle.sv_server.specs.declared.replay.ReplayFault.{ReplayFault}
 use Rattle.sv_server.specs.declared.replay.ReplayFault.TheVariants.{NoMemory, Write}
 use Rattle.sv_server.specs.Event.{Happening}
 use Rattle.sv_server.specs.State.{State, StandsFor}
-use Rattle.scanvolt.specs.declared.fault.RunFault.{RunFault}
-use Rattle.scanvolt.specs.declared.fault.RunFault.TheVariants.{BadLine, Input, Output, Memory}
-use Rattle.scanvolt.specs.Line.{Line, Says}
-use Rattle.scanvolt.specs.Script.{parts, events_of, IsScript, IsBad, Prints, Stops}
-use Rattle.scanvolt.specs.Run.{set_up, Runs}
+use Rattle.sv_replay.specs.declared.fault.RunFault.{RunFault}
+use Rattle.sv_replay.specs.declared.fault.RunFault.TheVariants.{BadLine, Input, Output, Memory}
+use Rattle.sv_replay.specs.Line.{Line, Says}
+use Rattle.sv_replay.specs.Script.{parts, events_of, IsScript, IsBad, Prints, Stops}
+use Rattle.sv_replay.specs.Run.{set_up, Runs}
 
 -- Some lines of what was read are done, so many, and this is left of it; what they say is printed.
 abbrev pub IsStage : State → List ℕ → ℕ → List ℕ → List ℕ → Type 0

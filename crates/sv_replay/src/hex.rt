@@ -1,7 +1,7 @@
 //! Reading bytes of two hexadecimal digits each.
 
 ghost use Rattle.std.specs.Prelude.{◌≡◌, ◌<◌, ◌≤◌, length, take, option_map, IfSome};
-ghost use Rattle.scanvolt.specs.Reading.{hex_digit_at, pair_at, after_space, hex_at};
+ghost use Rattle.sv_replay.specs.Reading.{hex_digit_at, pair_at, after_space, hex_at};
 
 /// The value of a hexadecimal digit, in either case.
 #[tactic(auto, unfolding(crate::specs::Reading::hex_digit_at))]

@@ -1,9 +1,9 @@
 //! Reading a line of a replay.
 
 ghost use Rattle.std.specs.Prelude.{◌≡◌, ◌<◌, ◌≤◌, length, option_map, IfSome, IsSomeAnd};
-ghost use Rattle.scanvolt.specs.Line.{Line as Said, Says};
-ghost use Rattle.scanvolt.specs.PlainLine.{plain_line};
-ghost use Rattle.scanvolt.specs.Reading.{cut_at, numbered_at, role_at, ok_at, port_at, ticks_at, open_at, bytes_at, dialed_at, input_at, traffic_at, event_at, lone_at, words_at, line_at};
+ghost use Rattle.sv_replay.specs.Line.{Line as Said, Says};
+ghost use Rattle.sv_replay.specs.PlainLine.{plain_line};
+ghost use Rattle.sv_replay.specs.Reading.{cut_at, numbered_at, role_at, ok_at, port_at, ticks_at, open_at, bytes_at, dialed_at, input_at, traffic_at, event_at, lone_at, words_at, line_at};
 ghost use Rattle.sv_server.specs.Event.{plain as plain_event};
 
 use crate::hex::decode;

@@ -1,7 +1,7 @@
 //! Reading decimal numbers.
 
 ghost use Rattle.std.specs.Prelude.{◌≡◌, ◌<◌, ◌≤◌, ◌^◌, IfSome, option_map, pos, ◌≤ℤ◌};
-ghost use Rattle.scanvolt.specs.Reading.{number_at, plain_at, short_at, voltage_at};
+ghost use Rattle.sv_replay.specs.Reading.{number_at, plain_at, short_at, voltage_at};
 
 /// The greatest number of 18 digits.
 const MOST_OF_18: u64 = 999_999_999_999_999_999;

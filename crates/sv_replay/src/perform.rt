@@ -5,8 +5,8 @@ ghost use Rattle.std.specs.Io.KnownBytes.{Appends};
 ghost use Rattle.sv_server.specs.declared.event.Config.{Config};
 ghost use Rattle.sv_server.specs.Event.{Happening, Tick};
 ghost use Rattle.sv_server.specs.State.{StandsFor};
-ghost use Rattle.scanvolt.specs.PlainLine.{plain_line};
-ghost use Rattle.scanvolt.specs.Script.{events_of, Performs};
+ghost use Rattle.sv_replay.specs.PlainLine.{plain_line};
+ghost use Rattle.sv_replay.specs.Script.{events_of, Performs};
 
 use crate::line::Line;
 use std::alloc::Allocator;

@@ -4,9 +4,9 @@ ghost use Rattle.std.specs.Prelude.{◌≡◌, ℕ, ◌+◌, ◌-◌, ◌*◌, �
 ghost use Rattle.std.specs.Io.KnownBytes.{Consumes, Appends, Keeps, IsAtEnd};
 ghost use Rattle.sv_server.specs.Event.{Happening};
 ghost use Rattle.sv_server.specs.State.{StandsFor};
-ghost use Rattle.scanvolt.specs.Text.{nothing_held, first_end};
-ghost use Rattle.scanvolt.specs.Run.{set_up, Runs};
-ghost use Rattle.scanvolt.specs.Stage.{IsStage, LineRuns, Goes, WhileGoing};
+ghost use Rattle.sv_replay.specs.Text.{nothing_held, first_end};
+ghost use Rattle.sv_replay.specs.Run.{set_up, Runs};
+ghost use Rattle.sv_replay.specs.Stage.{IsStage, LineRuns, Goes, WhileGoing};
 
 use crate::fault::RunFault;
 use crate::line::read_line;

@@ -1,7 +1,7 @@
 //! The text of a replay, read in pieces.
 
 ghost use Rattle.std.specs.Prelude.{◌≡◌, ◌+◌, ◌-◌, ◌<◌, ◌≤◌, length, take, drop, slice_range, IfOk, OnOk, OnErr, IsErr};
-ghost use Rattle.scanvolt.specs.Text.{Filled, IsBehind, first_end, nothing_held};
+ghost use Rattle.sv_replay.specs.Text.{Filled, IsBehind, first_end, nothing_held};
 
 use memchr::memchr;
 use std::alloc::{AllocError, Allocator, Global};
@@ -35,11 +35,11 @@ pub struct Text<A: Allocator = Global> {
 }
 
 impl<A: Allocator> Model for Text<A> {
-    ghost use Rattle.scanvolt.specs.Text.{Held};
+    ghost use Rattle.sv_replay.specs.Text.{Held};
 
     ghost Value = { Held };
 
-    ghost use Rattle.scanvolt.specs.Text.{held_of, IsKept};
+    ghost use Rattle.sv_replay.specs.Text.{held_of, IsKept};
 
     ghost view = { λ a. held_of a.buffer.items a.start a.end a.reads };
 

@@ -1,6 +1,6 @@
-//! Tests of the fields, the records, the calls, the parts of the instrument and the server, by examples
-//! that were worked out from the standards, and of what a refusal of memory leaves. The library itself
-//! is empty.
+//! Tests of the fields, the records, the calls, the parts of the instrument, the server and the replay,
+//! by examples that were worked out from the standards, and of what a refusal of memory leaves. The
+//! library itself is empty.
 #![tactic(auto)]
 
 #[cfg(test)]
@@ -24,11 +24,15 @@ mod ports;
 #[cfg(test)]
 mod records;
 #[cfg(test)]
+mod replays;
+#[cfg(test)]
 mod same;
 #[cfg(test)]
 mod scanner;
 #[cfg(test)]
 mod status;
+#[cfg(test)]
+mod streams;
 #[cfg(test)]
 mod units;
 #[cfg(test)]

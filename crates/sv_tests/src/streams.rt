@@ -4,9 +4,9 @@ use std::io::{Error, ErrorKind, Read, Result, Write};
 
 /// A reader of one byte at a time, before each of which it is interrupted.
 #[derive(Drop)]
-pub(super) struct Dripping<'a> {
-    pub(super) rest: &'a [u8],
-    pub(super) was_interrupted: bool,
+pub(crate) struct Dripping<'a> {
+    pub(crate) rest: &'a [u8],
+    pub(crate) was_interrupted: bool,
 }
 
 impl Read for Dripping<'_> {
@@ -28,7 +28,7 @@ impl Read for Dripping<'_> {
 
 /// A reader that gives nothing.
 #[derive(Drop)]
-pub(super) struct Broken;
+pub(crate) struct Broken;
 
 impl Read for Broken {
     fn read(&mut self, _: &mut [u8]) -> Result<usize> {
@@ -38,9 +38,9 @@ impl Read for Broken {
 
 /// A writer of one byte a call, before each of which it is interrupted.
 #[derive(Drop)]
-pub(super) struct Sipping {
-    pub(super) taken: Vec<u8>,
-    pub(super) was_interrupted: bool,
+pub(crate) struct Sipping {
+    pub(crate) taken: Vec<u8>,
+    pub(crate) was_interrupted: bool,
 }
 
 impl Write for Sipping {
@@ -65,10 +65,10 @@ impl Write for Sipping {
 
 /// A writer that fails once it has taken so many bytes, or takes no more and doesn't say why.
 #[derive(Drop)]
-pub(super) struct Narrow {
-    pub(super) taken: Vec<u8>,
-    pub(super) room: usize,
-    pub(super) is_silent: bool,
+pub(crate) struct Narrow {
+    pub(crate) taken: Vec<u8>,
+    pub(crate) room: usize,
+    pub(crate) is_silent: bool,
 }
 
 impl Write for Narrow {

@@ -1,9 +1,9 @@
 -- The loop decodes one byte more.
 use Rattle.std.proofs.Common.{Some, ap, sym, ◌∙◌, take, ◌++◌, option_map, arith}
 use Rattle.std.proofs.lemmas.List.{take_more_set}
-use Rattle.scanvolt.specs.Reading.{hex_at}
-use Rattle.scanvolt.proofs.Steps.{hex_short, hex_bad, hex_last, hex_next, after_shorter, decoded_more}
-use Rattle.scanvolt.proofs.hex.decode.Goals as goal
+use Rattle.sv_replay.specs.Reading.{hex_at}
+use Rattle.sv_replay.proofs.Steps.{hex_short, hex_bad, hex_last, hex_next, after_shorter, decoded_more}
+use Rattle.sv_replay.proofs.hex.decode.Goals as goal
 
 pub returns-in_err-buffer-clause-exact : goal.returns-in_err-buffer-clause-exact
 returns-in_err-buffer-clause-exact c =

@@ -1,6 +1,6 @@
 use Rattle.std.proofs.Common.{◌≡◌, ◌≤◌, length, take, option_map, ◌+◌, ◌++◌}
-use Rattle.scanvolt.specs.Reading.{hex_at}
-use Rattle.scanvolt.proofs.hex.decode.Given as goal
+use Rattle.sv_replay.specs.Reading.{hex_at}
+use Rattle.sv_replay.proofs.hex.decode.Given as goal
 
 -- what was decoded, and what is left of the text, are the bytes of all of it
 abbrev pub invariant-loop-rest : goal.invariant-loop-rest

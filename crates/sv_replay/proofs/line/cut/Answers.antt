@@ -2,8 +2,8 @@
 use Rattle.std.proofs.Common.{◌≡◌, eqb, tests, cond, ltb, length, Some, None, rules, sym, ◌∙◌}
 use Rattle.std.proofs.lemmas.Iterator.{YieldsList-from_slice}
 use Rattle.std.proofs.lemmas.Iterator.Search.{position_from_yields_List}
-use Rattle.scanvolt.proofs.Steps.{space_place, cut_none, place_past, place_within, cut_at_place}
-use Rattle.scanvolt.proofs.line.cut.Goals as goal
+use Rattle.sv_replay.proofs.Steps.{space_place, cut_none, place_past, place_within, cut_at_place}
+use Rattle.sv_replay.proofs.line.cut.Goals as goal
 
 pub returns-in_err-at-clause-exact : goal.returns-in_err-at-clause-exact
 returns-in_err-at-clause-exact c =

@@ -2,8 +2,8 @@
 use Rattle.std.proofs.Common.{◌≡◌, rules, arith}
 use Rattle.std.specs.Prelude.{codes}
 use Rattle.std.proofs.lemmas.Slice.Eq.{text_from_reads}
-use Rattle.scanvolt.specs.Reading.{event_at}
-use Rattle.scanvolt.proofs.line.event.Goals as goal
+use Rattle.sv_replay.specs.Reading.{event_at}
+use Rattle.sv_replay.proofs.line.event.Goals as goal
 
 pub returns-in-dialed : goal.returns-in-dialed
 unfolding event_at

@@ -1,6 +1,6 @@
 -- What is read is what the line says.
-use Rattle.scanvolt.proofs.Lines.{line_found, line_only}
-use Rattle.scanvolt.proofs.line.read_line.Goals as goal
+use Rattle.sv_replay.proofs.Lines.{line_found, line_only}
+use Rattle.sv_replay.proofs.line.read_line.Goals as goal
 
 pub returns-clause-found : goal.returns-clause-found
 returns-clause-found c = line_found c.args.line.now c.line_of.result c.line_of.ensures

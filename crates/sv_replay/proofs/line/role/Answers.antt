@@ -2,8 +2,8 @@
 use Rattle.std.proofs.Common.{refl, ◌≡◌, rules, arith}
 use Rattle.std.specs.Prelude.{codes}
 use Rattle.std.proofs.lemmas.Slice.Eq.{text_from_reads}
-use Rattle.scanvolt.specs.Reading.{role_at}
-use Rattle.scanvolt.proofs.line.role.Goals as goal
+use Rattle.sv_replay.specs.Reading.{role_at}
+use Rattle.sv_replay.proofs.line.role.Goals as goal
 
 pub returns-in-portmap : goal.returns-in-portmap
 unfolding role_at

@@ -3,8 +3,8 @@ use Rattle.std.proofs.Common.{◌≡◌, rules, ap, option_map, arith}
 use Rattle.std.specs.Prelude.{codes}
 use Rattle.std.proofs.lemmas.Slice.Eq.{text_from_reads}
 use Rattle.sv_server.specs.Event.{Refuse}
-use Rattle.scanvolt.specs.Reading.{traffic_at}
-use Rattle.scanvolt.proofs.line.traffic.Goals as goal
+use Rattle.sv_replay.specs.Reading.{traffic_at}
+use Rattle.sv_replay.proofs.line.traffic.Goals as goal
 
 pub returns-in_ok-byte-in-refuse : goal.returns-in_ok-byte-in-refuse
 unfolding traffic_at

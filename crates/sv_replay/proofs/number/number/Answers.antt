@@ -1,8 +1,8 @@
 -- The loop reads one digit more.
 use Rattle.std.proofs.Common.{length, sym, ◌∙◌, arith}
 use Rattle.std.proofs.lemmas.Bool.{eqb-true, eqb-false}
-use Rattle.scanvolt.proofs.Steps.{number_starts, no_number, digits_end, digits_bad, digits_above, digits_next}
-use Rattle.scanvolt.proofs.number.number.Goals as goal
+use Rattle.sv_replay.proofs.Steps.{number_starts, no_number, digits_end, digits_bad, digits_above, digits_next}
+use Rattle.sv_replay.proofs.number.number.Goals as goal
 
 pub returns-then-is_empty-clause-exact : goal.returns-then-is_empty-clause-exact
 returns-then-is_empty-clause-exact c = no_number c.args.most c.args.digits.now (eqb-true (length c.args.digits.now) 0 (sym c.if-is_empty.ensures))

@@ -1,6 +1,6 @@
 use Rattle.std.proofs.Common.{◌≡◌, ◌≤◌, drop}
-use Rattle.scanvolt.specs.Reading.{number_at, digits_onto}
-use Rattle.scanvolt.proofs.number.number.Given as goal
+use Rattle.sv_replay.specs.Reading.{number_at, digits_onto}
+use Rattle.sv_replay.proofs.number.number.Given as goal
 
 -- the digits that are left, put onto the value, spell what all of them do
 abbrev pub invariant-loop-digit : goal.invariant-loop-digit

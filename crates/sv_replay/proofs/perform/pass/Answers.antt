@@ -1,9 +1,9 @@
 use Rattle.std.proofs.Common.{ℕ, subst, replicate, [], ◌++◌, ◌+◌, refl, arith}
 use Rattle.sv_server.proofs.Taking.{appends_none, appends_then}
-use Rattle.scanvolt.proofs.Printed.{ticks_none, ticks_more, ticks_stop, performs_stop}
+use Rattle.sv_replay.proofs.Printed.{ticks_none, ticks_more, ticks_stop, performs_stop}
 use Rattle.sv_server.specs.Event.{Tick}
-use Rattle.scanvolt.specs.Script.{Prints}
-use Rattle.scanvolt.proofs.perform.pass.Goals as goal
+use Rattle.sv_replay.specs.Script.{Prints}
+use Rattle.sv_replay.proofs.perform.pass.Goals as goal
 
 pub loop-init : goal.loop-init
 loop-init g c = λ config history s. ([], history, ticks_none config history, s, appends_none _)

@@ -3,8 +3,8 @@ use Rattle.std.specs.Io.KnownBytes.{Appends}
 use Rattle.sv_server.specs.declared.event.Config.{Config}
 use Rattle.sv_server.specs.Event.{Happening, Tick}
 use Rattle.sv_server.specs.State.{StandsFor}
-use Rattle.scanvolt.specs.Script.{Prints}
-use Rattle.scanvolt.proofs.perform.pass.Given as goal
+use Rattle.sv_replay.specs.Script.{Prints}
+use Rattle.sv_replay.proofs.perform.pass.Given as goal
 
 -- so many ticks were printed
 abbrev pub invariant-loop : goal.invariant-loop

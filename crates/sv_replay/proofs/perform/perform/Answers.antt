@@ -1,8 +1,8 @@
 use Rattle.std.proofs.Common.{[], refl}
 use Rattle.sv_server.specs.Event.{plain}
 use Rattle.sv_server.proofs.Taking.{appends_none}
-use Rattle.scanvolt.proofs.Printed.{performs_one}
-use Rattle.scanvolt.proofs.perform.perform.Goals as goal
+use Rattle.sv_replay.proofs.Printed.{performs_one}
+use Rattle.sv_replay.proofs.perform.perform.Goals as goal
 
 pub returns-in-Blank : goal.returns-in-Blank
 returns-in-Blank g c = λ config history s. rw c.in-Blank.is ([], history, (refl, refl), s, appends_none _)

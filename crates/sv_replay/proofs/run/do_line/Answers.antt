@@ -1,8 +1,8 @@
 use Rattle.std.proofs.Common.{arith}
-use Rattle.scanvolt.specs.PlainLine.{plain_line}
-use Rattle.scanvolt.specs.Run.{set_up}
-use Rattle.scanvolt.proofs.Staged.{line_stops}
-use Rattle.scanvolt.proofs.run.do_line.Goals as goal
+use Rattle.sv_replay.specs.PlainLine.{plain_line}
+use Rattle.sv_replay.specs.Run.{set_up}
+use Rattle.sv_replay.proofs.Staged.{line_stops}
+use Rattle.sv_replay.proofs.run.do_line.Goals as goal
 
 pub returns-in_err-perform-in-Some : goal.returns-in_err-perform-in-Some
 returns-in_err-perform-in-Some g c = λ history s.

@@ -1,8 +1,8 @@
 use Rattle.std.proofs.Common.{false, true, ap, length, arith}
 use Rattle.std.specs.Prelude.{Ok, Err}
-use Rattle.scanvolt.specs.Text.{Held}
-use Rattle.scanvolt.proofs.Going.{so_far_start, so_far_turn, so_far_stop, so_far_end, so_far_at_end, no_memory}
-use Rattle.scanvolt.proofs.run.run_replay.Goals as goal
+use Rattle.sv_replay.specs.Text.{Held}
+use Rattle.sv_replay.proofs.Going.{so_far_start, so_far_turn, so_far_stop, so_far_end, so_far_at_end, no_memory}
+use Rattle.sv_replay.proofs.run.run_replay.Goals as goal
 
 pub returns-in_err-run-clause-runs : goal.returns-in_err-run-clause-runs
 returns-in_err-run-clause-runs g c = no_memory _ _ c.from_residual.result c.from_residual.ensures.0 c.from_residual.ensures.1

@@ -1,7 +1,7 @@
 use Rattle.std.proofs.Common.{◌≡◌, ℕ, ◌+◌, ◌*◌, ◌≤◌, List, length}
 use Rattle.std.specs.Io.KnownBytes.{Consumes, Appends}
-use Rattle.scanvolt.specs.Stage.{IsStage}
-use Rattle.scanvolt.proofs.run.run_replay.Given as goal
+use Rattle.sv_replay.specs.Stage.{IsStage}
+use Rattle.sv_replay.proofs.run.run_replay.Given as goal
 
 -- what was read and printed until now is a stage, and each turn did a line or read
 abbrev pub invariant-loop : goal.invariant-loop

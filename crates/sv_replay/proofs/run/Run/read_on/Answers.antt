@@ -1,6 +1,6 @@
 use Rattle.std.proofs.Common.{◌+◌, refl}
-use Rattle.scanvolt.proofs.Going.{go_long, go_output, go_input, go_read, go_last_stop, go_last_output, go_last}
-use Rattle.scanvolt.proofs.run.Run.read_on.Goals as goal
+use Rattle.sv_replay.proofs.Going.{go_long, go_output, go_input, go_read, go_last_stop, go_last_output, go_last}
+use Rattle.sv_replay.proofs.run.Run.read_on.Goals as goal
 
 pub returns-then-len-gt-LONGEST_LINE-clause-goes :
     goal.returns-then-len-gt-LONGEST_LINE-clause-goes

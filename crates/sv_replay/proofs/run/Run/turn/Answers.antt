@@ -1,7 +1,7 @@
 use Rattle.std.proofs.Common.{◌+◌, take, drop, refl, sym, ap, ◌∙◌}
-use Rattle.scanvolt.specs.Text.{Held}
-use Rattle.scanvolt.proofs.Going.{go_line, go_line_stop}
-use Rattle.scanvolt.proofs.run.Run.turn.Goals as goal
+use Rattle.sv_replay.specs.Text.{Held}
+use Rattle.sv_replay.proofs.Going.{go_line, go_line_stop}
+use Rattle.sv_replay.proofs.run.Run.turn.Goals as goal
 
 pub returns-in_err-do_line-in-Some-clause-goes : goal.returns-in_err-do_line-in-Some-clause-goes
 returns-in_err-do_line-in-Some-clause-goes g c =

@@ -1,7 +1,7 @@
 use Rattle.std.proofs.Common.{ℕ, List, ap, rules}
-use Rattle.scanvolt.specs.Text.{Held}
-use Rattle.scanvolt.proofs.Texts.{dropped_keeps}
-use Rattle.scanvolt.proofs.text.Text.drop_front.Goals as goal
+use Rattle.sv_replay.specs.Text.{Held}
+use Rattle.sv_replay.proofs.Texts.{dropped_keeps}
+use Rattle.sv_replay.proofs.text.Text.drop_front.Goals as goal
 
 pub invariant_of-self : goal.invariant_of-self
 invariant_of-self g c = (dropped_keeps c.self.inside.buffer.items _ _ _ _ _ c.args.len c.self.invariant (rw (← c.self.view_is) at c.requires) (search rules)).0

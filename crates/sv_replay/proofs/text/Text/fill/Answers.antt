@@ -1,9 +1,9 @@
 use Rattle.std.proofs.Common.{◌+◌, ◌-◌, [], take, drop, ap, refl, rules, arith}
 use Rattle.std.proofs.lemmas.List.{places}
 use Rattle.std.proofs.lemmas.Result.{err_from_is_err_and}
-use Rattle.scanvolt.specs.Text.{Held}
-use Rattle.scanvolt.proofs.Texts.{read_keeps}
-use Rattle.scanvolt.proofs.text.Text.fill.Goals as goal
+use Rattle.sv_replay.specs.Text.{Held}
+use Rattle.sv_replay.proofs.Texts.{read_keeps}
+use Rattle.sv_replay.proofs.text.Text.fill.Goals as goal
 
 pub invariant_of-self : goal.invariant_of-self
 invariant_of-self g c =

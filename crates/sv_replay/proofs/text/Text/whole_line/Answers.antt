@@ -1,5 +1,5 @@
-use Rattle.scanvolt.proofs.Texts.{found_keeps, open_keeps}
-use Rattle.scanvolt.proofs.text.Text.whole_line.Goals as goal
+use Rattle.sv_replay.proofs.Texts.{found_keeps, open_keeps}
+use Rattle.sv_replay.proofs.text.Text.whole_line.Goals as goal
 
 pub invariant_of-self : goal.invariant_of-self
 invariant_of-self g c = (found_keeps c.self.inside.buffer.items _ _ _ _ c.in-Some.at c.self.invariant (rw c.deref.ensures.value at c.in-Some.ensures)).0

@@ -1,0 +1,58 @@
+//! Why a replay stops.
+
+ghost use Rattle.std.specs.Prelude.{◌≡◌};
+
+use crate::text::InputFault;
+use std::alloc::AllocError;
+use sv_server::ReplayFault;
+use thiserror::Error;
+
+/// Why a replay stopped. What was printed before stays.
+#[derive(Clone, Copy, Debug, PartialEq, Eq, Error)]
+pub enum RunFault {
+    /// The line of this number, from 1, is above 65,536 bytes or says nothing that a replay knows.
+    #[error("bad line {0}")]
+    BadLine(u64),
+    /// The input failed, or was read 4,294,967,295 times.
+    #[error("input")]
+    Input,
+    /// The output failed.
+    #[error("output")]
+    Output,
+    /// Memory was refused.
+    #[error("memory")]
+    Memory,
+}
+
+impl From<ReplayFault> for RunFault {
+    ghost use Rattle.sv_replay.specs.Run.{run_fault};
+
+    ghost from_gives = { λ replayed fault. fault ≡ run_fault replayed };
+
+    fn from(fault: ReplayFault) -> RunFault {
+        match fault {
+            ReplayFault::NoMemory => RunFault::Memory,
+            ReplayFault::Write => RunFault::Output,
+        }
+    }
+}
+
+impl From<InputFault> for RunFault {
+    ghost use Rattle.sv_replay.specs.declared.fault.RunFault.TheVariants.{Input};
+
+    ghost from_gives = { λ failed fault. fault ≡ Input };
+
+    fn from(_: InputFault) -> RunFault {
+        RunFault::Input
+    }
+}
+
+impl From<AllocError> for RunFault {
+    ghost use Rattle.sv_replay.specs.declared.fault.RunFault.TheVariants.{Memory};
+
+    ghost from_gives = { λ refused fault. fault ≡ Memory };
+
+    fn from(_: AllocError) -> RunFault {
+        RunFault::Memory
+    }
+}
