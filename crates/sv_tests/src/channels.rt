@@ -1,13 +1,14 @@
 //! The programs of the three channels: what is checked of a call, GETPORT, and every call of VXI-11 once.
 
 use crate::controller::{
-    CREATE, FOR_DEVICE, WRITE, answers, call, come, does, opened, opened_for, record, reply,
+    CREATE, FOR_DEVICE, WRITE, answers, answers_on, answers_words, call, come, does, opened,
+    opened_for, record, reply, succeeds,
 };
 use crate::same::same;
 use crate::words::bytes_of;
 use std::alloc::{AllocError, Global};
 use std::test::Fail;
-use sv_server::{Did, Event, Port, Role, Server};
+use sv_server::{Did, Event, Role, Server};
 
 /// GETPORT for the core program, version 1, over TCP.
 const GETPORT: [u32; 15] = [
@@ -49,9 +50,7 @@ fn without_last_byte(mut bytes: Vec<u8>) -> Vec<u8> {
 
 /// Makes link 1 on connection 0.
 fn make_link(server: &mut Server, alloc: Global) -> Result<(), Fail> {
-    let asked = call(alloc, 1, CREATE, &FOR_DEVICE)?;
-    let made = reply(alloc, 1, &[0, 1, 4097, 4096])?;
-    answers(server, asked.as_slice(), made.as_slice())
+    succeeds(server, alloc, 1, CREATE, &FOR_DEVICE, &[0, 1, 4097, 4096])
 }
 
 /// A reply that says that the arguments can't be read.
@@ -59,12 +58,78 @@ fn garbage(alloc: Global, xid: u32) -> Result<Vec<u8>, AllocError> {
     record(alloc, &[xid, 1, 0, 0, 0, 4], &[])
 }
 
+/// A call on the core channel without its last byte has to have arguments that can't be read.
+fn is_garbage_if_cut(
+    server: &mut Server,
+    alloc: Global,
+    xid: u32,
+    proc: u32,
+    args: &[u32],
+) -> Result<(), Fail> {
+    let cut = without_last_byte(call(alloc, xid, proc, args)?);
+    let wanted = garbage(alloc, xid)?;
+    answers(server, cut.as_slice(), wanted.as_slice())
+}
+
+/// On link 1 of a new device a call has to be refused without its last byte, if it has arguments, and to
+/// succeed whole.
+fn is_read_if_whole(alloc: Global, proc: u32, args: &[u32], fields: &[u32]) -> Result<(), Fail> {
+    let mut server = opened(alloc)?;
+    make_link(&mut server, alloc)?;
+    if !args.is_empty() {
+        is_garbage_if_cut(&mut server, alloc, proc, proc, args)?;
+    }
+    succeeds(&mut server, alloc, proc, proc, args, fields)
+}
+
+/// The abort channel's call of a link.
+fn abort(alloc: Global, lid: u32) -> Result<Vec<u8>, AllocError> {
+    record(alloc, &[5, 0, 2, 0x0607B0, 1, 1, 0, 0, 0, 0], &[lid])
+}
+
+/// The abort channel's call of a link has to be answered with this error, on connection 1.
+fn aborts(server: &mut Server, alloc: Global, lid: u32, error: u32) -> Result<(), Fail> {
+    let asked = abort(alloc, lid)?;
+    let wanted = reply(alloc, 5, &[error])?;
+    answers_on(server, 1, asked.as_slice(), wanted.as_slice())
+}
+
+/// The abort channel's call of link 1 without its last byte has to have arguments that can't be read.
+fn is_no_abort_if_cut(server: &mut Server, alloc: Global) -> Result<(), Fail> {
+    let cut = without_last_byte(abort(alloc, 1)?);
+    let wanted = garbage(alloc, 5)?;
+    answers_on(server, 1, cut.as_slice(), wanted.as_slice())
+}
+
+/// A record with this header and nothing behind it has to be answered by one of these words.
+fn is_told(server: &mut Server, alloc: Global, header: &[u32], told: &[u32]) -> Result<(), Fail> {
+    let asked = record(alloc, header, &[])?;
+    let wanted = record(alloc, told, &[])?;
+    answers(server, asked.as_slice(), wanted.as_slice())
+}
+
+/// A write to this link, of 4,097 zeros.
+fn long_write(alloc: Global, lid: u32) -> Result<Vec<u8>, AllocError> {
+    let head = [0x80001040, 6, 0, 2, 0x0607AF, 1, WRITE, 0, 0, 0, 0];
+    let mut bytes = bytes_of(alloc, &head)?;
+    bytes.extend_from_slice(bytes_of(alloc, &[lid, 0, 0, 8, 4097])?.as_slice())?;
+    bytes.extend_from_slice(&[0; 4100])?;
+    Ok(bytes)
+}
+
+/// A write of 4,097 bytes has to be answered with this error, where link 1 alone is the connection's.
+fn is_no_link(alloc: Global, lid: u32, error: u32) -> Result<(), Fail> {
+    let asked = long_write(alloc, lid)?;
+    let wanted = reply(alloc, 6, &[error, 0])?;
+    let mut server = opened(alloc)?;
+    make_link(&mut server, alloc)?;
+    answers(&mut server, asked.as_slice(), wanted.as_slice())
+}
+
 #[test]
 fn the_port_mapper_tells_the_port_of_the_core_channel(rt: HostRuntime) -> Result<(), Fail> {
-    let asked = bytes_of(rt.alloc(), &GETPORT)?;
-    let wanted = bytes_of(rt.alloc(), &CORE_PORT)?;
     let mut server = opened_for(rt.alloc(), Role::Portmap)?;
-    answers(&mut server, asked.as_slice(), wanted.as_slice())
+    answers_words(&mut server, rt.alloc(), &GETPORT, &CORE_PORT)
 }
 
 /// What the header of a call decides: the version of RPC, the program, its version, the procedure.
@@ -96,10 +161,8 @@ fn the_header_of_a_call_is_checked_in_order(rt: HostRuntime) -> Result<(), Fail>
         ),
     ];
     let mut server = opened(rt.alloc())?;
-    for (header, told) in run {
-        let asked = record(rt.alloc(), &header, &[])?;
-        let wanted = record(rt.alloc(), told, &[])?;
-        answers(&mut server, asked.as_slice(), wanted.as_slice())?;
+    for (header, told) in &run {
+        is_told(&mut server, rt.alloc(), header, told)?;
     }
     Ok(())
 }
@@ -107,38 +170,18 @@ fn the_header_of_a_call_is_checked_in_order(rt: HostRuntime) -> Result<(), Fail>
 #[test]
 fn a_lock_that_is_neither_asked_for_nor_not_is_garbage(rt: HostRuntime) -> Result<(), Fail> {
     let asked = call(rt.alloc(), 9, CREATE, &[0, 2, 0, 5, 0x696E7374, 0x30000000])?;
+    let wanted = garbage(rt.alloc(), 9)?;
     let mut server = opened(rt.alloc())?;
-    answers(
-        &mut server,
-        asked.as_slice(),
-        garbage(rt.alloc(), 9)?.as_slice(),
-    )
+    answers(&mut server, asked.as_slice(), wanted.as_slice())
 }
 
 #[test]
 fn each_call_is_read_if_it_is_whole(rt: HostRuntime) -> Result<(), Fail> {
-    for (proc, args, fields) in CALLS {
-        let mut server = opened(rt.alloc())?;
-        make_link(&mut server, rt.alloc())?;
-        let asked = call(rt.alloc(), proc, proc, args)?;
-        let wanted = reply(rt.alloc(), proc, fields)?;
-        if !args.is_empty() {
-            let cut = without_last_byte(call(rt.alloc(), proc, proc, args)?);
-            answers(
-                &mut server,
-                cut.as_slice(),
-                garbage(rt.alloc(), proc)?.as_slice(),
-            )?;
-        }
-        answers(&mut server, asked.as_slice(), wanted.as_slice())?;
+    for (proc, args, fields) in &CALLS {
+        is_read_if_whole(rt.alloc(), *proc, args, fields)?;
     }
     let mut server = opened(rt.alloc())?;
-    let cut = without_last_byte(call(rt.alloc(), 1, CREATE, &FOR_DEVICE)?);
-    answers(
-        &mut server,
-        cut.as_slice(),
-        garbage(rt.alloc(), 1)?.as_slice(),
-    )?;
+    is_garbage_if_cut(&mut server, rt.alloc(), 1, CREATE, &FOR_DEVICE)?;
     make_link(&mut server, rt.alloc())
 }
 
@@ -149,48 +192,16 @@ fn an_abort_tells_whether_the_link_lives(rt: HostRuntime) -> Result<(), Fail> {
     make_link(&mut server, rt.alloc())?;
     let role = Role::Abort;
     does(&mut server, Event::Open { conn: 1, role })?;
-    let header = [5, 0, 2, 0x0607B0, 1, 1, 0, 0, 0, 0];
-    let runs = [
-        (
-            record(rt.alloc(), &header, &[1])?,
-            reply(rt.alloc(), 5, &[0])?,
-        ),
-        (
-            without_last_byte(record(rt.alloc(), &header, &[1])?),
-            garbage(rt.alloc(), 5)?,
-        ),
-        (
-            record(rt.alloc(), &header, &[2])?,
-            reply(rt.alloc(), 5, &[4])?,
-        ),
-    ];
-    for (asked, wanted) in runs {
-        let piece = asked.as_slice();
-        does(&mut server, Event::Bytes { conn: 1, piece })?;
-        does(&mut server, Event::Turn { conn: 1 })?;
-        let port = Port::Conn(1);
-        assert!(rt; server.waiting(port) == wanted.as_slice());
-        let count = u32::try_from(wanted.len())?;
-        does(&mut server, Event::Took { port, count })?;
-    }
-    Ok(())
+    aborts(&mut server, rt.alloc(), 1, 0)?;
+    is_no_abort_if_cut(&mut server, rt.alloc())?;
+    aborts(&mut server, rt.alloc(), 2, 4)
 }
 
 /// On a link of another connection, or on none, a call fails before its size is looked at.
 #[test]
 fn a_link_of_another_connection_is_invalid(rt: HostRuntime) -> Result<(), Fail> {
-    let zeros = vec![in rt.alloc(); 0u8; 4100]?;
     for (lid, error) in [(1u32, 5u32), (2, 4), (0, 4), (0xFFFFFFFF, 4)] {
-        let mut server = opened(rt.alloc())?;
-        make_link(&mut server, rt.alloc())?;
-        let mut asked = bytes_of(
-            rt.alloc(),
-            &[0x80001040, 6, 0, 2, 0x0607AF, 1, WRITE, 0, 0, 0, 0],
-        )?;
-        asked.extend_from_slice(bytes_of(rt.alloc(), &[lid, 0, 0, 8, 4097])?.as_slice())?;
-        asked.extend_from_slice(zeros.as_slice())?;
-        let wanted = reply(rt.alloc(), 6, &[error, 0])?;
-        answers(&mut server, asked.as_slice(), wanted.as_slice())?;
+        is_no_link(rt.alloc(), lid, error)?;
     }
     Ok(())
 }
@@ -199,12 +210,8 @@ fn a_link_of_another_connection_is_invalid(rt: HostRuntime) -> Result<(), Fail> 
 fn a_link_that_was_destroyed_is_invalid(rt: HostRuntime) -> Result<(), Fail> {
     let mut server = opened(rt.alloc())?;
     make_link(&mut server, rt.alloc())?;
-    for error in [0u32, 4] {
-        let asked = call(rt.alloc(), 7, 23, &[1])?;
-        let wanted = reply(rt.alloc(), 7, &[error])?;
-        answers(&mut server, asked.as_slice(), wanted.as_slice())?;
-    }
-    Ok(())
+    succeeds(&mut server, rt.alloc(), 7, 23, &[1], &[0])?;
+    succeeds(&mut server, rt.alloc(), 7, 23, &[1], &[4])
 }
 
 #[test]

@@ -4,7 +4,7 @@ use crate::same::{same, same_bytes};
 use crate::words::bytes_of;
 use std::alloc::{AllocError, Allocator, Global};
 use std::test::Fail;
-use sv_server::{Config, Did, Event, Port, Role, Server};
+use sv_server::{Config, Did, Event, Port, Refused, Role, Server};
 
 /// The ports 4096 and 4097, and a clock that starts at 0.
 pub(crate) const CONFIG: Config = Config {
@@ -48,13 +48,18 @@ pub(crate) fn reply(alloc: Global, xid: u32, fields: &[u32]) -> Result<Vec<u8>, 
     record(alloc, &[xid, 1, 0, 0, 0, 0], fields)
 }
 
+/// Applies an event, which has to be answered so.
+pub(crate) fn gives<A: Allocator>(
+    server: &mut Server<A>,
+    event: Event<'_>,
+    wanted: Result<Did, Refused>,
+) -> Result<(), Fail> {
+    same(server.apply(event), wanted, format_args!("{event:?}"))
+}
+
 /// Applies an event, which has to be done.
 pub(crate) fn does<A: Allocator>(server: &mut Server<A>, event: Event<'_>) -> Result<(), Fail> {
-    same(
-        server.apply(event),
-        Ok(Did::Done),
-        format_args!("{event:?}"),
-    )
+    gives(server, event, Ok(Did::Done))
 }
 
 /// Opens connection 0 on the core channel.
@@ -82,13 +87,30 @@ pub(crate) fn come<A: Allocator>(server: &mut Server<A>, piece: &[u8]) -> Result
     does(server, Event::Bytes { conn: 0, piece })
 }
 
-/// Takes the bytes that wait on connection 0, which have to be these.
-pub(crate) fn take<A: Allocator>(server: &mut Server<A>, wanted: &[u8]) -> Result<(), Fail> {
-    let port = Port::Conn(0);
+/// Takes the bytes that wait on a connection, which have to be these.
+pub(crate) fn take<A: Allocator>(
+    server: &mut Server<A>,
+    conn: u8,
+    wanted: &[u8],
+) -> Result<(), Fail> {
+    let port = Port::Conn(conn);
     same_bytes(server.waiting(port), wanted, "what waits")?;
     let count = u32::try_from(wanted.len())?;
     does(server, Event::Took { port, count })?;
     same_bytes(server.waiting(port), &[], "what waits once all is taken")
+}
+
+/// Lets bytes come on a connection, and takes a call and its reply.
+pub(crate) fn answers_on<A: Allocator>(
+    server: &mut Server<A>,
+    conn: u8,
+    asked: &[u8],
+    wanted: &[u8],
+) -> Result<(), Fail> {
+    let piece = asked;
+    does(server, Event::Bytes { conn, piece })?;
+    does(server, Event::Turn { conn })?;
+    take(server, conn, wanted)
 }
 
 /// Lets bytes come on connection 0, and takes a call and its reply.
@@ -97,7 +119,31 @@ pub(crate) fn answers<A: Allocator>(
     asked: &[u8],
     wanted: &[u8],
 ) -> Result<(), Fail> {
-    come(server, asked)?;
-    does(server, Event::Turn { conn: 0 })?;
-    take(server, wanted)
+    answers_on(server, 0, asked, wanted)
+}
+
+/// Lets these words come on connection 0, and takes a call and its reply.
+pub(crate) fn answers_words(
+    server: &mut Server,
+    alloc: Global,
+    asked: &[u32],
+    wanted: &[u32],
+) -> Result<(), Fail> {
+    let asked = bytes_of(alloc, asked)?;
+    let wanted = bytes_of(alloc, wanted)?;
+    answers(server, asked.as_slice(), wanted.as_slice())
+}
+
+/// A call on the core channel has to succeed, with these fields of its result.
+pub(crate) fn succeeds(
+    server: &mut Server,
+    alloc: Global,
+    xid: u32,
+    proc: u32,
+    args: &[u32],
+    fields: &[u32],
+) -> Result<(), Fail> {
+    let asked = call(alloc, xid, proc, args)?;
+    let wanted = reply(alloc, xid, fields)?;
+    answers(server, asked.as_slice(), wanted.as_slice())
 }

@@ -123,7 +123,7 @@ fn a_link_for_which_memory_was_refused_is_made_at_the_next_turn(
     assert!(rt; server.waiting(Port::Conn(0)).is_empty());
 
     does(&mut server, turn)?;
-    take(&mut server, wanted.as_slice())
+    take(&mut server, 0, wanted.as_slice())
 }
 
 #[test]
@@ -234,7 +234,7 @@ fn a_record_cut_short_faults_or_has_garbage_for_arguments(rt: HostRuntime) -> Re
         does(&mut server, Event::Turn { conn: 0 })?;
         assert_eq!(rt; server.faulted(0), size < 40, "of {size} bytes");
         let wanted = if size < 40 { &[] } else { garbage.as_slice() };
-        take(&mut server, wanted)?;
+        take(&mut server, 0, wanted)?;
     }
     Ok(())
 }
