@@ -1,11 +1,14 @@
 //! Links, writes and reads: from the bytes of calls to the bytes of replies.
 
 use crate::controller::{
-    CONFIG, CREATE, FOR_DEVICE, READ, WRITE, answers, call, come, does, open, opened, reply, take,
+    CONFIG, CREATE, FOR_DEVICE, READ, WRITE, answers, answers_words, call, come, does, gives, open,
+    opened, succeeds, take,
 };
 use crate::records::IN_FRAGMENTS;
+use crate::same::{same, same_bytes};
 use crate::words::{CREATE_LINK, bytes_of};
 use rationing::Rationed;
+use std::alloc::Global;
 use std::test::Fail;
 use sv_server::{Config, Did, Event, Port, Refused, Role, Server};
 
@@ -40,32 +43,135 @@ const IDENTITY: [u32; 15] = [
     0x00000004, 0x00000014, 0x5343414E, 0x564F4C54, 0x2C535633, 0x322C302C, 0x312E300A,
 ];
 
+/// A server of which connection 0 is open has to refuse an event so.
+fn is_refused(alloc: Global, event: Event<'_>, why: Refused) -> Result<(), Fail> {
+    let mut server = opened(alloc)?;
+    gives(&mut server, event, Err(why))
+}
+
+/// Lets bytes come on connection 0 one by one, before the last of which no call is whole.
+fn come_singly(server: &mut Server, stream: &[u8]) -> Result<(), Fail> {
+    for byte in stream {
+        same(server.ready(0), false, "whether a call is whole")?;
+        come(server, &[*byte])?;
+    }
+    Ok(())
+}
+
+/// A new server has to answer a call that came byte by byte.
+fn answers_singly(alloc: Global, stream: &[u8], wanted: &[u8]) -> Result<(), Fail> {
+    let mut server = opened(alloc)?;
+    come_singly(&mut server, stream)?;
+    answers(&mut server, &[], wanted)
+}
+
+/// A new server has to answer a call that came at once.
+fn answers_at_once(alloc: Global, stream: &[u8], wanted: &[u8]) -> Result<(), Fail> {
+    let mut server = opened(alloc)?;
+    answers(&mut server, stream, wanted)
+}
+
+/// The words are a call of `create_link`, and have to be answered alike byte by byte and at once.
+fn makes_first_link(alloc: Global, words: &[u32]) -> Result<(), Fail> {
+    let stream = bytes_of(alloc, words)?;
+    let wanted = bytes_of(alloc, &FIRST_LINK)?;
+    answers_singly(alloc, stream.as_slice(), wanted.as_slice())?;
+    answers_at_once(alloc, stream.as_slice(), wanted.as_slice())
+}
+
+/// The server is refused memory for a link, and has to make the link at the next turn.
+fn links_at_next_turn(
+    heap: &Rationed<Global>,
+    server: &mut Server<&Rationed<Global>>,
+    asked: &[u8],
+    wanted: &[u8],
+) -> Result<(), Fail> {
+    let turn = Event::Turn { conn: 0 };
+    open(server)?;
+    come(server, asked)?;
+    heap.refuse(1);
+    gives(server, turn, Err(Refused::NoMemory))?;
+    same_bytes(server.waiting(Port::Conn(0)), &[], "what waits")?;
+    does(server, turn)?;
+    take(server, 0, wanted)
+}
+
+/// A new server has to make its first link from this memory.
+fn links_from(heap: &Rationed<Global>, asked: &[u8], wanted: &[u8]) -> Result<(), Fail> {
+    let mut server = Server::new(heap, CONFIG)?;
+    open(&mut server)?;
+    answers(&mut server, asked, wanted)
+}
+
+/// The bytes are no whole call, and the server has to wait for more.
+fn waits_for_more(server: &mut Server, piece: &[u8]) -> Result<(), Fail> {
+    let size = piece.len();
+    let turn = Event::Turn { conn: 0 };
+    come(server, piece)?;
+    same(
+        server.ready(0),
+        false,
+        format_args!("whether {size} bytes are a call"),
+    )?;
+    same_bytes(server.waiting(Port::Conn(0)), &[], "what waits")?;
+    gives(server, turn, Ok(Did::Idle))
+}
+
+/// A record of this size comes, which has to fault its connection or to have this reply.
+fn ends_or_tells(server: &mut Server, size: u8, record: &[u8], garbage: &[u8]) -> Result<(), Fail> {
+    come(server, &[0x80, 0, 0, size])?;
+    come(server, record)?;
+    same(
+        server.ready(0),
+        true,
+        format_args!("whether {size} bytes are a record"),
+    )?;
+    does(server, Event::Turn { conn: 0 })?;
+    same(
+        server.faulted(0),
+        size < 40,
+        format_args!("a fault of {size} bytes"),
+    )?;
+    take(server, 0, if size < 40 { &[] } else { garbage })
+}
+
+/// An event comes so many times, and has to be done each time.
+fn does_each(server: &mut Server, count: u16, event: Event<'_>) -> Result<(), Fail> {
+    for _ in 0..count {
+        does(server, event)?;
+    }
+    Ok(())
+}
+
+/// A call is left, and its reply has to wait until 24 bytes of those before it are taken.
+fn waits_for_room(server: &mut Server) -> Result<(), Fail> {
+    let turn = Event::Turn { conn: 0 };
+    let port = Port::Conn(0);
+    same(server.waiting(port).len(), 8176, "the bytes that wait")?;
+    gives(server, turn, Err(Refused::NoRoom))?;
+    does(server, Event::Took { port, count: 23 })?;
+    gives(server, turn, Err(Refused::NoRoom))?;
+    does(server, Event::Took { port, count: 1 })?;
+    does(server, turn)?;
+    same(
+        server.waiting(port).len(),
+        8180,
+        "the bytes that wait in the end",
+    )?;
+    gives(server, turn, Ok(Did::Idle))
+}
+
 /// With ample memory it isn't refused, which no contract says.
 #[test]
 fn create_link_makes_the_first_link(rt: HostRuntime) -> Result<(), Fail> {
-    let asked = bytes_of(rt.alloc(), &CREATE_LINK)?;
-    let wanted = bytes_of(rt.alloc(), &FIRST_LINK)?;
     let mut server = opened(rt.alloc())?;
-    answers(&mut server, asked.as_slice(), wanted.as_slice())
+    answers_words(&mut server, rt.alloc(), &CREATE_LINK, &FIRST_LINK)
 }
 
 #[test]
 fn a_call_is_answered_alike_however_its_bytes_are_cut(rt: HostRuntime) -> Result<(), Fail> {
-    let whole = bytes_of(rt.alloc(), &CREATE_LINK)?;
-    let fragments = bytes_of(rt.alloc(), &IN_FRAGMENTS)?;
-    let wanted = bytes_of(rt.alloc(), &FIRST_LINK)?;
-    for stream in [whole.as_slice(), fragments.as_slice()] {
-        let mut server = opened(rt.alloc())?;
-        for byte in stream {
-            assert!(rt; !server.ready(0));
-            come(&mut server, &[*byte])?;
-        }
-        answers(&mut server, &[], wanted.as_slice())?;
-
-        let mut server = opened(rt.alloc())?;
-        answers(&mut server, stream, wanted.as_slice())?;
-    }
-    Ok(())
+    makes_first_link(rt.alloc(), &CREATE_LINK)?;
+    makes_first_link(rt.alloc(), &IN_FRAGMENTS)
 }
 
 #[test]
@@ -76,10 +182,8 @@ fn idn_is_answered_at_the_next_read(rt: HostRuntime) -> Result<(), Fail> {
         (&WRITE_IDN, &WRITTEN),
         (&READ_256, &IDENTITY),
     ];
-    for (asked, wanted) in run {
-        let asked = bytes_of(rt.alloc(), asked)?;
-        let wanted = bytes_of(rt.alloc(), wanted)?;
-        answers(&mut server, asked.as_slice(), wanted.as_slice())?;
+    for (asked, wanted) in &run {
+        answers_words(&mut server, rt.alloc(), asked, wanted)?;
     }
     Ok(())
 }
@@ -98,10 +202,8 @@ fn a_message_may_come_in_several_writes(rt: HostRuntime) -> Result<(), Fail> {
         (WRITE, &[1, 0, 0, 8, 0], &[0, 0]),
         (READ, &[1, 256, 0, 0, 0, 0], &identity),
     ];
-    for (proc, args, fields) in run {
-        let asked = call(rt.alloc(), proc, proc, args)?;
-        let wanted = reply(rt.alloc(), proc, fields)?;
-        answers(&mut server, asked.as_slice(), wanted.as_slice())?;
+    for (proc, args, fields) in &run {
+        succeeds(&mut server, rt.alloc(), *proc, *proc, args, fields)?;
     }
     Ok(())
 }
@@ -114,29 +216,25 @@ fn a_link_for_which_memory_was_refused_is_made_at_the_next_turn(
     let wanted = bytes_of(rt.alloc(), &FIRST_LINK)?;
     let heap = Rationed::new(rt.alloc());
     let mut server = Server::new(&heap, CONFIG)?;
-    open(&mut server)?;
-    come(&mut server, asked.as_slice())?;
-
-    heap.refuse(1);
-    let turn = Event::Turn { conn: 0 };
-    assert_eq!(rt; server.apply(turn), Err(Refused::NoMemory));
-    assert!(rt; server.waiting(Port::Conn(0)).is_empty());
-
-    does(&mut server, turn)?;
-    take(&mut server, 0, wanted.as_slice())
+    links_at_next_turn(&heap, &mut server, asked.as_slice(), wanted.as_slice())
 }
 
 #[test]
 fn a_33rd_link_is_out_of_resources(rt: HostRuntime) -> Result<(), Fail> {
     let mut server = opened(rt.alloc())?;
     for lid in 1..33u32 {
-        let asked = call(rt.alloc(), lid, CREATE, &FOR_DEVICE)?;
-        let wanted = reply(rt.alloc(), lid, &[0, lid, 4097, 4096])?;
-        answers(&mut server, asked.as_slice(), wanted.as_slice())?;
+        let link = [0, lid, 4097, 4096];
+        succeeds(&mut server, rt.alloc(), lid, CREATE, &FOR_DEVICE, &link)?;
     }
-    let asked = call(rt.alloc(), 33, CREATE, &FOR_DEVICE)?;
-    let wanted = reply(rt.alloc(), 33, &OUT_OF_RESOURCES)?;
-    answers(&mut server, asked.as_slice(), wanted.as_slice())
+    let alloc = rt.alloc();
+    succeeds(
+        &mut server,
+        alloc,
+        33,
+        CREATE,
+        &FOR_DEVICE,
+        &OUT_OF_RESOURCES,
+    )
 }
 
 /// Each refused event, why, and the number of that.
@@ -160,8 +258,7 @@ fn events_are_refused_for_their_reasons(rt: HostRuntime) -> Result<(), Fail> {
         (input(33, 0), Refused::BadChannel, 8),
         (input(1, 1_000_000_001), Refused::BadInput, 9),
     ] {
-        let mut server = opened(rt.alloc())?;
-        assert_eq!(rt; server.apply(event), Err(why));
+        is_refused(rt.alloc(), event, why)?;
         assert_eq!(rt; why as u8, number, "{why:?}");
     }
     Ok(())
@@ -176,9 +273,8 @@ fn the_clock_ends_at_its_last_value(rt: HostRuntime) -> Result<(), Fail> {
     };
     let mut server = Server::new(rt.alloc(), config)?;
     does(&mut server, Event::Tick)?;
-    assert_eq!(rt; server.apply(Event::Tick), Err(Refused::TimeOver));
     assert_eq!(rt; Refused::TimeOver as u8, 10);
-    Ok(())
+    gives(&mut server, Event::Tick, Err(Refused::TimeOver))
 }
 
 #[test]
@@ -188,17 +284,15 @@ fn a_server_is_made_once_memory_is_there(rt: HostRuntime) -> Result<(), Fail> {
     let heap = Rationed::new(rt.alloc());
     for number in 1..200u64 {
         heap.refuse(number);
-        let made = Server::new(&heap, CONFIG);
+        let made = Server::new(&heap, CONFIG).is_ok();
         if heap.waits() {
-            assert!(rt; made.is_ok(), "nothing was refused");
+            assert!(rt; made, "nothing was refused");
             // The buffers of 16 connections, each with one for what comes and one for what is sent.
             assert!(rt; number > 32, "{number}");
             return Ok(());
         }
-        assert!(rt; made.is_err(), "without allocation {number}");
-        let mut again = Server::new(&heap, CONFIG)?;
-        open(&mut again)?;
-        answers(&mut again, asked.as_slice(), wanted.as_slice())?;
+        assert!(rt; !made, "without allocation {number}");
+        links_from(&heap, asked.as_slice(), wanted.as_slice())?;
     }
     panic!(rt; "each run was refused an allocation")
 }
@@ -209,14 +303,7 @@ fn nothing_is_done_before_a_call_is_whole(rt: HostRuntime) -> Result<(), Fail> {
     assert_eq!(rt; stream.len(), 68);
     for size in 0..68usize {
         let mut server = opened(rt.alloc())?;
-        come(&mut server, &stream.as_slice()[..size])?;
-        assert!(rt; !server.ready(0), "after {size} bytes");
-        assert!(rt;
-            server.waiting(Port::Conn(0)).is_empty(),
-            "after {size} bytes"
-        );
-        let turned = server.apply(Event::Turn { conn: 0 });
-        assert_eq!(rt; turned, Ok(Did::Idle), "after {size} bytes");
+        waits_for_more(&mut server, &stream.as_slice()[..size])?;
     }
     Ok(())
 }
@@ -228,13 +315,8 @@ fn a_record_cut_short_faults_or_has_garbage_for_arguments(rt: HostRuntime) -> Re
     assert_eq!(rt; whole.len(), 64);
     for size in 0..64u8 {
         let mut server = opened(rt.alloc())?;
-        come(&mut server, &[0x80, 0, 0, size])?;
-        come(&mut server, &whole.as_slice()[..usize::from(size)])?;
-        assert!(rt; server.ready(0), "of {size} bytes");
-        does(&mut server, Event::Turn { conn: 0 })?;
-        assert_eq!(rt; server.faulted(0), size < 40, "of {size} bytes");
-        let wanted = if size < 40 { &[] } else { garbage.as_slice() };
-        take(&mut server, 0, wanted)?;
+        let record = &whole.as_slice()[..usize::from(size)];
+        ends_or_tells(&mut server, size, record, garbage.as_slice())?;
     }
     Ok(())
 }
@@ -243,21 +325,8 @@ fn a_record_cut_short_faults_or_has_garbage_for_arguments(rt: HostRuntime) -> Re
 fn a_call_waits_until_its_reply_has_room(rt: HostRuntime) -> Result<(), Fail> {
     let null = call(rt.alloc(), 1, 0, &[])?;
     let mut server = opened(rt.alloc())?;
-    for _ in 0..293u16 {
-        come(&mut server, null.as_slice())?;
-    }
-    let turn = Event::Turn { conn: 0 };
-    for _ in 0..292u16 {
-        does(&mut server, turn)?;
-    }
-    let port = Port::Conn(0);
-    assert_eq!(rt; server.waiting(port).len(), 8176);
-    assert_eq!(rt; server.apply(turn), Err(Refused::NoRoom));
-    does(&mut server, Event::Took { port, count: 23 })?;
-    assert_eq!(rt; server.apply(turn), Err(Refused::NoRoom));
-    does(&mut server, Event::Took { port, count: 1 })?;
-    does(&mut server, turn)?;
-    assert_eq!(rt; server.waiting(port).len(), 8180);
-    assert_eq!(rt; server.apply(turn), Ok(Did::Idle));
-    Ok(())
+    let piece = null.as_slice();
+    does_each(&mut server, 293, Event::Bytes { conn: 0, piece })?;
+    does_each(&mut server, 292, Event::Turn { conn: 0 })?;
+    waits_for_room(&mut server)
 }
