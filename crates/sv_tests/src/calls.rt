@@ -1,5 +1,6 @@
 //! The headers of calls and replies.
 
+use crate::same::{same, same_bytes};
 use crate::words::{CREATE_LINK, bytes_of};
 use std::alloc::Global;
 use std::test::Fail;
@@ -17,32 +18,50 @@ const BAD_BOOLEAN: [u32; 16] = [
     0x00000000, 0x00000000, 0x00000000, 0x00000002, 0x00000000, 0x00000005, 0x696E7374, 0x30000000,
 ];
 
-/// The bytes of the header of a reply.
-fn reply_bytes(alloc: Global, xid: u32, reply: Reply) -> Result<Vec<u8>, Fail> {
+/// The header of a reply has to be spelled so.
+fn is_spelled(alloc: Global, xid: u32, reply: Reply, words: &[u32]) -> Result<(), Fail> {
+    let wanted = bytes_of(alloc, words)?;
     let mut buffer = [0xEE; 40];
     let mut writer = Writer::new(&mut buffer);
     write_reply(&mut writer, xid, reply)?;
     let count = writer.written();
-    Ok(
-        buffer
-            .get(..count)
-            .ok_or("more than there is")?
-            .to_vec(alloc)?,
+    let found = buffer.get(..count).ok_or("more than there is")?;
+    same_bytes(
+        found,
+        wanted.as_slice(),
+        format_args!("the header of {reply:?}"),
     )
 }
 
 /// A call of which the credential has this length.
 fn with_credential(alloc: Global, size: u32) -> Result<Vec<u8>, Fail> {
     let mut bytes = bytes_of(alloc, &[1, 0, 2, 0x0607AF, 1, 10, 1, size])?;
-    for _ in 0..size {
-        bytes.push(0xC3)?;
+    // The pad, and the verifier.
+    let zeros = (4 - size % 4) % 4 + 8;
+    for place in 0..size.saturating_add(zeros) {
+        bytes.push(if place < size { 0xC3 } else { 0 })?;
     }
-    for _ in 0..(4 - size % 4) % 4 {
-        bytes.push(0)?;
-    }
-    // The verifier.
-    bytes.extend_from_slice(&[0; 8])?;
     Ok(bytes)
+}
+
+/// The record has to be a call of `create_link` that has the number 9 and these arguments.
+fn is_ninth_call(record: &[u8], args: &[u8]) -> Result<(), Fail> {
+    let wanted = Call {
+        xid: 9,
+        prog: 0x0607AF,
+        vers: 1,
+        proc: 10,
+        args,
+    };
+    same(read_call(record), Ok(wanted), "the call")
+}
+
+/// The arguments have to be the integer 0 and, behind it, these bytes that begin with no boolean.
+fn has_no_boolean(args: &[u8], from_boolean: &[u8]) -> Result<(), Fail> {
+    let mut reader = Reader::new(args);
+    same(reader.i32(), Ok(0), "the integer")?;
+    same(reader.boolean(), Err(XdrFault::BadBool), "the boolean")?;
+    same_bytes(reader.rest(), from_boolean, "what is left")
 }
 
 fn fault_of(record: &[u8]) -> Option<CallFault> {
@@ -61,10 +80,8 @@ fn answers_a_call_of_another_version_of_a_program(rt: HostRuntime) -> Result<(),
     };
     assert_eq!(rt; read_call(record.as_slice()), Ok(wanted));
 
-    let reply = reply_bytes(rt.alloc(), 8, Reply::ProgMismatch { low: 1, high: 1 })?;
-    let wanted = bytes_of(rt.alloc(), &[8, 1, 0, 0, 0, 2, 1, 1])?;
-    assert_eq!(rt; reply.as_slice(), wanted.as_slice());
-    Ok(())
+    let reply = Reply::ProgMismatch { low: 1, high: 1 };
+    is_spelled(rt.alloc(), 8, reply, &[8, 1, 0, 0, 0, 2, 1, 1])
 }
 
 #[test]
@@ -72,22 +89,10 @@ fn answers_arguments_that_cannot_be_read(rt: HostRuntime) -> Result<(), Fail> {
     let record = bytes_of(rt.alloc(), &BAD_BOOLEAN)?;
     let arguments = bytes_of(rt.alloc(), &[0, 2, 0, 5, 0x696E7374, 0x30000000])?;
     let from_boolean = bytes_of(rt.alloc(), &[2, 0, 5, 0x696E7374, 0x30000000])?;
+    is_ninth_call(record.as_slice(), arguments.as_slice())?;
     let call = read_call(record.as_slice())?;
-    assert_eq!(rt;
-        (call.xid, call.prog, call.vers, call.proc),
-        (9, 0x0607AF, 1, 10)
-    );
-    assert_eq!(rt; call.args, arguments.as_slice());
-
-    let mut reader = Reader::new(call.args);
-    assert_eq!(rt; reader.i32(), Ok(0));
-    assert_eq!(rt; reader.boolean(), Err(XdrFault::BadBool));
-    assert_eq!(rt; reader.rest(), from_boolean.as_slice());
-
-    let reply = reply_bytes(rt.alloc(), 9, Reply::GarbageArgs)?;
-    let wanted = bytes_of(rt.alloc(), &[9, 1, 0, 0, 0, 4])?;
-    assert_eq!(rt; reply.as_slice(), wanted.as_slice());
-    Ok(())
+    has_no_boolean(call.args, from_boolean.as_slice())?;
+    is_spelled(rt.alloc(), 9, Reply::GarbageArgs, &[9, 1, 0, 0, 0, 4])
 }
 
 #[test]
@@ -95,10 +100,12 @@ fn answers_another_version_of_the_protocol_whatever_follows(rt: HostRuntime) -> 
     let record = bytes_of(rt.alloc(), &[0x0000000A, 0, 3])?;
     assert_eq!(rt; read_call(record.as_slice()), Err(CallFault::Version(10)));
 
-    let reply = reply_bytes(rt.alloc(), 10, Reply::Mismatch)?;
-    let wanted = bytes_of(rt.alloc(), &[0x0000000A, 1, 1, 0, 2, 2])?;
-    assert_eq!(rt; reply.as_slice(), wanted.as_slice());
-    Ok(())
+    is_spelled(
+        rt.alloc(),
+        10,
+        Reply::Mismatch,
+        &[0x0000000A, 1, 1, 0, 2, 2],
+    )
 }
 
 #[test]
@@ -108,9 +115,7 @@ fn writes_the_other_replies(rt: HostRuntime) -> Result<(), Fail> {
         (Reply::ProgUnavail, 1),
         (Reply::ProcUnavail, 3),
     ] {
-        let found = reply_bytes(rt.alloc(), 1, reply)?;
-        let wanted = bytes_of(rt.alloc(), &[1, 1, 0, 0, 0, status])?;
-        assert_eq!(rt; found.as_slice(), wanted.as_slice(), "{reply:?}");
+        is_spelled(rt.alloc(), 1, reply, &[1, 1, 0, 0, 0, status])?;
     }
     Ok(())
 }

@@ -136,6 +136,11 @@ fn fault_of(bytes: &[u8]) -> Option<Code> {
     unit(bytes).err()
 }
 
+/// The bytes or the header of a unit have to be wrong so, or well.
+fn has_fault(bytes: &[u8], wanted: Option<Code>) -> Result<(), Fail> {
+    same(fault_of(bytes), wanted, format_args!("{bytes:?}"))
+}
+
 /// What is wrong with the parameters of a unit whose bytes and header have to be well.
 fn parameters_fault(bytes: &[u8]) -> Result<Option<Code>, Fail> {
     Ok(unit(bytes)?.parameters().err())
@@ -152,6 +157,19 @@ fn read(bytes: &[u8], header: Told<'_>, parameters: &[Told<'_>]) -> Result<(), F
         same(told(token), *wanted, "a parameter")?;
     }
     same(others.get(parameters.len()).is_none(), true, "the end")
+}
+
+/// A unit has to have the header `DATA`, and behind it 2,046 times the number 1.
+fn has_2046_ones(bytes: &[u8]) -> Result<(), Fail> {
+    let found = unit(bytes)?;
+    same(told(found.header()), (b"DATA", 0, Kind::Word), "the header")?;
+    let parameters = found.parameters()?;
+    same(parameters.count(), 2046, "the count")?;
+    for (index, start) in [(0, 5), (1, 7), (1000, 2005), (2045, 4095)] {
+        let token = parameters.get(index).ok_or("no such parameter")?;
+        same(told(token), (b"1", start, Kind::Number), "a parameter")?;
+    }
+    same(parameters.get(2046).is_none(), true, "the end")
 }
 
 #[test]
@@ -204,19 +222,21 @@ fn cuts_no_parameter_within_parentheses() -> Result<(), Fail> {
 }
 
 #[test]
-fn tells_what_is_wrong_with_a_header(rt: HostRuntime) {
-    for bytes in WELL {
-        assert_eq!(rt; fault_of(bytes), None, "{bytes:?}");
+fn tells_what_is_wrong_with_a_header() -> Result<(), Fail> {
+    for bytes in &WELL {
+        has_fault(bytes, None)?;
     }
-    for (bytes, wanted) in FAULTS {
-        assert_eq!(rt; fault_of(bytes), Some(wanted), "{bytes:?}");
+    for (bytes, wanted) in &FAULTS {
+        has_fault(bytes, Some(*wanted))?;
     }
+    Ok(())
 }
 
 #[test]
-fn tells_what_is_wrong_with_parameters(rt: HostRuntime) -> Result<(), Fail> {
-    for (bytes, wanted) in PARAMETER_FAULTS {
-        assert_eq!(rt; parameters_fault(bytes)?, Some(wanted), "{bytes:?}");
+fn tells_what_is_wrong_with_parameters() -> Result<(), Fail> {
+    for (bytes, wanted) in &PARAMETER_FAULTS {
+        let found = parameters_fault(bytes)?;
+        same(found, Some(*wanted), format_args!("{bytes:?}"))?;
     }
     Ok(())
 }
@@ -253,16 +273,7 @@ fn cuts_a_unit_of_4096_bytes(rt: HostRuntime) -> Result<(), Fail> {
         bytes.extend_from_slice(b",1")?;
     }
     assert_eq!(rt; bytes.len(), 4096);
-    let found = unit(bytes.as_slice())?;
-    same(told(found.header()), (b"DATA", 0, Kind::Word), "the header")?;
-    let parameters = found.parameters()?;
-    assert_eq!(rt; parameters.count(), 2046);
-    for (index, start) in [(0, 5), (1, 7), (1000, 2005), (2045, 4095)] {
-        let token = parameters.get(index).ok_or("no such parameter")?;
-        same(told(token), (b"1", start, Kind::Number), "a parameter")?;
-    }
-    assert!(rt; parameters.get(2046).is_none());
-    Ok(())
+    has_2046_ones(bytes.as_slice())
 }
 
 #[test]
