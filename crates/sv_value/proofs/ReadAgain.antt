@@ -1,54 +1,23 @@
 -- What is printed of a voltage is read as that voltage.
-use Rattle.std.proofs.Common.{◌≡◌, ℕ, zero, suc, ◌+◌, ◌-◌, ◌*◌, ◌/◌, ◌%◌, ◌^◌, ◌<◌, ◌≤◌, ◌&&◌, Bool, true, false, not, cond, List, [], ◌∷◌, ◌++◌, length, take, drop, refl, ap, ◌∙◌, pos, negsuc, Some, arith}
+use Rattle.std.proofs.Common.{◌≡◌, ℕ, zero, suc, ◌+◌, ◌-◌, ◌*◌, ◌/◌, ◌%◌, ◌^◌, ◌<◌, ◌≤◌, Bool, true, false, List, [], ◌∷◌, ◌++◌, length, refl, sym, ap, ◌∙◌, pos, negsuc, Some, arith}
 use Rattle.std.specs.Prelude.{decimal, replicate, Ok}
 use Rattle.std.specs.Char.{is_ascii_digit, digit_value}
 use Rattle.std.specs.List.{list_all}
 use Rattle.std.specs.Str.Parse.{digits_value, digits_value_after, AllDigits}
 use Rattle.std.proofs.lemmas.Bool.{le-ltb, le-leb}
 use Rattle.std.proofs.lemmas.Bool.Decides.{nat_tests}
-use Rattle.std.proofs.lemmas.List.{length-append}
+use Rattle.std.proofs.lemmas.List.{length-append, append-nil}
 use Rattle.std.proofs.lemmas.List.Folds.{list_all-append}
 use Rattle.std.proofs.lemmas.Fmt.{decimal_is_IsNumeral}
-use Rattle.std.proofs.Math.Seq.{take-append_seam}
 use Rattle.sv_text.specs.White.{trim_start}
 use Rattle.sv_errors.specs.declared.code.Code.TheVariants.{InvalidSuffix}
-use Rattle.sv_value.specs.Decimal.{Parts, digits_size, digits_in, behind_digits, is_nothing, fraction_in, behind_fraction, has_minus, behind_mark, exponent_in, behind_exponent}
+use Rattle.sv_value.specs.Decimal.{Parts, digits_in, behind_digits, is_nothing, fraction_in, behind_fraction, is_down, exponent_in, behind_exponent}
 use Rattle.sv_value.specs.Number.{magnitude, nearest, significant, signed, read_with}
 use Rattle.sv_value.specs.Value.{power_of_volts, within_volts}
 use Rattle.sv_value.specs.Written.{PrintedIsRead, six_digits}
+use Rattle.sv_value.proofs.Pieces.{digits-joined, behind-joined}
 use Rattle.sv_value.proofs.Rounding.{value-join, after-moves, nearest-right}
 use Rattle.sv_value.proofs.Printed.{length-six, volts_short}
-
--- digits up to a byte that is none, and up to the end
-size-to : (digits behind : List ℕ) → list_all is_ascii_digit digits ≡ true → digits_size (digits ++ 46 ∷ behind) ≡ length digits
-size-to [] behind h = refl
-size-to (d ∷ digits) behind h = at (is_ascii_digit d) h (size-to digits behind)
-  where
-    at : (t : Bool) → (t && list_all is_ascii_digit digits) ≡ true → (list_all is_ascii_digit digits ≡ true → digits_size (digits ++ 46 ∷ behind) ≡ length digits)
-        → cond (not (not t)) (1 + digits_size (digits ++ 46 ∷ behind)) 0 ≡ suc (length digits)
-    at true h ih = let e = ih h in omega (arith, e)
-    at false h ih = absurd cc
-
-size-all : (digits : List ℕ) → list_all is_ascii_digit digits ≡ true → digits_size digits ≡ length digits
-size-all [] h = refl
-size-all (d ∷ digits) h = at (is_ascii_digit d) h (size-all digits)
-  where
-    at : (t : Bool) → (t && list_all is_ascii_digit digits) ≡ true → (list_all is_ascii_digit digits ≡ true → digits_size digits ≡ length digits)
-        → cond (not (not t)) (1 + digits_size digits) 0 ≡ suc (length digits)
-    at true h ih = let e = ih h in omega (arith, e)
-    at false h ih = absurd cc
-
-drop-seam : (front behind : List ℕ) → drop (length front) (front ++ behind) ≡ behind
-drop-seam [] behind = refl
-drop-seam (b ∷ front) behind = drop-seam front behind
-
-take-whole : (bytes : List ℕ) → take (length bytes) bytes ≡ bytes
-take-whole [] = refl
-take-whole (b ∷ bytes) = ap (λ bs. b ∷ bs) (take-whole bytes)
-
-drop-whole : (bytes : List ℕ) → drop (length bytes) bytes ≡ []
-drop-whole [] = refl
-drop-whole (b ∷ bytes) = drop-whole bytes
 
 -- decimal digits
 is-digit : (b : ℕ) → digit_value b < 10 → is_ascii_digit b ≡ true
@@ -98,7 +67,7 @@ parts-of negative whole fraction rest = record {
   negative = negative;
   whole = whole;
   fraction = fraction;
-  down = has_minus (behind_mark rest);
+  down = is_down rest;
   exponent = exponent_in rest;
   suffix = trim_start (behind_exponent rest);
 }
@@ -108,10 +77,10 @@ parts-printed : (negative : Bool) (whole fraction : List ℕ) → list_all is_as
     → parts-of negative (digits_in (whole ++ 46 ∷ fraction)) (fraction_in (behind_digits (whole ++ 46 ∷ fraction))) (behind_fraction (behind_digits (whole ++ 46 ∷ fraction))) ≡ parts-of negative whole fraction []
 parts-printed negative whole fraction w f =
     let text : List ℕ = whole ++ 46 ∷ fraction in
-    let front : digits_in text ≡ whole = ap (λ n. take n text) (size-to whole fraction w) ∙ take-append_seam whole (46 ∷ fraction) in
-    let behind : behind_digits text ≡ 46 ∷ fraction = ap (λ n. drop n text) (size-to whole fraction w) ∙ drop-seam whole (46 ∷ fraction) in
-    let all : digits_in fraction ≡ fraction = ap (λ n. take n fraction) (size-all fraction f) ∙ take-whole fraction in
-    let none : behind_digits fraction ≡ [] = ap (λ n. drop n fraction) (size-all fraction f) ∙ drop-whole fraction in
+    let front : digits_in text ≡ whole = digits-joined whole (46 ∷ fraction) w ∙ append-nil whole in
+    let behind : behind_digits text ≡ 46 ∷ fraction = behind-joined whole (46 ∷ fraction) w in
+    let all : digits_in fraction ≡ fraction = ap digits_in (sym (append-nil fraction)) ∙ digits-joined fraction [] f ∙ append-nil fraction in
+    let none : behind_digits fraction ≡ [] = ap behind_digits (sym (append-nil fraction)) ∙ behind-joined fraction [] f in
     ap (λ d. parts-of negative d (fraction_in (behind_digits text)) (behind_fraction (behind_digits text))) front
     ∙ ap (λ b. parts-of negative whole (fraction_in b) (behind_fraction b)) behind
     ∙ ap (λ d. parts-of negative whole d (behind_digits fraction)) all

@@ -62,7 +62,7 @@ nearest-left n up down le =
 digit-most : (b : ℕ) → is_ascii_digit b ≡ true → digit_value b ≤ 9
 digit-most b h = grind (arith, nat_tests, h)
 
-both : (a b : Bool) → (a && b) ≡ true → (a ≡ true) × (b ≡ true)
+pub both : (a b : Bool) → (a && b) ≡ true → (a ≡ true) × (b ≡ true)
 both true true h = (refl, refl)
 both true false h = absurd cc
 both false b h = absurd cc

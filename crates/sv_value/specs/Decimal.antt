@@ -49,6 +49,10 @@ behind_mark text = behind_letter (trim_start text)
 abbrev pub exponent_in : List ℕ → List ℕ
 exponent_in text = digits_in (behind_sign (behind_mark text))
 
+-- whether it has a minus
+abbrev pub is_down : List ℕ → Bool
+is_down text = not (is_nothing (exponent_in text)) && has_minus (behind_mark text)
+
 abbrev pub behind_exponent : List ℕ → List ℕ
 behind_exponent text = if is_nothing (exponent_in text) then text else behind_digits (behind_sign (behind_mark text))
 
@@ -72,7 +76,7 @@ parts text = record {
   negative = has_minus text;
   whole = digits_in (behind_sign text);
   fraction = fraction_in (behind_whole text);
-  down = has_minus (behind_mark (behind_mantissa text));
+  down = is_down (behind_mantissa text);
   exponent = exponent_in (behind_mantissa text);
   suffix = trim_start (behind_exponent (behind_mantissa text));
 }

@@ -1,4 +1,5 @@
 pub mod Decimal
+pub mod Spelling
 pub mod Number
 pub mod Based
 pub mod Choice

@@ -3,7 +3,7 @@
 ghost use Rattle.std.specs.Prelude.{◌≡◌, true};
 ghost use Rattle.std.specs.Char.{is_ascii_digit};
 ghost use Rattle.std.specs.List.{list_all};
-ghost use Rattle.sv_value.specs.Decimal.{behind_exponent, behind_fraction, behind_mark as mark_behind, behind_sign, exponent_in, fraction_in, has_minus, begins_well as begins_well_text, is_spelled as is_spelled_number, parts as parts_of};
+ghost use Rattle.sv_value.specs.Decimal.{behind_exponent, behind_fraction, behind_mark as mark_behind, behind_sign, exponent_in, fraction_in, has_minus, is_down, begins_well as begins_well_text, is_spelled as is_spelled_number, parts as parts_of};
 ghost use Rattle.sv_value.specs.Plain.{plain};
 
 use crate::digits::digits;
@@ -94,14 +94,14 @@ fn fraction(text: &[u8]) -> (&[u8], &[u8])
 /// Whether the exponent in front is negative, its digits, and what stands behind them; no digits where
 /// there is no exponent.
 fn exponent(text: &[u8]) -> (bool, &[u8], &[u8])
-    ensures minus { result.0 ≡ has_minus (mark_behind text.now) }
+    ensures minus { result.0 ≡ is_down text.now }
     ensures digits { result.1.now ≡ exponent_in text.now }
     ensures behind { result.2.now ≡ behind_exponent text.now }
 {
     let (down, unsigned) = signed(behind_mark(text));
     let (exponent, behind) = digits(unsigned);
     if exponent.is_empty() {
-        (down, exponent, text)
+        (false, exponent, text)
     } else {
         (down, exponent, behind)
     }

@@ -1,8 +1,15 @@
-//! A law of the definitions.
+//! Laws of the definitions.
 
+ghost use Rattle.sv_value.specs.Spelling.{ReadAsSpelled};
 ghost use Rattle.sv_value.specs.Written.{PrintedIsRead};
 
 /// What is printed of a voltage up to 1,000 V in magnitude is read as that voltage.
 pub fn printed_is_read()
     ensures { PrintedIsRead }
+{}
+
+/// A text is read as a decimal number exactly if it is spelled as one, and its parts are those that it
+/// is spelled of (IEEE 488.2, 7.7.2 and 7.7.3).
+pub fn read_as_spelled()
+    ensures { ReadAsSpelled }
 {}
