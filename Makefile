@@ -1,11 +1,16 @@
 # What can be done here; the README says what each proves and how long it takes.
 RT ?= rt
 
-.PHONY: test check scanvolt run bench
+.PHONY: test lint check scanvolt run bench
 
-# Proves every crate and its tests from nothing, tries the must-fail edits, and runs the tests.
-test:
+# What a proof doesn't see (tools/lint); then proves every crate and its tests from nothing, tries
+# the must-fail edits, and runs the programs and the tests.
+test: lint
 	@$(RT) ci
+
+# Tells what falls short in layout, length and edits; it takes seconds.
+lint:
+	@tools/lint
 
 # Proves every crate over what earlier checks kept, lowest first.
 check:

@@ -1,20 +1,24 @@
 //! An allocator for tests, which refuses one allocation of your choice.
 //!
-//! Make one over any other allocator, lend it to the code under test, and let each of that code's allocations fail in turn:
+//! Make one over any other allocator, lend it to the code under test, and let each of that code's
+//! allocations fail in turn:
 //!
 //! ```text
 //! let heap = Rationed::new(rt.alloc());
 //! for number in 1..100 {
 //!     heap.refuse(number);
 //!     let outcome = code_under_test(&heap);
-//!     // No refusal was met: the code makes fewer allocations than `number`, and `outcome` is what it answers with all of them.
+//! // No refusal was met: the code makes fewer allocations than `number`, and `outcome` is what it
+//! answers with all of them.
 //!     if heap.waits() { .. }
 //! }
 //! ```
 //!
-//! A contract cannot speak of what a cell holds, so `refuse` and `waits` have none, and the tests show what they do.
-//! What is proved is that memory is used safely: each block handed out is one that the inner allocator gave for that layout,
-//! and it is given back to it with that layout and at most once. No contract says that it is given back at all.
+//! A contract cannot speak of what a cell holds, so `refuse` and `waits` have none, and the tests
+//! show what they do.
+//! What is proved is that memory is used safely: each block handed out is one that the inner
+//! allocator gave for that layout, and it is given back to it with that layout and at most once. No
+//! contract says that it is given back at all.
 #![tactic(auto)]
 
 use std::alloc::{AllocError, Allocator};
@@ -23,16 +27,18 @@ use std::cell::Cell;
 #[cfg(test)]
 mod tests;
 
-/// An allocator for tests: it refuses one allocation, and passes every other call on to another allocator.
+/// An allocator for tests: it refuses one allocation, and passes every other call on to another
+/// allocator.
 ///
-/// Lend it, as `&heap`: a reference to an allocator is an allocator too, and is `Copy`. `refuse` and `waits` may be called
-/// while it is lent.
+/// Lend it, as `&heap`: a reference to an allocator is an allocator too, and is `Copy`. `refuse`
+/// and `waits` may be called while it is lent.
 ///
-/// A block that grows or shrinks is allocated anew and copied, whatever the inner allocator would do, so each time counts
-/// as one allocation and may be the one that is refused.
+/// A block that grows or shrinks is allocated anew and copied, whatever the inner allocator would
+/// do, so each time counts as one allocation and may be the one that is refused.
 pub struct Rationed<B: Allocator> {
     inner: B,
-    // How many allocations are left up to the refused one, which is among them; 0 where none is to be refused.
+    // How many allocations are left up to the refused one, which is among them; 0 where none is to
+    // be refused.
     left: Cell<u64>,
 }
 
@@ -45,7 +51,8 @@ impl<B: Allocator> Rationed<B> {
         }
     }
 
-    /// Refuses one allocation: the one with this number among those that come from now on, counted from 1.
+    /// Refuses one allocation: the one with this number among those that come from now on, counted
+    /// from 1.
     /// The others are passed on, also those after it. With 0 none is refused.
     ///
     /// It takes the place of what an earlier call asked for.

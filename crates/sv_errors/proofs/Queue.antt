@@ -2,7 +2,7 @@
 use Rattle.std.proofs.Common.{◌≡◌, ℕ, suc, ◌+◌, ◌-◌, ◌<◌, ◌≤◌, Bool, true, false, ◌&&◌, cond, List, [], ◌∷◌, ◌++◌, length, take, drop, refl, sym, ap, subst, ◌∙◌, add-one, arith, ◌⊎◌, inl, inr, length-append, length-drop}
 use Rattle.std.specs.Prelude.{map}
 use Rattle.std.specs.List.{AllByRecursion}
-use Rattle.std.proofs.lemmas.Bool.{cases_lt, lt-ltb, le-ltb, eq-eqb, ne_eqb}
+use Rattle.std.proofs.lemmas.Bool.{and_right, cases_lt, lt-ltb, le-ltb, eq-eqb, ne_eqb}
 use Rattle.std.proofs.lemmas.List.{drop-drop, drop-append-le, drop-map, map_push, take_at, length-map}
 use Rattle.sv_errors.specs.declared.code.Code.{Code}
 use Rattle.sv_errors.specs.declared.code.Code.TheVariants.{QueueOverflow}
@@ -13,8 +13,10 @@ use Rattle.sv_errors.specs.ErrorQueue.{Counted, left, is_any, admit, take_one, c
 -- ---- what is left of the admitted reports
 
 -- a report that finds room is the newest of it
-left-admitted : (before : Counted) (place : ℕ) → before.taken ≤ length before.admitted → length (left before) < 16 → left (admit before place) ≡ left before ++ place ∷ []
-left-admitted before place few room = rw (lt-ltb (length (left before)) 16 room) (drop-append-le before.taken before.admitted (place ∷ []) few)
+left-admitted : (before : Counted) (place : ℕ) → before.taken ≤ length before.admitted → length (left before) < 16
+    → left (admit before place) ≡ left before ++ place ∷ []
+left-admitted before place few room = rw (lt-ltb (length (left before)) 16 room)
+    (drop-append-le before.taken before.admitted (place ∷ []) few)
 
 -- a report that finds none changes nothing
 admit-full : (before : Counted) (place : ℕ) → 16 ≤ length (left before) → admit before place ≡ before
@@ -32,7 +34,8 @@ left-taken before = elim (any_or_none (left before)) [
 ]
 
 -- no more are taken than were admitted
-taken-admitted : (before : Counted) (place : ℕ) → before.taken ≤ length before.admitted → (admit before place).taken ≤ length (admit before place).admitted
+taken-admitted : (before : Counted) (place : ℕ) → before.taken ≤ length before.admitted
+    → (admit before place).taken ≤ length (admit before place).admitted
 taken-admitted before place few = elim (cases_lt (length (left before)) 16) [
   | inl room ↦ rw (lt-ltb (length (left before)) 16 room) (omega (arith, length-append before.admitted (place ∷ [])))
   | inr full ↦ rw (le-ltb (length (left before)) 16 full) few
@@ -48,16 +51,19 @@ taken-taken before few = elim (any_or_none (left before)) [
 
 -- the acts up to a place stay
 up_to-more : (place : ℕ) (act : QueueAct) (acts : List QueueAct) → place ≤ length acts → up_to place (act ∷ acts) ≡ up_to place acts
-up_to-more place act acts le = let e : length (act ∷ acts) - place ≡ suc (length acts - place) = omega arith in ap (λ (n : ℕ). drop n (act ∷ acts)) e
+up_to-more place act acts le = let e : length (act ∷ acts) - place ≡ suc (length acts - place) = omega arith in
+    ap (λ (n : ℕ). drop n (act ∷ acts)) e
 
 -- those up to the newest are all
 up_to-all : (acts : List QueueAct) → up_to (length acts) acts ≡ acts
 up_to-all acts = let e : length acts - length acts ≡ 0 = omega arith in ap (λ (n : ℕ). drop n acts) e
 
 -- what came next after an older place stays
-overtaken-more : (place : ℕ) (act : QueueAct) (acts : List QueueAct) → place < length acts → is_overtaken place (act ∷ acts) ≡ is_overtaken place acts
+overtaken-more : (place : ℕ) (act : QueueAct) (acts : List QueueAct) → place < length acts
+    → is_overtaken place (act ∷ acts) ≡ is_overtaken place acts
 overtaken-more place act acts lt =
-    ap (λ (b : Bool). b && is_report (up_to (place + 1) (act ∷ acts))) (lt-ltb place (suc (length acts)) (omega arith)) ∙ ap is_report (up_to-more (place + 1) act acts (omega arith))
+    ap (λ (b : Bool). b && is_report (up_to (place + 1) (act ∷ acts))) (lt-ltb place (suc (length acts)) (omega arith))
+    ∙ ap is_report (up_to-more (place + 1) act acts (omega arith))
     ∙ sym (ap (λ (b : Bool). b && is_report (up_to (place + 1) acts)) (lt-ltb place (length acts) lt))
 
 -- nothing came after the newest place
@@ -76,28 +82,28 @@ shows acts overtaken = cond (is_full acts && overtaken) QueueOverflow (reported 
 
 shown-older : (place : ℕ) (act : QueueAct) (acts : List QueueAct) → place < length acts → shown (act ∷ acts) place ≡ shown acts place
 shown-older place act acts lt =
-    ap (λ (rest : List QueueAct). shows rest (is_overtaken place (act ∷ acts))) (up_to-more place act acts (omega arith)) ∙ ap (shows (up_to place acts)) (overtaken-more place act acts lt)
+    ap (λ (rest : List QueueAct). shows rest (is_overtaken place (act ∷ acts))) (up_to-more place act acts (omega arith))
+    ∙ ap (shows (up_to place acts)) (overtaken-more place act acts lt)
 
 shown-next : (act : QueueAct) (acts : List QueueAct) → shown (act ∷ acts) (length acts) ≡ shows acts (is_report (act ∷ acts))
 shown-next act acts =
-    ap (λ (rest : List QueueAct). shows rest (is_overtaken (length acts) (act ∷ acts))) (up_to-more (length acts) act acts (omega arith) ∙ up_to-all acts) ∙ ap (shows acts) (overtaken-next act acts)
-
-and_false : (a : Bool) → (a && false) ≡ false
-and_false true = refl
-and_false false = refl
+    ap (λ (rest : List QueueAct). shows rest (is_overtaken (length acts) (act ∷ acts)))
+    (up_to-more (length acts) act acts (omega arith) ∙ up_to-all acts) ∙ ap (shows acts) (overtaken-next act acts)
 
 -- the newest entry shows its report's code
 shown-newest : (acts : List QueueAct) → shown acts (length acts) ≡ reported acts
 shown-newest acts =
     ap (λ (rest : List QueueAct). shows rest (is_overtaken (length acts) acts)) (up_to-all acts) ∙ ap (shows acts) (overtaken-newest acts)
-    ∙ ap (λ (b : Bool). cond b QueueOverflow (reported acts)) (and_false (is_full acts))
+    ∙ ap (λ (b : Bool). cond b QueueOverflow (reported acts)) (and_right (is_full acts) false refl)
 
 -- an act that is no report to a full queue changes nothing of what is shown
-shown-same : (place : ℕ) (act : QueueAct) (acts : List QueueAct) → (is_full acts && is_report (act ∷ acts)) ≡ false → place ≤ length acts → shown (act ∷ acts) place ≡ shown acts place
+shown-same : (place : ℕ) (act : QueueAct) (acts : List QueueAct) → (is_full acts && is_report (act ∷ acts)) ≡ false → place ≤ length acts
+    → shown (act ∷ acts) place ≡ shown acts place
 shown-same place act acts quiet le = elim (cases_lt place (length acts)) [
   | inl lt ↦ shown-older place act acts lt
   | inr ge ↦ let e : place ≡ length acts = omega arith in
-      ap (shown (act ∷ acts)) e ∙ shown-next act acts ∙ ap (λ (b : Bool). cond b QueueOverflow (reported acts)) quiet ∙ sym (shown-newest acts) ∙ sym (ap (shown acts) e)
+      ap (shown (act ∷ acts)) e ∙ shown-next act acts ∙ ap (λ (b : Bool). cond b QueueOverflow (reported acts)) quiet
+      ∙ sym (shown-newest acts) ∙ sym (ap (shown acts) e)
 ]
 
 -- ---- lists whose elements all have a property
@@ -138,10 +144,12 @@ record IsKept (acts : List QueueAct) : Type 0 where
 
 -- ---- a report that finds room
 
-entries-reported : (code : Code) (acts : List QueueAct) → IsKept acts → length (entries acts) < 16 → entries (Report code ∷ acts) ≡ entries acts ++ (length acts + 1) ∷ []
+entries-reported : (code : Code) (acts : List QueueAct) → IsKept acts → length (entries acts) < 16
+    → entries (Report code ∷ acts) ≡ entries acts ++ (length acts + 1) ∷ []
 entries-reported code acts is room = left-admitted (counted acts) (length acts + 1) is.taken room
 
-reported-full : (code : Code) (acts : List QueueAct) → IsKept acts → length (entries acts) < 16 → length (entries (Report code ∷ acts)) ≡ 16 → IsFull (Report code ∷ acts)
+reported-full : (code : Code) (acts : List QueueAct) → IsKept acts → length (entries acts) < 16 → length (entries (Report code ∷ acts)) ≡ 16
+    → IsFull (Report code ∷ acts)
 reported-full code acts is room many =
     let split = entries-reported code acts is room in
     record {
@@ -149,18 +157,21 @@ reported-full code acts is room many =
       last = length acts + 1;
       split = split;
       size = omega (arith, ap length split, length-append (entries acts) ((length acts + 1) ∷ []));
-      older = all-weaker (λ place. place ≤ length acts) (λ place. place < length (Report code ∷ acts)) (entries acts) (λ place le. omega arith) is.within;
+      older = all-weaker (λ place. place ≤ length acts) (λ place. place < length (Report code ∷ acts)) (entries acts)
+          (λ place le. omega arith) is.within;
       newest = inl (add-one (length acts));
     }
 
 kept-reported : (code : Code) (acts : List QueueAct) → IsKept acts → length (entries acts) < 16 → IsKept (Report code ∷ acts)
 kept-reported code acts is room =
     let split = entries-reported code acts is room in
-    let wider = all-weaker (λ place. place ≤ length acts) (λ place. place ≤ length (Report code ∷ acts)) (entries acts) (λ place le. omega arith) is.within in
+    let wider = all-weaker (λ place. place ≤ length acts) (λ place. place ≤ length (Report code ∷ acts)) (entries acts)
+    (λ place le. omega arith) is.within in
     record {
       taken = taken-admitted (counted acts) (length acts + 1) is.taken;
       few = omega (arith, ap length split, length-append (entries acts) ((length acts + 1) ∷ []));
-      within = subst (AllByRecursion (λ place. place ≤ length (Report code ∷ acts))) (sym split) (all-push (λ place. place ≤ length (Report code ∷ acts)) (entries acts) (length acts + 1) wider (omega arith));
+      within = subst (AllByRecursion (λ place. place ≤ length (Report code ∷ acts))) (sym split)
+          (all-push (λ place. place ≤ length (Report code ∷ acts)) (entries acts) (length acts + 1) wider (omega arith));
       full = reported-full code acts is room;
     }
 
@@ -170,13 +181,16 @@ entries-overflowed : (code : Code) (acts : List QueueAct) → 16 ≤ length (ent
 entries-overflowed code acts full = ap left (admit-full (counted acts) (length acts + 1) full)
 
 -- the newest entry shows the overflow
-shown-overflowed : (code : Code) (acts : List QueueAct) (last : ℕ) → length (entries acts) ≡ 16 → (last ≡ length acts) ⊎ (last < length acts) × (shown acts last ≡ QueueOverflow)
+shown-overflowed : (code : Code) (acts : List QueueAct) (last : ℕ) → length (entries acts) ≡ 16
+    → (last ≡ length acts) ⊎ (last < length acts) × (shown acts last ≡ QueueOverflow)
     → shown (Report code ∷ acts) last ≡ QueueOverflow
 shown-overflowed code acts last many (inl e) =
-    ap (shown (Report code ∷ acts)) e ∙ shown-next (Report code) acts ∙ ap (λ (b : Bool). cond (b && true) QueueOverflow (reported acts)) (eq-eqb (length (entries acts)) 16 many)
+    ap (shown (Report code ∷ acts)) e ∙ shown-next (Report code) acts
+    ∙ ap (λ (b : Bool). cond (b && true) QueueOverflow (reported acts)) (eq-eqb (length (entries acts)) 16 many)
 shown-overflowed code acts last many (inr older) = shown-older last (Report code) acts older.0 ∙ older.1
 
-newest-within : (acts : List QueueAct) (last : ℕ) → (last ≡ length acts) ⊎ (last < length acts) × (shown acts last ≡ QueueOverflow) → last < suc (length acts)
+newest-within : (acts : List QueueAct) (last : ℕ) → (last ≡ length acts) ⊎ (last < length acts) × (shown acts last ≡ QueueOverflow)
+    → last < suc (length acts)
 newest-within acts last (inl e) = omega arith
 newest-within acts last (inr older) = omega (arith, older.0)
 
@@ -186,7 +200,8 @@ overflowed-full code acts many is = record {
   last = is.last;
   split = entries-overflowed code acts (omega arith) ∙ is.split;
   size = is.size;
-  older = all-weaker (λ place. place < length acts) (λ place. place < length (Report code ∷ acts)) is.front (λ place lt. omega arith) is.older;
+  older = all-weaker (λ place. place < length acts) (λ place. place < length (Report code ∷ acts)) is.front
+      (λ place lt. omega arith) is.older;
   newest = inr (newest-within acts is.last is.newest, shown-overflowed code acts is.last many is.newest);
 }
 
@@ -199,7 +214,8 @@ kept-overflowed code acts is full =
       taken = taken-admitted (counted acts) (length acts + 1) is.taken;
       few = omega (arith, ap length same);
       within = subst (AllByRecursion (λ place. place ≤ length (Report code ∷ acts))) (sym same)
-          (all-weaker (λ place. place ≤ length acts) (λ place. place ≤ length (Report code ∷ acts)) (entries acts) (λ place le. omega arith) is.within);
+          (all-weaker (λ place. place ≤ length acts) (λ place. place ≤ length (Report code ∷ acts)) (entries acts)
+          (λ place le. omega arith) is.within);
       full = λ e. overflowed-full code acts many (is.full many);
     }
 
@@ -216,23 +232,31 @@ kept-taken acts is =
     record {
       taken = taken-taken (counted acts) is.taken;
       few = omega arith;
-      within = subst (AllByRecursion (λ place. place ≤ length (Take ∷ acts))) (sym rest) (all-rest (λ place. place ≤ length (Take ∷ acts)) (entries acts)
-          (all-weaker (λ place. place ≤ length acts) (λ place. place ≤ length (Take ∷ acts)) (entries acts) (λ place le. omega arith) is.within));
+      within = subst (AllByRecursion (λ place. place ≤ length (Take ∷ acts))) (sym rest)
+          (all-rest (λ place. place ≤ length (Take ∷ acts)) (entries acts)
+          (all-weaker (λ place. place ≤ length acts) (λ place. place ≤ length (Take ∷ acts)) (entries acts)
+          (λ place le. omega arith) is.within));
       full = λ many. absurd (omega arith);
     }
 
 -- all acts keep this
 kept : (acts : List QueueAct) → IsKept acts
 kept [] = record { taken = omega arith; few = omega arith; within = tt; full = λ many. absurd (omega arith) }
-kept (Report code ∷ acts) = elim (cases_lt (length (entries acts)) 16) [ inl room ↦ kept-reported code acts (kept acts) room | inr full ↦ kept-overflowed code acts (kept acts) full ]
+kept (Report code ∷ acts) = elim (cases_lt (length (entries acts)) 16) [
+  | inl room ↦ kept-reported code acts (kept acts) room
+  | inr full ↦
+      kept-overflowed code acts (kept acts) full
+]
 kept (Take ∷ acts) = kept-taken acts (kept acts)
 kept (Clear ∷ acts) = record { taken = omega arith; few = omega arith; within = tt; full = λ many. absurd (omega arith) }
 
 -- ---- what is held, one act later
 
 -- what the entries show stays, but where a report overflows
-shown-entries : (act : QueueAct) (acts : List QueueAct) → (is_full acts && is_report (act ∷ acts)) ≡ false → map (shown (act ∷ acts)) (entries acts) ≡ held acts
-shown-entries act acts quiet = map-same (λ place. place ≤ length acts) (shown (act ∷ acts)) (shown acts) (entries acts) (λ place le. shown-same place act acts quiet le) (kept acts).within
+shown-entries : (act : QueueAct) (acts : List QueueAct) → (is_full acts && is_report (act ∷ acts)) ≡ false
+    → map (shown (act ∷ acts)) (entries acts) ≡ held acts
+shown-entries act acts quiet = map-same (λ place. place ≤ length acts) (shown (act ∷ acts)) (shown acts) (entries acts)
+    (λ place le. shown-same place act acts quiet le) (kept acts).within
 
 -- a report that finds room becomes the newest
 held-reported : (code : Code) (acts : List QueueAct) → length (entries acts) < 16 → held (Report code ∷ acts) ≡ held acts ++ code ∷ []
@@ -245,25 +269,30 @@ held-reported code acts room =
     ∙ ap (λ (c : Code). held acts ++ c ∷ []) (shown-newest (Report code ∷ acts))
 
 -- the entries of a full queue
-full-shown : (acts : List QueueAct) (now : List QueueAct) (is : IsFull acts) → map (shown now) (entries acts) ≡ map (shown now) is.front ++ shown now is.last ∷ []
+full-shown : (acts : List QueueAct) (now : List QueueAct) (is : IsFull acts)
+    → map (shown now) (entries acts) ≡ map (shown now) is.front ++ shown now is.last ∷ []
 full-shown acts now is = ap (map (shown now)) is.split ∙ map_push (shown now) is.front is.last
 
 -- a report that finds none shows the overflow in the place of the newest
-held-overflowed : (code : Code) (acts : List QueueAct) → length (entries acts) ≡ 16 → held (Report code ∷ acts) ≡ take 15 (held acts) ++ QueueOverflow ∷ []
+held-overflowed : (code : Code) (acts : List QueueAct) → length (entries acts) ≡ 16
+    → held (Report code ∷ acts) ≡ take 15 (held acts) ++ QueueOverflow ∷ []
 held-overflowed code acts many =
     let is = (kept acts).full many in
     let front : take 15 (held acts) ≡ map (shown acts) is.front =
-    ap (take 15) (full-shown acts acts is) ∙ take_at (map (shown acts) is.front) (shown acts is.last ∷ []) 15 (length-map is.front (shown acts) ∙ is.size) in
+    ap (take 15) (full-shown acts acts is) ∙ take_at (map (shown acts) is.front) (shown acts is.last ∷ []) 15
+    (length-map is.front (shown acts) ∙ is.size) in
     ap (map (shown (Report code ∷ acts))) (entries-overflowed code acts (omega arith))
     ∙ full-shown acts (Report code ∷ acts) is
     ∙ ap (λ (c : Code). map (shown (Report code ∷ acts)) is.front ++ c ∷ []) (shown-overflowed code acts is.last many is.newest)
     ∙ ap (λ (cs : List Code). cs ++ QueueOverflow ∷ [])
-    (map-same (λ place. place < length acts) (shown (Report code ∷ acts)) (shown acts) is.front (λ place lt. shown-older place (Report code) acts lt) is.older ∙ sym front)
+    (map-same (λ place. place < length acts) (shown (Report code ∷ acts)) (shown acts) is.front
+    (λ place lt. shown-older place (Report code) acts lt) is.older ∙ sym front)
 
 -- a taking leaves out the oldest
 held-taken : (acts : List QueueAct) → held (Take ∷ acts) ≡ drop 1 (held acts)
 held-taken acts =
-    ap (map (shown (Take ∷ acts))) (entries-taken acts) ∙ sym (drop-map (shown (Take ∷ acts)) 1 (entries acts)) ∙ ap (drop 1) (shown-entries Take acts (and_false (is_full acts)))
+    ap (map (shown (Take ∷ acts))) (entries-taken acts) ∙ sym (drop-map (shown (Take ∷ acts)) 1 (entries acts))
+    ∙ ap (drop 1) (shown-entries Take acts (and_right (is_full acts) false refl))
 
 -- ---- the codes that are kept
 
@@ -272,14 +301,18 @@ count-entries : (codes : List Code) (acts : List QueueAct) → StandsFor codes a
 count-entries codes acts stands = sym (ap length stands ∙ length-map (entries acts) (shown acts))
 
 -- a report that finds room
-pub StandsFor-reported : (codes : List Code) (code : Code) (acts : List QueueAct) → length codes < 16 → StandsFor codes acts → StandsFor (codes ++ code ∷ []) (Report code ∷ acts)
+pub StandsFor-reported : (codes : List Code) (code : Code) (acts : List QueueAct) → length codes < 16 → StandsFor codes acts
+    → StandsFor (codes ++ code ∷ []) (Report code ∷ acts)
 StandsFor-reported codes code acts room stands =
-    let size = count-entries codes acts stands in ap (λ (cs : List Code). cs ++ code ∷ []) stands ∙ sym (held-reported code acts (omega arith))
+    let size = count-entries codes acts stands in
+    ap (λ (cs : List Code). cs ++ code ∷ []) stands ∙ sym (held-reported code acts (omega arith))
 
 -- a report that finds none
-pub StandsFor-overflowed : (codes : List Code) (code : Code) (acts : List QueueAct) → length codes ≡ 16 → StandsFor codes acts → StandsFor (take 15 codes ++ QueueOverflow ∷ []) (Report code ∷ acts)
+pub StandsFor-overflowed : (codes : List Code) (code : Code) (acts : List QueueAct) → length codes ≡ 16 → StandsFor codes acts
+    → StandsFor (take 15 codes ++ QueueOverflow ∷ []) (Report code ∷ acts)
 StandsFor-overflowed codes code acts full stands =
-    let size = count-entries codes acts stands in ap (λ (cs : List Code). take 15 cs ++ QueueOverflow ∷ []) stands ∙ sym (held-overflowed code acts (omega arith))
+    let size = count-entries codes acts stands in
+    ap (λ (cs : List Code). take 15 cs ++ QueueOverflow ∷ []) stands ∙ sym (held-overflowed code acts (omega arith))
 
 -- a taking
 pub StandsFor-taken : (codes : List Code) (acts : List QueueAct) → StandsFor codes acts → StandsFor (drop 1 codes) (Take ∷ acts)

@@ -8,17 +8,26 @@ use Rattle.sv_errors.specs.Since.{Since}
 pub since_empty : {A : Type 0} (F K : List A → Type 0) → Since F K [] ↔ (F [] × K [])
 since_empty {A} F K = (
   (λ (s : Since F K []). (subst F (drop_all s.ago [] (omega arith)) s.found, s.kept 0 (omega arith))),
-  (λ (h : F [] × K []). record { ago = 0; within = omega arith; found = h.0; kept = λ n le. subst K (sym (drop_all n [] (omega arith))) h.1 }),
+  (λ (h : F [] × K []). record {
+    ago = 0;
+    within = omega arith;
+    found = h.0;
+    kept =
+        λ n le. subst K (sym (drop_all n [] (omega arith))) h.1;
+  }),
 )
 
 -- a find at the newest place, or behind it
-newest_or : {A : Type 0} (F K : List A → Type 0) (a : A) (log : List A) (ago : ℕ) → ago ≤ length (a ∷ log) → F (drop ago (a ∷ log)) → ((n : ℕ) → n ≤ ago → K (drop n (a ∷ log)))
+newest_or : {A : Type 0} (F K : List A → Type 0) (a : A) (log : List A) (ago : ℕ) → ago ≤ length (a ∷ log) → F (drop ago (a ∷ log))
+    → ((n : ℕ) → n ≤ ago → K (drop n (a ∷ log)))
     → F (a ∷ log) ⊎ Since F K log
 newest_or F K a log zero within found kept = inl found
-newest_or F K a log (suc ago) within found kept = inr (record { ago = ago; within = omega arith; found = found; kept = λ n le. kept (suc n) (omega arith) })
+newest_or F K a log (suc ago) within found kept =
+    inr (record { ago = ago; within = omega arith; found = found; kept = λ n le. kept (suc n) (omega arith) })
 
 -- the newest place keeps it, and so do the others
-kept_more : {A : Type 0} (K : List A → Type 0) (a : A) (log : List A) (ago : ℕ) → K (a ∷ log) → ((n : ℕ) → n ≤ ago → K (drop n log)) → (n : ℕ) → n ≤ suc ago → K (drop n (a ∷ log))
+kept_more : {A : Type 0} (K : List A → Type 0) (a : A) (log : List A) (ago : ℕ) → K (a ∷ log) → ((n : ℕ) → n ≤ ago → K (drop n log))
+    → (n : ℕ) → n ≤ suc ago → K (drop n (a ∷ log))
 kept_more K a log ago k kept zero le = k
 kept_more K a log ago k kept (suc n) le = kept n (omega arith)
 
@@ -28,19 +37,23 @@ kept_here K a log k (suc n) le = absurd (omega arith)
 
 found_or : {A : Type 0} (F K : List A → Type 0) (a : A) (log : List A) → K (a ∷ log) → F (a ∷ log) ⊎ Since F K log → Since F K (a ∷ log)
 found_or F K a log k (inl f) = record { ago = 0; within = omega arith; found = f; kept = kept_here K a log k }
-found_or F K a log k (inr s) = let within = s.within in record { ago = suc s.ago; within = omega arith; found = s.found; kept = kept_more K a log s.ago k s.kept }
+found_or F K a log k (inr s) = let within = s.within in
+    record { ago = suc s.ago; within = omega arith; found = s.found; kept = kept_more K a log s.ago k s.kept }
 
 -- the newest place keeps it, and is a find or has one behind it
-pub since_step : {A : Type 0} (F K : List A → Type 0) (a : A) (log : List A) → Since F K (a ∷ log) ↔ (K (a ∷ log) × (F (a ∷ log) ⊎ Since F K log))
+pub since_step : {A : Type 0} (F K : List A → Type 0) (a : A) (log : List A)
+    → Since F K (a ∷ log) ↔ (K (a ∷ log) × (F (a ∷ log) ⊎ Since F K log))
 since_step F K a log = (
   (λ (s : Since F K (a ∷ log)). (s.kept 0 (omega arith), newest_or F K a log s.ago s.within s.found s.kept)),
   (λ (h : K (a ∷ log) × (F (a ∷ log) ⊎ Since F K log)). found_or F K a log h.0 h.1),
 )
 
 -- what has these laws is that search
-pub since_unique : {A : Type 0} (F K P : List A → Type 0) → P [] ↔ (F [] × K []) → ((a : A) (log : List A) → P (a ∷ log) ↔ (K (a ∷ log) × (F (a ∷ log) ⊎ P log))) → (log : List A)
+pub since_unique : {A : Type 0} (F K P : List A → Type 0) → P [] ↔ (F [] × K [])
+    → ((a : A) (log : List A) → P (a ∷ log) ↔ (K (a ∷ log) × (F (a ∷ log) ⊎ P log))) → (log : List A)
     → P log ↔ Since F K log
-since_unique F K P empty step [] = ((λ (p : P []). (since_empty F K).1 (empty.0 p)), (λ (s : Since F K []). empty.1 ((since_empty F K).0 s)))
+since_unique F K P empty step [] =
+    ((λ (p : P []). (since_empty F K).1 (empty.0 p)), (λ (s : Since F K []). empty.1 ((since_empty F K).0 s)))
 since_unique F K P empty step (a ∷ log) =
     let behind = since_unique F K P empty step log in
     let law = since_step F K a log in

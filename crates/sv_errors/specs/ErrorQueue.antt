@@ -1,5 +1,5 @@
--- The error queue (SCPI-1999, volume 2, section 21.8): what it holds, found by a search of its acts, which are read from the newest. A place of the
--- acts is told by how many acts there are up to it.
+-- The error queue (SCPI-1999, volume 2, section 21.8): what it holds, found by a search of its acts, which are read from the newest. A
+-- place of the acts is told by how many acts there are up to it.
 use Rattle.std.specs.Prelude.{◌≡◌, ℕ, ◌+◌, ◌-◌, ◌==◌, ◌&&◌, Bool, true, false, List, [], ◌∷◌, ◌++◌, length, map, drop, Option, nat_lt, slice_get, if◌then◌else◌}
 use Rattle.sv_errors.specs.declared.code.Code.{Code}
 use Rattle.sv_errors.specs.declared.code.Code.TheVariants.{NoError, QueueOverflow}
@@ -60,7 +60,8 @@ is_report _ = false
 abbrev pub is_overtaken : ℕ → List QueueAct → Bool
 is_overtaken place acts = nat_lt place (length acts) && is_report (up_to (place + 1) acts)
 
--- An entry shows its report's code; but the one that made the queue full shows the overflow, once another report came before the next taking.
+-- An entry shows its report's code; but the one that made the queue full shows the overflow, once another report came before the next
+-- taking.
 abbrev pub shown : List QueueAct → ℕ → Code
 shown acts place = if is_full (up_to place acts) && is_overtaken place acts then QueueOverflow else reported (up_to place acts)
 

@@ -2,3 +2,4 @@ pub mod Since
 pub mod Code
 pub mod ErrorQueue
 pub mod Answered
+pub mod Limits

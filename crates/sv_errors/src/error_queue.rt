@@ -34,8 +34,8 @@ pub enum QueueAnswer {
     Cleared,
 }
 
-/// The errors that were reported and not taken yet, oldest first, at most 16. A report to a full queue
-/// replaces the newest entry by [`Code::QueueOverflow`].
+/// The errors that were reported and not taken yet, oldest first, at most 16. A report to a full
+/// queue replaces the newest entry by [`Code::QueueOverflow`].
 #[derive(Drop)]
 pub struct ErrorQueue<A: Allocator = Global> {
     codes: HeapCircularBuffer<Code, A>,
@@ -63,10 +63,11 @@ impl<A: Allocator> ErrorQueue<A> {
         Ok(ErrorQueue { codes })
     }
 
-    /// Reports an error, and tells whether it overflowed: a full queue shows -350 in place of its newest
-    /// entry, and the error itself is lost.
+    /// Reports an error, and tells whether it overflowed: a full queue shows -350 in place of its
+    /// newest entry, and the error itself is lost.
     pub fn report(&mut self, code: Code) -> bool
-        ensures stands { (acts : List QueueAct) → StandsFor self.old acts → StandsFor self.new (QueueAct.Report code ∷ acts) }
+        ensures stands { (acts : List QueueAct) → StandsFor self.old acts
+            → StandsFor self.new (QueueAct.Report code ∷ acts) }
         ensures answer { (acts : List QueueAct) → StandsFor self.old acts → result ≡ is_full acts }
         ensures full { result ≡ (length self.old == 16) }
     {
@@ -82,7 +83,8 @@ impl<A: Allocator> ErrorQueue<A> {
 
     /// Takes the oldest entry, where there is one.
     pub fn take(&mut self) -> Option<Code>
-        ensures stands { (acts : List QueueAct) → StandsFor self.old acts → StandsFor self.new (QueueAct.Take ∷ acts) }
+        ensures stands { (acts : List QueueAct) → StandsFor self.old acts
+            → StandsFor self.new (QueueAct.Take ∷ acts) }
         ensures answer { (acts : List QueueAct) → StandsFor self.old acts → result ≡ oldest acts }
     {
         self.codes.pop_front()
@@ -90,7 +92,8 @@ impl<A: Allocator> ErrorQueue<A> {
 
     /// How many entries there are.
     pub fn count(&self) -> u8
-        ensures answer { (acts : List QueueAct) → StandsFor self.now acts → result ≡ length (entries acts) }
+        ensures answer { (acts : List QueueAct) → StandsFor self.now acts
+            → result ≡ length (entries acts) }
         ensures few { result ≤ 16 }
     {
         self.codes.len() as u8
@@ -98,7 +101,8 @@ impl<A: Allocator> ErrorQueue<A> {
 
     /// Drops all entries.
     pub fn clear(&mut self)
-        ensures { (acts : List QueueAct) → StandsFor self.old acts → StandsFor self.new (QueueAct.Clear ∷ acts) }
+        ensures { (acts : List QueueAct) → StandsFor self.old acts
+            → StandsFor self.new (QueueAct.Clear ∷ acts) }
     {
         self.codes.clear();
     }

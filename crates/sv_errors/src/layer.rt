@@ -4,9 +4,9 @@ ghost use Rattle.std.specs.Prelude.{◌≡◌, List, ◌∷◌, ◌++◌, revers
 
 /// A part of the instrument that acts happen to, one after the other.
 ///
-/// Its law: a value that stands for a list of acts stands, after `act`, for the list with that act at
-/// its newest end, and the answer is the one that a search of the list gives. Lists of acts are read
-/// from the newest.
+/// Its law: a value that stands for a list of acts stands, after `act`, for the list with that act
+/// at its newest end, and the answer is the one that a search of the list gives. Lists of acts are
+/// read from the newest.
 pub trait Layer {
     /// What can happen to it.
     type Act;
@@ -21,7 +21,8 @@ pub trait Layer {
 
     /// Lets an act happen.
     fn act(&mut self, act: Self::Act) -> Self::Answer
-        ensures stands { (log : List Self.Act) → stands_for self.old log → stands_for self.new (act ∷ log) }
+        ensures stands { (log : List Self.Act) → stands_for self.old log
+            → stands_for self.new (act ∷ log) }
         ensures answer { (log : List Self.Act) → stands_for self.old log → gives log act result };
 }
 
@@ -30,7 +31,8 @@ pub fn act_each<L: Layer>(layer: &mut L, acts: &[L::Act])
 where
     L::Act: Copy,
     L::Answer: Drop,
-    ensures { (log : List L.Act) → L.stands_for layer.old log → L.stands_for layer.new (reverse acts.now ++ log) }
+    ensures { (log : List L.Act) → L.stands_for layer.old log
+        → L.stands_for layer.new (reverse acts.now ++ log) }
 {
     for act in acts {
         layer.act(*act);

@@ -1,4 +1,5 @@
-//! What all layers of the instrument share: the error codes, the error queue, and what a layer is.
+//! What all layers of the instrument share: the error codes, the error queue, what a layer is, and
+//! how far numbers reach.
 //!
 //! Only [`ErrorQueue::new`] takes memory.
 #![tactic(auto)]
@@ -6,7 +7,9 @@
 mod code;
 mod error_queue;
 mod layer;
+mod limits;
 
 pub use code::Code;
 pub use error_queue::{ErrorQueue, QueueAct, QueueAnswer};
 pub use layer::{Layer, act_each};
+pub use limits::{CHANNELS, MOST_MICROVOLTS, is_channel};

@@ -7,10 +7,12 @@ use Rattle.sv_exchange.specs.ExchangeHeld.{Held, StandsFor, IsSaid, IsUnitDue, s
 use Rattle.sv_exchange.proofs.Cuts.{messages_some}
 
 -- whether there is a message behind the current one
-ended_by : (parts : List (List ℕ)) (k : ℕ) (message : List ℕ) (ended : Bool) (later : List ℕ) (mark : Bool) → drop k parts ≡ message ∷ following ended later mark → nat_lt (k + 1) (length parts) ≡ ended
+ended_by : (parts : List (List ℕ)) (k : ℕ) (message : List ℕ) (ended : Bool) (later : List ℕ) (mark : Bool)
+    → drop k parts ≡ message ∷ following ended later mark → nat_lt (k + 1) (length parts) ≡ ended
 ended_by parts k message true later mark e =
     let some = messages_some (symbols later mark) in
-    let size : length parts - k ≡ suc (suc (length some.1)) = sym (length-drop k parts) ∙ ap length e ∙ ap (λ (ps : List (List ℕ)). suc (length ps)) some.2 in
+    let size : length parts - k ≡ suc (suc (length some.1)) =
+    sym (length-drop k parts) ∙ ap length e ∙ ap (λ (ps : List (List ℕ)). suc (length ps)) some.2 in
     lt-ltb (k + 1) (length parts) (omega arith)
 ended_by parts k message false later mark e =
     let size : length parts - k ≡ 1 = sym (length-drop k parts) ∙ ap length e in
@@ -21,7 +23,8 @@ pub ended_is : (held : Held) (acts : List ExchangeAct) → StandsFor held acts �
 ended_is held acts s = ended_by (messages (text acts)) (finished acts) s.message held.ended held.later held.mark s.text_left
 
 -- the part at a place
-part_at : (parts : List (List ℕ)) (k : ℕ) (message : List ℕ) (others : List (List ℕ)) → drop k parts ≡ message ∷ others → slice_index_or parts k [] ≡ message
+part_at : (parts : List (List ℕ)) (k : ℕ) (message : List ℕ) (others : List (List ℕ)) → drop k parts ≡ message ∷ others
+    → slice_index_or parts k [] ≡ message
 part_at parts k message others e =
     let place : k + 0 ≡ k = omega arith in
     sym (ap (λ (n : ℕ). get_or parts n []) place) ∙ sym (get_or-drop k parts 0 []) ∙ ap (λ (ps : List (List ℕ)). get_or ps 0 []) e
@@ -35,7 +38,8 @@ pub long_is : (held : Held) (acts : List ExchangeAct) → StandsFor held acts �
 long_is held acts s = ap (λ (m : List ℕ). nat_lt 4096 (length m)) (message_is held acts s) ∙ sym s.size
 
 -- what can be read, by what is kept
-pub shown_is : (answering : Bool) (out : List ℕ) (given : List (List ℕ)) (readable : List ℕ) → IsSaid answering out given readable → readable ≡ shown answering out
+pub shown_is : (answering : Bool) (out : List ℕ) (given : List (List ℕ)) (readable : List ℕ) → IsSaid answering out given readable
+    → readable ≡ shown answering out
 shown_is true out given readable said = said.2
 shown_is false out given readable said = said.1
 
@@ -51,7 +55,8 @@ get_behind (x ∷ xs) ys zero e = absurd (omega arith)
 get_behind (x ∷ xs) ys (suc n) e = get_behind xs ys n (omega arith)
 
 -- a unit is looked for in a message that isn't too long
-same_unit : (ended long lost : Bool) (x y : Option (List ℕ)) → (long ≡ false → x ≡ y) → cond (ended && (not long && not lost)) x None ≡ cond (ended && (not long && not lost)) y None
+same_unit : (ended long lost : Bool) (x y : Option (List ℕ)) → (long ≡ false → x ≡ y)
+    → cond (ended && (not long && not lost)) x None ≡ cond (ended && (not long && not lost)) y None
 same_unit true true lost x y h = refl
 same_unit true false true x y h = refl
 same_unit true false false x y h = h refl
@@ -67,9 +72,12 @@ unit_is held acts s =
     λ short. ap (λ (m : List ℕ). slice_get (units m) (units_done (current acts))) message_here
     ∙ ap (λ (us : List (List ℕ)). slice_get us (units_done (current acts))) (s.units_left short)
     ∙ get_behind s.executed (units held.rest) (units_done (current acts)) s.count in
-    ap (λ (b : Bool). cond (b && (not (is_long acts) && not (has_dropped (current acts)))) (slice_get (units (message acts)) (units_done (current acts))) None) ended
-    ∙ ap (λ (b : Bool). cond (held.ended && (not b && not (has_dropped (current acts)))) (slice_get (units (message acts)) (units_done (current acts))) None) long
-    ∙ ap (λ (b : Bool). cond (held.ended && (not held.long && not b)) (slice_get (units (message acts)) (units_done (current acts))) None) s.lost
+    ap (λ (b : Bool). cond (b && (not (is_long acts) && not (has_dropped (current acts))))
+    (slice_get (units (message acts)) (units_done (current acts))) None) ended
+    ∙ ap (λ (b : Bool). cond (held.ended && (not b && not (has_dropped (current acts))))
+    (slice_get (units (message acts)) (units_done (current acts))) None) long
+    ∙ ap (λ (b : Bool). cond (held.ended && (not held.long && not b)) (slice_get (units (message acts)) (units_done (current acts))) None)
+    s.lost
     ∙ same_unit held.ended held.long held.lost _ _ found
 
 -- whether there is something, by the length
@@ -78,7 +86,8 @@ something_by_length [] = refl
 something_by_length (b ∷ bytes) = ap not (ne_eqb (suc (length bytes)) 0 (λ e. omega arith))
 
 -- a response stands only before the first unit
-interrupts_is : (first : Bool) (readable : List ℕ) → (first ≡ false → readable ≡ []) → (first && is_something readable) ≡ is_something readable
+interrupts_is : (first : Bool) (readable : List ℕ) → (first ≡ false → readable ≡ [])
+    → (first && is_something readable) ≡ is_something readable
 interrupts_is true readable quiet = refl
 interrupts_is false readable quiet = sym (ap is_something (quiet refl))
 
@@ -107,9 +116,11 @@ pub record IsAtUnit (held : Held) : Type 0 where
 
 -- this is so where a unit is due
 pub at_unit : (held : Held) → IsUnitDue (next_of held) → IsAtUnit held
-at_unit held due = at held.ended held.long held.told held.lost (is_something (shown_by held)) (slice_get (units held.rest) 0) refl refl refl refl due.1
+at_unit held due = at held.ended held.long held.told held.lost (is_something (shown_by held))
+    (slice_get (units held.rest) 0) refl refl refl refl due.1
   where
-    at : (ended long told lost something : Bool) (found : Option (List ℕ)) → held.ended ≡ ended → held.long ≡ long → held.lost ≡ lost → is_something (shown_by held) ≡ something
+    at : (ended long told lost something : Bool) (found : Option (List ℕ)) → held.ended ≡ ended → held.long ≡ long → held.lost ≡ lost
+        → is_something (shown_by held) ≡ something
         → due_by long told (cond (ended && (not long && not lost)) found None) something ended ≡ UnitDue due.0 → IsAtUnit held
     at true true true lost something found e f g h is = absurd cc
     at true true false lost something found e f g h is = absurd cc
@@ -125,7 +136,8 @@ at_unit held due = at held.ended held.long held.told held.lost (is_something (sh
 pub at_finish : (held : Held) → next_of held ≡ FinishDue → held.ended ≡ true
 at_finish held due = at held.ended held.long held.told (is_something (shown_by held)) (unit_of held) refl due
   where
-    at : (ended long told something : Bool) (found : Option (List ℕ)) → held.ended ≡ ended → due_by long told found something ended ≡ FinishDue → held.ended ≡ true
+    at : (ended long told something : Bool) (found : Option (List ℕ)) → held.ended ≡ ended
+        → due_by long told found something ended ≡ FinishDue → held.ended ≡ true
     at true long told something found e is = e
     at false true false something found e is = absurd cc
     at false true true something None e is = absurd cc

@@ -6,7 +6,8 @@ use Rattle.sv_exchange.specs.ExchangeHeld.{Held}
 use Rattle.sv_exchange.specs.ExchangeKept.{held_of, IsText, IsOut, first_size, second_at, has_line, after_accept, with_answer}
 
 -- the later text is what one write brought
-pub few_later : (text : List ℕ) (at end behind : ℕ) (ended : Bool) → IsText ended (length text) at end behind → length (drop behind text) ≤ 4096
+pub few_later : (text : List ℕ) (at end behind : ℕ) (ended : Bool) → IsText ended (length text) at end behind
+    → length (drop behind text) ≤ 4096
 few_later text at end behind true t = omega (arith, length-drop behind text)
 few_later text at end behind false t = omega (arith, length-drop behind text)
 
@@ -15,15 +16,28 @@ pub rest_size : (text : List ℕ) (at end : ℕ) → at ≤ end → end ≤ leng
 rest_size text at end le within = length-take-le (end - at) (drop at text) (omega (arith, length-drop at text))
 
 -- some of it was stepped over
-pub done_holds : (text : List ℕ) (at end behind : ℕ) (ended mark long told lost answering : Bool) (response : List ℕ) (taken count : ℕ) → at ≤ end → end ≤ length text → count ≤ length (slice_range text at end)
+pub done_holds : (text : List ℕ) (at end behind : ℕ) (ended mark long told lost answering : Bool) (response : List ℕ) (taken count : ℕ)
+    → at ≤ end → end ≤ length text → count ≤ length (slice_range text at end)
     → held_of text (at + count) end behind ended mark long told lost answering response taken
     ≡ record (held_of text at end behind ended mark long told lost answering response taken) { rest = drop count (slice_range text at end) }
 done_holds text at end behind ended mark long told lost answering response taken count le within some =
     let size = rest_size text at end le within in
     let parts : end - at ≡ count + (end - (at + count)) = omega arith in
     let rest : slice_range text (at + count) end ≡ drop count (slice_range text at end) =
-    ap (take (end - (at + count))) (sym (drop-drop count at text)) ∙ sym (drop-take count (end - (at + count)) (drop at text)) ∙ ap (λ (n : ℕ). drop count (take n (drop at text))) (sym parts) in
-    let made : List ℕ → Held = λ r. record { rest = r; ended = ended; later = drop behind text; mark = mark; long = long; told = told; lost = lost; answering = answering; out = drop taken response } in
+    ap (take (end - (at + count))) (sym (drop-drop count at text)) ∙ sym (drop-take count (end - (at + count)) (drop at text))
+    ∙ ap (λ (n : ℕ). drop count (take n (drop at text))) (sym parts) in
+    let made : List ℕ → Held = λ r. record {
+      rest = r;
+      ended = ended;
+      later = drop behind text;
+      mark = mark;
+      long = long;
+      told =
+          told;
+      lost = lost;
+      answering = answering;
+      out = drop taken response;
+    } in
     ap made rest
 
 -- a slice that goes on into what was put behind
@@ -49,25 +63,48 @@ rest_with text bytes before size at false e f =
     rw (f, all) (take_over before size text bytes e)
 
 -- the fields with more text
-pub accept_holds : (text text' bytes : List ℕ) (at at' end behind before size second : ℕ) (ended ended' mark mark' long told lost answering given : Bool) (response : List ℕ) (taken : ℕ)
-    → end ≡ length text → text' ≡ drop at text ++ bytes → before ≡ length (drop at text) → size ≡ first_size bytes → second ≡ second_at bytes → ended' ≡ (has_line bytes || given)
+pub accept_holds : (text text' bytes : List ℕ) (at at' end behind before size second : ℕ)
+    (ended ended' mark mark' long told lost answering given : Bool) (response : List ℕ) (taken : ℕ)
+    → end ≡ length text → text' ≡ drop at text ++ bytes → before ≡ length (drop at text) → size ≡ first_size bytes
+    → second ≡ second_at bytes → ended' ≡ (has_line bytes || given)
     → mark' ≡ (has_line bytes && given) → at' ≡ cond (long || nat_lt 4096 (before + size)) (before + size) 0
-    → held_of text' at' (before + size) (before + second) ended' mark' (long || nat_lt 4096 (before + size)) told lost answering response taken
+    → held_of text' at' (before + size) (before + second) ended' mark'
+    (long || nat_lt 4096 (before + size)) told lost answering response taken
     ≡ after_accept (held_of text at end behind ended mark long told lost answering response taken) bytes given
-accept_holds text text' bytes at at' end behind before size second ended ended' mark mark' long told lost answering given response taken all text_is before_is size_is second_is ended_is mark_is at_is =
+accept_holds text text' bytes at at' end behind before size second ended ended' mark mark' long told lost answering given response taken all
+    text_is before_is size_is second_is ended_is mark_is at_is =
     let rest = rest_is_all text at end all in
     let before_rest : before ≡ length (slice_range text at end) = before_is ∙ sym (ap length rest) in
-    let long_is : (long || nat_lt 4096 (before + size)) ≡ (long || nat_lt 4096 (length (slice_range text at end) + first_size bytes)) = rw (before_rest, size_is) refl in
-    let rest_is : slice_range text' at' (before + size) ≡ cond (long || nat_lt 4096 (before + size)) [] (slice_range text at end ++ take (first_size bytes) bytes) =
+    let long_is : (long || nat_lt 4096 (before + size)) ≡ (long || nat_lt 4096 (length (slice_range text at end) + first_size bytes)) =
+    rw (before_rest, size_is) refl in
+    let rest_is : slice_range text' at' (before + size)
+    ≡ cond (long || nat_lt 4096 (before + size)) [] (slice_range text at end ++ take (first_size bytes) bytes) =
     rw (text_is, rest, ← size_is) (rest_with (drop at text) bytes before size at' (long || nat_lt 4096 (before + size)) before_is at_is) in
-    let later_is : drop (before + second) text' ≡ drop (second_at bytes) bytes = rw (text_is, ← second_is) (drop_over before second (drop at text) bytes before_is) in
-    let made : List ℕ → Bool → List ℕ → Bool → Bool → Held = λ r e l m n. record { rest = r; ended = e; later = l; mark = m; long = n; told = told; lost = lost; answering = answering; out = drop taken response } in
+    let later_is : drop (before + second) text' ≡ drop (second_at bytes) bytes =
+    rw (text_is, ← second_is) (drop_over before second (drop at text) bytes before_is) in
+    let made : List ℕ → Bool → List ℕ → Bool → Bool → Held =
+    λ r e l m n. record {
+      rest = r;
+      ended = e;
+      later = l;
+      mark = m;
+      long = n;
+      told = told;
+      lost = lost;
+      answering = answering;
+      out =
+          drop taken response;
+    } in
     let new_long : Bool = long || nat_lt 4096 (before + size) in
     ap (λ (r : List ℕ). made r ended' (drop (before + second) text') mark' new_long) rest_is
-    ∙ ap (λ (e : Bool). made (cond new_long [] (slice_range text at end ++ take (first_size bytes) bytes)) e (drop (before + second) text') mark' new_long) ended_is
-    ∙ ap (λ (l : List ℕ). made (cond new_long [] (slice_range text at end ++ take (first_size bytes) bytes)) (has_line bytes || given) l mark' new_long) later_is
-    ∙ ap (λ (m : Bool). made (cond new_long [] (slice_range text at end ++ take (first_size bytes) bytes)) (has_line bytes || given) (drop (second_at bytes) bytes) m new_long) mark_is
-    ∙ ap (λ (n : Bool). made (cond n [] (slice_range text at end ++ take (first_size bytes) bytes)) (has_line bytes || given) (drop (second_at bytes) bytes) (has_line bytes && given) n) long_is
+    ∙ ap (λ (e : Bool). made (cond new_long [] (slice_range text at end ++ take (first_size bytes) bytes)) e
+    (drop (before + second) text') mark' new_long) ended_is
+    ∙ ap (λ (l : List ℕ). made (cond new_long [] (slice_range text at end ++ take (first_size bytes) bytes))
+    (has_line bytes || given) l mark' new_long) later_is
+    ∙ ap (λ (m : Bool). made (cond new_long [] (slice_range text at end ++ take (first_size bytes) bytes)) (has_line bytes || given)
+    (drop (second_at bytes) bytes) m new_long) mark_is
+    ∙ ap (λ (n : Bool). made (cond n [] (slice_range text at end ++ take (first_size bytes) bytes)) (has_line bytes || given)
+    (drop (second_at bytes) bytes) (has_line bytes && given) n) long_is
 
 -- where the text ends while the message hasn't
 pub open_end : (ended : Bool) (size at end behind : ℕ) → ended ≡ false → IsText ended size at end behind → end ≡ size
@@ -75,13 +112,15 @@ open_end true size at end behind e t = absurd cc
 open_end false size at end behind e t = t.0
 
 -- how long a response is with one more answer
-pub size_with : (answering : Bool) (response answer : List ℕ) (taken before : ℕ) → IsOut answering (length response) taken → before ≡ cond answering (length response + 1) 0
+pub size_with : (answering : Bool) (response answer : List ℕ) (taken before : ℕ) → IsOut answering (length response) taken
+    → before ≡ cond answering (length response + 1) 0
     → length (with_answer answering (drop taken response) answer) ≡ before + length answer
 size_with true response answer taken before out e =
     rw (out.1) (omega (arith, length-append response (59 ∷ answer)))
 size_with false response answer taken before out e = omega arith
 
 -- none of the answers before was read
-pub with_all : (answering : Bool) (response answer : List ℕ) (taken : ℕ) → IsOut answering (length response) taken → with_answer answering response answer ≡ with_answer answering (drop taken response) answer
+pub with_all : (answering : Bool) (response answer : List ℕ) (taken : ℕ) → IsOut answering (length response) taken
+    → with_answer answering response answer ≡ with_answer answering (drop taken response) answer
 with_all true response answer taken out = rw (out.1) refl
 with_all false response answer taken out = refl

@@ -13,15 +13,18 @@ to_do (m ∷ ms) = 3 + length (units m) + to_do ms
 
 -- what is left to be done: by the messages behind the current one, and by that
 abbrev left_over : List (List ℕ) → ℕ → ℕ → Bool → List ℕ → ℕ
-left_over ms n executed told readable = to_do (drop (n + 1) ms) + ((length (units (get_or ms n [])) - executed) + (bit (not told) + bit (is_something readable)))
+left_over ms n executed told readable = to_do (drop (n + 1) ms) +
+    ((length (units (get_or ms n [])) - executed) + (bit (not told) + bit (is_something readable)))
 
 -- what is left to be done after these acts
 pub work : List ExchangeAct → ℕ
 work acts = left_over (messages (text acts)) (finished acts) (units_done (current acts)) (has_overrun (current acts)) (response acts)
 
 -- a property of what is due, from each case
-by_due : (P : Due → Type 0) (long : Bool) (unit : Option (List ℕ)) (interrupts ended : Bool) → (long ≡ true → P OverrunDue) → ((u : List ℕ) → unit ≡ Some u → interrupts ≡ true → P InterruptDue)
-    → ((u : List ℕ) → unit ≡ Some u → P (UnitDue u)) → (ended ≡ true → P FinishDue) → P NothingDue → P (if long then OverrunDue else due_unit unit interrupts ended)
+by_due : (P : Due → Type 0) (long : Bool) (unit : Option (List ℕ)) (interrupts ended : Bool) → (long ≡ true → P OverrunDue)
+    → ((u : List ℕ) → unit ≡ Some u → interrupts ≡ true → P InterruptDue)
+    → ((u : List ℕ) → unit ≡ Some u → P (UnitDue u)) → (ended ≡ true → P FinishDue) → P NothingDue
+    → P (if long then OverrunDue else due_unit unit interrupts ended)
 by_due P true unit interrupts ended a b c d e = a refl
 by_due P false (Some u) true ended a b c d e = b u refl refl
 by_due P false (Some u) false ended a b c d e = c u refl
@@ -70,24 +73,31 @@ bit-le true = omega arith
 bit-le false = omega arith
 
 -- the next message becomes the current one
-next_less : (ms : List (List ℕ)) (n executed : ℕ) (told : Bool) (before after : List ℕ) → n + 1 < length ms → left_over ms (n + 1) 0 false after < left_over ms n executed told before
+next_less : (ms : List (List ℕ)) (n executed : ℕ) (told : Bool) (before after : List ℕ) → n + 1 < length ms
+    → left_over ms (n + 1) 0 false after < left_over ms n executed told before
 next_less ms n executed told before after less =
-    let split : to_do (drop (n + 1) ms) ≡ 3 + length (units (get_or ms (n + 1) [])) + to_do (drop (n + 1 + 1) ms) = ap to_do (drop_more ms (n + 1) [] less) in
+    let split : to_do (drop (n + 1) ms) ≡ 3 + length (units (get_or ms (n + 1) [])) + to_do (drop (n + 1 + 1) ms) =
+    ap to_do (drop_more ms (n + 1) [] less) in
     omega (arith, bit-le (is_something after))
 
 -- a message is finished
 finished_less : (acts : List ExchangeAct) → has_ended acts ≡ true → work (Finished ∷ acts) < work acts
 unfolding work
-finished_less acts e = next_less (messages (text acts)) (finished acts) (units_done (current acts)) (has_overrun (current acts)) (response acts) _ (ltb-true _ _ e)
+finished_less acts e = next_less (messages (text acts)) (finished acts) (units_done (current acts)) (has_overrun (current acts))
+    (response acts) _ (ltb-true _ _ e)
 
 -- a property of what is due after these acts, where it follows from less being left to be done
-pub due_lowers : (P : Due → Type 0) (acts : List ExchangeAct) → (work (Overran ∷ acts) < work acts → P OverrunDue) → (work (Interrupted ∷ acts) < work acts → P InterruptDue)
-    → ((u : List ℕ) → ((asks fits : Bool) (answer : List ℕ) → work ((if asks then (if fits then Answered answer else AnswersDropped) ∷ UnitDone ∷ [] else UnitDone ∷ []) ++ acts) < work acts) → P (UnitDue u))
+pub due_lowers : (P : Due → Type 0) (acts : List ExchangeAct) → (work (Overran ∷ acts) < work acts → P OverrunDue)
+    → (work (Interrupted ∷ acts) < work acts → P InterruptDue)
+    → ((u : List ℕ) → ((asks fits : Bool) (answer : List ℕ)
+    → work ((if asks then (if fits then Answered answer else AnswersDropped) ∷ UnitDone ∷ [] else UnitDone ∷ []) ++ acts) < work acts)
+    → P (UnitDue u))
     → (work (Finished ∷ acts) < work acts → P FinishDue) → P NothingDue → P (due acts)
 due_lowers P acts overran interrupted unit finishes none =
     by_due P _ (next_unit acts) _ (has_ended acts)
     (λ e. overran (overran_less acts (second_not (is_long acts) (has_overrun (current acts)) e)))
     (λ u is e. interrupted (interrupted_less acts (second _ (is_something (response acts)) e)))
-    (λ u is. unit u (λ asks fits answer. unit_less asks fits answer acts (slice_get_within (units (message acts)) (units_done (current acts)) u (kept_if _ _ u is))))
+    (λ u is. unit u (λ asks fits answer. unit_less asks fits answer acts
+    (slice_get_within (units (message acts)) (units_done (current acts)) u (kept_if _ _ u is))))
     (λ e. finishes (finished_less acts e))
     none

@@ -14,7 +14,8 @@ abbrev kept : List (List ℕ) → List (List ℕ)
 kept parts = filter is_something (map trim parts)
 
 -- the units behind the first part
-kept_behind : (bytes : List ℕ) (n count : ℕ) → count ≡ min (length bytes) (n + 1) → kept (cond (nat_lt n (length bytes)) (cut_at 59 (drop (n + 1) bytes)) []) ≡ units (drop count bytes)
+kept_behind : (bytes : List ℕ) (n count : ℕ) → count ≡ min (length bytes) (n + 1)
+    → kept (cond (nat_lt n (length bytes)) (cut_at 59 (drop (n + 1) bytes)) []) ≡ units (drop count bytes)
 kept_behind bytes n count e =
     elim (cases_lt n (length bytes)) [
       | inl lt ↦ let next : n + 1 ≡ count = omega arith in rw (lt-ltb n (length bytes) lt, next) refl
@@ -23,10 +24,12 @@ kept_behind bytes n count e =
 
 -- the units by the first part, where that is a unit or isn't
 units_by_first : (bytes : List ℕ) (count : ℕ) → count ≡ min (length bytes) (part_size 59 bytes + 1)
-    → units bytes ≡ cond (is_something (trim (take (part_size 59 bytes) bytes))) (trim (take (part_size 59 bytes) bytes) ∷ units (drop count bytes)) (units (drop count bytes))
+    → units bytes ≡ cond (is_something (trim (take (part_size 59 bytes) bytes)))
+    (trim (take (part_size 59 bytes) bytes) ∷ units (drop count bytes)) (units (drop count bytes))
 units_by_first bytes count e =
     ap kept (parts_cut 59 bytes)
-    ∙ ap (λ (us : List (List ℕ)). cond (is_something (trim (take (part_size 59 bytes) bytes))) (trim (take (part_size 59 bytes) bytes) ∷ us) us) (kept_behind bytes (part_size 59 bytes) count e)
+    ∙ ap (λ (us : List (List ℕ)). cond (is_something (trim (take (part_size 59 bytes) bytes)))
+    (trim (take (part_size 59 bytes) bytes) ∷ us) us) (kept_behind bytes (part_size 59 bytes) count e)
 
 -- The part of a message that comes first behind some bytes is this, without white space, and so many bytes are stepped over with it.
 pub record IsPart (message : List ℕ) (before count : ℕ) (unit : List ℕ) : Type 0 where
@@ -35,7 +38,8 @@ pub record IsPart (message : List ℕ) (before count : ℕ) (unit : List ℕ) : 
   pub trimmed : unit ≡ trim (take (part_size 59 (drop before message)) (drop before message))
 
 -- the part, found by the place of its semicolon
-pub is_part : (message rest : List ℕ) (before place count : ℕ) (unit : List ℕ) → units message ≡ units (drop before message) → rest ≡ drop before message
+pub is_part : (message rest : List ℕ) (before place count : ℕ) (unit : List ℕ) → units message ≡ units (drop before message)
+    → rest ≡ drop before message
     → place ≡ part_size 59 rest → count ≡ min (length rest) (place + 1) → unit ≡ trim (take place rest) → IsPart message before count unit
 is_part message rest before place count unit same e p c t = record {
   same = same;
@@ -54,19 +58,22 @@ is_some [] h = let f : true ≡ false = sym h in cc
 is_some (b ∷ unit) h = refl
 
 -- a part that is no unit is stepped over
-pub step_over : (message : List ℕ) (before count : ℕ) (unit : List ℕ) → IsPart message before count unit → true ≡ (length unit == 0) → units message ≡ units (drop (before + count) message)
+pub step_over : (message : List ℕ) (before count : ℕ) (unit : List ℕ) → IsPart message before count unit → true ≡ (length unit == 0)
+    → units message ≡ units (drop (before + count) message)
 step_over message before count unit part none =
     let empty : trim (take (part_size 59 (drop before message)) (drop before message)) ≡ [] = sym part.trimmed ∙ is_empty unit none in
     part.same ∙ units_by_first (drop before message) count part.size ∙ rw empty (ap units (drop-drop count before message))
 
 -- the first part that is one
-pub step_to : (message : List ℕ) (before count : ℕ) (unit : List ℕ) → before < length message → IsPart message before count unit → false ≡ (length unit == 0) → IsFirst message unit (before + count)
+pub step_to : (message : List ℕ) (before count : ℕ) (unit : List ℕ) → before < length message → IsPart message before count unit
+    → false ≡ (length unit == 0) → IsFirst message unit (before + count)
 step_to message before count unit within part some =
     let size = length-drop before message in
     let by_first = units_by_first (drop before message) count part.size in
     let something = is_some unit some in
     record {
-      units = part.same ∙ by_first ∙ rw (← part.trimmed, something) (ap (λ (us : List (List ℕ)). unit ∷ us) (ap units (drop-drop count before message)));
+      units = part.same ∙ by_first ∙ rw (← part.trimmed, something)
+          (ap (λ (us : List (List ℕ)). unit ∷ us) (ap units (drop-drop count before message)));
       some = λ none. (let s : is_something unit ≡ false = ap is_something none in absurd cc);
       within = (omega (arith, part.size), omega (arith, part.size));
     }

@@ -6,19 +6,22 @@ use Rattle.std.proofs.lemmas.Bool.{cases_lt, lt-ltb, le-ltb}
 use Rattle.sv_text.proofs.Places.{place_within}
 
 -- among the first k
-pub place-take : (p : ℕ → Bool) (bytes : List ℕ) (k : ℕ) → position_or_len p (take k bytes) ≡ min (position_or_len p bytes) (min k (length bytes))
+pub place-take : (p : ℕ → Bool) (bytes : List ℕ) (k : ℕ)
+    → position_or_len p (take k bytes) ≡ min (position_or_len p bytes) (min k (length bytes))
 place-take p [] zero = refl
 place-take p [] (suc k) = omega arith
 place-take p (b ∷ bytes) zero = omega arith
 place-take p (b ∷ bytes) (suc k) = at (p b) (place-take p bytes k)
   where
     at : (t : Bool) → position_or_len p (take k bytes) ≡ min (position_or_len p bytes) (min k (length bytes))
-        → cond (not t) (1 + position_or_len p (take k bytes)) 0 ≡ min (cond (not t) (1 + position_or_len p bytes) 0) (min (suc k) (suc (length bytes)))
+        → cond (not t) (1 + position_or_len p (take k bytes)) 0
+        ≡ min (cond (not t) (1 + position_or_len p bytes) 0) (min (suc k) (suc (length bytes)))
     at true h = omega arith
     at false h = omega arith
 
 -- up to the place and with it
-pub up_to_place : (p : ℕ → Bool) (bytes : List ℕ) → up_to (position p bytes) (length bytes) ≡ min (position_or_len p bytes + 1) (length bytes)
+pub up_to_place : (p : ℕ → Bool) (bytes : List ℕ)
+    → up_to (position p bytes) (length bytes) ≡ min (position_or_len p bytes + 1) (length bytes)
 up_to_place p bytes =
     let le = place_within p bytes in
     elim (cases_lt (position_or_len p bytes) (length bytes)) [
@@ -27,6 +30,8 @@ up_to_place p bytes =
     ]
 
 -- how many bytes a read gives that looks for the termination character within its limit
-pub count_by_place : (response : List ℕ) (most last limit place count : ℕ) → limit ≡ min most (min 8192 (length response)) → place ≡ position_or_len (λ b. b == last) (take limit response)
+pub count_by_place : (response : List ℕ) (most last limit place count : ℕ) → limit ≡ min most (min 8192 (length response))
+    → place ≡ position_or_len (λ b. b == last) (take limit response)
     → count ≡ min limit (place + 1) → count ≡ read_count response most (Some last)
-count_by_place response most last limit place count e f h = omega (arith, place-take (λ b. b == last) response limit, up_to_place (λ b. b == last) response)
+count_by_place response most last limit place count e f h =
+    omega (arith, place-take (λ b. b == last) response limit, up_to_place (λ b. b == last) response)

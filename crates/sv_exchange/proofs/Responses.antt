@@ -11,7 +11,8 @@ response_after (answer ∷ others) before = joined (answer ∷ others) ++ 10 ∷
 
 -- the same, as the search says it
 after_answers : (given : List (List ℕ)) (whole : List ℕ) (count : ℕ)
-    → drop (if is_answered given then 0 else count) (if is_answered given then joined given ++ 10 ∷ [] else whole) ≡ response_after given (drop count whole)
+    → drop (if is_answered given then 0 else count) (if is_answered given then joined given ++ 10 ∷ [] else whole)
+    ≡ response_after given (drop count whole)
 after_answers [] whole count = refl
 after_answers (answer ∷ others) whole count = refl
 

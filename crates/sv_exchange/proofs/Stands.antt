@@ -17,12 +17,14 @@ nothing_there [] h = refl
 nothing_there (b ∷ bytes) h = absurd cc
 
 -- a unit was executed
-pub done_stands : (held new : Held) (acts : List ExchangeAct) (unit : List ℕ) (count : ℕ) → IsUnitDue (next_of held) → IsFirst held.rest unit count
+pub done_stands : (held new : Held) (acts : List ExchangeAct) (unit : List ℕ) (count : ℕ) → IsUnitDue (next_of held)
+    → IsFirst held.rest unit count
     → new ≡ record held { rest = drop count held.rest } → StandsFor held acts → StandsFor new (UnitDone ∷ acts)
 done_stands held new acts unit count due first is s =
     let at = at_unit held due in
     let more : units s.message ≡ (s.executed ++ unit ∷ []) ++ units (drop count held.rest) =
-    s.units_left at.short ∙ ap (λ (us : List (List ℕ)). s.executed ++ us) first.units ∙ sym (append_assoc s.executed (unit ∷ []) (units (drop count held.rest))) in
+    s.units_left at.short ∙ ap (λ (us : List (List ℕ)). s.executed ++ us) first.units
+    ∙ sym (append_assoc s.executed (unit ∷ []) (units (drop count held.rest))) in
     rw is (record {
       message = s.message;
       executed = s.executed ++ unit ∷ [];
@@ -57,11 +59,13 @@ said_after true out (answer ∷ others) readable said = ap (λ (l : List ℕ). l
 said_after false out given readable said = ap (λ (g : List (List ℕ)). response_after g readable) said.0 ∙ said.1
 
 -- a message was finished
-pub finish_stands : (held new : Held) (acts : List ExchangeAct) → held.ended ≡ true → length held.later ≤ 4096 → new ≡ after_finish held → StandsFor held acts → StandsFor new (Finished ∷ acts)
+pub finish_stands : (held new : Held) (acts : List ExchangeAct) → held.ended ≡ true → length held.later ≤ 4096 → new ≡ after_finish held
+    → StandsFor held acts → StandsFor new (Finished ∷ acts)
 finish_stands held new acts ended few is s =
     let size = place_within (λ b. b == 10) held.later in
     let first : List ℕ = take (first_size held.later) held.later in
-    let behind : drop 1 (drop (finished acts) (messages (text acts))) ≡ first ∷ following (has_line held.later || held.mark) (drop (second_at held.later) held.later) (has_line held.later && held.mark) =
+    let behind : drop 1 (drop (finished acts) (messages (text acts))) ≡ first
+    ∷ following (has_line held.later || held.mark) (drop (second_at held.later) held.later) (has_line held.later && held.mark) =
     ap (drop 1) s.text_left ∙ following_ended held.ended held.later held.mark ended ∙ first_cut held.later held.mark in
     rw is (record {
       message = first;
@@ -80,7 +84,8 @@ finish_stands held new acts ended few is s =
     })
 
 -- what is so where an answer may come
-pub may_parts : (ended lost something : Bool) → IsTrue (ended && (not lost && not something)) → (ended ≡ true) × (lost ≡ false) × (something ≡ false)
+pub may_parts : (ended lost something : Bool) → IsTrue (ended && (not lost && not something))
+    → (ended ≡ true) × (lost ≡ false) × (something ≡ false)
 may_parts true false false h = (refl, refl, refl)
 may_parts true true something h = absurd cc
 may_parts true false true h = absurd cc
@@ -91,7 +96,8 @@ joined-push : (given : List (List ℕ)) (answer : List ℕ) → given ≢ [] →
 joined-push [] answer some = absurd (some refl)
 joined-push (first ∷ []) answer some = refl
 joined-push (first ∷ second ∷ given) answer some =
-    ap (λ (l : List ℕ). first ++ 59 ∷ l) (joined-push (second ∷ given) answer (λ e. cc)) ∙ sym (append_assoc first (59 ∷ joined (second ∷ given)) (59 ∷ answer))
+    ap (λ (l : List ℕ). first ++ 59 ∷ l) (joined-push (second ∷ given) answer (λ e. cc))
+    ∙ sym (append_assoc first (59 ∷ joined (second ∷ given)) (59 ∷ answer))
 
 -- with one more answer there are some
 push_some : (given : List (List ℕ)) (answer : List ℕ) → given ++ answer ∷ [] ≢ []
@@ -99,17 +105,22 @@ push_some [] answer e = cc
 push_some (first ∷ given) answer e = cc
 
 -- what is kept with an answer
-joined_with : (answering : Bool) (out : List ℕ) (given : List (List ℕ)) (readable answer : List ℕ) → IsSaid answering out given readable → joined (given ++ answer ∷ []) ≡ with_answer answering out answer
+joined_with : (answering : Bool) (out : List ℕ) (given : List (List ℕ)) (readable answer : List ℕ) → IsSaid answering out given readable
+    → joined (given ++ answer ∷ []) ≡ with_answer answering out answer
 joined_with true out given readable answer said = joined-push given answer said.0 ∙ ap (λ (l : List ℕ). l ++ 59 ∷ answer) (sym said.1)
 joined_with false out given readable answer said = ap (λ (g : List (List ℕ)). joined (g ++ answer ∷ [])) said.0
 
 -- whether an answer fits
-pub fits_is : (held : Held) (acts : List ExchangeAct) (answer : List ℕ) (size : ℕ) → length (with_answer held.answering held.out answer) ≡ size → StandsFor held acts → fits_response (answers acts) answer ≡ nat_lt size 8192
+pub fits_is : (held : Held) (acts : List ExchangeAct) (answer : List ℕ) (size : ℕ)
+    → length (with_answer held.answering held.out answer) ≡ size → StandsFor held acts
+    → fits_response (answers acts) answer ≡ nat_lt size 8192
 fits_is held acts answer size e s =
-    ap (λ (l : List ℕ). nat_lt (length l) 8192) (joined_with held.answering held.out (answers acts) (response acts) answer s.said) ∙ ap (λ (n : ℕ). nat_lt n 8192) e
+    ap (λ (l : List ℕ). nat_lt (length l) 8192) (joined_with held.answering held.out (answers acts) (response acts) answer s.said)
+    ∙ ap (λ (n : ℕ). nat_lt n 8192) e
 
 -- an answer was put behind those before it
-pub answered_stands : (held new : Held) (acts : List ExchangeAct) (answer : List ℕ) → IsTrue (may_respond held) → new ≡ record held { answering = true; out = with_answer held.answering held.out answer }
+pub answered_stands : (held new : Held) (acts : List ExchangeAct) (answer : List ℕ) → IsTrue (may_respond held)
+    → new ≡ record held { answering = true; out = with_answer held.answering held.out answer }
     → StandsFor held acts → StandsFor new (Answered answer ∷ acts)
 answered_stands held new acts answer may is s =
     let parts = may_parts held.ended held.lost (is_something (shown_by held)) may in
@@ -136,7 +147,8 @@ answered_stands held new acts answer may is s =
     })
 
 -- all answers were dropped
-pub dropped_stands : (held new : Held) (acts : List ExchangeAct) → IsTrue (may_respond held) → new ≡ record held { lost = true; answering = false; out = [] }
+pub dropped_stands : (held new : Held) (acts : List ExchangeAct) → IsTrue (may_respond held)
+    → new ≡ record held { lost = true; answering = false; out = [] }
     → StandsFor held acts → StandsFor new (AnswersDropped ∷ acts)
 dropped_stands held new acts may is s =
     let parts = may_parts held.ended held.lost (is_something (shown_by held)) may in
@@ -162,7 +174,8 @@ not_true true h = absurd cc
 not_true false h = refl
 
 -- while a message is too long it stays so
-long_on : (long : Bool) (message first rest : List ℕ) (n : ℕ) → long ≡ nat_lt 4096 (length message) → length first ≡ n → (long ≡ false → message ≡ rest)
+long_on : (long : Bool) (message first rest : List ℕ) (n : ℕ) → long ≡ nat_lt 4096 (length message) → length first ≡ n
+    → (long ≡ false → message ≡ rest)
     → (long || nat_lt 4096 (length rest + n)) ≡ nat_lt 4096 (length (message ++ first))
 long_on true message first rest n e f whole =
     let more : 4096 < length (message ++ first) = omega (arith, length-append message first, ltb-true 4096 (length message) (sym e)) in
@@ -172,21 +185,25 @@ long_on false message first rest n e f whole =
     ap (nat_lt 4096) size
 
 -- of a message that isn't too long all bytes are kept
-grown : (long more : Bool) (message first rest : List ℕ) → (long || more) ≡ false → (long ≡ false → message ≡ rest) → message ++ first ≡ cond (long || more) [] (rest ++ first)
+grown : (long more : Bool) (message first rest : List ℕ) → (long || more) ≡ false → (long ≡ false → message ≡ rest)
+    → message ++ first ≡ cond (long || more) [] (rest ++ first)
 grown false false message first rest short whole = ap (λ (l : List ℕ). l ++ first) (whole refl)
 grown false true message first rest short whole = absurd cc
 grown true more message first rest short whole = absurd cc
 
 -- text was taken in
-pub accept_stands : (held new : Held) (acts : List ExchangeAct) (bytes : List ℕ) (ended : Bool) → IsTrue (is_open held) → new ≡ after_accept held bytes ended
+pub accept_stands : (held new : Held) (acts : List ExchangeAct) (bytes : List ℕ) (ended : Bool) → IsTrue (is_open held)
+    → new ≡ after_accept held bytes ended
     → StandsFor held acts → StandsFor new (Accepted bytes ended ∷ acts)
 accept_stands held new acts bytes ended open_now is s =
     let unended : held.ended ≡ false = not_true held.ended open_now in
     let first : List ℕ = take (first_size bytes) bytes in
     let size : length first ≡ first_size bytes = length-take-le (first_size bytes) bytes (place_within (λ b. b == 10) bytes) in
-    let alone : drop (finished acts) (messages (text acts)) ≡ s.message ∷ [] = s.text_left ∙ ap (λ (ms : List (List ℕ)). s.message ∷ ms) (following_open held.ended held.later held.mark unended) in
+    let alone : drop (finished acts) (messages (text acts)) ≡ s.message ∷ [] =
+    s.text_left ∙ ap (λ (ms : List (List ℕ)). s.message ∷ ms) (following_open held.ended held.later held.mark unended) in
     let more : Bool = nat_lt 4096 (length held.rest + first_size bytes) in
-    let rest : (held.long || more) ≡ false → s.message ++ first ≡ cond (held.long || more) [] (held.rest ++ first) = λ short. grown held.long more s.message first held.rest short (s.whole unended) in
+    let rest : (held.long || more) ≡ false → s.message ++ first ≡ cond (held.long || more) [] (held.rest ++ first) =
+    λ short. grown held.long more s.message first held.rest short (s.whole unended) in
     rw is (record {
       message = s.message ++ first;
       executed = [];
@@ -211,7 +228,8 @@ read_said true out given readable (suc count) few said = absurd (omega arith)
 read_said false out given readable count few said = (said.0, ap (drop count) said.1)
 
 -- bytes of the response were read
-pub read_stands : (held new : Held) (acts : List ExchangeAct) (count : ℕ) → count ≤ length (shown_by held) → new ≡ record held { out = drop count held.out }
+pub read_stands : (held new : Held) (acts : List ExchangeAct) (count : ℕ) → count ≤ length (shown_by held)
+    → new ≡ record held { out = drop count held.out }
     → StandsFor held acts → StandsFor new (ResponseRead count ∷ acts)
 read_stands held new acts count few is s =
     let left : response (ResponseRead count ∷ acts) ≡ drop count (response acts) = response-read acts count in

@@ -1,5 +1,5 @@
--- Message exchange (IEEE 488.2, 6.1 and 6.3): program text, its messages and units, and the response, each found by a search of the acts, which are
--- read from the newest.
+-- Message exchange (IEEE 488.2, 6.1 and 6.3): program text, its messages and units, and the response, each found by a search of the acts,
+-- which are read from the newest.
 use Rattle.std.specs.Prelude.{ℕ, ◌+◌, ◌==◌, Bool, true, false, not, ◌&&◌, List, [], ◌∷◌, ◌++◌, length, drop, map, filter, Option, Some, None, nat_lt, slice_get, slice_index_or, if◌then◌else◌}
 use Rattle.sv_text.specs.Cut.{cut_at, onto}
 use Rattle.sv_text.specs.White.{trim}
@@ -115,7 +115,8 @@ units bytes = filter is_something (map trim (cut_at 59 bytes))
 -- the unit to execute next: of a message that has ended, is not too long, and lost no answers
 abbrev pub next_unit : List ExchangeAct → Option (List ℕ)
 next_unit acts =
-    if has_ended acts && (not (is_long acts) && not (has_dropped (current acts))) then slice_get (units (message acts)) (units_done (current acts)) else None
+    if has_ended acts && (not (is_long acts) && not (has_dropped (current acts))) then slice_get (units (message acts))
+    (units_done (current acts)) else None
 
 -- answers joined by semicolons
 abbrev pub joined : List (List ℕ) → List ℕ
@@ -128,7 +129,8 @@ abbrev pub is_answered : List (List ℕ) → Bool
 is_answered [] = false
 is_answered (answer ∷ others) = true
 
--- the response as it was when it began: the answers of the last finished message that had any, joined and ended by a new line; none once interrupted
+-- the response as it was when it began: the answers of the last finished message that had any, joined and ended by a new line; none once
+-- interrupted
 abbrev pub whole_response : List ExchangeAct → List ℕ
 whole_response [] = []
 whole_response (Finished ∷ acts) = if is_answered (answers acts) then joined (answers acts) ++ 10 ∷ [] else whole_response acts
@@ -147,8 +149,8 @@ read_since (_ ∷ acts) = read_since acts
 abbrev pub response : List ExchangeAct → List ℕ
 response acts = drop (read_since acts) (whole_response acts)
 
--- what is due: an overlong message is told once; a unit starts, and where it is the first and a response stands, that is dropped before; else a
--- message that has ended is finished
+-- what is due: an overlong message is told once; a unit starts, and where it is the first and a response stands, that is dropped before;
+-- else a message that has ended is finished
 pub data Due : Type 0 where
   NothingDue : Due
   OverrunDue : Due

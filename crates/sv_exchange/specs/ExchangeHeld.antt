@@ -4,8 +4,8 @@ use Rattle.sv_exchange.specs.declared.exchange.Next.{Next}
 use Rattle.sv_exchange.specs.declared.exchange.Next.TheVariants as next
 use Rattle.sv_exchange.specs.Exchange.{ExchangeAct, Symbol, Byte, end_mark, text, messages, finished, current, units_done, has_overrun, has_dropped, answers, units, is_something, joined, response, Due, NothingDue, OverrunDue, InterruptDue, UnitDue, FinishDue, due_unit}
 
--- what is left of the current message, whether it has ended, and then the text behind it with its mark; what happened to the message; and the
--- answers that were given to it, or else what can be read
+-- what is left of the current message, whether it has ended, and then the text behind it with its mark; what happened to the message; and
+-- the answers that were given to it, or else what can be read
 pub record Held : Type 0 where
   pub rest : List ℕ
   pub ended : Bool
@@ -19,7 +19,18 @@ pub record Held : Type 0 where
 
 -- no text, and nothing to read
 abbrev pub nothing_held : Held
-nothing_held = record { rest = []; ended = false; later = []; mark = false; long = false; told = false; lost = false; answering = false; out = [] }
+nothing_held = record {
+  rest = [];
+  ended = false;
+  later = [];
+  mark = false;
+  long = false;
+  told = false;
+  lost = false;
+  answering =
+      false;
+  out = [];
+}
 
 -- bytes, and a mark behind them
 abbrev pub symbols : List ℕ → Bool → List Symbol
@@ -92,7 +103,8 @@ text_size false rest later mark = rest
 
 -- how much is left to be done, so that whoever does what is due comes to an end
 abbrev pub work_of : Held → ℕ
-work_of held = 3 * text_size held.ended (length held.rest) (length held.later) held.mark + (bit (held.long && not held.told) + bit (is_something (shown_by held)))
+work_of held = 3 * text_size held.ended (length held.rest) (length held.later) held.mark +
+    (bit (held.long && not held.told) + bit (is_something (shown_by held)))
 
 -- what is due as plain data
 abbrev pub seen : Next → Due

@@ -76,7 +76,8 @@ IsText true size at end behind = (size ≤ 8192) × (size ≤ behind + 4096)
 IsText false size at end behind = (end ≡ size) × (behind ≡ size) × (end ≤ at + 4096)
 
 -- The fields are in order, and what they hold has room.
-pub record IsKept (text : List ℕ) (at end behind : ℕ) (ended : Bool) (space : ℕ) (response : List ℕ) (taken : ℕ) (answering : Bool) (slots : ℕ) : Type 0 where
+pub record IsKept (text : List ℕ) (at end behind : ℕ) (ended : Bool) (space : ℕ) (response : List ℕ) (taken : ℕ) (answering : Bool)
+    (slots : ℕ) : Type 0 where
   pub order : (at ≤ end) × (end ≤ behind) × (behind ≤ length text)
   pub bounds : IsText ended (length text) at end behind
   pub out : IsOut answering (length response) taken

@@ -11,6 +11,7 @@ use crate::read::{Read, read_of};
 use crate::units::first_unit;
 use std::alloc::{AllocError, Allocator, Global};
 use std::marker::Model;
+use sv_text::append;
 
 /// How long a program message may be, and how many bytes are written at once.
 const MAX_MESSAGE: usize = 4096;
@@ -70,9 +71,11 @@ impl<A: Allocator> Model for Exchange<A> {
     ghost use Rattle.std.specs.Prelude.{vec_capacity};
     ghost use Rattle.sv_exchange.specs.ExchangeKept.{held_of, IsKept};
 
-    ghost view = { λ a. held_of a.text.items a.at a.end a.behind a.ended a.mark a.long a.told a.lost a.answering a.response.items a.taken };
+    ghost view = { λ a. held_of a.text.items a.at a.end a.behind a.ended a.mark a.long a.told a.lost
+        a.answering a.response.items a.taken };
 
-    ghost invariant = { λ a. IsKept a.text.items a.at a.end a.behind a.ended (vec_capacity a.text) a.response.items a.taken a.answering (vec_capacity a.response) };
+    ghost invariant = { λ a. IsKept a.text.items a.at a.end a.behind a.ended
+        (vec_capacity a.text) a.response.items a.taken a.answering (vec_capacity a.response) };
 }
 
 impl<A: Allocator + Copy> Exchange<A> {
@@ -101,20 +104,23 @@ impl<A: Allocator> Exchange<A> {
     /// Whether no ended message waits to be finished, so that more text is taken.
     pub fn open_for_write(&self) -> bool
         ensures value { result ≡ is_open self.now }
-        ensures answer { (acts : List ExchangeAct) → StandsFor self.now acts → result ≡ not (has_ended acts) }
+        ensures answer { (acts : List ExchangeAct) → StandsFor self.now acts
+            → result ≡ not (has_ended acts) }
     {
         !self.ended
     }
 
     /// Takes in the bytes of a write, and whether END came with the last of them (VXI-11,
     /// device_write). A message ends at END or at a new line (IEEE 488.2, 7.5). Of one that is too
-    /// long, above 4,096 bytes, none are kept. It has to be open for a write, of at most 4,096 bytes.
+    /// long, above 4,096 bytes, none are kept. It has to be open for a write, of at most 4,096
+    /// bytes.
     pub fn accept(&mut self, bytes: &[u8], ended: bool)
         requires open { IsTrue (is_open self.old) }
         requires short { length bytes.now ≤ 4096 }
         ensures value { self.new ≡ after_accept self.old bytes.now ended }
         ensures bounded { work_of self.new ≤ work_of self.old + 3 * length bytes.now + 4 }
-        ensures stands { (acts : List ExchangeAct) → StandsFor self.old acts → StandsFor self.new (Accepted bytes.now ended ∷ acts) }
+        ensures stands { (acts : List ExchangeAct) → StandsFor self.old acts
+            → StandsFor self.new (Accepted bytes.now ended ∷ acts) }
     {
         self.text.drain(..self.at);
         let before = self.text.len();
@@ -131,7 +137,8 @@ impl<A: Allocator> Exchange<A> {
     /// What is due. Of a message that is too long or lost its answers no unit is.
     pub fn next_unit(&self) -> Next<'_>
         ensures value { seen result ≡ next_of self.now }
-        ensures answer { (acts : List ExchangeAct) → StandsFor self.now acts → seen result ≡ due acts }
+        ensures answer { (acts : List ExchangeAct) → StandsFor self.now acts
+            → seen result ≡ due acts }
     {
         if self.long && !self.told {
             return Next::Overrun;
@@ -161,7 +168,8 @@ impl<A: Allocator> Exchange<A> {
         ensures less { work_of self.new < work_of self.old }
         ensures as_open { is_open self.new ≡ is_open self.old }
         ensures may_respond { IsTrue (may_respond self.new) }
-        ensures stands { (acts : List ExchangeAct) → StandsFor self.old acts → StandsFor self.new (UnitDone ∷ acts) }
+        ensures stands { (acts : List ExchangeAct) → StandsFor self.old acts
+            → StandsFor self.new (UnitDone ∷ acts) }
     {
         if let Some((_, count)) = first_unit(&self.text[self.at..self.end]) {
             self.at += count;
@@ -174,7 +182,8 @@ impl<A: Allocator> Exchange<A> {
         ensures value { self.new ≡ record self.old { told = true } }
         ensures less { work_of self.new < work_of self.old }
         ensures as_open { is_open self.new ≡ is_open self.old }
-        ensures stands { (acts : List ExchangeAct) → StandsFor self.old acts → StandsFor self.new (Overran ∷ acts) }
+        ensures stands { (acts : List ExchangeAct) → StandsFor self.old acts
+            → StandsFor self.new (Overran ∷ acts) }
     {
         self.told = true;
     }
@@ -185,7 +194,8 @@ impl<A: Allocator> Exchange<A> {
         ensures value { self.new ≡ record self.old { out = [] } }
         ensures less { work_of self.new < work_of self.old }
         ensures as_open { is_open self.new ≡ is_open self.old }
-        ensures stands { (acts : List ExchangeAct) → StandsFor self.old acts → StandsFor self.new (Interrupted ∷ acts) }
+        ensures stands { (acts : List ExchangeAct) → StandsFor self.old acts
+            → StandsFor self.new (Interrupted ∷ acts) }
     {
         self.taken = self.response.len();
     }
@@ -196,7 +206,8 @@ impl<A: Allocator> Exchange<A> {
         requires { next_of self.old ≡ FinishDue }
         ensures value { self.new ≡ after_finish self.old }
         ensures less { work_of self.new < work_of self.old }
-        ensures stands { (acts : List ExchangeAct) → StandsFor self.old acts → StandsFor self.new (Finished ∷ acts) }
+        ensures stands { (acts : List ExchangeAct) → StandsFor self.old acts
+            → StandsFor self.new (Finished ∷ acts) }
     {
         end_response(&mut self.response, self.answering);
         let cut = first_message(&self.text[self.behind..], self.mark);
@@ -212,16 +223,19 @@ impl<A: Allocator> Exchange<A> {
     }
 
     /// Puts an answer behind those of the units before, with a semicolon between (IEEE 488.2,
-    /// 8.4.1); a unit has to have been executed before. It tells whether it fits: where the response
-    /// would be longer than 8,192 bytes, all answers of the message are dropped, and no further unit
-    /// of it is executed.
+    /// 8.4.1); a unit has to have been executed before. It tells whether it fits: where the
+    /// response would be longer than 8,192 bytes, all answers of the message are dropped, and no
+    /// further unit of it is executed.
     pub fn respond(&mut self, answer: &[u8]) -> bool
         requires { IsTrue (may_respond self.old) }
         ensures value { self.new ≡ after_answer self.old answer.now result }
-        ensures fits { result ≡ nat_lt (length (with_answer self.old.answering self.old.out answer.now)) 8192 }
+        ensures fits { result ≡ nat_lt
+            (length (with_answer self.old.answering self.old.out answer.now)) 8192 }
         ensures no_more { work_of self.new ≤ work_of self.old }
         ensures as_open { is_open self.new ≡ is_open self.old }
-        ensures stands { (acts : List ExchangeAct) → StandsFor self.old acts → (result ≡ fits_response (answers acts) answer.now) × StandsFor self.new ((if result then Answered answer.now else AnswersDropped) ∷ acts) }
+        ensures stands { (acts : List ExchangeAct) → StandsFor self.old acts
+            → (result ≡ fits_response (answers acts) answer.now)
+            × StandsFor self.new ((if result then Answered answer.now else AnswersDropped) ∷ acts) }
     {
         let before = if self.answering {
             self.response.len() + 1
@@ -244,7 +258,8 @@ impl<A: Allocator> Exchange<A> {
     /// it is finished.
     pub fn readable(&self) -> bool
         ensures value { result ≡ is_something (shown_by self.now) }
-        ensures answer { (acts : List ExchangeAct) → StandsFor self.now acts → result ≡ is_something (response acts) }
+        ensures answer { (acts : List ExchangeAct) → StandsFor self.now acts
+            → result ≡ is_something (response acts) }
     {
         !self.shown().is_empty()
     }
@@ -253,7 +268,8 @@ impl<A: Allocator> Exchange<A> {
     /// first termination character (VXI-11, device_read). There are none where nothing is readable.
     pub fn peek(&self, most: u32, term: Option<u8>) -> Read<'_>
         ensures value { IsReadOf result (shown_by self.now) most term }
-        ensures answer { (acts : List ExchangeAct) → StandsFor self.now acts → IsReadOf result (response acts) most term }
+        ensures answer { (acts : List ExchangeAct) → StandsFor self.now acts
+            → IsReadOf result (response acts) most term }
     {
         read_of(self.shown(), most, term)
     }
@@ -263,7 +279,8 @@ impl<A: Allocator> Exchange<A> {
         requires { count ≤ length (shown_by self.old) }
         ensures value { self.new ≡ record self.old { out = drop count self.old.out } }
         ensures as_open { is_open self.new ≡ is_open self.old }
-        ensures stands { (acts : List ExchangeAct) → StandsFor self.old acts → StandsFor self.new (ResponseRead count ∷ acts) }
+        ensures stands { (acts : List ExchangeAct) → StandsFor self.old acts
+            → StandsFor self.new (ResponseRead count ∷ acts) }
     {
         self.taken += count;
     }
@@ -271,9 +288,14 @@ impl<A: Allocator> Exchange<A> {
     /// Drops the text of the current message, which must not have ended (IEEE 488.2, 6.3.2.2).
     pub fn drop_unfinished(&mut self)
         requires { IsTrue (is_open self.old) }
-        ensures value { self.new ≡ record nothing_held { answering = self.old.answering; out = self.old.out } }
+        ensures value { self.new ≡ record nothing_held {
+          answering = self.old.answering;
+          out =
+              self.old.out;
+        } }
         ensures still_open { IsTrue (is_open self.new) }
-        ensures stands { (acts : List ExchangeAct) → StandsFor self.old acts → StandsFor self.new (TextDropped ∷ acts) }
+        ensures stands { (acts : List ExchangeAct) → StandsFor self.old acts
+            → StandsFor self.new (TextDropped ∷ acts) }
     {
         self.text.clear();
         self.at = 0;
@@ -297,15 +319,6 @@ impl<A: Allocator> Exchange<A> {
     }
 }
 
-/// Puts a piece behind bytes that have room for it.
-fn append<A: Allocator>(bytes: &mut Vec<u8, A>, piece: &[u8])
-    requires { vec_len bytes.old + length piece.now ≤ vec_capacity bytes.old }
-    ensures items { bytes.new.items ≡ bytes.old.items ++ piece.now }
-    ensures capacity { vec_capacity bytes.old ≤ vec_capacity bytes.new }
-{
-    bytes.extend_from_slice(piece).unwrap();
-}
-
 /// Puts an answer behind those before it, with a semicolon between; or in the place of all bytes.
 fn put_answer<A: Allocator>(bytes: &mut Vec<u8, A>, joins: bool, answer: &[u8])
     requires { length (with_answer joins bytes.old.items answer.now) ≤ vec_capacity bytes.old }
@@ -323,7 +336,8 @@ fn put_answer<A: Allocator>(bytes: &mut Vec<u8, A>, joins: bool, answer: &[u8])
 /// Ends answers by a new line, where there are any.
 fn end_response<A: Allocator>(bytes: &mut Vec<u8, A>, answers: bool)
     requires { IsTrue answers → vec_len bytes.old < vec_capacity bytes.old }
-    ensures items { bytes.new.items ≡ (if answers then bytes.old.items ++ 10 ∷ [] else bytes.old.items) }
+    ensures items { bytes.new.items
+        ≡ (if answers then bytes.old.items ++ 10 ∷ [] else bytes.old.items) }
     ensures capacity { vec_capacity bytes.old ≤ vec_capacity bytes.new }
 {
     if answers {

@@ -2,13 +2,13 @@
 use Rattle.std.proofs.Common.{◌≡◌, ℕ, zero, suc, ◌<◌, ◌&&◌, ◌||◌, ◌==◌, not, Bool, true, false, List, [], ◌∷◌, length, map, refl, sym, ap, ◌∙◌, subst, inl, inr, slice_index_or, arith, eq-eqb}
 use Rattle.std.specs.List.{list_all, Contains}
 use Rattle.std.specs.Char.{to_ascii_lowercase}
-use Rattle.std.proofs.lemmas.Bool.{cases_lt}
+use Rattle.std.proofs.lemmas.Bool.{and_parts, or_left, or_right, cases_lt}
 use Rattle.std.proofs.lemmas.List.{get_or_default}
 use Rattle.sv_header.specs.Pattern.{Part, Row, Same, IsForm, Fits, is_common, has_sign}
 use Rattle.sv_header.specs.Table.{table}
 use Rattle.sv_header.specs.Resolve.{FitsRow}
 use Rattle.sv_header.specs.Laws.{OnePattern}
-use Rattle.sv_header.proofs.Fitting.{both, passes}
+use Rattle.sv_header.proofs.Fitting.{passes}
 
 -- a second test is asked where the first holds
 where_both : (a b : Bool) → a ≡ true → b ≡ true → (elim a [ true ↦ b | false ↦ false ]) ≡ true
@@ -37,14 +37,6 @@ shares p q = (shares_form p.short q.short || shares_form p.short q.long) || (sha
 form-shared : (sent a b : List ℕ) → Same sent a → Same sent b → shares_form a b ≡ true
 unfolding shares_form
 form-shared sent a b f g = subst (λ x. same (map to_ascii_lowercase a) x ≡ true) (sym f ∙ g) (same_self (map to_ascii_lowercase a))
-
-or_left : (a b : Bool) → a ≡ true → (a || b) ≡ true
-or_left true b h = refl
-or_left false b h = absurd cc
-
-or_right : (a b : Bool) → b ≡ true → (a || b) ≡ true
-or_right true b h = refl
-or_right false b h = h
 
 is-shared : (sent : List ℕ) (p q : Part) → IsForm sent p → IsForm sent q → shares p q ≡ true
 unfolding shares
@@ -82,10 +74,13 @@ unfolding clash_with
 with-fit p ps others [] [] (inl f) g = absurd f
 with-fit p ps others (mnemonic ∷ sent) [] (inl f) g = absurd cc
 with-fit p ps others sent [] (inr f) g = rw f.0 (others sent [] f.1 g)
-with-fit p ps others sent (q ∷ qs) (inr f) g = or_left _ _ (or_right _ _ (where_both p.optional (clash ps (q ∷ qs)) f.0 (others sent (q ∷ qs) f.1 g)))
+with-fit p ps others sent (q ∷ qs) (inr f) g = or_left _ _
+    (or_right _ _ (where_both p.optional (clash ps (q ∷ qs)) f.0 (others sent (q ∷ qs) f.1 g)))
 with-fit p ps others [] (q ∷ qs) (inl f) (inl g) = absurd f
-with-fit p ps others (mnemonic ∷ sent) (q ∷ qs) (inl f) (inl g) = or_left _ _ (or_left _ _ (where_both (shares p q) (clash ps qs) (is-shared mnemonic p q f.0 g.0) (others sent qs f.1 g.1)))
-with-fit p ps others sent (q ∷ qs) (inl f) (inr g) = or_right _ _ (where_both q.optional (clash_with p (clash ps) qs) g.0 (with-fit p ps others sent qs (inl f) g.1))
+with-fit p ps others (mnemonic ∷ sent) (q ∷ qs) (inl f) (inl g) =
+    or_left _ _ (or_left _ _ (where_both (shares p q) (clash ps qs) (is-shared mnemonic p q f.0 g.0) (others sent qs f.1 g.1)))
+with-fit p ps others sent (q ∷ qs) (inl f) (inr g) =
+    or_right _ _ (where_both q.optional (clash_with p (clash ps) qs) g.0 (with-fit p ps others sent qs (inl f) g.1))
 
 -- what fits two lists of nodes makes them clash
 both-fit : (ps : List Part) (sent : List (List ℕ)) (qs : List Part) → Fits sent ps → Fits sent qs → clash ps qs ≡ true
@@ -129,24 +124,27 @@ unfolding apart rows_clash agree clash clash_with all_absent shares shares_form 
 table-apart = refl
 
 -- a row stands apart from each behind it
-apart-behind : (rows : List Row) (r s : Row) (k : ℕ) → list_all (λ t. not (rows_clash r t)) rows ≡ true → k < length rows → slice_index_or rows k s ≡ s → rows_clash r s ≡ true → ⊥
+apart-behind : (rows : List Row) (r s : Row) (k : ℕ) → list_all (λ t. not (rows_clash r t)) rows ≡ true → k < length rows
+    → slice_index_or rows k s ≡ s → rows_clash r s ≡ true → ⊥
 apart-behind rows r s k all lt e clashes =
     let a : not (rows_clash r s) ≡ true = passes (λ t. not (rows_clash r t)) rows k s all lt e in
     let b : not true ≡ true = ap not (sym clashes) ∙ a in
     cc
 
 -- rows at two places don't clash
-apart-places : (rows : List Row) (j k : ℕ) (r s : Row) → apart rows ≡ true → j < k → k < length rows → slice_index_or rows j r ≡ r → slice_index_or rows k s ≡ s
+apart-places : (rows : List Row) (j k : ℕ) (r s : Row) → apart rows ≡ true → j < k → k < length rows → slice_index_or rows j r ≡ r
+    → slice_index_or rows k s ≡ s
     → rows_clash r s ≡ true → ⊥
 unfolding apart
 apart-places [] j k r s a lt in_bounds e f = absurd (omega arith)
 apart-places (row ∷ rows) j zero r s a lt in_bounds e f = absurd (omega arith)
 apart-places (row ∷ rows) zero (suc k) r s a lt in_bounds e f =
-    subst (λ x. rows_clash x s ≡ true → ⊥) e (apart-behind rows row s k (both _ _ a).0 (omega arith) f)
-apart-places (row ∷ rows) (suc j) (suc k) r s a lt in_bounds e f = apart-places rows j k r s (both _ _ a).1 (omega arith) (omega arith) e f
+    subst (λ x. rows_clash x s ≡ true → ⊥) e (apart-behind rows row s k (and_parts _ _ a).0 (omega arith) f)
+apart-places (row ∷ rows) (suc j) (suc k) r s a lt in_bounds e f = apart-places rows j k r s (and_parts _ _ a).1 (omega arith) (omega arith) e f
 
 -- two rows that a header fits are one
-one-row : (path : List (List ℕ)) (header : List ℕ) (r s : Row) → Contains table r → Contains table s → FitsRow path header r → FitsRow path header s → r ≡ s
+one-row : (path : List (List ℕ)) (header : List ℕ) (r s : Row) → Contains table r → Contains table s → FitsRow path header r
+    → FitsRow path header s → r ≡ s
 one-row path header r s a b f g =
     elim (cases_lt a.0 b.0) [
       | inl lt ↦ absurd (apart-places table a.0 b.0 r s table-apart lt b.1 a.2 b.2 (rows-clash path header r s f g))

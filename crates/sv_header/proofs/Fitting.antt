@@ -1,5 +1,6 @@
 -- What fits the table is small: it has few mnemonics, and none is long.
 use Rattle.std.proofs.Common.{◌≡◌, ℕ, zero, suc, ◌+◌, ◌<◌, ◌≤◌, ◌&&◌, Bool, true, false, List, [], ◌∷◌, ◌++◌, length, refl, sym, ap, ◌∙◌, inl, inr, slice_index_or, arith, leb-true, length-append, subst}
+use Rattle.std.proofs.lemmas.Bool.{and_parts}
 use Rattle.std.specs.Prelude.{nat_le}
 use Rattle.std.specs.List.{list_all}
 use Rattle.std.proofs.lemmas.List.{length-map}
@@ -20,12 +21,6 @@ is_small part = nat_le (length part.short) 12 && nat_le (length part.long) 12
 abbrev is_small_row : Row → Bool
 is_small_row row = nat_le (length row.parts) 5 && list_all is_small row.parts
 
--- both
-pub both : (a b : Bool) → (a && b) ≡ true → (a ≡ true) × (b ≡ true)
-both true true h = (refl, refl)
-both true false h = absurd cc
-both false b h = absurd cc
-
 -- a mnemonic that has as many characters as one of at most 12
 short-same : (sent form : List ℕ) → nat_le (length form) 12 ≡ true → Same sent form → is_short sent ≡ true
 short-same sent form h same =
@@ -33,30 +28,32 @@ short-same sent form h same =
     rw e h
 
 form-short : (sent : List ℕ) (part : Part) → is_small part ≡ true → IsForm sent part → is_short sent ≡ true
-form-short sent part s (inl h) = short-same sent part.short (both _ _ s).0 h
-form-short sent part s (inr h) = short-same sent part.long (both _ _ s).1 h
+form-short sent part s (inl h) = short-same sent part.short (and_parts _ _ s).0 h
+form-short sent part s (inr h) = short-same sent part.long (and_parts _ _ s).1 h
 
 at_most : (n m : ℕ) → nat_le n m ≡ true → n ≤ m
 at_most n m h = leb-true n m h
 
 -- what fits has no more mnemonics than nodes, and none of more than 12 characters
-pub fits-small : (sent : List (List ℕ)) (parts : List Part) → list_all is_small parts ≡ true → Fits sent parts → (length sent ≤ length parts) × (list_all is_short sent ≡ true)
+pub fits-small : (sent : List (List ℕ)) (parts : List Part) → list_all is_small parts ≡ true → Fits sent parts
+    → (length sent ≤ length parts) × (list_all is_short sent ≡ true)
 fits-small sent [] s e = rw e (omega arith, refl)
 fits-small [] (part ∷ parts) s (inl f) = absurd f
 fits-small (mnemonic ∷ others) (part ∷ parts) s (inl f) =
-    let b : (is_small part ≡ true) × (list_all is_small parts ≡ true) = both _ _ s in
+    let b : (is_small part ≡ true) × (list_all is_small parts ≡ true) = and_parts _ _ s in
     let rest : (length others ≤ length parts) × (list_all is_short others ≡ true) = fits-small others parts b.1 f.1 in
     (omega (arith, rest.0), rw (form-short mnemonic part b.0 f.0) rest.1)
 fits-small sent (part ∷ parts) s (inr f) =
-    let b : (is_small part ≡ true) × (list_all is_small parts ≡ true) = both _ _ s in
+    let b : (is_small part ≡ true) × (list_all is_small parts ≡ true) = and_parts _ _ s in
     let rest : (length sent ≤ length parts) × (list_all is_short sent ≡ true) = fits-small sent parts b.1 f.1 in
     (omega (arith, rest.0), rest.1)
 
 -- each row of a table that passes a test passes it
-pub passes : (test : Row → Bool) (rows : List Row) (k : ℕ) (row : Row) → list_all test rows ≡ true → k < length rows → slice_index_or rows k row ≡ row → test row ≡ true
+pub passes : (test : Row → Bool) (rows : List Row) (k : ℕ) (row : Row) → list_all test rows ≡ true → k < length rows
+    → slice_index_or rows k row ≡ row → test row ≡ true
 passes test [] k row all lt e = absurd (omega arith)
-passes test (r ∷ rows) zero row all lt e = ap test (sym e) ∙ (both _ _ all).0
-passes test (r ∷ rows) (suc k) row all lt e = passes test rows k row (both _ _ all).1 (omega arith) e
+passes test (r ∷ rows) zero row all lt e = ap test (sym e) ∙ (and_parts _ _ all).0
+passes test (r ∷ rows) (suc k) row all lt e = passes test rows k row (and_parts _ _ all).1 (omega arith) e
 
 table-small : list_all is_small_row table ≡ true
 table-small = refl
@@ -66,7 +63,7 @@ pub resolves-small : (path : List (List ℕ)) (header : List ℕ) (command : Com
     → (length (full path header) ≤ 5) × (list_all is_short (full path header) ≡ true)
 resolves-small path header command h =
     let row = h.0 in
-    let b = both _ _ (passes is_small_row table h.1.0 row table-small h.1.1 h.1.2) in
+    let b = and_parts _ _ (passes is_small_row table h.1.0 row table-small h.1.1 h.1.2) in
     let f = fits-small (full path header) row.parts b.1 h.3.2 in
     let l = at_most _ _ b.0 in
     (omega (arith, l, f.0), f.1)
@@ -80,24 +77,29 @@ but_last-push (part ∷ other ∷ others) last = ap (λ ps. part ∷ ps) (but_la
 -- what is so of each of two lists together is so of each of the second
 all-behind : (test : List ℕ → Bool) (front behind : List (List ℕ)) → list_all test (front ++ behind) ≡ true → list_all test behind ≡ true
 all-behind test [] behind h = h
-all-behind test (part ∷ front) behind h = all-behind test front behind (both _ _ h).1
+all-behind test (part ∷ front) behind h = all-behind test front behind (and_parts _ _ h).1
 
 -- a path and mnemonics are small together
 abbrev AreSmall : List (List ℕ) → List (List ℕ) → Type 0
 AreSmall path sent = (length path + length sent ≤ 5) × (list_all is_short sent ≡ true)
 
-small-at : (l : Lead) (path sent : List (List ℕ)) → (length (path_before l path ++ sent) ≤ 5) × (list_all is_short (path_before l path ++ sent) ≡ true)
+small-at : (l : Lead) (path sent : List (List ℕ))
+    → (length (path_before l path ++ sent) ≤ 5) × (list_all is_short (path_before l path ++ sent) ≡ true)
     → AreSmall (path_before l path) sent
 small-at l path sent h = (omega (arith, h.0, length-append (path_before l path) sent), all-behind is_short (path_before l path) sent h.1)
 
 -- what names a command from the root is small
-pub root-small : (path : List (List ℕ)) (header : List ℕ) (command : CommandId) → lead header ≡ Root → Resolves path header command → AreSmall [] (mnemonics header)
+pub root-small : (path : List (List ℕ)) (header : List ℕ) (command : CommandId) → lead header ≡ Root → Resolves path header command
+    → AreSmall [] (mnemonics header)
 root-small path header command e h =
-    let s : AreSmall (path_before (lead header) path) (mnemonics header) = small-at (lead header) path (mnemonics header) (resolves-small path header command h) in
+    let s : AreSmall (path_before (lead header) path) (mnemonics header) =
+    small-at (lead header) path (mnemonics header) (resolves-small path header command h) in
     subst (λ l. AreSmall (path_before l path) (mnemonics header)) e s
 
 -- what names one behind the path is so with the path
-pub onward-small : (path : List (List ℕ)) (header : List ℕ) (command : CommandId) → lead header ≡ Onward → Resolves path header command → AreSmall path (mnemonics header)
+pub onward-small : (path : List (List ℕ)) (header : List ℕ) (command : CommandId) → lead header ≡ Onward → Resolves path header command
+    → AreSmall path (mnemonics header)
 onward-small path header command e h =
-    let s : AreSmall (path_before (lead header) path) (mnemonics header) = small-at (lead header) path (mnemonics header) (resolves-small path header command h) in
+    let s : AreSmall (path_before (lead header) path) (mnemonics header) =
+    small-at (lead header) path (mnemonics header) (resolves-small path header command h) in
     subst (λ l. AreSmall (path_before l path) (mnemonics header)) e s

@@ -5,4 +5,5 @@ use Rattle.sv_header.specs.Resolve.{Resolves}
 
 -- A header behind a path names at most one command.
 abbrev pub OnePattern : Type 0
-OnePattern = (path : List (List ℕ)) → (header : List ℕ) → (first second : CommandId) → Resolves path header first → Resolves path header second → first ≡ second
+OnePattern = (path : List (List ℕ)) → (header : List ℕ) → (first second : CommandId) → Resolves path header first
+    → Resolves path header second → first ≡ second

@@ -23,9 +23,11 @@ leads_common Common = true
 leads_common Root = false
 leads_common Onward = false
 
--- A header behind a path fits a row: both are common commands or neither is, both have the query sign or neither has, and the mnemonics fit.
+-- A header behind a path fits a row: both are common commands or neither is, both have the query sign or neither has, and the mnemonics
+-- fit.
 abbrev pub FitsRow : List (List ℕ) → List ℕ → Row → Type 0
-FitsRow path header row = (leads_common (lead header) ≡ is_common row.form) × (is_query header ≡ has_sign row.form) × Fits (full path header) row.parts
+FitsRow path header row = (leads_common (lead header) ≡ is_common row.form) × (is_query header ≡ has_sign row.form)
+    × Fits (full path header) row.parts
 
 -- A header behind a path names a command: it fits that command's row.
 abbrev pub Resolves : List (List ℕ) → List ℕ → CommandId → Type 0

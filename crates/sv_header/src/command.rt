@@ -1,7 +1,7 @@
 //! The commands.
 
-/// The commands that a header can name, one for each pattern of the table: a header with the query sign
-/// and the same header without it are two.
+/// The commands that a header can name, one for each pattern of the table: a header with the query
+/// sign and the same header without it are two.
 #[derive(Clone, Copy, Debug, PartialEq, Eq)]
 pub enum CommandId {
     /// `*CLS`.

@@ -18,7 +18,8 @@ pub(crate) struct Mnemonics<'a> {
 impl<'a> Mnemonics<'a> {
     /// The first mnemonic and the others.
     pub(crate) fn first(self) -> Option<(&'a [u8], Mnemonics<'a>)>
-        ensures { MatchOption result (left_of self.entry ≡ []) (λ found. left_of self.entry ≡ found.0.now ∷ left_of found.1) }
+        ensures { MatchOption result (left_of self.entry ≡ [])
+            (λ found. left_of self.entry ≡ found.0.now ∷ left_of found.1) }
     {
         if let [first, behind @ ..] = self.kept {
             let others = Mnemonics {

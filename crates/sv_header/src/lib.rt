@@ -1,5 +1,5 @@
-//! Headers of commands: which command one names, and what it leaves for the next (SCPI-1999, volume 1,
-//! chapter 6).
+//! Headers of commands: which command one names, and what it leaves for the next (SCPI-1999, volume
+//! 1, chapter 6).
 //!
 //! [`Table::new`] takes the memory of the table; no other call takes any.
 #![tactic(auto)]

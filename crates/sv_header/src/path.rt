@@ -56,8 +56,8 @@ impl Mnemonic {
     }
 }
 
-/// The mnemonics, as they were sent, that stand in front of a header which neither starts at the root
-/// nor is a common command. At most four, since no pattern has more than five.
+/// The mnemonics, as they were sent, that stand in front of a header which neither starts at the
+/// root nor is a common command. At most four, since no pattern has more than five.
 #[derive(Debug, Drop)]
 pub struct Path {
     mnemonics: ArrayVec<Mnemonic, 4>,
@@ -81,8 +81,9 @@ impl Path {
         }
     }
 
-    /// Follows a header that names a command: its mnemonics but the last are the path from now on, with
-    /// the path in front of them where it didn't start at the root. A common command leaves the path.
+    /// Follows a header that names a command: its mnemonics but the last are the path from now on,
+    /// with the path in front of them where it didn't start at the root. A common command leaves
+    /// the path.
     pub fn follow(&mut self, header: &[u8])
         requires { (command : Command) × Resolves self.old header.now command }
         ensures { self.new ≡ kept self.old header.now }

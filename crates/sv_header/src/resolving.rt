@@ -54,7 +54,9 @@ impl<A: Allocator> Table<A> {
     /// The command that a header behind a path names (SCPI-1999, volume 1, chapter 6), or
     /// [`Code::UndefinedHeader`] where it names none.
     pub fn resolve(&self, path: &Path, header: &[u8]) -> Result<CommandId, Code>
-        ensures { MatchResult result (λ command. Resolves path.now header.now command) (λ code. (code ≡ UndefinedHeader) × ((command : Command) → Resolves path.now header.now command → ⊥)) }
+        ensures { MatchResult result (λ command. Resolves path.now header.now command)
+            (λ code. (code ≡ UndefinedHeader)
+            × ((command : Command) → Resolves path.now header.now command → ⊥)) }
     {
         let sent = Sent::new(path, header);
         for pattern in &self.patterns {

@@ -16,8 +16,8 @@ pub(crate) struct Sent<'a> {
     pub(crate) common: bool,
     /// Whether a query sign ends it.
     pub(crate) query: bool,
-    /// Its mnemonics: those of the path, unless it starts at the root or is a common command, and its
-    /// own behind them.
+    /// Its mnemonics: those of the path, unless it starts at the root or is a common command, and
+    /// its own behind them.
     pub(crate) mnemonics: Mnemonics<'a>,
 }
 

@@ -14,20 +14,27 @@ cut_same a b (x ∷ bytes) e =
     rw (e, cut_same (x ∷ a) (x ∷ b) bytes next) refl
 
 -- a byte in front of a part that a comma ends
-step_ended : (b n k : ℕ) (bytes : List ℕ) (cut : List (List ℕ)) → n ≡ 1 + k → cut ≡ take k bytes ∷ cut_outside [] (drop (k + 1) bytes) → onto b cut ≡ take n (b ∷ bytes) ∷ cut_outside [] (drop (n + 1) (b ∷ bytes))
+step_ended : (b n k : ℕ) (bytes : List ℕ) (cut : List (List ℕ)) → n ≡ 1 + k → cut ≡ take k bytes ∷ cut_outside [] (drop (k + 1) bytes)
+    → onto b cut ≡ take n (b ∷ bytes) ∷ cut_outside [] (drop (n + 1) (b ∷ bytes))
 step_ended b n k bytes cut e h =
     let size : n ≡ suc k = omega (arith, e) in
     let next : n + 1 ≡ suc (k + 1) = omega (arith, e) in
     rw (h, next, size) refl
 
 -- a part that a comma ends, and those behind it
-pub cut_ended : (before bytes : List ℕ) (n : ℕ) → n ≡ first_size (is_open before) bytes → n < length bytes → cut_outside before bytes ≡ take n bytes ∷ cut_outside [] (drop (n + 1) bytes)
+pub cut_ended : (before bytes : List ℕ) (n : ℕ) → n ≡ first_size (is_open before) bytes → n < length bytes
+    → cut_outside before bytes ≡ take n bytes ∷ cut_outside [] (drop (n + 1) bytes)
 cut_ended before [] n e lt = absurd (omega arith)
-cut_ended before (b ∷ bytes) n e lt = at (is_open before) refl (b == 44) refl e (cut_ended (b ∷ before) bytes (first_size (opens (is_open before) b) bytes) refl)
+cut_ended before (b ∷ bytes) n e lt = at (is_open before) refl (b == 44) refl e
+    (cut_ended (b ∷ before) bytes (first_size (opens (is_open before) b) bytes) refl)
   where
-    at : (inside : Bool) → is_open before ≡ inside → (comma : Bool) → (b == 44) ≡ comma → n ≡ cond (comma && not inside) 0 (1 + first_size (opens (is_open before) b) bytes)
-        → (first_size (opens (is_open before) b) bytes < length bytes → cut_outside (b ∷ before) bytes ≡ take (first_size (opens (is_open before) b) bytes) bytes ∷ cut_outside [] (drop (first_size (opens (is_open before) b) bytes + 1) bytes))
-        → cond (comma && not inside) ([] ∷ cut_outside (b ∷ before) bytes) (onto b (cut_outside (b ∷ before) bytes)) ≡ take n (b ∷ bytes) ∷ cut_outside [] (drop (n + 1) (b ∷ bytes))
+    at : (inside : Bool) → is_open before ≡ inside → (comma : Bool) → (b == 44) ≡ comma
+        → n ≡ cond (comma && not inside) 0 (1 + first_size (opens (is_open before) b) bytes)
+        → (first_size (opens (is_open before) b) bytes < length bytes
+        → cut_outside (b ∷ before) bytes ≡ take (first_size (opens (is_open before) b) bytes) bytes
+        ∷ cut_outside [] (drop (first_size (opens (is_open before) b) bytes + 1) bytes))
+        → cond (comma && not inside) ([] ∷ cut_outside (b ∷ before) bytes) (onto b (cut_outside (b ∷ before) bytes)) ≡ take n (b ∷ bytes)
+        ∷ cut_outside [] (drop (n + 1) (b ∷ bytes))
     at false o true c e h =
         let is : b ≡ 44 = eqb-true b 44 c in
         let out : is_open (b ∷ before) ≡ false = rw is o in
@@ -37,9 +44,11 @@ cut_ended before (b ∷ bytes) n e lt = at (is_open before) refl (b == 44) refl 
     at false o false c e h = step_ended b n _ bytes (cut_outside (b ∷ before) bytes) e (h (omega (arith, e, lt)))
 
 -- a part that no comma ends is all
-pub cut_last : (before bytes : List ℕ) (n : ℕ) → n ≡ first_size (is_open before) bytes → length bytes ≤ n → cut_outside before bytes ≡ bytes ∷ []
+pub cut_last : (before bytes : List ℕ) (n : ℕ) → n ≡ first_size (is_open before) bytes → length bytes ≤ n
+    → cut_outside before bytes ≡ bytes ∷ []
 cut_last before [] n e ge = refl
-cut_last before (b ∷ bytes) n e ge = at (is_open before) (b == 44) e (cut_last (b ∷ before) bytes (first_size (opens (is_open before) b) bytes) refl)
+cut_last before (b ∷ bytes) n e ge = at (is_open before) (b == 44) e
+    (cut_last (b ∷ before) bytes (first_size (opens (is_open before) b) bytes) refl)
   where
     at : (inside comma : Bool) → n ≡ cond (comma && not inside) 0 (1 + first_size (opens (is_open before) b) bytes)
         → (length bytes ≤ first_size (opens (is_open before) b) bytes → cut_outside (b ∷ before) bytes ≡ bytes ∷ [])
@@ -50,18 +59,21 @@ cut_last before (b ∷ bytes) n e ge = at (is_open before) (b == 44) e (cut_last
     at false false e h = ap (onto b) (h (omega (arith, e, ge)))
 
 -- a comma stands between
-pub cut_whole : (inside : Bool) (bytes : List ℕ) (n : ℕ) → n ≡ first_size inside bytes → n < length bytes → bytes ≡ take n bytes ++ 44 ∷ drop (n + 1) bytes
+pub cut_whole : (inside : Bool) (bytes : List ℕ) (n : ℕ) → n ≡ first_size inside bytes → n < length bytes
+    → bytes ≡ take n bytes ++ 44 ∷ drop (n + 1) bytes
 cut_whole inside [] n e lt = absurd (omega arith)
 cut_whole inside (b ∷ bytes) n e lt = at inside (b == 44) refl e (cut_whole (opens inside b) bytes (first_size (opens inside b) bytes) refl)
   where
-    step : (k : ℕ) → n ≡ 1 + k → bytes ≡ take k bytes ++ 44 ∷ drop (k + 1) bytes → b ∷ bytes ≡ take n (b ∷ bytes) ++ 44 ∷ drop (n + 1) (b ∷ bytes)
+    step : (k : ℕ) → n ≡ 1 + k → bytes ≡ take k bytes ++ 44 ∷ drop (k + 1) bytes
+        → b ∷ bytes ≡ take n (b ∷ bytes) ++ 44 ∷ drop (n + 1) (b ∷ bytes)
     step k e h =
         let size : n ≡ suc k = omega (arith, e) in
         let next : n + 1 ≡ suc (k + 1) = omega (arith, e) in
         rw (next, size) (ap (λ bs. b ∷ bs) h)
 
     at : (now comma : Bool) → (b == 44) ≡ comma → n ≡ cond (comma && not now) 0 (1 + first_size (opens inside b) bytes)
-        → (first_size (opens inside b) bytes < length bytes → bytes ≡ take (first_size (opens inside b) bytes) bytes ++ 44 ∷ drop (first_size (opens inside b) bytes + 1) bytes)
+        → (first_size (opens inside b) bytes < length bytes
+        → bytes ≡ take (first_size (opens inside b) bytes) bytes ++ 44 ∷ drop (first_size (opens inside b) bytes + 1) bytes)
         → b ∷ bytes ≡ take n (b ∷ bytes) ++ 44 ∷ drop (n + 1) (b ∷ bytes)
     at false true c e h = rw e (ap (λ x. x ∷ bytes) (eqb-true b 44 c))
     at true true c e h = step _ e (h (omega (arith, e, lt)))
@@ -75,7 +87,8 @@ left_last (suc k) [] part h = absurd cc
 left_last (suc k) (x ∷ cut) part h = let l = left_last k cut part h in omega (arith, l)
 
 -- the part at a place, and those behind it
-pub left_at : (k : ℕ) (cut others : List (List ℕ)) (part : List ℕ) → drop k cut ≡ part ∷ others → (k < length cut) × (slice_index_or cut k [] ≡ part)
+pub left_at : (k : ℕ) (cut others : List (List ℕ)) (part : List ℕ) → drop k cut ≡ part ∷ others
+    → (k < length cut) × (slice_index_or cut k [] ≡ part)
 left_at zero [] others part h = absurd cc
 left_at zero (x ∷ cut) others part h = (omega arith, cc)
 left_at (suc k) [] others part h = absurd cc
@@ -91,10 +104,12 @@ take_next : (k : ℕ) (cut others : List (List ℕ)) (part : List ℕ) → drop 
 take_next zero [] others part h = absurd cc
 take_next zero (x ∷ cut) others part h = cc
 take_next (suc k) [] others part h = absurd cc
-take_next (suc k) (x ∷ cut) others part h = let n : suc k + 1 ≡ suc (k + 1) = omega arith in rw n (ap (λ ps. x ∷ ps) (take_next k cut others part h))
+take_next (suc k) (x ∷ cut) others part h = let n : suc k + 1 ≡ suc (k + 1) = omega arith in
+    rw n (ap (λ ps. x ∷ ps) (take_next k cut others part h))
 
 -- the next part stands behind this one and its comma
-pub place_next : (k : ℕ) (cut others : List (List ℕ)) (part : List ℕ) → drop k cut ≡ part ∷ others → part_place (k + 1) cut ≡ part_place k cut + (length part + 1)
+pub place_next : (k : ℕ) (cut others : List (List ℕ)) (part : List ℕ) → drop k cut ≡ part ∷ others
+    → part_place (k + 1) cut ≡ part_place k cut + (length part + 1)
 place_next k cut others part h =
     ap (sum_by (λ p. length p + 1)) (take_next k cut others part h)
     ∙ sum_by-append (λ p. length p + 1) (take k cut) (part ∷ [])

@@ -14,7 +14,8 @@ place_cons : (k : ℕ) (part : List ℕ) (parts : List (List ℕ)) → part_plac
 place_cons k part parts = sum_by-append (λ p. length p + 1) (part ∷ []) (take k parts) ∙ omega arith
 
 -- a later part stands behind an earlier one and its comma
-parts_in_order : (i j : ℕ) (parts : List (List ℕ)) → i < j → j < length parts → part_place i parts + length (slice_index_or parts i []) < part_place j parts
+parts_in_order : (i j : ℕ) (parts : List (List ℕ)) → i < j → j < length parts
+    → part_place i parts + length (slice_index_or parts i []) < part_place j parts
 parts_in_order i zero parts lt within = absurd (omega (arith, lt))
 parts_in_order i (suc j) [] lt within = absurd (omega (arith, within))
 parts_in_order zero (suc j) (part ∷ parts) lt within = let next = place_cons j part parts in omega (arith, next)
@@ -26,10 +27,12 @@ parts_in_order (suc i) (suc j) (part ∷ parts) lt within =
 
 pub in_order : InOrder
 in_order = (
-  (λ unit index. (let short : length (header unit) ≡ header_size unit = length-take-le (header_size unit) (trim unit) (place_within is_white (trim unit)) in omega (arith, short))),
+  (λ unit index. (let short : length (header unit) ≡ header_size unit =
+      length-take-le (header_size unit) (trim unit) (place_within is_white (trim unit)) in omega (arith, short))),
   (λ unit first second lt within.
       (let part : List ℕ = slice_index_or (parts (rest unit)) first [] in
-      let inner : white_size part + length (trim part) ≤ length part = stands_within part (trim part) (white_size part) (stands_trim part) in
+      let inner : white_size part + length (trim part) ≤ length part =
+      stands_within part (trim part) (white_size part) (stands_trim part) in
       let order = parts_in_order first second (parts (rest unit)) lt within in
       omega (arith, inner, order))),
 )

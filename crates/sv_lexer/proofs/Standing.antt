@@ -25,7 +25,12 @@ pub stands_take : (n : ℕ) (text : List ℕ) → StandsAt text 0 (take n text)
 stands_take n text = ([], drop n text, sym (take-append-drop n text), refl)
 
 pub stands_drop : (n : ℕ) (text : List ℕ) → n ≤ length text → StandsAt text n (drop n text)
-stands_drop n text le = (take n text, [], sym (ap (λ t. take n text ++ t) (append-nil (drop n text)) ∙ take-append-drop n text), length-take-le n text le)
+stands_drop n text le = (
+  take n text,
+  [],
+  sym (ap (λ t. take n text ++ t) (append-nil (drop n text)) ∙ take-append-drop n text),
+  length-take-le n text le,
+)
 
 -- what stands behind a first part and one byte
 pub stands_behind : (text part behind : List ℕ) (b n : ℕ) → text ≡ part ++ b ∷ behind → n ≡ length part + 1 → StandsAt text n behind
@@ -46,7 +51,8 @@ white_within text = prefix_len-le-length is_white text
 
 pub white_rest : (text : List ℕ) → white_size text + length (trim_start text) ≡ length text
 white_rest text =
-    let dropped : length (trim_start text) ≡ length text - white_size text = ap length (start_dropped text) ∙ length-drop (white_size text) text in
+    let dropped : length (trim_start text) ≡ length text - white_size text =
+    ap length (start_dropped text) ∙ length-drop (white_size text) text in
     let le = white_within text in
     omega (arith, dropped, le)
 
@@ -66,7 +72,8 @@ stands_end text = ([], reverse (take (white_size (reverse text)) (reverse text))
 
 -- without white space at both ends
 pub stands_trim : (text : List ℕ) → StandsAt text (white_size text) (trim text)
-stands_trim text = rw (← plus_zero (white_size text)) (stands_in text (trim_start text) (trim text) (white_size text) 0 (stands_start text) (stands_end (trim_start text)))
+stands_trim text = rw (← plus_zero (white_size text))
+    (stands_in text (trim_start text) (trim text) (white_size text) 0 (stands_start text) (stands_end (trim_start text)))
   where
     plus_zero : (n : ℕ) → n + 0 ≡ n
     plus_zero n = omega arith

@@ -22,18 +22,22 @@ rest_stands : (unit : List ℕ) → StandsAt unit (rest_place unit) (rest unit)
 rest_stands unit =
     let behind : List ℕ = drop (header_size unit) (trim unit) in
     stands_in unit behind (rest unit) (header_place unit + header_size unit) (white_size behind)
-    (stands_in unit (trim unit) behind (header_place unit) (header_size unit) (stands_trim unit) (stands_drop (header_size unit) (trim unit) (place_within is_white (trim unit))))
+    (stands_in unit (trim unit) behind (header_place unit) (header_size unit) (stands_trim unit)
+    (stands_drop (header_size unit) (trim unit) (place_within is_white (trim unit))))
     (stands_start behind)
 
 -- what a unit is split into is its header and the text behind it
-pub split_holds : (unit stripped text : List ℕ) (begin size space : ℕ) (token : Token) → stripped ≡ trim unit → begin ≡ white_size unit → size ≡ position_or_len is_white stripped
+pub split_holds : (unit stripped text : List ℕ) (begin size space : ℕ) (token : Token) → stripped ≡ trim unit → begin ≡ white_size unit
+    → size ≡ position_or_len is_white stripped
     → text ≡ trim_start (drop size stripped) → space ≡ white_size (drop size stripped)
     → token.text.now ≡ take size stripped → token.start ≡ told begin → token.kind ≡ kind_of (take size stripped)
-    → IsToken unit (header_place unit) (header unit) token × (text ≡ rest unit) × (begin + size + space ≡ rest_place unit) × StandsAt unit (begin + size + space) text
+    → IsToken unit (header_place unit) (header unit) token × (text ≡ rest unit) × (begin + size + space ≡ rest_place unit)
+    × StandsAt unit (begin + size + space) text
 split_holds unit stripped text begin size space token inner first at behind skipped slice start kind =
     let size_is : size ≡ header_size unit = at ∙ ap (position_or_len is_white) inner in
     let slice_is : take size stripped ≡ header unit = ap (λ n. take n stripped) size_is ∙ ap (take (header_size unit)) inner in
-    let behind_is : drop size stripped ≡ drop (header_size unit) (trim unit) = ap (λ n. drop n stripped) size_is ∙ ap (drop (header_size unit)) inner in
+    let behind_is : drop size stripped ≡ drop (header_size unit) (trim unit) =
+    ap (λ n. drop n stripped) size_is ∙ ap (drop (header_size unit)) inner in
     let text_is : text ≡ rest unit = behind ∙ ap trim_start behind_is in
     let space_is : space ≡ white_size (drop (header_size unit) (trim unit)) = skipped ∙ ap white_size behind_is in
     let place : begin + size + space ≡ rest_place unit = omega (arith, first, size_is, space_is) in (
@@ -49,8 +53,10 @@ parts_some [] index lt = absurd (omega (arith, lt))
 parts_some (b ∷ text) index lt = refl
 
 -- a part of the text, without white space around it, is a parameter
-pub parameter_holds : (unit text part : List ℕ) (base index place space : ℕ) (token : Token) → text ≡ rest unit → base ≡ rest_place unit → StandsAt unit base text
-    → index < count unit → part ≡ slice_index_or (cut_outside [] text) index [] → place ≡ part_place index (cut_outside [] text) → StandsAt text place part
+pub parameter_holds : (unit text part : List ℕ) (base index place space : ℕ) (token : Token) → text ≡ rest unit → base ≡ rest_place unit
+    → StandsAt unit base text
+    → index < count unit → part ≡ slice_index_or (cut_outside [] text) index [] → place ≡ part_place index (cut_outside [] text)
+    → StandsAt text place part
     → space ≡ white_size part → token.text.now ≡ trim part → token.start ≡ told (base + place + space) → token.kind ≡ kind_of (trim part)
     → (index < count unit) × IsToken unit (parameter_place unit index) (parameter unit index) token
 parameter_holds unit text part base index place space token whole at stands lt part_is place_is inner space_is slice start kind =
@@ -61,5 +67,14 @@ parameter_holds unit text part base index place space token whole at stands lt p
     let place_all : base + place + space ≡ parameter_place unit index = omega (arith, at, begins, white) in
     let there : StandsAt unit (base + place + space) (trim part) =
     stands_same unit (trim part) (base + place + white_size part) (base + place + space) (omega (arith, space_is))
-    (stands_in unit part (trim part) (base + place) (white_size part) (stands_in unit text part base place stands inner) (stands_trim part)) in
-    (lt, record { text = slice ∙ ap trim same; start = start ∙ ap told place_all; kind = kind ∙ ap (λ p. kind_of (trim p)) same; stands = rw (← place_all, ← same) there })
+    (stands_in unit part (trim part) (base + place) (white_size part) (stands_in unit text part base place stands inner) (stands_trim part))
+    in (
+      lt,
+      record {
+        text = slice ∙ ap trim same;
+        start = start ∙ ap told place_all;
+        kind = kind ∙ ap (λ p. kind_of (trim p)) same;
+        stands =
+            rw (← place_all, ← same) there;
+      },
+    )

@@ -6,4 +6,5 @@ use Rattle.sv_lexer.specs.Parameters.{count, parameter, parameter_place}
 -- Each parameter stands behind the header, and behind the parameters in front of it and their commas.
 abbrev pub InOrder : Type 0
 InOrder = ((unit : List ℕ) (index : ℕ) → header_place unit + length (header unit) ≤ parameter_place unit index)
-    × ((unit : List ℕ) (first second : ℕ) → first < second → second < count unit → parameter_place unit first + length (parameter unit first) < parameter_place unit second)
+    × ((unit : List ℕ) (first second : ℕ) → first < second → second < count unit
+    → parameter_place unit first + length (parameter unit first) < parameter_place unit second)

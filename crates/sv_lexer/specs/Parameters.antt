@@ -15,7 +15,8 @@ is_open (b ∷ before) = if b == 40 then true else if b == 41 then false else is
 -- the bytes cut at each comma in front of which no parenthesis is open
 abbrev pub cut_outside : (before bytes : List ℕ) → List (List ℕ)
 cut_outside before [] = [] ∷ []
-cut_outside before (b ∷ bytes) = if b == 44 && not (is_open before) then [] ∷ cut_outside (b ∷ before) bytes else onto b (cut_outside (b ∷ before) bytes)
+cut_outside before (b ∷ bytes) = if b == 44 && not (is_open before) then []
+    ∷ cut_outside (b ∷ before) bytes else onto b (cut_outside (b ∷ before) bytes)
 
 -- the parts between these commas; none where there is no text
 abbrev pub parts : List ℕ → List (List ℕ)

@@ -13,7 +13,8 @@ begins_number b = is_ascii_digit b || (b == 43 || (b == 45 || b == 46))
 -- the kind of data, told by its first byte (IEEE 488.2, 7.7)
 abbrev pub kind_of : List ℕ → Kind
 kind_of [] = Other
-kind_of (b ∷ text) = if begins_number b then Number else if b == 35 then Base else if is_letter b then Word else if b == 40 then Expression else Other
+kind_of (b ∷ text) =
+    if begins_number b then Number else if b == 35 then Base else if is_letter b then Word else if b == 40 then Expression else Other
 
 -- a place, in 32 bits
 abbrev pub told : ℕ → ℕ

@@ -24,7 +24,9 @@ pub(crate) fn is_open(text: &[u8]) -> bool
 
 /// How many parts there are between commas; none where one of them is blank.
 pub(crate) fn filled(text: &[u8]) -> Option<usize>
-    ensures { MatchOption result (list_any is_blank_part (parts text.now) ≡ true) (λ count. (list_any is_blank_part (parts text.now) ≡ false) × (count ≡ length (parts text.now))) }
+    ensures { MatchOption result (list_any is_blank_part (parts text.now) ≡ true)
+        (λ count. (list_any is_blank_part (parts text.now) ≡ false)
+        × (count ≡ length (parts text.now))) }
 {
     if text.is_empty() {
         return Some(0);
@@ -43,7 +45,11 @@ pub(crate) fn filled(text: &[u8]) -> Option<usize>
 
 /// The part at this place of their order, and where it stands; none where there are fewer.
 pub(crate) fn part_at(text: &[u8], index: usize) -> Option<(&[u8], usize)>
-    ensures { MatchOption result (length (cut_outside [] text.now) ≤ index) (λ found. (index < length (cut_outside [] text.now)) × (found.0.now ≡ slice_index_or (cut_outside [] text.now) index []) × (found.1 ≡ part_place index (cut_outside [] text.now)) × StandsAt text.now found.1 found.0.now) }
+    ensures { MatchOption result (length (cut_outside [] text.now) ≤ index)
+        (λ found. (index < length (cut_outside [] text.now))
+        × (found.0.now ≡ slice_index_or (cut_outside [] text.now) index [])
+        × (found.1 ≡ part_place index (cut_outside [] text.now))
+        × StandsAt text.now found.1 found.0.now) }
 {
     let mut rest = text;
     let mut place = 0;
@@ -64,12 +70,15 @@ fn is_blank(part: &[u8]) -> bool
     trim(part).is_empty()
 }
 
-/// The part in front of the first comma outside of parentheses, and what stands behind that; none where
-/// there is no such comma, and then the part is all of the text.
+/// The part in front of the first comma outside of parentheses, and what stands behind that; none
+/// where there is no such comma, and then the part is all of the text.
 fn first_outside(text: &[u8]) -> (&[u8], Option<&[u8]>)
-    ensures parts { MatchOption result.1 (cut_outside [] text.now ≡ result.0.now ∷ []) (λ behind. cut_outside [] text.now ≡ result.0.now ∷ cut_outside [] behind.now) }
-    ensures whole { MatchOption result.1 (result.0.now ≡ text.now) (λ behind. text.now ≡ result.0.now ++ 44 ∷ behind.now) }
-    ensures shorter { MatchOption result.1 (length result.0.now ≡ length text.now) (λ behind. length result.0.now + 1 + length behind.now ≡ length text.now) }
+    ensures parts { MatchOption result.1 (cut_outside [] text.now ≡ result.0.now ∷ [])
+        (λ behind. cut_outside [] text.now ≡ result.0.now ∷ cut_outside [] behind.now) }
+    ensures whole { MatchOption result.1 (result.0.now ≡ text.now)
+        (λ behind. text.now ≡ result.0.now ++ 44 ∷ behind.now) }
+    ensures shorter { MatchOption result.1 (length result.0.now ≡ length text.now)
+        (λ behind. length result.0.now + 1 + length behind.now ≡ length text.now) }
 {
     let size = comma_in(text);
     if size < text.len() {

@@ -10,8 +10,8 @@ use sv_text::{Lead, first_part, header_parts};
 /// The most characters of a mnemonic.
 const MOST: usize = 12;
 
-/// Whether a text is a header: an asterisk and a mnemonic, or mnemonics with a colon between two and
-/// perhaps one in front; with or without a query sign at its end.
+/// Whether a text is a header: an asterisk and a mnemonic, or mnemonics with a colon between two
+/// and perhaps one in front; with or without a query sign at its end.
 pub(crate) fn is_header(text: &[u8]) -> bool
     ensures { result ≡ is_header_text text.now }
 {
@@ -61,7 +61,8 @@ fn are_brief(body: &[u8]) -> bool
     rest.len() <= MOST
 }
 
-/// Whether a text is a mnemonic: a letter, then letters, digits and underscores (IEEE 488.2, 7.6.1.4).
+/// Whether a text is a mnemonic: a letter, then letters, digits and underscores (IEEE 488.2,
+/// 7.6.1.4).
 fn is_mnemonic(text: &[u8]) -> bool
     ensures { result ≡ is_mnemonic_text text.now }
 {

@@ -12,8 +12,8 @@ use std::marker::Model;
 use sv_errors::Code;
 use sv_text::trim;
 
-/// The parameters of a unit: what stands between commas outside of parentheses. Contracts see them as
-/// the bytes of the unit.
+/// The parameters of a unit: what stands between commas outside of parentheses. Contracts see them
+/// as the bytes of the unit.
 #[derive(Debug, Drop)]
 pub struct Params<'a> {
     /// The bytes of the unit.
@@ -36,7 +36,9 @@ impl<'a> Model for Params<'a> {
 
     ghost view = { λ params. params.bytes.now };
 
-    ghost invariant = { λ params. (params.text.now ≡ rest params.bytes.now) × (params.place ≡ rest_place params.bytes.now) × (params.count ≡ count_of params.bytes.now) × StandsAt params.bytes.now params.place params.text.now };
+    ghost invariant = { λ params. (params.text.now ≡ rest params.bytes.now)
+        × (params.place ≡ rest_place params.bytes.now) × (params.count ≡ count_of params.bytes.now)
+        × StandsAt params.bytes.now params.place params.text.now };
 }
 
 impl<'a> Params<'a> {
@@ -45,7 +47,9 @@ impl<'a> Params<'a> {
         requires text { text.now ≡ rest_of bytes.now }
         requires place { place ≡ rest_place bytes.now }
         requires stands { StandsAt bytes.now place text.now }
-        ensures { MatchResult result (λ params. (params ≡ bytes.now) × (parameters_fault bytes.now ≡ None)) (λ code. parameters_fault bytes.now ≡ Some code) }
+        ensures { MatchResult result (λ params. (params ≡ bytes.now)
+            × (parameters_fault bytes.now ≡ None))
+            (λ code. parameters_fault bytes.now ≡ Some code) }
     {
         if is_open(text) {
             return Err(Code::InvalidExpression);
@@ -70,7 +74,9 @@ impl<'a> Params<'a> {
 
     /// The parameter at this place of their order, from 0; none where there are fewer.
     pub fn get(&self, index: usize) -> Option<Token<'a>>
-        ensures { MatchOption result (count_of self.now ≤ index) (λ token. (index < count_of self.now) × IsToken self.now (parameter_place self.now index) (parameter self.now index) token) }
+        ensures { MatchOption result (count_of self.now ≤ index)
+            (λ token. (index < count_of self.now)
+            × IsToken self.now (parameter_place self.now index) (parameter self.now index) token) }
     {
         if index >= self.count {
             return None;

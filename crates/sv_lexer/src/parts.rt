@@ -32,7 +32,10 @@ impl<'a> Model for Unit<'a> {
 
     ghost view = { λ unit. unit.bytes.now };
 
-    ghost invariant = { λ unit. IsToken unit.bytes.now (header_place unit.bytes.now) (header_of unit.bytes.now) unit.header × (unit.rest.now ≡ rest_of unit.bytes.now) × (unit.place ≡ rest_place unit.bytes.now) × StandsAt unit.bytes.now unit.place unit.rest.now };
+    ghost invariant = { λ unit. IsToken unit.bytes.now (header_place unit.bytes.now)
+        (header_of unit.bytes.now) unit.header × (unit.rest.now ≡ rest_of unit.bytes.now)
+        × (unit.place ≡ rest_place unit.bytes.now)
+        × StandsAt unit.bytes.now unit.place unit.rest.now };
 }
 
 impl<'a> Unit<'a> {
@@ -49,7 +52,8 @@ impl<'a> Unit<'a> {
     /// [`Code::InvalidExpression`] where a parenthesis has none behind it that closes it; then
     /// [`Code::SyntaxError`] where a parameter is empty.
     pub fn parameters(&self) -> Result<Params<'a>, Code>
-        ensures { MatchResult result (λ params. (params ≡ self.now) × (parameters_fault self.now ≡ None)) (λ code. parameters_fault self.now ≡ Some code) }
+        ensures { MatchResult result (λ params. (params ≡ self.now)
+            × (parameters_fault self.now ≡ None)) (λ code. parameters_fault self.now ≡ Some code) }
     {
         Params::new(self.bytes, self.rest, self.place)
     }

@@ -53,7 +53,8 @@ impl<A: Allocator> Links<A> {
 
     /// Whether a link more may be made: of 32, and of 2,147,483,647 numbers.
     pub fn may_make(&self) -> bool
-        ensures value { result ≡ (nat_lt (length self.now.links) 32 && nat_lt self.now.made 2147483647) }
+        ensures value { result ≡ (nat_lt
+            (length self.now.links) 32 && nat_lt self.now.made 2147483647) }
         ensures answer { (acts : List LinkAct) → IsTable self.now acts → result ≡ may_make acts }
     {
         self.links.len() < MOST && self.made < LAST as u32
@@ -64,7 +65,8 @@ impl<A: Allocator> Links<A> {
     pub fn create(&mut self, conn: u8) -> Result<u32, AllocError>
         requires { (nat_lt (length self.old.links) 32 && nat_lt self.old.made 2147483647) ≡ true }
         ensures number { IfOk result (λ lid. (lid ≡ self.old.made + 1) × (lid < 2 ^ 31)) }
-        ensures ok { (acts : List LinkAct) → IsTable self.old acts → OnOk result (IsTable self.new (Made (made acts + 1) conn ∷ acts)) }
+        ensures ok { (acts : List LinkAct) → IsTable self.old acts
+            → OnOk result (IsTable self.new (Made (made acts + 1) conn ∷ acts)) }
         ensures err { OnErr result (self.new ≡ self.old) }
     {
         let lid = self.made + 1;
@@ -83,14 +85,16 @@ impl<A: Allocator> Links<A> {
 
     /// Destroys a link; one that doesn't live changes nothing.
     pub fn destroy(&mut self, lid: u32)
-        ensures { (acts : List LinkAct) → IsTable self.old acts → IsTable self.new (Destroyed lid ∷ acts) }
+        ensures { (acts : List LinkAct) → IsTable self.old acts
+            → IsTable self.new (Destroyed lid ∷ acts) }
     {
         self.links.retain(|link| link.lid != lid);
     }
 
     /// Destroys the links of a connection. Their numbers don't come again.
     pub fn close_connection(&mut self, conn: u8)
-        ensures { (acts : List LinkAct) → IsTable self.old acts → IsTable self.new (closing conn acts ++ acts) }
+        ensures { (acts : List LinkAct) → IsTable self.old acts
+            → IsTable self.new (closing conn acts ++ acts) }
     {
         self.links.retain(|link| link.conn != conn);
     }

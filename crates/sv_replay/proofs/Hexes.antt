@@ -25,7 +25,8 @@ digit_reads digit n is = elim is.1 [
   | inl decimal ↦ rw (within 48 57 digit (omega arith) (omega arith)) (ap Some (omega arith))
   | inr letter ↦ elim letter [
     | inl upper ↦ rw (beyond 48 57 digit (omega arith), within 65 70 digit (omega arith) (omega arith)) (ap Some (omega arith))
-    | inr lower ↦ rw (beyond 48 57 digit (omega arith), beyond 65 70 digit (omega arith), within 97 102 digit (omega arith) (omega arith)) (ap Some (omega arith))
+    | inr lower ↦ rw (beyond 48 57 digit (omega arith), beyond 65 70 digit (omega arith), within 97 102 digit (omega arith) (omega arith))
+        (ap Some (omega arith))
   ]
 ]
 
@@ -38,11 +39,14 @@ digit_takes : (digit n : ℕ) → hex_digit_at digit ≡ Some n → IsHexDigit d
 unfolding hex_digit_at
 digit_takes digit n e =
     chosen (leb 48 digit && leb digit 57) _ _ (Some n) e
-    (λ decimal e1. let r = between 48 57 digit decimal in let v : digit - 48 ≡ n = same_Some (digit - 48) n e1 in (omega arith, inl (omega arith, omega arith)))
+    (λ decimal e1. let r = between 48 57 digit decimal in let v : digit - 48 ≡ n = same_Some (digit - 48) n e1 in
+    (omega arith, inl (omega arith, omega arith)))
     (λ _ e1. chosen (leb 65 digit && leb digit 70) _ _ (Some n) e1
-    (λ upper e2. let r = between 65 70 digit upper in let v : digit - 55 ≡ n = same_Some (digit - 55) n e2 in (omega arith, inr (inl (omega arith, omega arith))))
+    (λ upper e2. let r = between 65 70 digit upper in let v : digit - 55 ≡ n = same_Some (digit - 55) n e2 in
+    (omega arith, inr (inl (omega arith, omega arith))))
     (λ _ e2. chosen (leb 97 digit && leb digit 102) _ _ (Some n) e2
-    (λ lower e3. let r = between 97 102 digit lower in let v : digit - 87 ≡ n = same_Some (digit - 87) n e3 in (omega arith, inr (inr (omega arith, omega arith))))
+    (λ lower e3. let r = between 97 102 digit lower in let v : digit - 87 ≡ n = same_Some (digit - 87) n e3 in
+    (omega arith, inr (inr (omega arith, omega arith))))
     (λ _ none. absurd (none-some n none))))
 
 -- a byte that is spelled is read
@@ -60,7 +64,11 @@ pair_takes high low byte e =
 
 -- a digit is no space
 digit_no_space : (digit n : ℕ) → IsHexDigit digit n → digit ≡ 32 → ⊥
-digit_no_space digit n is e = elim is.1 [ inl decimal ↦ omega arith | inr letter ↦ elim letter [ inl upper ↦ omega arith | inr lower ↦ omega arith ] ]
+digit_no_space digit n is e = elim is.1 [
+  | inl decimal ↦ omega arith
+  | inr letter ↦
+      elim letter [ inl upper ↦ omega arith | inr lower ↦ omega arith ]
+]
 
 -- bytes begin with a digit
 hex_front : (text bytes : List ℕ) → IsHex text bytes → (digit : ℕ) × (rest : List ℕ) × (text ≡ digit ∷ rest) × (eqb digit 32 ≡ false)
@@ -79,12 +87,14 @@ hex_reads text (byte ∷ other ∷ bytes) is =
     let more = hex_reads is.2 (other ∷ bytes) is.4 in
     let front = hex_front is.2 (other ∷ bytes) is.4 in
     elim is.5 [
-      | inl close ↦ rw (close, front.2, pair_reads is.0 is.1 byte is.3, front.3) (ap (option_map (λ bs. byte ∷ bs)) (ap hex_at (sym front.2) ∙ more))
+      | inl close ↦ rw (close, front.2, pair_reads is.0 is.1 byte is.3, front.3)
+          (ap (option_map (λ bs. byte ∷ bs)) (ap hex_at (sym front.2) ∙ more))
       | inr apart ↦ rw (apart, pair_reads is.0 is.1 byte is.3, more) refl
     ]
 
 -- a byte in front of bytes
-hex_joins : (text rest bytes : List ℕ) (high low byte : ℕ) → IsPair high low byte → IsHex rest bytes → (text ≡ high ∷ low ∷ rest) ⊎ (text ≡ high ∷ low ∷ 32 ∷ rest) → IsHex text (byte ∷ bytes)
+hex_joins : (text rest bytes : List ℕ) (high low byte : ℕ) → IsPair high low byte → IsHex rest bytes
+    → (text ≡ high ∷ low ∷ rest) ⊎ (text ≡ high ∷ low ∷ 32 ∷ rest) → IsHex text (byte ∷ bytes)
 hex_joins text rest [] high low byte pair more e = absurd more
 hex_joins text rest (other ∷ bytes) high low byte pair more e = (high, low, rest, pair, more, e)
 
@@ -101,5 +111,7 @@ hex_takes (high ∷ low ∷ next ∷ rest) bytes e =
     map_some (λ bs. byte ∷ bs) _ bytes e1 (λ more read e2.
     subst (IsHex (high ∷ low ∷ next ∷ rest)) e2
     (chosen (eqb next 32) _ _ (Some more) read
-    (λ space e3. hex_joins (high ∷ low ∷ next ∷ rest) rest more high low byte (pair_takes high low byte pair) (hex_takes rest more e3) (inr (ap (λ b. high ∷ low ∷ b ∷ rest) (eqb-true next 32 space))))
-    (λ _ e3. hex_joins (high ∷ low ∷ next ∷ rest) (next ∷ rest) more high low byte (pair_takes high low byte pair) (hex_takes (next ∷ rest) more e3) (inl refl)))))
+    (λ space e3. hex_joins (high ∷ low ∷ next ∷ rest) rest more high low byte (pair_takes high low byte pair) (hex_takes rest more e3)
+    (inr (ap (λ b. high ∷ low ∷ b ∷ rest) (eqb-true next 32 space))))
+    (λ _ e3. hex_joins (high ∷ low ∷ next ∷ rest) (next ∷ rest) more high low byte (pair_takes high low byte pair)
+    (hex_takes (next ∷ rest) more e3) (inl refl)))))

@@ -1,5 +1,5 @@
 -- What is read from a line is what it says.
-use Rattle.std.proofs.Common.{◌≡◌, ℕ, Bool, true, false, eqb, List, [], ◌∷◌, ◌++◌, Option, Some, None, option_map, refl, sym, subst, ap, ◌∙◌, arith}
+use Rattle.std.proofs.Common.{◌≡◌, ℕ, Bool, true, false, eqb, List, [], ◌∷◌, ◌++◌, Option, Some, None, option_map, option_and_then, refl, sym, subst, ap, ◌∙◌, arith}
 use Rattle.std.specs.Prelude.{codes, IfSome, IsSomeAnd}
 use Rattle.std.proofs.lemmas.Bool.{eqb-true, eqb-false, ne_eqb}
 use Rattle.std.proofs.lemmas.Option.{none-some, same_Some, option_and_then_some}
@@ -41,7 +41,8 @@ unfolding numbered_at
 numbered_reads c number rest is = rw (cut_reads number rest is.0.1, plain_reads 255 c number is) refl
 
 -- what was read as a number and what follows are in the text
-numbered_takes : {P : Type 0} (text : List ℕ) (x : ℕ × List ℕ) → numbered_at text ≡ Some x → ((number : List ℕ) → IsPlain 255 number x.0 → text ≡ number ++ 32 ∷ x.1 → P) → P
+numbered_takes : {P : Type 0} (text : List ℕ) (x : ℕ × List ℕ) → numbered_at text ≡ Some x
+    → ((number : List ℕ) → IsPlain 255 number x.0 → text ≡ number ++ 32 ∷ x.1 → P) → P
 unfolding numbered_at
 numbered_takes {P} text x e then =
     option_and_then_some _ (cut_at text) x e (λ cut cut_is e1.
@@ -116,48 +117,47 @@ ticks_takes line text what line_is e =
     (λ some e2. subst (Says line) (same_Some (Ticks n) what e2)
     (text, plain_takes 1000000 n text plain, (let h : n ≡ 0 → ⊥ = eqb-false n 0 some in omega arith), line_is)))
 
+-- what was read behind a number is said
+behind_number : {A : Type 0} (at : List ℕ → Option A) (make : ℕ → A → Happening) (line text : List ℕ) (event : Happening)
+    → ((x : ℕ × List ℕ) (value : A) (number : List ℕ) → IsPlain 255 number x.0 → at x.1 ≡ Some value → text ≡ number ++ 32 ∷ x.1
+    → SaysEvent line (make x.0 value))
+    → option_and_then (λ x. option_and_then (λ value. Some (make x.0 value)) (at x.1)) (numbered_at text) ≡ Some event → SaysEvent line event
+behind_number at make line text event said e =
+    option_and_then_some _ (numbered_at text) event e (λ x numbered e1.
+    option_and_then_some _ (at x.1) event e1 (λ value read e2.
+    numbered_takes text x numbered (λ number plain text_is.
+    subst (SaysEvent line) (same_Some (make x.0 value) event e2) (said x value number plain read text_is))))
+
 -- what was read as an opening is said
 open_takes : (line text : List ℕ) (event : Happening) → line ≡ codes "open" ++ 32 ∷ text → open_at text ≡ Some event → SaysEvent line event
 unfolding open_at
-open_takes line text event line_is e =
-    option_and_then_some _ (numbered_at text) event e (λ x numbered e1.
-    option_and_then_some _ (role_at x.1) event e1 (λ role role_is e2.
-    numbered_takes text x numbered (λ number plain text_is.
-    subst (SaysEvent line) (same_Some (Open x.0 role) event e2)
-    (number, plain, rw (← role_takes x.1 role role_is) (line_is ∙ ap (λ t. codes "open " ++ t) text_is)))))
+open_takes line text event line_is e = behind_number role_at Open line text event (λ x role number plain read text_is.
+    (number, plain, rw (← role_takes x.1 role read) (line_is ∙ ap (λ t. codes "open " ++ t) text_is))) e
 
 -- what was read as bytes is said
-bytes_takes : (line text : List ℕ) (event : Happening) → line ≡ codes "bytes" ++ 32 ∷ text → bytes_at text ≡ Some event → SaysEvent line event
+bytes_takes : (line text : List ℕ) (event : Happening) → line ≡ codes "bytes" ++ 32 ∷ text → bytes_at text ≡ Some event
+    → SaysEvent line event
 unfolding bytes_at
-bytes_takes line text event line_is e =
-    option_and_then_some _ (numbered_at text) event e (λ x numbered e1.
-    option_and_then_some _ (hex_at x.1) event e1 (λ piece read e2.
-    numbered_takes text x numbered (λ number plain text_is.
-    subst (SaysEvent line) (same_Some (Bytes x.0 piece) event e2)
-    (number, x.1, plain, hex_takes x.1 piece read, line_is ∙ ap (λ t. codes "bytes " ++ t) text_is))))
+bytes_takes line text event line_is e = behind_number hex_at Bytes line text event (λ x piece number plain read text_is.
+    (number, x.1, plain, hex_takes x.1 piece read, line_is ∙ ap (λ t. codes "bytes " ++ t) text_is)) e
 
 -- what was read as the outcome of dialing is said
-dialed_takes : (line text : List ℕ) (event : Happening) → line ≡ codes "dialed" ++ 32 ∷ text → dialed_at text ≡ Some event → SaysEvent line event
+dialed_takes : (line text : List ℕ) (event : Happening) → line ≡ codes "dialed" ++ 32 ∷ text → dialed_at text ≡ Some event
+    → SaysEvent line event
 unfolding dialed_at
-dialed_takes line text event line_is e =
-    option_and_then_some _ (numbered_at text) event e (λ x numbered e1.
-    option_and_then_some _ (ok_at x.1) event e1 (λ ok ok_is e2.
-    numbered_takes text x numbered (λ number plain text_is.
-    subst (SaysEvent line) (same_Some (Dialed x.0 ok) event e2)
-    (number, plain, rw (← ok_takes x.1 ok ok_is) (line_is ∙ ap (λ t. codes "dialed " ++ t) text_is)))))
+dialed_takes line text event line_is e = behind_number ok_at Dialed line text event (λ x ok number plain read text_is.
+    (number, plain, rw (← ok_takes x.1 ok read) (line_is ∙ ap (λ t. codes "dialed " ++ t) text_is))) e
 
 -- what was read as an input is said
-input_takes : (line text : List ℕ) (event : Happening) → line ≡ codes "input" ++ 32 ∷ text → input_at text ≡ Some event → SaysEvent line event
+input_takes : (line text : List ℕ) (event : Happening) → line ≡ codes "input" ++ 32 ∷ text → input_at text ≡ Some event
+    → SaysEvent line event
 unfolding input_at
-input_takes line text event line_is e =
-    option_and_then_some _ (numbered_at text) event e (λ x numbered e1.
-    option_and_then_some _ (voltage_at x.1) event e1 (λ microvolts read e2.
-    numbered_takes text x numbered (λ number plain text_is.
-    subst (SaysEvent line) (same_Some (Input x.0 microvolts) event e2)
-    (number, x.1, plain, voltage_takes x.1 microvolts read, line_is ∙ ap (λ t. codes "input " ++ t) text_is))))
+input_takes line text event line_is e = behind_number voltage_at Input line text event (λ x microvolts number plain read text_is.
+    (number, x.1, plain, voltage_takes x.1 microvolts read, line_is ∙ ap (λ t. codes "input " ++ t) text_is)) e
 
 -- what was read as a closing is said
-close_takes : (line text : List ℕ) (port : Port) → line ≡ codes "close" ++ 32 ∷ text → port_at text ≡ Some port → SaysEvent line (Close port)
+close_takes : (line text : List ℕ) (port : Port) → line ≡ codes "close" ++ 32 ∷ text → port_at text ≡ Some port
+    → SaysEvent line (Close port)
 unfolding port_at
 close_takes line [] port line_is e = absurd (none-some port e)
 close_takes line (letter ∷ number) port line_is e =
@@ -180,10 +180,12 @@ worded : (line word w text : List ℕ) → IsWords line word text → word ≡ w
 worded line word w text line_is is = subst (λ (v : List ℕ). IsWords line v text) is line_is
 
 -- what was read as traffic is said
-traffic_takes : (line word text : List ℕ) (event : Happening) → IsWords line word text → traffic_at word text ≡ Some event → SaysEvent line event
+traffic_takes : (line word text : List ℕ) (event : Happening) → IsWords line word text → traffic_at word text ≡ Some event
+    → SaysEvent line event
 unfolding traffic_at
 traffic_takes line word text event line_is e =
-    by_word word (codes "bytes") _ _ (Some event) e (λ is e1. bytes_takes line text event (worded line word (codes "bytes") text line_is is) e1) (λ e1.
+    by_word word (codes "bytes") _ _ (Some event) e
+    (λ is e1. bytes_takes line text event (worded line word (codes "bytes") text line_is is) e1) (λ e1.
     by_word word (codes "turn") _ _ (Some event) e1 (λ is e2. map_some Turn (plain_at 255 text) event e2 (λ c plain event_is.
     subst (SaysEvent line) event_is (text, plain_takes 255 c text plain, worded line word (codes "turn") text line_is is))) (λ e2.
     by_word word (codes "refuse") _ _ (Some event) e2 (λ is e3. map_some Refuse (plain_at 255 text) event e3 (λ c plain event_is.
@@ -191,20 +193,24 @@ traffic_takes line word text event line_is e =
     absurd (none-some event none))))
 
 -- what was read as an event of a connection is said
-event_takes : (line word text : List ℕ) (event : Happening) → IsWords line word text → event_at word text ≡ Some event → SaysEvent line event
+event_takes : (line word text : List ℕ) (event : Happening) → IsWords line word text → event_at word text ≡ Some event
+    → SaysEvent line event
 unfolding event_at
 event_takes line word text event line_is e =
-    by_word word (codes "open") _ _ (Some event) e (λ is e1. open_takes line text event (worded line word (codes "open") text line_is is) e1) (λ e1.
+    by_word word (codes "open") _ _ (Some event) e
+    (λ is e1. open_takes line text event (worded line word (codes "open") text line_is is) e1) (λ e1.
     by_word word (codes "close") _ _ (Some event) e1 (λ is e2. map_some Close (port_at text) event e2 (λ port read event_is.
     subst (SaysEvent line) event_is (close_takes line text port (worded line word (codes "close") text line_is is) read))) (λ e2.
-    by_word word (codes "dialed") _ _ (Some event) e2 (λ is e3. dialed_takes line text event (worded line word (codes "dialed") text line_is is) e3) (λ e3.
+    by_word word (codes "dialed") _ _ (Some event) e2
+    (λ is e3. dialed_takes line text event (worded line word (codes "dialed") text line_is is) e3) (λ e3.
     traffic_takes line word text event line_is e3)))
 
 -- what was read from words is said
 words_takes : (line word text : List ℕ) (what : Line) → IsWords line word text → words_at word text ≡ Some what → Says line what
 unfolding words_at
 words_takes line word text what line_is e =
-    by_word word (codes "tick") _ _ (Some what) e (λ is e1. ticks_takes line text what (worded line word (codes "tick") text line_is is) e1) (λ e1.
+    by_word word (codes "tick") _ _ (Some what) e (λ is e1. ticks_takes line text what (worded line word (codes "tick") text line_is is) e1)
+    (λ e1.
     by_word word (codes "input") _ _ (Some what) e1
     (λ is e2. map_some One (input_at text) what e2 (λ event read what_is.
     subst (Says line) what_is (input_takes line text event (worded line word (codes "input") text line_is is) read)))
@@ -221,7 +227,8 @@ lone_takes line what e =
     absurd (none-some what none))))
 
 -- what was read from a line that was cut is said
-cut_line_takes : (line : List ℕ) (cut : Option (List ℕ × List ℕ)) (what : Line) → cut_at line ≡ cut → cut_line_at line cut ≡ Some what → Says line what
+cut_line_takes : (line : List ℕ) (cut : Option (List ℕ × List ℕ)) (what : Line) → cut_at line ≡ cut → cut_line_at line cut ≡ Some what
+    → Says line what
 cut_line_takes line None what cut_is e = lone_takes line what e
 cut_line_takes line (Some cut) what cut_is e = words_takes line cut.0 cut.1 what (cut_takes line cut cut_is) e
 
@@ -231,11 +238,13 @@ unfolding line_at
 line_takes line what e = cut_line_takes line (cut_at line) what refl e
 
 -- what a reading gives is said
-pub line_found : (line : List ℕ) (read : Option Command) → option_map plain_line read ≡ line_at line → IfSome read (λ l. Says line (plain_line l))
+pub line_found : (line : List ℕ) (read : Option Command) → option_map plain_line read ≡ line_at line
+    → IfSome read (λ l. Says line (plain_line l))
 line_found line None e = tt
 line_found line (Some l) e = line_takes line (plain_line l) (sym e)
 
 -- what is said is what a reading gives
-pub line_only : (line : List ℕ) (read : Option Command) (what : Line) → option_map plain_line read ≡ line_at line → Says line what → IsSomeAnd read (λ l. plain_line l ≡ what)
+pub line_only : (line : List ℕ) (read : Option Command) (what : Line) → option_map plain_line read ≡ line_at line → Says line what
+    → IsSomeAnd read (λ l. plain_line l ≡ what)
 line_only line None what e says = absurd (none-some what (e ∙ line_reads line what says))
 line_only line (Some l) what e says = same_Some (plain_line l) what (e ∙ line_reads line what says)

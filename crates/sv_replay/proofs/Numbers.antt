@@ -34,7 +34,8 @@ digits_reads most n (digit ∷ digits) are below =
     (digits_reads most (10 * n + (digit - 48)) digits are.1 below)
 
 -- what was read as a number is digits that spell it
-digits_takes : (most n m : ℕ) (digits : List ℕ) → n ≤ most → digits_onto most n digits ≡ Some m → AreDigits digits × (m ≡ onto n digits) × (m ≤ most)
+digits_takes : (most n m : ℕ) (digits : List ℕ) → n ≤ most → digits_onto most n digits ≡ Some m
+    → AreDigits digits × (m ≡ onto n digits) × (m ≤ most)
 unfolding digits_onto
 digits_takes most n m [] below e = (tt, sym (same_Some n m e), omega (arith, same_Some n m e))
 digits_takes most n m (digit ∷ digits) below e =
@@ -103,7 +104,8 @@ short_below n digits is short =
 -- at most 18 digits are read as the number that they spell
 short_reads : (n : ℕ) (digits : List ℕ) → IsNumber digits n → length digits ≤ 18 → short_at digits ≡ Some n
 unfolding short_at
-short_reads n digits is short = rw (le-ltb 18 (length digits) short) (number_reads 999999999999999999 n digits is (short_below n digits is short))
+short_reads n digits is short = rw (le-ltb 18 (length digits) short)
+    (number_reads 999999999999999999 n digits is (short_below n digits is short))
 
 -- what is read so is at most 18 digits
 short_takes : (n : ℕ) (digits : List ℕ) → short_at digits ≡ Some n → IsNumber digits n × (length digits ≤ 18)

@@ -9,9 +9,12 @@ use Rattle.sv_replay.specs.Text.{line_size, first_end}
 -- by the place of the first new line
 found_is : (text : List ℕ) (len : ℕ) → first_end text ≡ Some len → (line_size text ≡ len) × (len < length text)
 found_is text len e = elim (cases_lt (line_size text) (length text)) [
-  | inl less ↦ (let same : Some (line_size text) ≡ Some len = sym (ap (λ (b : Bool). cond b (Some (line_size text)) None) (lt-ltb (line_size text) (length text) less)) ∙ e in
+  | inl less ↦ (let same : Some (line_size text) ≡ Some len =
+      sym (ap (λ (b : Bool). cond b (Some (line_size text)) None) (lt-ltb (line_size text) (length text) less)) ∙ e in
       let is : line_size text ≡ len = ap (λ (o : Option ℕ). unwrap_or o 0) same in (is, omega arith))
-  | inr more ↦ absurd (let z : None ≡ Some len = sym (ap (λ (b : Bool). cond b (Some (line_size text)) None) (le-ltb (line_size text) (length text) more)) ∙ e in cc)
+  | inr more ↦
+      absurd (let z : None ≡ Some len =
+      sym (ap (λ (b : Bool). cond b (Some (line_size text)) None) (le-ltb (line_size text) (length text) more)) ∙ e in cc)
 ]
 
 pub parts_found : (text : List ℕ) (len : ℕ) → first_end text ≡ Some len → parts text ≡ take len text ∷ parts (drop (len + 1) text)
@@ -24,7 +27,8 @@ found_within text len e = let (is, less) = found_is text len e in less
 
 pub parts_none : (text : List ℕ) → first_end text ≡ None → parts text ≡ text ∷ []
 parts_none text e = elim (cases_lt (line_size text) (length text)) [
-  | inl less ↦ absurd (let z : Some (line_size text) ≡ None = sym (ap (λ (b : Bool). cond b (Some (line_size text)) None) (lt-ltb (line_size text) (length text) less)) ∙ e in cc)
+  | inl less ↦ absurd (let z : Some (line_size text) ≡ None =
+      sym (ap (λ (b : Bool). cond b (Some (line_size text)) None) (lt-ltb (line_size text) (length text) less)) ∙ e in cc)
   | inr more ↦ part_last 10 (line_size text) text refl more
 ]
 
@@ -49,7 +53,8 @@ glued (part ∷ []) [] = part ∷ []
 glued (part ∷ []) (first ∷ more) = (part ++ first) ∷ more
 glued (part ∷ other ∷ parts) more = part ∷ glued (other ∷ parts) more
 
-onto_glued : (b : ℕ) (first : List ℕ) (others more : List (List ℕ)) → onto b (glued (first ∷ others) more) ≡ glued ((b ∷ first) ∷ others) more
+onto_glued : (b : ℕ) (first : List ℕ) (others more : List (List ℕ))
+    → onto b (glued (first ∷ others) more) ≡ glued ((b ∷ first) ∷ others) more
 onto_glued b first [] [] = refl
 onto_glued b first [] (part ∷ more) = refl
 onto_glued b first (other ∷ others) more = refl
@@ -58,21 +63,29 @@ parts-append : (text more : List ℕ) → parts (text ++ more) ≡ glued (parts 
 parts-append [] more = let (first, others, e) = parts_some more in e ∙ ap (glued ([] ∷ [])) (sym e)
 parts-append (b ∷ text) more = here (b == 10) (parts_some text) (parts-append text more)
   where
-    here : (test : Bool) → (first : List ℕ) × (others : List (List ℕ)) × (parts text ≡ first ∷ others) → parts (text ++ more) ≡ glued (parts text) (parts more)
-        → cond test ([] ∷ parts (text ++ more)) (onto b (parts (text ++ more))) ≡ glued (cond test ([] ∷ parts text) (onto b (parts text))) (parts more)
+    here : (test : Bool) → (first : List ℕ) × (others : List (List ℕ)) × (parts text ≡ first ∷ others)
+        → parts (text ++ more) ≡ glued (parts text) (parts more)
+        → cond test ([] ∷ parts (text ++ more)) (onto b (parts (text ++ more)))
+        ≡ glued (cond test ([] ∷ parts text) (onto b (parts text))) (parts more)
     here true (first, others, e) rest =
-        ap (λ (ps : List (List ℕ)). [] ∷ ps) rest ∙ ap (λ (ps : List (List ℕ)). [] ∷ glued ps (parts more)) e ∙ sym (ap (λ (ps : List (List ℕ)). glued ([] ∷ ps) (parts more)) e)
+        ap (λ (ps : List (List ℕ)). [] ∷ ps) rest ∙ ap (λ (ps : List (List ℕ)). [] ∷ glued ps (parts more)) e
+        ∙ sym (ap (λ (ps : List (List ℕ)). glued ([] ∷ ps) (parts more)) e)
     here false (first, others, e) rest =
-        ap (onto b) rest ∙ ap (λ (ps : List (List ℕ)). onto b (glued ps (parts more))) e ∙ onto_glued b first others (parts more) ∙ sym (ap (λ (ps : List (List ℕ)). glued (onto b ps) (parts more)) e)
+        ap (onto b) rest ∙ ap (λ (ps : List (List ℕ)). onto b (glued ps (parts more))) e ∙ onto_glued b first others (parts more)
+        ∙ sym (ap (λ (ps : List (List ℕ)). glued (onto b ps) (parts more)) e)
 
-glued_behind : (lines : List (List ℕ)) (first : List ℕ) (others more : List (List ℕ)) → glued (lines ++ first ∷ others) more ≡ lines ++ glued (first ∷ others) more
+glued_behind : (lines : List (List ℕ)) (first : List ℕ) (others more : List (List ℕ))
+    → glued (lines ++ first ∷ others) more ≡ lines ++ glued (first ∷ others) more
 glued_behind [] first others more = refl
 glued_behind (line ∷ []) first others more = refl
-glued_behind (line ∷ other ∷ lines) first others more = ap (λ (ps : List (List ℕ)). line ∷ ps) (glued_behind (other ∷ lines) first others more)
+glued_behind (line ∷ other ∷ lines) first others more =
+    ap (λ (ps : List (List ℕ)). line ∷ ps) (glued_behind (other ∷ lines) first others more)
 
 -- more text behind lines that are done
-pub parts_more : (read left more : List ℕ) (lines : List (List ℕ)) → parts read ≡ lines ++ parts left → parts (read ++ more) ≡ lines ++ parts (left ++ more)
+pub parts_more : (read left more : List ℕ) (lines : List (List ℕ)) → parts read ≡ lines ++ parts left
+    → parts (read ++ more) ≡ lines ++ parts (left ++ more)
 parts_more read left more lines e =
     let (first, others, some) = parts_some left in
-    parts-append read more ∙ ap (λ (ps : List (List ℕ)). glued ps (parts more)) (e ∙ ap (λ (ps : List (List ℕ)). lines ++ ps) some) ∙ glued_behind lines first others (parts more)
+    parts-append read more ∙ ap (λ (ps : List (List ℕ)). glued ps (parts more)) (e ∙ ap (λ (ps : List (List ℕ)). lines ++ ps) some)
+    ∙ glued_behind lines first others (parts more)
     ∙ ap (λ (ps : List (List ℕ)). lines ++ ps) (sym (parts-append left more ∙ ap (λ (ps : List (List ℕ)). glued ps (parts more)) some))

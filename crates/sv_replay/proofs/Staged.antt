@@ -1,6 +1,6 @@
 -- A run goes from stage to stage.
 use Rattle.std.proofs.Common.{◌≡◌, ℕ, ◌+◌, ◌<◌, ◌≤◌, List, [], ◌∷◌, ◌++◌, length, Option, None, inl, inr, refl, sym, ap, ◌∙◌, append_assoc, append-nil, arith}
-use Rattle.std.specs.Prelude.{Result, Ok, Err, ⊤, IsErr, IsErrAnd}
+use Rattle.std.specs.Prelude.{Result, Ok, Err, ⊤, IsErr, IsErrAnd, OnOk}
 use Rattle.sv_server.specs.declared.replay.ReplayFault.{ReplayFault}
 use Rattle.sv_server.specs.declared.replay.ReplayFault.TheVariants.{NoMemory, Write}
 use Rattle.sv_replay.specs.Line.{Line, Says}
@@ -23,12 +23,15 @@ stage_start server s = ([], [], [], refl, refl, refl, (refl, refl), s)
 
 -- what a line does, for each history
 abbrev pub LineDone : State → State → List ℕ → ℕ → Result ⊤ RunFault → Option (List ℕ) → Option (List ℕ) → Type 0
-LineDone old new line number result first last = (history : List Happening) → StandsFor old set_up history → (text : List ℕ) × (after : List Happening) × LineRuns line number history result text after
+LineDone old new line number result first last = (history : List Happening) → StandsFor old set_up history
+    → (text : List ℕ) × (after : List Happening) × LineRuns line number history result text after
     × StandsFor new set_up after × Appends first last text
 
 -- a line was done
-pub stage_line : (old new : State) (left rest line : List ℕ) (number next : ℕ) (read text : List ℕ) (first last : Option (List ℕ)) → parts left ≡ line ∷ parts rest → next ≡ number + 1
-    → IsStage old left number read text → LineDone old new line next (Ok tt) first last → (other : List ℕ) × Appends first last other × IsStage new rest next read (text ++ other)
+pub stage_line : (old new : State) (left rest line : List ℕ) (number next : ℕ) (read text : List ℕ) (first last : Option (List ℕ))
+    → parts left ≡ line ∷ parts rest → next ≡ number + 1
+    → IsStage old left number read text → LineDone old new line next (Ok tt) first last
+    → (other : List ℕ) × Appends first last other × IsStage new rest next read (text ++ other)
 stage_line old new left rest line number next read text first last cut up (lines, events, history, is, count, script, prints, stands) does =
     let (other, after, (said, short, says, more), now, put) = does history stands in (
       other,
@@ -46,8 +49,10 @@ stage_line old new left rest line number next read text first last cut up (lines
     )
 
 -- the last line was done
-pub stage_last : (old new : State) (left line : List ℕ) (number next : ℕ) (read text : List ℕ) (tail first last : Option (List ℕ)) → parts left ≡ line ∷ []
-    → IsStage old left number read text → LineDone old new line next (Ok tt) first last → (other : List ℕ) × Appends first last other × Runs read tail (Ok tt) (text ++ other)
+pub stage_last : (old new : State) (left line : List ℕ) (number next : ℕ) (read text : List ℕ) (tail first last : Option (List ℕ))
+    → parts left ≡ line ∷ []
+    → IsStage old left number read text → LineDone old new line next (Ok tt) first last
+    → (other : List ℕ) × Appends first last other × Runs read tail (Ok tt) (text ++ other)
 stage_last old new left line number next read text tail first last cut (lines, events, history, is, count, script, prints, stands) does =
     let (other, after, (said, short, says, more), now, put) = does history stands in (
       other,
@@ -61,9 +66,20 @@ stage_last old new left line number next read text tail first last cut (lines, e
     )
 
 -- a line stopped the run
-pub stage_stop : (old new : State) (left line : List ℕ) (behind : List (List ℕ)) (number next : ℕ) (fault : RunFault) (read text : List ℕ) (tail first last : Option (List ℕ)) → parts left ≡ line ∷ behind
-    → next ≡ number + 1 → IsWhole behind tail → IsStage old left number read text → LineDone old new line next (Err fault) first last → (other : List ℕ) × Appends first last other × Runs read tail (Err fault) (text ++ other)
-stage_stop old new left line behind number next (BadLine n) read text tail first last cut up whole (lines, events, history, is, count, script, prints, stands) does =
+pub stage_stop : (old new : State) (left line : List ℕ) (behind : List (List ℕ)) (number next : ℕ) (fault : RunFault) (read text : List ℕ)
+    (tail first last : Option (List ℕ)) → parts left ≡ line ∷ behind
+    → next ≡ number + 1 → IsWhole behind tail → IsStage old left number read text → LineDone old new line next (Err fault) first last
+    → (other : List ℕ) × Appends first last other × Runs read tail (Err fault) (text ++ other)
+stage_stop old new left line behind number next (BadLine n) read text tail first last cut up whole (
+  lines,
+  events,
+  history,
+  is,
+  count,
+  script,
+  prints,
+  stands,
+) does =
     let (other, after, (at, bad, none), now, put) = does history stands in (
       other,
       put,
@@ -78,9 +94,27 @@ stage_stop old new left line behind number next (BadLine n) read text tail first
         (events, history, script, rw (none, append-nil text) prints),
       ),
     )
-stage_stop old new left line behind number next Input read text tail first last cut up whole (lines, events, history, is, count, script, prints, stands) does =
+stage_stop old new left line behind number next Input read text tail first last cut up whole (
+  lines,
+  events,
+  history,
+  is,
+  count,
+  script,
+  prints,
+  stands,
+) does =
     let (other, after, impossible, now, put) = does history stands in elim impossible [ ]
-stage_stop old new left line behind number next Output read text tail first last cut up whole (lines, events, history, is, count, script, prints, stands) does =
+stage_stop old new left line behind number next Output read text tail first last cut up whole (
+  lines,
+  events,
+  history,
+  is,
+  count,
+  script,
+  prints,
+  stands,
+) does =
     let (other, after, (said, short, says, stops), now, put) = does history stands in (
       other,
       put,
@@ -89,10 +123,27 @@ stage_stop old new left line behind number next Output read text tail first last
         behind,
         is ∙ ap (λ (ps : List (List ℕ)). lines ++ ps) cut ∙ sym (append_assoc lines (line ∷ []) behind),
         whole,
-        inr (events ++ events_of said, after, script_push lines events line said script short says, stops_then set_up [] events (events_of said) _ text other history after prints stops),
+        inr (
+          Write,
+          (
+            events ++ events_of said,
+            after,
+            script_push lines events line said script short says,
+            stops_then set_up [] events (events_of said) _ text other history after prints stops,
+          ),
+        ),
       ),
     )
-stage_stop old new left line behind number next Memory read text tail first last cut up whole (lines, events, history, is, count, script, prints, stands) does =
+stage_stop old new left line behind number next Memory read text tail first last cut up whole (
+  lines,
+  events,
+  history,
+  is,
+  count,
+  script,
+  prints,
+  stands,
+) does =
     let (other, after, (said, short, says, stops), now, put) = does history stands in (
       other,
       put,
@@ -101,36 +152,65 @@ stage_stop old new left line behind number next Memory read text tail first last
         behind,
         is ∙ ap (λ (ps : List (List ℕ)). lines ++ ps) cut ∙ sym (append_assoc lines (line ∷ []) behind),
         whole,
-        (events ++ events_of said, after, script_push lines events line said script short says, stops_then set_up [] events (events_of said) _ text other history after prints stops),
+        (
+          events ++ events_of said,
+          after,
+          script_push lines events line said script short says,
+          stops_then set_up [] events (events_of said) _ text other history after prints stops,
+        ),
       ),
     )
 
 -- more was read
-pub stage_read : (server : State) (left : List ℕ) (number : ℕ) (read text more : List ℕ) → IsStage server left number read text → IsStage server (left ++ more) number (read ++ more) text
-stage_read server left number read text more (lines, events, history, is, count, script, prints, stands) = (lines, events, history, parts_more read left more lines is, count, script, prints, stands)
+pub stage_read : (server : State) (left : List ℕ) (number : ℕ) (read text more : List ℕ) → IsStage server left number read text
+    → IsStage server (left ++ more) number (read ++ more) text
+stage_read server left number read text more (lines, events, history, is, count, script, prints, stands) =
+    (lines, events, history, parts_more read left more lines is, count, script, prints, stands)
 
 -- a line that is too long
-pub stage_long : (server : State) (left : List ℕ) (number next : ℕ) (read text : List ℕ) (tail : Option (List ℕ)) → first_end left ≡ None → 65536 < length left → next ≡ number + 1 → IsStage server left number read text
+pub stage_long : (server : State) (left : List ℕ) (number next : ℕ) (read text : List ℕ) (tail : Option (List ℕ)) → first_end left ≡ None
+    → 65536 < length left → next ≡ number + 1 → IsStage server left number read text
     → Runs read tail (Err (BadLine next)) text
-stage_long server left number next read text tail none long up (lines, events, history, is, count, script, prints, stands) =
-    (lines, [], left, is ∙ ap (λ (ps : List (List ℕ)). lines ++ ps) (parts_none left none), up ∙ ap (λ (m : ℕ). m + 1) count, inl long, inr long, (events, history, script, prints))
+stage_long server left number next read text tail none long up (lines, events, history, is, count, script, prints, stands) = (
+  lines,
+  [],
+  left,
+  is ∙ ap (λ (ps : List (List ℕ)). lines ++ ps) (parts_none left none),
+  up ∙ ap (λ (m : ℕ). m + 1) count,
+  inl long,
+  inr long,
+  (events, history, script, prints),
+)
 
 -- the writer failed
-pub stage_output : (server : State) (left : List ℕ) (number : ℕ) (read text : List ℕ) (tail : Option (List ℕ)) → IsStage server left number read text → Runs read tail (Err Output) text
-stage_output server left number read text tail (lines, events, history, is, count, script, prints, stands) = (lines, parts left, is, inl (parts_never left), inl (events, history, script, prints))
+pub stage_output : (server : State) (left : List ℕ) (number : ℕ) (read text : List ℕ) (tail : Option (List ℕ))
+    → IsStage server left number read text → Runs read tail (Err Output) text
+stage_output server left number read text tail (lines, events, history, is, count, script, prints, stands) =
+    (lines, parts left, is, inl (parts_never left), inl (events, history, script, prints))
 
--- and behind the last line
-pub all_output : (read text : List ℕ) (tail : Option (List ℕ)) → IsAtEnd tail → Runs read tail (Ok tt) text → Runs read tail (Err Output) text
-all_output read text tail end printed = (parts read, [], sym (append-nil (parts read)), inr end, inl printed)
+-- and behind an answer
+pub output_instead : (read text : List ℕ) (tail : Option (List ℕ)) (answer : Result ⊤ RunFault) → OnOk answer (IsAtEnd tail)
+    → Runs read tail answer text → Runs read tail (Err Output) text
+output_instead read text tail (Ok all) end printed = (parts read, [], sym (append-nil (parts read)), inr end, inl printed)
+output_instead read text tail (Err (BadLine n)) end (lines, behind, line, is, count, bad, whole, printed) =
+    (lines, line ∷ behind, is, inl (λ none. absurd cc), inl printed)
+output_instead read text tail (Err Input) end (lines, last, is, printed) = (lines, last ∷ [], is, inl (λ none. absurd cc), inl printed)
+output_instead read text tail (Err Output) end runs = runs
+output_instead read text tail (Err Memory) end (inl (nothing, unsaid)) =
+    ([], parts read, refl, inl (parts_never read), inl ([], [], refl, (unsaid, refl)))
+output_instead read text tail (Err Memory) end (inr (lines, behind, is, whole, stops)) = (lines, behind, is, whole, inr (NoMemory, stops))
 
 -- the reader failed
-pub stage_input : (server : State) (left : List ℕ) (number : ℕ) (read text : List ℕ) (tail : Option (List ℕ)) → first_end left ≡ None → IsStage server left number read text → Runs read tail (Err Input) text
+pub stage_input : (server : State) (left : List ℕ) (number : ℕ) (read text : List ℕ) (tail : Option (List ℕ)) → first_end left ≡ None
+    → IsStage server left number read text → Runs read tail (Err Input) text
 stage_input server left number read text tail none (lines, events, history, is, count, script, prints, stands) =
     (lines, left, is ∙ ap (λ (ps : List (List ℕ)). lines ++ ps) (parts_none left none), (events, history, script, prints))
 
 -- a replay's fault is told as the run's
-pub line_stops : (line : List ℕ) (number : ℕ) (history : List Happening) (said : Line) (fault : ReplayFault) (result : Result ⊤ RunFault) (text : List ℕ) (after : List Happening) → length line ≤ 65536
-    → Says line said → IsErr result → IsErrAnd result (λ e. e ≡ run_fault fault) → Stops set_up history (events_of said) fault text after → LineRuns line number history result text after
+pub line_stops : (line : List ℕ) (number : ℕ) (history : List Happening) (said : Line) (fault : ReplayFault) (result : Result ⊤ RunFault)
+    (text : List ℕ) (after : List Happening) → length line ≤ 65536
+    → Says line said → IsErr result → IsErrAnd result (λ e. e ≡ run_fault fault) → Stops set_up history (events_of said) fault text after
+    → LineRuns line number history result text after
 line_stops line number history said fault (Ok all) text after short says failed is stops = absurd cc
 line_stops line number history said NoMemory (Err e) text after short says failed is stops = rw is (said, short, says, stops)
 line_stops line number history said Write (Err e) text after short says failed is stops = rw is (said, short, says, stops)

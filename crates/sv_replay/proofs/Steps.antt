@@ -21,7 +21,8 @@ no_number most (digit ∷ digits) none = absurd (omega arith)
 
 -- what the digits from one on give
 digits_more : (most n : ℕ) (digits : List ℕ) (k : ℕ) → k < length digits → digits_onto most n (drop k digits)
-    ≡ cond (is_ascii_digit (get_or digits k 0)) (cond (ltb most (10 * n + (get_or digits k 0 - 48))) None (digits_onto most (10 * n + (get_or digits k 0 - 48)) (drop (k + 1) digits))) None
+    ≡ cond (is_ascii_digit (get_or digits k 0)) (cond (ltb most (10 * n + (get_or digits k 0 - 48))) None
+    (digits_onto most (10 * n + (get_or digits k 0 - 48)) (drop (k + 1) digits))) None
 unfolding digits_onto
 digits_more most n digits k within = at_drop_more (digits_onto most n) digits k 0 within
 
@@ -31,17 +32,28 @@ unfolding digits_onto
 digits_end most n digits k past = at_drop_all (digits_onto most n) digits k past
 
 -- another byte gives no number
-pub digits_bad : (most n : ℕ) (digits : List ℕ) (k : ℕ) → k < length digits → is_ascii_digit (get_or digits k 0) ≡ false → digits_onto most n (drop k digits) ≡ None
+pub digits_bad : (most n : ℕ) (digits : List ℕ) (k : ℕ) → k < length digits → is_ascii_digit (get_or digits k 0) ≡ false
+    → digits_onto most n (drop k digits) ≡ None
 digits_bad most n digits k within other = rw (digits_more most n digits k within, other) refl
 
 -- a number that is too large is none
-pub digits_above : (most n : ℕ) (digits : List ℕ) (k : ℕ) → k < length digits → is_ascii_digit (get_or digits k 0) ≡ true → most < 10 * n + (get_or digits k 0 - 48) → digits_onto most n (drop k digits) ≡ None
-digits_above most n digits k within is above = rw (digits_more most n digits k within, is, lt-ltb most (10 * n + (get_or digits k 0 - 48)) above) refl
+pub digits_above : (most n : ℕ) (digits : List ℕ) (k : ℕ) → k < length digits → is_ascii_digit (get_or digits k 0) ≡ true
+    → most < 10 * n + (get_or digits k 0 - 48) → digits_onto most n (drop k digits) ≡ None
+digits_above most n digits k within is above = rw (
+  digits_more most n digits k within,
+  is,
+  lt-ltb most (10 * n + (get_or digits k 0 - 48)) above,
+) refl
 
 -- a digit is put behind the number
-pub digits_next : (most n : ℕ) (digits : List ℕ) (k : ℕ) → k < length digits → is_ascii_digit (get_or digits k 0) ≡ true → 10 * n + (get_or digits k 0 - 48) ≤ most
+pub digits_next : (most n : ℕ) (digits : List ℕ) (k : ℕ) → k < length digits → is_ascii_digit (get_or digits k 0) ≡ true
+    → 10 * n + (get_or digits k 0 - 48) ≤ most
     → digits_onto most n (drop k digits) ≡ digits_onto most (10 * n + (get_or digits k 0 - 48)) (drop (k + 1) digits)
-digits_next most n digits k within is below = rw (digits_more most n digits k within, is, le-ltb most (10 * n + (get_or digits k 0 - 48)) below) refl
+digits_next most n digits k within is below = rw (
+  digits_more most n digits k within,
+  is,
+  le-ltb most (10 * n + (get_or digits k 0 - 48)) below,
+) refl
 
 -- a text of fewer than two bytes is no byte
 pub hex_short : (rest : List ℕ) → length rest < 2 → hex_at rest ≡ None
@@ -63,7 +75,8 @@ after_two : (rest : List ℕ) → take (length rest - 2) (drop 2 rest) ≡ drop 
 after_two rest = take_all (length rest - 2) (drop 2 rest) (omega (arith, length-drop 2 rest))
 
 -- the last byte, where nothing follows it
-pub hex_last : (rest : List ℕ) (byte : ℕ) → 2 ≤ length rest → true ≡ eqb (length (take (length rest - 2) (drop 2 rest))) 0 → Some byte ≡ pair_at (get_or rest 0 0) (get_or rest 1 0)
+pub hex_last : (rest : List ℕ) (byte : ℕ) → 2 ≤ length rest → true ≡ eqb (length (take (length rest - 2) (drop 2 rest))) 0
+    → Some byte ≡ pair_at (get_or rest 0 0) (get_or rest 1 0)
     → hex_at rest ≡ Some (byte ∷ [])
 unfolding hex_at
 hex_last [] byte long none pair = absurd (omega arith)
@@ -73,24 +86,30 @@ hex_last (high ∷ low ∷ next ∷ rest) byte long none pair =
     absurd (omega (arith, eqb-true (length (next ∷ rest)) 0 (sym (rw (after_two (high ∷ low ∷ next ∷ rest)) at none))))
 
 -- a byte with more behind it
-pub hex_next : (rest after : List ℕ) (byte : ℕ) → 2 ≤ length rest → false ≡ eqb (length (take (length rest - 2) (drop 2 rest))) 0 → Some byte ≡ pair_at (get_or rest 0 0) (get_or rest 1 0)
+pub hex_next : (rest after : List ℕ) (byte : ℕ) → 2 ≤ length rest → false ≡ eqb (length (take (length rest - 2) (drop 2 rest))) 0
+    → Some byte ≡ pair_at (get_or rest 0 0) (get_or rest 1 0)
     → after ≡ after_space (take (length rest - 2) (drop 2 rest)) → hex_at rest ≡ option_map (λ bytes. byte ∷ bytes) (hex_at after)
 unfolding hex_at
 hex_next [] after byte long some pair behind = absurd (omega arith)
 hex_next (high ∷ []) after byte long some pair behind = absurd (omega arith)
 hex_next (high ∷ low ∷ []) after byte long some pair behind = absurd cc
 hex_next (high ∷ low ∷ next ∷ rest) after byte long some pair behind =
-    rw (← pair, behind, after_two (high ∷ low ∷ next ∷ rest)) (elim (eqb next 32) as (λ t. option_map (λ bytes. byte ∷ bytes) (cond t (hex_at rest) (hex_at (next ∷ rest))) ≡ option_map (λ bytes. byte ∷ bytes) (hex_at (cond t rest (next ∷ rest)))) [ true ↦ refl | false ↦ refl ])
+    rw (← pair, behind, after_two (high ∷ low ∷ next ∷ rest))
+    (elim (eqb next 32) as (λ t. option_map (λ bytes. byte ∷ bytes) (cond t (hex_at rest) (hex_at (next ∷ rest)))
+    ≡ option_map (λ bytes. byte ∷ bytes) (hex_at (cond t rest (next ∷ rest)))) [ true ↦ refl | false ↦ refl ])
 
 -- what is left of the text gets shorter
-pub after_shorter : (rest after : List ℕ) → 2 ≤ length rest → length after ≤ length (take (length rest - 2) (drop 2 rest)) → length after + 2 ≤ length rest
+pub after_shorter : (rest after : List ℕ) → 2 ≤ length rest → length after ≤ length (take (length rest - 2) (drop 2 rest))
+    → length after + 2 ≤ length rest
 after_shorter rest after long below = omega (arith, rw (after_two rest) at below, length-drop 2 rest)
 
 -- what was decoded, with one byte more
 pub decoded_more : (buffer : List ℕ) (len byte : ℕ) (read : Option (List ℕ)) → len < length buffer
-    → option_map (λ bytes. take (len + 1) (set buffer len byte) ++ bytes) read ≡ option_map (λ bytes. take len buffer ++ bytes) (option_map (λ bytes. byte ∷ bytes) read)
+    → option_map (λ bytes. take (len + 1) (set buffer len byte) ++ bytes) read
+    ≡ option_map (λ bytes. take len buffer ++ bytes) (option_map (λ bytes. byte ∷ bytes) read)
 decoded_more buffer len byte None room = refl
-decoded_more buffer len byte (Some bytes) room = ap Some (rw (take_more_set buffer len byte room) (append_assoc (take len buffer) (byte ∷ []) bytes))
+decoded_more buffer len byte (Some bytes) room = ap Some
+    (rw (take_more_set buffer len byte room) (append_assoc (take len buffer) (byte ∷ []) bytes))
 
 -- where the first space is, or the length
 abbrev pub space_place : List ℕ → ℕ
@@ -106,27 +125,41 @@ cut_none (byte ∷ bytes) past = elim (cases_Bool (eqb byte 32)) [
 ]
 
 -- a text is cut at its first space
-pub cut_some : (text : List ℕ) → space_place text < length text → cut_at text ≡ Some (take (space_place text) text, drop (space_place text + 1) text)
+pub cut_some : (text : List ℕ) → space_place text < length text
+    → cut_at text ≡ Some (take (space_place text) text, drop (space_place text + 1) text)
 unfolding cut_at
 cut_some [] within = absurd (omega arith)
 cut_some (byte ∷ bytes) within = elim (cases_Bool (eqb byte 32)) [
   | inl is ↦ rw is refl
   | inr other ↦
       let one : 1 + space_place bytes ≡ suc (space_place bytes) = omega arith in
-      rw (other, cut_some bytes (omega (arith, rw other at within)), one, add-one (space_place bytes), add-one (suc (space_place bytes))) refl
+      rw (
+        other,
+        cut_some bytes (omega (arith, rw other at within)),
+        one,
+        add-one (space_place bytes),
+        add-one (suc (space_place bytes)),
+      ) refl
 ]
 
 -- what it says that no place was found
 pub place_past : (place size : ℕ) → ◌≡◌ {A = Option ℕ} None (cond (ltb place size) (Some place) None) → size ≤ place
-place_past place size e = elim (cases_Bool (ltb place size)) [ inl is ↦ absurd (none-some place (rw is at e)) | inr other ↦ ltb-false place size other ]
+place_past place size e = elim (cases_Bool (ltb place size)) [
+  | inl is ↦ absurd (none-some place (rw is at e))
+  | inr other ↦
+      ltb-false place size other
+]
 
 -- what it says that a place was found
-pub place_within : (at place size : ℕ) → ◌≡◌ {A = Option ℕ} (Some at) (cond (ltb place size) (Some place) None) → (place < size) × (at ≡ place)
+pub place_within : (at place size : ℕ) → ◌≡◌ {A = Option ℕ} (Some at) (cond (ltb place size) (Some place) None)
+    → (place < size) × (at ≡ place)
 place_within at place size e = elim (cases_Bool (ltb place size)) [
   | inl is ↦ (ltb-true place size is, same_Some at place (rw is at e))
   | inr other ↦ absurd (none-some at (sym (rw other at e)))
 ]
 
 -- a text that is cut at a place, as slices of it have it
-pub cut_at_place : (text : List ℕ) (at : ℕ) → (space_place text < length text) × (at ≡ space_place text) → Some (take at text, take (length text - (at + 1)) (drop (at + 1) text)) ≡ cut_at text
-cut_at_place text at found = rw (take_all (length text - (at + 1)) (drop (at + 1) text) (omega (arith, length-drop (at + 1) text)), found.1) (sym (cut_some text found.0))
+pub cut_at_place : (text : List ℕ) (at : ℕ) → (space_place text < length text) × (at ≡ space_place text)
+    → Some (take at text, take (length text - (at + 1)) (drop (at + 1) text)) ≡ cut_at text
+cut_at_place text at found = rw (take_all (length text - (at + 1)) (drop (at + 1) text) (omega (arith, length-drop (at + 1) text)), found.1)
+    (sym (cut_some text found.0))

@@ -1,6 +1,6 @@
 -- Where the first new line of a text stands, and what a change of the fields makes of the text.
 use Rattle.std.proofs.Common.{◌≡◌, ℕ, zero, suc, ◌+◌, ◌-◌, ◌<◌, ◌≤◌, ◌==◌, max, Bool, true, false, not, cond, List, [], ◌∷◌, ◌++◌, length, take, drop, slice_range, Some, None, refl, sym, ap, ◌∙◌, arith}
-use Rattle.std.proofs.lemmas.Bool.{lt-ltb, le-ltb}
+use Rattle.std.proofs.lemmas.Bool.{false_from_ne_true, not_from_false, lt-ltb, le-ltb}
 use Rattle.std.proofs.lemmas.List.{length-drop, length-take-le, drop-take, drop-drop, take_at}
 use Rattle.std.proofs.lemmas.List.Sums.{prefix_len_is}
 use Rattle.std.proofs.Math.Seq.{take-add}
@@ -12,7 +12,8 @@ pub line_with : (text more : List ℕ) → line_size text ≤ line_size (text ++
 line_with [] more = omega arith
 line_with (b ∷ text) more = at (b == 10) (line_with text more)
   where
-    at : (t : Bool) → line_size text ≤ line_size (text ++ more) → cond (not t) (1 + line_size text) 0 ≤ cond (not t) (1 + line_size (text ++ more)) 0
+    at : (t : Bool) → line_size text ≤ line_size (text ++ more)
+        → cond (not t) (1 + line_size text) 0 ≤ cond (not t) (1 + line_size (text ++ more)) 0
     at true h = omega arith
     at false h = omega arith
 
@@ -37,20 +38,18 @@ line_clean (suc n) (b ∷ text) h = at (b == 10) (line_clean n text) h
     at true f h = omega arith
     at false f h = omega (arith, f (omega arith))
 
-not_true : (b : Bool) → (b ≡ true → ⊥) → not b ≡ true
-not_true true h = absurd (h refl)
-not_true false h = refl
-
 -- a search that found a new line found the end of the first line
 pub line_found : (text : List ℕ) (k : ℕ) → IsFirstByte (is_byte 10) text (Some k) → (line_size text ≡ k) × (k < length text)
 line_found text k h = (
-  prefix_len_is (λ b. not (b == 10)) text k 0 (omega (arith, h.0.high)) (λ j lt. not_true _ (h.0.before j (omega arith) lt)) (λ _. ap not h.1),
+  prefix_len_is (λ b. not (b == 10)) text k 0 (omega (arith, h.0.high)) (λ j lt. not_from_false _ (false_from_ne_true _ (h.0.before j (omega arith) lt)))
+      (λ _. ap not h.1),
   h.0.high,
 )
 
 -- a search that found none
 pub line_open : (text : List ℕ) → IsFirstByte (is_byte 10) text None → line_size text ≡ length text
-line_open text h = prefix_len_is (λ b. not (b == 10)) text (length text) 0 (omega arith) (λ j lt. not_true _ (h j (omega arith) lt)) (λ lt. absurd (omega arith))
+line_open text h = prefix_len_is (λ b. not (b == 10)) text (length text) 0 (omega arith) (λ j lt. not_from_false _ (false_from_ne_true _ (h j (omega arith) lt)))
+    (λ lt. absurd (omega arith))
 
 -- where the first line ends
 pub end_found : (text : List ℕ) (k : ℕ) → line_size text ≡ k → k < length text → Some k ≡ first_end text
@@ -64,7 +63,8 @@ pub text_size : (buffer : List ℕ) (start end : ℕ) → end ≤ length buffer 
 text_size buffer start end within = length-take-le (end - start) (drop start buffer) (omega (arith, length-drop start buffer))
 
 -- the text without its first bytes
-pub text_behind : (buffer : List ℕ) (start next end : ℕ) → start ≤ next → next ≤ end → slice_range buffer next end ≡ drop (next - start) (slice_range buffer start end)
+pub text_behind : (buffer : List ℕ) (start next end : ℕ) → start ≤ next → next ≤ end
+    → slice_range buffer next end ≡ drop (next - start) (slice_range buffer start end)
 text_behind buffer start next end le within =
     let parts : end - start ≡ (next - start) + (end - next) = omega arith in
     let reached : start + (next - start) ≡ next = omega arith in
@@ -72,7 +72,8 @@ text_behind buffer start next end le within =
     ∙ ap (take (end - next)) (drop-drop (next - start) start buffer) ∙ ap (λ (n : ℕ). take (end - next) (drop n buffer)) reached)
 
 -- The first new line was found behind `clean`.
-pub found_keeps : (buffer : List ℕ) (start clean end reads k : ℕ) → IsKept buffer start clean end reads → IsFirstByte (is_byte 10) (slice_range buffer clean end) (Some k)
+pub found_keeps : (buffer : List ℕ) (start clean end reads k : ℕ) → IsKept buffer start clean end reads
+    → IsFirstByte (is_byte 10) (slice_range buffer clean end) (Some k)
     → IsKept buffer start (clean + k) end reads × (Some (clean + k - start) ≡ first_end (slice_range buffer start end))
 found_keeps buffer start clean end reads k kept found =
     let text = slice_range buffer start end in
@@ -92,7 +93,8 @@ found_keeps buffer start clean end reads k kept found =
     )
 
 -- There is no new line.
-pub open_keeps : (buffer : List ℕ) (start clean end reads : ℕ) → IsKept buffer start clean end reads → IsFirstByte (is_byte 10) (slice_range buffer clean end) None
+pub open_keeps : (buffer : List ℕ) (start clean end reads : ℕ) → IsKept buffer start clean end reads
+    → IsFirstByte (is_byte 10) (slice_range buffer clean end) None
     → IsKept buffer start end end reads × (None ≡ first_end (slice_range buffer start end))
 open_keeps buffer start clean end reads kept none =
     let text = slice_range buffer start end in
@@ -112,13 +114,15 @@ open_keeps buffer start clean end reads kept none =
     )
 
 -- The first bytes were dropped.
-pub dropped_keeps : (buffer : List ℕ) (start clean later end reads n : ℕ) → IsKept buffer start clean end reads → n ≤ length (slice_range buffer start end) → later ≡ max clean (start + n)
+pub dropped_keeps : (buffer : List ℕ) (start clean later end reads n : ℕ) → IsKept buffer start clean end reads
+    → n ≤ length (slice_range buffer start end) → later ≡ max clean (start + n)
     → IsKept buffer (start + n) later end reads × (slice_range buffer (start + n) end ≡ drop n (slice_range buffer start end))
 dropped_keeps buffer start clean later end reads n kept some is =
     let size = text_size buffer start end (omega (arith, kept.order, kept.size)) in
     let count : start + n - start ≡ n = omega arith in
     let rest : slice_range buffer (start + n) end ≡ drop n (slice_range buffer start end) =
-    text_behind buffer start (start + n) end (omega arith) (omega (arith, size, kept.order)) ∙ ap (λ (k : ℕ). drop k (slice_range buffer start end)) count in
+    text_behind buffer start (start + n) end (omega arith) (omega (arith, size, kept.order))
+    ∙ ap (λ (k : ℕ). drop k (slice_range buffer start end)) count in
     let left = line_behind n (slice_range buffer start end) in (
       record {
         order = (omega arith, omega (arith, size, kept.order), kept.order.2);
@@ -135,8 +139,10 @@ pub record IsReady (buffer : List ℕ) (start clean end reads : ℕ) (text : Lis
   pub room : end ≤ 65536
   pub same : slice_range buffer start end ≡ text
 
-pub moved_ready : (buffer moved : List ℕ) (start clean end reads count : ℕ) (text : List ℕ) → IsKept buffer start clean end reads → slice_range buffer start end ≡ text → length text ≤ 65536
-    → length moved ≡ length buffer → count ≤ start → slice_range moved (start - count) (end - count) ≡ slice_range buffer start end → (end - start ≤ 65536 → end - count ≤ 65536)
+pub moved_ready : (buffer moved : List ℕ) (start clean end reads count : ℕ) (text : List ℕ) → IsKept buffer start clean end reads
+    → slice_range buffer start end ≡ text → length text ≤ 65536
+    → length moved ≡ length buffer → count ≤ start → slice_range moved (start - count) (end - count) ≡ slice_range buffer start end
+    → (end - start ≤ 65536 → end - count ≤ 65536)
     → IsReady moved (start - count) (clean - count) (end - count) reads text
 moved_ready buffer moved start clean end reads count text kept is short size within same room =
     let few = text_size buffer start end (omega (arith, kept.order, kept.size)) in
@@ -152,7 +158,8 @@ moved_ready buffer moved start clean end reads count text kept is short size wit
     }
 
 -- The buffer was written behind the text, and so many of the bytes there belong to the text.
-pub filled_keeps : (buffer filled : List ℕ) (start clean end last reads count more : ℕ) (text : List ℕ) → IsReady buffer start clean end reads text → length filled ≡ length buffer
+pub filled_keeps : (buffer filled : List ℕ) (start clean end last reads count more : ℕ) (text : List ℕ)
+    → IsReady buffer start clean end reads text → length filled ≡ length buffer
     → take end filled ≡ take end buffer → count ≤ length (drop end filled) → last ≡ end + count → more ≤ 4294967294
     → IsKept filled start clean last more × (slice_range filled start last ≡ text ++ take count (drop end filled))
 filled_keeps buffer filled start clean end last reads count more text ready size front some is few =
@@ -161,10 +168,12 @@ filled_keeps buffer filled start clean end last reads count more text ready size
     let parts : last - start ≡ m + count = omega (arith, old.order) in
     let reached : start + m ≡ end = omega (arith, old.order) in
     let head : take m (drop start filled) ≡ text =
-    sym (drop-take start m filled) ∙ ap (λ (k : ℕ). drop start (take k filled)) reached ∙ ap (drop start) front ∙ sym (ap (λ (k : ℕ). drop start (take k buffer)) reached) ∙ drop-take start m buffer ∙ ready.same in
+    sym (drop-take start m filled) ∙ ap (λ (k : ℕ). drop start (take k filled)) reached ∙ ap (drop start) front
+    ∙ sym (ap (λ (k : ℕ). drop start (take k buffer)) reached) ∙ drop-take start m buffer ∙ ready.same in
     let tail : drop m (drop start filled) ≡ drop end filled = drop-drop m start filled ∙ ap (λ (k : ℕ). drop k filled) reached in
     let all : slice_range filled start last ≡ text ++ take count (drop end filled) =
-    ap (λ (k : ℕ). take k (drop start filled)) parts ∙ take-add m count (drop start filled) ∙ ap (λ (l : List ℕ). l ++ take count (drop m (drop start filled))) head
+    ap (λ (k : ℕ). take k (drop start filled)) parts ∙ take-add m count (drop start filled)
+    ∙ ap (λ (l : List ℕ). l ++ take count (drop m (drop start filled))) head
     ∙ ap (λ (l : List ℕ). text ++ take count l) tail in
     let longer = line_with text (take count (drop end filled)) in (
       record {
@@ -183,14 +192,20 @@ written len bytes buffer = take len (bytes ++ drop (length bytes) buffer)
 -- The text moved, and then so many bytes came behind it.
 pub read_keeps : (buffer first moved second filled : List ℕ) (len start clean end reads shift count last more : ℕ) (text : List ℕ)
     → IsKept buffer start clean end reads → slice_range buffer start end ≡ text → length text ≤ 65536 → length buffer ≡ len
-    → first ≡ buffer → length moved ≡ length first → shift ≤ start → slice_range moved (start - shift) (end - shift) ≡ slice_range first start end → (end - start ≤ 65536 → end - shift ≤ 65536)
-    → second ≡ written len moved buffer → length filled ≡ length second → take (end - shift) filled ≡ take (end - shift) second → count ≤ length (drop (end - shift) filled)
+    → first ≡ buffer → length moved ≡ length first → shift ≤ start
+    → slice_range moved (start - shift) (end - shift) ≡ slice_range first start end → (end - start ≤ 65536 → end - shift ≤ 65536)
+    → second ≡ written len moved buffer → length filled ≡ length second → take (end - shift) filled ≡ take (end - shift) second
+    → count ≤ length (drop (end - shift) filled)
     → last ≡ end - shift + count → more ≤ 4294967294
     → IsKept (written len filled (written len moved buffer)) (start - shift) (clean - shift) last more
     × (slice_range (written len filled (written len moved buffer)) (start - shift) last ≡ text ++ take count (drop (end - shift) filled))
-read_keeps buffer first moved second filled len start clean end reads shift count last more text kept is short long first_is moved_long within moved_same room second_is filled_long front some last_is few =
+read_keeps buffer first moved second filled len start clean end reads shift count last more text kept is short long first_is moved_long
+    within moved_same room second_is filled_long front some last_is few =
     let moved_len : length moved ≡ len = moved_long ∙ ap length first_is ∙ long in
     let all : second ≡ moved = second_is ∙ take_at moved (drop (length moved) buffer) len moved_len in
-    let made : written len filled (written len moved buffer) ≡ filled = take_at filled (drop (length filled) (written len moved buffer)) len (filled_long ∙ ap length all ∙ moved_len) in
-    let ready = moved_ready buffer moved start clean end reads shift text kept is short (moved_long ∙ ap length first_is) within (moved_same ∙ ap (λ (l : List ℕ). slice_range l start end) first_is) room in
-    rw made (filled_keeps moved filled (start - shift) (clean - shift) (end - shift) last reads count more text ready (filled_long ∙ ap length all) (front ∙ ap (take (end - shift)) all) some last_is few)
+    let made : written len filled (written len moved buffer) ≡ filled =
+    take_at filled (drop (length filled) (written len moved buffer)) len (filled_long ∙ ap length all ∙ moved_len) in
+    let ready = moved_ready buffer moved start clean end reads shift text kept is short (moved_long ∙ ap length first_is) within
+    (moved_same ∙ ap (λ (l : List ℕ). slice_range l start end) first_is) room in
+    rw made (filled_keeps moved filled (start - shift) (clean - shift) (end - shift) last reads count more text ready
+    (filled_long ∙ ap length all) (front ∙ ap (take (end - shift)) all) some last_is few)

@@ -59,7 +59,8 @@ ok_word false = codes "failed"
 -- words are separated by one space
 abbrev pub SaysEvent : List ℕ → Happening → Type 0
 SaysEvent line (Open c role) = (number : List ℕ) × IsPlain 255 number c × (line ≡ codes "open " ++ (number ++ 32 ∷ role_word role))
-SaysEvent line (Bytes c piece) = (number hex : List ℕ) × IsPlain 255 number c × IsHex hex piece × (line ≡ codes "bytes " ++ (number ++ 32 ∷ hex))
+SaysEvent line (Bytes c piece) = (number hex : List ℕ) × IsPlain 255 number c × IsHex hex piece
+    × (line ≡ codes "bytes " ++ (number ++ 32 ∷ hex))
 SaysEvent line (Turn c) = (number : List ℕ) × IsPlain 255 number c × (line ≡ codes "turn " ++ number)
 SaysEvent line (Refuse c) = (number : List ℕ) × IsPlain 255 number c × (line ≡ codes "refuse " ++ number)
 SaysEvent line (Took port count) = ⊥

@@ -30,12 +30,16 @@ PrintedUpTo lines fault text = (events after : List Happening) × IsScript lines
 abbrev pub IsWhole : List (List ℕ) → Option (List ℕ) → Type 0
 IsWhole behind rest = (behind ≢ []) ⊎ IsAtEnd rest
 
--- Of the text that was read this is printed: all that its lines say; at a bad line what those in front of it say; where the input failed what the
--- whole lines say; where the output failed or memory was refused, what some first lines say, the last of them perhaps in part.
+-- Of the text that was read this is printed: all that its lines say; at a bad line what those in front of it say; where the input failed
+-- what the whole lines say; where memory was refused, or the output failed (perhaps behind another fault), what some first lines say, the
+-- last of them perhaps in part.
 abbrev pub Runs : List ℕ → Option (List ℕ) → Result ⊤ RunFault → List ℕ → Type 0
 Runs read rest (Ok all) text = Printed (parts read) text
-Runs read rest (Err (BadLine n)) text = (lines behind : List (List ℕ)) × (line : List ℕ) × (parts read ≡ lines ++ line ∷ behind) × (n ≡ length lines + 1) × IsBad line
+Runs read rest (Err (BadLine n)) text = (lines behind : List (List ℕ)) × (line : List ℕ) × (parts read ≡ lines ++ line ∷ behind)
+    × (n ≡ length lines + 1) × IsBad line
     × (IsWhole behind rest ⊎ (65536 < length line)) × Printed lines text
 Runs read rest (Err Input) text = (lines : List (List ℕ)) × (last : List ℕ) × (parts read ≡ lines ++ last ∷ []) × Printed lines text
-Runs read rest (Err Output) text = (lines behind : List (List ℕ)) × (parts read ≡ lines ++ behind) × IsWhole behind rest × (Printed lines text ⊎ PrintedUpTo lines Write text)
-Runs read rest (Err Memory) text = ((read ≡ []) × (text ≡ [])) ⊎ ((lines behind : List (List ℕ)) × (parts read ≡ lines ++ behind) × IsWhole behind rest × PrintedUpTo lines NoMemory text)
+Runs read rest (Err Output) text = (lines behind : List (List ℕ)) × (parts read ≡ lines ++ behind) × IsWhole behind rest
+    × (Printed lines text ⊎ ((fault : ReplayFault) × PrintedUpTo lines fault text))
+Runs read rest (Err Memory) text = ((read ≡ []) × (text ≡ []))
+    ⊎ ((lines behind : List (List ℕ)) × (parts read ≡ lines ++ behind) × IsWhole behind rest × PrintedUpTo lines NoMemory text)

@@ -38,8 +38,8 @@ fn skip_space(text: &[u8]) -> &[u8]
     }
 }
 
-/// Puts the bytes that the text spells into the front of `buffer`, and says how many they are. There
-/// may be a space between two bytes.
+/// Puts the bytes that the text spells into the front of `buffer`, and says how many they are.
+/// There may be a space between two bytes.
 pub(crate) fn decode(text: &[u8], buffer: &mut [u8]) -> Option<usize>
     requires { length text.now ≤ length buffer.old }
     ensures exact { option_map (λ len. take len buffer.new) result ≡ hex_at text.now }

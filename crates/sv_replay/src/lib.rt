@@ -1,5 +1,5 @@
-//! The replay of a script: its lines are read, what they say happens to a server, and what follows is
-//! printed.
+//! The replay of a script: its lines are read, what they say happens to a server, and what follows
+//! is printed.
 #![tactic(auto)]
 
 mod fault;

@@ -19,8 +19,11 @@ pub fn perform<A: Allocator, W: Write>(
     line: Line<'_>,
     writer: &mut W,
 ) -> Result<(), ReplayFault>
-    ensures { (config : Config) (history : List Happening) → StandsFor server.old config history → (text : List ℕ) × (after : List Happening)
-        × Performs config history (events_of (plain_line line.entry)) result text after × StandsFor server.new config after × Appends (W.contents writer.old) (W.contents writer.new) text }
+    ensures { (config : Config) (history : List Happening) → StandsFor server.old config history
+        → (text : List ℕ) × (after : List Happening)
+        × Performs config history (events_of (plain_line line.entry)) result text after
+        × StandsFor server.new config after
+        × Appends (W.contents writer.old) (W.contents writer.new) text }
 {
     match line {
         Line::Blank => Ok(()),
@@ -35,8 +38,11 @@ fn pass<A: Allocator, W: Write>(
     count: u32,
     writer: &mut W,
 ) -> Result<(), ReplayFault>
-    ensures { (config : Config) (history : List Happening) → StandsFor server.old config history → (text : List ℕ) × (after : List Happening)
-        × Performs config history (replicate count Tick) result text after × StandsFor server.new config after × Appends (W.contents writer.old) (W.contents writer.new) text }
+    ensures { (config : Config) (history : List Happening) → StandsFor server.old config history
+        → (text : List ℕ) × (after : List Happening)
+        × Performs config history (replicate count Tick) result text after
+        × StandsFor server.new config after
+        × Appends (W.contents writer.old) (W.contents writer.new) text }
 {
     for _ in 0..count {
         server.replay(Event::Tick, writer)?;

@@ -1,6 +1,7 @@
 //! The run of a replay: the lines of a text, one after the other.
 
-ghost use Rattle.std.specs.Prelude.{◌≡◌, ℕ, ◌+◌, ◌-◌, ◌*◌, ◌^◌, ◌<◌, ◌≤◌, List, [], ◌++◌, length, None, IfOk, IfErr, OnOk};
+ghost use Rattle.std.specs.Prelude.{◌≡◌, ◌≢◌, ◌⊎◌, ℕ, ◌+◌, ◌-◌, ◌*◌, ◌^◌, ◌<◌, ◌≤◌, List, [], ◌++◌, length, Err, None, IfOk, IfErr, OnOk};
+ghost use Rattle.std.specs.Io.Buffered.{writer_buffer, writer_contents};
 ghost use Rattle.std.specs.Io.KnownBytes.{Consumes, Appends, Keeps, IsAtEnd};
 ghost use Rattle.sv_server.specs.Event.{Happening};
 ghost use Rattle.sv_server.specs.State.{StandsFor};
@@ -13,7 +14,7 @@ use crate::line::read_line;
 use crate::perform::perform;
 use crate::text::{LONGEST_LINE, Text};
 use std::alloc::{AllocError, Allocator};
-use std::io::{Read, Write};
+use std::io::{BufWriter, Read, Write};
 use sv_server::{Config, Server};
 
 /// What the server is set up with.
@@ -35,17 +36,60 @@ struct Run<A: Allocator> {
     ghost room: { length bytes.items ≡ 65536 },
 }
 
-/// Runs the replay that the reader gives, onto the writer. Before each read the writer is flushed,
-/// so that whoever waits for an answer before more is sent gets it. What was printed before a fault
-/// stays: `BadLine` at the first line that isn't one of a replay, `Input` where the reader failed or
-/// was read 4,294,967,294 times, `Output` where the writer failed, and `Memory` where memory was
-/// refused at the start or to an event.
-pub fn run_replay<A: Allocator + Copy, R: Read, W: Write>(
+/// Runs the replay that the reader gives, onto the writer. The writer is flushed before each read,
+/// so that whoever waits for an answer before more is sent gets it, and before the answer, so that
+/// what was printed has left the buffer whatever stopped the run.
+///
+/// # Errors
+/// `BadLine` at the first line that isn't one of a replay, `Input` where the reader failed or was
+/// read 4,294,967,294 times, `Memory` where memory was refused at the start or to an event, and
+/// `Output` where the writer failed, also where it failed to pass on what was printed before
+/// another fault.
+pub fn run_replay<A: Allocator + Copy, R: Read, W: Write + Drop, B: Allocator>(
+    alloc: A,
+    reader: &mut R,
+    writer: &mut BufWriter<W, B>,
+) -> Result<(), RunFault>
+    ensures runs { (read text : List ℕ)
+        × Consumes (R.remaining reader.old) (R.remaining reader.new) read
+        × Appends (writer_contents W.contents writer.old)
+        (writer_contents W.contents writer.new) text
+        × Runs read (R.remaining reader.new) result text }
+    ensures end { OnOk result (IsAtEnd (R.remaining reader.new)) }
+    // Unless the output failed, nothing that was printed is left in the buffer.
+    ensures flushed { result ≢ Err RunFault.Output → writer_buffer writer.new ≡ [] }
+{
+    let answer = run_lines(alloc, reader, writer);
+    pass_on(writer, answer)
+}
+
+/// Passes on what the writer holds, and then answers; where the output fails, it is the output's
+/// fault.
+fn pass_on<W: Write + Drop, B: Allocator>(
+    writer: &mut BufWriter<W, B>,
+    answer: Result<(), RunFault>,
+) -> Result<(), RunFault>
+    ensures kept { Keeps (writer_contents W.contents writer.old)
+        (writer_contents W.contents writer.new) }
+    ensures answer { (result ≡ answer) ⊎ (result ≡ Err RunFault.Output) }
+    ensures flushed { result ≢ Err RunFault.Output → writer_buffer writer.new ≡ [] }
+{
+    match writer.flush() {
+        Ok(()) => answer,
+        Err(_) => Err(RunFault::Output),
+    }
+}
+
+/// Runs the replay, and leaves what it printed last with the writer.
+fn run_lines<A: Allocator + Copy, R: Read, W: Write>(
     alloc: A,
     reader: &mut R,
     writer: &mut W,
 ) -> Result<(), RunFault>
-    ensures runs { (read text : List ℕ) × Consumes (R.remaining reader.old) (R.remaining reader.new) read × Appends (W.contents writer.old) (W.contents writer.new) text × Runs read (R.remaining reader.new) result text }
+    ensures runs { (read text : List ℕ)
+        × Consumes (R.remaining reader.old) (R.remaining reader.new) read
+        × Appends (W.contents writer.old) (W.contents writer.new) text
+        × Runs read (R.remaining reader.new) result text }
     ensures end { OnOk result (IsAtEnd (R.remaining reader.new)) }
 {
     let mut run = start(alloc)?;
@@ -59,7 +103,8 @@ pub fn run_replay<A: Allocator + Copy, R: Read, W: Write>(
 
 /// A replay of which nothing is done.
 fn start<A: Allocator + Copy>(alloc: A) -> Result<Run<A>, AllocError>
-    ensures { IfOk result (λ run. StandsFor run.server set_up [] × (run.text ≡ nothing_held) × (run.lines ≡ 0)) }
+    ensures { IfOk result (λ run. StandsFor run.server set_up [] × (run.text ≡ nothing_held)
+        × (run.lines ≡ 0)) }
 {
     Ok(Run {
         server: Server::new(alloc, SET_UP)?,
@@ -89,8 +134,11 @@ fn do_line<A: Allocator, W: Write>(
     writer: &mut W,
 ) -> Result<(), RunFault>
     requires { length bytes.old ≡ 65536 }
-    ensures { (history : List Happening) → StandsFor server.old set_up history → (text : List ℕ) × (after : List Happening) × LineRuns line.now number history result text after
-        × StandsFor server.new set_up after × Appends (W.contents writer.old) (W.contents writer.new) text }
+    ensures { (history : List Happening) → StandsFor server.old set_up history
+        → (text : List ℕ) × (after : List Happening)
+        × LineRuns line.now number history result text after
+        × StandsFor server.new set_up after
+        × Appends (W.contents writer.old) (W.contents writer.new) text }
 {
     if line.len() > LONGEST_LINE {
         return Err(RunFault::BadLine(number));
@@ -108,11 +156,20 @@ impl<A: Allocator> Run<A> {
     /// Does the next line, or reads on where no line is whole; false at the end.
     fn turn<R: Read, W: Write>(&mut self, reader: &mut R, writer: &mut W) -> Result<bool, RunFault>
         requires countable { self.old.lines < 2 ^ 64 - 1 }
-        ensures goes { (read text : List ℕ) → IsStage self.old.server self.old.text.text self.old.lines read text → (more other : List ℕ) × Consumes (R.remaining reader.old) (R.remaining reader.new) more
-            × Appends (W.contents writer.old) (W.contents writer.new) other × Goes self.new.server self.new.text.text self.new.lines (R.remaining reader.new) result (read ++ more) (text ++ other) }
-        ensures counted { WhileGoing result (self.new.lines + self.new.text.reads ≡ self.old.lines + self.old.text.reads + 1) }
-        ensures bounded { WhileGoing result (self.old.lines + length self.old.text.text ≤ 131072 * self.old.text.reads → self.new.lines + length self.new.text.text ≤ 131072 * self.new.text.reads) }
-        ensures few { WhileGoing result (self.old.text.reads ≤ 4294967294 → self.new.text.reads ≤ 4294967294) }
+        ensures goes { (read text : List ℕ)
+            → IsStage self.old.server self.old.text.text self.old.lines read text
+            → (more other : List ℕ)
+            × Consumes (R.remaining reader.old) (R.remaining reader.new) more
+            × Appends (W.contents writer.old) (W.contents writer.new) other
+            × Goes self.new.server self.new.text.text self.new.lines (R.remaining reader.new) result
+            (read ++ more) (text ++ other) }
+        ensures counted { WhileGoing result
+            (self.new.lines + self.new.text.reads ≡ self.old.lines + self.old.text.reads + 1) }
+        ensures bounded { WhileGoing result
+            (self.old.lines + length self.old.text.text ≤ 131072 * self.old.text.reads
+            → self.new.lines + length self.new.text.text ≤ 131072 * self.new.text.reads) }
+        ensures few { WhileGoing result (self.old.text.reads ≤ 4294967294
+            → self.new.text.reads ≤ 4294967294) }
     {
         match self.text.whole_line() {
             Some(len) => {
@@ -140,11 +197,20 @@ impl<A: Allocator> Run<A> {
     ) -> Result<bool, RunFault>
         requires no_line { first_end self.old.text.text ≡ None }
         requires countable { self.old.lines < 2 ^ 64 - 1 }
-        ensures goes { (read text : List ℕ) → IsStage self.old.server self.old.text.text self.old.lines read text → (more other : List ℕ) × Consumes (R.remaining reader.old) (R.remaining reader.new) more
-            × Appends (W.contents writer.old) (W.contents writer.new) other × Goes self.new.server self.new.text.text self.new.lines (R.remaining reader.new) result (read ++ more) (text ++ other) }
-        ensures counted { WhileGoing result (self.new.lines + self.new.text.reads ≡ self.old.lines + self.old.text.reads + 1) }
-        ensures bounded { WhileGoing result (self.old.lines + length self.old.text.text ≤ 131072 * self.old.text.reads → self.new.lines + length self.new.text.text ≤ 131072 * self.new.text.reads) }
-        ensures few { WhileGoing result (self.old.text.reads ≤ 4294967294 → self.new.text.reads ≤ 4294967294) }
+        ensures goes { (read text : List ℕ)
+            → IsStage self.old.server self.old.text.text self.old.lines read text
+            → (more other : List ℕ)
+            × Consumes (R.remaining reader.old) (R.remaining reader.new) more
+            × Appends (W.contents writer.old) (W.contents writer.new) other
+            × Goes self.new.server self.new.text.text self.new.lines (R.remaining reader.new) result
+            (read ++ more) (text ++ other) }
+        ensures counted { WhileGoing result
+            (self.new.lines + self.new.text.reads ≡ self.old.lines + self.old.text.reads + 1) }
+        ensures bounded { WhileGoing result
+            (self.old.lines + length self.old.text.text ≤ 131072 * self.old.text.reads
+            → self.new.lines + length self.new.text.text ≤ 131072 * self.new.text.reads) }
+        ensures few { WhileGoing result (self.old.text.reads ≤ 4294967294
+            → self.new.text.reads ≤ 4294967294) }
     {
         if self.text.len() > LONGEST_LINE {
             return Err(RunFault::BadLine(self.lines + 1));
@@ -161,7 +227,6 @@ impl<A: Allocator> Run<A> {
             &mut self.bytes,
             writer,
         )?;
-        flush(writer)?;
         Ok(false)
     }
 }

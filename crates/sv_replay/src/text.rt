@@ -101,12 +101,13 @@ impl<A: Allocator> Text<A> {
         self.clean = self.clean.max(self.start);
     }
 
-    /// Reads once, behind the text, and tells whether more may come: at the reader's end it doesn't,
-    /// and an interrupted read gives nothing, but another may. Where too little of the buffer is
-    /// free behind the text, it moves to the front first.
+    /// Reads once, behind the text, and tells whether more may come: at the reader's end it
+    /// doesn't, and an interrupted read gives nothing, but another may. Where too little of the
+    /// buffer is free behind the text, it moves to the front first.
     pub fn fill<R: Read>(&mut self, reader: &mut R) -> Result<bool, InputFault>
         requires { length self.old.text ≤ 65536 }
-        ensures took { Filled (R.remaining reader.old) (R.remaining reader.new) self.old.text self.new.text result }
+        ensures took { Filled (R.remaining reader.old)
+            (R.remaining reader.new) self.old.text self.new.text result }
         ensures counted { OnOk result (self.new.reads ≡ self.old.reads + 1) }
         ensures kept { OnErr result (self.new.reads ≡ self.old.reads) }
         ensures limit { 4294967294 ≤ self.old.reads → IsErr result }
@@ -137,7 +138,8 @@ fn make_room(buffer: &mut [u8], start: usize, end: usize) -> usize
     requires order { (start ≤ end) × (end ≤ 131072) }
     requires size { length buffer.old ≡ 131072 }
     ensures within { result ≤ start }
-    ensures moved { slice_range buffer.new (start - result) (end - result) ≡ slice_range buffer.old start end }
+    ensures moved { slice_range buffer.new (start - result) (end - result)
+        ≡ slice_range buffer.old start end }
     ensures room { end - start ≤ 65536 → end - result ≤ 65536 }
 {
     if SIZE - end >= LONGEST_LINE {
@@ -156,7 +158,8 @@ fn read_behind<R: Read>(
 ) -> Result<Option<usize>, InputFault>
     requires { at < length buffer.old }
     ensures front { take at buffer.new ≡ take at buffer.old }
-    ensures came { IsBehind (R.remaining reader.old) (R.remaining reader.new) (drop at buffer.new) result }
+    ensures came { IsBehind (R.remaining reader.old) (R.remaining reader.new)
+        (drop at buffer.new) result }
 {
     match reader.read(&mut buffer[at..]) {
         Ok(0) => Ok(None),

@@ -45,7 +45,12 @@ version_reads bytes xid h =
     let first = h.3 in
     let kind = first.2 in
     let version = kind.2 in
-    rw (unsigned_begins bytes first.0 xid first.1, unsigned_begins first.0 kind.0 0 kind.1, unsigned_begins kind.0 version.0 h.0 version.1, ne_eqb h.0 2 h.2) refl
+    rw (
+      unsigned_begins bytes first.0 xid first.1,
+      unsigned_begins first.0 kind.0 0 kind.1,
+      unsigned_begins kind.0 version.0 h.0 version.1,
+      ne_eqb h.0 2 h.2,
+    ) refl
 
 -- two outcomes of one record are one
 pub one_call : OneCall
@@ -64,7 +69,8 @@ abbrev Good : Result Asked CallFault → Type 0
 Good r = r ≡ Err BadHeader → ⊥
 
 -- the value of a step, and what came of it
-bind_good : {A : Type 0} (s : Result A XdrFault) (f : A → Result Asked CallFault) (r : Result Asked CallFault) → Good r → (s >>= f) ≡ r → (x : A) × (s ≡ Ok x) × (f x ≡ r)
+bind_good : {A : Type 0} (s : Result A XdrFault) (f : A → Result Asked CallFault) (r : Result Asked CallFault) → Good r → (s >>= f) ≡ r
+    → (x : A) × (s ≡ Ok x) × (f x ≡ r)
 bind_good (Ok x) f r good e = (x, refl, e)
 bind_good (Err fault) f r good e = absurd (good (sym e))
 
@@ -77,7 +83,8 @@ tested m n x y r e same other =
     ]
 
 -- an unsigned integer that was read, and what follows from that
-unsigned_step : {P : Type 0} (bytes : List ℕ) (f : ℕ × List ℕ → Result Asked CallFault) (r : Result Asked CallFault) → IsBytes bytes → Good r → (unsigned_at bytes >>= f) ≡ r
+unsigned_step : {P : Type 0} (bytes : List ℕ) (f : ℕ × List ℕ → Result Asked CallFault) (r : Result Asked CallFault) → IsBytes bytes
+    → Good r → (unsigned_at bytes >>= f) ≡ r
     → ((n : ℕ) (after : List ℕ) → Begins bytes (Unsigned n) after → IsBytes after → f (n, after) ≡ r → P) → P
 unsigned_step bytes f r fits good e then =
     let s = bind_good (unsigned_at bytes) f r good e in
@@ -85,7 +92,8 @@ unsigned_step bytes f r fits good e then =
     then s.0.0 s.0.1 b (bytes_after (Unsigned s.0.0) bytes s.0.1 fits b) s.2
 
 -- likewise opaque data
-opaque_step : {P : Type 0} (bytes : List ℕ) (f : List ℕ × List ℕ → Result Asked CallFault) (r : Result Asked CallFault) → IsBytes bytes → Good r → (opaque_at 400 bytes >>= f) ≡ r
+opaque_step : {P : Type 0} (bytes : List ℕ) (f : List ℕ × List ℕ → Result Asked CallFault) (r : Result Asked CallFault) → IsBytes bytes
+    → Good r → (opaque_at 400 bytes >>= f) ≡ r
     → ((text after : List ℕ) → Begins bytes (Opaque text) after → length text ≤ 400 → IsBytes after → f (text, after) ≡ r → P) → P
 opaque_step bytes f r fits good e then =
     let s = bind_good (opaque_at 400 bytes) f r good e in
@@ -94,7 +102,8 @@ opaque_step bytes f r fits good e then =
 
 -- what is read behind the version is spelled there
 body_takes : (xid : ℕ) (bytes : List ℕ) (r : Result Asked CallFault) → IsBytes bytes → Good r → body_at xid bytes ≡ r
-    → (call : Asked) × (xid ≡ call.xid) × (Ok call ≡ r) × (c v : Auth) × (length c.body ≤ 400) × (length v.body ≤ 400) × BeginsAll bytes (drop 3 (heading call c v)) call.args
+    → (call : Asked) × (xid ≡ call.xid) × (Ok call ≡ r) × (c v : Auth) × (length c.body ≤ 400) × (length v.body ≤ 400)
+    × BeginsAll bytes (drop 3 (heading call c v)) call.args
 unfolding body_at
 body_takes xid bytes r fits good e =
     unsigned_step bytes _ r fits good e (λ prog l1 b1 fits1 e1.
@@ -135,7 +144,10 @@ call_takes bytes r fits good e =
 is_outcome : (bytes : List ℕ) (r : Result Asked CallFault) → IsBytes bytes → call_at bytes ≡ r → CallIs bytes r
 is_outcome bytes (Ok call) fits e = call_takes bytes (Ok call) fits (λ bad. absurd cc) e
 is_outcome bytes (Err (Version xid)) fits e = call_takes bytes (Err (Version xid)) fits (λ bad. absurd cc) e
-is_outcome bytes (Err BadHeader) fits e = (λ call h. absurd (cc (call_reads bytes call h)), λ xid h. absurd (cc (version_reads bytes xid h)))
+is_outcome bytes (Err BadHeader) fits e = (
+  λ call h. absurd (cc (call_reads bytes call h)),
+  λ xid h. absurd (cc (version_reads bytes xid h)),
+)
 
 -- what reading gives is what the record is
 pub call_is : (bytes : List ℕ) → IsBytes bytes → CallIs bytes (call_at bytes)

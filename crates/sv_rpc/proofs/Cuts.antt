@@ -15,7 +15,8 @@ pub sum-push : (ns : List ℕ) (n : ℕ) → sum (ns ++ n ∷ []) ≡ sum ns + n
 sum-push ns n = sum_by-append (λ x. x) ns (n ∷ []) ∙ ap (λ (k : ℕ). sum ns + k) (sum-cons n [] ∙ omega arith)
 
 -- what whole records count
-pub counted-cut : (ns : List ℕ) (bytes : List ℕ) → sum ns ≤ length bytes → sum_by (λ (r : List ℕ). 4 + length r) (cut ns bytes) ≡ 4 * length ns + sum ns
+pub counted-cut : (ns : List ℕ) (bytes : List ℕ) → sum ns ≤ length bytes
+    → sum_by (λ (r : List ℕ). 4 + length r) (cut ns bytes) ≡ 4 * length ns + sum ns
 counted-cut [] bytes h = refl
 counted-cut (n ∷ ns) bytes h =
     let total = sum-cons n ns in
@@ -36,12 +37,15 @@ cut-append (n ∷ ns) bytes piece h =
 
 -- what stands behind them is one record more
 pub cut-push : (ns bytes : List ℕ) (n : ℕ) → sum ns + n ≡ length bytes → cut (ns ++ n ∷ []) bytes ≡ cut ns bytes ++ drop (sum ns) bytes ∷ []
-cut-push [] bytes n h = let size : n ≡ length bytes = omega arith in ap (λ (r : List ℕ). r ∷ []) (ap (λ (k : ℕ). take k bytes) size ∙ take-length bytes)
+cut-push [] bytes n h = let size : n ≡ length bytes = omega arith in
+    ap (λ (r : List ℕ). r ∷ []) (ap (λ (k : ℕ). take k bytes) size ∙ take-length bytes)
 cut-push (m ∷ ns) bytes n h =
     let total = sum-cons m ns in
     let rest : sum ns + n ≡ length (drop m bytes) = omega (arith, length-drop m bytes) in
-    let behind : drop (sum ns) (drop m bytes) ≡ drop (sum (m ∷ ns)) bytes = drop-drop (sum ns) m bytes ∙ ap (λ (k : ℕ). drop k bytes) (sym total) in
-    ap (λ (rs : List (List ℕ)). take m bytes ∷ rs) (cut-push ns (drop m bytes) n rest ∙ ap (λ (r : List ℕ). cut ns (drop m bytes) ++ r ∷ []) behind)
+    let behind : drop (sum ns) (drop m bytes) ≡ drop (sum (m ∷ ns)) bytes =
+    drop-drop (sum ns) m bytes ∙ ap (λ (k : ℕ). drop k bytes) (sym total) in
+    ap (λ (rs : List (List ℕ)). take m bytes ∷ rs)
+    (cut-push ns (drop m bytes) n rest ∙ ap (λ (r : List ℕ). cut ns (drop m bytes) ++ r ∷ []) behind)
 
 behind-length : (ns bytes : List ℕ) (n : ℕ) → sum ns + n ≡ length bytes → length (drop (sum ns) bytes) ≡ n
 behind-length ns bytes n h = omega (arith, length-drop (sum ns) bytes)

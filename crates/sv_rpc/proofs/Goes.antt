@@ -15,12 +15,14 @@ abbrev held : List (List ℕ) → Tail → Held
 held records tail = record { records = records; tail = tail }
 
 -- another tail behind the same records
-same_records : (records : List (List ℕ)) (s t : Tail) (stream piece : List ℕ) (dropped : ℕ) (st : StandsFor (held records s) stream dropped) → Splits (stream ++ piece) st.all t
+same_records : (records : List (List ℕ)) (s t : Tail) (stream piece : List ℕ) (dropped : ℕ) (st : StandsFor (held records s) stream dropped)
+    → Splits (stream ++ piece) st.all t
     → StandsFor (held records t) (stream ++ piece) dropped
 same_records records s t stream piece dropped st splits = record { all = st.all; splits = splits; few = st.few; kept = st.kept }
 
 -- a record more
-more_records : (records : List (List ℕ)) (r : List ℕ) (s t : Tail) (stream piece : List ℕ) (dropped : ℕ) (st : StandsFor (held records s) stream dropped)
+more_records : (records : List (List ℕ)) (r : List ℕ) (s t : Tail) (stream piece : List ℕ) (dropped : ℕ)
+    (st : StandsFor (held records s) stream dropped)
     → Splits (stream ++ piece) (st.all ++ r ∷ []) t → StandsFor (held (records ++ r ∷ []) t) (stream ++ piece) dropped
 more_records records r s t stream piece dropped st splits = record {
   all = st.all ++ r ∷ [];
@@ -30,16 +32,20 @@ more_records records r s t stream piece dropped st splits = record {
 }
 
 -- a whole header
-header_goes : (records : List (List ℕ)) (payload header : List ℕ) (byte size : ℕ) (last : Bool) → header ++ byte ∷ [] ≡ header_of last size → size < 2 ^ 31
+header_goes : (records : List (List ℕ)) (payload header : List ℕ) (byte size : ℕ) (last : Bool) → header ++ byte ∷ [] ≡ header_of last size
+    → size < 2 ^ 31
     → GoesOn (held records (Header payload header)) (after_header records (Header payload header) size last) (byte ∷ [])
 header_goes records payload header byte size last whole small stream dropped st =
     elim (cases_lt 8192 (length payload + size)) [
       | inl long ↦ rw (lt-ltb 8192 (length payload + size) long)
-          (same_records records (Header payload header) TooLong stream (byte ∷ []) dropped st (header_too_long stream st.all payload header byte size last st.splits whole small long))
+          (same_records records (Header payload header) TooLong stream (byte ∷ []) dropped st
+          (header_too_long stream st.all payload header byte size last st.splits whole small long))
       | inr short ↦ rw (le-ltb 8192 (length payload + size) short) (elim (cases_lt 0 size) [
         | inl some ↦ rw (lt-ltb 0 size some)
-            (same_records records (Header payload header) (Data payload size last) stream (byte ∷ []) dropped st (header_ends stream st.all payload header byte size last st.splits whole some short))
-        | inr none ↦ rw (le-ltb 0 size none) (empty last (subst (λ (n : ℕ). header ++ byte ∷ [] ≡ header_of last n) (zero_size size none) whole))
+            (same_records records (Header payload header) (Data payload size last) stream (byte ∷ []) dropped st
+            (header_ends stream st.all payload header byte size last st.splits whole some short))
+        | inr none ↦
+            rw (le-ltb 0 size none) (empty last (subst (λ (n : ℕ). header ++ byte ∷ [] ≡ header_of last n) (zero_size size none) whole))
       ])
     ]
   where
@@ -47,19 +53,25 @@ header_goes records payload header byte size last whole small stream dropped st 
     zero_size n h = omega arith
 
     empty : (b : Bool) → header ++ byte ∷ [] ≡ header_of b 0
-        → StandsFor (cond b (held (records ++ payload ∷ []) (Header [] [])) (held records (Header payload []))) (stream ++ byte ∷ []) dropped
-    empty true e = more_records records payload (Header payload header) (Header [] []) stream (byte ∷ []) dropped st (empty_last_ends stream st.all payload header byte st.splits e)
-    empty false e = same_records records (Header payload header) (Header payload []) stream (byte ∷ []) dropped st (empty_ends stream st.all payload header byte st.splits e)
+        → StandsFor (cond b (held (records ++ payload ∷ []) (Header [] [])) (held records (Header payload [])))
+        (stream ++ byte ∷ []) dropped
+    empty true e = more_records records payload (Header payload header) (Header [] []) stream (byte ∷ []) dropped st
+        (empty_last_ends stream st.all payload header byte st.splits e)
+    empty false e = same_records records (Header payload header) (Header payload []) stream (byte ∷ []) dropped st
+        (empty_ends stream st.all payload header byte st.splits e)
 
 -- a byte of a header, whole or not
 pub byte_goes : (records : List (List ℕ)) (payload header : List ℕ) (byte : ℕ)
-    → (3 ≤ length header → let word = from_be_bytes w32 (header ++ byte ∷ []) in header ++ byte ∷ [] ≡ header_of (leb (2 ^ 31) word) (word % 2 ^ 31))
+    → (3 ≤ length header → let word = from_be_bytes w32 (header ++ byte ∷ []) in
+    header ++ byte ∷ [] ≡ header_of (leb (2 ^ 31) word) (word % 2 ^ 31))
     → GoesOn (held records (Header payload header)) (after_byte records (Header payload header) byte) (byte ∷ [])
 byte_goes records payload header byte whole stream dropped st =
     elim (cases_lt (length header) 3) [
       | inl less ↦ rw (lt-ltb (length header) 3 less)
-          (same_records records (Header payload header) (Header payload (header ++ byte ∷ [])) stream (byte ∷ []) dropped st (header_grows stream st.all payload header byte st.splits (omega arith)))
-      | inr three ↦ rw (le-ltb (length header) 3 three) (header_goes records payload header byte _ _ (whole three) (omega arith) stream dropped st)
+          (same_records records (Header payload header) (Header payload (header ++ byte ∷ [])) stream (byte ∷ []) dropped st
+          (header_grows stream st.all payload header byte st.splits (omega arith)))
+      | inr three ↦ rw (le-ltb (length header) 3 three)
+          (header_goes records payload header byte _ _ (whole three) (omega arith) stream dropped st)
     ]
 
 -- some of a fragment's data
@@ -68,33 +80,42 @@ pub data_goes : (records : List (List ℕ)) (payload piece : List ℕ) (missing 
 data_goes records payload piece missing last within stream dropped st =
     elim (cases_lt (length piece) missing) [
       | inl less ↦ rw (lt-ltb (length piece) missing less)
-          (same_records records (Data payload missing last) (Data (payload ++ piece) (missing - length piece) last) stream piece dropped st (data_grows stream piece st.all payload missing last st.splits less))
+          (same_records records (Data payload missing last) (Data (payload ++ piece) (missing - length piece) last) stream piece dropped st
+          (data_grows stream piece st.all payload missing last st.splits less))
       | inr all ↦ rw (le-ltb (length piece) missing all) (ends last (omega arith) st)
     ]
   where
     ends : (b : Bool) → length piece ≡ missing → (st : StandsFor (held records (Data payload missing b)) stream dropped)
-        → StandsFor (cond b (held (records ++ (payload ++ piece) ∷ []) (Header [] [])) (held records (Header (payload ++ piece) []))) (stream ++ piece) dropped
-    ends true e st = more_records records (payload ++ piece) (Data payload missing true) (Header [] []) stream piece dropped st (data_last_ends stream piece st.all payload missing st.splits e)
-    ends false e st = same_records records (Data payload missing false) (Header (payload ++ piece) []) stream piece dropped st (data_ends stream piece st.all payload missing st.splits e)
+        → StandsFor (cond b (held (records ++ (payload ++ piece) ∷ []) (Header [] [])) (held records (Header (payload ++ piece) [])))
+        (stream ++ piece) dropped
+    ends true e st = more_records records (payload ++ piece) (Data payload missing true) (Header [] []) stream piece dropped st
+        (data_last_ends stream piece st.all payload missing st.splits e)
+    ends false e st = same_records records (Data payload missing false) (Header (payload ++ piece) []) stream piece dropped st
+        (data_ends stream piece st.all payload missing st.splits e)
 
 -- bytes behind the fault
 pub too_long_goes : (records : List (List ℕ)) (piece : List ℕ) → GoesOn (held records TooLong) (held records TooLong) piece
-too_long_goes records piece stream dropped st = same_records records TooLong TooLong stream piece dropped st (too_long_stays stream piece st.all st.splits)
+too_long_goes records piece stream dropped st = same_records records TooLong TooLong stream piece dropped st
+    (too_long_stays stream piece st.all st.splits)
 
 -- one stretch after the other
 pub GoesOn-then : (old mid new : Held) (a b : List ℕ) → GoesOn old mid a → GoesOn mid new b → GoesOn old new (a ++ b)
-GoesOn-then old mid new a b first second stream dropped st = subst (λ (l : List ℕ). StandsFor new l dropped) (append_assoc stream a b) (second (stream ++ a) dropped (first stream dropped st))
+GoesOn-then old mid new a b first second stream dropped st =
+    subst (λ (l : List ℕ). StandsFor new l dropped) (append_assoc stream a b) (second (stream ++ a) dropped (first stream dropped st))
 
 -- a byte of a header, where a buffer takes it in
-pub header_goes_on : (bytes lengths header : List ℕ) (spot : Place) (old new : Held) (byte : ℕ) → held_of bytes lengths header spot ≡ old → IsInHeader old.tail
+pub header_goes_on : (bytes lengths header : List ℕ) (spot : Place) (old new : Held) (byte : ℕ) → held_of bytes lengths header spot ≡ old
+    → IsInHeader old.tail
     → new ≡ after_byte old.records old.tail byte
-    → (3 ≤ length header → let word = from_be_bytes w32 (header ++ byte ∷ []) in header ++ byte ∷ [] ≡ header_of (leb (2 ^ 31) word) (word % 2 ^ 31))
+    → (3 ≤ length header → let word = from_be_bytes w32 (header ++ byte ∷ []) in
+    header ++ byte ∷ [] ≡ header_of (leb (2 ^ 31) word) (word % 2 ^ 31))
     → GoesOn old new (byte ∷ [])
 header_goes_on bytes lengths header spot old new byte is in_header value whole =
     rw value (subst (λ (h : Held). IsInHeader h.tail → GoesOn h (after_byte h.records h.tail byte) (byte ∷ [])) is (at spot) in_header)
   where
     at : (p : Place) → IsInHeader (tail_of p (drop (sum lengths) bytes) header)
-        → GoesOn (held_of bytes lengths header p) (after_byte (cut lengths bytes) (tail_of p (drop (sum lengths) bytes) header) byte) (byte ∷ [])
+        → GoesOn (held_of bytes lengths header p) (after_byte (cut lengths bytes) (tail_of p (drop (sum lengths) bytes) header) byte)
+        (byte ∷ [])
     at place.Header h = byte_goes (cut lengths bytes) (drop (sum lengths) bytes) header byte whole
     at (place.Data missing last) h = absurd h
     at place.TooLong h = absurd h
@@ -123,8 +144,10 @@ three_came (place.Data missing last) payload n p h at in_header le = absurd in_h
 three_came place.TooLong payload n p h at in_header le = absurd in_header
 
 -- some of a fragment's data, where a buffer takes it in
-pub data_goes_on : (bytes lengths header : List ℕ) (spot : Place) (old new : Held) (missing : ℕ) (last : Bool) (piece : List ℕ) → held_of bytes lengths header spot ≡ old
+pub data_goes_on : (bytes lengths header : List ℕ) (spot : Place) (old new : Held) (missing : ℕ) (last : Bool) (piece : List ℕ)
+    → held_of bytes lengths header spot ≡ old
     → spot ≡ place.Data missing last → new ≡ after_data old.records old.tail piece → length piece ≤ missing → GoesOn old new piece
 data_goes_on bytes lengths header spot old new missing last piece is at value within =
     let old_is : held_of bytes lengths header (place.Data missing last) ≡ old = ap (held_of bytes lengths header) (sym at) ∙ is in
-    rw value (subst (λ (h : Held). GoesOn h (after_data h.records h.tail piece) piece) old_is (data_goes (cut lengths bytes) (drop (sum lengths) bytes) piece missing last within))
+    rw value (subst (λ (h : Held). GoesOn h (after_data h.records h.tail piece) piece) old_is
+    (data_goes (cut lengths bytes) (drop (sum lengths) bytes) piece missing last within))

@@ -11,42 +11,67 @@ use Rattle.sv_rpc.specs.Kept.{IsKept, InRoom, IsPlace, IsBeforeHeader, IsInData,
 use Rattle.sv_rpc.proofs.Cuts.{sum-push, cut-append, cut-push, used_at_header, used_in_data}
 
 -- the room of a value is the room of the stream
-pub room_answer : (held : Held) (stream : List ℕ) (dropped room : ℕ) → room ≡ room_of held → StandsFor held stream dropped → IsRoom stream dropped room
-room_answer held stream dropped room e s = (s.all, held.tail, s.splits, s.few, e ∙ ap (λ (rs : List (List ℕ)). 16384 - used_by rs held.tail) s.kept)
+pub room_answer : (held : Held) (stream : List ℕ) (dropped room : ℕ) → room ≡ room_of held → StandsFor held stream dropped
+    → IsRoom stream dropped room
+room_answer held stream dropped room e s = (
+  s.all,
+  held.tail,
+  s.splits,
+  s.few,
+  e ∙ ap (λ (rs : List (List ℕ)). 16384 - used_by rs held.tail) s.kept,
+)
 
 -- one record fewer
-pub drop_answer : (old new : Held) (stream : List ℕ) (dropped : ℕ) → new ≡ record { records = drop 1 old.records; tail = old.tail } → old.records ≢ [] → StandsFor old stream dropped
+pub drop_answer : (old new : Held) (stream : List ℕ) (dropped : ℕ) → new ≡ record { records = drop 1 old.records; tail = old.tail }
+    → old.records ≢ [] → StandsFor old stream dropped
     → StandsFor new stream (dropped + 1)
 drop_answer old new stream dropped e some s =
     let kept : drop 1 old.records ≡ drop (dropped + 1) s.all = ap (drop 1) s.kept ∙ drop-drop 1 dropped s.all in
-    let few : dropped + 1 ≤ length s.all = elim (cases_lt dropped (length s.all)) [ inl lt ↦ omega arith | inr le ↦ absurd (some (s.kept ∙ drop_all dropped s.all le)) ] in
+    let few : dropped + 1 ≤ length s.all = elim (cases_lt dropped (length s.all)) [
+      | inl lt ↦ omega arith
+      | inr le ↦
+          absurd (some (s.kept ∙ drop_all dropped s.all le))
+    ] in
     rw e (record { all = s.all; splits = s.splits; few = few; kept = kept })
 
 -- the room, by the lengths of the parts
-pub room_by_parts : (bytes lengths header : List ℕ) (space slots payload header_len begun : ℕ) (spot : Place) → IsKept bytes lengths header space slots payload header_len spot
-    → begun ≡ begun_of spot header_len → 16384 - (4 * length lengths + length bytes + 4 + begun) ≡ room_of (held_of bytes lengths (take header_len header) spot)
+pub room_by_parts : (bytes lengths header : List ℕ) (space slots payload header_len begun : ℕ) (spot : Place)
+    → IsKept bytes lengths header space slots payload header_len spot
+    → begun ≡ begun_of spot header_len → 16384 - (4 * length lengths + length bytes + 4 + begun)
+    ≡ room_of (held_of bytes lengths (take header_len header) spot)
 room_by_parts bytes lengths header space slots payload header_len begun place.Header k e =
-    omega (arith, used_at_header lengths bytes (take header_len header) payload k.whole, length-take-le header_len header (omega (arith, k.at.1)))
-room_by_parts bytes lengths header space slots payload header_len begun (place.Data missing last) k e = omega (arith, used_in_data lengths bytes payload missing last k.whole)
+    omega (
+      arith,
+      used_at_header lengths bytes (take header_len header) payload k.whole,
+      length-take-le header_len header (omega (arith, k.at.1)),
+    )
+room_by_parts bytes lengths header space slots payload header_len begun (place.Data missing last) k e =
+    omega (arith, used_in_data lengths bytes payload missing last k.whole)
 room_by_parts bytes lengths header space slots payload header_len begun place.TooLong k e = omega arith
 
 -- where a header begins, none of it came
-pub before_header : (spot : Place) (payload header : List ℕ) → IsBeforeHeader (tail_of spot payload header) → (spot ≡ place.Header) × (header ≡ [])
+pub before_header : (spot : Place) (payload header : List ℕ) → IsBeforeHeader (tail_of spot payload header)
+    → (spot ≡ place.Header) × (header ≡ [])
 before_header place.Header payload header h = (refl, h)
 before_header (place.Data missing last) payload header h = absurd h
 before_header place.TooLong payload header h = absurd h
 
 -- where a record ends, there is a slot for its length
-pub finish_room : (bytes lengths header : List ℕ) (space slots payload header_len : ℕ) (spot : Place) → IsKept bytes lengths header space slots payload header_len spot
-    → IsBeforeHeader (tail_of spot (drop (sum lengths) bytes) (take header_len header)) → used_by (cut lengths bytes) (tail_of spot (drop (sum lengths) bytes) (take header_len header)) ≤ 16384
+pub finish_room : (bytes lengths header : List ℕ) (space slots payload header_len : ℕ) (spot : Place)
+    → IsKept bytes lengths header space slots payload header_len spot
+    → IsBeforeHeader (tail_of spot (drop (sum lengths) bytes) (take header_len header))
+    → used_by (cut lengths bytes) (tail_of spot (drop (sum lengths) bytes) (take header_len header)) ≤ 16384
     → 4 * length lengths + length bytes + 4 ≤ 16384
-finish_room bytes lengths header space slots payload header_len place.Header k h room = omega (arith, used_at_header lengths bytes (take header_len header) payload k.whole)
+finish_room bytes lengths header space slots payload header_len place.Header k h room =
+    omega (arith, used_at_header lengths bytes (take header_len header) payload k.whole)
 finish_room bytes lengths header space slots payload header_len (place.Data missing last) k h room = absurd h
 finish_room bytes lengths header space slots payload header_len place.TooLong k h room = absurd h
 
 -- with its length the record is whole
-pub finish_keeps : (bytes lengths lengths' header : List ℕ) (space slots slots' payload header_len : ℕ) (spot : Place) → IsKept bytes lengths header space slots payload header_len spot
-    → IsBeforeHeader (tail_of spot (drop (sum lengths) bytes) (take header_len header)) → 4 * length lengths + length bytes + 4 ≤ 16384 → lengths' ≡ lengths ++ payload ∷ [] → slots' ≡ slots
+pub finish_keeps : (bytes lengths lengths' header : List ℕ) (space slots slots' payload header_len : ℕ) (spot : Place)
+    → IsKept bytes lengths header space slots payload header_len spot
+    → IsBeforeHeader (tail_of spot (drop (sum lengths) bytes) (take header_len header)) → 4 * length lengths + length bytes + 4 ≤ 16384
+    → lengths' ≡ lengths ++ payload ∷ [] → slots' ≡ slots
     → IsKept bytes lengths' header space slots' 0 header_len spot
 finish_keeps bytes lengths lengths' header space slots slots' payload header_len place.Header k h room e f = record {
   whole = omega (arith, ap sum e, sum-push lengths payload, k.whole);
@@ -59,36 +84,46 @@ finish_keeps bytes lengths lengths' header space slots slots' payload header_len
 finish_keeps bytes lengths lengths' header space slots slots' payload header_len (place.Data missing last) k h room e f = absurd h
 finish_keeps bytes lengths lengths' header space slots slots' payload header_len place.TooLong k h room e f = absurd h
 
-pub finish_holds : (bytes lengths lengths' header : List ℕ) (space slots payload header_len : ℕ) (spot : Place) → IsKept bytes lengths header space slots payload header_len spot
+pub finish_holds : (bytes lengths lengths' header : List ℕ) (space slots payload header_len : ℕ) (spot : Place)
+    → IsKept bytes lengths header space slots payload header_len spot
     → IsBeforeHeader (tail_of spot (drop (sum lengths) bytes) (take header_len header)) → lengths' ≡ lengths ++ payload ∷ []
-    → held_of bytes lengths' (take header_len header) spot ≡ finished (cut lengths bytes) (tail_of spot (drop (sum lengths) bytes) (take header_len header))
+    → held_of bytes lengths' (take header_len header) spot
+    ≡ finished (cut lengths bytes) (tail_of spot (drop (sum lengths) bytes) (take header_len header))
 finish_holds bytes lengths lengths' header space slots payload header_len place.Header k h e =
-    let records : cut lengths' bytes ≡ cut lengths bytes ++ drop (sum lengths) bytes ∷ [] = ap (λ (ns : List ℕ). cut ns bytes) e ∙ cut-push lengths bytes payload k.whole in
+    let records : cut lengths' bytes ≡ cut lengths bytes ++ drop (sum lengths) bytes ∷ [] =
+    ap (λ (ns : List ℕ). cut ns bytes) e ∙ cut-push lengths bytes payload k.whole in
     let size : sum lengths' ≡ length bytes = omega (arith, ap sum e, sum-push lengths payload, k.whole) in
     let rest : drop (sum lengths') bytes ≡ [] = drop_all (sum lengths') bytes (omega arith) in
     let made : List (List ℕ) → List ℕ → List ℕ → Held = λ rs payload header. record { records = rs; tail = Header payload header } in
-    ap (λ (rs : List (List ℕ)). made rs (drop (sum lengths') bytes) (take header_len header)) records ∙ ap (λ (p : List ℕ). made (cut lengths bytes ++ drop (sum lengths) bytes ∷ []) p (take header_len header)) rest
+    ap (λ (rs : List (List ℕ)). made rs (drop (sum lengths') bytes) (take header_len header)) records
+    ∙ ap (λ (p : List ℕ). made (cut lengths bytes ++ drop (sum lengths) bytes ∷ []) p (take header_len header)) rest
     ∙ ap (λ (p : List ℕ). made (cut lengths bytes ++ drop (sum lengths) bytes ∷ []) [] p) h
 finish_holds bytes lengths lengths' header space slots payload header_len (place.Data missing last) k h e = absurd h
 finish_holds bytes lengths lengths' header space slots payload header_len place.TooLong k h e = absurd h
 
 -- data are missing where the tail says so
-pub at_data : (spot : Place) (payload header : List ℕ) (missing : ℕ) (last : Bool) → IsInData (tail_of spot payload header) missing last → spot ≡ place.Data missing last
+pub at_data : (spot : Place) (payload header : List ℕ) (missing : ℕ) (last : Bool) → IsInData (tail_of spot payload header) missing last
+    → spot ≡ place.Data missing last
 at_data place.Header payload header missing last h = absurd h
 at_data (place.Data m l) payload header missing last h = let m_is = h.0 in let l_is = h.1 in cc
 at_data place.TooLong payload header missing last h = absurd h
 
 -- how many bytes there are with a piece of data
-pub data_room : (bytes lengths header : List ℕ) (space slots payload header_len n missing : ℕ) (last : Bool) (spot : Place) → IsKept bytes lengths header space slots payload header_len spot
-    → spot ≡ place.Data missing last → InRoom (held_of bytes lengths (take header_len header) spot) n → 4 * length lengths + length bytes + 4 + n ≤ 16384
+pub data_room : (bytes lengths header : List ℕ) (space slots payload header_len n missing : ℕ) (last : Bool) (spot : Place)
+    → IsKept bytes lengths header space slots payload header_len spot
+    → spot ≡ place.Data missing last → InRoom (held_of bytes lengths (take header_len header) spot) n
+    → 4 * length lengths + length bytes + 4 + n ≤ 16384
 data_room bytes lengths header space slots payload header_len n missing last place.Header k e room = absurd cc
-data_room bytes lengths header space slots payload header_len n missing last (place.Data m l) k e room = omega (arith, used_in_data lengths bytes payload m l k.whole)
+data_room bytes lengths header space slots payload header_len n missing last (place.Data m l) k e room =
+    omega (arith, used_in_data lengths bytes payload m l k.whole)
 data_room bytes lengths header space slots payload header_len n missing last place.TooLong k e room = absurd cc
 
 -- the fields with a piece of data
 pub data_keeps : (bytes bytes' lengths header piece : List ℕ) (space space' slots payload header_len : ℕ) (spot spot' : Place)
-    → IsKept bytes lengths header space slots payload header_len spot → bytes' ≡ bytes ++ piece → space ≤ space' → 4 * length lengths + length bytes + 4 + length piece ≤ 16384
-    → IsPlace spot' (payload + length piece) header_len → IsKept bytes' lengths header space' slots (payload + length piece) header_len spot'
+    → IsKept bytes lengths header space slots payload header_len spot → bytes' ≡ bytes ++ piece → space ≤ space'
+    → 4 * length lengths + length bytes + 4 + length piece ≤ 16384
+    → IsPlace spot' (payload + length piece) header_len
+    → IsKept bytes' lengths header space' slots (payload + length piece) header_len spot'
 data_keeps bytes bytes' lengths header piece space space' slots payload header_len spot spot' k e f room at =
     let size : length bytes' ≡ length bytes + length piece = ap length e ∙ length-append bytes piece in
     record {
@@ -101,49 +136,68 @@ data_keeps bytes bytes' lengths header piece space space' slots payload header_l
     }
 
 -- what is held with a piece of data
-pub data_holds : (bytes bytes' lengths header piece : List ℕ) (n : ℕ) (spot' : Place) → sum lengths + n ≡ length bytes → bytes' ≡ bytes ++ piece
-    → held_of bytes' lengths header spot' ≡ record { records = cut lengths bytes; tail = tail_of spot' (drop (sum lengths) bytes ++ piece) header }
+pub data_holds : (bytes bytes' lengths header piece : List ℕ) (n : ℕ) (spot' : Place) → sum lengths + n ≡ length bytes
+    → bytes' ≡ bytes ++ piece
+    → held_of bytes' lengths header spot' ≡ record {
+      records = cut lengths bytes;
+      tail =
+          tail_of spot' (drop (sum lengths) bytes ++ piece) header;
+    }
 data_holds bytes bytes' lengths header piece n spot' whole e =
     let le : sum lengths ≤ length bytes = omega arith in
     let records : cut lengths bytes' ≡ cut lengths bytes = ap (cut lengths) e ∙ cut-append lengths bytes piece le in
-    let payload : drop (sum lengths) bytes' ≡ drop (sum lengths) bytes ++ piece = ap (drop (sum lengths)) e ∙ drop-append-le (sum lengths) bytes piece le in
+    let payload : drop (sum lengths) bytes' ≡ drop (sum lengths) bytes ++ piece =
+    ap (drop (sum lengths)) e ∙ drop-append-le (sum lengths) bytes piece le in
     let made : List (List ℕ) → List ℕ → Held = λ rs p. record { records = rs; tail = tail_of spot' p header } in
     ap (λ (rs : List (List ℕ)). made rs (drop (sum lengths) bytes')) records ∙ ap (made (cut lengths bytes)) payload
 
 -- a piece of data that isn't the last of its fragment
-pub data_grown : (bytes bytes' lengths header piece : List ℕ) (n missing : ℕ) (last : Bool) (spot : Place) (old : Held) → held_of bytes lengths header spot ≡ old
+pub data_grown : (bytes bytes' lengths header piece : List ℕ) (n missing : ℕ) (last : Bool) (spot : Place) (old : Held)
+    → held_of bytes lengths header spot ≡ old
     → spot ≡ place.Data missing last → sum lengths + n ≡ length bytes → bytes' ≡ bytes ++ piece → length piece < missing
     → held_of bytes' lengths header (place.Data (missing - length piece) last) ≡ after_data old.records old.tail piece
 data_grown bytes bytes' lengths header piece n missing last spot old is at whole e less =
     let old_is : held_of bytes lengths header (place.Data missing last) ≡ old = ap (held_of bytes lengths header) (sym at) ∙ is in
     data_holds bytes bytes' lengths header piece n (place.Data (missing - length piece) last) whole e
-    ∙ subst (λ (h : Held). record { records = cut lengths bytes; tail = Data (drop (sum lengths) bytes ++ piece) (missing - length piece) last } ≡ after_data h.records h.tail piece) old_is
+    ∙ subst (λ (h : Held). record {
+      records = cut lengths bytes;
+      tail =
+          Data (drop (sum lengths) bytes ++ piece) (missing - length piece) last;
+    } ≡ after_data h.records h.tail piece) old_is
     (rw (lt-ltb (length piece) missing less) refl)
 
 -- the piece that ends a fragment, not the last one
-pub data_ended : (bytes bytes' lengths header piece : List ℕ) (n missing : ℕ) (last : Bool) (spot : Place) (old : Held) → held_of bytes lengths header spot ≡ old
-    → spot ≡ place.Data missing last → sum lengths + n ≡ length bytes → bytes' ≡ bytes ++ piece → missing ≤ length piece → header ≡ [] → last ≡ false
+pub data_ended : (bytes bytes' lengths header piece : List ℕ) (n missing : ℕ) (last : Bool) (spot : Place) (old : Held)
+    → held_of bytes lengths header spot ≡ old
+    → spot ≡ place.Data missing last → sum lengths + n ≡ length bytes → bytes' ≡ bytes ++ piece → missing ≤ length piece → header ≡ []
+    → last ≡ false
     → held_of bytes' lengths header place.Header ≡ after_data old.records old.tail piece
 data_ended bytes bytes' lengths header piece n missing last spot old is at whole e all none other =
     let old_is : held_of bytes lengths header (place.Data missing last) ≡ old = ap (held_of bytes lengths header) (sym at) ∙ is in
     data_holds bytes bytes' lengths header piece n place.Header whole e
-    ∙ subst (λ (h : Held). record { records = cut lengths bytes; tail = Header (drop (sum lengths) bytes ++ piece) header } ≡ after_data h.records h.tail piece) old_is
+    ∙ subst (λ (h : Held). record { records = cut lengths bytes; tail = Header (drop (sum lengths) bytes ++ piece) header }
+    ≡ after_data h.records h.tail piece) old_is
     (rw (le-ltb (length piece) missing all, other, none) refl)
 
 -- the piece that ends the last fragment: the record is whole
-pub data_finished : (bytes bytes' lengths header piece : List ℕ) (n missing : ℕ) (last : Bool) (spot : Place) (old new : Held) → held_of bytes lengths header spot ≡ old
+pub data_finished : (bytes bytes' lengths header piece : List ℕ) (n missing : ℕ) (last : Bool) (spot : Place) (old new : Held)
+    → held_of bytes lengths header spot ≡ old
     → spot ≡ place.Data missing last → sum lengths + n ≡ length bytes → bytes' ≡ bytes ++ piece → missing ≤ length piece → last ≡ true
     → new ≡ finished (cut lengths bytes') (Header (drop (sum lengths) bytes') header) → new ≡ after_data old.records old.tail piece
 data_finished bytes bytes' lengths header piece n missing last spot old new is at whole e all other value =
     let old_is : held_of bytes lengths header (place.Data missing last) ≡ old = ap (held_of bytes lengths header) (sym at) ∙ is in
     let parts = data_holds bytes bytes' lengths header piece n place.Header whole e in
-    let ended : new ≡ finished (cut lengths bytes) (Header (drop (sum lengths) bytes ++ piece) header) = value ∙ ap (λ (h : Held). finished h.records h.tail) parts in
-    ended ∙ subst (λ (h : Held). finished (cut lengths bytes) (Header (drop (sum lengths) bytes ++ piece) header) ≡ after_data h.records h.tail piece) old_is
+    let ended : new ≡ finished (cut lengths bytes) (Header (drop (sum lengths) bytes ++ piece) header) =
+    value ∙ ap (λ (h : Held). finished h.records h.tail) parts in
+    ended ∙ subst (λ (h : Held). finished (cut lengths bytes) (Header (drop (sum lengths) bytes ++ piece) header)
+    ≡ after_data h.records h.tail piece) old_is
     (rw (le-ltb (length piece) missing all, other) refl)
 
 -- where a fragment ends, there is room for its record
-pub ended_room : (bytes bytes' lengths header piece : List ℕ) (n : ℕ) → sum lengths + n ≡ length bytes → bytes' ≡ bytes ++ piece → header ≡ []
-    → 4 * length lengths + length bytes + 4 + length piece ≤ 16384 → used_by (cut lengths bytes') (Header (drop (sum lengths) bytes') header) ≤ 16384
+pub ended_room : (bytes bytes' lengths header piece : List ℕ) (n : ℕ) → sum lengths + n ≡ length bytes → bytes' ≡ bytes ++ piece
+    → header ≡ []
+    → 4 * length lengths + length bytes + 4 + length piece ≤ 16384
+    → used_by (cut lengths bytes') (Header (drop (sum lengths) bytes') header) ≤ 16384
 ended_room bytes bytes' lengths header piece n whole e none room =
     let size : length bytes' ≡ length bytes + length piece = ap length e ∙ length-append bytes piece in
     omega (arith, used_at_header lengths bytes' header (n + length piece) (omega arith), ap length none)

@@ -21,7 +21,8 @@ go_on next payload false rest = next payload rest
 abbrev read_data : (List ℕ → List ℕ → Reading) → List ℕ → Bool → ℕ → List ℕ → Reading
 read_data next payload last size rest =
     cond (ltb 8192 (length payload + size)) ([], TooLong)
-    (cond (ltb (length rest) size) ([], Data (payload ++ rest) (size - length rest) last) (go_on next (payload ++ take size rest) last (drop size rest)))
+    (cond (ltb (length rest) size) ([], Data (payload ++ rest) (size - length rest) last)
+    (go_on next (payload ++ take size rest) last (drop size rest)))
 
 -- the reading of the bytes behind a payload, where the number is above their length
 read : ℕ → List ℕ → List ℕ → Reading
@@ -36,10 +37,12 @@ Reads payload bytes reading = (n : ℕ) → length bytes < n → read n payload 
 
 -- a header stands for its mark and its length
 header_word : (last : Bool) (size : ℕ) (rest : List ℕ) → size < 2 ^ 31
-    → (leb (2 ^ 31) (from_be_bytes w32 (header_of last size ++ rest)) ≡ last) × (from_be_bytes w32 (header_of last size ++ rest) % 2 ^ 31 ≡ size)
+    → (leb (2 ^ 31) (from_be_bytes w32 (header_of last size ++ rest)) ≡ last)
+    × (from_be_bytes w32 (header_of last size ++ rest) % 2 ^ 31 ≡ size)
     × (drop 4 (header_of last size ++ rest) ≡ rest) × (length (header_of last size ++ rest) ≡ 4 + length rest)
 header_word true size rest small =
-    let word : from_be_bytes w32 (header_of true size ++ rest) ≡ size + 2 ^ 31 = from_be_bytes-to_be_bytes_4 (size + 2 ^ 31) (omega arith) in
+    let word : from_be_bytes w32 (header_of true size ++ rest) ≡ size + 2 ^ 31 =
+    from_be_bytes-to_be_bytes_4 (size + 2 ^ 31) (omega arith) in
     (le-leb _ _ (omega arith), omega arith, refl, omega arith)
 header_word false size rest small =
     let word : from_be_bytes w32 (header_of false size ++ rest) ≡ size = from_be_bytes-to_be_bytes_4 size (omega arith) in
@@ -52,7 +55,8 @@ short_reads payload header short zero more = absurd (omega arith)
 short_reads payload header short (suc n) more = rw (lt-ltb (length header) 4 short) refl
 
 -- a header, and what its data are read as
-header_reads : (last : Bool) (size : ℕ) (payload rest : List ℕ) (reading : Reading) → size < 2 ^ 31 → ((n : ℕ) → length rest < n → read_data (read n) payload last size rest ≡ reading)
+header_reads : (last : Bool) (size : ℕ) (payload rest : List ℕ) (reading : Reading) → size < 2 ^ 31
+    → ((n : ℕ) → length rest < n → read_data (read n) payload last size rest ≡ reading)
     → Reads payload (header_of last size ++ rest) reading
 unfolding read
 header_reads last size payload rest reading small next zero more = absurd (omega arith)
@@ -61,8 +65,10 @@ header_reads last size payload rest reading small next (suc n) more =
     rw (le-ltb (length (header_of last size ++ rest)) 4 (omega (arith, w)), w.0, w.1, w.2) (next n (omega (arith, w)))
 
 -- a header that makes the record too long
-long_reads : (last : Bool) (size : ℕ) (payload rest : List ℕ) → size < 2 ^ 31 → 8192 < length payload + size → Reads payload (header_of last size ++ rest) ([], TooLong)
-long_reads last size payload rest small long = header_reads last size payload rest ([], TooLong) small (λ n more. rw (lt-ltb 8192 (length payload + size) long) refl)
+long_reads : (last : Bool) (size : ℕ) (payload rest : List ℕ) → size < 2 ^ 31 → 8192 < length payload + size
+    → Reads payload (header_of last size ++ rest) ([], TooLong)
+long_reads last size payload rest small long = header_reads last size payload rest ([], TooLong) small
+    (λ n more. rw (lt-ltb 8192 (length payload + size) long) refl)
 
 -- a header and less than its data
 part_reads : (last : Bool) (missing : ℕ) (payload text : List ℕ) → 0 < missing → length payload + (length text + missing) ≤ 8192
@@ -70,16 +76,26 @@ part_reads : (last : Bool) (missing : ℕ) (payload text : List ℕ) → 0 < mis
 part_reads last missing payload text some fits =
     let left : length text + missing - length text ≡ missing = omega arith in
     header_reads last (length text + missing) payload text ([], Data (payload ++ text) missing last) (omega arith)
-    (λ n more. rw (le-ltb 8192 (length payload + (length text + missing)) fits, lt-ltb (length text) (length text + missing) (omega arith), left) refl)
+    (λ n more. rw (
+      le-ltb 8192 (length payload + (length text + missing)) fits,
+      lt-ltb (length text) (length text + missing) (omega arith),
+      left,
+    ) refl)
 
 -- a whole fragment
 fragment_reads : (last : Bool) (payload text rest : List ℕ) (reading : Reading) → length payload + length text ≤ 8192
-    → ((n : ℕ) → length rest < n → go_on (read n) (payload ++ text) last rest ≡ reading) → Reads payload (fragment last text ++ rest) reading
+    → ((n : ℕ) → length rest < n → go_on (read n) (payload ++ text) last rest ≡ reading)
+    → Reads payload (fragment last text ++ rest) reading
 fragment_reads last payload text rest reading fits next =
     let long : length text ≤ length (text ++ rest) = omega (arith, length-append text rest) in
     rw (append_assoc (header_of last (length text)) text rest)
     (header_reads last (length text) payload (text ++ rest) reading (omega arith)
-    (λ n more. rw (le-ltb 8192 (length payload + length text) fits, le-ltb (length (text ++ rest)) (length text) long, take_at text rest (length text) refl, drop_at text rest (length text) refl)
+    (λ n more. rw (
+      le-ltb 8192 (length payload + length text) fits,
+      le-ltb (length (text ++ rest)) (length text) long,
+      take_at text rest (length text) refl,
+      drop_at text rest (length text) refl,
+    )
     (next n (omega (arith, length-append text rest)))))
 
 -- equal bytes are read alike
@@ -87,7 +103,8 @@ moved : (payload a b : List ℕ) (reading : Reading) → b ≡ a → Reads paylo
 moved payload a b reading same reads = subst (λ bytes. Reads payload bytes reading) (sym same) reads
 
 -- the fragments in front of the last one
-fronts_read : (front : List (List ℕ)) (payload rest : List ℕ) (reading : Reading) → length payload + length (concat front) ≤ 8192 → Reads (payload ++ concat front) rest reading
+fronts_read : (front : List (List ℕ)) (payload rest : List ℕ) (reading : Reading) → length payload + length (concat front) ≤ 8192
+    → Reads (payload ++ concat front) rest reading
     → Reads payload (flat_map (fragment false) front ++ rest) reading
 fronts_read [] payload rest reading fits next = rw append-nil at next
 fronts_read (text ∷ front) payload rest reading fits next =
@@ -97,13 +114,15 @@ fronts_read (text ∷ front) payload rest reading fits next =
     (fragment_reads false payload text (flat_map (fragment false) front ++ rest) reading (omega arith) again)
 
 -- whole records, and a tail that is read so
-records_read : (sent : List Sent) (rest : List ℕ) (tail : Tail) → AllByRecursion IsTaken sent → Reads [] rest ([], tail) → Reads [] (flat_map bytes_of sent ++ rest) (map record_of sent, tail)
+records_read : (sent : List Sent) (rest : List ℕ) (tail : Tail) → AllByRecursion IsTaken sent → Reads [] rest ([], tail)
+    → Reads [] (flat_map bytes_of sent ++ rest) (map record_of sent, tail)
 records_read [] rest tail taken next = next
 records_read (first ∷ sent) rest tail taken next =
     let others = records_read sent rest tail taken.1 next in
     let size = length-append (concat first.front) first.final in
     let bytes = flat_map bytes_of sent ++ rest in
-    let final = fragment_reads true (concat first.front) first.final bytes (map record_of (first ∷ sent), tail) (omega (arith, taken.0)) (λ n more. rw (others n more) refl) in
+    let final = fragment_reads true (concat first.front) first.final bytes (map record_of (first ∷ sent), tail) (omega (arith, taken.0))
+    (λ n more. rw (others n more) refl) in
     moved [] _ _ (map record_of (first ∷ sent), tail) (simp append_assoc)
     (fronts_read first.front [] (fragment true first.final ++ bytes) (map record_of (first ∷ sent), tail) (omega (arith, taken.0)) final)
 
@@ -115,12 +134,15 @@ tail_reads rest (Header payload header) is =
 tail_reads rest (Data payload missing last) is =
     let size = ap length is.3 ∙ length-append (concat is.0) is.1 in
     rw (is.2, is.3)
-    (fronts_read is.0 [] (header_of last (length is.1 + missing) ++ is.1) _ (omega (arith, size, is.5)) (part_reads last missing (concat is.0) is.1 is.4 (omega (arith, size, is.5))))
-tail_reads rest TooLong is = rw is.4 (fronts_read is.0 [] (header_of is.2 is.1 ++ is.3) _ (omega (arith, is.5)) (long_reads is.2 is.1 (concat is.0) is.3 is.6 is.7))
+    (fronts_read is.0 [] (header_of last (length is.1 + missing) ++ is.1) _ (omega (arith, size, is.5))
+    (part_reads last missing (concat is.0) is.1 is.4 (omega (arith, size, is.5))))
+tail_reads rest TooLong is =
+    rw is.4 (fronts_read is.0 [] (header_of is.2 is.1 ++ is.3) _ (omega (arith, is.5)) (long_reads is.2 is.1 (concat is.0) is.3 is.6 is.7))
 
 -- a stream is read as it splits
 splits_read : (stream : List ℕ) (all : List (List ℕ)) (tail : Tail) → Splits stream all tail → Reads [] stream (all, tail)
-splits_read stream all tail splits = rw (splits.whole, ← splits.told) (records_read splits.sent splits.rest tail splits.taken (tail_reads splits.rest tail splits.behind))
+splits_read stream all tail splits = rw (splits.whole, ← splits.told)
+    (records_read splits.sent splits.rest tail splits.taken (tail_reads splits.rest tail splits.behind))
 
 -- a stream that splits in two ways is read as both
 pub one_reading : OneReading

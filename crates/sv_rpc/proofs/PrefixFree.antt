@@ -39,7 +39,8 @@ pub calls_prefix_free : CallsPrefixFree
 calls_prefix_free x y c d v w bytes after behind h k = let a = agree (heading x c v) (heading y d w) bytes after behind h k in (cc, cc)
 
 -- headers of replies that agree are one: of two shapes, the third or the sixth words differ
-replies_agree : (x y : ℕ) (r s : Reply) (after behind : List ℕ) → Agree (reply_fields x r) (reply_fields y s) after behind → (x ≡ y) × (r ≡ s) × (after ≡ behind)
+replies_agree : (x y : ℕ) (r s : Reply) (after behind : List ℕ) → Agree (reply_fields x r) (reply_fields y s) after behind
+    → (x ≡ y) × (r ≡ s) × (after ≡ behind)
 replies_agree x y Success Success after behind h = (h.0, refl, cc)
 replies_agree x y Mismatch Mismatch after behind h = (h.0, refl, cc)
 replies_agree x y ProgUnavail ProgUnavail after behind h = (h.0, refl, cc)
@@ -50,4 +51,5 @@ replies_agree x y r s after behind h = absurd (omega arith)
 
 -- headers of replies that begin the same bytes
 pub replies_prefix_free : RepliesPrefixFree
-replies_prefix_free x y r s bytes after behind h k = replies_agree x y r s after behind (agree (reply_fields x r) (reply_fields y s) bytes after behind h k)
+replies_prefix_free x y r s bytes after behind h k =
+    replies_agree x y r s after behind (agree (reply_fields x r) (reply_fields y s) bytes after behind h k)

@@ -9,8 +9,10 @@ use Rattle.sv_rpc.specs.RecordBuf.{Held}
 use Rattle.sv_rpc.specs.Kept.{InRoom, Fits, IsInHeader, spare_of, after_byte, after_header}
 
 -- what records count, with one more
-counted-push : (records : List (List ℕ)) (r : List ℕ) → sum_by (λ (r : List ℕ). 4 + length r) (records ++ r ∷ []) ≡ sum_by (λ (r : List ℕ). 4 + length r) records + (4 + length r)
-counted-push records r = sum_by-append (λ r. 4 + length r) records (r ∷ []) ∙ ap (λ (n : ℕ). sum_by (λ (r : List ℕ). 4 + length r) records + n) (sum_by-cons (λ (r : List ℕ). 4 + length r) r [] ∙ omega arith)
+counted-push : (records : List (List ℕ)) (r : List ℕ)
+    → sum_by (λ (r : List ℕ). 4 + length r) (records ++ r ∷ []) ≡ sum_by (λ (r : List ℕ). 4 + length r) records + (4 + length r)
+counted-push records r = sum_by-append (λ r. 4 + length r) records (r ∷ [])
+    ∙ ap (λ (n : ℕ). sum_by (λ (r : List ℕ). 4 + length r) records + n) (sum_by-cons (λ (r : List ℕ). 4 + length r) r [] ∙ omega arith)
 
 spare_is_small : (payload : List ℕ) → spare_of payload ≤ 4
 spare_is_small [] = omega arith
@@ -28,12 +30,15 @@ header_room records payload header size n last fits =
       ])
     ]
   where
-    empty : (b : Bool) → InRoom (cond b (record { records = records ++ payload ∷ []; tail = Header [] [] }) (record { records = records; tail = Header payload [] })) n
+    empty : (b : Bool)
+        → InRoom (cond b (record { records = records ++ payload ∷ []; tail = Header [] [] })
+        (record { records = records; tail = Header payload [] })) n
     empty true = omega (arith, counted-push records payload, spare_is_small payload, fits)
     empty false = omega (arith, fits)
 
 -- behind a byte of a header
-pub byte_room : (held new : Held) (byte n : ℕ) → IsInHeader held.tail → new ≡ after_byte held.records held.tail byte → InRoom held (1 + n) → InRoom new n
+pub byte_room : (held new : Held) (byte n : ℕ) → IsInHeader held.tail → new ≡ after_byte held.records held.tail byte → InRoom held (1 + n)
+    → InRoom new n
 byte_room held new byte n in_header value fits = rw value (at held.tail in_header fits)
   where
     at : (tail : Tail) → IsInHeader tail → Fits held.records tail (1 + n) → InRoom (after_byte held.records tail byte) n

@@ -15,7 +15,8 @@ all_push P [] x all one = (one, tt)
 all_push P (y ∷ xs) x all one = (all.0, all_push P xs x all.1 one)
 
 -- the stream with another tail behind the same records
-longer : (stream piece : List ℕ) (all : List (List ℕ)) (s t : Tail) (splits : Splits stream all s) → IsTail (splits.rest ++ piece) t → Splits (stream ++ piece) all t
+longer : (stream piece : List ℕ) (all : List (List ℕ)) (s t : Tail) (splits : Splits stream all s) → IsTail (splits.rest ++ piece) t
+    → Splits (stream ++ piece) all t
 longer stream piece all s t splits behind = record {
   sent = splits.sent;
   rest = splits.rest ++ piece;
@@ -26,7 +27,8 @@ longer stream piece all s t splits behind = record {
 }
 
 -- the stream with one more whole record, and nothing behind it
-one_more : (stream piece : List ℕ) (all : List (List ℕ)) (text : List ℕ) (s : Tail) (splits : Splits stream all s) (sent : Sent) → splits.rest ++ piece ≡ bytes_of sent
+one_more : (stream piece : List ℕ) (all : List (List ℕ)) (text : List ℕ) (s : Tail) (splits : Splits stream all s) (sent : Sent)
+    → splits.rest ++ piece ≡ bytes_of sent
     → text ≡ record_of sent → length text ≤ 8192 → Splits (stream ++ piece) (all ++ text ∷ []) (Header [] [])
 one_more stream piece all text s splits sent is text_is taken = record {
   sent = splits.sent ++ sent ∷ [];
@@ -42,15 +44,24 @@ pub nothing_splits : Splits [] [] (Header [] [])
 nothing_splits = record { sent = []; rest = []; whole = refl; told = refl; taken = tt; behind = ([], refl, refl, omega arith, omega arith) }
 
 -- a byte that does not complete the header
-pub header_grows : (stream : List ℕ) (all : List (List ℕ)) (payload header : List ℕ) (byte : ℕ) → Splits stream all (Header payload header) → length header + 1 < 4
+pub header_grows : (stream : List ℕ) (all : List (List ℕ)) (payload header : List ℕ) (byte : ℕ) → Splits stream all (Header payload header)
+    → length header + 1 < 4
     → Splits (stream ++ byte ∷ []) all (Header payload (header ++ byte ∷ []))
 header_grows stream all payload header byte splits short =
     let b = splits.behind in
-    longer stream (byte ∷ []) all (Header payload header) _ splits (b.0, rw (b.1, append_assoc) refl, b.2, omega (arith, length-append header (byte ∷ [])), b.4)
+    longer stream (byte ∷ []) all (Header payload header) _ splits (
+      b.0,
+      rw (b.1, append_assoc) refl,
+      b.2,
+      omega (arith, length-append header (byte ∷ [])),
+      b.4,
+    )
 
 -- the byte that completes the header of a fragment with data that may be taken
-pub header_ends : (stream : List ℕ) (all : List (List ℕ)) (payload header : List ℕ) (byte size : ℕ) (last : Bool) → Splits stream all (Header payload header)
-    → header ++ byte ∷ [] ≡ header_of last size → 0 < size → length payload + size ≤ 8192 → Splits (stream ++ byte ∷ []) all (Data payload size last)
+pub header_ends : (stream : List ℕ) (all : List (List ℕ)) (payload header : List ℕ) (byte size : ℕ) (last : Bool)
+    → Splits stream all (Header payload header)
+    → header ++ byte ∷ [] ≡ header_of last size → 0 < size → length payload + size ≤ 8192
+    → Splits (stream ++ byte ∷ []) all (Data payload size last)
 header_ends stream all payload header byte size last splits is some fits =
     let b = splits.behind in
     let none : 0 + size ≡ size = omega arith in
@@ -62,19 +73,27 @@ pub empty_ends : (stream : List ℕ) (all : List (List ℕ)) (payload header : L
     → header ++ byte ∷ [] ≡ header_of false 0 → Splits (stream ++ byte ∷ []) all (Header payload [])
 empty_ends stream all payload header byte splits is =
     let b = splits.behind in
-    longer stream (byte ∷ []) all (Header payload header) _ splits
-    (b.0 ++ [] ∷ [], rw (b.1, append_assoc, is, flat_map-append (fragment false) b.0 ([] ∷ [])) (simp append-nil), rw (b.2, concat-append b.0 ([] ∷ [])) (simp append-nil), omega arith, b.4)
+    longer stream (byte ∷ []) all (Header payload header) _ splits (
+      b.0 ++ [] ∷ [],
+      rw (b.1, append_assoc, is, flat_map-append (fragment false) b.0 ([] ∷ [])) (simp append-nil),
+      rw (b.2, concat-append b.0 ([] ∷ [])) (simp append-nil),
+      omega arith,
+      b.4,
+    )
 
 -- the byte that completes the header of an empty fragment, the last of its record
-pub empty_last_ends : (stream : List ℕ) (all : List (List ℕ)) (payload header : List ℕ) (byte : ℕ) → Splits stream all (Header payload header)
+pub empty_last_ends : (stream : List ℕ) (all : List (List ℕ)) (payload header : List ℕ) (byte : ℕ)
+    → Splits stream all (Header payload header)
     → header ++ byte ∷ [] ≡ header_of true 0 → Splits (stream ++ byte ∷ []) (all ++ payload ∷ []) (Header [] [])
 empty_last_ends stream all payload header byte splits is =
     let b = splits.behind in
     let sent : Sent = record { front = b.0; final = [] } in
-    one_more stream (byte ∷ []) all payload (Header payload header) splits sent (rw (b.1, append_assoc, is) refl) (b.2 ∙ sym (append-nil (concat b.0))) b.4
+    one_more stream (byte ∷ []) all payload (Header payload header) splits sent (rw (b.1, append_assoc, is) refl)
+    (b.2 ∙ sym (append-nil (concat b.0))) b.4
 
 -- the byte that completes the header of a fragment that makes the record too long
-pub header_too_long : (stream : List ℕ) (all : List (List ℕ)) (payload header : List ℕ) (byte size : ℕ) (last : Bool) → Splits stream all (Header payload header)
+pub header_too_long : (stream : List ℕ) (all : List (List ℕ)) (payload header : List ℕ) (byte size : ℕ) (last : Bool)
+    → Splits stream all (Header payload header)
     → header ++ byte ∷ [] ≡ header_of last size → size < 2 ^ 31 → 8192 < length payload + size → Splits (stream ++ byte ∷ []) all TooLong
 header_too_long stream all payload header byte size last splits is small long =
     let b = splits.behind in
@@ -82,16 +101,24 @@ header_too_long stream all payload header byte size last splits is small long =
     (b.0, size, last, [], rw (b.1, append_assoc, is, append-nil (header_of last size)) refl, rw (← b.2) b.4, small, rw (← b.2) long)
 
 -- a piece of the data, but not all that are missing
-pub data_grows : (stream piece : List ℕ) (all : List (List ℕ)) (payload : List ℕ) (missing : ℕ) (last : Bool) → Splits stream all (Data payload missing last)
+pub data_grows : (stream piece : List ℕ) (all : List (List ℕ)) (payload : List ℕ) (missing : ℕ) (last : Bool)
+    → Splits stream all (Data payload missing last)
     → length piece < missing → Splits (stream ++ piece) all (Data (payload ++ piece) (missing - length piece) last)
 data_grows stream piece all payload missing last splits less =
     let b = splits.behind in
     let size : length (b.1 ++ piece) + (missing - length piece) ≡ length b.1 + missing = omega (arith, length-append b.1 piece) in
-    longer stream piece all (Data payload missing last) _ splits
-    (b.0, b.1 ++ piece, rw (b.2, size) (simp append_assoc), rw (b.3, append_assoc) refl, omega arith, omega (arith, length-append payload piece))
+    longer stream piece all (Data payload missing last) _ splits (
+      b.0,
+      b.1 ++ piece,
+      rw (b.2, size) (simp append_assoc),
+      rw (b.3, append_assoc) refl,
+      omega arith,
+      omega (arith, length-append payload piece),
+    )
 
 -- the data that are missing, of a fragment that is not the last of its record
-pub data_ends : (stream piece : List ℕ) (all : List (List ℕ)) (payload : List ℕ) (missing : ℕ) → Splits stream all (Data payload missing false)
+pub data_ends : (stream piece : List ℕ) (all : List (List ℕ)) (payload : List ℕ) (missing : ℕ)
+    → Splits stream all (Data payload missing false)
     → length piece ≡ missing → Splits (stream ++ piece) all (Header (payload ++ piece) [])
 data_ends stream piece all payload missing splits ends =
     let b = splits.behind in
@@ -105,13 +132,15 @@ data_ends stream piece all payload missing splits ends =
     )
 
 -- the data that are missing, of the last fragment of a record
-pub data_last_ends : (stream piece : List ℕ) (all : List (List ℕ)) (payload : List ℕ) (missing : ℕ) → Splits stream all (Data payload missing true)
+pub data_last_ends : (stream piece : List ℕ) (all : List (List ℕ)) (payload : List ℕ) (missing : ℕ)
+    → Splits stream all (Data payload missing true)
     → length piece ≡ missing → Splits (stream ++ piece) (all ++ (payload ++ piece) ∷ []) (Header [] [])
 data_last_ends stream piece all payload missing splits ends =
     let b = splits.behind in
     let size : length b.1 + missing ≡ length (b.1 ++ piece) = omega (arith, length-append b.1 piece) in
     let sent : Sent = record { front = b.0; final = b.1 ++ piece } in
-    one_more stream piece all (payload ++ piece) (Data payload missing true) splits sent (rw (b.2, size) (simp append_assoc)) (rw (b.3, append_assoc) refl)
+    one_more stream piece all (payload ++ piece) (Data payload missing true) splits sent (rw (b.2, size) (simp append_assoc))
+    (rw (b.3, append_assoc) refl)
     (omega (arith, length-append payload piece))
 
 -- behind a record that is too long, nothing is read
@@ -126,6 +155,7 @@ word_heads word true is small = ap (to_be_bytes w32) (omega (arith, leb-true (2 
 word_heads word false is small = ap (to_be_bytes w32) (omega (arith, leb-false (2 ^ 31) word is))
 
 -- four bytes are the header that their word stands for: its top bit says whether the fragment is the last, and the others are the length
-pub header_read : (header : List ℕ) (word : ℕ) → length header ≡ 4 → ((i : ℕ) → get_or header i 0 < 256) → word ≡ from_be_bytes w32 header → word < 2 ^ 32
+pub header_read : (header : List ℕ) (word : ℕ) → length header ≡ 4 → ((i : ℕ) → get_or header i 0 < 256) → word ≡ from_be_bytes w32 header
+    → word < 2 ^ 32
     → header ≡ header_of (leb (2 ^ 31) word) (word % 2 ^ 31)
 header_read header word four bytes is small = sym (be_bytes_4 header word four bytes is) ∙ word_heads word (leb (2 ^ 31) word) refl small

@@ -10,7 +10,8 @@ use Rattle.sv_xdr.proofs.Appended.{Appends-then}
 
 -- the first pieces and one more
 pub one_more : (f : ℕ → List ℕ) (words : List ℕ) (i : ℕ) (old mid new : Writer) → i < length words
-    → Appends (concat (map f (take i words))) old mid → Appends (f (get_or words i 0)) mid new → Appends (concat (map f (take (i + 1) words))) old new
+    → Appends (concat (map f (take i words))) old mid → Appends (f (get_or words i 0)) mid new
+    → Appends (concat (map f (take (i + 1) words))) old new
 one_more f words i old mid new h first second =
     let pieces = map f (take i words) in
     let whole : concat (map f (take (i + 1) words)) ≡ concat pieces ++ f (get_or words i 0) =
@@ -19,7 +20,8 @@ one_more f words i old mid new h first second =
     subst (λ (l : List ℕ). Appends l old new) (sym whole) (Appends-then (concat pieces) (f (get_or words i 0)) old mid new first second)
 
 -- one of the pieces, with those in front of it and behind it
-pub cut_at : (f : ℕ → List ℕ) (words : List ℕ) (i : ℕ) → i < length words → map f words ≡ map f (take i words) ++ f (get_or words i 0) ∷ map f (drop (suc i) words)
+pub cut_at : (f : ℕ → List ℕ) (words : List ℕ) (i : ℕ) → i < length words
+    → map f words ≡ map f (take i words) ++ f (get_or words i 0) ∷ map f (drop (suc i) words)
 cut_at f words i h = ap (map f) (split_at words i 0 h) ∙ map-append f (take i words) _
 
 -- a write that did nothing adds nothing

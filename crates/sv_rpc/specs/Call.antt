@@ -31,11 +31,13 @@ heading call credential verifier =
 
 -- The record is this call, under some credential and verifier.
 abbrev pub IsCall : List ℕ → Asked → Type 0
-IsCall bytes call = (credential verifier : Auth) × (length credential.body ≤ 400) × (length verifier.body ≤ 400) × BeginsAll bytes (heading call credential verifier) call.args
+IsCall bytes call = (credential verifier : Auth) × (length credential.body ≤ 400) × (length verifier.body ≤ 400)
+    × BeginsAll bytes (heading call credential verifier) call.args
 
 -- The record is a call under another version of RPC, whatever follows the version.
 abbrev pub IsOtherVersion : List ℕ → ℕ → Type 0
-IsOtherVersion bytes xid = (version : ℕ) × (after : List ℕ) × (version ≢ 2) × BeginsAll bytes (Unsigned xid ∷ Unsigned 0 ∷ Unsigned version ∷ []) after
+IsOtherVersion bytes xid = (version : ℕ) × (after : List ℕ) × (version ≢ 2)
+    × BeginsAll bytes (Unsigned xid ∷ Unsigned 0 ∷ Unsigned version ∷ []) after
 
 -- What a record is as a call.
 abbrev pub CallIs : List ℕ → Result Asked CallFault → Type 0

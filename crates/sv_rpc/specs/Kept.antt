@@ -89,7 +89,8 @@ after_header records tail size last =
 abbrev pub after_byte : List (List ℕ) → Tail → ℕ → Held
 after_byte records (Header payload header) byte =
     if nat_lt (length header) 3 then record { records = records; tail = Header payload (header ++ byte ∷ []) }
-    else (let word = from_be_bytes w32 (header ++ byte ∷ []) in after_header records (Header payload header) (word % 2 ^ 31) (nat_le (2 ^ 31) word))
+    else (let word = from_be_bytes w32 (header ++ byte ∷ []) in
+    after_header records (Header payload header) (word % 2 ^ 31) (nat_le (2 ^ 31) word))
 after_byte records (Data payload missing last) byte = record { records = records; tail = Data payload missing last }
 after_byte records TooLong byte = record { records = records; tail = TooLong }
 
@@ -98,7 +99,11 @@ abbrev pub after_data : List (List ℕ) → Tail → List ℕ → Held
 after_data records (Header payload header) piece = record { records = records; tail = Header payload header }
 after_data records (Data payload missing last) piece =
     if nat_lt (length piece) missing then record { records = records; tail = Data (payload ++ piece) (missing - length piece) last }
-    else (if last then record { records = records ++ (payload ++ piece) ∷ []; tail = Header [] [] } else record { records = records; tail = Header (payload ++ piece) [] })
+    else (if last then record { records = records ++ (payload ++ piece) ∷ []; tail = Header [] [] } else record {
+      records = records;
+      tail =
+          Header (payload ++ piece) [];
+    })
 after_data records TooLong piece = record { records = records; tail = TooLong }
 
 -- What is held goes on from old to new by these bytes of the stream.

@@ -17,10 +17,12 @@ OneCall = (bytes : List ℕ) (a b : Result Asked CallFault) → CallIs bytes a �
 
 -- Where two headers of calls begin the same bytes, they are one, and what follows them too. So none is a proper prefix of another.
 abbrev pub CallsPrefixFree : Type 0
-CallsPrefixFree = (x y : Asked) (c d v w : Auth) (bytes after behind : List ℕ) → BeginsAll bytes (heading x c v) after → BeginsAll bytes (heading y d w) behind
+CallsPrefixFree = (x y : Asked) (c d v w : Auth) (bytes after behind : List ℕ) → BeginsAll bytes (heading x c v) after
+    → BeginsAll bytes (heading y d w) behind
     → (heading x c v ≡ heading y d w) × (after ≡ behind)
 
 -- Likewise the headers of replies.
 abbrev pub RepliesPrefixFree : Type 0
-RepliesPrefixFree = (x y : ℕ) (r s : Reply) (bytes after behind : List ℕ) → BeginsAll bytes (reply_fields x r) after → BeginsAll bytes (reply_fields y s) behind
+RepliesPrefixFree = (x y : ℕ) (r s : Reply) (bytes after behind : List ℕ) → BeginsAll bytes (reply_fields x r) after
+    → BeginsAll bytes (reply_fields y s) behind
     → (x ≡ y) × (r ≡ s) × (after ≡ behind)

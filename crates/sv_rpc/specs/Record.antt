@@ -37,8 +37,8 @@ pub data Tail : Type 0 where
   Data : (payload : List ℕ) (missing : ℕ) (last : Bool) → Tail
   TooLong : Tail
 
--- Behind whole fragments that aren't the last of their record stands less than a header, or a header and less than its data, or the header that
--- makes the record too long, and then anything.
+-- Behind whole fragments that aren't the last of their record stands less than a header, or a header and less than its data, or the header
+-- that makes the record too long, and then anything.
 abbrev pub IsTail : List ℕ → Tail → Type 0
 IsTail bytes (Header payload header) = (front : List (List ℕ)) × (bytes ≡ flat_map (fragment false) front ++ header)
     × (payload ≡ concat front) × (length header < 4) × (length payload ≤ max_record)

@@ -20,7 +20,8 @@ pub record StandsFor (held : Held) (stream : List ℕ) (dropped : ℕ) : Type 0 
   pub few : dropped ≤ length all
   pub kept : held.records ≡ drop dropped all
 
--- how many bytes are counted, in all, for whole records that stand there and for the unfinished one, which counts 4 even when nothing of it came
+-- how many bytes are counted, in all, for whole records that stand there and for the unfinished one, which counts 4 even when nothing of it
+-- came
 abbrev pub used_by : List (List ℕ) → Tail → ℕ
 used_by records (Header payload header) = sum_by (λ r. 4 + length r) records + (4 + length payload + length header)
 used_by records (Data payload missing last) = sum_by (λ r. 4 + length r) records + (4 + length payload)
@@ -42,11 +43,13 @@ next_among (r ∷ rs) tail = Ok (Some r)
 
 -- Of the stream's records the one behind those that were dropped is next.
 abbrev pub IsNext : List ℕ → ℕ → Result (Option (List ℕ)) RpcFault → Type 0
-IsNext stream dropped answer = (all : List (List ℕ)) × (tail : Tail) × Splits stream all tail × (dropped ≤ length all) × (answer ≡ next_among (drop dropped all) tail)
+IsNext stream dropped answer = (all : List (List ℕ)) × (tail : Tail) × Splits stream all tail × (dropped ≤ length all)
+    × (answer ≡ next_among (drop dropped all) tail)
 
 -- The room is counted over the stream's records without those that were dropped.
 abbrev pub IsRoom : List ℕ → ℕ → ℕ → Type 0
-IsRoom stream dropped room = (all : List (List ℕ)) × (tail : Tail) × Splits stream all tail × (dropped ≤ length all) × (room ≡ 16384 - used_by (drop dropped all) tail)
+IsRoom stream dropped room = (all : List (List ℕ)) × (tail : Tail) × Splits stream all tail × (dropped ≤ length all)
+    × (room ≡ 16384 - used_by (drop dropped all) tail)
 
 -- the answer as plain data
 abbrev pub seen : Result (Option (Bor (List ℕ))) RpcFault → Result (Option (List ℕ)) RpcFault

@@ -1,4 +1,5 @@
--- The fields of a reply in front of its result (RFC 5531, section 9), and those of a call in front of its arguments, as they are written here.
+-- The fields of a reply in front of its result (RFC 5531, section 9), and those of a call in front of its arguments, as they are written
+-- here.
 use Rattle.std.specs.Prelude.{ℕ, List, [], ◌∷◌, ◌++◌}
 use Rattle.sv_xdr.specs.Spelling.{Field, Unsigned, Opaque}
 use Rattle.sv_rpc.specs.declared.reply.Reply.{Reply}

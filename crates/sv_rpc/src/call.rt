@@ -28,8 +28,8 @@ pub struct Call<'a> {
 /// Why a record is no call that can be answered by a program.
 #[derive(Clone, Copy, Debug, PartialEq, Eq, Error)]
 pub enum CallFault {
-    /// The record is no call: it is too short, its message type isn't 0, or under version 2 of RPC a
-    /// later field of the header can't be read. Nothing is answered.
+    /// The record is no call: it is too short, its message type isn't 0, or under version 2 of RPC
+    /// a later field of the header can't be read. Nothing is answered.
     #[error("the record is no call")]
     BadHeader,
     /// The call of this transaction is under another version of RPC than 2, whatever follows the
@@ -49,14 +49,16 @@ impl From<XdrFault> for CallFault {
     }
 }
 
-/// Reads the bytes of a record as a call (RFC 5531, section 9). The transaction, the message type and the version
-/// of RPC are read first, so `Version` comes whatever follows them; any fault of another field is
-/// `BadHeader`. Credential and verifier are of at most 400 bytes each, and aren't looked at.
+/// Reads the bytes of a record as a call (RFC 5531, section 9). The transaction, the message type
+/// and the version of RPC are read first, so `Version` comes whatever follows them; any fault of
+/// another field is `BadHeader`. Credential and verifier are of at most 400 bytes each, and aren't
+/// looked at.
 pub fn read_call(bytes: &[u8]) -> Result<Call<'_>, CallFault>
     // What is read is spelled there.
     ensures found { CallIs bytes.now (seen result) }
     // What is spelled there is read.
-    ensures only { (outcome : Result Asked CallFault) → CallIs bytes.now outcome → seen result ≡ outcome }
+    ensures only { (outcome : Result Asked CallFault) → CallIs bytes.now outcome
+        → seen result ≡ outcome }
     // Which of the three it is, as a function of the bytes.
     ensures exact { seen result ≡ call_at bytes.now }
 {

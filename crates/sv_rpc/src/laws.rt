@@ -12,7 +12,8 @@ pub fn one_call()
     ensures { OneCall }
 {}
 
-/// No header of a call is a proper prefix of another's, and no header of a reply of another reply's:
+/// No header of a call is a proper prefix of another's, and no header of a reply of another
+/// reply's:
 /// where two begin the same bytes, they are equal, and so is what follows them.
 pub fn prefix_free()
     ensures calls { CallsPrefixFree }

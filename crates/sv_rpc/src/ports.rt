@@ -23,8 +23,8 @@ pub struct Ports {
     pub abort: u16,
 }
 
-/// Answers GETPORT: the port of the core or the abort channel, each at version 1 over TCP, and 0 for
-/// every other program, version or protocol. Bytes behind the arguments are ignored.
+/// Answers GETPORT: the port of the core or the abort channel, each at version 1 over TCP, and 0
+/// for every other program, version or protocol. Bytes behind the arguments are ignored.
 #[tactic(auto, unfolding(crate::specs::Ports::port_at))]
 pub fn getport(args: &[u8], ports: Ports) -> Result<u32, Garbage>
     ensures told { PortIs ports args.now result }

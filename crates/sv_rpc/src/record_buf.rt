@@ -9,6 +9,7 @@ ghost use Rattle.sv_rpc.specs.Kept.{InRoom, GoesOn, IsInHeader, IsBeforeHeader, 
 use crate::NoMemory;
 use std::alloc::{Allocator, Global};
 use std::marker::Model;
+use sv_text::append;
 use thiserror::Error;
 
 /// How many bytes the records in a buffer may take, with 4 for each.
@@ -62,9 +63,11 @@ impl<A: Allocator> Model for RecordBuf<A> {
     ghost use Rattle.std.specs.Prelude.{take, vec_capacity};
     ghost use Rattle.sv_rpc.specs.Kept.{held_of, IsKept};
 
-    ghost view = { λ a. held_of a.bytes.items a.lengths.items (take a.header_len a.header) a.place };
+    ghost view = { λ a. held_of a.bytes.items a.lengths.items
+        (take a.header_len a.header) a.place };
 
-    ghost invariant = { λ a. IsKept a.bytes.items a.lengths.items a.header (vec_capacity a.bytes) (vec_capacity a.lengths) a.payload a.header_len a.place };
+    ghost invariant = { λ a. IsKept a.bytes.items a.lengths.items a.header (vec_capacity a.bytes)
+        (vec_capacity a.lengths) a.payload a.header_len a.place };
 }
 
 impl<A: Allocator + Copy> RecordBuf<A> {
@@ -89,7 +92,8 @@ impl<A: Allocator> RecordBuf<A> {
     /// unfinished fragment header. It is 0 once a record was too long.
     pub fn room(&self) -> usize
         ensures value { result ≡ room_of self.now }
-        ensures answer { (stream : List ℕ) (dropped : ℕ) → StandsFor self.now stream dropped → IsRoom stream dropped result }
+        ensures answer { (stream : List ℕ) (dropped : ℕ) → StandsFor self.now stream dropped
+            → IsRoom stream dropped result }
     {
         let begun = match self.place {
             Place::Header => self.header_len,
@@ -103,7 +107,8 @@ impl<A: Allocator> RecordBuf<A> {
     /// record in front of one that is too long, that fault.
     pub fn next(&self) -> Result<Option<&[u8]>, RpcFault>
         ensures value { seen result ≡ next_among self.now.records self.now.tail }
-        ensures answer { (stream : List ℕ) (dropped : ℕ) → StandsFor self.now stream dropped → IsNext stream dropped (seen result) }
+        ensures answer { (stream : List ℕ) (dropped : ℕ) → StandsFor self.now stream dropped
+            → IsNext stream dropped (seen result) }
     {
         if let Some(size) = self.lengths.first() {
             return Ok(Some(&self.bytes[..usize::from(*size)]));
@@ -117,8 +122,13 @@ impl<A: Allocator> RecordBuf<A> {
     /// Drops the first record, which the caller is done with.
     pub fn drop_first(&mut self)
         requires { self.old.records ≢ [] }
-        ensures value { self.new ≡ record { records = drop 1 self.old.records; tail = self.old.tail } }
-        ensures stands { (stream : List ℕ) (dropped : ℕ) → StandsFor self.old stream dropped → StandsFor self.new stream (dropped + 1) }
+        ensures value { self.new ≡ record {
+          records = drop 1 self.old.records;
+          tail =
+              self.old.tail;
+        } }
+        ensures stands { (stream : List ℕ) (dropped : ℕ) → StandsFor self.old stream dropped
+            → StandsFor self.new stream (dropped + 1) }
     {
         let size = usize::from(self.lengths.remove(0));
         self.bytes.drain(..size);
@@ -240,15 +250,6 @@ impl<A: Allocator> RecordBuf<A> {
         self.lengths.push_reserved(self.payload as u16);
         self.payload = 0;
     }
-}
-
-/// Puts a piece behind bytes that have room for it.
-fn append<A: Allocator>(bytes: &mut Vec<u8, A>, piece: &[u8])
-    requires { vec_len bytes.old + length piece.now ≤ vec_capacity bytes.old }
-    ensures items { bytes.new.items ≡ bytes.old.items ++ piece.now }
-    ensures capacity { vec_capacity bytes.old ≤ vec_capacity bytes.new }
-{
-    bytes.extend_from_slice(piece).unwrap();
 }
 
 /// The word that a header is.

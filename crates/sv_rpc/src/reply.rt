@@ -30,10 +30,12 @@ pub enum Reply {
 }
 
 /// Writes the header of a reply, without the fragment header in front of it and the result behind
-/// it. The fault is `NoRoom`, and the whole fields in front of the one that has no room stay written.
+/// it. The fault is `NoRoom`, and the whole fields in front of the one that has no room stay
+/// written.
 pub fn write_reply(writer: &mut Writer<'_>, xid: u32, reply: Reply) -> Result<(), XdrFault>
     ensures same_buffer { writer.new.out.ghost_name ≡ writer.old.out.ghost_name }
-    ensures writes { WritesEach (map spelling (reply_fields xid reply)) result writer.old writer.new }
+    ensures writes { WritesEach (map spelling (reply_fields xid reply)) result writer.old
+        writer.new }
 {
     match reply {
         Reply::Success => words(writer, &[xid, 1, 0, 0, 0, 0]),
@@ -55,7 +57,8 @@ pub fn write_call(
     proc: u32,
 ) -> Result<(), XdrFault>
     ensures same_buffer { writer.new.out.ghost_name ≡ writer.old.out.ghost_name }
-    ensures writes { WritesEach (map spelling (call_fields xid prog vers proc)) result writer.old writer.new }
+    ensures writes { WritesEach (map spelling (call_fields xid prog vers proc)) result writer.old
+        writer.new }
 {
     words(writer, &[xid, 0, 2, prog, vers, proc, 0, 0, 0, 0])
 }
@@ -63,7 +66,8 @@ pub fn write_call(
 /// Writes words; opaque data of length 0 are the word 0.
 fn words(writer: &mut Writer<'_>, words: &[u32]) -> Result<(), XdrFault>
     ensures same_buffer { writer.new.out.ghost_name ≡ writer.old.out.ghost_name }
-    ensures writes { WritesEach (map (λ word. spelling (Unsigned word)) words.now) result writer.old writer.new }
+    ensures writes { WritesEach (map (λ word. spelling (Unsigned word)) words.now) result writer.old
+        writer.new }
 {
     for word in words {
         writer.u32(*word)?;

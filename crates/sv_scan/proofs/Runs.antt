@@ -10,7 +10,8 @@ use Rattle.std.specs.List.{list_all}
 use Rattle.std.specs.Prelude.{◌==◌, nat_le, ◌&&◌}
 use Rattle.sv_scan.specs.declared.setting.Setting.TheVariants.{List as SetList}
 use Rattle.sv_scan.specs.declared.setting.State.TheVariants.{Idle, Waiting, Scanning}
-use Rattle.sv_scan.specs.Setting.{is_channel, is_possible}
+use Rattle.sv_errors.specs.Limits.{is_channel}
+use Rattle.sv_scan.specs.Setting.{is_possible}
 use Rattle.sv_scan.specs.Scan.{channel_at, state_by}
 use Rattle.sv_scan.specs.Counted.{is_scanning}
 use Rattle.sv_scan.specs.Stands.{Run, Held}
@@ -30,12 +31,15 @@ channel_in channels read possible =
     let size = size_in channels possible in
     let parts = and_parts (nat_le 1 (length channels)) (nat_le (length channels) 32 && list_all is_channel channels) possible in
     let all = (and_parts (nat_le (length channels) 32) (list_all is_channel channels) parts.1).1 in
-    All-get_or (λ (channel : ℕ). is_channel channel ≡ true) channels (read % length channels) 0 (mod_below read (length channels) (omega arith)) (AllPass-from_list_all is_channel channels all)
+    All-get_or (λ (channel : ℕ). is_channel channel ≡ true) channels (read % length channels) 0
+    (mod_below read (length channels) (omega arith)) (AllPass-from_list_all is_channel channels all)
 
 -- the channel whose turn it is
-pub turn_is : (held : Held) (capacity : ℕ) (r : Run) → held.run ≡ Some r → IsKept held capacity → is_channel (channel_at r.channels (length held.readings)) ≡ true
+pub turn_is : (held : Held) (capacity : ℕ) (r : Run) → held.run ≡ Some r → IsKept held capacity
+    → is_channel (channel_at r.channels (length held.readings)) ≡ true
 turn_is held capacity r e kept =
-    let run : IsRun r (length held.readings) = subst (λ (o : Option Run). IsRunOf o (length held.readings)) e kept.run in channel_in r.channels (length held.readings) run.channels
+    let run : IsRun r (length held.readings) = subst (λ (o : Option Run). IsRunOf o (length held.readings)) e kept.run in
+    channel_in r.channels (length held.readings) run.channels
 
 -- in a scan not each triggered channel was read
 is_short : (all triggered : Bool) → is_scanning (if all then Idle else if triggered then Waiting else Scanning) ≡ true → triggered ≡ false
@@ -43,8 +47,10 @@ is_short true triggered e = cc
 is_short false true e = cc
 is_short false false e = refl
 
-short_in : (r : Run) (read : ℕ) → is_scanning (state_by r.triggers read (length r.channels) r.scans) ≡ true → read ≡ r.triggers * length r.channels → ⊥
-short_in r read e = eqb-false read (r.triggers * length r.channels) (is_short (read == r.scans * length r.channels) (read == r.triggers * length r.channels) e)
+short_in : (r : Run) (read : ℕ) → is_scanning (state_by r.triggers read (length r.channels) r.scans) ≡ true
+    → read ≡ r.triggers * length r.channels → ⊥
+short_in r read e = eqb-false read (r.triggers * length r.channels)
+    (is_short (read == r.scans * length r.channels) (read == r.triggers * length r.channels) e)
 
 -- so there is room for one more
 room_in : (r : Run) (read capacity : ℕ) → 512 ≤ capacity → IsRun r read → (read ≡ r.triggers * length r.channels → ⊥) → read < capacity
@@ -54,8 +60,10 @@ room_in r read capacity room run short =
     let bound : r.triggers * length r.channels ≤ 16 * 32 = mul-le-mul triggers size.1 in
     omega (arith, run.read, short)
 
-pub has_room : (held : Held) (capacity : ℕ) (r : Run) → held.run ≡ Some r → IsKept held capacity → is_scanning (run_state held.run (length held.readings)) ≡ true → length held.readings < capacity
+pub has_room : (held : Held) (capacity : ℕ) (r : Run) → held.run ≡ Some r → IsKept held capacity
+    → is_scanning (run_state held.run (length held.readings)) ≡ true → length held.readings < capacity
 has_room held capacity r e kept scanning =
     let run : IsRun r (length held.readings) = subst (λ (o : Option Run). IsRunOf o (length held.readings)) e kept.run in
-    let now : is_scanning (run_state (Some r) (length held.readings)) ≡ true = subst (λ (o : Option Run). is_scanning (run_state o (length held.readings)) ≡ true) e scanning in
+    let now : is_scanning (run_state (Some r) (length held.readings)) ≡ true =
+    subst (λ (o : Option Run). is_scanning (run_state o (length held.readings)) ≡ true) e scanning in
     room_in r (length held.readings) capacity kept.room run (short_in r (length held.readings) now)

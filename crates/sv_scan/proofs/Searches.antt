@@ -14,7 +14,8 @@ use Rattle.sv_scan.specs.Kept.{run_state, run_complete}
 -- there are as many readings as samples
 pub length-readings : (log : List ScanAct) → length (readings log) ≡ samples log
 length-readings [] = refl
-length-readings (Sample ∷ log) = length-append (readings log) (reading log ∷ []) ∙ ap (λ (n : ℕ). n + 1) (length-readings log) ∙ add-one (samples log)
+length-readings (Sample ∷ log) = length-append (readings log) (reading log ∷ []) ∙ ap (λ (n : ℕ). n + 1) (length-readings log)
+    ∙ add-one (samples log)
 length-readings (Init ∷ log) = refl
 length-readings (Abort ∷ log) = refl
 length-readings (Reset ∷ log) = refl
@@ -27,7 +28,8 @@ last_of : (xs : List Reading) (x : Reading) → slice_get (xs ++ x ∷ []) (leng
 last_of xs x =
     let size = length-append xs (x ∷ []) in
     let place : length (xs ++ x ∷ []) - 1 ≡ length xs = omega arith in
-    ap (slice_get (xs ++ x ∷ [])) place ∙ slice_get-get_or (xs ++ x ∷ []) (length xs) x (omega arith) ∙ ap (λ (y : Reading). Some y) (get_or-append_seam xs x [] x)
+    ap (slice_get (xs ++ x ∷ [])) place ∙ slice_get-get_or (xs ++ x ∷ []) (length xs) x (omega arith)
+    ∙ ap (λ (y : Reading). Some y) (get_or-append_seam xs x [] x)
 
 -- the last reading is the newest
 last_is : (log : List ScanAct) → slice_get (readings log) (length (readings log) - 1) ≡ last_reading log
@@ -40,7 +42,8 @@ last_is (Input channel microvolts ∷ log) = last_is log
 last_is (Configure setting ∷ log) = last_is log
 last_is (Trigger source ∷ log) = last_is log
 
-pub last_found : (found held : List Reading) (log : List ScanAct) → found ≡ held → held ≡ readings log → slice_get found (length found - 1) ≡ last_reading log
+pub last_found : (found held : List Reading) (log : List ScanAct) → found ≡ held → held ≡ readings log
+    → slice_get found (length found - 1) ≡ last_reading log
 last_found found held log same is = ap (λ (xs : List Reading). slice_get xs (length xs - 1)) (same ∙ is) ∙ last_is log
 
 -- a measurement, as the acts in front of its initiation give it
@@ -48,7 +51,8 @@ abbrev run_of : ℕ → List ScanAct → Run
 run_of count_of before = record { channels = scan_list before; scans = count before; triggers = count_of }
 
 -- the state of the measurement that is held
-state_of_run : (before : Option (List ScanAct)) (had read : ℕ) → run_state (option_map (run_of had) before) read ≡ state_since before had read
+state_of_run : (before : Option (List ScanAct)) (had read : ℕ)
+    → run_state (option_map (run_of had) before) read ≡ state_since before had read
 state_of_run None had read = refl
 state_of_run (Some before) had read = refl
 
@@ -59,7 +63,8 @@ state_is held log is =
     ∙ state_of_run (before_init log) (triggers log) (samples log)
 
 -- whether its readings are complete
-complete_of_run : (before : Option (List ScanAct)) (had read : ℕ) → run_complete (option_map (run_of had) before) read ≡ complete_since before read
+complete_of_run : (before : Option (List ScanAct)) (had read : ℕ)
+    → run_complete (option_map (run_of had) before) read ≡ complete_since before read
 complete_of_run None had read = refl
 complete_of_run (Some before) had read = refl
 
@@ -70,7 +75,8 @@ complete_is held log is =
     ∙ complete_of_run (before_init log) (triggers log) (samples log)
 
 -- the list of the measurement that is held
-list_of_run : (before : Option (List ScanAct)) (had : ℕ) (r : Run) → option_map (run_of had) before ≡ Some r → list_since before ≡ r.channels
+list_of_run : (before : Option (List ScanAct)) (had : ℕ) (r : Run) → option_map (run_of had) before ≡ Some r
+    → list_since before ≡ r.channels
 list_of_run None had r e = cc
 list_of_run (Some before) had r e = let same : run_of had before ≡ r = cc in ap (λ (run : Run). run.channels) same
 

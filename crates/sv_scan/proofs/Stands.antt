@@ -8,7 +8,8 @@ use Rattle.sv_scan.specs.declared.setting.Reading.{Reading}
 use Rattle.sv_scan.specs.declared.settings.Settings.{Settings}
 use Rattle.sv_scan.specs.declared.acts.ScanAct.{ScanAct}
 use Rattle.sv_scan.specs.declared.acts.ScanAct.TheVariants.{Input, Sample}
-use Rattle.sv_scan.specs.Setting.{scan_list, monitor, range, upper, lower, limits, source, count, input, is_channel}
+use Rattle.sv_errors.specs.Limits.{is_channel}
+use Rattle.sv_scan.specs.Setting.{scan_list, monitor, range, upper, lower, limits, source, count, input}
 use Rattle.sv_scan.specs.Scan.{before_init, samples, readings, reading, reading_in, channel_at, list_since}
 use Rattle.sv_scan.specs.Counted.{kept, counts}
 use Rattle.sv_scan.specs.Stands.{Run, Held, Holds, StandsFor}
@@ -20,7 +21,8 @@ use Rattle.sv_scan.proofs.Searches.{length-readings, list_is}
 keeps : (act : ScanAct) (acts : List ScanAct) → counts (kept acts) act ≡ true → kept (act ∷ acts) ≡ act ∷ kept acts
 keeps act acts e = ap (λ (b : Bool). if b then act ∷ kept acts else kept acts) e
 
-pub StandsFor-counted : (held : Held) (act : ScanAct) (acts : List ScanAct) → counts (kept acts) act ≡ true → Holds held (act ∷ kept acts) → StandsFor held (act ∷ acts)
+pub StandsFor-counted : (held : Held) (act : ScanAct) (acts : List ScanAct) → counts (kept acts) act ≡ true → Holds held (act ∷ kept acts)
+    → StandsFor held (act ∷ acts)
 StandsFor-counted held act acts e is = subst (Holds held) (sym (keeps act acts e)) is
 
 -- ---- the scanner after an act that counts
@@ -30,20 +32,24 @@ is_in : (channel : ℕ) → is_channel channel ≡ true → (1 ≤ channel) × (
 is_in channel legal = grind (arith, nat_tests)
 
 -- an input
-input_after : (inputs : List ℤ) (channel other : ℕ) (microvolts before : ℤ) → length inputs ≡ 32 → is_channel channel ≡ true → is_channel other ≡ true → slice_index_or inputs (other - 1) (pos 0) ≡ before
+input_after : (inputs : List ℤ) (channel other : ℕ) (microvolts before : ℤ) → length inputs ≡ 32 → is_channel channel ≡ true
+    → is_channel other ≡ true → slice_index_or inputs (other - 1) (pos 0) ≡ before
     → slice_index_or (slice_set inputs (channel - 1) microvolts) (other - 1) (pos 0) ≡ (if channel == other then microvolts else before)
 input_after inputs channel other microvolts before size legal known same =
     let in_range = is_in channel legal in
     let other_in = is_in other known in
     let place : channel - 1 < length inputs = omega arith in
-    cond_both (channel == other) microvolts before (λ (v : ℤ). slice_index_or (slice_set inputs (channel - 1) microvolts) (other - 1) (pos 0) ≡ v)
+    cond_both (channel == other) microvolts before
+    (λ (v : ℤ). slice_index_or (slice_set inputs (channel - 1) microvolts) (other - 1) (pos 0) ≡ v)
     (λ e. let at : other - 1 ≡ channel - 1 = ap (λ (n : ℕ). n - 1) (sym (eqb-true channel other e)) in
-    ap (λ (n : ℕ). slice_index_or (slice_set inputs (channel - 1) microvolts) n (pos 0)) at ∙ get_or-set_same inputs (channel - 1) microvolts (pos 0) place)
+    ap (λ (n : ℕ). slice_index_or (slice_set inputs (channel - 1) microvolts) n (pos 0)) at
+    ∙ get_or-set_same inputs (channel - 1) microvolts (pos 0) place)
     (λ e. let ne = eqb-false channel other e in
     let apart : other - 1 ≢ channel - 1 = λ (h : other - 1 ≡ channel - 1). ne (omega arith) in
     get_or-set_other inputs (channel - 1) (other - 1) microvolts (pos 0) apart ∙ same)
 
-pub Holds-input : (held : Held) (log : List ScanAct) (channel : ℕ) (microvolts : ℤ) → length held.inputs ≡ 32 → is_channel channel ≡ true → Holds held log
+pub Holds-input : (held : Held) (log : List ScanAct) (channel : ℕ) (microvolts : ℤ) → length held.inputs ≡ 32 → is_channel channel ≡ true
+    → Holds held log
     → Holds (record held { inputs = slice_set held.inputs (channel - 1) microvolts }) (Input channel microvolts ∷ log)
 Holds-input held log channel microvolts size legal is = record {
   inputs = λ other known. input_after held.inputs channel other microvolts (input other log) size legal known (is.inputs other known);
@@ -63,7 +69,8 @@ Holds-input held log channel microvolts size legal is = record {
 abbrev pub sampled : Held → Run → Reading
 sampled held r = reading_in held.range (slice_index_or held.inputs (channel_at r.channels (length held.readings) - 1) (pos 0))
 
-sampled_is : (held : Held) (log : List ScanAct) (r : Run) → held.run ≡ Some r → is_channel (channel_at r.channels (length held.readings)) ≡ true → Holds held log → sampled held r ≡ reading log
+sampled_is : (held : Held) (log : List ScanAct) (r : Run) → held.run ≡ Some r
+    → is_channel (channel_at r.channels (length held.readings)) ≡ true → Holds held log → sampled held r ≡ reading log
 sampled_is held log r e known is =
     let channels : list_since (before_init log) ≡ r.channels = list_is log r (sym is.run ∙ e) in
     let many : length held.readings ≡ samples log = ap length is.readings ∙ length-readings log in
@@ -72,7 +79,8 @@ sampled_is held log r e known is =
     ∙ ap (λ (n : ℕ). reading_in (range log) (input (channel_at r.channels n) log)) many
     ∙ ap (λ (cs : List ℕ). reading_in (range log) (input (channel_at cs (samples log)) log)) (sym channels)
 
-pub Holds-sample : (held : Held) (log : List ScanAct) (r : Run) → held.run ≡ Some r → is_channel (channel_at r.channels (length held.readings)) ≡ true → Holds held log
+pub Holds-sample : (held : Held) (log : List ScanAct) (r : Run) → held.run ≡ Some r
+    → is_channel (channel_at r.channels (length held.readings)) ≡ true → Holds held log
     → Holds (record held { readings = held.readings ++ sampled held r ∷ [] }) (Sample ∷ log)
 Holds-sample held log r e known is = record {
   inputs = is.inputs;
@@ -85,7 +93,8 @@ Holds-sample held log r e known is = record {
   source = is.source;
   count = is.count;
   run = is.run;
-  readings = ap (λ (xs : List Reading). xs ++ sampled held r ∷ []) is.readings ∙ ap (λ (x : Reading). readings log ++ x ∷ []) (sampled_is held log r e known is);
+  readings = ap (λ (xs : List Reading). xs ++ sampled held r ∷ []) is.readings
+      ∙ ap (λ (x : Reading). readings log ++ x ∷ []) (sampled_is held log r e known is);
 }
 
 zeros : (n place : ℕ) → get_or (replicate n (pos 0)) place (pos 0) ≡ pos 0
@@ -95,8 +104,10 @@ zeros n place = elim (cases_lt place n) [
 ]
 
 -- no input was given, and each is 0
-pub StandsFor-new : (n : ℕ) (settings : Settings) → settings.list ≡ scan_list [] → settings.monitor ≡ monitor [] → settings.range ≡ range [] → settings.upper ≡ upper [] → settings.lower ≡ lower []
-    → settings.limits ≡ limits [] → settings.source ≡ source [] → settings.count ≡ count [] → StandsFor (held_of (replicate n (pos 0)) settings None []) []
+pub StandsFor-new : (n : ℕ) (settings : Settings) → settings.list ≡ scan_list [] → settings.monitor ≡ monitor [] → settings.range ≡ range []
+    → settings.upper ≡ upper [] → settings.lower ≡ lower []
+    → settings.limits ≡ limits [] → settings.source ≡ source [] → settings.count ≡ count []
+    → StandsFor (held_of (replicate n (pos 0)) settings None []) []
 StandsFor-new n settings list monitor range upper lower limits source count = record {
   inputs = λ channel known. zeros n (channel - 1);
   list = list;

@@ -41,5 +41,6 @@ is_outside log = int_lt (input (monitor log) log) (lower log) || int_lt (upper l
 
 abbrev pub questionable : List ScanAct → ℕ
 questionable log =
-    bit 0 (is_overload (last_reading log)) + bit 9 (limits log && is_below (last_reading log) (lower log)) + bit 10 (limits log && is_above (last_reading log) (upper log))
+    bit 0 (is_overload (last_reading log)) + bit 9 (limits log && is_below (last_reading log) (lower log)) + bit 10
+    (limits log && is_above (last_reading log) (upper log))
     + bit 11 (limits log && is_outside log)

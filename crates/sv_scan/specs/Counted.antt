@@ -9,7 +9,8 @@ use Rattle.sv_scan.specs.declared.setting.State.{State}
 use Rattle.sv_scan.specs.declared.setting.State.TheVariants.{Idle, Waiting, Scanning}
 use Rattle.sv_scan.specs.declared.acts.ScanAct.{ScanAct}
 use Rattle.sv_scan.specs.declared.acts.ScanAct.TheVariants.{Input, Configure, Init, Abort, Reset, Trigger, Sample}
-use Rattle.sv_scan.specs.Setting.{is_channel, is_possible, is_fixed, source}
+use Rattle.sv_errors.specs.Limits.{is_channel}
+use Rattle.sv_scan.specs.Setting.{is_possible, is_fixed, source}
 use Rattle.sv_scan.specs.Scan.{state}
 
 abbrev pub is_idle : State → Bool
@@ -36,7 +37,8 @@ same_source _ _ = false
 -- what a setting is refused with behind these acts
 abbrev pub setting_fault : List ScanAct → Setting → Option Code
 setting_fault log setting =
-    if not (is_possible setting) then Some DataOutOfRange else if is_fixed setting && not (is_idle (state log)) then Some SettingsConflict else None
+    if not (is_possible setting) then Some DataOutOfRange else if is_fixed setting && not
+    (is_idle (state log)) then Some SettingsConflict else None
 
 abbrev pub init_fault : List ScanAct → Option Code
 init_fault log = if is_idle (state log) then None else Some InitIgnored

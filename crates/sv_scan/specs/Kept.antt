@@ -5,7 +5,8 @@ use Rattle.sv_scan.specs.declared.setting.Reading.{Reading}
 use Rattle.sv_scan.specs.declared.setting.State.{State}
 use Rattle.sv_scan.specs.declared.setting.State.TheVariants.{Idle}
 use Rattle.sv_scan.specs.declared.settings.Settings.{Settings}
-use Rattle.sv_scan.specs.Setting.{is_channel, is_possible}
+use Rattle.sv_errors.specs.Limits.{is_channel}
+use Rattle.sv_scan.specs.Setting.{is_possible}
 use Rattle.sv_scan.specs.Scan.{state_by}
 use Rattle.sv_scan.specs.Stands.{Run, Held}
 
@@ -19,7 +20,8 @@ abbrev pub run_complete : Option Run → ℕ → Bool
 run_complete None samples = false
 run_complete (Some run) samples = samples == run.scans * length run.channels
 
--- A measurement has a list that may be scanned, up to 16 scans, no more triggers than scans, and no more samples than its triggered scans have.
+-- A measurement has a list that may be scanned, up to 16 scans, no more triggers than scans, and no more samples than its triggered scans
+-- have.
 pub record IsRun (run : Run) (samples : ℕ) : Type 0 where
   pub channels : is_possible (SetList run.channels) ≡ true
   pub scans : run.scans ≤ 16

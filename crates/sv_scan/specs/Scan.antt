@@ -41,7 +41,8 @@ samples log = length (filter is_sample (since is_turn log))
 
 -- the state of a measurement, by how many triggers and samples it had, how many channels its list has, and how many scans are wanted
 abbrev pub state_by : ℕ → ℕ → ℕ → ℕ → State
-state_by triggers samples channels scans = if samples == scans * channels then Idle else if samples == triggers * channels then Waiting else Scanning
+state_by triggers samples channels scans =
+    if samples == scans * channels then Idle else if samples == triggers * channels then Waiting else Scanning
 
 abbrev pub state_since : Option (List ScanAct) → ℕ → ℕ → State
 state_since None triggers samples = Idle

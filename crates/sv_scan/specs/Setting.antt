@@ -1,6 +1,7 @@
 -- Settings and inputs: the value last given, found by a search of the acts that count, which are read from the newest.
 use Rattle.std.specs.Prelude.{ℕ, ℤ, pos, neg_ℤ, int_le, nat_le, ◌==◌, ◌&&◌, Bool, true, false, List, [], ◌∷◌, length, Option, Some, None, unwrap_or, if◌then◌else◌}
 use Rattle.std.specs.List.{list_all}
+use Rattle.sv_errors.specs.Limits.{is_channel, most_microvolts}
 use Rattle.sv_scan.specs.declared.setting.Setting.{Setting}
 use Rattle.sv_scan.specs.declared.setting.Setting.TheVariants.{List as SetList, Monitor, Range, Upper, Lower, Limits, Source as SetSource, Count}
 use Rattle.sv_scan.specs.declared.setting.Source.{Source}
@@ -32,7 +33,8 @@ monitor = last_set gives_monitor 1
 
 -- a range that was asked for: the least of 1, 10 and 100 V that isn't below it
 abbrev pub least_range : ℤ → ℤ
-least_range wanted = if int_le wanted (pos 1000000) then pos 1000000 else if int_le wanted (pos 10000000) then pos 10000000 else pos 100000000
+least_range wanted = if int_le wanted (pos 1000000) then pos 1000000 else if int_le wanted
+    (pos 10000000) then pos 10000000 else pos 100000000
 
 abbrev pub gives_range : Setting → Option ℤ
 gives_range (Range wanted) = Some (least_range wanted)
@@ -46,14 +48,14 @@ gives_upper (Upper limit) = Some limit
 gives_upper _ = None
 
 abbrev pub upper : List ScanAct → ℤ
-upper = last_set gives_upper (pos 1000000000)
+upper = last_set gives_upper (pos most_microvolts)
 
 abbrev pub gives_lower : Setting → Option ℤ
 gives_lower (Lower limit) = Some limit
 gives_lower _ = None
 
 abbrev pub lower : List ScanAct → ℤ
-lower = last_set gives_lower (neg_ℤ (pos 1000000000))
+lower = last_set gives_lower (neg_ℤ (pos most_microvolts))
 
 abbrev pub gives_limits : Setting → Option Bool
 gives_limits (Limits on) = Some on
@@ -82,16 +84,13 @@ input channel [] = pos 0
 input channel (Input given microvolts ∷ log) = if given == channel then microvolts else input channel log
 input channel (_ ∷ log) = input channel log
 
-abbrev pub is_channel : ℕ → Bool
-is_channel channel = nat_le 1 channel && nat_le channel 32
-
 -- between two voltages, both included
 abbrev is_between : ℤ → ℤ → ℤ → Bool
 is_between low value high = int_le low value && int_le value high
 
 -- up to 1,000 V in magnitude
 abbrev pub is_limit : ℤ → Bool
-is_limit value = is_between (neg_ℤ (pos 1000000000)) value (pos 1000000000)
+is_limit value = is_between (neg_ℤ (pos most_microvolts)) value (pos most_microvolts)
 
 -- whether a setting may have its value
 abbrev pub is_possible : Setting → Bool

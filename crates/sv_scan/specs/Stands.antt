@@ -4,7 +4,8 @@ use Rattle.std.specs.Prelude.{option_map}
 use Rattle.sv_scan.specs.declared.setting.Reading.{Reading}
 use Rattle.sv_scan.specs.declared.setting.Source.{Source}
 use Rattle.sv_scan.specs.declared.acts.ScanAct.{ScanAct}
-use Rattle.sv_scan.specs.Setting.{scan_list, monitor, range, upper, lower, limits, source, count, input, is_channel}
+use Rattle.sv_errors.specs.Limits.{is_channel}
+use Rattle.sv_scan.specs.Setting.{scan_list, monitor, range, upper, lower, limits, source, count, input}
 use Rattle.sv_scan.specs.Scan.{before_init, triggers, readings}
 use Rattle.sv_scan.specs.Counted.{kept}
 

@@ -2,40 +2,33 @@
 
 ghost use Rattle.std.specs.Prelude.{◌≡◌};
 ghost use Rattle.std.specs.List.{list_all};
-ghost use Rattle.sv_scan.specs.Setting.{is_channel as is_channel_number, is_limit as is_limit_value, is_possible as may_have, is_fixed as has_to_wait, least_range as least_range_of};
+ghost use Rattle.sv_errors.specs.Limits.{is_channel as is_channel_number};
+ghost use Rattle.sv_scan.specs.Setting.{is_limit as is_limit_value, is_possible as may_have, is_fixed as has_to_wait, least_range as least_range_of};
 
 use crate::setting::Setting;
+use sv_errors::{MOST_MICROVOLTS, is_channel};
 
-/// How many channels there are.
-const CHANNELS: u8 = 32;
 /// How long a scan list may be.
 const MAX_LIST: usize = 32;
 /// How many scans a measurement may have.
 const MAX_COUNT: u8 = 16;
-/// The magnitude of a limit, in microvolts: up to 1,000 V.
-const MAX_LIMIT: i64 = 1_000_000_000;
 /// The ranges, in microvolts: 1, 10 and 100 V.
 const RANGES: (i64, i64, i64) = (1_000_000, 10_000_000, 100_000_000);
-
-/// Whether there is a channel of this number: 1 to 32.
-pub(crate) fn is_channel(channel: u8) -> bool
-    ensures { result ≡ is_channel_number channel }
-{
-    1 <= channel && channel <= CHANNELS
-}
 
 /// Whether there is a channel of each of these numbers.
 fn are_channels(channels: &[u8]) -> bool
     ensures { result ≡ list_all is_channel_number channels.now }
 {
-    channels.iter().all(|channel| is_channel(*channel))
+    channels
+        .iter()
+        .all(|channel| is_channel(u64::from(*channel)))
 }
 
 /// Whether a limit may be this, in microvolts: up to 1,000 V in magnitude.
 fn is_limit(microvolts: i64) -> bool
     ensures { result ≡ is_limit_value microvolts }
 {
-    -MAX_LIMIT <= microvolts && microvolts <= MAX_LIMIT
+    -i64::from(MOST_MICROVOLTS) <= microvolts && microvolts <= i64::from(MOST_MICROVOLTS)
 }
 
 /// The least range that isn't below this one, in microvolts.
@@ -60,7 +53,7 @@ pub(crate) fn is_possible(setting: &Setting) -> bool
             let channels = list.channels();
             1 <= channels.len() && (channels.len() <= MAX_LIST && are_channels(channels))
         }
-        Setting::Monitor(channel) => is_channel(*channel),
+        Setting::Monitor(channel) => is_channel(u64::from(*channel)),
         Setting::Range(wanted) => 0 <= *wanted && *wanted <= RANGES.2,
         Setting::Upper(limit) => is_limit(*limit),
         Setting::Lower(limit) => is_limit(*limit),

@@ -1,7 +1,7 @@
 //! Voltages and readings.
 
 ghost use Rattle.std.specs.Prelude.{◌≡◌, ◌-◌, pos, int_le, IsTrue, length, slice_index_or};
-ghost use Rattle.sv_scan.specs.Setting.{is_channel};
+ghost use Rattle.sv_errors.specs.Limits.{is_channel};
 ghost use Rattle.sv_scan.specs.Scan.{reading_in as reading_of};
 ghost use Rattle.sv_scan.specs.Condition.{is_overload as overloads, is_below as lies_below, is_above as lies_above};
 

@@ -39,7 +39,8 @@ impl Run {
 
     /// Its state behind so many samples.
     pub(crate) fn state(&self, samples: usize) -> State
-        ensures { result ≡ state_by self.now.triggers samples (length self.now.channels) self.now.scans }
+        ensures { result ≡ state_by self.now.triggers samples
+            (length self.now.channels) self.now.scans }
     {
         let channels = self.list.channels().len();
         if samples == usize::from(self.scans) * channels {

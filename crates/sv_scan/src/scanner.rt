@@ -11,7 +11,7 @@ ghost use Rattle.sv_scan.specs.Stands.{StandsFor};
 ghost use Rattle.sv_scan.specs.Kept.{run_state};
 
 use crate::acts::{ScanAct, ScanAnswer};
-use crate::possible::{is_channel, is_fixed, is_possible};
+use crate::possible::{is_fixed, is_possible};
 use crate::reading::{is_above, is_below, is_overload, reading_in, voltage};
 use crate::run::Run;
 use crate::setting::{Reading, Setting, Source, State};
@@ -20,13 +20,13 @@ use crate::state::{is_complete, is_idle, is_same, is_scanning, is_waiting, state
 use crate::words::{Conditions, operation_word, questionable_word};
 use std::alloc::{AllocError, Allocator, Global};
 use std::marker::Model;
-use sv_errors::{Code, Layer};
+use sv_errors::{Code, Layer, is_channel};
 
 /// How many readings there may be: 16 scans of 32 channels.
 const MAX_READINGS: usize = 512;
 
-/// The measuring part of the instrument: 32 inputs, its settings, the measurement that is under way or
-/// was the last, and its readings.
+/// The measuring part of the instrument: 32 inputs, its settings, the measurement that is under way
+/// or was the last, and its readings.
 #[derive(Drop)]
 pub struct Scanner<A: Allocator = Global> {
     /// The input of each channel, in microvolts; that of channel 1 first.
@@ -48,7 +48,8 @@ impl<A: Allocator> Model for Scanner<A> {
 
     ghost view = { λ a. held_of a.inputs a.settings a.run a.readings.items };
 
-    ghost invariant = { λ a. IsKept (held_of a.inputs a.settings a.run a.readings.items) (vec_capacity a.readings) };
+    ghost invariant = { λ a. IsKept (held_of a.inputs a.settings a.run a.readings.items)
+        (vec_capacity a.readings) };
 }
 
 impl<A: Allocator> Scanner<A> {
@@ -65,12 +66,13 @@ impl<A: Allocator> Scanner<A> {
         })
     }
 
-    /// The voltage of a channel's input is this from now on, in microvolts. A channel that isn't 1 to 32
-    /// has no input: nothing changes.
+    /// The voltage of a channel's input is this from now on, in microvolts. A channel that isn't 1
+    /// to 32 has no input: nothing changes.
     pub fn input(&mut self, channel: u8, microvolts: i64)
-        ensures { (acts : List ScanAct) → StandsFor self.old acts → StandsFor self.new (ScanAct.Input channel microvolts ∷ acts) }
+        ensures { (acts : List ScanAct) → StandsFor self.old acts
+            → StandsFor self.new (ScanAct.Input channel microvolts ∷ acts) }
     {
-        if is_channel(channel) {
+        if is_channel(u64::from(channel)) {
             self.inputs[usize::from(channel) - 1] = microvolts;
         }
     }
@@ -78,11 +80,13 @@ impl<A: Allocator> Scanner<A> {
     /// Changes a setting.
     ///
     /// # Errors
-    /// [`Code::DataOutOfRange`] where it may not have this value, then [`Code::SettingsConflict`] where it
-    /// can't be changed now; then nothing changes.
+    /// [`Code::DataOutOfRange`] where it may not have this value, then [`Code::SettingsConflict`]
+    /// where it can't be changed now; then nothing changes.
     pub fn configure(&mut self, setting: Setting) -> Result<(), Code>
-        ensures stands { (acts : List ScanAct) → StandsFor self.old acts → StandsFor self.new (ScanAct.Configure setting ∷ acts) }
-        ensures answer { (acts : List ScanAct) → StandsFor self.old acts → result ≡ refused_by (setting_fault (kept acts) setting) }
+        ensures stands { (acts : List ScanAct) → StandsFor self.old acts
+            → StandsFor self.new (ScanAct.Configure setting ∷ acts) }
+        ensures answer { (acts : List ScanAct) → StandsFor self.old acts
+            → result ≡ refused_by (setting_fault (kept acts) setting) }
         ensures refused { OnErr result (self.new ≡ self.old) }
     {
         if !is_possible(&setting) {
@@ -100,8 +104,10 @@ impl<A: Allocator> Scanner<A> {
     /// # Errors
     /// [`Code::InitIgnored`] where one is under way; then nothing changes.
     pub fn init(&mut self) -> Result<(), Code>
-        ensures stands { (acts : List ScanAct) → StandsFor self.old acts → StandsFor self.new (ScanAct.Init ∷ acts) }
-        ensures answer { (acts : List ScanAct) → StandsFor self.old acts → result ≡ refused_by (init_fault (kept acts)) }
+        ensures stands { (acts : List ScanAct) → StandsFor self.old acts
+            → StandsFor self.new (ScanAct.Init ∷ acts) }
+        ensures answer { (acts : List ScanAct) → StandsFor self.old acts
+            → result ≡ refused_by (init_fault (kept acts)) }
         ensures refused { OnErr result (self.new ≡ self.old) }
     {
         if !is_idle(self.state()) {
@@ -117,7 +123,8 @@ impl<A: Allocator> Scanner<A> {
     /// # Errors
     /// [`Code::TriggerDeadlock`] where triggers come from the controller, which would be waiting.
     pub fn may_read(&self) -> Result<(), Code>
-        ensures { (acts : List ScanAct) → StandsFor self.now acts → result ≡ refused_by (read_fault (kept acts)) }
+        ensures { (acts : List ScanAct) → StandsFor self.now acts
+            → result ≡ refused_by (read_fault (kept acts)) }
     {
         if is_same(self.settings.source, Source::Bus) {
             return Err(Code::TriggerDeadlock);
@@ -127,7 +134,8 @@ impl<A: Allocator> Scanner<A> {
 
     /// Ends the measurement; its readings are gone.
     pub fn abort(&mut self)
-        ensures { (acts : List ScanAct) → StandsFor self.old acts → StandsFor self.new (ScanAct.Abort ∷ acts) }
+        ensures { (acts : List ScanAct) → StandsFor self.old acts
+            → StandsFor self.new (ScanAct.Abort ∷ acts) }
     {
         self.run = None;
         self.readings.clear();
@@ -135,7 +143,8 @@ impl<A: Allocator> Scanner<A> {
 
     /// Ends the measurement, and gives each setting its default. The inputs stay.
     pub fn reset(&mut self)
-        ensures { (acts : List ScanAct) → StandsFor self.old acts → StandsFor self.new (ScanAct.Reset ∷ acts) }
+        ensures { (acts : List ScanAct) → StandsFor self.old acts
+            → StandsFor self.new (ScanAct.Reset ∷ acts) }
     {
         self.run = None;
         self.readings.clear();
@@ -145,10 +154,13 @@ impl<A: Allocator> Scanner<A> {
     /// A trigger from this source: the next scan begins.
     ///
     /// # Errors
-    /// [`Code::TriggerIgnored`] where none is waited for, or one from another source; then nothing changes.
+    /// [`Code::TriggerIgnored`] where none is waited for, or one from another source; then nothing
+    /// changes.
     pub fn trigger(&mut self, source: Source) -> Result<(), Code>
-        ensures stands { (acts : List ScanAct) → StandsFor self.old acts → StandsFor self.new (ScanAct.Trigger source ∷ acts) }
-        ensures answer { (acts : List ScanAct) → StandsFor self.old acts → result ≡ refused_by (trigger_fault (kept acts) source) }
+        ensures stands { (acts : List ScanAct) → StandsFor self.old acts
+            → StandsFor self.new (ScanAct.Trigger source ∷ acts) }
+        ensures answer { (acts : List ScanAct) → StandsFor self.old acts
+            → result ≡ refused_by (trigger_fault (kept acts) source) }
         ensures refused { OnErr result (self.new ≡ self.old) }
     {
         let awaited = self.awaits(source);
@@ -162,10 +174,13 @@ impl<A: Allocator> Scanner<A> {
         Ok(())
     }
 
-    /// Reads the next channel of the scan, and tells whether one was read: outside of a scan nothing changes.
+    /// Reads the next channel of the scan, and tells whether one was read: outside of a scan
+    /// nothing changes.
     pub fn sample(&mut self) -> bool
-        ensures stands { (acts : List ScanAct) → StandsFor self.old acts → StandsFor self.new (ScanAct.Sample ∷ acts) }
-        ensures answer { (acts : List ScanAct) → StandsFor self.old acts → result ≡ scans (state_of (kept acts)) }
+        ensures stands { (acts : List ScanAct) → StandsFor self.old acts
+            → StandsFor self.new (ScanAct.Sample ∷ acts) }
+        ensures answer { (acts : List ScanAct) → StandsFor self.old acts
+            → result ≡ scans (state_of (kept acts)) }
     {
         if !is_scanning(self.state()) {
             return false;
@@ -182,15 +197,19 @@ impl<A: Allocator> Scanner<A> {
     /// What the trigger system does.
     pub fn state(&self) -> State
         ensures value { result ≡ run_state self.now.run (length self.now.readings) }
-        ensures answer { (acts : List ScanAct) → StandsFor self.now acts → result ≡ state_of (kept acts) }
+        ensures answer { (acts : List ScanAct) → StandsFor self.now acts
+            → result ≡ state_of (kept acts) }
     {
         state_in(&self.run, self.readings.len())
     }
 
     /// Whether a trigger from this source is waited for.
     fn awaits(&self, from: Source) -> bool
-        ensures value { result ≡ (waits (run_state self.now.run (length self.now.readings)) && same_source self.now.source from) }
-        ensures answer { (acts : List ScanAct) → StandsFor self.now acts → result ≡ (waits (state_of (kept acts)) && same_source (source_of (kept acts)) from) }
+        ensures value { result ≡ (waits
+            (run_state self.now.run (length self.now.readings)) && same_source self.now.source
+            from) }
+        ensures answer { (acts : List ScanAct) → StandsFor self.now acts
+            → result ≡ (waits (state_of (kept acts)) && same_source (source_of (kept acts)) from) }
     {
         is_waiting(self.state()) && is_same(self.settings.source, from)
     }
@@ -204,7 +223,8 @@ impl<A: Allocator> Scanner<A> {
 
     /// Whether the live input of the monitored channel is outside the limits.
     fn is_outside(&self) -> bool
-        ensures { (acts : List ScanAct) → StandsFor self.now acts → result ≡ lies_outside (kept acts) }
+        ensures { (acts : List ScanAct) → StandsFor self.now acts
+            → result ≡ lies_outside (kept acts) }
     {
         let live = voltage(&self.inputs, self.settings.monitor);
         live < self.settings.lower || self.settings.upper < live
@@ -212,8 +232,10 @@ impl<A: Allocator> Scanner<A> {
 
     /// The condition words as they are now.
     pub fn conditions(&self) -> Conditions
-        ensures operation { (acts : List ScanAct) → StandsFor self.now acts → result.operation ≡ operation (kept acts) }
-        ensures questionable { (acts : List ScanAct) → StandsFor self.now acts → result.questionable ≡ questionable (kept acts) }
+        ensures operation { (acts : List ScanAct) → StandsFor self.now acts
+            → result.operation ≡ operation (kept acts) }
+        ensures questionable { (acts : List ScanAct) → StandsFor self.now acts
+            → result.questionable ≡ questionable (kept acts) }
     {
         let last = self.last_reading();
         Conditions {
@@ -228,13 +250,16 @@ impl<A: Allocator> Scanner<A> {
         }
     }
 
-    /// The readings of the last measurement, oldest first: scan by scan, each in the order of its list.
+    /// The readings of the last measurement, oldest first: scan by scan, each in the order of its
+    /// list.
     ///
     /// # Errors
     /// [`Code::DataCorruptOrStale`] where they aren't complete, or were aborted.
     pub fn readings(&self) -> Result<&[Reading], Code>
         ensures { (acts : List ScanAct) → StandsFor self.now acts
-            → MatchResult result (λ found. (completes (kept acts) ≡ true) × (found.now ≡ readings_of (kept acts))) (λ code. (completes (kept acts) ≡ false) × (code ≡ DataCorruptOrStale)) }
+            → MatchResult result (λ found. (completes (kept acts) ≡ true)
+            × (found.now ≡ readings_of (kept acts))) (λ code. (completes (kept acts) ≡ false)
+            × (code ≡ DataCorruptOrStale)) }
     {
         if is_complete(&self.run, self.readings.len()) {
             Ok(self.readings.as_slice())

@@ -17,11 +17,13 @@ pub enum Source {
 /// the idle state alone.
 #[derive(Debug, Drop)]
 pub enum Setting {
-    /// The channels that a scan reads, in their order: 1 to 32 of them, each 1 to 32. At first channel 1.
+    /// The channels that a scan reads, in their order: 1 to 32 of them, each 1 to 32. At first
+    /// channel 1.
     List(ScanList),
     /// The channel whose live input is compared with the limits: 1 to 32. At first 1.
     Monitor(u8),
-    /// The range, in microvolts, 0 to 100 V: the least of 1, 10 and 100 V that isn't below it. At first 10 V.
+    /// The range, in microvolts, 0 to 100 V: the least of 1, 10 and 100 V that isn't below it. At
+    /// first 10 V.
     Range(i64),
     /// The upper limit, in microvolts, up to 1,000 V in magnitude. At first 1,000 V.
     Upper(i64),

@@ -6,6 +6,7 @@ ghost use Rattle.sv_scan.specs.Setting.{scan_list, monitor, range, upper, lower,
 use crate::possible::least_range;
 use crate::scan_list::ScanList;
 use crate::setting::{Setting, Source};
+use sv_errors::MOST_MICROVOLTS;
 
 /// What is set.
 #[derive(Drop)]
@@ -44,8 +45,8 @@ impl Settings {
             list: ScanList::of(1),
             monitor: 1,
             range: 10_000_000,
-            upper: 1_000_000_000,
-            lower: -1_000_000_000,
+            upper: i64::from(MOST_MICROVOLTS),
+            lower: -i64::from(MOST_MICROVOLTS),
             limits: false,
             source: Source::Immediate,
             count: 1,

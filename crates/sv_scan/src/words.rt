@@ -27,14 +27,16 @@ const OUTSIDE: u16 = 1 << 11;
 pub struct Conditions {
     /// Bit 4 measuring, bit 5 waiting for a trigger, bit 8 acquisition in progress.
     pub operation: u16,
-    /// Bit 0 the last reading is an overload; with limits on, bit 9 it is below the lower limit, bit 10
-    /// above the upper one, bit 11 the live input of the monitored channel is outside of them.
+    /// Bit 0 the last reading is an overload; with limits on, bit 9 it is below the lower limit,
+    /// bit 10 above the upper one, bit 11 the live input of the monitored channel is outside of
+    /// them.
     pub questionable: u16,
 }
 
 /// The condition word of the operation register in a state.
 pub(crate) fn operation_word(state: State) -> u16
-    ensures { result ≡ bit 4 (is_scanning state) + bit 5 (is_waiting state) + bit 8 (not (is_idle state)) }
+    ensures { result ≡ bit 4 (is_scanning state) + bit 5 (is_waiting state) + bit 8
+        (not (is_idle state)) }
 {
     match state {
         State::Idle => 0,
@@ -43,8 +45,9 @@ pub(crate) fn operation_word(state: State) -> u16
     }
 }
 
-/// The condition word of the questionable register: whether the last reading is an overload, and, where
-/// the limits count, whether it is below or above them, and whether the live input is outside.
+/// The condition word of the questionable register: whether the last reading is an overload, and,
+/// where the limits count, whether it is below or above them, and whether the live input is
+/// outside.
 pub(crate) fn questionable_word(
     overload: bool,
     limits: bool,
@@ -52,7 +55,8 @@ pub(crate) fn questionable_word(
     above: bool,
     outside: bool,
 ) -> u16
-    ensures { result ≡ bit 0 overload + bit 9 (limits && below) + bit 10 (limits && above) + bit 11 (limits && outside) }
+    ensures { result ≡ bit 0 overload + bit 9 (limits && below) + bit 10 (limits && above) + bit 11
+        (limits && outside) }
 {
     let overload = mask_where(OVERLOAD, overload);
     if limits {

@@ -34,23 +34,27 @@ write_waits c xid flags bytes log short ended =
 
 -- that is accepted
 pub write_goes : (c xid : ℕ) (flags : ℕ) (bytes : List ℕ) (log : List Act) → length bytes ≤ 4096 → has_ended (exchange_acts log) ≡ false
-    → write_device c xid flags bytes log ≡ succeeded c xid (Size NoError (length bytes)) (Exchanged (Accepted bytes (bit_at flags 3 == 1)) ∷ log)
+    → write_device c xid flags bytes log ≡ succeeded c xid (Size NoError (length bytes))
+    (Exchanged (Accepted bytes (bit_at flags 3 == 1)) ∷ log)
 write_goes c xid flags bytes log short ended =
     if_false (nat_lt 4096 (length bytes)) _ _ (le-ltb 4096 (length bytes) short) ∙ if_false (has_ended (exchange_acts log)) _ _ ended
 
 -- of a response
 pub read_goes : (c xid : ℕ) (most : ℕ) (term : Option ℕ) (log : List Act) → is_something (response (exchange_acts log)) ≡ true
-    → read_device c xid most term log ≡ succeeded c xid (read_of (response (exchange_acts log)) most term) (Exchanged (ResponseRead (read_count (response (exchange_acts log)) most term)) ∷ log)
+    → read_device c xid most term log ≡ succeeded c xid (read_of (response (exchange_acts log)) most term)
+    (Exchanged (ResponseRead (read_count (response (exchange_acts log)) most term)) ∷ log)
 read_goes c xid most term log some = if_true (is_something (response (exchange_acts log))) _ _ some
 
 -- while a message waits
-pub read_waits : (c xid : ℕ) (most : ℕ) (term : Option ℕ) (log : List Act) → is_something (response (exchange_acts log)) ≡ false → has_ended (exchange_acts log) ≡ true
+pub read_waits : (c xid : ℕ) (most : ℕ) (term : Option ℕ) (log : List Act) → is_something (response (exchange_acts log)) ≡ false
+    → has_ended (exchange_acts log) ≡ true
     → read_device c xid most term log ≡ succeeded c xid (no_bytes IoTimeout) log
 read_waits c xid most term log none ended =
     if_false (is_something (response (exchange_acts log))) _ _ none ∙ if_true (has_ended (exchange_acts log)) _ _ ended
 
 -- without a response
-pub read_drops : (c xid : ℕ) (most : ℕ) (term : Option ℕ) (log : List Act) → is_something (response (exchange_acts log)) ≡ false → has_ended (exchange_acts log) ≡ false
+pub read_drops : (c xid : ℕ) (most : ℕ) (term : Option ℕ) (log : List Act) → is_something (response (exchange_acts log)) ≡ false
+    → has_ended (exchange_acts log) ≡ false
     → read_device c xid most term log ≡ succeeded c xid (no_bytes IoTimeout) (Exchanged TextDropped ∷ log)
 read_drops c xid most term log none ended =
     if_false (is_something (response (exchange_acts log))) _ _ none ∙ if_false (has_ended (exchange_acts log)) _ _ ended

@@ -15,7 +15,8 @@ use Rattle.sv_server.specs.Checks.{program_of, version_of, header_reply}
 use Rattle.sv_server.specs.History.{spells_link}
 
 -- where no check answers, the last one didn't
-last_passed : (a b c d : Bool) (p q r s : Reply) → cond a (Some p) (cond b (Some q) (cond c (Some r) (cond d (Some s) None))) ≡ None → d ≡ false
+last_passed : (a b c d : Bool) (p q r s : Reply) → cond a (Some p) (cond b (Some q) (cond c (Some r) (cond d (Some s) None))) ≡ None
+    → d ≡ false
 last_passed a b c false p q r s e = refl
 last_passed true b c true p q r s e = absurd cc
 last_passed false true c true p q r s e = absurd cc
@@ -29,11 +30,14 @@ the_one false e = absurd cc
 -- the one call of the abort channel
 abort_call : (call : Asked) → header_reply Abort call ≡ None → call.proc ≡ 1
 abort_call call e =
-    eqb-true call.proc 1 (the_one (call.proc == 1) (last_passed (not (call.prog == program_of Abort)) (not (call.vers == version_of Abort)) (call.proc == 0) (not ((call.proc == 1) || false))
+    eqb-true call.proc 1 (the_one (call.proc == 1)
+    (last_passed (not (call.prog == program_of Abort)) (not (call.vers == version_of Abort)) (call.proc == 0)
+    (not ((call.proc == 1) || false))
     ProgUnavail (ProgMismatch (version_of Abort) (version_of Abort)) Success ProcUnavail e))
 
 -- makes no link
-read_lid : (r : Result (ℤ × List ℕ) XdrFault) → spells_link (r >>= (λ lid. let got : Result Arguments Garbage = Ok (DeviceAbort lid.0) in got)) ≡ false
+read_lid : (r : Result (ℤ × List ℕ) XdrFault) → spells_link
+    (r >>= (λ lid. let got : Result Arguments Garbage = Ok (DeviceAbort lid.0) in got)) ≡ false
 read_lid (Ok x) = refl
 read_lid (Err fault) = refl
 
@@ -43,7 +47,8 @@ no_link bytes = read_lid (signed_at bytes)
 
 pub abort_makes_none : (call : Asked) → header_reply Abort call ≡ None → spells_link (arguments_at call.proc call.args) ≡ true → ⊥
 abort_makes_none call e h =
-    let none : spells_link (arguments_at call.proc call.args) ≡ false = ap (λ (n : ℕ). spells_link (arguments_at n call.args)) (abort_call call e) ∙ no_link call.args in
+    let none : spells_link (arguments_at call.proc call.args) ≡ false =
+    ap (λ (n : ℕ). spells_link (arguments_at n call.args)) (abort_call call e) ∙ no_link call.args in
     absurd cc
 
 -- what is told of an error

@@ -9,7 +9,11 @@ use Rattle.sv_server.specs.Connection.{is_open, stream, taken, took_no_call, Rea
 use Rattle.sv_server.specs.Line.{Line, IsLine, line_faulted, line_idle, is_end, is_none_left}
 
 eqb_suc : (n m : ℕ) → eqb n m ≡ eqb (suc n) (suc m)
-eqb_suc n m = elim (cases_eq n m) [ inl e ↦ rw (eq-eqb n m e, eq-eqb (suc n) (suc m) (ap suc e)) refl | inr ne ↦ rw (ne_eqb n m ne, ne_eqb (suc n) (suc m) (λ e. ne (omega arith))) refl ]
+eqb_suc n m = elim (cases_eq n m) [
+  | inl e ↦ rw (eq-eqb n m e, eq-eqb (suc n) (suc m) (ap suc e)) refl
+  | inr ne ↦
+      rw (ne_eqb n m ne, ne_eqb (suc n) (suc m) (λ e. ne (omega arith))) refl
+]
 
 -- nothing is left behind all of a list
 pub none_left : (xs : List (List ℕ)) (n : ℕ) → n ≤ length xs → is_none_left (drop n xs) ≡ eqb n (length xs)
@@ -50,15 +54,24 @@ pub faulted_answer : (line : Line) (c : ℕ) (log : List Act) → IsLine line c 
     → (records : List (List ℕ)) × (tail : Tail) × Reads c log records tail × (line_faulted line ≡ is_faulted c log records tail)
 faulted_answer line c log is opened =
     let st = is.input opened in
-    let left : is_none_left line.input.records ≡ eqb (taken c log) (length st.all) = ap is_none_left st.kept ∙ none_left st.all (taken c log) st.few in
-    (st.all, line.input.tail, st.splits, rw (is.faulted opened, left, ends line.input.tail) (swaps (took_no_call c log) (eqb (taken c log) (length st.all)) (is_too_long line.input.tail)))
+    let left : is_none_left line.input.records ≡ eqb (taken c log) (length st.all) =
+    ap is_none_left st.kept ∙ none_left st.all (taken c log) st.few in (
+      st.all,
+      line.input.tail,
+      st.splits,
+      rw (is.faulted opened, left, ends line.input.tail)
+          (swaps (took_no_call c log) (eqb (taken c log) (length st.all)) (is_too_long line.input.tail)),
+    )
 
 -- whether there is no call to take, of the records that the line stands for
-pub idle_at : (line : Line) (c : ℕ) (log : List Act) → IsLine line c log → is_open c log ≡ true → (st : StandsFor line.input (stream c log) (taken c log))
+pub idle_at : (line : Line) (c : ℕ) (log : List Act) → IsLine line c log → is_open c log ≡ true
+    → (st : StandsFor line.input (stream c log) (taken c log))
     → line_idle line ≡ is_idle c log st.all line.input.tail
 idle_at line c log is opened st =
-    let left : is_none_left line.input.records ≡ is_none (next_call c log st.all) = ap is_none_left st.kept ∙ none_there st.all (taken c log) in
-    let same : eqb (taken c log) (length st.all) ≡ is_none (next_call c log st.all) = sym (none_left st.all (taken c log) st.few) ∙ none_there st.all (taken c log) in
+    let left : is_none_left line.input.records ≡ is_none (next_call c log st.all) =
+    ap is_none_left st.kept ∙ none_there st.all (taken c log) in
+    let same : eqb (taken c log) (length st.all) ≡ is_none (next_call c log st.all) =
+    sym (none_left st.all (taken c log) st.few) ∙ none_there st.all (taken c log) in
     rw (is.faulted opened, left, same) (absorbs (took_no_call c log) (is_too_long line.input.tail) (is_none (next_call c log st.all)))
 
 -- of the stream's records

@@ -34,10 +34,12 @@ AnswersNow config history event did = (log : List Act) × IsLogOf config history
 
 -- what a replay leaves
 abbrev pub Left : Config → List Happening → Happening → Result ⊤ ReplayFault → State → Option (List ℕ) → Option (List ℕ) → Type 0
-Left config history event fault new first last = (text : List ℕ) × (after : List Happening) × Replays config history event fault text after × StandsFor new config after × Appends first last text
+Left config history event fault new first last = (text : List ℕ) × (after : List Happening) × Replays config history event fault text after
+    × StandsFor new config after × Appends first last text
 
 -- the lines that were written, behind a refusal's line
-writes_all : (did : Result Did Refused) (log : List Act) (history : List Happening) (r : Result ⊤ WriteFault) (fault : Result ⊤ ReplayFault) (config : Config) (new : State) (head text : List ℕ)
+writes_all : (did : Result Did Refused) (log : List Act) (history : List Happening) (r : Result ⊤ WriteFault) (fault : Result ⊤ ReplayFault)
+    (config : Config) (new : State) (head text : List ℕ)
     → did ≢ Err refused.NoMemory → ports_after did ≡ ports → head ≡ head_of did → Told r fault → ShowsAll config history log r new text
     → (after : List Happening) × (now : List Act) × Writes did log history fault (head ++ text) after × StandsBy new config after now
 writes_all did log history (Ok all) fault config new head text some shown is told (lines, now, stands) =
@@ -45,17 +47,29 @@ writes_all did log history (Ok all) fault config new head text some shown is tol
 writes_all did log history (Err e) fault config new head text some shown is told (first, others, part, split, front, lines, now, stands) = (
   with_tooks first log history,
   now,
-  rw told (inr (first, others, part, shown ∙ split, front, ap (λ (l : List ℕ). l ++ text) is ∙ ap (λ (l : List ℕ). head_of did ++ l) lines, refl)),
+  rw told (inr (
+    first,
+    others,
+    part,
+    shown ∙ split,
+    front,
+    ap (λ (l : List ℕ). l ++ text) is ∙ ap (λ (l : List ℕ). head_of did ++ l) lines,
+    refl,
+  )),
   stands,
 )
 
-pub replay_shown : (config : Config) (history : List Happening) (event : Happening) (did : Result Did Refused) (mid new : State) (head : List ℕ) (first put last : Option (List ℕ)) (r : Result ⊤ WriteFault)
-    (fault : Result ⊤ ReplayFault) → did ≢ Err refused.NoMemory → ports_after did ≡ ports → head ≡ head_of did → Told r fault → AnswersNow config history event did
+pub replay_shown : (config : Config) (history : List Happening) (event : Happening) (did : Result Did Refused) (mid new : State)
+    (head : List ℕ) (first put last : Option (List ℕ)) (r : Result ⊤ WriteFault)
+    (fault : Result ⊤ ReplayFault) → did ≢ Err refused.NoMemory → ports_after did ≡ ports → head ≡ head_of did → Told r fault
+    → AnswersNow config history event did
     → StandsFor mid config (history_after event did history) → Appends first put head
-    → ((h : List Happening) (log : List Act) → StandsBy mid config h log → (text : List ℕ) × Appends put last text × ShowsAll config h log r new text) → Left config history event fault new first last
+    → ((h : List Happening) (log : List Act) → StandsBy mid config h log
+    → (text : List ℕ) × Appends put last text × ShowsAll config h log r new text) → Left config history event fault new first last
 replay_shown config history event did mid new head first put last r fault some shown is told answers s begun shows =
     let (text, more, all) = shows (history_after event did history) s.log (s.set_up, s.is_log, s.represents, s.settled) in
-    let (after, now, writes, stands) = writes_all did s.log (history_after event did history) r fault config new head text some shown is told all in (
+    let (after, now, writes, stands) = writes_all did s.log
+    (history_after event did history) r fault config new head text some shown is told all in (
       head ++ text,
       after,
       record { before = answers.0; is_before = answers.1; did = did; answers = answers.2; log = s.log; is_log = s.is_log; writes = writes },
@@ -64,8 +78,10 @@ replay_shown config history event did mid new head first put last r fault some s
     )
 
 -- a refusal's line alone, or a part of it
-pub replay_stopped : (config : Config) (history : List Happening) (event : Happening) (refusal : Refused) (mid : State) (first last : Option (List ℕ)) (e : WriteFault) (fault : Result ⊤ ReplayFault)
-    → fault ≡ Err Write → AnswersNow config history event (Err refusal) → StandsFor mid config history → Takes first last (Err e) (refusal_line refusal) → Left config history event fault mid first last
+pub replay_stopped : (config : Config) (history : List Happening) (event : Happening) (refusal : Refused) (mid : State)
+    (first last : Option (List ℕ)) (e : WriteFault) (fault : Result ⊤ ReplayFault)
+    → fault ≡ Err Write → AnswersNow config history event (Err refusal) → StandsFor mid config history
+    → Takes first last (Err e) (refusal_line refusal) → Left config history event fault mid first last
 replay_stopped config history event refusal mid first last e fault told answers s (part, front, begun) = (
   part,
   history,
@@ -82,14 +98,25 @@ replay_stopped config history event refusal mid first last e fault told answers 
   begun,
 )
 
-pub replay_no_memory : (config : Config) (history : List Happening) (event : Happening) (refusal : Refused) (mid : State) (first last : Option (List ℕ)) → refusal ≡ refused.NoMemory
-    → AnswersNow config history event (Err refusal) → StandsFor mid config history → Appends first last (refusal_line refusal) → Left config history event (Err NoMemory) mid first last
+pub replay_no_memory : (config : Config) (history : List Happening) (event : Happening) (refusal : Refused) (mid : State)
+    (first last : Option (List ℕ)) → refusal ≡ refused.NoMemory
+    → AnswersNow config history event (Err refusal) → StandsFor mid config history → Appends first last (refusal_line refusal)
+    → Left config history event (Err NoMemory) mid first last
 replay_no_memory config history event refusal mid first last is answered s took =
     let answers = subst (λ (r : Refused). AnswersNow config history event (Err r)) is answered in
     let begun = subst (λ (r : Refused). Appends first last (refusal_line r)) is took in (
       refusal_line refused.NoMemory,
       history,
-      record { before = answers.0; is_before = answers.1; did = Err refused.NoMemory; answers = answers.2; log = s.log; is_log = s.is_log; writes = (refl, sym (append-nil (refusal_line refused.NoMemory)), refl) },
+      record {
+        before = answers.0;
+        is_before = answers.1;
+        did = Err refused.NoMemory;
+        answers = answers.2;
+        log = s.log;
+        is_log =
+            s.is_log;
+        writes = (refl, sym (append-nil (refusal_line refused.NoMemory)), refl);
+      },
       s,
       begun,
     )
@@ -98,7 +125,8 @@ replay_no_memory config history event refusal mid first last is answered s took 
 abbrev pub refuses : Refused → Result Did Refused
 refuses refusal = Err refusal
 
-pub other_refusal : (refusal : Refused) → is_no_memory refusal ≡ false → (refuses refusal ≢ refuses refused.NoMemory) × (ports_after (Err refusal) ≡ ports)
+pub other_refusal : (refusal : Refused) → is_no_memory refusal ≡ false
+    → (refuses refusal ≢ refuses refused.NoMemory) × (ports_after (Err refusal) ≡ ports)
 other_refusal refused.NoMemory h = absurd cc
 other_refusal refused.ConnInUse h = (λ e. cc, refl)
 other_refusal refused.NoConn h = (λ e. cc, refl)

@@ -20,7 +20,8 @@ room_left bytes old new a =
     omega (arith, ap length a.rest, length-append (take (length bytes) (rest_of old)) (rest_of new))
 
 -- pieces that have room together are all written
-pub whole_is_written : (pieces : List (List ℕ)) (r : Result Unit XdrFault) (old new : Writer) → WritesEach pieces r old new → length (concat pieces) ≤ length (rest_of old)
+pub whole_is_written : (pieces : List (List ℕ)) (r : Result Unit XdrFault) (old new : Writer) → WritesEach pieces r old new
+    → length (concat pieces) ≤ length (rest_of old)
     → Appends (concat pieces) old new
 whole_is_written pieces (Ok done) old new w room = w
 whole_is_written pieces (Err fault) old new w room =
@@ -46,7 +47,11 @@ success_is_short xid = refl
 
 -- data of at most 8,192 bytes are spelled in four bytes more
 text_is_short : (bytes : List ℕ) → length bytes ≤ 8192 → length (spelling (Opaque bytes)) ≤ 8196
-text_is_short bytes h = omega (arith, length-append bytes (replicate (pad_len (length bytes)) 0), length-replicate {A = ℕ} (pad_len (length bytes)) 0)
+text_is_short bytes h = omega (
+  arith,
+  length-append bytes (replicate (pad_len (length bytes)) 0),
+  length-replicate {A = ℕ} (pad_len (length bytes)) 0,
+)
 
 -- a result is at most error, reason and 8,192 bytes
 pub result_is_short : (outcome : Outcome) → length (data_of outcome) ≤ 8192 → length (concat (map spelling (result_fields outcome))) ≤ 8204
@@ -62,8 +67,10 @@ result_is_short (Data error bytes) h =
     omega (arith, text_is_short text h, length-append (spelling (Opaque text)) [])
 
 -- the header of a reply and short fields behind it are all written
-pub both_are_written : (xid : ℕ) (fields : List Field) (r s : Result Unit XdrFault) (old mid new : Writer) → text_of old ≡ [] → 8228 ≤ length (rest_of old)
-    → length (concat (map spelling fields)) ≤ 8204 → WritesEach (map spelling (reply_fields xid Success)) r old mid → WritesEach (map spelling fields) s mid new
+pub both_are_written : (xid : ℕ) (fields : List Field) (r s : Result Unit XdrFault) (old mid new : Writer) → text_of old ≡ []
+    → 8228 ≤ length (rest_of old)
+    → length (concat (map spelling fields)) ≤ 8204 → WritesEach (map spelling (reply_fields xid Success)) r old mid
+    → WritesEach (map spelling fields) s mid new
     → text_of new ≡ concat (map spelling (reply_fields xid Success ++ fields))
 both_are_written xid fields r s old mid new empty room short first second =
     let header = map spelling (reply_fields xid Success) in
@@ -71,10 +78,12 @@ both_are_written xid fields r s old mid new empty room short first second =
     let one = whole_is_written header r old mid first (omega (arith, success_is_short xid)) in
     let left = room_left (concat header) old mid one in
     let two = whole_is_written body s mid new second (omega (arith, success_is_short xid)) in
-    let text : text_of new ≡ ([] ++ concat header) ++ concat body = two.text ∙ ap (λ (t : List ℕ). t ++ concat body) (one.text ∙ ap (λ (t : List ℕ). t ++ concat header) empty) in
+    let text : text_of new ≡ ([] ++ concat header) ++ concat body =
+    two.text ∙ ap (λ (t : List ℕ). t ++ concat body) (one.text ∙ ap (λ (t : List ℕ). t ++ concat header) empty) in
     text ∙ sym (concat-append header body)
 
-pub reply_fits : (xid : ℕ) (fields : List Field) → length (concat (map spelling fields)) ≤ 8204 → length (concat (map spelling (reply_fields xid Success ++ fields))) ≤ 8228
+pub reply_fits : (xid : ℕ) (fields : List Field) → length (concat (map spelling fields)) ≤ 8204
+    → length (concat (map spelling (reply_fields xid Success ++ fields))) ≤ 8228
 reply_fits xid fields short =
     let header = map spelling (reply_fields xid Success) in
     let body = map spelling fields in

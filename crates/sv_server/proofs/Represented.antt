@@ -12,7 +12,8 @@ use Rattle.sv_server.specs.State.{State, Represents, StandsFor}
 use Rattle.sv_server.specs.Asking.{OfOpen}
 
 -- a line that has a role is that of an open connection
-pub line_at : (state : State) (log : List Act) (c : ℕ) (line : Line) (role : Role) → Represents state log → c < 16 → line ≡ slice_index_or state.lines c line → line.role ≡ Some role
+pub line_at : (state : State) (log : List Act) (c : ℕ) (line : Line) (role : Role) → Represents state log → c < 16
+    → line ≡ slice_index_or state.lines c line → line.role ≡ Some role
     → (is_open c log ≡ true) × IsLine line c log
 line_at state log c line role rep lt e role_is =
     let is = subst (λ (l : Line). IsLine l c log) (sym e) (rep.lines c line lt) in
@@ -21,7 +22,8 @@ line_at state log c line role rep lt e role_is =
 -- an answer of an open connection's line
 pub of_open : {A : Type 0} (answer : ℕ → List Act → List (List ℕ) → Tail → A) (other : A) (state : State) (c : ℕ) (line : Line) (result : A)
     → ((log : List Act) → Represents state log → (is_open c log ≡ true) × IsLine line c log)
-    → ((log : List Act) → IsLine line c log → is_open c log ≡ true → (records : List (List ℕ)) × (tail : Tail) × Reads c log records tail × (result ≡ answer c log records tail))
+    → ((log : List Act) → IsLine line c log → is_open c log ≡ true
+    → (records : List (List ℕ)) × (tail : Tail) × Reads c log records tail × (result ≡ answer c log records tail))
     → (config : Config) (history : List Happening) → StandsFor state config history → OfOpen answer other config history c result
 of_open answer other state c line result is answers config history st =
     let here = is st.log st.represents in

@@ -9,7 +9,8 @@ use Rattle.sv_server.specs.Laws.{SettlingEnds}
 
 -- the step that is due leaves less to be done
 due_less : (acts : List ExchangeAct) → (step_acts (due acts) acts ≡ []) ⊎ (work (step_acts (due acts) acts ++ acts) < work acts)
-due_less acts = due_lowers (λ d. (step_acts d acts ≡ []) ⊎ (work (step_acts d acts ++ acts) < work acts)) acts inr inr (λ u less. inr (less (asks_identity u) _ identity)) inr (inl refl)
+due_less acts = due_lowers (λ d. (step_acts d acts ≡ []) ⊎ (work (step_acts d acts ++ acts) < work acts)) acts inr inr
+    (λ u less. inr (less (asks_identity u) _ identity)) inr (inl refl)
 
 -- ---- the steps of a log
 

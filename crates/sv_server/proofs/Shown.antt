@@ -34,13 +34,16 @@ waits_within c state log rep o = elim (cases_lt c 16) [
 ]
 
 -- what a Took of all that waits is refused for: nothing
-pub took_free : (c count : ℕ) (config : Config) (log : List Act) → c ≤ 15 → is_open c log ≡ true → count ≡ length (waiting_on (Conn c) log) → Refuses config (Took (Conn c) count) log None
+pub took_free : (c count : ℕ) (config : Config) (log : List Act) → c ≤ 15 → is_open c log ≡ true → count ≡ length (waiting_on (Conn c) log)
+    → Refuses config (Took (Conn c) count) log None
 took_free c count config log within o e =
     let shut : is_shut c log ≡ false = ap (λ (b : Bool). b || not (is_open c log)) (le-ltb 15 c within) ∙ ap not o in
-    sym (if_false (is_shut c log) _ _ shut ∙ if_false (nat_lt (length (waiting_on (Conn c) log)) count) _ _ (le-ltb (length (waiting_on (Conn c) log)) count (omega arith)))
+    sym (if_false (is_shut c log) _ _ shut ∙ if_false (nat_lt (length (waiting_on (Conn c) log)) count) _ _
+    (le-ltb (length (waiting_on (Conn c) log)) count (omega arith)))
 
 -- so it is done
-took_done : (c count : ℕ) (config : Config) (log : List Act) (result : Result Did Refused) (new : State) → Refuses config (Took (Conn c) count) log None → Acts config (Took (Conn c) count) log result new
+took_done : (c count : ℕ) (config : Config) (log : List Act) (result : Result Did Refused) (new : State)
+    → Refuses config (Took (Conn c) count) log None → Acts config (Took (Conn c) count) log result new
     → Represents new (BytesTaken (Conn c) count ∷ log)
 took_done c count config log (Ok did) new none (free_of, done, middle, does, rep) = subst (λ (l : List Act). Represents new l) does rep
 took_done c count config log (Err NoMemory) new none h = elim h [ ]
@@ -55,24 +58,46 @@ took_done c count config log (Err BadInput) new none h = absurd (let z = none �
 took_done c count config log (Err TimeOver) new none h = absurd (let z = none ∙ sym h in cc)
 
 -- the history and the log with what was taken
-pub with_some : (port : Port) (bytes : List ℕ) (history : List Happening) → 0 < length bytes → with_took port bytes history ≡ Took port (length bytes) ∷ history
+pub with_some : (port : Port) (bytes : List ℕ) (history : List Happening) → 0 < length bytes
+    → with_took port bytes history ≡ Took port (length bytes) ∷ history
 with_some port [] history some = absurd (omega arith)
 with_some port (byte ∷ bytes) history some = refl
 
-pub log_with_some : (port : Port) (bytes : List ℕ) (log : List Act) → 0 < length bytes → log_with_took port bytes log ≡ BytesTaken port (length bytes) ∷ log
+pub log_with_some : (port : Port) (bytes : List ℕ) (log : List Act) → 0 < length bytes
+    → log_with_took port bytes log ≡ BytesTaken port (length bytes) ∷ log
 log_with_some port [] log some = absurd (omega arith)
 log_with_some port (byte ∷ bytes) log some = refl
 
 -- what is shown is taken
-pub stands_taken : (port : Port) (bytes : List ℕ) (config : Config) (history : List Happening) (log : List Act) (old new : State) (result : Result Did Refused) → StandsBy old config history log
-    → bytes ≡ waiting_on port log → 0 < length bytes → length bytes ≤ 16384 → Acts old.config (Took port (length bytes)) log result new → new.config ≡ old.config
+pub stands_taken : (port : Port) (bytes : List ℕ) (config : Config) (history : List Happening) (log : List Act) (old new : State)
+    (result : Result Did Refused) → StandsBy old config history log
+    → bytes ≡ waiting_on port log → 0 < length bytes → length bytes ≤ 16384 → Acts old.config (Took port (length bytes)) log result new
+    → new.config ≡ old.config
     → StandsBy new config (with_took port (waiting_on port log) history) (log_with_took port (waiting_on port log) log)
-stands_taken (Intr c) bytes config history log old new result s is some few acts same = absurd (omega (arith, ap (λ (l : List ℕ). length l) is))
+stands_taken (Intr c) bytes config history log old new result s is some few acts same =
+    absurd (omega (arith, ap (λ (l : List ℕ). length l) is))
 stands_taken (Conn c) bytes config history log old new result (set_up, is_log, rep, settled) is some few acts same =
     let some_wait : 0 < length (waiting_on (Conn c) log) = rw (← is) some in
     let o = waits_open c log some_wait in
     let within = waits_within c old log rep o in
     let none = took_free c (length bytes) config log within o (ap (λ (l : List ℕ). length l) is) in
-    let new_rep = took_done c (length bytes) config log result new none (subst (λ (k : Config). Acts k (Took (Conn c) (length bytes)) log result new) set_up acts) in
-    rw (with_some (Conn c) (waiting_on (Conn c) log) history some_wait, log_with_some (Conn c) (waiting_on (Conn c) log) log some_wait, ← is)
-    (same ∙ set_up, (log, BytesTaken (Conn c) (length bytes) ∷ log, (omega (arith, within), omega arith), is_log, none, refl, (0, (settled, refl))), new_rep, settled)
+    let new_rep = took_done c (length bytes) config log result new none
+    (subst (λ (k : Config). Acts k (Took (Conn c) (length bytes)) log result new) set_up acts) in
+    rw (
+      with_some (Conn c) (waiting_on (Conn c) log) history some_wait,
+      log_with_some (Conn c) (waiting_on (Conn c) log) log some_wait,
+      ← is,
+    ) (
+      same ∙ set_up,
+      (
+        log,
+        BytesTaken (Conn c) (length bytes) ∷ log,
+        (omega (arith, within), omega arith),
+        is_log,
+        none,
+        refl,
+        (0, (settled, refl)),
+      ),
+      new_rep,
+      settled,
+    )

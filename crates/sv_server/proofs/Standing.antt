@@ -16,7 +16,8 @@ nothing_due : (n : ℕ) (log new : List Act) → SettlesIn n log new → step_of
 nothing_due zero log new (none, same) = rw same none
 nothing_due (suc n) log new (some, more) = nothing_due n _ new more
 
-pub stands_after : (config : Config) (history : List Happening) (event : Happening) (old new : State) (did : Did) (exchange : Held) → StandsFor old config history → IsEvent event → new.config ≡ old.config
+pub stands_after : (config : Config) (history : List Happening) (event : Happening) (old new : State) (did : Did) (exchange : Held)
+    → StandsFor old config history → IsEvent event → new.config ≡ old.config
     → ((log : List Act) → Represents old log → Acts old.config event log (Ok did) new)
     → ((log : List Act) → HoldsExchange new.exchange (exchange_acts log) → Settled log exchange)
     → StandsFor (record new { exchange = exchange }) config (event ∷ history)
@@ -27,6 +28,7 @@ stands_after config history event old new did exchange s is_event same acts sett
       log = last;
       set_up = same ∙ s.set_up;
       is_log = (s.log, middle, is_event, s.is_log, free, does, steps);
-      represents = other_acts new middle last rep only.lines new.links exchange new.clock (rw only.links_stay rep.links) held (rw only.clock_stays rep.clock);
+      represents = other_acts new middle last rep only.lines new.links exchange new.clock (rw only.links_stay rep.links) held
+          (rw only.clock_stays rep.clock);
       settled = nothing_due steps.0 middle last steps.1;
     }

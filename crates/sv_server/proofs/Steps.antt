@@ -24,14 +24,20 @@ abbrev pub Settled : List Act → Held → Type 0
 Settled log exchange = (new : List Act) × Settles log new × HoldsExchange exchange (exchange_acts new) × OnlyExchange log new
 
 only_same : (log : List Act) → OnlyExchange log log
-only_same log = record { lines = λ d. record { role = refl; came = refl; calls = refl; fault = refl; out = refl; gone = refl }; links_stay = refl; clock_stays = refl }
+only_same log = record {
+  lines = λ d. record { role = refl; came = refl; calls = refl; fault = refl; out = refl; gone = refl };
+  links_stay =
+      refl;
+  clock_stays = refl;
+}
 
 only_steps : (acts : List ExchangeAct) (log new : List Act) → OnlyExchange log new → OnlyExchange log (map Exchanged acts ++ new)
 only_steps [] log new o = o
 only_steps (act ∷ acts) log new o =
     let rest = only_steps acts log new o in
     record {
-      lines = λ d. SameLine-then d log (map Exchanged acts ++ new) (Exchanged act ∷ map Exchanged acts ++ new) (rest.lines d) (record { role = refl; came = refl; calls = refl; fault = refl; out = refl; gone = refl });
+      lines = λ d. SameLine-then d log (map Exchanged acts ++ new) (Exchanged act ∷ map Exchanged acts ++ new) (rest.lines d)
+          (record { role = refl; came = refl; calls = refl; fault = refl; out = refl; gone = refl });
       links_stay = rest.links_stay;
       clock_stays = rest.clock_stays;
     }
@@ -39,13 +45,20 @@ only_steps (act ∷ acts) log new o =
 pub stepped_none : (old : Held) → AnyStepped old old
 stepped_none old = λ log x. (log, λ n new s. (n, s), x, only_same log)
 
-pub stepped_more : (first old new : Held) → AnyStepped first old → ((log : List Act) → HoldsExchange old (exchange_acts log) → StepDone true log old new) → AnyStepped first new
+pub stepped_more : (first old new : Held) → AnyStepped first old
+    → ((log : List Act) → HoldsExchange old (exchange_acts log) → StepDone true log old new) → AnyStepped first new
 stepped_more first old new some more = λ log x.
     let (mid, reaches, holds, only) = some log x in
-    let (due_now, held) = more mid holds in
-    (step_of mid ++ mid, λ n last s. reaches (suc n) last (due_now, s), held, only_steps (step_acts (due (exchange_acts mid)) (exchange_acts mid)) log mid only)
+    let (due_now, held) = more mid holds in (
+      step_of mid ++ mid,
+      λ n last s. reaches (suc n) last (due_now, s),
+      held,
+      only_steps (step_acts (due (exchange_acts mid)) (exchange_acts mid)) log mid only,
+    )
 
-pub stepped_all : (first old new : Held) → AnyStepped first old → ((log : List Act) → HoldsExchange old (exchange_acts log) → StepDone false log old new) → (log : List Act) → HoldsExchange first (exchange_acts log) → Settled log new
+pub stepped_all : (first old new : Held) → AnyStepped first old
+    → ((log : List Act) → HoldsExchange old (exchange_acts log) → StepDone false log old new) → (log : List Act)
+    → HoldsExchange first (exchange_acts log) → Settled log new
 stepped_all first old new some none = λ log x.
     let (mid, reaches, holds, only) = some log x in
     let (nothing, same) = none mid holds in

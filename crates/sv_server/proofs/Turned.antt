@@ -42,19 +42,23 @@ get_of_drop xs zero = refl
 get_of_drop [] (suc n) = refl
 get_of_drop (x ∷ xs) (suc n) = get_of_drop xs n
 
-left_of : (f : Bool) (records : List (List ℕ)) (bytes : List ℕ) → next_left f records ≡ Some bytes → (f ≡ false) × (slice_get records 0 ≡ Some bytes)
+left_of : (f : Bool) (records : List (List ℕ)) (bytes : List ℕ) → next_left f records ≡ Some bytes
+    → (f ≡ false) × (slice_get records 0 ≡ Some bytes)
 left_of true records bytes h = absurd (cc)
 left_of false records bytes h = (refl, h)
 
 -- The stream's next call is this, and the connection isn't idle.
 abbrev pub HasNext : ℕ → List Act → List ℕ → Type 0
-HasNext c log bytes = (records : List (List ℕ)) × (tail : Tail) × Reads c log records tail × (is_idle c log records tail ≡ false) × (next_call c log records ≡ Some bytes)
+HasNext c log bytes = (records : List (List ℕ)) × (tail : Tail) × Reads c log records tail × (is_idle c log records tail ≡ false)
+    × (next_call c log records ≡ Some bytes)
 
-pub next_is : (line : Line) (c : ℕ) (log : List Act) (bytes : List ℕ) → IsLine line c log → is_open c log ≡ true → next_left line.faulted line.input.records ≡ Some bytes → HasNext c log bytes
+pub next_is : (line : Line) (c : ℕ) (log : List Act) (bytes : List ℕ) → IsLine line c log → is_open c log ≡ true
+    → next_left line.faulted line.input.records ≡ Some bytes → HasNext c log bytes
 next_is line c log bytes is opened next =
     let st = is.input opened in
     let left = left_of line.faulted line.input.records bytes next in
-    let here : slice_get line.input.records 0 ≡ slice_get st.all (taken c log) = ap (λ (rs : List (List ℕ)). slice_get rs 0) st.kept ∙ get_of_drop st.all (taken c log) in (
+    let here : slice_get line.input.records 0 ≡ slice_get st.all (taken c log) =
+    ap (λ (rs : List (List ℕ)). slice_get rs 0) st.kept ∙ get_of_drop st.all (taken c log) in (
       st.all,
       line.input.tail,
       st.splits,
@@ -63,27 +67,44 @@ next_is line c log bytes is opened next =
     )
 
 -- nothing refuses a Turn that has a call and room for its reply
-pub goes_on : (config : Config) (line : Line) (c : ℕ) (log : List Act) (bytes : List ℕ) → IsLine line c log → c < 16 → is_open c log ≡ true → HasNext c log bytes → 8232 ≤ 16384 - length line.output
+pub goes_on : (config : Config) (line : Line) (c : ℕ) (log : List Act) (bytes : List ℕ) → IsLine line c log → c < 16 → is_open c log ≡ true
+    → HasNext c log bytes → 8232 ≤ 16384 - length line.output
     → Refuses config (Turn c) log None
 goes_on config line c log bytes is lt opened h room =
     let waits : line.output ≡ drop (given c log) (sent c log) = is.output ∙ if_true (is_open c log) _ _ opened in
     let free_is : nat_lt (free c log) 8232 ≡ false = le-ltb (free c log) 8232 (rw waits at room) in
-    rw (shut_is c log true lt opened) (h.0, h.1, h.2, sym (if_false (is_idle c log h.0 h.1) None _ h.3 ∙ if_false (nat_lt (free c log) 8232) (Some NoRoom) None free_is))
+    rw (shut_is c log true lt opened) (
+      h.0,
+      h.1,
+      h.2,
+      sym (if_false (is_idle c log h.0 h.1) None _ h.3 ∙ if_false (nat_lt (free c log) 8232) (Some NoRoom) None free_is),
+    )
 
 -- memory may be wanting where serving the call wants it
-pub lacks : (config : Config) (line : Line) (c : ℕ) (log : List Act) (role : Role) (bytes : List ℕ) → IsLine line c log → c < 16 → line.role ≡ Some role
-    → next_left line.faulted line.input.records ≡ Some bytes → 8232 ≤ 16384 - length line.output → wants_memory (Some role) (call_at bytes) log ≡ true → MayLackMemory config (Turn c) log
+pub lacks : (config : Config) (line : Line) (c : ℕ) (log : List Act) (role : Role) (bytes : List ℕ) → IsLine line c log → c < 16
+    → line.role ≡ Some role
+    → next_left line.faulted line.input.records ≡ Some bytes → 8232 ≤ 16384 - length line.output
+    → wants_memory (Some role) (call_at bytes) log ≡ true → MayLackMemory config (Turn c) log
 lacks config line c log role bytes is lt role_is next room wants =
     let opened : is_open c log ≡ true = opened_is line c log true is (ap is_some role_is) in
-    let h = next_is line c log bytes is opened next in
-    (goes_on config line c log bytes is lt opened h room, h.0, h.1, bytes, h.2, h.3, h.4, ap (λ (r : Option Role). wants_memory r (call_at bytes) log) (sym is.role ∙ role_is) ∙ wants)
+    let h = next_is line c log bytes is opened next in (
+      goes_on config line c log bytes is lt opened h room,
+      h.0,
+      h.1,
+      bytes,
+      h.2,
+      h.3,
+      h.4,
+      ap (λ (r : Option Role). wants_memory r (call_at bytes) log) (sym is.role ∙ role_is) ∙ wants,
+    )
 
 kept_fault : (f t : Bool) → t ≡ false → (if f then true else t) ≡ f
 kept_fault true t e = refl
 kept_fault false t e = e
 
 -- what serving the call leaves is the line's
-served_line : (line : Line) (c : ℕ) (log new : List Act) (reply : List ℕ) (out : List ℕ) (faulted : Bool) (input : Held) → IsLine line c log → is_open c log ≡ true → line.faulted ≡ false
+served_line : (line : Line) (c : ℕ) (log new : List Act) (reply : List ℕ) (out : List ℕ) (faulted : Bool) (input : Held) → IsLine line c log
+    → is_open c log ≡ true → line.faulted ≡ false
     → AddsReply c (CallTaken c ∷ log) new reply faulted → out ≡ line.output ++ reply
     → ((stream : List ℕ) (dropped : ℕ) → StandsFor line.input stream dropped → StandsFor input stream (dropped + 1))
     → IsLine (record { role = line.role; input = input; output = out; faulted = faulted }) c new
@@ -98,15 +119,19 @@ served_line line c log new reply out faulted input is opened sound adds sends st
       role = is.role ∙ sym adds.role;
       input = λ o. rw (adds.came, adds.calls, one_more) (stands (stream c log) (taken c log) (is.input opened));
       output = sends ∙ ap (λ (o : List ℕ). o ++ reply) waits ∙ sym (drop-append-le (given c log) (sent c log) reply few)
-          ∙ sym (if_true (is_open c new) _ _ still ∙ ap (λ (n : ℕ). drop n (sent c new)) adds.gone ∙ ap (λ (s : List ℕ). drop (given c log) s) adds.out);
+          ∙ sym (if_true (is_open c new) _ _ still ∙ ap (λ (n : ℕ). drop n (sent c new)) adds.gone
+          ∙ ap (λ (s : List ℕ). drop (given c log) s) adds.out);
       faulted = λ o. sym (adds.fault ∙ kept_fault faulted (took_no_call c log) no_fault);
       few = λ o. rw (adds.gone, adds.out, length-append (sent c log) reply) (omega arith);
     }
 
 -- the acts of a Turn that took a call
-pub turned_done : (config : Config) (line : Line) (c : ℕ) (log : List Act) (role : Role) (bytes : List ℕ) (links : Table) (exchange : HeldText) (out : List ℕ) (faulted : Bool) (input : Held)
-    → IsLine line c log → c < 16 → line.role ≡ Some role → next_left line.faulted line.input.records ≡ Some bytes → 8232 ≤ 16384 - length line.output
-    → Serves c (CallTaken c ∷ log) (served_call config c (Some role) (call_at bytes) (CallTaken c ∷ log)) links exchange line.output out faulted
+pub turned_done : (config : Config) (line : Line) (c : ℕ) (log : List Act) (role : Role) (bytes : List ℕ) (links : Table)
+    (exchange : HeldText) (out : List ℕ) (faulted : Bool) (input : Held)
+    → IsLine line c log → c < 16 → line.role ≡ Some role → next_left line.faulted line.input.records ≡ Some bytes
+    → 8232 ≤ 16384 - length line.output
+    → Serves c (CallTaken c ∷ log) (served_call config c (Some role) (call_at bytes) (CallTaken c ∷ log)) links exchange line.output out
+    faulted
     → ((stream : List ℕ) (dropped : ℕ) → StandsFor line.input stream dropped → StandsFor input stream (dropped + 1))
     → Turns config c log (Ok Done) (record { role = line.role; input = input; output = out; faulted = faulted }) links exchange
 turned_done config line c log role bytes links exchange out faulted input is lt role_is next room serves stands =
@@ -114,14 +139,16 @@ turned_done config line c log role bytes links exchange out faulted input is lt 
     let h = next_is line c log bytes is opened next in
     let role_of : open_role c log ≡ Some role = sym is.role ∙ role_is in
     let new = served_call config c (Some role) (call_at bytes) (CallTaken c ∷ log) in
-    let does : turned config c h.0 h.1 log ≡ new = if_false (is_idle c log h.0 h.1) log _ h.3 ∙ ap (λ (o : Option (List ℕ)). take_call config c o log) h.4
+    let does : turned config c h.0 h.1 log ≡ new =
+    if_false (is_idle c log h.0 h.1) log _ h.3 ∙ ap (λ (o : Option (List ℕ)). take_call config c o log) h.4
     ∙ ap (λ (r : Option Role). served_call config c r (call_at bytes) (CallTaken c ∷ log)) role_of in (
       goes_on config line c log bytes is lt opened h room,
       (h.0, h.1, h.2, sym (if_false (is_idle c log h.0 h.1) Idle Done h.3)),
       new,
       (h.0, h.1, h.2, sym does),
       record {
-        mine = served_line line c log new serves.reply out faulted input is opened (left_of line.faulted line.input.records bytes next).0 serves.adds serves.sends stands;
+        mine = served_line line c log new serves.reply out faulted input is opened
+            (left_of line.faulted line.input.records bytes next).0 serves.adds serves.sends stands;
         others = λ d ne. SameLine-then d log (CallTaken c ∷ log) new (others_stay c d (CallTaken c) log refl ne) (serves.adds.others d ne);
         links_are = serves.links_are;
         exchange_is = serves.exchange_is;
@@ -130,12 +157,15 @@ turned_done config line c log role bytes links exchange out faulted input is lt 
     )
 
 -- what a Turn of one line leaves of all of them
-line_turned : (state : State) (log new : List Act) (c : ℕ) (line : Line) (links : Table) (exchange : HeldText) → Represents state log → length state.lines ≡ 16 → c < 16
-    → OfLine c log new line links exchange → Represents (record state { lines = set state.lines c line; links = links; exchange = exchange }) new
+line_turned : (state : State) (log new : List Act) (c : ℕ) (line : Line) (links : Table) (exchange : HeldText) → Represents state log
+    → length state.lines ≡ 16 → c < 16
+    → OfLine c log new line links exchange → Represents
+    (record state { lines = set state.lines c line; links = links; exchange = exchange }) new
 line_turned state log new c line links exchange rep sixteen lt of = record {
   lines = λ d other below. elim (cases_eq d c) [
     | inl e ↦
-        let at : get_or (set state.lines c line) d other ≡ line = ap (λ (n : ℕ). get_or (set state.lines c line) n other) e ∙ get_or-set_same state.lines c line other (omega arith) in
+        let at : get_or (set state.lines c line) d other ≡ line =
+        ap (λ (n : ℕ). get_or (set state.lines c line) n other) e ∙ get_or-set_same state.lines c line other (omega arith) in
         rw (at, e) of.mine
     | inr ne ↦
         let at : get_or (set state.lines c line) d other ≡ get_or state.lines d other = get_or-set_other state.lines c d line other ne in
@@ -147,9 +177,12 @@ line_turned state log new c line links exchange rep sixteen lt of = record {
   clock = rep.clock ∙ ap (λ (n : ℕ). state.config.clock + n) (sym of.clock);
 }
 
-pub turns_all : (state : State) (log : List Act) (c : ℕ) (result : Result Did Refused) (line : Line) (links : Table) (exchange : HeldText) → Represents state log → length state.lines ≡ 16 → c < 16
-    → Turns state.config c log result line links exchange → Acts state.config (Turn c) log result (record state { lines = set state.lines c line; links = links; exchange = exchange })
-turns_all state log c (Ok did) line links exchange rep sixteen lt (free_of, done, middle, does, of) = (free_of, done, middle, does, line_turned state log middle c line links exchange rep sixteen lt of)
+pub turns_all : (state : State) (log : List Act) (c : ℕ) (result : Result Did Refused) (line : Line) (links : Table) (exchange : HeldText)
+    → Represents state log → length state.lines ≡ 16 → c < 16
+    → Turns state.config c log result line links exchange
+    → Acts state.config (Turn c) log result (record state { lines = set state.lines c line; links = links; exchange = exchange })
+turns_all state log c (Ok did) line links exchange rep sixteen lt (free_of, done, middle, does, of) =
+    (free_of, done, middle, does, line_turned state log middle c line links exchange rep sixteen lt of)
 turns_all state log c (Err NoMemory) line links exchange rep sixteen lt h = h
 turns_all state log c (Err ConnInUse) line links exchange rep sixteen lt h = h
 turns_all state log c (Err NoConn) line links exchange rep sixteen lt h = h

@@ -16,7 +16,8 @@ AreWaiting config history port bytes = (log : List Act) × IsLogOf config histor
 -- Of an open connection the answer is what the records of its stream give; of any other number it is this.
 abbrev pub OfOpen : {A : Type 0} → (ℕ → List Act → List (List ℕ) → Tail → A) → A → Config → List Happening → ℕ → A → Type 0
 OfOpen answer other config history c result = (log : List Act) × IsLogOf config history log
-    × MatchBool (is_open c log) ((records : List (List ℕ)) × (tail : Tail) × Reads c log records tail × (result ≡ answer c log records tail)) (result ≡ other)
+    × MatchBool (is_open c log) ((records : List (List ℕ)) × (tail : Tail) × Reads c log records tail
+    × (result ≡ answer c log records tail)) (result ≡ other)
 
 abbrev pub IsRoom : Config → List Happening → ℕ → ℕ → Type 0
 IsRoom config history c result = OfOpen room 0 config history c result

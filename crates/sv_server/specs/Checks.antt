@@ -1,4 +1,5 @@
--- What is checked of a call, in this order, before it does anything (RFC 5531, section 9; VXI-11 revision 1.0, section B.6; RFC 1833, section 3).
+-- What is checked of a call, in this order, before it does anything (RFC 5531, section 9; VXI-11 revision 1.0, section B.6; RFC 1833,
+-- section 3).
 use Rattle.std.specs.Prelude.{ℕ, ◌==◌, not, ℤ, pos, negsuc, Bool, false, List, [], ◌∷◌, Option, Some, None, is_some, if◌then◌else◌}
 use Rattle.sv_rpc.specs.declared.reply.Reply.{Reply}
 use Rattle.sv_rpc.specs.declared.reply.Reply.TheVariants.{Success, ProgUnavail, ProgMismatch, ProcUnavail}

@@ -39,7 +39,8 @@ closed c log = map Linked (closing c (link_acts log)) ++ PortClosed c ∷ log
 abbrev pub Does : Config → Happening → List Act → List Act → Type 0
 Does config (Open c role) log new = new ≡ Opened c role ∷ log
 Does config (Bytes c piece) log new = new ≡ Piece c piece ∷ log
-Does config (Turn c) log new = (records : List (List ℕ)) × (tail : Tail) × Reads c log records tail × (new ≡ turned config c records tail log)
+Does config (Turn c) log new = (records : List (List ℕ)) × (tail : Tail) × Reads c log records tail
+    × (new ≡ turned config c records tail log)
 Does config (Refuse c) log new = new ≡ log
 Does config (Took port count) log new = new ≡ BytesTaken port count ∷ log
 Does config (Close (Conn c)) log new = new ≡ closed c log
@@ -68,9 +69,11 @@ turn_refusal idle free = if idle then None else (if nat_lt free 8232 then Some N
 abbrev pub Refuses : Config → Happening → List Act → Option Refused → Type 0
 Refuses config (Open c role) log refusal = refusal ≡ (if nat_lt 15 c then Some NoConn else (if is_open c log then Some ConnInUse else None))
 Refuses config (Bytes c piece) log refusal = MatchBool (is_shut c log) (refusal ≡ Some NoConn)
-    ((records : List (List ℕ)) × (tail : Tail) × Reads c log records tail × (refusal ≡ (if nat_lt (room c log records tail) (length piece) then Some NoRoom else None)))
+    ((records : List (List ℕ)) × (tail : Tail) × Reads c log records tail
+    × (refusal ≡ (if nat_lt (room c log records tail) (length piece) then Some NoRoom else None)))
 Refuses config (Turn c) log refusal = MatchBool (is_shut c log) (refusal ≡ Some NoConn)
-    ((records : List (List ℕ)) × (tail : Tail) × Reads c log records tail × (refusal ≡ turn_refusal (is_idle c log records tail) (free c log)))
+    ((records : List (List ℕ)) × (tail : Tail) × Reads c log records tail
+    × (refusal ≡ turn_refusal (is_idle c log records tail) (free c log)))
 Refuses config (Refuse c) log refusal = refusal ≡ (if is_shut c log then Some NoConn else Some NotRefusable)
 Refuses config (Took (Conn c) count) log refusal =
     refusal ≡ (if is_shut c log then Some NoConn else (if nat_lt (length (waiting_on (Conn c) log)) count then Some NotSent else None))
@@ -86,12 +89,14 @@ Refuses config Tick log refusal = refusal ≡ (if config.clock + ticks log == la
 -- The log of a history: each event's own acts, and then the steps that are due. Each number of a history lies in its range.
 abbrev pub IsLogOf : Config → List Happening → List Act → Type 0
 IsLogOf config [] log = IsConfig config × (log ≡ [])
-IsLogOf config (event ∷ history) log = (before middle : List Act) × IsEvent event × IsLogOf config history before × Refuses config event before None
+IsLogOf config (event ∷ history) log = (before middle : List Act) × IsEvent event × IsLogOf config history before
+    × Refuses config event before None
     × Does config event before middle × Settles middle log
 
 -- what an event that wasn't refused does: a Turn that finds no call to take is idle
 abbrev pub DidIs : Happening → List Act → Did → Type 0
-DidIs (Turn c) log did = (records : List (List ℕ)) × (tail : Tail) × Reads c log records tail × (did ≡ (if is_idle c log records tail then Idle else Done))
+DidIs (Turn c) log did = (records : List (List ℕ)) × (tail : Tail) × Reads c log records tail
+    × (did ≡ (if is_idle c log records tail then Idle else Done))
 DidIs _ log did = did ≡ Done
 
 -- whether these are the arguments of a create_link that passes the checks of its name and of the lock
@@ -105,13 +110,16 @@ spells_link (Err e) = false
 
 -- whether a record is a create_link that passes the checks in front of its memory
 abbrev pub wants_memory : Option Role → Result Asked CallFault → List Act → Bool
-wants_memory (Some Core) (Ok call) log = is_none (header_reply Core call) && (spells_link (arguments_at call.proc call.args) && may_make (link_acts log))
+wants_memory (Some Core) (Ok call) log = is_none (header_reply Core call) &&
+    (spells_link (arguments_at call.proc call.args) && may_make (link_acts log))
 wants_memory _ _ log = false
 
 -- Memory may be wanting only for a Turn that nothing else refuses and that isn't idle, and whose next call is such a create_link.
 abbrev pub MayLackMemory : Config → Happening → List Act → Type 0
-MayLackMemory config (Turn c) log = Refuses config (Turn c) log None × (records : List (List ℕ)) × (tail : Tail) × (bytes : List ℕ) × Reads c log records tail
-    × (is_idle c log records tail ≡ false) × (next_call c log records ≡ Some bytes) × (wants_memory (open_role c log) (call_at bytes) log ≡ true)
+MayLackMemory config (Turn c) log = Refuses config (Turn c) log None × (records : List (List ℕ)) × (tail : Tail) × (bytes : List ℕ)
+    × Reads c log records tail
+    × (is_idle c log records tail ≡ false) × (next_call c log records ≡ Some bytes)
+    × (wants_memory (open_role c log) (call_at bytes) log ≡ true)
 MayLackMemory config _ log = ⊥
 
 -- What a call of the server answers: what the event does, or what refuses it.

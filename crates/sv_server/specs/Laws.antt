@@ -13,7 +13,8 @@ OneLog = (config : Config) (history : List Happening) (a b : List Act) → IsLog
 
 -- An event is refused in one way, or in none.
 abbrev pub OneRefusal : Type 0
-OneRefusal = (config : Config) (event : Happening) (log : List Act) (a b : Option Refused) → Refuses config event log a → Refuses config event log b → a ≡ b
+OneRefusal = (config : Config) (event : Happening) (log : List Act) (a b : Option Refused) → Refuses config event log a
+    → Refuses config event log b → a ≡ b
 
 -- Whatever the log, the steps that are due come to an end.
 abbrev pub SettlingEnds : Type 0

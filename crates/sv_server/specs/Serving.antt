@@ -90,7 +90,8 @@ term_of flags term_char = if bit_at flags 7 == 1 then Some (term_char % 256) els
 abbrev pub read_of : List ℕ → ℕ → Option ℕ → Outcome
 read_of bytes most term =
     let count = read_count bytes most term in
-    Read NoError (record { request_count = count == most; character = ends_at_term bytes count term; end = count == length bytes }) (take count bytes)
+    Read NoError (record { request_count = count == most; character = ends_at_term bytes count term; end = count == length bytes })
+    (take count bytes)
 
 -- a read gives what stands of the response; without one, where no message waits, the unfinished text is dropped
 abbrev pub read_device : ℕ → ℕ → ℕ → Option ℕ → List Act → List Act
@@ -109,7 +110,8 @@ abbrev pub own_acts : Config → ℕ → ℕ → Arguments → List Act → List
 own_acts config c xid (DeviceAbort lid) log = succeeded c xid (Plain (abort_error (lid_of lid) log)) log
 own_acts config c xid (CreateLink client_id lock_device lock_timeout device) log = create_link config c xid lock_device device log
 own_acts config c xid (DeviceWrite lid io_timeout lock_timeout flags bytes) log = write_device c xid flags bytes log
-own_acts config c xid (DeviceRead lid request_size io_timeout lock_timeout flags term_char) log = read_device c xid request_size (term_of flags term_char) log
+own_acts config c xid (DeviceRead lid request_size io_timeout lock_timeout flags term_char) log =
+    read_device c xid request_size (term_of flags term_char) log
 own_acts config c xid (DeviceReadstb lid flags lock_timeout io_timeout) log = succeeded c xid (Status NotSupported 0) log
 own_acts config c xid (DeviceTrigger lid flags lock_timeout io_timeout) log = succeeded c xid (Plain NotSupported) log
 own_acts config c xid (DeviceClear lid flags lock_timeout io_timeout) log = succeeded c xid (Plain NotSupported) log
@@ -118,7 +120,8 @@ own_acts config c xid (DeviceLocal lid flags lock_timeout io_timeout) log = succ
 own_acts config c xid (DeviceLock lid flags lock_timeout) log = succeeded c xid (Plain NotSupported) log
 own_acts config c xid (DeviceUnlock lid) log = succeeded c xid (Plain NotSupported) log
 own_acts config c xid (DeviceEnableSrq lid enable handle) log = succeeded c xid (Plain NotSupported) log
-own_acts config c xid (DeviceDocmd lid flags io_timeout lock_timeout cmd network_order datasize bytes) log = succeeded c xid (Data NotSupported []) log
+own_acts config c xid (DeviceDocmd lid flags io_timeout lock_timeout cmd network_order datasize bytes) log =
+    succeeded c xid (Data NotSupported []) log
 own_acts config c xid (DestroyLink lid) log = destroy_link c xid (lid_of lid) log
 own_acts config c xid (CreateIntrChan host_addr host_port prog_num prog_vers prog_family) log = succeeded c xid (Plain NotSupported) log
 own_acts config c xid DestroyIntrChan log = succeeded c xid (Plain NotSupported) log
@@ -126,7 +129,8 @@ own_acts config c xid DestroyIntrChan log = succeeded c xid (Plain NotSupported)
 -- the acts of a call whose arguments were looked at: the link that it names is looked at first
 abbrev pub called : Config → ℕ → ℕ → Result Arguments Garbage → List Act → List Act
 called config c xid (Ok arguments) log =
-    if names_another c (link_named arguments) log then succeeded c xid (failure arguments InvalidLink) log else own_acts config c xid arguments log
+    if names_another c (link_named arguments) log then succeeded c xid
+    (failure arguments InvalidLink) log else own_acts config c xid arguments log
 called config c xid (Err garbage) log = replied c xid GarbageArgs log
 
 -- the answer of GETPORT

@@ -25,10 +25,13 @@ log_with_took port (byte ∷ bytes) log = BytesTaken port (length (byte ∷ byte
 abbrev pub ShowsPort : Port → Config → List Happening → List Act → Result ⊤ WriteFault → State → List ℕ → Type 0
 ShowsPort port config history log (Ok all) new text = (text ≡ port_line port (waiting_on port log))
     × StandsBy new config (with_took port (waiting_on port log) history) (log_with_took port (waiting_on port log) log)
-ShowsPort port config history log (Err fault) new text = IsFront text (port_line port (waiting_on port log)) × StandsBy new config history log
+ShowsPort port config history log (Err fault) new text =
+    IsFront text (port_line port (waiting_on port log)) × StandsBy new config history log
 
 -- All lines were written, and what they show was taken; or those of some first ports were, and of the others' lines a front was written.
 abbrev pub ShowsAll : Config → List Happening → List Act → Result ⊤ WriteFault → State → List ℕ → Type 0
-ShowsAll config history log (Ok all) new text = (text ≡ lines_of ports log) × (now : List Act) × StandsBy new config (with_tooks ports log history) now
-ShowsAll config history log (Err fault) new text = (shown others : List Port) × (part : List ℕ) × (ports ≡ shown ++ others) × IsFront part (lines_of others log)
+ShowsAll config history log (Ok all) new text = (text ≡ lines_of ports log) × (now : List Act)
+    × StandsBy new config (with_tooks ports log history) now
+ShowsAll config history log (Err fault) new text =
+    (shown others : List Port) × (part : List ℕ) × (ports ≡ shown ++ others) × IsFront part (lines_of others log)
     × (text ≡ lines_of shown log ++ part) × (now : List Act) × StandsBy new config (with_tooks shown log history) now

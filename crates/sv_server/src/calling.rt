@@ -34,10 +34,15 @@ fn call_device<A: Allocator>(
 ) -> Result<(), AllocError>
     requires room { vec_len out.old + 8232 ≤ vec_capacity out.old }
     requires procedure { is_one_of (core_calls ++ abort_calls) call.proc ≡ true }
-    ensures ok { (log : List Act) → IsTable links.old (link_acts log) → HoldsExchange exchange.old (exchange_acts log)
-        → OnOk result (Serves conn log (called config conn call.entry.xid (arguments_at call.entry.proc call.entry.args.now) log) links.new exchange.new out.old.items out.new.items false) }
-    ensures err { OnErr result ((links.new ≡ links.old) × (exchange.new ≡ exchange.old) × (out.new.items ≡ out.old.items)
-        × (spells_link (arguments_at call.entry.proc call.entry.args.now) ≡ true) × ((nat_lt (length links.old.links) 32 && nat_lt links.old.made 2147483647) ≡ true)) }
+    ensures ok { (log : List Act) → IsTable links.old (link_acts log)
+        → HoldsExchange exchange.old (exchange_acts log)
+        → OnOk result (Serves conn log
+        (called config conn call.entry.xid (arguments_at call.entry.proc call.entry.args.now) log)
+        links.new exchange.new out.old.items out.new.items false) }
+    ensures err { OnErr result ((links.new ≡ links.old) × (exchange.new ≡ exchange.old)
+        × (out.new.items ≡ out.old.items)
+        × (spells_link (arguments_at call.entry.proc call.entry.args.now) ≡ true)
+        × ((nat_lt (length links.old.links) 32 && nat_lt links.old.made 2147483647) ≡ true)) }
     ensures capacity { vec_capacity out.old ≤ vec_capacity out.new }
     ensures grows { vec_len out.new ≤ vec_len out.old + 8232 }
 {
@@ -51,8 +56,11 @@ fn call_device<A: Allocator>(
 /// Answers GETPORT.
 fn call_port_mapper<A: Allocator>(config: Config, conn: u8, call: Call<'_>, out: &mut Vec<u8, A>)
     requires { vec_len out.old + 8232 ≤ vec_capacity out.old }
-    ensures serves { (log : List Act) (links : Table) (exchange : Held) → IsTable links (link_acts log) → HoldsExchange exchange (exchange_acts log)
-        → Serves conn log (port_told conn call.entry.xid (port_at (ports_of config) call.entry.args.now) log) links exchange out.old.items out.new.items false }
+    ensures serves { (log : List Act) (links : Table) (exchange : Held)
+        → IsTable links (link_acts log) → HoldsExchange exchange (exchange_acts log)
+        → Serves conn log (port_told conn call.entry.xid
+        (port_at (ports_of config) call.entry.args.now) log) links exchange out.old.items
+        out.new.items false }
     ensures capacity { vec_capacity out.old ≤ vec_capacity out.new }
     ensures grows { vec_len out.new ≤ vec_len out.old + 8232 }
 {
@@ -78,10 +86,15 @@ fn call_procedure<A: Allocator>(
 ) -> Result<(), AllocError>
     requires room { vec_len out.old + 8232 ≤ vec_capacity out.old }
     requires goes_on { reply_to role (asked call) ≡ None }
-    ensures ok { (log : List Act) → IsTable links.old (link_acts log) → HoldsExchange exchange.old (exchange_acts log)
-        → OnOk result (Serves conn log (procedure_acts config conn role (asked call.entry) log) links.new exchange.new out.old.items out.new.items false) }
-    ensures err { OnErr result ((links.new ≡ links.old) × (exchange.new ≡ exchange.old) × (out.new.items ≡ out.old.items) × (role ≡ Role.Core)
-        × (spells_link (arguments_at call.entry.proc call.entry.args.now) ≡ true) × ((nat_lt (length links.old.links) 32 && nat_lt links.old.made 2147483647) ≡ true)) }
+    ensures ok { (log : List Act) → IsTable links.old (link_acts log)
+        → HoldsExchange exchange.old (exchange_acts log)
+        → OnOk result (Serves conn log
+        (procedure_acts config conn role (asked call.entry) log) links.new exchange.new
+        out.old.items out.new.items false) }
+    ensures err { OnErr result ((links.new ≡ links.old) × (exchange.new ≡ exchange.old)
+        × (out.new.items ≡ out.old.items) × (role ≡ Role.Core)
+        × (spells_link (arguments_at call.entry.proc call.entry.args.now) ≡ true)
+        × ((nat_lt (length links.old.links) 32 && nat_lt links.old.made 2147483647) ≡ true)) }
     ensures capacity { vec_capacity out.old ≤ vec_capacity out.new }
     ensures grows { vec_len out.new ≤ vec_len out.old + 8232 }
 {
@@ -106,10 +119,15 @@ pub fn serve<A: Allocator>(
     out: &mut Vec<u8, A>,
 ) -> Result<bool, AllocError>
     requires { vec_len out.old + 8232 ≤ vec_capacity out.old }
-    ensures ok { (log : List Act) → IsTable links.old (link_acts log) → HoldsExchange exchange.old (exchange_acts log)
-        → IfOk result (λ faulted. Serves conn log (served_call config conn (Some role) (call_at bytes.now) log) links.new exchange.new out.old.items out.new.items faulted) }
-    ensures err { OnErr result ((links.new ≡ links.old) × (exchange.new ≡ exchange.old) × (out.new.items ≡ out.old.items)) }
-    ensures wants { (log : List Act) → IsTable links.old (link_acts log) → OnErr result (wants_memory (Some role) (call_at bytes.now) log ≡ true) }
+    ensures ok { (log : List Act) → IsTable links.old (link_acts log)
+        → HoldsExchange exchange.old (exchange_acts log)
+        → IfOk result (λ faulted. Serves conn log
+        (served_call config conn (Some role) (call_at bytes.now) log) links.new exchange.new
+        out.old.items out.new.items faulted) }
+    ensures err { OnErr result ((links.new ≡ links.old) × (exchange.new ≡ exchange.old)
+        × (out.new.items ≡ out.old.items)) }
+    ensures wants { (log : List Act) → IsTable links.old (link_acts log)
+        → OnErr result (wants_memory (Some role) (call_at bytes.now) log ≡ true) }
     ensures capacity { vec_capacity out.old ≤ vec_capacity out.new }
     ensures grows { vec_len out.new ≤ vec_len out.old + 8232 }
 {

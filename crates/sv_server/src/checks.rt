@@ -136,7 +136,8 @@ pub fn link_named(args: &Args<'_>) -> Option<i32>
 
 /// Whether a link is one of this connection.
 fn owns<A: Allocator>(links: &Links<A>, conn: u8, lid: Option<u32>) -> bool
-    ensures { (log : List Act) → IsTable links.now (link_acts log) → result ≡ owns_link conn lid log }
+    ensures { (log : List Act) → IsTable links.now (link_acts log)
+        → result ≡ owns_link conn lid log }
 {
     match lid {
         Some(lid) => links.owner(lid) == Some(conn),
@@ -156,7 +157,8 @@ pub fn lives<A: Allocator>(links: &Links<A>, lid: Option<u32>) -> bool
 
 /// Whether a call names a link that isn't one of its connection.
 pub fn names_another<A: Allocator>(links: &Links<A>, conn: u8, named: Option<i32>) -> bool
-    ensures { (log : List Act) → IsTable links.now (link_acts log) → result ≡ is_of_another conn named log }
+    ensures { (log : List Act) → IsTable links.now (link_acts log)
+        → result ≡ is_of_another conn named log }
 {
     match named {
         Some(lid) => !owns(links, conn, lid_of(lid)),

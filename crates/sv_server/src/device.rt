@@ -92,9 +92,13 @@ fn do_own<A: Allocator>(
     out: &mut Vec<u8, A>,
 ) -> Result<(), AllocError>
     requires { vec_len out.old + 8232 ≤ vec_capacity out.old }
-    ensures ok { (log : List Act) → IsTable links.old (link_acts log) → HoldsExchange exchange.old (exchange_acts log)
-        → OnOk result (Serves conn log (own_acts config conn xid (plain_arguments args.entry) log) links.new exchange.new out.old.items out.new.items false) }
-    ensures err { OnErr result ((links.new ≡ links.old) × (exchange.new ≡ exchange.old) × (out.new.items ≡ out.old.items) × (makes_link (plain_arguments args.entry) ≡ true)
+    ensures ok { (log : List Act) → IsTable links.old (link_acts log)
+        → HoldsExchange exchange.old (exchange_acts log)
+        → OnOk result (Serves conn log
+        (own_acts config conn xid (plain_arguments args.entry) log) links.new exchange.new
+        out.old.items out.new.items false) }
+    ensures err { OnErr result ((links.new ≡ links.old) × (exchange.new ≡ exchange.old)
+        × (out.new.items ≡ out.old.items) × (makes_link (plain_arguments args.entry) ≡ true)
         × ((nat_lt (length links.old.links) 32 && nat_lt links.old.made 2147483647) ≡ true)) }
     ensures capacity { vec_capacity out.old ≤ vec_capacity out.new }
     ensures grows { vec_len out.new ≤ vec_len out.old + 8232 }
@@ -149,9 +153,13 @@ pub fn do_call<A: Allocator>(
     out: &mut Vec<u8, A>,
 ) -> Result<(), AllocError>
     requires { vec_len out.old + 8232 ≤ vec_capacity out.old }
-    ensures ok { (log : List Act) → IsTable links.old (link_acts log) → HoldsExchange exchange.old (exchange_acts log)
-        → OnOk result (Serves conn log (called config conn xid (Ok (plain_arguments args.entry)) log) links.new exchange.new out.old.items out.new.items false) }
-    ensures err { OnErr result ((links.new ≡ links.old) × (exchange.new ≡ exchange.old) × (out.new.items ≡ out.old.items) × (makes_link (plain_arguments args.entry) ≡ true)
+    ensures ok { (log : List Act) → IsTable links.old (link_acts log)
+        → HoldsExchange exchange.old (exchange_acts log)
+        → OnOk result (Serves conn log
+        (called config conn xid (Ok (plain_arguments args.entry)) log) links.new exchange.new
+        out.old.items out.new.items false) }
+    ensures err { OnErr result ((links.new ≡ links.old) × (exchange.new ≡ exchange.old)
+        × (out.new.items ≡ out.old.items) × (makes_link (plain_arguments args.entry) ≡ true)
         × ((nat_lt (length links.old.links) 32 && nat_lt links.old.made 2147483647) ≡ true)) }
     ensures capacity { vec_capacity out.old ≤ vec_capacity out.new }
     ensures grows { vec_len out.new ≤ vec_len out.old + 8232 }

@@ -124,7 +124,8 @@ pub enum Refused {
     /// The number is above 15, or nothing of that number is open.
     #[error("there is no such connection")]
     NoConn = 3,
-    /// Bytes are more than the connection's room; a Turn finds fewer than 8,232 outgoing bytes free.
+    /// Bytes are more than the connection's room; a Turn finds fewer than 8,232 outgoing bytes
+    /// free.
     #[error("there is no room")]
     NoRoom = 4,
     /// More bytes were taken than waited.

@@ -30,7 +30,13 @@ impl<A: Allocator> Model for Line<A> {
 
     ghost use Rattle.std.specs.Prelude.{◌≤◌, length, vec_capacity};
 
-    ghost view = { λ a. record { role = a.role; input = a.input; output = a.output.items; faulted = a.faulted } };
+    ghost view = { λ a. record {
+      role = a.role;
+      input = a.input;
+      output = a.output.items;
+      faulted =
+          a.faulted;
+    } };
 
     ghost invariant = { λ a. (length a.output.items ≤ 16384) × (16384 ≤ vec_capacity a.output) };
 }
@@ -60,7 +66,8 @@ impl<A: Allocator> Line<A> {
     /// Opens it, empty.
     pub fn open(&mut self, role: Role)
         requires { self.old.role ≡ None }
-        ensures { (c : ℕ) (log : List Act) → IsLine self.old c log → IsLine self.new c (Opened c role ∷ log) }
+        ensures { (c : ℕ) (log : List Act) → IsLine self.old c log
+            → IsLine self.new c (Opened c role ∷ log) }
     {
         self.role = Some(role);
         self.input.clear();
@@ -70,7 +77,8 @@ impl<A: Allocator> Line<A> {
 
     /// Closes it, and lets what waits go.
     pub fn close(&mut self)
-        ensures { (c : ℕ) (log : List Act) → IsLine self.old c log → IsLine self.new c (PortClosed c ∷ log) }
+        ensures { (c : ℕ) (log : List Act) → IsLine self.old c log
+            → IsLine self.new c (PortClosed c ∷ log) }
     {
         self.role = None;
         self.output.clear();
@@ -80,7 +88,8 @@ impl<A: Allocator> Line<A> {
     pub fn push(&mut self, piece: &[u8])
         requires open { IsSome self.old.role }
         requires room { length piece.now ≤ room_of self.old.input }
-        ensures { (c : ℕ) (log : List Act) → IsLine self.old c log → IsLine self.new c (Piece c piece.now ∷ log) }
+        ensures { (c : ℕ) (log : List Act) → IsLine self.old c log
+            → IsLine self.new c (Piece c piece.now ∷ log) }
     {
         self.input.push(piece);
     }
@@ -89,7 +98,8 @@ impl<A: Allocator> Line<A> {
     pub fn took(&mut self, count: usize)
         requires open { IsSome self.old.role }
         requires waiting { count ≤ length self.old.output }
-        ensures { (c : ℕ) (log : List Act) → IsLine self.old c log → IsLine self.new c (BytesTaken (Conn c) count ∷ log) }
+        ensures { (c : ℕ) (log : List Act) → IsLine self.old c log
+            → IsLine self.new c (BytesTaken (Conn c) count ∷ log) }
     {
         self.output.drain(..count);
     }

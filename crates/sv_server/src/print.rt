@@ -19,7 +19,9 @@ pub struct WriteFault;
 /// Writes some of these bytes, and says how many; none where a signal came first.
 fn put_some<W: Write>(writer: &mut W, bytes: &[u8]) -> Result<usize, WriteFault>
     ensures within { IfOk result (λ n. n ≤ length bytes.now) }
-    ensures taken { MatchResult result (λ n. Appends (W.contents writer.old) (W.contents writer.new) (take n bytes.now)) (λ fault. Appends (W.contents writer.old) (W.contents writer.new) []) }
+    ensures taken { MatchResult result
+        (λ n. Appends (W.contents writer.old) (W.contents writer.new) (take n bytes.now))
+        (λ fault. Appends (W.contents writer.old) (W.contents writer.new) []) }
 {
     match writer.write(bytes) {
         Ok(0) => Err(WriteFault),
@@ -49,7 +51,8 @@ fn put<W: Write>(writer: &mut W, bytes: &[u8]) -> Result<(), WriteFault>
 /// Writes a few bytes as two hexadecimal digits each, in lower case.
 fn put_piece<W: Write>(writer: &mut W, piece: &[u8]) -> Result<(), WriteFault>
     requires { length piece.now ≤ 256 }
-    ensures { Takes (W.contents writer.old) (W.contents writer.new) result (encode_lower piece.now) }
+    ensures { Takes (W.contents writer.old) (W.contents writer.new) result
+        (encode_lower piece.now) }
 {
     let mut digits = [0; 2 * PIECE];
     let spelled = &mut digits[..2 * piece.len()];
@@ -59,7 +62,8 @@ fn put_piece<W: Write>(writer: &mut W, piece: &[u8]) -> Result<(), WriteFault>
 
 /// Writes bytes as two hexadecimal digits each, in lower case.
 fn put_hex<W: Write>(writer: &mut W, bytes: &[u8]) -> Result<(), WriteFault>
-    ensures { Takes (W.contents writer.old) (W.contents writer.new) result (encode_lower bytes.now) }
+    ensures { Takes (W.contents writer.old) (W.contents writer.new) result
+        (encode_lower bytes.now) }
 {
     let mut rest = bytes;
     while !rest.is_empty() {
@@ -95,7 +99,8 @@ fn put_name<W: Write>(writer: &mut W, port: Port) -> Result<(), WriteFault>
 
 /// Writes the line of the bytes that wait on a port; none where none wait.
 pub fn put_line<W: Write>(writer: &mut W, port: Port, bytes: &[u8]) -> Result<(), WriteFault>
-    ensures { Takes (W.contents writer.old) (W.contents writer.new) result (port_line port bytes.now) }
+    ensures { Takes (W.contents writer.old) (W.contents writer.new) result
+        (port_line port bytes.now) }
 {
     if bytes.is_empty() {
         return Ok(());

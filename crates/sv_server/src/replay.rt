@@ -41,13 +41,16 @@ impl From<WriteFault> for ReplayFault {
 }
 
 impl<A: Allocator> Server<A> {
-    /// Applies an event and writes what follows from it: `refused` and the number of the refusal, if
-    /// it was refused, and then a line for each port on which bytes wait, which the peer takes.
-    /// Where memory was refused, it writes `refused 1` alone and answers `NoMemory`; where the writer
-    /// failed, `Write`, and nothing is taken that wasn't written.
+    /// Applies an event and writes what follows from it: `refused` and the number of the refusal,
+    /// if it was refused, and then a line for each port on which bytes wait, which the peer takes.
+    /// Where memory was refused, it writes `refused 1` alone and answers `NoMemory`; where the
+    /// writer failed, `Write`, and nothing is taken that wasn't written.
     pub fn replay<W: Write>(&mut self, event: Event<'_>, writer: &mut W) -> Result<(), ReplayFault>
-        ensures { (config : Config) (history : List Happening) → StandsFor self.old config history → (text : List ℕ) × (after : List Happening)
-            × Replays config history (plain event.entry) result text after × StandsFor self.new config after × Appends (W.contents writer.old) (W.contents writer.new) text }
+        ensures { (config : Config) (history : List Happening) → StandsFor self.old config history
+            → (text : List ℕ) × (after : List Happening)
+            × Replays config history (plain event.entry) result text after
+            × StandsFor self.new config after
+            × Appends (W.contents writer.old) (W.contents writer.new) text }
     {
         match self.apply(event) {
             Ok(_) => {
@@ -67,8 +70,10 @@ impl<A: Allocator> Server<A> {
 
     /// Writes the lines of all ports, and takes what they show.
     fn show_all<W: Write>(&mut self, writer: &mut W) -> Result<(), WriteFault>
-        ensures { (config : Config) (history : List Happening) (log : List Act) → StandsBy self.old config history log
-            → (text : List ℕ) × Appends (W.contents writer.old) (W.contents writer.new) text × ShowsAll config history log result self.new text }
+        ensures { (config : Config) (history : List Happening) (log : List Act)
+            → StandsBy self.old config history log
+            → (text : List ℕ) × Appends (W.contents writer.old) (W.contents writer.new) text
+            × ShowsAll config history log result self.new text }
     {
         for number in 0..32 {
             self.show(port_of(number), writer)?;
@@ -78,8 +83,10 @@ impl<A: Allocator> Server<A> {
 
     /// Writes the line of a port, and takes what it shows.
     fn show<W: Write>(&mut self, port: Port, writer: &mut W) -> Result<(), WriteFault>
-        ensures { (config : Config) (history : List Happening) (log : List Act) → StandsBy self.old config history log
-            → (text : List ℕ) × Appends (W.contents writer.old) (W.contents writer.new) text × ShowsPort port config history log result self.new text }
+        ensures { (config : Config) (history : List Happening) (log : List Act)
+            → StandsBy self.old config history log
+            → (text : List ℕ) × Appends (W.contents writer.old) (W.contents writer.new) text
+            × ShowsPort port config history log result self.new text }
     {
         let bytes = self.outgoing(port);
         let count = bytes.len() as u32;
@@ -98,7 +105,8 @@ fn is_no_memory(refused: Refused) -> bool
     matches!(refused, Refused::NoMemory)
 }
 
-/// The port whose line is of this number: connections come first, and then their interrupt channels.
+/// The port whose line is of this number: connections come first, and then their interrupt
+/// channels.
 fn port_of(number: u8) -> Port
     ensures { result ≡ port_of number }
 {

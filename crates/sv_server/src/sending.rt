@@ -8,6 +8,7 @@ ghost use Rattle.sv_server.specs.Serving.{reply_record};
 
 use std::alloc::Allocator;
 use sv_rpc::{Reply, write_reply};
+use sv_text::append;
 use sv_vxi::{VxiResult, write_result};
 use sv_xdr::Writer;
 
@@ -40,21 +41,12 @@ fn send<A: Allocator>(out: &mut Vec<u8, A>, text: &[u8])
     append(out, text);
 }
 
-/// Puts a piece behind bytes that have room for it.
-fn append<A: Allocator>(bytes: &mut Vec<u8, A>, piece: &[u8])
-    requires { vec_len bytes.old + length piece.now ≤ vec_capacity bytes.old }
-    ensures items { bytes.new.items ≡ bytes.old.items ++ piece.now }
-    ensures len { vec_len bytes.new ≡ vec_len bytes.old + length piece.now }
-    ensures capacity { vec_capacity bytes.old ≤ vec_capacity bytes.new }
-{
-    bytes.extend_from_slice(piece).unwrap();
-}
-
 /// Puts the reply of a call that was executed behind the outgoing bytes.
 pub fn send_result<A: Allocator>(out: &mut Vec<u8, A>, xid: u32, outcome: &VxiResult<'_>)
     requires room { vec_len out.old + 8232 ≤ vec_capacity out.old }
     requires short { length (data_of (plain_result outcome.now)) ≤ 8192 }
-    ensures sent { out.new.items ≡ out.old.items ++ reply_record xid Reply.Success (result_fields (plain_result outcome.now)) }
+    ensures sent { out.new.items ≡ out.old.items
+        ++ reply_record xid Reply.Success (result_fields (plain_result outcome.now)) }
     ensures capacity { vec_capacity out.old ≤ vec_capacity out.new }
     ensures grows { vec_len out.new ≤ vec_len out.old + 8232 }
 {
@@ -68,7 +60,8 @@ pub fn send_result<A: Allocator>(out: &mut Vec<u8, A>, xid: u32, outcome: &VxiRe
 /// Puts the reply of a call that answers a number behind the outgoing bytes.
 pub fn send_number<A: Allocator>(out: &mut Vec<u8, A>, xid: u32, number: u32)
     requires { vec_len out.old + 8232 ≤ vec_capacity out.old }
-    ensures sent { out.new.items ≡ out.old.items ++ reply_record xid Reply.Success (Unsigned number ∷ []) }
+    ensures sent { out.new.items ≡ out.old.items
+        ++ reply_record xid Reply.Success (Unsigned number ∷ []) }
     ensures capacity { vec_capacity out.old ≤ vec_capacity out.new }
     ensures grows { vec_len out.new ≤ vec_len out.old + 8232 }
 {

@@ -44,14 +44,21 @@ impl<A: Allocator> Model for Server<A> {
 
     ghost use Rattle.std.specs.Prelude.{◌≡◌, ◌≤◌, length};
 
-    ghost view = { λ a. record { lines = a.lines.items; links = a.links; exchange = a.exchange; config = a.config; clock = a.clock } };
+    ghost view = { λ a. record {
+      lines = a.lines.items;
+      links = a.links;
+      exchange =
+          a.exchange;
+      config = a.config;
+      clock = a.clock;
+    } };
 
     ghost invariant = { λ a. (length a.lines.items ≡ 16) × (a.clock ≤ 9223372036854775807) };
 }
 
 impl<A: Allocator + Copy> Server<A> {
-    /// A server to which nothing happened. It takes all the memory that it ever uses, but for that of
-    /// links.
+    /// A server to which nothing happened. It takes all the memory that it ever uses, but for that
+    /// of links.
     pub fn new(alloc: A, config: Config) -> Result<Server<A>, AllocError>
         requires { config.clock ≤ 9223372036854775807 }
         ensures { IfOk result (λ server. StandsFor server config []) }
@@ -68,7 +75,9 @@ impl<A: Allocator + Copy> Server<A> {
 
 /// Sixteen connections, none of them open.
 fn lines<A: Allocator + Copy>(alloc: A) -> Result<Vec<Line<A>, A>, AllocError>
-    ensures { IfOk result (λ lines. (length lines.items ≡ 16) × ((c d : ℕ) (other : LineData) → d < 16 → IsLine (slice_index_or lines.items d other) c [])) }
+    ensures { IfOk result (λ lines. (length lines.items ≡ 16)
+        × ((c d : ℕ) (other : LineData) → d < 16
+        → IsLine (slice_index_or lines.items d other) c [])) }
 {
     let mut lines = Vec::with_capacity(alloc, CONNECTIONS)?;
     for _ in 0..CONNECTIONS {
@@ -78,10 +87,11 @@ fn lines<A: Allocator + Copy>(alloc: A) -> Result<Vec<Line<A>, A>, AllocError>
 }
 
 impl<A: Allocator> Server<A> {
-    /// The bytes that wait on a port, in the order in which they are to be sent; none where it isn't
-    /// open.
+    /// The bytes that wait on a port, in the order in which they are to be sent; none where it
+    /// isn't open.
     pub fn waiting(&self, port: Port) -> &[u8]
-        ensures waiting { (config : Config) (history : List Happening) → StandsFor self.now config history → AreWaiting config history port result.now }
+        ensures waiting { (config : Config) (history : List Happening)
+            → StandsFor self.now config history → AreWaiting config history port result.now }
         ensures bounded { length result.now ≤ 16384 }
     {
         self.outgoing(port)
@@ -89,7 +99,8 @@ impl<A: Allocator> Server<A> {
 
     /// The bytes that wait on a port.
     pub(crate) fn outgoing(&self, port: Port) -> &[u8]
-        ensures exact { (log : List Act) → Represents self.now log → result.now ≡ waiting_on port log }
+        ensures exact { (log : List Act) → Represents self.now log
+            → result.now ≡ waiting_on port log }
         ensures bounded { length result.now ≤ 16384 }
     {
         match port {
@@ -103,7 +114,8 @@ impl<A: Allocator> Server<A> {
 
     /// How many bytes of a piece the connection has room for; 0 where it isn't open.
     pub fn room(&self, conn: u8) -> u32
-        ensures { (config : Config) (history : List Happening) → StandsFor self.now config history → IsRoom config history conn result }
+        ensures { (config : Config) (history : List Happening) → StandsFor self.now config history
+            → IsRoom config history conn result }
     {
         match self.line(conn) {
             Some(line) => line.input.room() as u32,
@@ -113,7 +125,8 @@ impl<A: Allocator> Server<A> {
 
     /// Whether a Turn would take a call.
     pub fn ready(&self, conn: u8) -> bool
-        ensures { (config : Config) (history : List Happening) → StandsFor self.now config history → IsReady config history conn result }
+        ensures { (config : Config) (history : List Happening) → StandsFor self.now config history
+            → IsReady config history conn result }
     {
         match self.line(conn) {
             Some(line) => !line.is_idle(),
@@ -124,7 +137,8 @@ impl<A: Allocator> Server<A> {
     /// Whether the connection only waits to be closed: a record that is no call was taken on it, or
     /// all records in front of one that is too long.
     pub fn faulted(&self, conn: u8) -> bool
-        ensures { (config : Config) (history : List Happening) → StandsFor self.now config history → HasFaulted config history conn result }
+        ensures { (config : Config) (history : List Happening) → StandsFor self.now config history
+            → HasFaulted config history conn result }
     {
         match self.line(conn) {
             Some(line) => line.is_faulted(),
@@ -141,7 +155,9 @@ impl<A: Allocator> Server<A> {
 
     /// The connection of this number, if it is open.
     fn line(&self, conn: u8) -> Option<&Line<A>>
-        ensures { (log : List Act) → Represents self.now log → MatchOption result (is_open conn log ≡ false) (λ line. (is_open conn log ≡ true) × IsLine line.now conn log) }
+        ensures { (log : List Act) → Represents self.now log
+            → MatchOption result (is_open conn log ≡ false) (λ line. (is_open conn log ≡ true)
+            × IsLine line.now conn log) }
     {
         if usize::from(conn) >= CONNECTIONS {
             return None;
@@ -157,7 +173,8 @@ impl<A: Allocator> Server<A> {
 impl<A: Allocator> Server<A> {
     /// Opens a connection.
     fn open(&mut self, conn: u8, role: Role) -> Result<Did, Refused>
-        ensures acts { (log : List Act) → Represents self.old log → Acts self.old.config (Open conn role) log result self.new }
+        ensures acts { (log : List Act) → Represents self.old log
+            → Acts self.old.config (Open conn role) log result self.new }
         ensures err { OnErr result (self.new ≡ self.old) }
         ensures config { self.new.config ≡ self.old.config }
     {
@@ -175,7 +192,8 @@ impl<A: Allocator> Server<A> {
     /// Takes in bytes of a connection.
     fn bytes(&mut self, conn: u8, piece: &[u8]) -> Result<Did, Refused>
         ensures within { IsEvent (Bytes conn piece.now) }
-        ensures acts { (log : List Act) → Represents self.old log → Acts self.old.config (Bytes conn piece.now) log result self.new }
+        ensures acts { (log : List Act) → Represents self.old log
+            → Acts self.old.config (Bytes conn piece.now) log result self.new }
         ensures err { OnErr result (self.new ≡ self.old) }
         ensures config { self.new.config ≡ self.old.config }
     {
@@ -195,7 +213,8 @@ impl<A: Allocator> Server<A> {
 
     /// Lets bytes go that the peer took.
     fn took(&mut self, conn: u8, count: u32) -> Result<Did, Refused>
-        ensures acts { (log : List Act) → Represents self.old log → Acts self.old.config (Took (Port.Conn conn) count) log result self.new }
+        ensures acts { (log : List Act) → Represents self.old log
+            → Acts self.old.config (Took (Port.Conn conn) count) log result self.new }
         ensures err { OnErr result (self.new ≡ self.old) }
         ensures config { self.new.config ≡ self.old.config }
     {
@@ -215,7 +234,8 @@ impl<A: Allocator> Server<A> {
 
     /// Closes a connection: its links are destroyed, and what waits goes.
     fn close(&mut self, conn: u8) -> Result<Did, Refused>
-        ensures acts { (log : List Act) → Represents self.old log → Acts self.old.config (Close (Port.Conn conn)) log result self.new }
+        ensures acts { (log : List Act) → Represents self.old log
+            → Acts self.old.config (Close (Port.Conn conn)) log result self.new }
         ensures err { OnErr result (self.new ≡ self.old) }
         ensures config { self.new.config ≡ self.old.config }
     {
@@ -233,7 +253,8 @@ impl<A: Allocator> Server<A> {
 
     /// A millisecond passes.
     fn tick(&mut self) -> Result<Did, Refused>
-        ensures acts { (log : List Act) → Represents self.old log → Acts self.old.config Tick log result self.new }
+        ensures acts { (log : List Act) → Represents self.old log
+            → Acts self.old.config Tick log result self.new }
         ensures err { OnErr result (self.new ≡ self.old) }
         ensures config { self.new.config ≡ self.old.config }
     {
@@ -246,7 +267,8 @@ impl<A: Allocator> Server<A> {
 
     /// Takes the next call of a connection and does it.
     fn turn(&mut self, conn: u8) -> Result<Did, Refused>
-        ensures acts { (log : List Act) → Represents self.old log → Acts self.old.config (Turn conn) log result self.new }
+        ensures acts { (log : List Act) → Represents self.old log
+            → Acts self.old.config (Turn conn) log result self.new }
         ensures err { OnErr result (self.new ≡ self.old) }
         ensures config { self.new.config ≡ self.old.config }
     {
@@ -259,7 +281,8 @@ impl<A: Allocator> Server<A> {
 
     /// Lets bytes of a port go that the peer took.
     pub(crate) fn port_took(&mut self, port: Port, count: u32) -> Result<Did, Refused>
-        ensures acts { (log : List Act) → Represents self.old log → Acts self.old.config (Took port count) log result self.new }
+        ensures acts { (log : List Act) → Represents self.old log
+            → Acts self.old.config (Took port count) log result self.new }
         ensures err { OnErr result (self.new ≡ self.old) }
         ensures config { self.new.config ≡ self.old.config }
     {
@@ -271,7 +294,8 @@ impl<A: Allocator> Server<A> {
 
     /// Closes a port.
     fn close_port(&mut self, port: Port) -> Result<Did, Refused>
-        ensures acts { (log : List Act) → Represents self.old log → Acts self.old.config (Close port) log result self.new }
+        ensures acts { (log : List Act) → Represents self.old log
+            → Acts self.old.config (Close port) log result self.new }
         ensures err { OnErr result (self.new ≡ self.old) }
         ensures config { self.new.config ≡ self.old.config }
     {
@@ -284,7 +308,8 @@ impl<A: Allocator> Server<A> {
     /// Does what an event asks for, but for the steps that follow it.
     fn act(&mut self, event: Event<'_>) -> Result<Did, Refused>
         ensures within { IsEvent (plain event.entry) }
-        ensures acts { (log : List Act) → Represents self.old log → Acts self.old.config (plain event.entry) log result self.new }
+        ensures acts { (log : List Act) → Represents self.old log
+            → Acts self.old.config (plain event.entry) log result self.new }
         ensures err { OnErr result (self.new ≡ self.old) }
         ensures config { self.new.config ≡ self.old.config }
     {
@@ -305,12 +330,17 @@ impl<A: Allocator> Server<A> {
         }
     }
 
-    /// Does an event, or refuses it; a refused event changes nothing. Of the refusals that hold, the
-    /// first in the order of checks is given. `NoMemory` comes only at a Turn whose call makes a
-    /// link, which may be tried again.
+    /// Does an event, or refuses it; a refused event changes nothing. Of the refusals that hold,
+    /// the first in the order of checks is given. `NoMemory` comes only at a Turn whose call makes
+    /// a link, which may be tried again.
     pub fn apply(&mut self, event: Event<'_>) -> Result<Did, Refused>
-        ensures answers { (config : Config) (history : List Happening) → StandsFor self.old config history → (log : List Act) × IsLogOf config history log × Answers config (plain event.entry) log result }
-        ensures stands { (config : Config) (history : List Happening) → StandsFor self.old config history → StandsFor self.new config (history_after (plain event.entry) result history) }
+        ensures answers { (config : Config) (history : List Happening)
+            → StandsFor self.old config history
+            → (log : List Act) × IsLogOf config history log
+            × Answers config (plain event.entry) log result }
+        ensures stands { (config : Config) (history : List Happening)
+            → StandsFor self.old config history
+            → StandsFor self.new config (history_after (plain event.entry) result history) }
         ensures err { OnErr result (self.new ≡ self.old) }
     {
         let did = self.act(event)?;
@@ -320,7 +350,8 @@ impl<A: Allocator> Server<A> {
 
     /// The refusal of an event that is never done yet: by the connection's number, or else this.
     fn refuse(&self, conn: u8, refusal: Refused) -> Refused
-        ensures { (log : List Act) → Represents self.now log → result ≡ (if is_shut conn log then Refused.NoConn else refusal) }
+        ensures { (log : List Act) → Represents self.now log
+            → result ≡ (if is_shut conn log then Refused.NoConn else refusal) }
     {
         match self.line(conn) {
             Some(_) => refusal,

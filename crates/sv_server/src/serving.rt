@@ -33,9 +33,13 @@ pub fn create_link<A: Allocator>(
     out: &mut Vec<u8, A>,
 ) -> Result<(), AllocError>
     requires { vec_len out.old + 8232 ≤ vec_capacity out.old }
-    ensures ok { (log : List Act) (exchange : Held) → IsTable links.old (link_acts log) → HoldsExchange exchange (exchange_acts log)
-        → OnOk result (Serves conn log (link_made config conn xid lock_device device.now log) links.new exchange out.old.items out.new.items false) }
-    ensures err { OnErr result ((links.new ≡ links.old) × (out.new.items ≡ out.old.items) × (bytes_eq device.now (codes "inst0") ≡ true) × (lock_device ≡ false)
+    ensures ok { (log : List Act) (exchange : Held) → IsTable links.old (link_acts log)
+        → HoldsExchange exchange (exchange_acts log)
+        → OnOk result (Serves conn log
+        (link_made config conn xid lock_device device.now log) links.new exchange out.old.items
+        out.new.items false) }
+    ensures err { OnErr result ((links.new ≡ links.old) × (out.new.items ≡ out.old.items)
+        × (bytes_eq device.now (codes "inst0") ≡ true) × (lock_device ≡ false)
         × ((nat_lt (length links.old.links) 32 && nat_lt links.old.made 2147483647) ≡ true)) }
     ensures capacity { vec_capacity out.old ≤ vec_capacity out.new }
     ensures grows { vec_len out.new ≤ vec_len out.old + 8232 }
@@ -61,7 +65,9 @@ pub fn create_link<A: Allocator>(
 fn send_link<A: Allocator>(out: &mut Vec<u8, A>, xid: u32, lid: u32, abort_port: u16)
     requires room { vec_len out.old + 8232 ≤ vec_capacity out.old }
     requires number { lid < 2 ^ 31 }
-    ensures sent { out.new.items ≡ out.old.items ++ reply_record xid Reply.Success (result_fields (Link ErrorCode.NoError (pos lid) abort_port 4096)) }
+    ensures sent { out.new.items ≡ out.old.items
+        ++ reply_record xid Reply.Success
+        (result_fields (Link ErrorCode.NoError (pos lid) abort_port 4096)) }
     ensures capacity { vec_capacity out.old ≤ vec_capacity out.new }
     ensures grows { vec_len out.new ≤ vec_len out.old + 8232 }
 {
@@ -77,7 +83,8 @@ fn send_link<A: Allocator>(out: &mut Vec<u8, A>, xid: u32, lid: u32, abort_port:
 /// The reply of a create_link that made none.
 fn send_no_link<A: Allocator>(out: &mut Vec<u8, A>, xid: u32, error: ErrorCode)
     requires { vec_len out.old + 8232 ≤ vec_capacity out.old }
-    ensures sent { out.new.items ≡ out.old.items ++ reply_record xid Reply.Success (result_fields (Link error (pos 0) 0 0)) }
+    ensures sent { out.new.items ≡ out.old.items
+        ++ reply_record xid Reply.Success (result_fields (Link error (pos 0) 0 0)) }
     ensures capacity { vec_capacity out.old ≤ vec_capacity out.new }
     ensures grows { vec_len out.new ≤ vec_len out.old + 8232 }
 {
@@ -99,8 +106,10 @@ pub fn destroy_link<A: Allocator>(
     out: &mut Vec<u8, A>,
 )
     requires { vec_len out.old + 8232 ≤ vec_capacity out.old }
-    ensures serves { (log : List Act) (exchange : Held) → IsTable links.old (link_acts log) → HoldsExchange exchange (exchange_acts log)
-        → Serves conn log (link_destroyed conn xid lid log) links.new exchange out.old.items out.new.items false }
+    ensures serves { (log : List Act) (exchange : Held) → IsTable links.old (link_acts log)
+        → HoldsExchange exchange (exchange_acts log)
+        → Serves conn log (link_destroyed conn xid lid log) links.new exchange out.old.items
+        out.new.items false }
     ensures capacity { vec_capacity out.old ≤ vec_capacity out.new }
     ensures grows { vec_len out.new ≤ vec_len out.old + 8232 }
 {
@@ -114,7 +123,8 @@ pub fn destroy_link<A: Allocator>(
 /// The reply of a call that tells nothing but whether it failed.
 pub fn send_plain<A: Allocator>(out: &mut Vec<u8, A>, xid: u32, error: ErrorCode)
     requires { vec_len out.old + 8232 ≤ vec_capacity out.old }
-    ensures sent { out.new.items ≡ out.old.items ++ reply_record xid Reply.Success (result_fields (Plain error)) }
+    ensures sent { out.new.items ≡ out.old.items
+        ++ reply_record xid Reply.Success (result_fields (Plain error)) }
     ensures capacity { vec_capacity out.old ≤ vec_capacity out.new }
     ensures grows { vec_len out.new ≤ vec_len out.old + 8232 }
 {
@@ -131,8 +141,10 @@ pub fn write_device_bytes<A: Allocator>(
     out: &mut Vec<u8, A>,
 )
     requires { vec_len out.old + 8232 ≤ vec_capacity out.old }
-    ensures serves { (log : List Act) (links : Table) → IsTable links (link_acts log) → HoldsExchange exchange.old (exchange_acts log)
-        → Serves conn log (write_device conn xid flags.0 bytes.now log) links exchange.new out.old.items out.new.items false }
+    ensures serves { (log : List Act) (links : Table) → IsTable links (link_acts log)
+        → HoldsExchange exchange.old (exchange_acts log)
+        → Serves conn log (write_device conn xid flags.0 bytes.now log) links exchange.new
+        out.old.items out.new.items false }
     ensures capacity { vec_capacity out.old ≤ vec_capacity out.new }
     ensures grows { vec_len out.new ≤ vec_len out.old + 8232 }
 {
@@ -149,15 +161,16 @@ pub fn write_device_bytes<A: Allocator>(
 /// The reply of a device_write.
 fn send_size<A: Allocator>(out: &mut Vec<u8, A>, xid: u32, error: ErrorCode, size: u32)
     requires { vec_len out.old + 8232 ≤ vec_capacity out.old }
-    ensures sent { out.new.items ≡ out.old.items ++ reply_record xid Reply.Success (result_fields (Size error size)) }
+    ensures sent { out.new.items ≡ out.old.items
+        ++ reply_record xid Reply.Success (result_fields (Size error size)) }
     ensures capacity { vec_capacity out.old ≤ vec_capacity out.new }
     ensures grows { vec_len out.new ≤ vec_len out.old + 8232 }
 {
     send_result(out, xid, &VxiResult::Size { error, size });
 }
 
-/// device_read: what stands of the response; without one the unfinished text is dropped, and nothing
-/// comes in time.
+/// device_read: what stands of the response; without one the unfinished text is dropped, and
+/// nothing comes in time.
 pub fn read_device_bytes<A: Allocator>(
     conn: u8,
     xid: u32,
@@ -167,8 +180,10 @@ pub fn read_device_bytes<A: Allocator>(
     out: &mut Vec<u8, A>,
 )
     requires { vec_len out.old + 8232 ≤ vec_capacity out.old }
-    ensures serves { (log : List Act) (links : Table) → IsTable links (link_acts log) → HoldsExchange exchange.old (exchange_acts log)
-        → Serves conn log (read_device conn xid most term log) links exchange.new out.old.items out.new.items false }
+    ensures serves { (log : List Act) (links : Table) → IsTable links (link_acts log)
+        → HoldsExchange exchange.old (exchange_acts log)
+        → Serves conn log (read_device conn xid most term log) links exchange.new out.old.items
+        out.new.items false }
     ensures capacity { vec_capacity out.old ≤ vec_capacity out.new }
     ensures grows { vec_len out.new ≤ vec_len out.old + 8232 }
 {
@@ -185,7 +200,8 @@ pub fn read_device_bytes<A: Allocator>(
 /// The reply of a device_read that gives nothing.
 fn send_no_bytes<A: Allocator>(out: &mut Vec<u8, A>, xid: u32, error: ErrorCode)
     requires { vec_len out.old + 8232 ≤ vec_capacity out.old }
-    ensures sent { out.new.items ≡ out.old.items ++ reply_record xid Reply.Success (result_fields (no_bytes error)) }
+    ensures sent { out.new.items ≡ out.old.items
+        ++ reply_record xid Reply.Success (result_fields (no_bytes error)) }
     ensures capacity { vec_capacity out.old ≤ vec_capacity out.new }
     ensures grows { vec_len out.new ≤ vec_len out.old + 8232 }
 {
@@ -210,8 +226,12 @@ fn send_response<A: Allocator>(
     out: &mut Vec<u8, A>,
 )
     requires { vec_len out.old + 8232 ≤ vec_capacity out.old }
-    ensures sent { out.new.items ≡ out.old.items ++ reply_record xid Reply.Success (result_fields (read_of (shown_by exchange.old) most term)) }
-    ensures stands { (acts : List ExchangeAct) → HoldsExchange exchange.old acts → HoldsExchange exchange.new (ResponseRead (read_count (shown_by exchange.old) most term) ∷ acts) }
+    ensures sent { out.new.items ≡ out.old.items
+        ++ reply_record xid Reply.Success
+        (result_fields (read_of (shown_by exchange.old) most term)) }
+    ensures stands { (acts : List ExchangeAct) → HoldsExchange exchange.old acts
+        → HoldsExchange exchange.new
+        (ResponseRead (read_count (shown_by exchange.old) most term) ∷ acts) }
     ensures capacity { vec_capacity out.old ≤ vec_capacity out.new }
     ensures grows { vec_len out.new ≤ vec_len out.old + 8232 }
 {

@@ -14,7 +14,8 @@ const IDENTITY: &[u8] = b"SCANVOLT,SV32,0,1.0";
 
 /// Does the step that is due, and tells whether one was.
 fn step<A: Allocator>(exchange: &mut Exchange<A>) -> bool
-    ensures done { (log : List Act) → HoldsExchange exchange.old (exchange_acts log) → StepDone result log exchange.old exchange.new }
+    ensures done { (log : List Act) → HoldsExchange exchange.old (exchange_acts log)
+        → StepDone result log exchange.old exchange.new }
     ensures less { IsTrue result → work_of exchange.new < work_of exchange.old }
 {
     match exchange.next_unit() {
@@ -35,7 +36,9 @@ fn step<A: Allocator>(exchange: &mut Exchange<A>) -> bool
 
 /// Does the steps that are due, until none is.
 pub fn settle<A: Allocator>(exchange: &mut Exchange<A>)
-    ensures { (log : List Act) → HoldsExchange exchange.old (exchange_acts log) → (new : List Act) × Settles log new × HoldsExchange exchange.new (exchange_acts new) × OnlyExchange log new }
+    ensures { (log : List Act) → HoldsExchange exchange.old (exchange_acts log)
+        → (new : List Act) × Settles log new × HoldsExchange exchange.new (exchange_acts new)
+        × OnlyExchange log new }
 {
     while step(exchange) {}
 }

@@ -40,9 +40,11 @@ pub fn turn<A: Allocator>(
     exchange: &mut Exchange<A>,
 ) -> Result<Did, Refused>
     requires { conn < 16 }
-    ensures acts { (log : List Act) → IsLine line.old conn log → IsTable links.old (link_acts log) → HoldsExchange exchange.old (exchange_acts log)
+    ensures acts { (log : List Act) → IsLine line.old conn log → IsTable links.old (link_acts log)
+        → HoldsExchange exchange.old (exchange_acts log)
         → Turns config conn log result line.new links.new exchange.new }
-    ensures err { OnErr result ((line.new ≡ line.old) × (links.new ≡ links.old) × (exchange.new ≡ exchange.old)) }
+    ensures err { OnErr result ((line.new ≡ line.old) × (links.new ≡ links.old)
+        × (exchange.new ≡ exchange.old)) }
 {
     let Some(role) = line.role else {
         return Err(Refused::NoConn);

@@ -21,7 +21,8 @@ power_on k =
 pub StandsFor-new : StandsFor (record { event = 128; enable = 0 }) []
 StandsFor-new = record { enable = refl; event = power_on }
 
-pub StandsFor-occurred : (held : Held) (acts : List StandardAct) (bits : ℕ) → StandsFor held acts → StandsFor (record held { event = bit_or held.event bits }) (Occur bits ∷ acts)
+pub StandsFor-occurred : (held : Held) (acts : List StandardAct) (bits : ℕ) → StandsFor held acts
+    → StandsFor (record held { event = bit_or held.event bits }) (Occur bits ∷ acts)
 StandsFor-occurred held acts bits is = record {
   enable = is.enable;
   event = λ k.
@@ -32,7 +33,8 @@ StandsFor-occurred held acts bits is = record {
       );
 }
 
-pub StandsFor-enable : (held : Held) (acts : List StandardAct) (word : ℕ) → StandsFor held acts → StandsFor (record held { enable = word }) (SetEnable word ∷ acts)
+pub StandsFor-enable : (held : Held) (acts : List StandardAct) (word : ℕ) → StandsFor held acts
+    → StandsFor (record held { enable = word }) (SetEnable word ∷ acts)
 StandsFor-enable held acts word is = record {
   enable = refl;
   event = λ k.
@@ -41,7 +43,8 @@ StandsFor-enable held acts word is = record {
 }
 
 -- some event stands that is enabled
-pub summary_is : (held : Held) (acts : List StandardAct) → StandsFor held acts → ((k : ℕ) × (bit_at held.event k ≡ 1) × (bit_at held.enable k ≡ 1)) ↔ Summary acts
+pub summary_is : (held : Held) (acts : List StandardAct) → StandsFor held acts
+    → ((k : ℕ) × (bit_at held.event k ≡ 1) × (bit_at held.enable k ≡ 1)) ↔ Summary acts
 summary_is held acts is = (
   (λ h. (h.0, (is.event h.0).0 h.1, ap (λ (w : ℕ). bit_at w h.0) (sym is.enable) ∙ h.2)),
   (λ h. (h.0, (is.event h.0).1 h.1, ap (λ (w : ℕ). bit_at w h.0) is.enable ∙ h.2)),
@@ -49,7 +52,8 @@ summary_is held acts is = (
 
 -- the register is cleared, by reading it or by itself
 none_stands : (k : ℕ) (act : StandardAct) (acts : List StandardAct) → (IsKept (act ∷ acts) → ⊥) → (bit_at 0 k ≡ 1) ↔ Stands k (act ∷ acts)
-none_stands k act acts cleared = ((λ h. absurd (let zero = bit_at-zero k in omega arith)), (λ s. absurd (cleared ((since_step (Occurs k) IsKept act acts).0 s).0)))
+none_stands k act acts cleared =
+    ((λ h. absurd (let zero = bit_at-zero k in omega arith)), (λ s. absurd (cleared ((since_step (Occurs k) IsKept act acts).0 s).0)))
 
 pub StandsFor-read : (held : Held) (acts : List StandardAct) → StandsFor held acts → StandsFor (record held { event = 0 }) (Read ∷ acts)
 StandsFor-read held acts is = record { enable = is.enable; event = λ k. none_stands k Read acts (λ kept. kept) }

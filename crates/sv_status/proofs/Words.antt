@@ -53,7 +53,11 @@ either_of a b p q h = elim (cases_eq a 1) [ inl e ↦ inl e | inr ne ↦ inr (gr
 pub either_bit : (a b k : ℕ) → (bit_at (bit_or a b) k ≡ 1) ↔ ((bit_at a k ≡ 1) ⊎ (bit_at b k ≡ 1))
 either_bit a b k = (
   (λ h. either_of (bit_at a k) (bit_at b k) (bit_at-lt a k) (bit_at-lt b k) (sym (bit_at_or a b k) ∙ h)),
-  (λ h. elim h [ inl e ↦ bit_at_or a b k ∙ (let l = bit_at-lt a k in let m = bit_at-lt b k in grind arith) | inr e ↦ bit_at_or a b k ∙ (let l = bit_at-lt a k in let m = bit_at-lt b k in grind arith) ]),
+  (λ h. elim h [
+    | inl e ↦ bit_at_or a b k ∙ (let l = bit_at-lt a k in let m = bit_at-lt b k in grind arith)
+    | inr e ↦
+        bit_at_or a b k ∙ (let l = bit_at-lt a k in let m = bit_at-lt b k in grind arith)
+  ]),
 )
 
 -- a bit that changed
@@ -64,7 +68,10 @@ pub rose : (a b k : ℕ) → (bit_at (bit_and (bit_xor a b) b) k ≡ 1) ↔ ((bi
 rose a b k = (
   (λ h. let both = (both_bits (bit_xor a b) b k).0 h in
       (changed_of (bit_at a k) (bit_at b k) (bit_at-lt a k) (bit_at-lt b k) (sym (bit_at_xor a b k) ∙ both.0) both.1, both.1)),
-  (λ h. (both_bits (bit_xor a b) b k).1 (bit_at_xor a b k ∙ ap (λ (n : ℕ). (n + bit_at b k) % 2) h.0 ∙ ap (λ (n : ℕ). (0 + n) % 2) h.1, h.1)),
+  (λ h. (both_bits (bit_xor a b) b k).1 (
+    bit_at_xor a b k ∙ ap (λ (n : ℕ). (n + bit_at b k) % 2) h.0 ∙ ap (λ (n : ℕ). (0 + n) % 2) h.1,
+    h.1,
+  )),
 )
 
 pub fell : (a b k : ℕ) → (bit_at (bit_and (bit_xor a b) a) k ≡ 1) ↔ ((bit_at a k ≡ 1) × (bit_at b k ≡ 0))
@@ -72,7 +79,10 @@ fell a b k = (
   (λ h. let both = (both_bits (bit_xor a b) a k).0 h in
       let sum : (bit_at b k + bit_at a k) % 2 ≡ 1 = (let x = sym (bit_at_xor a b k) ∙ both.0 in grind arith) in
       (both.1, changed_of (bit_at b k) (bit_at a k) (bit_at-lt b k) (bit_at-lt a k) sum both.1)),
-  (λ h. (both_bits (bit_xor a b) a k).1 (bit_at_xor a b k ∙ ap (λ (n : ℕ). (n + bit_at b k) % 2) h.0 ∙ ap (λ (n : ℕ). (1 + n) % 2) h.1, h.0)),
+  (λ h. (both_bits (bit_xor a b) a k).1 (
+    bit_at_xor a b k ∙ ap (λ (n : ℕ). (n + bit_at b k) % 2) h.0 ∙ ap (λ (n : ℕ). (1 + n) % 2) h.1,
+    h.0,
+  )),
 )
 
 -- a byte has eight bits

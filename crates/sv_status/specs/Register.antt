@@ -1,5 +1,5 @@
--- A status register (SCPI-1999, chapter 20, STATus): condition, filters, event and enable, each found by a search of the acts, which are read from
--- the newest.
+-- A status register (SCPI-1999, chapter 20, STATus): condition, filters, event and enable, each found by a search of the acts, which are
+-- read from the newest.
 use Rattle.std.specs.Prelude.{◌≡◌, ◌↔◌, ◌⊎◌, ℕ, ◌%◌, ◌^◌, ⊤, List, [], ◌∷◌}
 use Rattle.std.specs.Int.{bit_at}
 use Rattle.sv_errors.specs.Since.{Since}

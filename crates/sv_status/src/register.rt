@@ -59,7 +59,14 @@ impl Model for Register {
 
     ghost Value = { Held };
 
-    ghost view = { λ r. record { condition = r.condition; rise = r.rise; fall = r.fall; event = r.event; enable = r.enable } };
+    ghost view = { λ r. record {
+      condition = r.condition;
+      rise = r.rise;
+      fall = r.fall;
+      event =
+          r.event;
+      enable = r.enable;
+    } };
 }
 
 impl Register {
@@ -76,10 +83,11 @@ impl Register {
         }
     }
 
-    /// The condition becomes this word. A bit of the event register is set where the bit rises and its
-    /// rising filter is on, or falls and its falling filter is on.
+    /// The condition becomes this word. A bit of the event register is set where the bit rises and
+    /// its rising filter is on, or falls and its falling filter is on.
     pub fn condition(&mut self, word: u16)
-        ensures { (acts : List RegisterAct) → StandsFor self.old acts → StandsFor self.new (RegisterAct.Condition word ∷ acts) }
+        ensures { (acts : List RegisterAct) → StandsFor self.old acts
+            → StandsFor self.new (RegisterAct.Condition word ∷ acts) }
     {
         let changed = self.condition ^ word;
         self.event |= changed & word & self.rise;
@@ -89,7 +97,8 @@ impl Register {
 
     /// Sets the transition filters, without bit 15.
     pub fn set_filter(&mut self, rise: u16, fall: u16)
-        ensures { (acts : List RegisterAct) → StandsFor self.old acts → StandsFor self.new (RegisterAct.SetFilter rise fall ∷ acts) }
+        ensures { (acts : List RegisterAct) → StandsFor self.old acts
+            → StandsFor self.new (RegisterAct.SetFilter rise fall ∷ acts) }
     {
         self.rise = rise % MASK_END;
         self.fall = fall % MASK_END;
@@ -97,22 +106,27 @@ impl Register {
 
     /// Sets the enable, without bit 15.
     pub fn set_enable(&mut self, enable: u16)
-        ensures { (acts : List RegisterAct) → StandsFor self.old acts → StandsFor self.new (RegisterAct.SetEnable enable ∷ acts) }
+        ensures { (acts : List RegisterAct) → StandsFor self.old acts
+            → StandsFor self.new (RegisterAct.SetEnable enable ∷ acts) }
     {
         self.enable = enable % MASK_END;
     }
 
     /// Reads the event register, which clears it.
     pub fn read_event(&mut self) -> u16
-        ensures stands { (acts : List RegisterAct) → StandsFor self.old acts → StandsFor self.new (RegisterAct.ReadEvent ∷ acts) }
-        ensures answer { (acts : List RegisterAct) → StandsFor self.old acts → (k : ℕ) → (bit_at result k ≡ 1) ↔ EventStands k acts }
+        ensures stands { (acts : List RegisterAct) → StandsFor self.old acts
+            → StandsFor self.new (RegisterAct.ReadEvent ∷ acts) }
+        ensures answer { (acts : List RegisterAct) → StandsFor self.old acts → (k : ℕ)
+            → (bit_at result k ≡ 1) ↔ EventStands k acts }
     {
         replace(&mut self.event, 0)
     }
 
-    /// Presets the enable to 0 and the filters to 32767 for rising and 0 for falling bits. Events stay.
+    /// Presets the enable to 0 and the filters to 32767 for rising and 0 for falling bits. Events
+    /// stay.
     pub fn preset(&mut self)
-        ensures { (acts : List RegisterAct) → StandsFor self.old acts → StandsFor self.new (RegisterAct.Preset ∷ acts) }
+        ensures { (acts : List RegisterAct) → StandsFor self.old acts
+            → StandsFor self.new (RegisterAct.Preset ∷ acts) }
     {
         self.rise = ALL;
         self.fall = 0;
@@ -121,7 +135,8 @@ impl Register {
 
     /// Clears the event register. Filters and enable stay.
     pub fn clear(&mut self)
-        ensures { (acts : List RegisterAct) → StandsFor self.old acts → StandsFor self.new (RegisterAct.Clear ∷ acts) }
+        ensures { (acts : List RegisterAct) → StandsFor self.old acts
+            → StandsFor self.new (RegisterAct.Clear ∷ acts) }
     {
         self.event = 0;
     }
@@ -149,7 +164,8 @@ impl Register {
 
     /// The event register, which stays as it is.
     pub fn event(&self) -> u16
-        ensures { (acts : List RegisterAct) → StandsFor self.now acts → (k : ℕ) → (bit_at result k ≡ 1) ↔ EventStands k acts }
+        ensures { (acts : List RegisterAct) → StandsFor self.now acts → (k : ℕ)
+            → (bit_at result k ≡ 1) ↔ EventStands k acts }
     {
         self.event
     }
@@ -163,7 +179,8 @@ impl Register {
 
     /// Whether some bit stands that is enabled.
     pub fn summary(&self) -> bool
-        ensures { (acts : List RegisterAct) → StandsFor self.now acts → (result ≡ true) ↔ Summary acts }
+        ensures { (acts : List RegisterAct) → StandsFor self.now acts
+            → (result ≡ true) ↔ Summary acts }
     {
         self.event & self.enable != 0
     }

@@ -61,36 +61,42 @@ impl StandardEvent {
 
     /// The events of these bits occur.
     pub fn occur(&mut self, bits: u8)
-        ensures { (acts : List StandardAct) → StandsFor self.old acts → StandsFor self.new (StandardAct.Occur bits ∷ acts) }
+        ensures { (acts : List StandardAct) → StandsFor self.old acts
+            → StandsFor self.new (StandardAct.Occur bits ∷ acts) }
     {
         self.event |= bits;
     }
 
     /// Reads the register, which clears it.
     pub fn read(&mut self) -> u8
-        ensures stands { (acts : List StandardAct) → StandsFor self.old acts → StandsFor self.new (StandardAct.Read ∷ acts) }
-        ensures answer { (acts : List StandardAct) → StandsFor self.old acts → (k : ℕ) → (bit_at result k ≡ 1) ↔ Stands k acts }
+        ensures stands { (acts : List StandardAct) → StandsFor self.old acts
+            → StandsFor self.new (StandardAct.Read ∷ acts) }
+        ensures answer { (acts : List StandardAct) → StandsFor self.old acts → (k : ℕ)
+            → (bit_at result k ≡ 1) ↔ Stands k acts }
     {
         replace(&mut self.event, 0)
     }
 
     /// Sets the enable, all eight bits.
     pub fn set_enable(&mut self, enable: u8)
-        ensures { (acts : List StandardAct) → StandsFor self.old acts → StandsFor self.new (StandardAct.SetEnable enable ∷ acts) }
+        ensures { (acts : List StandardAct) → StandsFor self.old acts
+            → StandsFor self.new (StandardAct.SetEnable enable ∷ acts) }
     {
         self.enable = enable;
     }
 
     /// Clears the register. The enable stays.
     pub fn clear(&mut self)
-        ensures { (acts : List StandardAct) → StandsFor self.old acts → StandsFor self.new (StandardAct.Clear ∷ acts) }
+        ensures { (acts : List StandardAct) → StandsFor self.old acts
+            → StandsFor self.new (StandardAct.Clear ∷ acts) }
     {
         self.event = 0;
     }
 
     /// The register, which stays as it is.
     pub fn event(&self) -> u8
-        ensures { (acts : List StandardAct) → StandsFor self.now acts → (k : ℕ) → (bit_at result k ≡ 1) ↔ Stands k acts }
+        ensures { (acts : List StandardAct) → StandsFor self.now acts → (k : ℕ)
+            → (bit_at result k ≡ 1) ↔ Stands k acts }
     {
         self.event
     }
@@ -104,7 +110,8 @@ impl StandardEvent {
 
     /// Whether some event stands that is enabled.
     pub fn summary(&self) -> bool
-        ensures { (acts : List StandardAct) → StandsFor self.now acts → (result ≡ true) ↔ Summary acts }
+        ensures { (acts : List StandardAct) → StandsFor self.now acts
+            → (result ≡ true) ↔ Summary acts }
     {
         self.event & self.enable != 0
     }

@@ -64,8 +64,10 @@ impl StatusByte {
     /// Summary bits and enable become these, and the answer tells whether a request for service is
     /// raised: where a bit now stands and is enabled that didn't both before, and no request stood.
     pub fn update(&mut self, bits: u8, enable: u8) -> bool
-        ensures stands { (acts : List StatusAct) → StandsFor self.old acts → StandsFor self.new (StatusAct.Update bits enable ∷ acts) }
-        ensures answer { (acts : List StatusAct) → StandsFor self.old acts → (result ≡ true) ↔ IsRaised (StatusAct.Update bits enable ∷ acts) }
+        ensures stands { (acts : List StatusAct) → StandsFor self.old acts
+            → StandsFor self.new (StatusAct.Update bits enable ∷ acts) }
+        ensures answer { (acts : List StatusAct) → StandsFor self.old acts
+            → (result ≡ true) ↔ IsRaised (StatusAct.Update bits enable ∷ acts) }
     {
         let before = asking(self.bits, self.enable);
         let now = asking(bits, enable);
@@ -79,8 +81,10 @@ impl StatusByte {
 
     /// The status byte with the request for service in bit 6, which then ends.
     pub fn poll(&mut self) -> u8
-        ensures stands { (acts : List StatusAct) → StandsFor self.old acts → StandsFor self.new (StatusAct.Poll ∷ acts) }
-        ensures answer { (acts : List StatusAct) → StandsFor self.old acts → (k : ℕ) → (bit_at result k ≡ 1) ↔ StatusBit k acts }
+        ensures stands { (acts : List StatusAct) → StandsFor self.old acts
+            → StandsFor self.new (StatusAct.Poll ∷ acts) }
+        ensures answer { (acts : List StatusAct) → StandsFor self.old acts → (k : ℕ)
+            → (bit_at result k ≡ 1) ↔ StatusBit k acts }
     {
         let bits = self.bits & !REQUEST;
         let status = if self.request { bits | REQUEST } else { bits };
@@ -90,14 +94,16 @@ impl StatusByte {
 
     /// The master summary: whether some bit but bit 6 stands that is enabled.
     pub fn mss(&self) -> bool
-        ensures { (acts : List StatusAct) → StandsFor self.now acts → (result ≡ true) ↔ Master acts }
+        ensures { (acts : List StatusAct) → StandsFor self.now acts
+            → (result ≡ true) ↔ Master acts }
     {
         asking(self.bits, self.enable) != 0
     }
 
     /// Whether a request for service stands.
     pub fn rqs(&self) -> bool
-        ensures { (acts : List StatusAct) → StandsFor self.now acts → (result ≡ true) ↔ Request acts }
+        ensures { (acts : List StatusAct) → StandsFor self.now acts
+            → (result ≡ true) ↔ Request acts }
     {
         self.request
     }

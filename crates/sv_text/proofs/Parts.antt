@@ -14,7 +14,8 @@ abbrev pub parts_at : ℕ → ℕ → ℕ → List ℕ → List (List ℕ)
 parts_at separator n size bytes = take n bytes ∷ cond (nat_lt n size) (cut_at separator (drop (n + 1) bytes)) []
 
 -- a byte in front
-parts_at-cons : (s b n m : ℕ) (bytes : List ℕ) → m ≡ suc n → onto b (parts_at s n (length bytes) bytes) ≡ parts_at s m (suc (length bytes)) (b ∷ bytes)
+parts_at-cons : (s b n m : ℕ) (bytes : List ℕ) → m ≡ suc n
+    → onto b (parts_at s n (length bytes) bytes) ≡ parts_at s m (suc (length bytes)) (b ∷ bytes)
 parts_at-cons s b n m bytes e =
     elim (cases_lt n (length bytes)) [
       | inl lt ↦
@@ -29,12 +30,14 @@ parts_cut s [] = refl
 parts_cut s (b ∷ bytes) = at (b == s) (parts_cut s bytes)
   where
     at : (t : Bool) → cut_at s bytes ≡ parts_at s (part_size s bytes) (length bytes) bytes
-        → cond t ([] ∷ cut_at s bytes) (onto b (cut_at s bytes)) ≡ parts_at s (cond (not t) (1 + part_size s bytes) 0) (suc (length bytes)) (b ∷ bytes)
+        → cond t ([] ∷ cut_at s bytes) (onto b (cut_at s bytes))
+        ≡ parts_at s (cond (not t) (1 + part_size s bytes) 0) (suc (length bytes)) (b ∷ bytes)
     at true h = rw (lt-ltb 0 (suc (length bytes)) (omega arith)) refl
     at false h = ap (onto b) h ∙ parts_at-cons s b (part_size s bytes) (1 + part_size s bytes) bytes (omega arith)
 
 -- a part that a separator ends, and those behind it
-pub part_ended : (s n : ℕ) (bytes : List ℕ) → n ≡ part_size s bytes → n < length bytes → cut_at s bytes ≡ take n bytes ∷ cut_at s (drop (n + 1) bytes)
+pub part_ended : (s n : ℕ) (bytes : List ℕ) → n ≡ part_size s bytes → n < length bytes
+    → cut_at s bytes ≡ take n bytes ∷ cut_at s (drop (n + 1) bytes)
 part_ended s n bytes e lt = parts_cut s bytes ∙ rw (← e, lt-ltb n (length bytes) lt) refl
 
 -- a part that no separator ends is all

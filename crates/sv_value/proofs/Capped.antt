@@ -34,7 +34,8 @@ cap m b x (d ∷ digits) some =
     ∙ cap m b (x * b + digit_value d) digits some
 
 -- a digit is counted in
-pub cap_digit : (b most x v : ℕ) (digits : List ℕ) → 1 ≤ b → 1 ≤ length digits → v ≡ min most (x * b + digit_value (slice_index_or digits 0 0))
+pub cap_digit : (b most x v : ℕ) (digits : List ℕ) → 1 ≤ b → 1 ≤ length digits
+    → v ≡ min most (x * b + digit_value (slice_index_or digits 0 0))
     → min (digits_value_after b x digits) most ≡ min (digits_value_after b v (take (length digits - 1) (drop 1 digits))) most
 cap_digit b most x v [] some lt e = absurd (omega (arith, lt))
 cap_digit b most x v (d ∷ digits) some lt e =
@@ -42,7 +43,8 @@ cap_digit b most x v (d ∷ digits) some lt e =
     rw (take_rest (d ∷ digits) 1, swap) (sym (cap most b (x * b + digit_value d) digits some))
 
 -- digits behind a value that was counted to the bound
-pub cap_join : (most : ℕ) (front behind : List ℕ) → min (digits_value_after 10 (min (digits_value 10 front) most) behind) most ≡ min (digits_value 10 (front ++ behind)) most
+pub cap_join : (most : ℕ) (front behind : List ℕ)
+    → min (digits_value_after 10 (min (digits_value 10 front) most) behind) most ≡ min (digits_value 10 (front ++ behind)) most
 cap_join most front behind = cap most 10 (digits_value 10 front) behind (omega arith) ∙ ap (λ n. min n most) (sym (value-join front behind))
 
 -- so far into two lists is all of the first and the rest into the second
@@ -66,9 +68,11 @@ cap_up most value k some =
     ap (λ n. min n most) none ∙ cap_step most k value 0 some ∙ ap (λ n. min n most) same
 
 -- a value that was counted to the bound, rounded up or not
-pub cap_round : (most value up front carry result : ℕ) → front ≡ min value most → carry ≡ up → result ≡ min most (front + carry) → result ≡ min (value + up) most
+pub cap_round : (most value up front carry result : ℕ) → front ≡ min value most → carry ≡ up → result ≡ min most (front + carry)
+    → result ≡ min (value + up) most
 cap_round most value up front carry result f u e = omega (arith, f, u, e)
 
 -- a fraction whose powers of ten are told in another way
-pub same-powers : (most n up right down left : ℕ) → up ≡ right → down ≡ left → min (nearest (n * 10 ^ up) (10 ^ down)) most ≡ min (nearest (n * 10 ^ right) (10 ^ left)) most
+pub same-powers : (most n up right down left : ℕ) → up ≡ right → down ≡ left
+    → min (nearest (n * 10 ^ up) (10 ^ down)) most ≡ min (nearest (n * 10 ^ right) (10 ^ left)) most
 same-powers most n up right down left u d = rw (u, d) refl

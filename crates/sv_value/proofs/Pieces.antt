@@ -26,16 +26,19 @@ pub digits-joined : (digits text : List ℕ) → AreDigits digits → digits_in 
 digits-joined [] text all = refl
 digits-joined (b ∷ digits) text all = at (is_ascii_digit b) all (digits-joined digits text)
   where
-    at : (t : Bool) → (t && list_all is_ascii_digit digits) ≡ true → (AreDigits digits → digits_in (digits ++ text) ≡ digits ++ digits_in text)
+    at : (t : Bool) → (t && list_all is_ascii_digit digits) ≡ true
+        → (AreDigits digits → digits_in (digits ++ text) ≡ digits ++ digits_in text)
         → take (cond (not (not t)) (1 + digits_size (digits ++ text)) 0) (b ∷ (digits ++ text)) ≡ b ∷ (digits ++ digits_in text)
-    at true h ih = let n : 1 + digits_size (digits ++ text) ≡ suc (digits_size (digits ++ text)) = omega arith in rw n (ap (λ xs. b ∷ xs) (ih h))
+    at true h ih = let n : 1 + digits_size (digits ++ text) ≡ suc (digits_size (digits ++ text)) = omega arith in
+        rw n (ap (λ xs. b ∷ xs) (ih h))
     at false h ih = absurd cc
 
 pub behind-joined : (digits text : List ℕ) → AreDigits digits → behind_digits (digits ++ text) ≡ behind_digits text
 behind-joined [] text all = refl
 behind-joined (b ∷ digits) text all = at (is_ascii_digit b) all (behind-joined digits text)
   where
-    at : (t : Bool) → (t && list_all is_ascii_digit digits) ≡ true → (AreDigits digits → behind_digits (digits ++ text) ≡ behind_digits text)
+    at : (t : Bool) → (t && list_all is_ascii_digit digits) ≡ true
+        → (AreDigits digits → behind_digits (digits ++ text) ≡ behind_digits text)
         → drop (cond (not (not t)) (1 + digits_size (digits ++ text)) 0) (b ∷ (digits ++ text)) ≡ behind_digits text
     at true h ih = let n : 1 + digits_size (digits ++ text) ≡ suc (digits_size (digits ++ text)) = omega arith in rw n (ih h)
     at false h ih = absurd cc
@@ -80,7 +83,8 @@ trim-apart (b ∷ text) = at (is_white b) refl (trim-apart text)
     at false is h = ([], refl, refl)
 
 -- a sign in front of text
-pub sign-joined : (sign text : List ℕ) (minus : Bool) → IsSign sign minus → begins is_sign text ≡ false → (has_minus (sign ++ text) ≡ minus) × (behind_sign (sign ++ text) ≡ text)
+pub sign-joined : (sign text : List ℕ) (minus : Bool) → IsSign sign minus → begins is_sign text ≡ false
+    → (has_minus (sign ++ text) ≡ minus) × (behind_sign (sign ++ text) ≡ text)
 sign-joined sign text minus (inl s) h = rw (s.0, s.1) (none text h)
   where
     none : (text : List ℕ) → begins is_sign text ≡ false → (has_minus text ≡ false) × (behind_sign text ≡ text)
@@ -93,14 +97,16 @@ pub sign-apart : (text : List ℕ) → (sign : List ℕ) × (text ≡ sign ++ be
 sign-apart [] = ([], refl, inl (refl, refl))
 sign-apart (b ∷ text) = at (b == 43) (b == 45) refl refl
   where
-    at : (plus minus : Bool) → (b == 43) ≡ plus → (b == 45) ≡ minus → (sign : List ℕ) × (b ∷ text ≡ sign ++ cond (plus || minus) text (b ∷ text)) × IsSign sign minus
+    at : (plus minus : Bool) → (b == 43) ≡ plus → (b == 45) ≡ minus
+        → (sign : List ℕ) × (b ∷ text ≡ sign ++ cond (plus || minus) text (b ∷ text)) × IsSign sign minus
     at true true p m = absurd (omega (arith, eqb-true b 43 p, eqb-true b 45 m))
     at true false p m = (43 ∷ [], ap (λ x. x ∷ text) (eqb-true b 43 p), inr (inl (refl, refl)))
     at false true p m = (45 ∷ [], ap (λ x. x ∷ text) (eqb-true b 45 m), inr (inr (refl, refl)))
     at false false p m = ([], refl, inl (refl, refl))
 
 -- a fraction in front of text
-pub fraction-joined : (piece digits text : List ℕ) → IsFraction piece digits → begins is_ascii_digit text ≡ false → begins is_point text ≡ false
+pub fraction-joined : (piece digits text : List ℕ) → IsFraction piece digits → begins is_ascii_digit text ≡ false
+    → begins is_point text ≡ false
     → (fraction_in (piece ++ text) ≡ digits) × (behind_fraction (piece ++ text) ≡ text)
 fraction-joined piece digits text (inl f) d p = rw (f.0, f.1) (none text p)
   where
@@ -108,7 +114,8 @@ fraction-joined piece digits text (inl f) d p = rw (f.0, f.1) (none text p)
     none [] p = (refl, refl)
     none (b ∷ text) p = (rw p refl, rw p refl)
 fraction-joined piece digits text (inr f) d p =
-    let front : digits_in (digits ++ text) ≡ digits = digits-joined digits text f.1 ∙ ap (λ xs. digits ++ xs) (digits-none text d) ∙ append-nil digits in
+    let front : digits_in (digits ++ text) ≡ digits =
+    digits-joined digits text f.1 ∙ ap (λ xs. digits ++ xs) (digits-none text d) ∙ append-nil digits in
     let behind : behind_digits (digits ++ text) ≡ text = behind-joined digits text f.1 ∙ behind-none text d in
     rw f.0 (front, behind)
 
@@ -116,6 +123,7 @@ pub fraction-apart : (text : List ℕ) → (piece : List ℕ) × (text ≡ piece
 fraction-apart [] = ([], refl, inl (refl, refl))
 fraction-apart (b ∷ text) = at (b == 46) refl
   where
-    at : (point : Bool) → (b == 46) ≡ point → (piece : List ℕ) × (b ∷ text ≡ piece ++ cond point (behind_digits text) (b ∷ text)) × IsFraction piece (cond point (digits_in text) [])
+    at : (point : Bool) → (b == 46) ≡ point → (piece : List ℕ) × (b ∷ text ≡ piece ++ cond point (behind_digits text) (b ∷ text))
+        × IsFraction piece (cond point (digits_in text) [])
     at true p = (46 ∷ digits_in text, rw (eqb-true b 46 p) (ap (λ xs. 46 ∷ xs) (digits-apart text)), inr (refl, digits-all text))
     at false p = ([], refl, inl (refl, refl))

@@ -29,14 +29,16 @@ zeros-are k le =
 pub length-six : (n : ℕ) → n < 1000000 → length (six_digits n) ≡ 6
 length-six n lt =
     let short = six_short n lt in
-    let zeros : length {A = ℕ} (replicate (6 - length (decimal n)) 48) ≡ 6 - length (decimal n) = length-replicate (6 - length (decimal n)) 48 in
+    let zeros : length {A = ℕ} (replicate (6 - length (decimal n)) 48) ≡ 6 - length (decimal n) =
+    length-replicate (6 - length (decimal n)) 48 in
     length-append (replicate (6 - length (decimal n)) 48) (decimal n) ∙ omega (arith, short, zeros)
 
 -- zeros and digits behind a text are six digits behind it
 pub six-behind : (text rest zeros digits new six : List ℕ) → length zeros + length digits ≡ 6 → six ≡ zeros ++ digits
     → new ≡ (text ++ zeros) ++ (digits ++ drop (length digits) (drop (length zeros) rest)) → new ≡ text ++ (six ++ drop 6 rest)
 six-behind text rest zeros digits new six size e h =
-    let dropped : drop (length digits) (drop (length zeros) rest) ≡ drop 6 rest = drop-drop (length digits) (length zeros) rest ∙ ap (λ n. drop n rest) size in
+    let dropped : drop (length digits) (drop (length zeros) rest) ≡ drop 6 rest =
+    drop-drop (length digits) (length zeros) rest ∙ ap (λ n. drop n rest) size in
     h ∙ ap (λ r. (text ++ zeros) ++ (digits ++ r)) dropped ∙ simp append_assoc refl ∙ ap (λ s. text ++ (s ++ drop 6 rest)) (sym e)
 
 -- one byte, digits, a point and six digits, one behind the other
@@ -44,9 +46,11 @@ pub all-behind : (old new volts six : List ℕ) (sign : ℕ) → length six ≡ 
     → new ≡ (((sign ∷ []) ++ volts) ++ 46 ∷ []) ++ (six ++ drop 6 (drop 1 (drop (length volts) (drop 1 old))))
     → new ≡ (sign ∷ (volts ++ 46 ∷ six)) ++ drop (length (sign ∷ (volts ++ 46 ∷ six))) old
 all-behind old new volts six sign size h =
-    let whole : length (sign ∷ (volts ++ 46 ∷ six)) ≡ 1 + length volts + 1 + 6 = let inner = length-append volts (46 ∷ six) in omega (arith, inner, size) in
+    let whole : length (sign ∷ (volts ++ 46 ∷ six)) ≡ 1 + length volts + 1 + 6 = let inner = length-append volts (46 ∷ six) in
+    omega (arith, inner, size) in
     let dropped : drop 6 (drop 1 (drop (length volts) (drop 1 old))) ≡ drop (length (sign ∷ (volts ++ 46 ∷ six))) old =
-    ap (λ xs. drop 6 (drop 1 xs)) (drop-drop (length volts) 1 old) ∙ ap (drop 6) (drop-drop 1 (1 + length volts) old) ∙ drop-drop 6 (1 + length volts + 1) old ∙ ap (λ n. drop n old) (sym whole) in
+    ap (λ xs. drop 6 (drop 1 xs)) (drop-drop (length volts) 1 old) ∙ ap (drop 6) (drop-drop 1 (1 + length volts) old)
+    ∙ drop-drop 6 (1 + length volts + 1) old ∙ ap (λ n. drop n old) (sym whole) in
     h ∙ ap (λ r. (((sign ∷ []) ++ volts) ++ 46 ∷ []) ++ (six ++ r)) dropped ∙ simp append_assoc refl
 
 -- a text in front of what it leaves of another
@@ -54,8 +58,10 @@ abbrev pub in-front : List ℕ → ℕ → List ℕ → ℕ → List ℕ
 in-front old sign volts n = (sign ∷ (volts ++ 46 ∷ six_digits n)) ++ drop (length (sign ∷ (volts ++ 46 ∷ six_digits n))) old
 
 -- the same parts make the same text
-pub voltage-same : (old volts volts2 : List ℕ) (sign sign2 n n2 : ℕ) → sign ≡ sign2 → volts ≡ volts2 → n ≡ n2 → in-front old sign volts n ≡ in-front old sign2 volts2 n2
-voltage-same old volts volts2 sign sign2 n n2 s v e = ap (λ x. in-front old x volts n) s ∙ ap (λ x. in-front old sign2 x n) v ∙ ap (λ x. in-front old sign2 volts2 x) e
+pub voltage-same : (old volts volts2 : List ℕ) (sign sign2 n n2 : ℕ) → sign ≡ sign2 → volts ≡ volts2 → n ≡ n2
+    → in-front old sign volts n ≡ in-front old sign2 volts2 n2
+voltage-same old volts volts2 sign sign2 n n2 s v e =
+    ap (λ x. in-front old x volts n) s ∙ ap (λ x. in-front old sign2 x n) v ∙ ap (λ x. in-front old sign2 volts2 x) e
 
 -- how long it is
 pub voltage-size : (volts : List ℕ) (n : ℕ) → n < 1000000 → length (volts ++ 46 ∷ six_digits n) ≡ length volts + 1 + 6

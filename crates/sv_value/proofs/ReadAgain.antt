@@ -74,12 +74,14 @@ parts-of negative whole fraction rest = record {
 
 -- are these
 parts-printed : (negative : Bool) (whole fraction : List ℕ) → list_all is_ascii_digit whole ≡ true → list_all is_ascii_digit fraction ≡ true
-    → parts-of negative (digits_in (whole ++ 46 ∷ fraction)) (fraction_in (behind_digits (whole ++ 46 ∷ fraction))) (behind_fraction (behind_digits (whole ++ 46 ∷ fraction))) ≡ parts-of negative whole fraction []
+    → parts-of negative (digits_in (whole ++ 46 ∷ fraction)) (fraction_in (behind_digits (whole ++ 46 ∷ fraction)))
+    (behind_fraction (behind_digits (whole ++ 46 ∷ fraction))) ≡ parts-of negative whole fraction []
 parts-printed negative whole fraction w f =
     let text : List ℕ = whole ++ 46 ∷ fraction in
     let front : digits_in text ≡ whole = digits-joined whole (46 ∷ fraction) w ∙ append-nil whole in
     let behind : behind_digits text ≡ 46 ∷ fraction = behind-joined whole (46 ∷ fraction) w in
-    let all : digits_in fraction ≡ fraction = ap digits_in (sym (append-nil fraction)) ∙ digits-joined fraction [] f ∙ append-nil fraction in
+    let all : digits_in fraction ≡ fraction = ap digits_in (sym (append-nil fraction)) ∙ digits-joined fraction [] f
+    ∙ append-nil fraction in
     let none : behind_digits fraction ≡ [] = ap behind_digits (sym (append-nil fraction)) ∙ behind-joined fraction [] f in
     ap (λ d. parts-of negative d (fraction_in (behind_digits text)) (behind_fraction (behind_digits text))) front
     ∙ ap (λ b. parts-of negative whole (fraction_in b) (behind_fraction b)) behind
@@ -104,19 +106,22 @@ read-parts negative m le =
     let few : significant (parts-of negative whole fraction []) ≤ 255 = omega (arith, short, six, joined) in
     let even : length fraction + 0 ≡ 6 = omega (arith, six) in
     let value : magnitude 6 (parts-of negative whole fraction []) ≡ m =
-    ap (λ k. nearest (digits_value 10 (whole ++ fraction) * 10 ^ 6) (10 ^ k)) even ∙ nearest-right (digits_value 10 (whole ++ fraction)) 6 6 (omega arith) ∙ (let v = whole-value m le in omega (arith, v)) in
+    ap (λ k. nearest (digits_value 10 (whole ++ fraction) * 10 ^ 6) (10 ^ k)) even
+    ∙ nearest-right (digits_value 10 (whole ++ fraction)) 6 6 (omega arith) ∙ (let v = whole-value m le in omega (arith, v)) in
     rw (some, le-ltb 255 (significant (parts-of negative whole fraction [])) few, value) refl
 
 pub read-again : PrintedIsRead
 read-again (pos n) le =
     let whole = decimal-digits (n / 1000000) (omega (arith, le)) in
     let fraction = six-digits (n % 1000000) (omega arith) in
-    ap (λ p. within_volts (read_with (power_of_volts p.suffix) InvalidSuffix p)) (parts-printed false (decimal (n / 1000000)) (six_digits (n % 1000000)) whole fraction)
+    ap (λ p. within_volts (read_with (power_of_volts p.suffix) InvalidSuffix p))
+    (parts-printed false (decimal (n / 1000000)) (six_digits (n % 1000000)) whole fraction)
     ∙ ap within_volts (read-parts false n le)
     ∙ rw (le-leb n 1000000000 le) refl
 read-again (negsuc n) le =
     let whole = decimal-digits (suc n / 1000000) (omega (arith, le)) in
     let fraction = six-digits (suc n % 1000000) (omega arith) in
-    ap (λ p. within_volts (read_with (power_of_volts p.suffix) InvalidSuffix p)) (parts-printed true (decimal (suc n / 1000000)) (six_digits (suc n % 1000000)) whole fraction)
+    ap (λ p. within_volts (read_with (power_of_volts p.suffix) InvalidSuffix p))
+    (parts-printed true (decimal (suc n / 1000000)) (six_digits (suc n % 1000000)) whole fraction)
     ∙ ap within_volts (read-parts true (suc n) le)
     ∙ rw (le-leb n 999999999 (omega (arith, le))) refl

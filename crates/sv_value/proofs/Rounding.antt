@@ -7,7 +7,7 @@ use Rattle.std.specs.List.{list_all}
 use Rattle.std.specs.Str.Parse.{digits_value, digits_value_after}
 use Rattle.std.proofs.lemmas.List.{length-drop}
 use Rattle.std.proofs.lemmas.List.Folds.{list_all-append}
-use Rattle.std.proofs.lemmas.Bool.{leb-true, leb-false}
+use Rattle.std.proofs.lemmas.Bool.{and_parts, leb-true, leb-false}
 use Rattle.std.proofs.lemmas.Nat.{mul-le, pow-add}
 use Rattle.std.proofs.Math.Nat.{div-eq_of_lt-le, div-eq_of_lt, mul-div-mul_right, pow-succ', pow-le-pow_right, one-le-pow}
 use Rattle.sv_value.specs.Number.{nearest}
@@ -47,36 +47,35 @@ ten-some n = one-le-pow n 10 (omega arith)
 -- the point moves to the right
 pub nearest-right : (n up down : ℕ) → down ≤ up → nearest (n * 10 ^ up) (10 ^ down) ≡ n * 10 ^ (up - down)
 nearest-right n up down le =
-    let split : 10 ^ up ≡ 10 ^ (up - down) * 10 ^ down = ap (λ k. 10 ^ k) (let e : up ≡ (up - down) + down = omega (arith, le) in e) ∙ pow-add 10 (up - down) down in
+    let split : 10 ^ up ≡ 10 ^ (up - down) * 10 ^ down =
+    ap (λ k. 10 ^ k) (let e : up ≡ (up - down) + down = omega (arith, le) in e) ∙ pow-add 10 (up - down) down in
     let over : n * 10 ^ up ≡ n * 10 ^ (up - down) * 10 ^ down = ap (λ k. n * k) split ∙ omega arith in
     let under : 10 ^ down ≡ 1 * 10 ^ down = omega arith in
-    ap (λ k. nearest k (10 ^ down)) over ∙ ap (λ k. nearest (n * 10 ^ (up - down) * 10 ^ down) k) under ∙ nearest-short (n * 10 ^ (up - down)) 1 (10 ^ down) (ten-some down) ∙ nearest-whole (n * 10 ^ (up - down))
+    ap (λ k. nearest k (10 ^ down)) over ∙ ap (λ k. nearest (n * 10 ^ (up - down) * 10 ^ down) k) under
+    ∙ nearest-short (n * 10 ^ (up - down)) 1 (10 ^ down) (ten-some down) ∙ nearest-whole (n * 10 ^ (up - down))
 
 -- or to the left
 pub nearest-left : (n up down : ℕ) → up ≤ down → nearest (n * 10 ^ up) (10 ^ down) ≡ nearest n (10 ^ (down - up))
 nearest-left n up down le =
-    let split : 10 ^ down ≡ 10 ^ (down - up) * 10 ^ up = ap (λ k. 10 ^ k) (let e : down ≡ (down - up) + up = omega (arith, le) in e) ∙ pow-add 10 (down - up) up in
+    let split : 10 ^ down ≡ 10 ^ (down - up) * 10 ^ up =
+    ap (λ k. 10 ^ k) (let e : down ≡ (down - up) + up = omega (arith, le) in e) ∙ pow-add 10 (down - up) up in
     ap (λ k. nearest (n * 10 ^ up) k) split ∙ nearest-short n (10 ^ (down - up)) (10 ^ up) (ten-some up)
 
 -- a digit is at most 9
 digit-most : (b : ℕ) → is_ascii_digit b ≡ true → digit_value b ≤ 9
 digit-most b h = grind (arith, nat_tests, h)
 
-pub both : (a b : Bool) → (a && b) ≡ true → (a ≡ true) × (b ≡ true)
-both true true h = (refl, refl)
-both true false h = absurd cc
-both false b h = absurd cc
-
 -- digits write less than the power of ten that has one more
 pub value-less : (ds : List ℕ) → list_all is_ascii_digit ds ≡ true → digits_value 10 ds < 10 ^ length ds
 value-less [] h = omega arith
 value-less (d ∷ ds) h =
-    let digits = both (is_ascii_digit d) (list_all is_ascii_digit ds) h in
+    let digits = and_parts (is_ascii_digit d) (list_all is_ascii_digit ds) h in
     let most = digit-most d digits.0 in
     let rest = value-less ds digits.1 in
     let moves = after-moves (0 * 10 + digit_value d) ds in
     let p : 10 ^ suc (length ds) ≡ 10 * 10 ^ length ds = pow-succ' 10 (length ds) in
-    let part : digit_value d * 10 ^ length ds ≤ 9 * 10 ^ length ds = mul-le (digit_value d) (10 ^ length ds) 9 (10 ^ length ds) most (omega arith) in
+    let part : digit_value d * 10 ^ length ds ≤ 9 * 10 ^ length ds =
+    mul-le (digit_value d) (10 ^ length ds) 9 (10 ^ length ds) most (omega arith) in
     omega (arith, moves, p, part, rest)
 
 -- where more digits are left out than there are, less than half is left
@@ -88,7 +87,8 @@ nearest-none ds c h lt =
     div-eq_of_lt (omega (arith, less, p, more))
 
 -- what a kept value, the digit behind it and what is behind that are rounded to
-half : (kept digit behind p : ℕ) → digit ≤ 9 → behind < p → nearest ((kept * 10 + digit) * p + behind) (10 * p) ≡ kept + (if nat_le 5 digit then 1 else 0)
+half : (kept digit behind p : ℕ) → digit ≤ 9 → behind < p
+    → nearest ((kept * 10 + digit) * p + behind) (10 * p) ≡ kept + (if nat_le 5 digit then 1 else 0)
 half kept digit behind p most lt = at (nat_le 5 digit) refl
   where
     spread : (kept * 10 + digit) * p ≡ 10 * (kept * p) + digit * p
@@ -114,19 +114,22 @@ split-at (d ∷ ds) (suc k) lt = ap (λ xs. d ∷ xs) (split-at ds k (omega (ari
 
 -- rounding by the first digit that is left out
 pub nearest-digits : (ds : List ℕ) (c kept : ℕ) → list_all is_ascii_digit ds ≡ true → 1 ≤ c → kept + c ≡ length ds
-    → nearest (digits_value 10 ds) (10 ^ c) ≡ digits_value 10 (take kept ds) + (if nat_le 5 (digit_value (slice_index_or ds kept 0)) then 1 else 0)
+    → nearest (digits_value 10 ds) (10 ^ c) ≡ digits_value 10 (take kept ds) +
+    (if nat_le 5 (digit_value (slice_index_or ds kept 0)) then 1 else 0)
 nearest-digits ds c kept h some size =
     let front : List ℕ = take kept ds in
     let behind : List ℕ = drop (suc kept) ds in
     let digit : ℕ = slice_index_or ds kept 0 in
     let split = split-at ds kept (omega (arith, some, size)) in
-    let parts = both (list_all is_ascii_digit front) (list_all is_ascii_digit (digit ∷ behind)) (sym (list_all-append is_ascii_digit front (digit ∷ behind)) ∙ ap (list_all is_ascii_digit) (sym split) ∙ h) in
-    let digits = both (is_ascii_digit digit) (list_all is_ascii_digit behind) parts.1 in
+    let parts = and_parts (list_all is_ascii_digit front) (list_all is_ascii_digit (digit ∷ behind))
+    (sym (list_all-append is_ascii_digit front (digit ∷ behind)) ∙ ap (list_all is_ascii_digit) (sym split) ∙ h) in
+    let digits = and_parts (is_ascii_digit digit) (list_all is_ascii_digit behind) parts.1 in
     let few : length behind ≡ c - 1 = length-drop (suc kept) ds ∙ omega (arith, some, size) in
     let value : digits_value 10 ds ≡ (digits_value 10 front * 10 + digit_value digit) * 10 ^ (c - 1) + digits_value 10 behind =
     ap (digits_value 10) split ∙ value-join front (digit ∷ behind) ∙ after-moves (digits_value 10 front * 10 + digit_value digit) behind
     ∙ ap (λ n. (digits_value 10 front * 10 + digit_value digit) * 10 ^ n + digits_value 10 behind) few in
     let less : digits_value 10 behind < 10 ^ (c - 1) = rw (← few) (value-less behind digits.1) in
     let tens : 10 ^ c ≡ 10 * 10 ^ (c - 1) = ap (λ n. 10 ^ n) (let e : c ≡ suc (c - 1) = omega (arith, some) in e) ∙ pow-succ' 10 (c - 1) in
-    ap (λ n. nearest n (10 ^ c)) value ∙ ap (nearest ((digits_value 10 front * 10 + digit_value digit) * 10 ^ (c - 1) + digits_value 10 behind)) tens
+    ap (λ n. nearest n (10 ^ c)) value ∙ ap (nearest
+    ((digits_value 10 front * 10 + digit_value digit) * 10 ^ (c - 1) + digits_value 10 behind)) tens
     ∙ half (digits_value 10 front) (digit_value digit) (digits_value 10 behind) (10 ^ (c - 1)) (digit-most digit digits.0) less

@@ -9,24 +9,29 @@ run-passes test (b ∷ bytes) = at (test b) refl (run-passes test bytes)
   where
     at : (t : Bool) → test b ≡ t → list_all test (take (position_or_len (λ x. not (test x)) bytes) bytes) ≡ true
         → list_all test (take (cond (not (not t)) (1 + position_or_len (λ x. not (test x)) bytes) 0) (b ∷ bytes)) ≡ true
-    at true is h = let n : 1 + position_or_len (λ x. not (test x)) bytes ≡ suc (position_or_len (λ x. not (test x)) bytes) = omega arith in rw (n, is) h
+    at true is h = let n : 1 + position_or_len (λ x. not (test x)) bytes ≡ suc (position_or_len (λ x. not (test x)) bytes) = omega arith in
+        rw (n, is) h
     at false is h = refl
 
 -- the first that passes, where it is among the first bytes, or isn't
-pub first-in : (test : ℕ → Bool) (front behind : List ℕ) → position_or_len test front < length front → position_or_len test (front ++ behind) ≡ position_or_len test front
+pub first-in : (test : ℕ → Bool) (front behind : List ℕ) → position_or_len test front < length front
+    → position_or_len test (front ++ behind) ≡ position_or_len test front
 first-in test [] behind lt = absurd (omega (arith, lt))
 first-in test (b ∷ front) behind lt = at (test b) lt (first-in test front behind)
   where
-    at : (t : Bool) → cond (not t) (1 + position_or_len test front) 0 < suc (length front) → (position_or_len test front < length front → position_or_len test (front ++ behind) ≡ position_or_len test front)
+    at : (t : Bool) → cond (not t) (1 + position_or_len test front) 0 < suc (length front)
+        → (position_or_len test front < length front → position_or_len test (front ++ behind) ≡ position_or_len test front)
         → cond (not t) (1 + position_or_len test (front ++ behind)) 0 ≡ cond (not t) (1 + position_or_len test front) 0
     at true lt h = refl
     at false lt h = let e = h (omega (arith, lt)) in omega (arith, e)
 
-pub first-behind : (test : ℕ → Bool) (front behind : List ℕ) → length front ≤ position_or_len test front → position_or_len test (front ++ behind) ≡ length front + position_or_len test behind
+pub first-behind : (test : ℕ → Bool) (front behind : List ℕ) → length front ≤ position_or_len test front
+    → position_or_len test (front ++ behind) ≡ length front + position_or_len test behind
 first-behind test [] behind ge = omega arith
 first-behind test (b ∷ front) behind ge = at (test b) ge (first-behind test front behind)
   where
-    at : (t : Bool) → suc (length front) ≤ cond (not t) (1 + position_or_len test front) 0 → (length front ≤ position_or_len test front → position_or_len test (front ++ behind) ≡ length front + position_or_len test behind)
+    at : (t : Bool) → suc (length front) ≤ cond (not t) (1 + position_or_len test front) 0
+        → (length front ≤ position_or_len test front → position_or_len test (front ++ behind) ≡ length front + position_or_len test behind)
         → cond (not t) (1 + position_or_len test (front ++ behind)) 0 ≡ suc (length front) + position_or_len test behind
     at true ge h = absurd (omega (arith, ge))
     at false ge h = let e = h (omega (arith, ge)) in omega (arith, e)

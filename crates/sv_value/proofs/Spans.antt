@@ -8,7 +8,8 @@ use Rattle.std.specs.Int.{abs_diff}
 use Rattle.sv_errors.specs.declared.code.Code.{Code}
 use Rattle.sv_errors.specs.declared.code.Code.TheVariants.{TooMuchData}
 use Rattle.sv_value.specs.declared.channels.Span.{Span}
-use Rattle.sv_value.specs.Channels.{Span as Ends, is_channel, next, run, span_of}
+use Rattle.sv_errors.specs.Limits.{is_channel}
+use Rattle.sv_value.specs.Channels.{Span as Ends, next, run, span_of}
 use Rattle.sv_value.specs.Plain.{ends_up_to}
 
 -- a run upwards begins with its first channel
@@ -66,26 +67,32 @@ length-range first (suc n) = ap suc (length-range (first + 1) n)
 pub length-run : (first last : ℕ) → length (run first last) ≡ (first - last) + (last - first) + 1
 length-run first last =
     elim (cases_lt last first) [
-      | inl lt ↦ ap length (run-back first last lt) ∙ length-reverse (range_with_len last (first - last + 1)) ∙ length-range last (first - last + 1) ∙ omega (arith, lt)
-      | inr ge ↦ let up : length (range_with_len first (last - first + 1)) ≡ (first - last) + (last - first) + 1 = length-range first (last - first + 1) ∙ omega (arith, ge) in
+      | inl lt ↦ ap length (run-back first last lt) ∙ length-reverse (range_with_len last (first - last + 1))
+          ∙ length-range last (first - last + 1) ∙ omega (arith, lt)
+      | inr ge ↦ let up : length (range_with_len first (last - first + 1)) ≡ (first - last) + (last - first) + 1 =
+          length-range first (last - first + 1) ∙ omega (arith, ge) in
           rw (le-leb first last ge) up
     ]
 
 -- what is pushed of a run
-pub push-up : (before items list : List ℕ) (first last channel : ℕ) → channel < last → list ≡ items ++ channel ∷ [] → items ++ run channel last ≡ before ++ run first last
+pub push-up : (before items list : List ℕ) (first last channel : ℕ) → channel < last → list ≡ items ++ channel ∷ []
+    → items ++ run channel last ≡ before ++ run first last
     → list ++ run (channel + 1) last ≡ before ++ run first last
 push-up before items list first last channel lt e h = rw e (simp append_assoc (ap (λ cs. items ++ cs) (sym (run-up channel last lt)) ∙ h))
 
-pub push-down : (before items list : List ℕ) (first last channel : ℕ) → last < channel → list ≡ items ++ channel ∷ [] → items ++ run channel last ≡ before ++ run first last
+pub push-down : (before items list : List ℕ) (first last channel : ℕ) → last < channel → list ≡ items ++ channel ∷ []
+    → items ++ run channel last ≡ before ++ run first last
     → list ++ run (channel - 1) last ≡ before ++ run first last
-push-down before items list first last channel lt e h = rw e (simp append_assoc (ap (λ cs. items ++ cs) (sym (run-down channel last lt)) ∙ h))
+push-down before items list first last channel lt e h =
+    rw e (simp append_assoc (ap (λ cs. items ++ cs) (sym (run-down channel last lt)) ∙ h))
 
 -- a whole run behind others
 pub run-fits : (before : List ℕ) (first last : ℕ) → length (before ++ run first last) ≡ length before + (first - last) + (last - first) + 1
 run-fits before first last = let run_size = length-run first last in length-append before (run first last) ∙ omega (arith, run_size)
 
 -- ends that were counted to the bound are ends
-capped-some : (o : Option Ends) (span : Span) → ends_up_to o ≡ Some span → (e : Ends) × (o ≡ Some e) × (min e.first 1000000000000000000 ≡ span.first) × (min e.last 1000000000000000000 ≡ span.last)
+capped-some : (o : Option Ends) (span : Span) → ends_up_to o ≡ Some span
+    → (e : Ends) × (o ≡ Some e) × (min e.first 1000000000000000000 ≡ span.first) × (min e.last 1000000000000000000 ≡ span.last)
 capped-some None span h = absurd cc
 capped-some (Some e) span h = (e, refl, cc, cc)
 
@@ -100,8 +107,10 @@ channel-same n m e c =
     second false b h = absurd cc
 
 -- an item's channels behind others, where there is room for them
-pub add-done : (o : Option Ends) (span : Span) (before : List ℕ) → ends_up_to o ≡ Some span → is_channel span.first ≡ true → is_channel span.last ≡ true
-    → length before + abs_diff span.first span.last < 32 → (others : List ℕ → Result (List ℕ) Code) → next o before others ≡ others (before ++ run span.first span.last)
+pub add-done : (o : Option Ends) (span : Span) (before : List ℕ) → ends_up_to o ≡ Some span → is_channel span.first ≡ true
+    → is_channel span.last ≡ true
+    → length before + abs_diff span.first span.last < 32 → (others : List ℕ → Result (List ℕ) Code)
+    → next o before others ≡ others (before ++ run span.first span.last)
 add-done o span before h first last room others =
     let some = capped-some o span h in
     let f = channel-same some.0.first span.first some.2 first in
@@ -110,7 +119,8 @@ add-done o span before h first last room others =
     rw (some.1, f, l, first, last, le-ltb 32 (length (before ++ run span.first span.last)) (omega (arith, size, room))) refl
 
 -- and where there is none
-pub add-full : (o : Option Ends) (span : Span) (before : List ℕ) → ends_up_to o ≡ Some span → is_channel span.first ≡ true → is_channel span.last ≡ true
+pub add-full : (o : Option Ends) (span : Span) (before : List ℕ) → ends_up_to o ≡ Some span → is_channel span.first ≡ true
+    → is_channel span.last ≡ true
     → 32 ≤ length before + abs_diff span.first span.last → (others : List ℕ → Result (List ℕ) Code) → next o before others ≡ Err TooMuchData
 add-full o span before h first last room others =
     let some = capped-some o span h in

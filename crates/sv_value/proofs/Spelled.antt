@@ -2,13 +2,12 @@
 use Rattle.std.proofs.Common.{◌≡◌, ◌≢◌, ℕ, ◌==◌, ◌&&◌, ◌||◌, Bool, true, false, not, cond, List, [], ◌∷◌, ◌++◌, refl, sym, ap, subst, ◌∙◌, ◌⊎◌, inl, inr, arith}
 use Rattle.std.specs.List.{list_all}
 use Rattle.std.specs.Char.{is_ascii_digit, is_ascii_alphabetic}
-use Rattle.std.proofs.lemmas.Bool.{eqb-true}
+use Rattle.std.proofs.lemmas.Bool.{and_parts, eqb-true}
 use Rattle.std.proofs.lemmas.Bool.Decides.{nat_tests}
 use Rattle.std.proofs.lemmas.List.{append_assoc, append-nil}
 use Rattle.sv_text.specs.White.{is_white, trim_start}
 use Rattle.sv_value.specs.Decimal.{Parts, parts, is_spelled, begins_well, is_nothing, digits_in, behind_digits, has_minus, behind_sign, fraction_in, behind_fraction, behind_letter, behind_mark, exponent_in, is_down, behind_exponent, behind_whole, behind_mantissa}
 use Rattle.sv_value.specs.Spelling.{AreDigits, IsSpace, IsSign, IsFraction, IsExponent, NoExponent, IsSuffix, IsTail, Spells, ReadAsSpelled}
-use Rattle.sv_value.proofs.Rounding.{both}
 use Rattle.sv_value.proofs.Pieces.{begins, is_sign, is_point, digits-joined, behind-joined, digits-none, behind-none, trim-joined, trim-none, digits-apart, digits-all, trim-apart, sign-joined, sign-apart, fraction-joined, fraction-apart}
 
 -- what letters, digits and white space are not
@@ -22,7 +21,8 @@ white-plain : (b : ℕ) → is_white b ≡ true → (is_ascii_digit b ≡ false)
 white-plain b h = (grind (arith, nat_tests, h), grind (arith, nat_tests, h))
 
 -- digits, of which there are some, begin with a digit
-some-digits : (digits text : List ℕ) → AreDigits digits → digits ≢ [] → (begins is_white (digits ++ text) ≡ false) × (begins is_sign (digits ++ text) ≡ false)
+some-digits : (digits text : List ℕ) → AreDigits digits → digits ≢ []
+    → (begins is_white (digits ++ text) ≡ false) × (begins is_sign (digits ++ text) ≡ false)
 some-digits [] text all some = absurd (some refl)
 some-digits (b ∷ digits) text all some = at (is_ascii_digit b) refl all
   where
@@ -63,25 +63,32 @@ suffix-spelled : (text : List ℕ) → begins_well (trim_start text) ≡ true �
 suffix-spelled text h = let a = trim-apart text in (a.0, a.1, a.2, h)
 
 -- behind the white space and the letter of an exponent
-mark-joined : (before behind text : List ℕ) (letter : ℕ) → IsSpace before → (letter ≡ 69) ⊎ (letter ≡ 101) → IsSpace behind → begins is_white text ≡ false
+mark-joined : (before behind text : List ℕ) (letter : ℕ) → IsSpace before → (letter ≡ 69) ⊎ (letter ≡ 101) → IsSpace behind
+    → begins is_white text ≡ false
     → behind_mark (before ++ letter ∷ (behind ++ text)) ≡ text
-mark-joined before behind text letter b (inl l) h plain = rw l (ap behind_letter (trim-joined before (69 ∷ (behind ++ text)) b) ∙ trim-joined behind text h ∙ trim-none text plain)
-mark-joined before behind text letter b (inr l) h plain = rw l (ap behind_letter (trim-joined before (101 ∷ (behind ++ text)) b) ∙ trim-joined behind text h ∙ trim-none text plain)
+mark-joined before behind text letter b (inl l) h plain =
+    rw l (ap behind_letter (trim-joined before (69 ∷ (behind ++ text)) b) ∙ trim-joined behind text h ∙ trim-none text plain)
+mark-joined before behind text letter b (inr l) h plain =
+    rw l (ap behind_letter (trim-joined before (101 ∷ (behind ++ text)) b) ∙ trim-joined behind text h ∙ trim-none text plain)
 
 -- the pieces of an exponent in front of text
-joined : (before behind sign digits text : List ℕ) (letter : ℕ) → (before ++ letter ∷ (behind ++ (sign ++ digits))) ++ text ≡ before ++ letter ∷ (behind ++ (sign ++ (digits ++ text)))
+joined : (before behind sign digits text : List ℕ) (letter : ℕ)
+    → (before ++ letter ∷ (behind ++ (sign ++ digits))) ++ text ≡ before ++ letter ∷ (behind ++ (sign ++ (digits ++ text)))
 joined before behind sign digits text letter =
     append_assoc before (letter ∷ (behind ++ (sign ++ digits))) text
     ∙ ap (λ xs. before ++ letter ∷ xs) (append_assoc behind (sign ++ digits) text ∙ ap (λ xs. behind ++ xs) (append_assoc sign digits text))
 
 -- an exponent in front of text
 exponent-joined : (piece digits text : List ℕ) (minus : Bool) → IsExponent piece minus digits
-    → (exponent_in (piece ++ text) ≡ digits ++ digits_in text) × (has_minus (behind_mark (piece ++ text)) ≡ minus) × (behind_digits (behind_sign (behind_mark (piece ++ text))) ≡ behind_digits text)
+    → (exponent_in (piece ++ text) ≡ digits ++ digits_in text) × (has_minus (behind_mark (piece ++ text)) ≡ minus)
+    × (behind_digits (behind_sign (behind_mark (piece ++ text))) ≡ behind_digits text)
 exponent-joined piece digits text minus e =
     let some = some-digits digits text e.9 e.10 in
-    let whole : piece ++ text ≡ e.0 ++ e.3 ∷ (e.1 ++ (e.2 ++ (digits ++ text))) = ap (λ xs. xs ++ text) e.4 ∙ joined e.0 e.1 e.2 digits text e.3 in
+    let whole : piece ++ text ≡ e.0 ++ e.3 ∷ (e.1 ++ (e.2 ++ (digits ++ text))) =
+    ap (λ xs. xs ++ text) e.4 ∙ joined e.0 e.1 e.2 digits text e.3 in
     let mark : behind_mark (piece ++ text) ≡ e.2 ++ (digits ++ text) =
-    ap behind_mark whole ∙ mark-joined e.0 e.1 (e.2 ++ (digits ++ text)) e.3 e.5 e.6 e.7 (sign-plain e.2 (digits ++ text) minus e.8 some.0) in
+    ap behind_mark whole ∙ mark-joined e.0 e.1 (e.2 ++ (digits ++ text)) e.3 e.5 e.6 e.7
+    (sign-plain e.2 (digits ++ text) minus e.8 some.0) in
     let signed = sign-joined e.2 (digits ++ text) minus e.8 some.1 in (
       ap (λ xs. digits_in (behind_sign xs)) mark ∙ ap digits_in signed.1 ∙ digits-joined digits text e.9,
       ap has_minus mark ∙ signed.0,
@@ -96,13 +103,15 @@ marked (b ∷ text) h = at (b == 69) (b == 101) refl refl h (trim-apart text)
   where
     at : (e f : Bool) → (b == 69) ≡ e → (b == 101) ≡ f → is_nothing (digits_in (behind_sign (cond (e || f) (trim_start text) []))) ≡ false
         → ((space : List ℕ) × (text ≡ space ++ trim_start text) × IsSpace space)
-        → (letter : ℕ) × (space : List ℕ) × (b ∷ text ≡ letter ∷ (space ++ cond (e || f) (trim_start text) [])) × ((letter ≡ 69) ⊎ (letter ≡ 101)) × IsSpace space
+        → (letter : ℕ) × (space : List ℕ) × (b ∷ text ≡ letter ∷ (space ++ cond (e || f) (trim_start text) []))
+        × ((letter ≡ 69) ⊎ (letter ≡ 101)) × IsSpace space
     at true f p q h a = (b, a.0, ap (λ xs. b ∷ xs) a.1, inl (eqb-true b 69 p), a.2)
     at false true p q h a = (b, a.0, ap (λ xs. b ∷ xs) a.1, inr (eqb-true b 101 q), a.2)
     at false false p q h a = absurd cc
 
 -- text is an exponent, where there is one, and what stands behind it
-exponent-apart : (text : List ℕ) → is_nothing (exponent_in text) ≡ false → (piece : List ℕ) × (text ≡ piece ++ behind_exponent text) × IsExponent piece (is_down text) (exponent_in text)
+exponent-apart : (text : List ℕ) → is_nothing (exponent_in text) ≡ false
+    → (piece : List ℕ) × (text ≡ piece ++ behind_exponent text) × IsExponent piece (is_down text) (exponent_in text)
 exponent-apart text some =
     let a = trim-apart text in
     let m = marked (trim_start text) some in
@@ -128,7 +137,8 @@ none-there (x ∷ xs) h = absurd cc
 
 -- what is read behind the mantissa
 abbrev IsRead : List ℕ → Parts → Type 0
-IsRead tail number = (is_down tail ≡ number.down) × (exponent_in tail ≡ number.exponent) × (trim_start (behind_exponent tail) ≡ number.suffix) × (begins_well number.suffix ≡ true) × IsPlain tail
+IsRead tail number = (is_down tail ≡ number.down) × (exponent_in tail ≡ number.exponent)
+    × (trim_start (behind_exponent tail) ≡ number.suffix) × (begins_well number.suffix ≡ true) × IsPlain tail
 
 -- the first byte of an exponent
 exponent-plain : (piece digits text : List ℕ) (minus : Bool) → IsExponent piece minus digits → IsPlain (piece ++ text)
@@ -143,13 +153,21 @@ tail-read : (tail : List ℕ) (number : Parts) → IsTail tail number → IsRead
 tail-read tail number (inl h) =
     let r = suffix-read h.1 number.suffix h.4 in
     let j = exponent-joined h.0 number.exponent h.1 number.down h.3 in
-    let digits : exponent_in (h.0 ++ h.1) ≡ number.exponent = j.0 ∙ ap (λ xs. number.exponent ++ xs) (digits-none h.1 r.1.0) ∙ append-nil number.exponent in
+    let digits : exponent_in (h.0 ++ h.1) ≡ number.exponent =
+    j.0 ∙ ap (λ xs. number.exponent ++ xs) (digits-none h.1 r.1.0) ∙ append-nil number.exponent in
     let some : is_nothing (exponent_in (h.0 ++ h.1)) ≡ false = ap is_nothing digits ∙ some-there number.exponent h.3.10 in
-    rw h.2 (rw some j.1, digits, rw some (ap trim_start (j.2 ∙ behind-none h.1 r.1.0) ∙ r.0), h.4.3, exponent-plain h.0 number.exponent h.1 number.down h.3)
+    rw h.2 (
+      rw some j.1,
+      digits,
+      rw some (ap trim_start (j.2 ∙ behind-none h.1 r.1.0) ∙ r.0),
+      h.4.3,
+      exponent-plain h.0 number.exponent h.1 number.down h.3,
+    )
 tail-read tail number (inr h) = at (is_nothing (exponent_in tail)) refl
   where
     at : (t : Bool) → is_nothing (exponent_in tail) ≡ t → IsRead tail number
-    at true is = let r = suffix-read tail number.suffix h.3 in (rw (is, h.1) refl, none-there (exponent_in tail) is ∙ sym h.2, rw is r.0, h.3.3, r.1)
+    at true is = let r = suffix-read tail number.suffix h.3 in
+        (rw (is, h.1) refl, none-there (exponent_in tail) is ∙ sym h.2, rw is r.0, h.3.3, r.1)
     at false is = let a = exponent-apart tail is in absurd (h.0 a.0 (behind_exponent tail) (exponent_in tail) (is_down tail) a.1 a.2)
 
 front-empty : (front behind : List ℕ) → front ≢ [] → front ++ behind ≡ [] → ⊥
@@ -157,7 +175,8 @@ front-empty [] behind some e = some refl
 front-empty (b ∷ front) behind some e = absurd cc
 
 -- what is read behind the mantissa is spelled there
-tail-spelled : (tail : List ℕ) (number : Parts) → is_down tail ≡ number.down → exponent_in tail ≡ number.exponent → trim_start (behind_exponent tail) ≡ number.suffix → begins_well number.suffix ≡ true
+tail-spelled : (tail : List ℕ) (number : Parts) → is_down tail ≡ number.down → exponent_in tail ≡ number.exponent
+    → trim_start (behind_exponent tail) ≡ number.suffix → begins_well number.suffix ≡ true
     → IsTail tail number
 tail-spelled tail number d x s w = at (is_nothing (exponent_in tail)) refl
   where
@@ -169,18 +188,21 @@ tail-spelled tail number d x s w = at (is_nothing (exponent_in tail)) refl
         let same : behind_exponent tail ≡ tail = rw is refl in
         let all : trim_start tail ≡ number.suffix = ap trim_start (sym same) ∙ s in
         let none : NoExponent tail = λ exponent behind digits minus e isE.
-        front-empty digits (digits_in behind) isE.10 (sym (exponent-joined exponent digits behind minus isE).0 ∙ ap exponent_in (sym e) ∙ none-there (exponent_in tail) is) in
+        front-empty digits (digits_in behind) isE.10
+        (sym (exponent-joined exponent digits behind minus isE).0 ∙ ap exponent_in (sym e) ∙ none-there (exponent_in tail) is) in
         inr (none, sym d ∙ rw is refl, sym x ∙ none-there (exponent_in tail) is, rw (← all) (suffix-spelled tail (ap begins_well all ∙ w)))
 
 -- no second sign begins what stands behind the sign
-mantissa-plain : (whole fraction digits tail : List ℕ) → AreDigits whole → IsFraction fraction digits → (whole ≢ []) ⊎ (digits ≢ []) → begins is_sign (whole ++ (fraction ++ tail)) ≡ false
+mantissa-plain : (whole fraction digits tail : List ℕ) → AreDigits whole → IsFraction fraction digits → (whole ≢ []) ⊎ (digits ≢ [])
+    → begins is_sign (whole ++ (fraction ++ tail)) ≡ false
 mantissa-plain (b ∷ whole) fraction digits tail w f some = (some-digits (b ∷ whole) (fraction ++ tail) w (λ e. absurd cc)).1
 mantissa-plain [] fraction digits tail w f (inl some) = absurd (some refl)
 mantissa-plain [] fraction digits tail w (inl f) (inr some) = absurd (some f.1)
 mantissa-plain [] fraction digits tail w (inr f) (inr some) = rw f.0 refl
 
 -- nor a digit what stands behind the digits
-fraction-plain : (fraction digits tail : List ℕ) → IsFraction fraction digits → begins is_ascii_digit tail ≡ false → begins is_ascii_digit (fraction ++ tail) ≡ false
+fraction-plain : (fraction digits tail : List ℕ) → IsFraction fraction digits → begins is_ascii_digit tail ≡ false
+    → begins is_ascii_digit (fraction ++ tail) ≡ false
 fraction-plain fraction digits tail (inl f) h = rw f.0 h
 fraction-plain fraction digits tail (inr f) h = rw f.0 refl
 
@@ -197,7 +219,8 @@ there-digits [] (b ∷ fraction) h = inr (λ e. absurd cc)
 there-digits [] [] h = absurd cc
 
 -- the parts of a number, one by one
-same-parts : (number : Parts) (negative down : Bool) (whole fraction exponent suffix : List ℕ) → negative ≡ number.negative → whole ≡ number.whole → fraction ≡ number.fraction → down ≡ number.down
+same-parts : (number : Parts) (negative down : Bool) (whole fraction exponent suffix : List ℕ) → negative ≡ number.negative
+    → whole ≡ number.whole → fraction ≡ number.fraction → down ≡ number.down
     → exponent ≡ number.exponent → suffix ≡ number.suffix
     → record { negative = negative; whole = whole; fraction = fraction; down = down; exponent = exponent; suffix = suffix } ≡ number
 same-parts number negative down whole fraction exponent suffix n w f d x s = rw (n, w, f, d, x, s) refl
@@ -207,15 +230,19 @@ spelled-read : (text : List ℕ) (number : Parts) → Spells text number → (is
 spelled-read text number s =
     let (sign, fraction, tail, e, isSign, isWhole, isFraction, some, isTail) = s in
     let t = tail-read tail number isTail in
-    let signed = sign-joined sign (number.whole ++ (fraction ++ tail)) number.negative isSign (mantissa-plain number.whole fraction number.fraction tail isWhole isFraction some) in
+    let signed = sign-joined sign (number.whole ++ (fraction ++ tail)) number.negative isSign
+    (mantissa-plain number.whole fraction number.fraction tail isWhole isFraction some) in
     let plain = fraction-plain fraction number.fraction tail isFraction t.4.0 in
     let behind : behind_sign text ≡ number.whole ++ (fraction ++ tail) = ap behind_sign e ∙ signed.1 in
     let whole : digits_in (behind_sign text) ≡ number.whole =
-    ap digits_in behind ∙ digits-joined number.whole (fraction ++ tail) isWhole ∙ ap (λ xs. number.whole ++ xs) (digits-none (fraction ++ tail) plain) ∙ append-nil number.whole in
-    let mantissa : behind_whole text ≡ fraction ++ tail = ap behind_digits behind ∙ behind-joined number.whole (fraction ++ tail) isWhole ∙ behind-none (fraction ++ tail) plain in
+    ap digits_in behind ∙ digits-joined number.whole (fraction ++ tail) isWhole
+    ∙ ap (λ xs. number.whole ++ xs) (digits-none (fraction ++ tail) plain) ∙ append-nil number.whole in
+    let mantissa : behind_whole text ≡ fraction ++ tail =
+    ap behind_digits behind ∙ behind-joined number.whole (fraction ++ tail) isWhole ∙ behind-none (fraction ++ tail) plain in
     let f = fraction-joined fraction number.fraction tail isFraction t.4.0 t.4.1 in
     let rest : behind_mantissa text ≡ tail = ap behind_fraction mantissa ∙ f.1 in
-    let same : parts text ≡ number = same-parts number _ _ _ _ _ _ (ap has_minus e ∙ signed.0) whole (ap fraction_in mantissa ∙ f.0) (ap is_down rest ∙ t.0) (ap exponent_in rest ∙ t.1)
+    let same : parts text ≡ number = same-parts number _ _ _ _ _ _ (ap has_minus e ∙ signed.0) whole (ap fraction_in mantissa ∙ f.0)
+    (ap is_down rest ∙ t.0) (ap exponent_in rest ∙ t.1)
     (ap (λ xs. trim_start (behind_exponent xs)) rest ∙ t.2) in
     let found : is_spelled number ≡ true = rw (digits-there number.whole number.fraction some) t.3 in
     (subst (λ n. is_spelled n ≡ true) (sym same) found, same)
@@ -223,7 +250,7 @@ spelled-read text number s =
 -- what is read is spelled
 read-spelled : (text : List ℕ) → is_spelled (parts text) ≡ true → Spells text (parts text)
 read-spelled text h =
-    let b = both _ _ h in
+    let b = and_parts _ _ h in
     let s = sign-apart text in
     let d = digits-apart (behind_sign text) in
     let f = fraction-apart (behind_whole text) in (

@@ -9,7 +9,8 @@ use Rattle.sv_errors.specs.declared.code.Code.TheVariants.{SyntaxError, InvalidC
 -- H, Q or B, in either case
 abbrev pub base_of : ℕ → Option ℕ
 base_of letter =
-    if letter == 72 || letter == 104 then Some 16 else if letter == 81 || letter == 113 then Some 8 else if letter == 66 || letter == 98 then Some 2 else None
+    if letter == 72 || letter == 104 then Some 16 else if letter == 81 || letter == 113 then Some 8 else if letter == 66 || letter == 98
+    then Some 2 else None
 
 abbrev pub begins_with_digit : ℕ → List ℕ → Bool
 begins_with_digit base [] = false

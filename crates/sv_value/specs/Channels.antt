@@ -3,6 +3,7 @@ use Rattle.std.specs.Prelude.{ℕ, ◌+◌, ◌-◌, ◌==◌, ◌&&◌, not, Bo
 use Rattle.std.specs.List.{list_all, range_with_len}
 use Rattle.std.specs.Char.{is_ascii_digit}
 use Rattle.std.specs.Str.Parse.{digits_value}
+use Rattle.sv_errors.specs.Limits.{is_channel}
 use Rattle.sv_errors.specs.declared.code.Code.{Code}
 use Rattle.sv_errors.specs.declared.code.Code.TheVariants.{DataOutOfRange, TooMuchData, InvalidExpression}
 use Rattle.sv_text.specs.White.{trim}
@@ -43,15 +44,12 @@ span_of (a ∷ b ∷ c ∷ others) = None
 abbrev pub span : List ℕ → Option Span
 span item = span_of (cut_at 58 item)
 
-abbrev pub is_channel : ℕ → Bool
-is_channel n = nat_le 1 n && nat_le n 32
-
 -- the channels from one end to the other, upwards or downwards
 abbrev pub run : ℕ → ℕ → List ℕ
 run first last = if nat_le first last then range_with_len first (last - first + 1) else reverse (range_with_len last (first - last + 1))
 
--- the channels of an item behind others, and those of the items behind it; or what is wrong with it: an end that is no channel, then more than
--- 32 channels so far. An item that is no span was refused before.
+-- the channels of an item behind others, and those of the items behind it; or what is wrong with it: an end that is no channel, then more
+-- than 32 channels so far. An item that is no span was refused before.
 abbrev pub next : Option Span → List ℕ → (List ℕ → Result (List ℕ) Code) → Result (List ℕ) Code
 next None before others = Err InvalidExpression
 next (Some ends) before others =
@@ -66,7 +64,8 @@ listed before (item ∷ items) = next (span item) before (λ so_far. listed so_f
 
 abbrev read_items : Option (List ℕ) → Result (List ℕ) Code
 read_items None = Err InvalidExpression
-read_items (Some text) = if list_all (λ item. is_some (span item)) (cut_at 44 text) then listed [] (cut_at 44 text) else Err InvalidExpression
+read_items (Some text) = if list_all (λ item. is_some (span item)) (cut_at 44 text) then listed []
+    (cut_at 44 text) else Err InvalidExpression
 
 -- the channels of a list, or what is wrong with it
 abbrev pub read_list : List ℕ → Result (List ℕ) Code

@@ -19,7 +19,8 @@ left number = if number.down then digits_value 10 number.exponent else 0
 
 -- a number without its sign, in a unit of which the power of ten make its own: its digits over a power of ten, rounded
 abbrev pub magnitude : ℕ → Parts → ℕ
-magnitude power number = nearest (digits_value 10 (number.whole ++ number.fraction) * 10 ^ (power + right number)) (10 ^ (length number.fraction + left number))
+magnitude power number = nearest (digits_value 10 (number.whole ++ number.fraction) * 10 ^ (power + right number))
+    (10 ^ (length number.fraction + left number))
 
 abbrev pub signed : Bool → ℕ → ℤ
 signed true n = neg_ℤ (pos n)

@@ -20,7 +20,8 @@ plain number = record {
 
 -- An amount stands for an answer that is a number: the same sign, and the same magnitude up to the bound.
 abbrev pub StandsFor : Amount → Result ℤ Code → Type 0
-StandsFor amount answer = (magnitude : ℕ) × (answer ≡ Ok (signed amount.negative magnitude)) × (amount.magnitude ≡ min magnitude 1000000000000000000)
+StandsFor amount answer = (magnitude : ℕ) × (answer ≡ Ok (signed amount.negative magnitude))
+    × (amount.magnitude ≡ min magnitude 1000000000000000000)
 
 -- a number of a channel list, up to the bound
 abbrev pub number_up_to : List ℕ → Option ℕ

@@ -34,12 +34,14 @@ IsSuffix text suffix = (space : List ℕ) × (text ≡ space ++ suffix) × IsSpa
 
 -- an exponent and a suffix, or a suffix that no exponent begins
 abbrev pub IsTail : List ℕ → Parts → Type 0
-IsTail text number = ((exponent behind : List ℕ) × (text ≡ exponent ++ behind) × IsExponent exponent number.down number.exponent × IsSuffix behind number.suffix)
+IsTail text number = ((exponent behind : List ℕ) × (text ≡ exponent ++ behind) × IsExponent exponent number.down number.exponent
+    × IsSuffix behind number.suffix)
     ⊎ (NoExponent text × (number.down ≡ false) × (number.exponent ≡ []) × IsSuffix text number.suffix)
 
 -- A number: a sign, digits, a point and digits, of which there has to be one; then an exponent and a suffix.
 abbrev pub Spells : List ℕ → Parts → Type 0
-Spells text number = (sign fraction tail : List ℕ) × (text ≡ sign ++ (number.whole ++ (fraction ++ tail))) × IsSign sign number.negative × AreDigits number.whole
+Spells text number = (sign fraction tail : List ℕ) × (text ≡ sign ++ (number.whole ++ (fraction ++ tail))) × IsSign sign number.negative
+    × AreDigits number.whole
     × IsFraction fraction number.fraction × ((number.whole ≢ []) ⊎ (number.fraction ≢ [])) × IsTail tail number
 
 -- A text spells a number exactly if it is found to be spelled as one, and its parts are then the pieces.

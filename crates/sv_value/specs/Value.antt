@@ -1,5 +1,6 @@
 -- What the value of a parameter is, by its kind, or which error it is.
 use Rattle.std.specs.Prelude.{ℕ, ℤ, pos, negsuc, neg_ℤ, int_le, nat_le, ◌&&◌, ◌==◌, Bool, true, false, List, codes, Option, Some, None, Result, Ok, Err, if◌then◌else◌}
+use Rattle.sv_errors.specs.Limits.{most_microvolts}
 use Rattle.sv_errors.specs.declared.code.Code.{Code}
 use Rattle.sv_errors.specs.declared.code.Code.TheVariants.{SyntaxError, DataTypeError, InvalidSuffix, SuffixNotAllowed, DataOutOfRange}
 use Rattle.sv_lexer.specs.declared.token.Kind.{Kind}
@@ -36,7 +37,7 @@ wrong_kind Expression = DataTypeError
 -- up to 1,000 V in magnitude
 abbrev pub within_volts : Result ℤ Code → Result ℤ Code
 within_volts (Err code) = Err code
-within_volts (Ok value) = if int_le (neg_ℤ (pos 1000000000)) value && int_le value (pos 1000000000) then Ok value else Err DataOutOfRange
+within_volts (Ok value) = if int_le (neg_ℤ (pos most_microvolts)) value && int_le value (pos most_microvolts) then Ok value else Err DataOutOfRange
 
 -- a voltage, in microvolts
 abbrev pub read_voltage : Kind → List ℕ → Result ℤ Code

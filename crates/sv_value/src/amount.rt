@@ -11,16 +11,13 @@ ghost use Rattle.sv_value.specs.Value.{is_on, within, within_volts};
 use crate::decimal::Decimal;
 use crate::digits::value_after;
 use crate::number::magnitude;
-use sv_errors::Code;
+use sv_errors::{Code, MOST_MICROVOLTS};
 
 /// The most digits of a mantissa, without the zeros in front.
 const MOST_DIGITS: usize = 255;
 
 /// The largest magnitude of an exponent.
 const MOST_EXPONENT: u64 = 32_000;
-
-/// The largest magnitude of a voltage, in microvolts.
-const MOST_MICROVOLTS: u64 = 1_000_000_000;
 
 /// A whole number, counted to a bound that is past every range.
 #[derive(Clone, Copy, Debug)]
@@ -41,7 +38,9 @@ impl Amount {
         requires power { IfSome power (λ p. p ≤ 9) }
         requires whole { list_all is_ascii_digit number.now.whole.now ≡ true }
         requires fraction { list_all is_ascii_digit number.now.fraction.now ≡ true }
-        ensures { MatchResult result (λ amount. StandsFor amount (read_with power suffix_code (plain number.now))) (λ code. read_with power suffix_code (plain number.now) ≡ Err code) }
+        ensures { MatchResult result
+            (λ amount. StandsFor amount (read_with power suffix_code (plain number.now)))
+            (λ code. read_with power suffix_code (plain number.now) ≡ Err code) }
     {
         if !number.is_spelled() {
             return Err(Code::InvalidCharacterInNumber);
@@ -63,9 +62,10 @@ impl Amount {
 
     /// The voltage, in microvolts, where it is within 1,000 V.
     pub(crate) fn in_volts(self) -> Result<i64, Code>
-        ensures { (answer : Result ℤ ErrorCode) → StandsFor self answer → result ≡ within_volts answer }
+        ensures { (answer : Result ℤ ErrorCode) → StandsFor self answer
+            → result ≡ within_volts answer }
     {
-        if self.magnitude > MOST_MICROVOLTS {
+        if self.magnitude > u64::from(MOST_MICROVOLTS) {
             return Err(Code::DataOutOfRange);
         }
         let value = self.magnitude as i64;
@@ -74,7 +74,8 @@ impl Amount {
 
     /// The number, where it is from the lowest to the highest.
     pub(crate) fn in_range(self, low: u16, high: u16) -> Result<u16, Code>
-        ensures { (answer : Result ℤ ErrorCode) → StandsFor self answer → result ≡ within low high answer }
+        ensures { (answer : Result ℤ ErrorCode) → StandsFor self answer
+            → result ≡ within low high answer }
     {
         let below = self.negative && self.magnitude > 0 || self.magnitude < u64::from(low);
         if below || self.magnitude > u64::from(high) {

@@ -12,7 +12,8 @@ use sv_errors::Code;
 
 /// The number that a number sign, a letter for the base and digits are, or what is wrong with them.
 pub(crate) fn based(text: &[u8]) -> Result<Amount, Code>
-    ensures { MatchResult result (λ amount. StandsFor amount (read_based text.now)) (λ code. read_based text.now ≡ Err code) }
+    ensures { MatchResult result (λ amount. StandsFor amount (read_based text.now))
+        (λ code. read_based text.now ≡ Err code) }
 {
     let [_, letter, digits @ ..] = text else {
         return Err(Code::SyntaxError);
@@ -40,7 +41,8 @@ fn base_of(letter: u8) -> Option<u8>
 fn in_base(base: u8, digits: &[u8]) -> Result<Amount, Code>
     requires low { 2 ≤ base }
     requires high { base ≤ 16 }
-    ensures { MatchResult result (λ amount. StandsFor amount (read_digits (Some base) digits.now)) (λ code. read_digits (Some base) digits.now ≡ Err code) }
+    ensures { MatchResult result (λ amount. StandsFor amount (read_digits (Some base) digits.now))
+        (λ code. read_digits (Some base) digits.now ≡ Err code) }
 {
     if !begins_well(base, digits) {
         return Err(Code::SyntaxError);

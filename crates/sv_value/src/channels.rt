@@ -5,12 +5,12 @@ ghost use Rattle.std.specs.Char.{is_ascii_digit};
 ghost use Rattle.std.specs.List.{list_all};
 ghost use Rattle.sv_errors.specs.declared.code.Code.{Code as ErrorCode};
 ghost use Rattle.sv_text.specs.Cut.{cut_at};
-ghost use Rattle.sv_value.specs.Channels.{inner as inner_of, is_channel, listed as listed_behind, next, read_list, run, span as ends, span_of};
+ghost use Rattle.sv_value.specs.Channels.{inner as inner_of, listed as listed_behind, next, read_list, run, span as ends, span_of};
 ghost use Rattle.sv_value.specs.Plain.{ends_up_to, number_up_to};
 
 use crate::digits::value_after;
 use arrayvec::ArrayVec;
-use sv_errors::Code;
+use sv_errors::{Code, is_channel};
 use sv_text::{first_part, trim};
 
 /// The most channels of a list.
@@ -25,7 +25,8 @@ struct Span {
 
 /// The channels of a list, or what is wrong with it.
 pub(crate) fn channels_of(text: &[u8]) -> Result<ArrayVec<u8, 32>, Code>
-    ensures { MatchResult result (λ list. read_list text.now ≡ Ok list.items) (λ code. read_list text.now ≡ Err code) }
+    ensures { MatchResult result (λ list. read_list text.now ≡ Ok list.items)
+        (λ code. read_list text.now ≡ Err code) }
 {
     match inner(text) {
         Some(items) if are_spans(items) => listed(items),
@@ -35,7 +36,8 @@ pub(crate) fn channels_of(text: &[u8]) -> Result<ArrayVec<u8, 32>, Code>
 
 /// What stands between `(@` and `)`.
 fn inner(text: &[u8]) -> Option<&[u8]>
-    ensures { MatchOption result (inner_of text.now ≡ None) (λ found. inner_of text.now ≡ Some found.now) }
+    ensures { MatchOption result (inner_of text.now ≡ None)
+        (λ found. inner_of text.now ≡ Some found.now) }
 {
     match text {
         [b'(', b'@', inner @ .., b')'] => Some(inner),
@@ -59,7 +61,8 @@ fn are_spans(items: &[u8]) -> bool
 
 /// The channels of all items, or what is wrong with the first that is at fault.
 fn listed(items: &[u8]) -> Result<ArrayVec<u8, 32>, Code>
-    ensures { MatchResult result (λ list. listed_behind [] (cut_at 44 items.now) ≡ Ok list.items) (λ code. listed_behind [] (cut_at 44 items.now) ≡ Err code) }
+    ensures { MatchResult result (λ list. listed_behind [] (cut_at 44 items.now) ≡ Ok list.items)
+        (λ code. listed_behind [] (cut_at 44 items.now) ≡ Err code) }
 {
     let mut list = ArrayVec::new();
     let mut rest = items;
@@ -74,13 +77,15 @@ fn listed(items: &[u8]) -> Result<ArrayVec<u8, 32>, Code>
 /// Adds the channels of an item, or tells what is wrong with it.
 fn add(list: &mut ArrayVec<u8, 32>, item: &[u8]) -> Result<(), Code>
     ensures { MatchResult result
-        (λ done. (others : List ℕ → Result (List ℕ) ErrorCode) → next (ends item.now) list.old.items others ≡ others list.new.items)
-        (λ code. (others : List ℕ → Result (List ℕ) ErrorCode) → next (ends item.now) list.old.items others ≡ Err code) }
+        (λ done. (others : List ℕ → Result (List ℕ) ErrorCode)
+        → next (ends item.now) list.old.items others ≡ others list.new.items)
+        (λ code. (others : List ℕ → Result (List ℕ) ErrorCode)
+        → next (ends item.now) list.old.items others ≡ Err code) }
 {
     let Some(span) = ends_of(item) else {
         return Err(Code::InvalidExpression);
     };
-    if !is_one(span.first) || !is_one(span.last) {
+    if !is_channel(span.first) || !is_channel(span.last) {
         return Err(Code::DataOutOfRange);
     }
     let (first, last) = (span.first as u8, span.last as u8);
@@ -89,13 +94,6 @@ fn add(list: &mut ArrayVec<u8, 32>, item: &[u8]) -> Result<(), Code>
     }
     push_run(list, first, last);
     Ok(())
-}
-
-/// Whether a number is a channel's.
-fn is_one(number: u64) -> bool
-    ensures { result ≡ is_channel number }
-{
-    (1..=32).contains(&number)
 }
 
 /// Pushes the channels from one end to the other, upwards or downwards.

@@ -48,7 +48,8 @@ impl<'a> Decimal<'a> {
         }
     }
 
-    /// Whether it is spelled as a number: it has a digit, and what stands behind begins with a letter.
+    /// Whether it is spelled as a number: it has a digit, and what stands behind begins with a
+    /// letter.
     pub(crate) fn is_spelled(&self) -> bool
         ensures { result ≡ is_spelled_number (plain self.now) }
     {
@@ -91,8 +92,8 @@ fn fraction(text: &[u8]) -> (&[u8], &[u8])
     }
 }
 
-/// Whether the exponent in front is negative, its digits, and what stands behind them; no digits where
-/// there is no exponent.
+/// Whether the exponent in front is negative, its digits, and what stands behind them; no digits
+/// where there is no exponent.
 fn exponent(text: &[u8]) -> (bool, &[u8], &[u8])
     ensures minus { result.0 ≡ is_down text.now }
     ensures digits { result.1.now ≡ exponent_in text.now }

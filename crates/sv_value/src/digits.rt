@@ -9,7 +9,8 @@ ghost use Rattle.sv_value.specs.Decimal.{behind_digits, digits_in, digits_size};
 /// The most that a value is counted to: more than any range has.
 pub(crate) const MOST: u64 = 1_000_000_000_000_000_000;
 
-/// The value that digits of a base write when they follow those of a value, or [`MOST`] where it is more.
+/// The value that digits of a base write when they follow those of a value, or [`MOST`] where it is
+/// more.
 pub(crate) fn value_after(base: u8, front: u64, digits: &[u8]) -> u64
     requires base { base ≤ 16 }
     requires some { 1 ≤ base }

@@ -8,8 +8,8 @@ pub fn printed_is_read()
     ensures { PrintedIsRead }
 {}
 
-/// A text counts as spelled as a decimal number exactly if it is joined of the pieces of one, and its
-/// parts are those pieces (IEEE 488.2, 7.7.2 and 7.7.3).
+/// A text counts as spelled as a decimal number exactly if it is joined of the pieces of one, and
+/// its parts are those pieces (IEEE 488.2, 7.7.2 and 7.7.3).
 pub fn read_as_spelled()
     ensures { ReadAsSpelled }
 {}

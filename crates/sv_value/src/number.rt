@@ -1,5 +1,5 @@
-//! The value of a decimal number, without numbers larger than a machine's: where it is past every range,
-//! it is [`MOST`].
+//! The value of a decimal number, without numbers larger than a machine's: where it is past every
+//! range, it is [`MOST`].
 
 ghost use Rattle.std.specs.Prelude.{◌≡◌, ◌≤◌, ◌<◌, ◌*◌, ◌^◌, ◌+◌, ◌++◌, true, min, length, take, slice_index_or, nat_le, if◌then◌else◌};
 ghost use Rattle.std.specs.Char.{digit_value, is_ascii_digit};
@@ -11,8 +11,8 @@ ghost use Rattle.sv_value.specs.Plain.{plain};
 use crate::decimal::Decimal;
 use crate::digits::{MOST, value_after, value_of};
 
-/// A number without its sign, rounded to the nearest unit of which the power of ten make its own, half
-/// up; or [`MOST`] where it is more.
+/// A number without its sign, rounded to the nearest unit of which the power of ten make its own,
+/// half up; or [`MOST`] where it is more.
 pub(crate) fn magnitude(number: &Decimal<'_>, power: u64) -> u64
     requires power { power ≤ 9 }
     requires moved { digits_value 10 number.now.exponent.now ≤ 32000 }
@@ -60,13 +60,14 @@ fn shifted(value: u64, tens: u64) -> u64
     MOST.min(value.saturating_mul(10_u64.pow(tens as u32)))
 }
 
-/// The digits in front of the last so many, plus one where what is left out is half or more; or [`MOST`]
-/// where it is more.
+/// The digits in front of the last so many, plus one where what is left out is half or more; or
+/// [`MOST`] where it is more.
 fn rounded(whole: &[u8], fraction: &[u8], left_out: u64) -> u64
     requires some { 1 ≤ left_out }
     requires whole { list_all is_ascii_digit whole.now ≡ true }
     requires fraction { list_all is_ascii_digit fraction.now ≡ true }
-    ensures { result ≡ min (nearest (digits_value 10 (whole.now ++ fraction.now)) (10 ^ left_out)) 1000000000000000000 }
+    ensures { result ≡ min (nearest (digits_value 10 (whole.now ++ fraction.now)) (10 ^ left_out))
+        1000000000000000000 }
 {
     let count = whole.len() as u64 + fraction.len() as u64;
     if left_out > count {
@@ -86,7 +87,8 @@ fn carry(digit: u8) -> u64
 /// The value of the first so many digits, or [`MOST`] where it is more; and the digit behind them.
 fn front_of(whole: &[u8], fraction: &[u8], kept: usize) -> (u64, u8)
     requires { kept < length whole.now + length fraction.now }
-    ensures front { result.0 ≡ min (digits_value 10 (take kept (whole.now ++ fraction.now))) 1000000000000000000 }
+    ensures front { result.0 ≡ min (digits_value 10 (take kept (whole.now ++ fraction.now)))
+        1000000000000000000 }
     ensures next { result.1 ≡ digit_value (slice_index_or (whole.now ++ fraction.now) kept 0) }
 {
     if kept < whole.len() {

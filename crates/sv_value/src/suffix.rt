@@ -5,8 +5,8 @@ ghost use Rattle.sv_value.specs.Value.{power_of_none, power_of_volts};
 
 use crate::choice::is_same;
 
-/// How many powers of ten a unit of voltage is above the microvolt; none where the suffix names no such
-/// unit. No suffix is volts.
+/// How many powers of ten a unit of voltage is above the microvolt; none where the suffix names no
+/// such unit. No suffix is volts.
 pub(crate) fn volts(suffix: &[u8]) -> Option<u64>
     ensures { result ≡ power_of_volts suffix.now }
 {

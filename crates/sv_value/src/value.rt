@@ -22,9 +22,9 @@ use sv_lexer::{Kind, Token};
 /// microvolt, half away from zero.
 ///
 /// # Errors
-/// [`Code::SyntaxError`] or [`Code::DataTypeError`] for other data; [`Code::InvalidCharacterInNumber`],
-/// [`Code::InvalidSuffix`], [`Code::TooManyDigits`], [`Code::ExponentTooLarge`], [`Code::DataOutOfRange`],
-/// the first of these.
+/// [`Code::SyntaxError`] or [`Code::DataTypeError`] for other data;
+/// [`Code::InvalidCharacterInNumber`], [`Code::InvalidSuffix`], [`Code::TooManyDigits`],
+/// [`Code::ExponentTooLarge`], [`Code::DataOutOfRange`], the first of these.
 pub fn microvolts(token: &Token<'_>) -> Result<i64, Code>
     ensures { result ≡ read_voltage token.now.kind token.now.text.now }
 {
@@ -34,14 +34,15 @@ pub fn microvolts(token: &Token<'_>) -> Result<i64, Code>
     }
 }
 
-/// A whole number from the lowest to the highest: a decimal number that is rounded to the nearest, half
-/// away from zero, or digits in another base.
+/// A whole number from the lowest to the highest: a decimal number that is rounded to the nearest,
+/// half away from zero, or digits in another base.
 ///
 /// # Errors
-/// [`Code::SyntaxError`] or [`Code::DataTypeError`] for other data; [`Code::InvalidCharacterInNumber`],
-/// [`Code::SuffixNotAllowed`], [`Code::TooManyDigits`], [`Code::ExponentTooLarge`],
-/// [`Code::DataOutOfRange`], the first of these; in another base [`Code::SyntaxError`] without a digit in
-/// front, [`Code::InvalidCharacterInNumber`], [`Code::DataOutOfRange`].
+/// [`Code::SyntaxError`] or [`Code::DataTypeError`] for other data;
+/// [`Code::InvalidCharacterInNumber`], [`Code::SuffixNotAllowed`], [`Code::TooManyDigits`],
+/// [`Code::ExponentTooLarge`], [`Code::DataOutOfRange`], the first of these; in another base
+/// [`Code::SyntaxError`] without a digit in front, [`Code::InvalidCharacterInNumber`],
+/// [`Code::DataOutOfRange`].
 pub fn whole(token: &Token<'_>, low: u16, high: u16) -> Result<u16, Code>
     ensures { result ≡ read_whole low high token.now.kind token.now.text.now }
 {
@@ -56,12 +57,13 @@ pub fn whole(token: &Token<'_>, low: u16, high: u16) -> Result<u16, Code>
     }
 }
 
-/// A boolean: `ON` or `OFF` in any case, or a number of any size, rounded; 0 is off, all others are on.
+/// A boolean: `ON` or `OFF` in any case, or a number of any size, rounded; 0 is off, all others are
+/// on.
 ///
 /// # Errors
 /// Those of a number, without its range; [`Code::InvalidCharacterData`] and
-/// [`Code::IllegalParameterValue`] of character data; [`Code::SyntaxError`] or [`Code::DataTypeError`] for
-/// other data.
+/// [`Code::IllegalParameterValue`] of character data; [`Code::SyntaxError`] or
+/// [`Code::DataTypeError`] for other data.
 pub fn boolean(token: &Token<'_>) -> Result<bool, Code>
     ensures { result ≡ read_boolean token.now.kind token.now.text.now }
 {
@@ -77,12 +79,13 @@ pub fn boolean(token: &Token<'_>) -> Result<bool, Code>
     }
 }
 
-/// Where triggers come from: `IMMediate`, `BUS` or `EXTernal`, in short or long form and in any case.
+/// Where triggers come from: `IMMediate`, `BUS` or `EXTernal`, in short or long form and in any
+/// case.
 ///
 /// # Errors
 /// [`Code::InvalidCharacterData`] where a byte is no letter, digit or underscore;
-/// [`Code::IllegalParameterValue`] for another word; [`Code::SyntaxError`] or [`Code::DataTypeError`] for
-/// other data.
+/// [`Code::IllegalParameterValue`] for another word; [`Code::SyntaxError`] or
+/// [`Code::DataTypeError`] for other data.
 pub fn keyword(token: &Token<'_>) -> Result<Keyword, Code>
     ensures { result ≡ read_source token.now.kind token.now.text.now }
 {
@@ -96,10 +99,12 @@ pub fn keyword(token: &Token<'_>) -> Result<Keyword, Code>
 ///
 /// # Errors
 /// [`Code::InvalidExpression`] where it isn't spelled so, then, from the left,
-/// [`Code::DataOutOfRange`] where an end of an item is no channel and [`Code::TooMuchData`] where there
-/// are more than 32 channels so far; [`Code::SyntaxError`] or [`Code::DataTypeError`] for other data.
+/// [`Code::DataOutOfRange`] where an end of an item is no channel and [`Code::TooMuchData`] where
+/// there are more than 32 channels so far; [`Code::SyntaxError`] or [`Code::DataTypeError`] for
+/// other data.
 pub fn channel_list(token: &Token<'_>) -> Result<ArrayVec<u8, 32>, Code>
-    ensures { MatchResult result (λ list. read_channels token.now.kind token.now.text.now ≡ Ok list.items) (λ code. read_channels token.now.kind token.now.text.now ≡ Err code) }
+    ensures { MatchResult result (λ list. read_channels token.now.kind token.now.text.now
+        ≡ Ok list.items) (λ code. read_channels token.now.kind token.now.text.now ≡ Err code) }
 {
     match token.kind {
         Kind::Expression => channels_of(token.text),
@@ -120,7 +125,9 @@ fn voltage(text: &[u8]) -> Result<i64, Code>
 
 /// The number that a decimal number without a unit is.
 fn unitless(text: &[u8]) -> Result<Amount, Code>
-    ensures { MatchResult result (λ amount. StandsFor amount (read_decimal power_of_none SuffixNotAllowed text.now)) (λ code. read_decimal power_of_none SuffixNotAllowed text.now ≡ Err code) }
+    ensures { MatchResult result (λ amount. StandsFor amount
+        (read_decimal power_of_none SuffixNotAllowed text.now))
+        (λ code. read_decimal power_of_none SuffixNotAllowed text.now ≡ Err code) }
 {
     let number = Decimal::of(text);
     Amount::of(&number, suffix::none(number.suffix), Code::SuffixNotAllowed)

@@ -8,9 +8,9 @@ use itoa::Buffer;
 /// How many microvolts a volt has.
 const VOLT: u64 = 1_000_000;
 
-/// Prints a voltage of so many microvolts, up to 1,000 V in magnitude: a sign (`+` for 0), whole volts, a
-/// point and six digits. Writes it at the front of at least 16 bytes, and tells how many it
-/// took, at most 12.
+/// Prints a voltage of so many microvolts, up to 1,000 V in magnitude: a sign (`+` for 0), whole
+/// volts, a point and six digits. Writes it at the front of at least 16 bytes, and tells how many
+/// it took, at most 12.
 #[tactic(auto, using(crate::proofs::Printed::volts_short))]
 pub fn write_microvolts(value: i64, out: &mut [u8]) -> usize
     requires room { 16 ≤ length out.old }
@@ -39,7 +39,8 @@ fn put_six(out: &mut [u8], place: usize, number: u64) -> usize
     requires small { number < 1000000 }
     requires room { place + 6 ≤ length out.old }
     ensures place { result ≡ place + 6 }
-    ensures text { (text rest : List ℕ) → length text ≡ place → out.old ≡ text ++ rest → out.new ≡ text ++ (six_digits number ++ drop 6 rest) }
+    ensures text { (text rest : List ℕ) → length text ≡ place → out.old ≡ text ++ rest
+        → out.new ≡ text ++ (six_digits number ++ drop 6 rest) }
 {
     let mut buffer = Buffer::new();
     let digits = buffer.format(number).as_bytes();
@@ -53,7 +54,8 @@ fn put(out: &mut [u8], place: usize, bytes: &[u8]) -> usize
     requires { place + length bytes.now ≤ length out.old }
     ensures place { result ≡ place + length bytes.now }
     ensures same { length out.new ≡ length out.old }
-    ensures text { (text rest : List ℕ) → length text ≡ place → out.old ≡ text ++ rest → out.new ≡ text ++ (bytes.now ++ drop (length bytes.now) rest) }
+    ensures text { (text rest : List ℕ) → length text ≡ place → out.old ≡ text ++ rest
+        → out.new ≡ text ++ (bytes.now ++ drop (length bytes.now) rest) }
 {
     let behind = place + bytes.len();
     out[place..behind].copy_from_slice(bytes);

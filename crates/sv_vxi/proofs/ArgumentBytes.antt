@@ -12,7 +12,8 @@ use Rattle.sv_vxi.specs.Reading.{any_length, create_link_at, device_write_at, de
 use Rattle.sv_vxi.proofs.Spelled.{arguments_read}
 
 -- the value of a step that did not fail
-bind_ok : {A : Type 0} (r : Result A XdrFault) (f : A → Result Arguments Garbage) (a : Arguments) → (r >>= f) ≡ Ok a → (x : A) × (r ≡ Ok x) × (f x ≡ Ok a)
+bind_ok : {A : Type 0} (r : Result A XdrFault) (f : A → Result Arguments Garbage) (a : Arguments) → (r >>= f) ≡ Ok a
+    → (x : A) × (r ≡ Ok x) × (f x ≡ Ok a)
 bind_ok (Ok x) f a e = (x, refl, e)
 bind_ok (Err fault) f a e = absurd cc
 
@@ -83,7 +84,18 @@ device_docmd_takes bytes a fits e =
     step Boolean boolean_at boolean_takes l5 _ a fits5 e5 (λ network_order l6 b6 fits6 e6.
     step Signed signed_at signed_takes l6 _ a fits6 e6 (λ datasize l7 b7 fits7 e7.
     step Opaque (opaque_at any_length) text_takes l7 _ a fits7 e7 (λ text l8 b8 fits8 e8.
-    subst (ArgumentsAre 22 bytes) e8 (refl, l8, (tt, (l1, b1, (l2, b2, (l3, b3, (l4, b4, (l5, b5, (l6, b6, (l7, b7, (l8, b8, refl))))))))))))))))))
+    subst (ArgumentsAre 22 bytes) e8 (
+      refl,
+      l8,
+      (
+        tt,
+        (
+          l1,
+          b1,
+          (l2, b2, (l3, b3, (l4, b4, (l5, b5, (l6, b6, (l7, b7, (l8, b8, refl))))))),
+        ),
+      ),
+    )))))))))
 
 create_intr_chan_takes : Takes 25 create_intr_chan_at
 unfolding create_intr_chan_at
@@ -106,7 +118,8 @@ device_enable_srq_takes bytes a fits e =
 
 -- of the calls of one shape: fields that are spelled are the arguments of this one
 generic_takes : (proc : ℕ)
-    → ((lid : ℤ) (flags lock_timeout io_timeout : ℕ) (bytes after : List ℕ) → BeginsAll bytes (generic_fields lid flags lock_timeout io_timeout) after
+    → ((lid : ℤ) (flags lock_timeout io_timeout : ℕ) (bytes after : List ℕ)
+    → BeginsAll bytes (generic_fields lid flags lock_timeout io_timeout) after
     → ArgumentsAre proc bytes (Ok (generic proc lid flags lock_timeout io_timeout)))
     → Takes proc (generic_at proc)
 unfolding generic_at
@@ -117,13 +130,16 @@ generic_takes proc is bytes a fits e =
     step Unsigned unsigned_at unsigned_takes l3 _ a fits3 e3 (λ io_timeout l4 b4 fits4 e4.
     subst (ArgumentsAre proc bytes) e4 (is lid flags lock_timeout io_timeout bytes l4 (l1, b1, (l2, b2, (l3, b3, (l4, b4, refl)))))))))
 
-link_takes : (proc : ℕ) → ((lid : ℤ) (bytes after : List ℕ) → BeginsAll bytes (link_fields lid) after → ArgumentsAre proc bytes (Ok (of_link proc lid))) → Takes proc (link_at proc)
+link_takes : (proc : ℕ) → ((lid : ℤ) (bytes after : List ℕ) → BeginsAll bytes (link_fields lid) after
+    → ArgumentsAre proc bytes (Ok (of_link proc lid))) → Takes proc (link_at proc)
 unfolding link_at
 link_takes proc is bytes a fits e =
-    step Signed signed_at signed_takes bytes _ a fits e (λ lid l1 b1 fits1 e1. subst (ArgumentsAre proc bytes) e1 (is lid bytes l1 (l1, b1, refl)))
+    step Signed signed_at signed_takes bytes _ a fits e
+    (λ lid l1 b1 fits1 e1. subst (ArgumentsAre proc bytes) e1 (is lid bytes l1 (l1, b1, refl)))
 
 -- an outcome is what the bytes are, if what is read is spelled
-outcome_is : (proc : ℕ) (bytes : List ℕ) (r : Result Arguments Garbage) → ((a : Arguments) → r ≡ Ok a → ArgumentsAre proc bytes (Ok a)) → arguments_at proc bytes ≡ r → ArgumentsAre proc bytes r
+outcome_is : (proc : ℕ) (bytes : List ℕ) (r : Result Arguments Garbage) → ((a : Arguments) → r ≡ Ok a → ArgumentsAre proc bytes (Ok a))
+    → arguments_at proc bytes ≡ r → ArgumentsAre proc bytes r
 outcome_is proc bytes (Ok a) takes e = takes a refl
 outcome_is proc bytes (Err garbage) takes e = λ a after p h. absurd (cc (arguments_read proc bytes a (p, after, h)))
 
@@ -138,9 +154,11 @@ either false c e f g = g e
 -- what holds of each call holds of one of them
 of_each : (P : ℕ → Type 0) (calls : List ℕ) (proc : ℕ) → AllByRecursion P calls → is_one_of calls proc ≡ true → P proc
 of_each P [] proc all one = absurd cc
-of_each P (call ∷ calls) proc all one = either (proc == call) (is_one_of calls proc) one (λ same. subst P (sym (eqb-true proc call same)) all.0) (λ rest. of_each P calls proc all.1 rest)
+of_each P (call ∷ calls) proc all one = either (proc == call) (is_one_of calls proc) one
+    (λ same. subst P (sym (eqb-true proc call same)) all.0) (λ rest. of_each P calls proc all.1 rest)
 
-pub arguments_are : (proc : ℕ) (bytes : List ℕ) → IsBytes bytes → is_one_of (core_calls ++ abort_calls) proc ≡ true → ArgumentsAre proc bytes (arguments_at proc bytes)
+pub arguments_are : (proc : ℕ) (bytes : List ℕ) → IsBytes bytes → is_one_of (core_calls ++ abort_calls) proc ≡ true
+    → ArgumentsAre proc bytes (arguments_at proc bytes)
 arguments_are proc bytes fits one = of_each (IsRead bytes) (core_calls ++ abort_calls) proc (
   outcome_is 10 bytes (create_link_at bytes) (λ a. create_link_takes bytes a fits) refl,
   (
@@ -148,31 +166,40 @@ arguments_are proc bytes fits one = of_each (IsRead bytes) (core_calls ++ abort_
     (
       outcome_is 12 bytes (device_read_at bytes) (λ a. device_read_takes bytes a fits) refl,
       (
-        outcome_is 13 bytes (generic_at 13 bytes) (λ a. generic_takes 13 (λ lid flags lock_timeout io_timeout bytes after h. (refl, after, (tt, h))) bytes a fits) refl,
+        outcome_is 13 bytes (generic_at 13 bytes)
+            (λ a. generic_takes 13 (λ lid flags lock_timeout io_timeout bytes after h. (refl, after, (tt, h))) bytes a fits) refl,
         (
-          outcome_is 14 bytes (generic_at 14 bytes) (λ a. generic_takes 14 (λ lid flags lock_timeout io_timeout bytes after h. (refl, after, (tt, h))) bytes a fits) refl,
+          outcome_is 14 bytes (generic_at 14 bytes)
+              (λ a. generic_takes 14 (λ lid flags lock_timeout io_timeout bytes after h. (refl, after, (tt, h))) bytes a fits) refl,
           (
-            outcome_is 15 bytes (generic_at 15 bytes) (λ a. generic_takes 15 (λ lid flags lock_timeout io_timeout bytes after h. (refl, after, (tt, h))) bytes a fits) refl,
+            outcome_is 15 bytes (generic_at 15 bytes)
+                (λ a. generic_takes 15 (λ lid flags lock_timeout io_timeout bytes after h. (refl, after, (tt, h))) bytes a fits) refl,
             (
-              outcome_is 16 bytes (generic_at 16 bytes) (λ a. generic_takes 16 (λ lid flags lock_timeout io_timeout bytes after h. (refl, after, (tt, h))) bytes a fits) refl,
+              outcome_is 16 bytes (generic_at 16 bytes)
+                  (λ a. generic_takes 16 (λ lid flags lock_timeout io_timeout bytes after h. (refl, after, (tt, h))) bytes a fits) refl,
               (
-                outcome_is 17 bytes (generic_at 17 bytes) (λ a. generic_takes 17 (λ lid flags lock_timeout io_timeout bytes after h. (refl, after, (tt, h))) bytes a fits) refl,
+                outcome_is 17 bytes (generic_at 17 bytes)
+                    (λ a. generic_takes 17 (λ lid flags lock_timeout io_timeout bytes after h. (refl, after, (tt, h))) bytes a fits) refl,
                 (
                   outcome_is 18 bytes (device_lock_at bytes) (λ a. device_lock_takes bytes a fits) refl,
                   (
-                    outcome_is 19 bytes (link_at 19 bytes) (λ a. link_takes 19 (λ lid bytes after h. (refl, after, (tt, h))) bytes a fits) refl,
+                    outcome_is 19 bytes (link_at 19 bytes)
+                        (λ a. link_takes 19 (λ lid bytes after h. (refl, after, (tt, h))) bytes a fits) refl,
                     (
                       outcome_is 20 bytes (device_enable_srq_at bytes) (λ a. device_enable_srq_takes bytes a fits) refl,
                       (
                         outcome_is 22 bytes (device_docmd_at bytes) (λ a. device_docmd_takes bytes a fits) refl,
                         (
-                          outcome_is 23 bytes (link_at 23 bytes) (λ a. link_takes 23 (λ lid bytes after h. (refl, after, (tt, h))) bytes a fits) refl,
+                          outcome_is 23 bytes (link_at 23 bytes)
+                              (λ a. link_takes 23 (λ lid bytes after h. (refl, after, (tt, h))) bytes a fits) refl,
                           (
                             outcome_is 25 bytes (create_intr_chan_at bytes) (λ a. create_intr_chan_takes bytes a fits) refl,
                             (
-                              outcome_is 26 bytes (Ok DestroyIntrChan) (λ a e. subst (ArgumentsAre 26 bytes) e (refl, bytes, (tt, refl))) refl,
+                              outcome_is 26 bytes (Ok DestroyIntrChan)
+                                  (λ a e. subst (ArgumentsAre 26 bytes) e (refl, bytes, (tt, refl))) refl,
                               (
-                                outcome_is 1 bytes (link_at 1 bytes) (λ a. link_takes 1 (λ lid bytes after h. (refl, after, (tt, h))) bytes a fits) refl,
+                                outcome_is 1 bytes (link_at 1 bytes)
+                                    (λ a. link_takes 1 (λ lid bytes after h. (refl, after, (tt, h))) bytes a fits) refl,
                                 tt,
                               ),
                             ),

@@ -25,11 +25,16 @@ same_kinds (x ∷ xs) = (same_kind x, same_kinds xs)
 
 pub arguments_prefix_free : ArgumentsPrefixFree
 arguments_prefix_free x y bytes after behind same h k =
-    let one = ok_is x y (sym (arguments_begin x bytes after h) ∙ ap (λ (n : ℕ). arguments_at n bytes) same ∙ arguments_begin y bytes behind k) in
-    (one, (all_fields (argument_fields y) (argument_fields y) bytes after behind (same_kinds (argument_fields y)) (subst (λ (z : Arguments). BeginsAll bytes (argument_fields z) after) one h.1) k.1).1)
+    let one = ok_is x y (sym (arguments_begin x bytes after h) ∙ ap (λ (n : ℕ). arguments_at n bytes) same
+    ∙ arguments_begin y bytes behind k) in (
+      one,
+      (all_fields (argument_fields y) (argument_fields y) bytes after behind (same_kinds (argument_fields y))
+          (subst (λ (z : Arguments). BeginsAll bytes (argument_fields z) after) one h.1) k.1).1,
+    )
 
 pub results_prefix_free : ResultsPrefixFree
-results_prefix_free (Link e a b c) (Link e' a' b' c') bytes after behind shape h k = all_fields _ _ bytes after behind (tt, (tt, (tt, (tt, tt)))) h k
+results_prefix_free (Link e a b c) (Link e' a' b' c') bytes after behind shape h k =
+    all_fields _ _ bytes after behind (tt, (tt, (tt, (tt, tt)))) h k
 results_prefix_free (Size e a) (Size e' a') bytes after behind shape h k = all_fields _ _ bytes after behind (tt, (tt, tt)) h k
 results_prefix_free (Read e a b) (Read e' a' b') bytes after behind shape h k = all_fields _ _ bytes after behind (tt, (tt, (tt, tt))) h k
 results_prefix_free (Status e a) (Status e' a') bytes after behind shape h k = all_fields _ _ bytes after behind (tt, (tt, tt)) h k

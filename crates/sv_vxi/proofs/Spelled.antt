@@ -11,7 +11,8 @@ use Rattle.sv_vxi.specs.Reading.{any_length, create_link_at, device_write_at, de
 text_begins : (bytes text after : List ℕ) → Begins bytes (Opaque text) after → opaque_at any_length bytes ≡ Ok (text, after)
 text_begins bytes text after b = opaque_again any_length bytes text after b (omega (arith, word_fits b.1.0 (length text) b.1.2))
 
-generic_begins : (proc : ℕ) (lid : ℤ) (flags lock_timeout io_timeout : ℕ) (bytes after : List ℕ) → BeginsAll bytes (generic_fields lid flags lock_timeout io_timeout) after
+generic_begins : (proc : ℕ) (lid : ℤ) (flags lock_timeout io_timeout : ℕ) (bytes after : List ℕ)
+    → BeginsAll bytes (generic_fields lid flags lock_timeout io_timeout) after
     → generic_at proc bytes ≡ Ok (generic proc lid flags lock_timeout io_timeout)
 unfolding generic_at
 generic_begins proc lid flags lock_timeout io_timeout bytes after h =
@@ -22,7 +23,8 @@ generic_begins proc lid flags lock_timeout io_timeout bytes after h =
       unsigned_begins h.2.2.0 h.2.2.2.0 io_timeout h.2.2.2.1,
     ) refl
 
-link_begins : (proc : ℕ) (lid : ℤ) (bytes after : List ℕ) → BeginsAll bytes (link_fields lid) after → link_at proc bytes ≡ Ok (of_link proc lid)
+link_begins : (proc : ℕ) (lid : ℤ) (bytes after : List ℕ) → BeginsAll bytes (link_fields lid) after
+    → link_at proc bytes ≡ Ok (of_link proc lid)
 unfolding link_at
 link_begins proc lid bytes after h = rw (signed_begins bytes h.0 lid h.1) refl
 
@@ -52,15 +54,24 @@ arguments_begin (DeviceRead lid request_size io_timeout lock_timeout flags term_
       unsigned_begins h.2.2.2.0 h.2.2.2.2.0 flags h.2.2.2.2.1,
       unsigned_begins h.2.2.2.2.0 h.2.2.2.2.2.0 term_char h.2.2.2.2.2.1,
     ) refl
-arguments_begin (DeviceReadstb lid flags lock_timeout io_timeout) bytes after (bounds, h) = generic_begins 13 lid flags lock_timeout io_timeout bytes after h
-arguments_begin (DeviceTrigger lid flags lock_timeout io_timeout) bytes after (bounds, h) = generic_begins 14 lid flags lock_timeout io_timeout bytes after h
-arguments_begin (DeviceClear lid flags lock_timeout io_timeout) bytes after (bounds, h) = generic_begins 15 lid flags lock_timeout io_timeout bytes after h
-arguments_begin (DeviceRemote lid flags lock_timeout io_timeout) bytes after (bounds, h) = generic_begins 16 lid flags lock_timeout io_timeout bytes after h
-arguments_begin (DeviceLocal lid flags lock_timeout io_timeout) bytes after (bounds, h) = generic_begins 17 lid flags lock_timeout io_timeout bytes after h
+arguments_begin (DeviceReadstb lid flags lock_timeout io_timeout) bytes after (bounds, h) =
+    generic_begins 13 lid flags lock_timeout io_timeout bytes after h
+arguments_begin (DeviceTrigger lid flags lock_timeout io_timeout) bytes after (bounds, h) =
+    generic_begins 14 lid flags lock_timeout io_timeout bytes after h
+arguments_begin (DeviceClear lid flags lock_timeout io_timeout) bytes after (bounds, h) =
+    generic_begins 15 lid flags lock_timeout io_timeout bytes after h
+arguments_begin (DeviceRemote lid flags lock_timeout io_timeout) bytes after (bounds, h) =
+    generic_begins 16 lid flags lock_timeout io_timeout bytes after h
+arguments_begin (DeviceLocal lid flags lock_timeout io_timeout) bytes after (bounds, h) =
+    generic_begins 17 lid flags lock_timeout io_timeout bytes after h
 arguments_begin (DeviceLock lid flags lock_timeout) bytes after (bounds, h) =
     rw (signed_begins bytes h.0 lid h.1, unsigned_begins h.0 h.2.0 flags h.2.1, unsigned_begins h.2.0 h.2.2.0 lock_timeout h.2.2.1) refl
 arguments_begin (DeviceEnableSrq lid enable handle) bytes after (bounds, h) =
-    rw (signed_begins bytes h.0 lid h.1, boolean_begins h.0 h.2.0 enable h.2.1, opaque_again max_handle h.2.0 handle h.2.2.0 h.2.2.1 bounds) refl
+    rw (
+      signed_begins bytes h.0 lid h.1,
+      boolean_begins h.0 h.2.0 enable h.2.1,
+      opaque_again max_handle h.2.0 handle h.2.2.0 h.2.2.1 bounds,
+    ) refl
 arguments_begin (DeviceDocmd lid flags io_timeout lock_timeout cmd network_order datasize text) bytes after (bounds, h) =
     rw (
       signed_begins bytes h.0 lid h.1,
@@ -90,7 +101,8 @@ pub arguments_read : (proc : ℕ) (bytes : List ℕ) (a : Arguments) → Argumen
 arguments_read proc bytes a h = ap (λ (n : ℕ). arguments_at n bytes) (sym h.0) ∙ arguments_begin a bytes h.1 h.2
 
 -- two outcomes of one call's bytes are one
-pub one_arguments : (proc : ℕ) (bytes : List ℕ) (a b : Result Arguments Garbage) → ArgumentsAre proc bytes a → ArgumentsAre proc bytes b → a ≡ b
+pub one_arguments : (proc : ℕ) (bytes : List ℕ) (a b : Result Arguments Garbage) → ArgumentsAre proc bytes a → ArgumentsAre proc bytes b
+    → a ≡ b
 one_arguments proc bytes (Ok a) (Ok b) h k = sym (arguments_read proc bytes a h) ∙ arguments_read proc bytes b k
 one_arguments proc bytes (Ok a) (Err garbage) h k = absurd (k a h.1 h.0 h.2)
 one_arguments proc bytes (Err garbage) (Ok b) h k = absurd (h b k.1 k.0 k.2)

@@ -62,8 +62,10 @@ link_fields lid = Signed lid ∷ []
 -- their fields, in order
 abbrev pub argument_fields : Arguments → List Field
 argument_fields (DeviceAbort lid) = link_fields lid
-argument_fields (CreateLink client_id lock_device lock_timeout device) = Signed client_id ∷ Boolean lock_device ∷ Unsigned lock_timeout ∷ Opaque device ∷ []
-argument_fields (DeviceWrite lid io_timeout lock_timeout flags bytes) = Signed lid ∷ Unsigned io_timeout ∷ Unsigned lock_timeout ∷ Unsigned flags ∷ Opaque bytes ∷ []
+argument_fields (CreateLink client_id lock_device lock_timeout device) =
+    Signed client_id ∷ Boolean lock_device ∷ Unsigned lock_timeout ∷ Opaque device ∷ []
+argument_fields (DeviceWrite lid io_timeout lock_timeout flags bytes) =
+    Signed lid ∷ Unsigned io_timeout ∷ Unsigned lock_timeout ∷ Unsigned flags ∷ Opaque bytes ∷ []
 argument_fields (DeviceRead lid request_size io_timeout lock_timeout flags term_char) =
     Signed lid ∷ Unsigned request_size ∷ Unsigned io_timeout ∷ Unsigned lock_timeout ∷ Unsigned flags ∷ Unsigned term_char ∷ []
 argument_fields (DeviceReadstb lid flags lock_timeout io_timeout) = generic_fields lid flags lock_timeout io_timeout
@@ -75,7 +77,8 @@ argument_fields (DeviceLock lid flags lock_timeout) = Signed lid ∷ Unsigned fl
 argument_fields (DeviceUnlock lid) = link_fields lid
 argument_fields (DeviceEnableSrq lid enable handle) = Signed lid ∷ Boolean enable ∷ Opaque handle ∷ []
 argument_fields (DeviceDocmd lid flags io_timeout lock_timeout cmd network_order datasize bytes) =
-    Signed lid ∷ Unsigned flags ∷ Unsigned io_timeout ∷ Unsigned lock_timeout ∷ Signed cmd ∷ Boolean network_order ∷ Signed datasize ∷ Opaque bytes ∷ []
+    Signed lid ∷ Unsigned flags ∷ Unsigned io_timeout ∷ Unsigned lock_timeout ∷ Signed cmd ∷ Boolean network_order ∷ Signed datasize
+    ∷ Opaque bytes ∷ []
 argument_fields (DestroyLink lid) = link_fields lid
 argument_fields (CreateIntrChan host_addr host_port prog_num prog_vers prog_family) =
     Unsigned host_addr ∷ Unsigned host_port ∷ Unsigned prog_num ∷ Unsigned prog_vers ∷ Unsigned prog_family ∷ []
@@ -97,4 +100,5 @@ BeginsWith bytes arguments after = InBounds arguments × BeginsAll bytes (argume
 -- What the bytes are as arguments of a call; bytes behind the last field are ignored.
 abbrev pub ArgumentsAre : ℕ → List ℕ → Result Arguments Garbage → Type 0
 ArgumentsAre proc bytes (Ok arguments) = (procedure_of arguments ≡ proc) × (after : List ℕ) × BeginsWith bytes arguments after
-ArgumentsAre proc bytes (Err garbage) = (arguments : Arguments) (after : List ℕ) → procedure_of arguments ≡ proc → BeginsWith bytes arguments after → ⊥
+ArgumentsAre proc bytes (Err garbage) = (arguments : Arguments) (after : List ℕ) → procedure_of arguments ≡ proc
+    → BeginsWith bytes arguments after → ⊥

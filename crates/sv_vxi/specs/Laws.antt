@@ -4,12 +4,15 @@ use Rattle.sv_xdr.specs.Spelling.{BeginsAll}
 use Rattle.sv_vxi.specs.Arguments.{Arguments, procedure_of, BeginsWith}
 use Rattle.sv_vxi.specs.Results.{Outcome, result_fields, SameShape}
 
--- Where two lists of arguments of one call begin the same bytes, they are one, and what follows them too. So none is a proper prefix of another.
+-- Where two lists of arguments of one call begin the same bytes, they are one, and what follows them too. So none is a proper prefix of
+-- another.
 abbrev pub ArgumentsPrefixFree : Type 0
-ArgumentsPrefixFree = (x y : Arguments) (bytes after behind : List ℕ) → procedure_of x ≡ procedure_of y → BeginsWith bytes x after → BeginsWith bytes y behind
+ArgumentsPrefixFree = (x y : Arguments) (bytes after behind : List ℕ) → procedure_of x ≡ procedure_of y → BeginsWith bytes x after
+    → BeginsWith bytes y behind
     → (x ≡ y) × (after ≡ behind)
 
 -- Likewise the results of calls that answer alike, as far as they are sent.
 abbrev pub ResultsPrefixFree : Type 0
-ResultsPrefixFree = (x y : Outcome) (bytes after behind : List ℕ) → SameShape x y → BeginsAll bytes (result_fields x) after → BeginsAll bytes (result_fields y) behind
+ResultsPrefixFree = (x y : Outcome) (bytes after behind : List ℕ) → SameShape x y → BeginsAll bytes (result_fields x) after
+    → BeginsAll bytes (result_fields y) behind
     → (result_fields x ≡ result_fields y) × (after ≡ behind)

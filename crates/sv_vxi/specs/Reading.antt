@@ -116,7 +116,8 @@ abbrev pub plain_arguments : Args → Arguments
 plain_arguments (args.DeviceAbort lid) = DeviceAbort lid
 plain_arguments (args.CreateLink client_id lock_device lock_timeout device) = CreateLink client_id lock_device lock_timeout device.now
 plain_arguments (args.DeviceWrite lid io_timeout lock_timeout flags bytes) = DeviceWrite lid io_timeout lock_timeout flags.0 bytes.now
-plain_arguments (args.DeviceRead lid request_size io_timeout lock_timeout flags term_char) = DeviceRead lid request_size io_timeout lock_timeout flags.0 term_char
+plain_arguments (args.DeviceRead lid request_size io_timeout lock_timeout flags term_char) =
+    DeviceRead lid request_size io_timeout lock_timeout flags.0 term_char
 plain_arguments (args.DeviceReadstb lid flags lock_timeout io_timeout) = DeviceReadstb lid flags.0 lock_timeout io_timeout
 plain_arguments (args.DeviceTrigger lid flags lock_timeout io_timeout) = DeviceTrigger lid flags.0 lock_timeout io_timeout
 plain_arguments (args.DeviceClear lid flags lock_timeout io_timeout) = DeviceClear lid flags.0 lock_timeout io_timeout
@@ -128,7 +129,8 @@ plain_arguments (args.DeviceEnableSrq lid enable handle) = DeviceEnableSrq lid e
 plain_arguments (args.DeviceDocmd lid flags io_timeout lock_timeout cmd network_order datasize bytes) =
     DeviceDocmd lid flags.0 io_timeout lock_timeout cmd network_order datasize bytes.now
 plain_arguments (args.DestroyLink lid) = DestroyLink lid
-plain_arguments (args.CreateIntrChan host_addr host_port prog_num prog_vers prog_family) = CreateIntrChan host_addr host_port prog_num prog_vers prog_family
+plain_arguments (args.CreateIntrChan host_addr host_port prog_num prog_vers prog_family) =
+    CreateIntrChan host_addr host_port prog_num prog_vers prog_family
 plain_arguments args.DestroyIntrChan = DestroyIntrChan
 
 abbrev pub seen : Result Args Garbage → Result Arguments Garbage

@@ -23,9 +23,11 @@ error_field error = Signed (pos (error_number error))
 -- The fields of a result, in order. Behind an error the others are 0 or empty.
 abbrev pub result_fields : Outcome → List Field
 result_fields (Link error lid abort_port max_recv_size) =
-    error_field error ∷ Signed (unless_error error lid (pos 0)) ∷ Unsigned (unless_error error abort_port 0) ∷ Unsigned (unless_error error max_recv_size 0) ∷ []
+    error_field error ∷ Signed (unless_error error lid (pos 0)) ∷ Unsigned (unless_error error abort_port 0)
+    ∷ Unsigned (unless_error error max_recv_size 0) ∷ []
 result_fields (Size error size) = error_field error ∷ Unsigned (unless_error error size 0) ∷ []
-result_fields (Read error reason bytes) = error_field error ∷ Signed (unless_error error (pos (reason_number reason)) (pos 0)) ∷ Opaque (unless_error error bytes []) ∷ []
+result_fields (Read error reason bytes) = error_field error ∷ Signed (unless_error error (pos (reason_number reason)) (pos 0))
+    ∷ Opaque (unless_error error bytes []) ∷ []
 result_fields (Status error stb) = error_field error ∷ Unsigned (unless_error error stb 0) ∷ []
 result_fields (Plain error) = error_field error ∷ []
 result_fields (Data error bytes) = error_field error ∷ Opaque (unless_error error bytes []) ∷ []

@@ -15,7 +15,8 @@ impl Flags {
         self.0 % 2 == 1
     }
 
-    /// Whether a write ends its message, behind its last byte or, of an empty one, by itself (bit 3).
+    /// Whether a write ends its message, behind its last byte or, of an empty one, by itself (bit
+    /// 3).
     pub fn has_end(self) -> bool
         ensures { result ≡ (bit_at self.0 3 == 1) }
     {

@@ -1,5 +1,5 @@
-//! The calls of VXI-11 (revision 1.0, sections B.5 and B.6): reading their arguments and writing their
-//! results, for the core and the abort channel.
+//! The calls of VXI-11 (revision 1.0, sections B.5 and B.6): reading their arguments and writing
+//! their results, for the core and the abort channel.
 //!
 //! No call takes memory.
 #![tactic(auto)]

@@ -17,15 +17,16 @@ use sv_xdr::{Garbage, Reader};
 /// The longest handle of an interrupt, in bytes.
 const MAX_HANDLE: u32 = 40;
 
-/// Reads the arguments of a call; bytes behind the last field are ignored. They are garbage where the
-/// bytes don't begin with a spelling of them, as where a boolean is neither 0 nor 1, or a handle is
-/// longer than 40 bytes. `proc` has to be a call of the core channel or device_abort.
+/// Reads the arguments of a call; bytes behind the last field are ignored. They are garbage where
+/// the bytes don't begin with a spelling of them, as where a boolean is neither 0 nor 1, or a
+/// handle is longer than 40 bytes. `proc` has to be a call of the core channel or device_abort.
 pub fn read_args(proc: u32, bytes: &[u8]) -> Result<Args<'_>, Garbage>
     requires { is_one_of (core_calls ++ abort_calls) proc ≡ true }
     // What is read is spelled there, and is garbage only if nothing is.
     ensures found { ArgumentsAre proc bytes.now (seen result) }
     // There is no other reading.
-    ensures only { (outcome : Result Arguments Garbage) → ArgumentsAre proc bytes.now outcome → seen result ≡ outcome }
+    ensures only { (outcome : Result Arguments Garbage) → ArgumentsAre proc bytes.now outcome
+        → seen result ≡ outcome }
     ensures exact { seen result ≡ arguments_at proc bytes.now }
 {
     args_of(proc, bytes)

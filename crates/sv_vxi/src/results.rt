@@ -10,8 +10,8 @@ use crate::error_code::ErrorCode;
 use crate::reason::Reason;
 use sv_xdr::{Writer, XdrFault};
 
-/// The result of a call, a variant for each shape. Behind an error all other fields are written as 0
-/// or empty, whatever they are.
+/// The result of a call, a variant for each shape. Behind an error all other fields are written as
+/// 0 or empty, whatever they are.
 #[derive(Clone, Copy, Debug, PartialEq, Eq)]
 pub enum VxiResult<'a> {
     /// Of create_link.
@@ -90,13 +90,15 @@ fn data_unless_error(error: ErrorCode, bytes: &[u8]) -> &[u8]
     }
 }
 
-/// Writes a result. The fault is `NoRoom`, and the whole fields in front of the one that has no room
-/// stay written; or, for data that no length can tell, `TooLong`, and nothing is written.
+/// Writes a result. The fault is `NoRoom`, and the whole fields in front of the one that has no
+/// room stay written; or, for data that no length can tell, `TooLong`, and nothing is written.
 pub fn write_result(writer: &mut Writer<'_>, outcome: &VxiResult<'_>) -> Result<(), XdrFault>
     ensures same_buffer { writer.new.out.ghost_name ≡ writer.old.out.ghost_name }
     ensures writes { length (data_of (plain_result outcome.now)) < 2 ^ 32
-        → WritesEach (map spelling (result_fields (plain_result outcome.now))) result writer.old writer.new }
-    ensures too_long { 2 ^ 32 ≤ length (data_of (plain_result outcome.now)) → IsErrOf result XdrFault.TooLong × Stays writer.old writer.new }
+        → WritesEach (map spelling (result_fields (plain_result outcome.now))) result writer.old
+        writer.new }
+    ensures too_long { 2 ^ 32 ≤ length (data_of (plain_result outcome.now))
+        → IsErrOf result XdrFault.TooLong × Stays writer.old writer.new }
 {
     if u32::try_from(outcome.data().len()).is_err() {
         return Err(XdrFault::TooLong);
@@ -140,7 +142,8 @@ fn write_link(
     max_recv_size: u32,
 ) -> Result<(), XdrFault>
     ensures same_buffer { writer.new.out.ghost_name ≡ writer.old.out.ghost_name }
-    ensures writes { WritesEach (map spelling (result_fields (Link error lid abort_port max_recv_size))) result writer.old writer.new }
+    ensures writes { WritesEach (map spelling
+        (result_fields (Link error lid abort_port max_recv_size))) result writer.old writer.new }
 {
     writer.i32(error.number())?;
     writer.i32(unless_error(error, lid, 0))?;
@@ -152,7 +155,8 @@ fn write_link(
 #[tactic(auto, using(sv_xdr::proofs::Appended::each_piece))]
 fn write_number(writer: &mut Writer<'_>, error: ErrorCode, number: u32) -> Result<(), XdrFault>
     ensures same_buffer { writer.new.out.ghost_name ≡ writer.old.out.ghost_name }
-    ensures writes { WritesEach (map spelling (result_fields (Size error number))) result writer.old writer.new }
+    ensures writes { WritesEach (map spelling (result_fields (Size error number))) result writer.old
+        writer.new }
 {
     writer.i32(error.number())?;
     writer.u32(unless_error(error, number, 0))
@@ -167,7 +171,9 @@ fn write_read(
     bytes: &[u8],
 ) -> Result<(), XdrFault>
     ensures same_buffer { writer.new.out.ghost_name ≡ writer.old.out.ghost_name }
-    ensures writes { length (data_of (Read error reason bytes.now)) < 2 ^ 32 → WritesEach (map spelling (result_fields (Read error reason bytes.now))) result writer.old writer.new }
+    ensures writes { length (data_of (Read error reason bytes.now)) < 2 ^ 32
+        → WritesEach (map spelling (result_fields (Read error reason bytes.now))) result writer.old
+        writer.new }
 {
     writer.i32(error.number())?;
     writer.i32(unless_error(error, reason.number(), 0))?;
@@ -178,7 +184,8 @@ fn write_read(
 #[tactic(auto, using(sv_xdr::proofs::Appended::each_piece))]
 fn write_error(writer: &mut Writer<'_>, error: ErrorCode) -> Result<(), XdrFault>
     ensures same_buffer { writer.new.out.ghost_name ≡ writer.old.out.ghost_name }
-    ensures writes { WritesEach (map spelling (result_fields (Plain error))) result writer.old writer.new }
+    ensures writes { WritesEach (map spelling (result_fields (Plain error))) result writer.old
+        writer.new }
 {
     writer.i32(error.number())
 }
@@ -187,7 +194,9 @@ fn write_error(writer: &mut Writer<'_>, error: ErrorCode) -> Result<(), XdrFault
 #[tactic(auto, using(sv_xdr::proofs::Appended::each_piece))]
 fn write_data(writer: &mut Writer<'_>, error: ErrorCode, bytes: &[u8]) -> Result<(), XdrFault>
     ensures same_buffer { writer.new.out.ghost_name ≡ writer.old.out.ghost_name }
-    ensures writes { length (data_of (Data error bytes.now)) < 2 ^ 32 → WritesEach (map spelling (result_fields (Data error bytes.now))) result writer.old writer.new }
+    ensures writes { length (data_of (Data error bytes.now)) < 2 ^ 32
+        → WritesEach (map spelling (result_fields (Data error bytes.now))) result writer.old
+        writer.new }
 {
     writer.i32(error.number())?;
     writer.opaque(data_unless_error(error, bytes))

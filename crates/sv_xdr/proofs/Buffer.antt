@@ -12,7 +12,8 @@ front_length w xs ys h = omega (arith, length-append (take w xs) ys, length-take
 regroup : (w k : ℕ) (xs ys : List ℕ) → placed w k xs ys ≡ (take w xs ++ ys) ++ drop k (drop w xs)
 regroup w k xs ys = sym (append_assoc (take w xs) ys (drop k (drop w xs)))
 
-pub text_placed : (w k : ℕ) (xs ys bytes : List ℕ) → w ≤ length xs → ys ≡ bytes → take (w + length bytes) (placed w k xs ys) ≡ take w xs ++ bytes
+pub text_placed : (w k : ℕ) (xs ys bytes : List ℕ) → w ≤ length xs → ys ≡ bytes
+    → take (w + length bytes) (placed w k xs ys) ≡ take w xs ++ bytes
 text_placed w k xs ys bytes h e =
     ap (take (w + length bytes)) (regroup w k xs ys)
     ∙ take_at (take w xs ++ ys) (drop k (drop w xs)) (w + length bytes) (front_length w xs ys h ∙ ap (λ (l : List ℕ). w + length l) e)
@@ -24,4 +25,5 @@ rest_placed w k xs ys bytes h size e =
     let behind : drop (w + length bytes) (placed w k xs ys) ≡ drop k (drop w xs) =
     ap (drop (w + length bytes)) (regroup w k xs ys)
     ∙ drop_at (take w xs ++ ys) (drop k (drop w xs)) (w + length bytes) (front_length w xs ys h ∙ ap (λ (l : List ℕ). w + length l) e) in
-    sym (take-append-drop (length bytes) (drop w xs)) ∙ ap (λ (l : List ℕ). take (length bytes) (drop w xs) ++ l) (ap (λ (m : ℕ). drop m (drop w xs)) (sym size) ∙ sym behind)
+    sym (take-append-drop (length bytes) (drop w xs))
+    ∙ ap (λ (l : List ℕ). take (length bytes) (drop w xs) ++ l) (ap (λ (m : ℕ). drop m (drop w xs)) (sym size) ∙ sym behind)

@@ -13,17 +13,20 @@ use Rattle.sv_xdr.specs.Spelling.{Field, Unsigned, Signed, Boolean, Opaque, IsWo
 use Rattle.sv_xdr.specs.Reader.{◌>>=◌, unsigned_at, signed_at, boolean_at, padded_at, opaque_at}
 
 -- the value of a step that did not fail
-pub bind_ok : {A B : Type 0} (r : Result A XdrFault) (f : A → Result B XdrFault) (y : B) → (r >>= f) ≡ Ok y → (x : A) × (r ≡ Ok x) × (f x ≡ Ok y)
+pub bind_ok : {A B : Type 0} (r : Result A XdrFault) (f : A → Result B XdrFault) (y : B) → (r >>= f) ≡ Ok y
+    → (x : A) × (r ≡ Ok x) × (f x ≡ Ok y)
 bind_ok (Ok x) f y e = (x, refl, e)
 bind_ok (Err fault) f y e = absurd cc
 
 -- a test that did not fail
-pub guard_ok : {A : Type 0} (b : Bool) (fault : XdrFault) (r : Result A XdrFault) (y : A) → cond b (Err fault) r ≡ Ok y → (b ≡ false) × (r ≡ Ok y)
+pub guard_ok : {A : Type 0} (b : Bool) (fault : XdrFault) (r : Result A XdrFault) (y : A) → cond b (Err fault) r ≡ Ok y
+    → (b ≡ false) × (r ≡ Ok y)
 guard_ok true fault r y e = absurd cc
 guard_ok false fault r y e = (refl, e)
 
 -- a test that had to hold
-pub guard_true : {A : Type 0} (b : Bool) (fault : XdrFault) (r : Result A XdrFault) (y : A) → cond b r (Err fault) ≡ Ok y → (b ≡ true) × (r ≡ Ok y)
+pub guard_true : {A : Type 0} (b : Bool) (fault : XdrFault) (r : Result A XdrFault) (y : A) → cond b r (Err fault) ≡ Ok y
+    → (b ≡ true) × (r ≡ Ok y)
 guard_true true fault r y e = (refl, e)
 guard_true false fault r y e = absurd cc
 
@@ -66,22 +69,35 @@ padded_takes n bytes text after e =
     let text_length : length text ≡ n = rw (← text_is) (omega (arith, length-take n bytes)) in
     let parts : bytes ≡ take n bytes ++ (pad ++ drop (n + pad_len n) bytes) =
     sym (take-append-drop n bytes)
-    ∙ ap (λ (rest : List ℕ). take n bytes ++ rest) (sym (take-append-drop (pad_len n) (drop n bytes)) ∙ ap (λ (rest : List ℕ). pad ++ rest) (drop-drop (pad_len n) n bytes)) in
-    (pad, (rw pad_length (pad_is_short n), rw pad_length (pad_fills n), zeros-all pad zero.0), text_length, parts ∙ ap (λ (x : List ℕ). x ++ (pad ++ drop (n + pad_len n) bytes)) text_is ∙ ap (λ (x : List ℕ). text ++ (pad ++ x)) after_is)
+    ∙ ap (λ (rest : List ℕ). take n bytes ++ rest)
+    (sym (take-append-drop (pad_len n) (drop n bytes)) ∙ ap (λ (rest : List ℕ). pad ++ rest) (drop-drop (pad_len n) n bytes)) in (
+      pad,
+      (rw pad_length (pad_is_short n), rw pad_length (pad_fills n), zeros-all pad zero.0),
+      text_length,
+      parts ∙ ap (λ (x : List ℕ). x ++ (pad ++ drop (n + pad_len n) bytes)) text_is ∙ ap (λ (x : List ℕ). text ++ (pad ++ x)) after_is,
+    )
 
 -- data that are spelled are read
 pub padded_again : (text pad after : List ℕ) → IsPad (length text) pad → padded_at (length text) (text ++ (pad ++ after)) ≡ Ok (text, after)
 unfolding padded_at
 padded_again text pad after h =
     let size : length pad ≡ pad_len (length text) = pad_len-unique (length text) (length pad) h.0 h.1 in
-    let long : length text + pad_len (length text) ≤ length (text ++ (pad ++ after)) = omega (arith, length-append text (pad ++ after), length-append pad after) in
+    let long : length text + pad_len (length text) ≤ length (text ++ (pad ++ after)) =
+    omega (arith, length-append text (pad ++ after), length-append pad after) in
     let pad_is : take (pad_len (length text)) (drop (length text) (text ++ (pad ++ after))) ≡ pad =
     ap (take (pad_len (length text))) (drop_at text (pad ++ after) (length text) refl) ∙ take_at pad after (pad_len (length text)) size in
-    let zero : list_all (λ byte. eqb byte 0) (take (pad_len (length text)) (drop (length text) (text ++ (pad ++ after)))) ≡ true = rw pad_is (all-zeros pad h.2) in
+    let zero : list_all (λ byte. eqb byte 0) (take (pad_len (length text)) (drop (length text) (text ++ (pad ++ after)))) ≡ true =
+    rw pad_is (all-zeros pad h.2) in
     let after_is : drop (length text + pad_len (length text)) (text ++ (pad ++ after)) ≡ after =
-    sym (drop-drop (pad_len (length text)) (length text) (text ++ (pad ++ after))) ∙ ap (drop (pad_len (length text))) (drop_at text (pad ++ after) (length text) refl)
+    sym (drop-drop (pad_len (length text)) (length text) (text ++ (pad ++ after)))
+    ∙ ap (drop (pad_len (length text))) (drop_at text (pad ++ after) (length text) refl)
     ∙ drop_at pad after (pad_len (length text)) size in
-    rw (le-ltb (length (text ++ (pad ++ after))) (length text + pad_len (length text)) long, zero, after_is, take_at text (pad ++ after) (length text) refl) refl
+    rw (
+      le-ltb (length (text ++ (pad ++ after))) (length text + pad_len (length text)) long,
+      zero,
+      after_is,
+      take_at text (pad ++ after) (length text) refl,
+    ) refl
 
 pub unsigned_again : (front after : List ℕ) (n : ℕ) → IsWord front n → unsigned_at (front ++ after) ≡ Ok (n, after)
 unsigned_again [] after n h = absurd h
@@ -95,17 +111,20 @@ unsigned_again (a ∷ b ∷ c ∷ d ∷ []) after n h =
 unsigned_again (a ∷ b ∷ c ∷ d ∷ e ∷ front) after n h = absurd h
 
 -- opaque data that are spelled are read
-pub opaque_again : (max : ℕ) (bytes text after : List ℕ) → Begins bytes (Opaque text) after → length text ≤ max → opaque_at max bytes ≡ Ok (text, after)
+pub opaque_again : (max : ℕ) (bytes text after : List ℕ) → Begins bytes (Opaque text) after → length text ≤ max
+    → opaque_at max bytes ≡ Ok (text, after)
 unfolding opaque_at
 opaque_again max bytes text after b le =
     let size = b.1.0 in
     let pad = b.1.1 in
     let regrouped : bytes ≡ size ++ (text ++ (pad ++ after)) = b.2 ∙ ap (λ (x : List ℕ). x ++ after) b.1.4 ∙ simp append_assoc in
-    let first : unsigned_at bytes ≡ Ok (length text, text ++ (pad ++ after)) = ap unsigned_at regrouped ∙ unsigned_again size (text ++ (pad ++ after)) (length text) b.1.2 in
+    let first : unsigned_at bytes ≡ Ok (length text, text ++ (pad ++ after)) =
+    ap unsigned_at regrouped ∙ unsigned_again size (text ++ (pad ++ after)) (length text) b.1.2 in
     rw (first, le-ltb max (length text) le) (padded_again text pad after b.1.3)
 
 -- opaque data that are read are spelled so
-pub opaque_takes : (bytes size rest text after : List ℕ) (n max : ℕ) → bytes ≡ size ++ rest → IsWord size n → n ≤ max → padded_at n rest ≡ Ok (text, after)
+pub opaque_takes : (bytes size rest text after : List ℕ) (n max : ℕ) → bytes ≡ size ++ rest → IsWord size n → n ≤ max
+    → padded_at n rest ≡ Ok (text, after)
     → Begins bytes (Opaque text) after × (length text ≤ max)
 opaque_takes bytes size rest text after n max front word le e =
     let t = padded_takes n rest text after e in
@@ -114,7 +133,8 @@ opaque_takes bytes size rest text after n max front word le e =
     ((size ++ (text ++ pad), (size, pad, rw t.2 word, rw t.2 t.1, refl), parts), rw t.2 le)
 
 -- what stands behind the length decides, where the length is not above the maximum
-pub opaque_one : (max n : ℕ) (bytes rest text after : List ℕ) (r : Result (List ℕ × List ℕ) XdrFault) → unsigned_at bytes ≡ Ok (n, rest) → n ≤ max → padded_at n rest ≡ r
+pub opaque_one : (max n : ℕ) (bytes rest text after : List ℕ) (r : Result (List ℕ × List ℕ) XdrFault) → unsigned_at bytes ≡ Ok (n, rest)
+    → n ≤ max → padded_at n rest ≡ r
     → Begins bytes (Opaque text) after → length text ≤ max → r ≡ Ok (text, after)
 unfolding opaque_at
 opaque_one max n bytes rest text after r first le second b short =
@@ -151,7 +171,8 @@ unsigned_takes (a ∷ b ∷ c ∷ d ∷ rest) after n fits e =
     (a ∷ b ∷ c ∷ d ∷ [], (fits 0, fits 1, fits 2, fits 3, omega (arith, parts.0)), ap (λ (l : List ℕ). a ∷ b ∷ c ∷ d ∷ l) parts.1)
 
 -- opaque data that are read are spelled so, their length before them
-pub opaque_at-takes : (max : ℕ) (bytes text after : List ℕ) → IsBytes bytes → opaque_at max bytes ≡ Ok (text, after) → Begins bytes (Opaque text) after × (length text ≤ max)
+pub opaque_at-takes : (max : ℕ) (bytes text after : List ℕ) → IsBytes bytes → opaque_at max bytes ≡ Ok (text, after)
+    → Begins bytes (Opaque text) after × (length text ≤ max)
 unfolding opaque_at
 opaque_at-takes max bytes text after fits e =
     let size = bind_ok (unsigned_at bytes) (λ n. cond (ltb max n.0) (Err TooLong) (padded_at n.0 n.1)) (text, after) e in
@@ -176,7 +197,8 @@ complement_of (negsuc k) h = (omega (arith, h.sfits), omega (arith, h.sfits))
 
 -- a word stands for the signed integer that it is cast to
 signed_of : (n : ℕ) → n < 2 ^ 32 → IsTwosComplement n (cast_signed w32 n)
-signed_of n h = subst (λ (m : ℕ). IsTwosComplement m (cast_signed w32 n)) (of_z-to_z w32 n h) (complement_of (cast_signed w32 n) (search rules))
+signed_of n h = subst (λ (m : ℕ). IsTwosComplement m (cast_signed w32 n)) (of_z-to_z w32 n h)
+    (complement_of (cast_signed w32 n) (search rules))
 
 -- and for no other
 signed_is : (n : ℕ) (z : ℤ) → IsTwosComplement n z → cast_signed w32 n ≡ z
@@ -206,12 +228,14 @@ boolean_begins bytes after true b = rw (unsigned_begins bytes after 1 b) refl
 
 -- the truth that a number stands for
 truth_of : (n : ℕ) (rest after : List ℕ) (value : Bool)
-    → (let r : Result (Bool × List ℕ) XdrFault = cond (eqb n 0) (Ok (false, rest)) (cond (eqb n 1) (Ok (true, rest)) (Err BadBool)) in r) ≡ Ok (value, after)
+    → (let r : Result (Bool × List ℕ) XdrFault = cond (eqb n 0) (Ok (false, rest)) (cond (eqb n 1) (Ok (true, rest)) (Err BadBool)) in r)
+    ≡ Ok (value, after)
     → (n ≡ from_bool value) × (rest ≡ after)
 truth_of n rest after value e = (grind (arith, nat_tests), grind (arith, nat_tests))
 
 -- a boolean that is read is spelled so
-pub boolean_takes : (bytes after : List ℕ) (value : Bool) → IsBytes bytes → boolean_at bytes ≡ Ok (value, after) → Begins bytes (Boolean value) after
+pub boolean_takes : (bytes after : List ℕ) (value : Bool) → IsBytes bytes → boolean_at bytes ≡ Ok (value, after)
+    → Begins bytes (Boolean value) after
 unfolding boolean_at
 boolean_takes bytes after value fits e =
     let word = bind_ok (unsigned_at bytes) _ (value, after) e in

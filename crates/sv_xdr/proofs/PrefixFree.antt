@@ -61,7 +61,8 @@ prefix_free (Opaque s) (Signed z) a b after behind kind h k e = absurd kind
 prefix_free (Opaque s) (Boolean d) a b after behind kind h k e = absurd kind
 
 -- two fields of one kind that begin the same bytes are one, and so is what follows them
-pub one_field : (x y : Field) (bytes after behind : List ℕ) → SameKind x y → Begins bytes x after → Begins bytes y behind → (x ≡ y) × (after ≡ behind)
+pub one_field : (x y : Field) (bytes after behind : List ℕ) → SameKind x y → Begins bytes x after → Begins bytes y behind
+    → (x ≡ y) × (after ≡ behind)
 one_field x y bytes after behind kind h k =
     let e = sym h.2 ∙ k.2 in
     let w = prefix_free x y h.0 k.0 after behind kind h.1 k.1 e in
@@ -75,7 +76,8 @@ SameKinds [] (y ∷ ys) = ⊥
 SameKinds (x ∷ xs) [] = ⊥
 
 -- two such lists that begin the same bytes are one, and so is what follows them
-pub all_fields : (xs ys : List Field) (bytes after behind : List ℕ) → SameKinds xs ys → BeginsAll bytes xs after → BeginsAll bytes ys behind → (xs ≡ ys) × (after ≡ behind)
+pub all_fields : (xs ys : List Field) (bytes after behind : List ℕ) → SameKinds xs ys → BeginsAll bytes xs after → BeginsAll bytes ys behind
+    → (xs ≡ ys) × (after ≡ behind)
 all_fields [] [] bytes after behind kinds h k = (refl, sym h ∙ k)
 all_fields (x ∷ xs) (y ∷ ys) bytes after behind kinds h k =
     let one = one_field x y bytes h.0 k.0 kinds.0 h.1 k.1 in

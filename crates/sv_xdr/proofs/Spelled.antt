@@ -16,10 +16,17 @@ zeros_are_zero zero = tt
 zeros_are_zero (suc n) = (refl, zeros_are_zero n)
 
 pub pad_spelled : (n : ℕ) → IsPad n (replicate (pad_len n) 0)
-pad_spelled n = let size : length (replicate {A = ℕ} (pad_len n) 0) ≡ pad_len n = length-replicate (pad_len n) 0 in (omega arith, omega arith, zeros_are_zero (pad_len n))
+pad_spelled n = let size : length (replicate {A = ℕ} (pad_len n) 0) ≡ pad_len n = length-replicate (pad_len n) 0 in
+    (omega arith, omega arith, zeros_are_zero (pad_len n))
 
 pub opaque_spelled : (text : List ℕ) → length text < 2 ^ 32 → Spells (spelling (Opaque text)) (Opaque text)
-opaque_spelled text h = (to_be_bytes w32 (length text), replicate (pad_len (length text)) 0, word_spelled (length text) h, pad_spelled (length text), refl)
+opaque_spelled text h = (
+  to_be_bytes w32 (length text),
+  replicate (pad_len (length text)) 0,
+  word_spelled (length text) h,
+  pad_spelled (length text),
+  refl,
+)
 
 -- the front of three zeros
 pub take_zeros : (n : ℕ) → n < 4 → take {A = ℕ} n (0 ∷ 0 ∷ 0 ∷ []) ≡ replicate n 0

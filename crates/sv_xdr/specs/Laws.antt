@@ -12,7 +12,8 @@ SameKind _ _ = ⊥
 
 -- Where two spellings of one kind begin the same bytes, they are one spelling, of one value. So none is a proper prefix of another's.
 abbrev pub PrefixFree : Type 0
-PrefixFree = (x y : Field) (a b after behind : List ℕ) → SameKind x y → Spells a x → Spells b y → a ++ after ≡ b ++ behind → (a ≡ b) × (x ≡ y)
+PrefixFree = (x y : Field) (a b after behind : List ℕ) → SameKind x y → Spells a x → Spells b y → a ++ after ≡ b ++ behind
+    → (a ≡ b) × (x ≡ y)
 
 -- A field has one spelling, which the function gives.
 abbrev pub OneSpelling : Type 0

@@ -34,7 +34,10 @@ boolean_at bytes = do
 unfoldable pub padded_at : ℕ → List ℕ → Result (List ℕ × List ℕ) XdrFault
 padded_at n bytes =
     if nat_lt (length bytes) (n + pad_len n) then Err Short
-    else (if list_all (λ byte. byte == 0) (take (pad_len n) (drop n bytes)) then Ok (take n bytes, drop (n + pad_len n) bytes) else Err BadPad)
+    else (if list_all (λ byte. byte == 0) (take (pad_len n) (drop n bytes)) then Ok (
+      take n bytes,
+      drop (n + pad_len n) bytes,
+    ) else Err BadPad)
 
 unfoldable pub opaque_at : ℕ → List ℕ → Result (List ℕ × List ℕ) XdrFault
 opaque_at max bytes = do

@@ -37,5 +37,6 @@ Writes bytes (Err fault) old new = (fault ≡ NoRoom) × (length (rest_of old) <
 -- The pieces are written one behind the other. Where one has no room, those in front of it stay written, and nothing else is.
 abbrev pub WritesEach : List (List ℕ) → Result Unit XdrFault → Writer → Writer → Type 0
 WritesEach pieces (Ok done) old new = Appends (concat pieces) old new
-WritesEach pieces (Err fault) old new = (fault ≡ NoRoom) × (front behind : List (List ℕ)) × (piece : List ℕ) × (pieces ≡ front ++ piece ∷ behind)
+WritesEach pieces (Err fault) old new = (fault ≡ NoRoom) × (front behind : List (List ℕ)) × (piece : List ℕ)
+    × (pieces ≡ front ++ piece ∷ behind)
     × Appends (concat front) old new × (length (rest_of new) < length piece)

@@ -43,7 +43,8 @@ impl<'a> Reader<'a> {
         // What is read is spelled there.
         ensures found { IfOk result (λ n. Begins self.old (Unsigned n) self.new) }
         // What is spelled there is read.
-        ensures only { (n : ℕ) (after : List ℕ) → Begins self.old (Unsigned n) after → (result ≡ Ok n) × (self.new ≡ after) }
+        ensures only { (n : ℕ) (after : List ℕ) → Begins self.old (Unsigned n) after
+            → (result ≡ Ok n) × (self.new ≡ after) }
         // Which fault it is, and that it leaves the place.
         ensures exact { Gives (λ n. n) result self.old self.new (unsigned_at self.old) }
     {
@@ -59,7 +60,8 @@ impl<'a> Reader<'a> {
     #[tactic(auto, unfolding(crate::specs::Reader::signed_at))]
     pub fn i32(&mut self) -> Result<i32, XdrFault>
         ensures found { IfOk result (λ z. Begins self.old (Signed z) self.new) }
-        ensures only { (z : ℤ) (after : List ℕ) → Begins self.old (Signed z) after → (result ≡ Ok z) × (self.new ≡ after) }
+        ensures only { (z : ℤ) (after : List ℕ) → Begins self.old (Signed z) after
+            → (result ≡ Ok z) × (self.new ≡ after) }
         ensures exact { Gives (λ z. z) result self.old self.new (signed_at self.old) }
     {
         let word = self.u32()?;
@@ -70,7 +72,8 @@ impl<'a> Reader<'a> {
     #[tactic(auto, unfolding(crate::specs::Reader::boolean_at))]
     pub fn boolean(&mut self) -> Result<bool, XdrFault>
         ensures found { IfOk result (λ b. Begins self.old (Boolean b) self.new) }
-        ensures only { (b : Bool) (after : List ℕ) → Begins self.old (Boolean b) after → (result ≡ Ok b) × (self.new ≡ after) }
+        ensures only { (b : Bool) (after : List ℕ) → Begins self.old (Boolean b) after
+            → (result ≡ Ok b) × (self.new ≡ after) }
         ensures exact { Gives (λ b. b) result self.old self.new (boolean_at self.old) }
     {
         let mut ahead = Reader { rest: self.rest };
@@ -84,13 +87,15 @@ impl<'a> Reader<'a> {
     }
 
     /// Reads variable-length opaque data of at most `max` bytes (RFC 4506, section 4.10), or a
-    /// string, which is spelled alike (section 4.11). The result is a slice of the bytes. The faults
-    /// are, in this order, `Short` for the length, `TooLong`, `Short` for the data and their pad,
-    /// and `BadPad`.
+    /// string, which is spelled alike (section 4.11). The result is a slice of the bytes. The
+    /// faults are, in this order, `Short` for the length, `TooLong`, `Short` for the data and their
+    /// pad, and `BadPad`.
     #[tactic(auto, unfolding(crate::specs::Reader::opaque_at))]
     pub fn opaque(&mut self, max: u32) -> Result<&'a [u8], XdrFault>
-        ensures found { IfOk result (λ text. Begins self.old (Opaque text.now) self.new × (length text.now ≤ max)) }
-        ensures only { (text after : List ℕ) → Begins self.old (Opaque text) after → length text ≤ max
+        ensures found { IfOk result (λ text. Begins self.old (Opaque text.now) self.new
+            × (length text.now ≤ max)) }
+        ensures only { (text after : List ℕ) → Begins self.old (Opaque text) after
+            → length text ≤ max
             → IsOkAnd result (λ found. found.now ≡ text) × (self.new ≡ after) }
         ensures exact { Gives (λ text. text.now) result self.old self.new (opaque_at max self.old) }
     {

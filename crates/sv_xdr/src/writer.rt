@@ -48,7 +48,8 @@ impl<'b> Writer<'b> {
     pub fn u32(&mut self, number: u32) -> Result<(), XdrFault>
         ensures same_buffer { self.new.out.ghost_name ≡ self.old.out.ghost_name }
         ensures spelled { OnOk result (AppendsField (Unsigned number) self.old self.new) }
-        // The spelling is this one, and there was room for it, or there was none and nothing changed.
+        // The spelling is this one, and there was room for it, or there was none and nothing
+        // changed.
         ensures exact { Writes (spelling (Unsigned number)) result self.old self.new }
     {
         self.bytes(&number.to_be_bytes())
@@ -77,8 +78,10 @@ impl<'b> Writer<'b> {
     pub fn opaque(&mut self, text: &[u8]) -> Result<(), XdrFault>
         ensures same_buffer { self.new.out.ghost_name ≡ self.old.out.ghost_name }
         ensures spelled { OnOk result (AppendsField (Opaque text.now) self.old self.new) }
-        ensures exact { length text.now < 2 ^ 32 → Writes (spelling (Opaque text.now)) result self.old self.new }
-        ensures too_long { 2 ^ 32 ≤ length text.now → IsErrOf result XdrFault.TooLong × Stays self.old self.new }
+        ensures exact { length text.now < 2 ^ 32
+            → Writes (spelling (Opaque text.now)) result self.old self.new }
+        ensures too_long { 2 ^ 32 ≤ length text.now
+            → IsErrOf result XdrFault.TooLong × Stays self.old self.new }
     {
         let Ok(size) = u32::try_from(text.len()) else {
             return Err(XdrFault::TooLong);

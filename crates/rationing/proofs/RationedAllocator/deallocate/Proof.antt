@@ -67,7 +67,16 @@ module _ (Z : Al) {M : Type 1} {𝓤 : Ura M} (𝓛 : Logic 𝓤) (mem : Memory 
 
   module _ (κ ρ : Lft) (q s : Share) (within : κ ⊑ ρ) (r : Bor (Rationed.the_row Z.row).Denot) (n a : ℕ) (τ : Ty) where
     abbrev bound : Ptr → (walk_of 𝓛 (ended Z) (stayed Z) held).Ghost
-    bound x = (((κ, (ρ, tt)), (q, (s, tt)), (within, tt), (r, (x, (n, (a, tt)))), (shr_vals r, (rawptr_vals x, (vint w64 n ∷ [], (vint w64 a ∷ [], tt))))), τ)
+    bound x = (
+      (
+        (κ, (ρ, tt)),
+        (q, (s, tt)),
+        (within, tt),
+        (r, (x, (n, (a, tt)))),
+        (shr_vals r, (rawptr_vals x, (vint w64 n ∷ [], (vint w64 a ∷ [], tt)))),
+      ),
+      τ,
+    )
 
     abbrev Pre : Ptr → SProp 𝓤
     Pre x = (walk_of 𝓛 (ended Z) (stayed Z) held).pre (bound x)
@@ -79,19 +88,23 @@ module _ (Z : Al) {M : Type 1} {𝓤 : Ura M} (𝓛 : Logic 𝓤) (mem : Memory 
     Sized = (capped (size τ) ≡ n) × (capped (align τ) ≡ a)
 
     abbrev entry : Ptr → Item 𝓤
-    entry x = (‵ (flft κ q) ⊛ ‵ (flft ρ s) ⊛ ‵ ftrue) ⊛ ‵ (owns (types_at (ended Z).signature.params (bound x).0.0) (bound x).0.3 (bound x).0.4)
+    entry x = (‵ (flft κ q) ⊛ ‵ (flft ρ s) ⊛ ‵ ftrue) ⊛ ‵
+        (owns (types_at (ended Z).signature.params (bound x).0.0) (bound x).0.3 (bound x).0.4)
 
     gives_unit : (x : Ptr) → Sq 𝓛 (‵ (flft κ q) ∷ (‵ (flft ρ s) ⊛ ‵ ftrue) ∷ []) (prop (Post x vunit))
     gives_unit x =
         suffices ! _ (ends_at 𝓛 (ended Z) (stayed Z) held (bound x) vunit tt (tt, (tt, (tt, (tt, tt)))) (tt, (tt, (tt, (tt, tt))))) $
         nothing ! $ feq_i ! (List Val) (vunit ∷ []) (vunit ∷ []) refl $
-        nothing ! $ nothing ! $ fjoin ! $ nothing ! $ fjoin ! $ nothing ! $ fjoin ! $ nothing ! $ fjoin ! $ join ! $ move ! (2 ∷ 3 ∷ []) $ join ! $ join ! $ done !
+        nothing ! $ nothing ! $ fjoin ! $ nothing ! $ fjoin ! $ nothing ! $ fjoin ! $ nothing ! $ fjoin ! $ join ! $ move !
+        (2 ∷ 3 ∷ []) $ join ! $ join ! $ done !
 
     module _ (𝓣 : Tables 𝓤 𝓛.H) (inner : Triple 𝓤 (𝓣.C (gives_key Z)) (Gives Z 𝓛 mem run)) where
       -- nothing lies at null
-      walk : n < 2 ^ 64 → a < 2 ^ 64 → (x : Ptr) → ent 𝓤 (Pre x) (WpFn 𝓤 H 𝓣.C 𝓣.Λ (here Z) (vptr r.ref_ptr.0 r.ref_ptr.1 ∷ ptr_val x ∷ vint w64 n ∷ vint w64 a ∷ []) (Post x))
+      walk : n < 2 ^ 64 → a < 2 ^ 64 → (x : Ptr) → ent 𝓤 (Pre x)
+          (WpFn 𝓤 H 𝓣.C 𝓣.Λ (here Z) (vptr r.ref_ptr.0 r.ref_ptr.1 ∷ ptr_val x ∷ vint w64 n ∷ vint w64 a ∷ []) (Post x))
       walk fits_n fits_a null_ptr =
-          qed 𝓛 (entry null_ptr ∷ (raw (fact 𝓤 (ρ ⊑ Z.row.lives)) ⊛ raw (fact 𝓤 Sized) ⊛ ‵ (fsep ffalse (token Z r.now.inner τ null_ptr))) ∷ []) ∵
+          qed 𝓛 (entry null_ptr ∷ (raw (fact 𝓤 (ρ ⊑ Z.row.lives)) ⊛ raw (fact 𝓤 Sized) ⊛ ‵ (fsep ffalse (token Z r.now.inner τ null_ptr)))
+          ∷ []) ∵
           move ! (1 ∷ []) $ split3 ! $ move ! (2 ∷ []) $ fsplit ! $ keep ! (0 ∷ []) $ by ! (never_e 𝓤 _)
       walk fits_n fits_a (block_ptr b o) =
           let handle : Z.row.Denot = r.now.inner in
@@ -103,13 +116,18 @@ module _ (Z : Al) {M : Type 1} {𝓤 : Ura M} (𝓛 : Logic 𝓤) (mem : Memory 
           split ! $ split ! $ move ! (2 ∷ []) $ fsplit ! $ fsplit ! $ move ! (1 ∷ []) $ unhide ! $ fsplit ! $ fsplit ! $
           use1 𝓛 (‵ (seen Z κ at_handle handle)) (id⊢ 𝓤 _) $ keep ! (0 ∷ 5 ∷ 6 ∷ 7 ∷ []) $
           -- [the `&` to the handle; the token of κ; the token of ρ; the block]
-          enter ! 𝓣.C 𝓣.Λ (here Z) _ _ $ alloc_all ! (λ l. pass_all ! refl ((tt, tt), ((tt, tt), ((tt, record { fits = fits_n }), ((tt, record { fits = fits_a }), tt)))) $
+          enter ! 𝓣.C 𝓣.Λ (here Z) _ _ $ alloc_all !
+          (λ l. pass_all ! refl ((tt, tt), ((tt, tt), ((tt, record { fits = fits_n }), ((tt, record { fits = fits_a }), tt)))) $
           sets ! (addr ! (through ! refl (fld ! refl (stop !)))) refl (tt, tt) $
           join ! $ move ! (2 ∷ []) $ fsplit ! $ move ! (1 ∷ 2 ∷ []) $ join ! $ move ! (1 ∷ 0 ∷ []) $ join ! $
-          use1 𝓛 (raw ((Gives Z 𝓛 mem run).pre y)) (Gives-goes Z 𝓛 mem run κ q at_handle handle (⊑_trans κ ρ Z.row.lives within lives) b o n a τ sized.0 sized.1 fits_n fits_a) $
-          calls_at ! (fm_of 𝓤 H 𝓛.laws 𝓣) (Gives Z 𝓛 mem run) inner y (and_then ! (get ! refl) (and_then ! (get ! refl) (and_then ! (get ! refl) (and_then ! (get ! refl) (no_more !))))) (λ v.
-          use1 𝓛 (later (given (v ≡ vunit) (‵ (flft κ q)))) (Gives-Gives Z 𝓛 mem run κ q at_handle handle b o n a τ v) $ await ! tt $ learn ! (λ is_unit.
-          lands_as ! is_unit refl (tt, tt) $ sets ! (of_opd ! (unit_lit !)) refl (tt, tt) $ returns ! (look_at ! 0 refl) $ free_all ! refl $ gives_unit x)))))
+          use1 𝓛 (raw ((Gives Z 𝓛 mem run).pre y))
+          (Gives-goes Z 𝓛 mem run κ q at_handle handle (⊑_trans κ ρ Z.row.lives within lives) b o n a τ sized.0 sized.1 fits_n fits_a) $
+          calls_at ! (fm_of 𝓤 H 𝓛.laws 𝓣) (Gives Z 𝓛 mem run) inner y
+          (and_then ! (get ! refl) (and_then ! (get ! refl) (and_then ! (get ! refl) (and_then ! (get ! refl) (no_more !))))) (λ v.
+          use1 𝓛 (later (given (v ≡ vunit) (‵ (flft κ q))))
+          (Gives-Gives Z 𝓛 mem run κ q at_handle handle b o n a τ v) $ await ! tt $ learn ! (λ is_unit.
+          lands_as ! is_unit refl (tt, tt) $ sets ! (of_opd ! (unit_lit !)) refl (tt, tt) $ returns !
+          (look_at ! 0 refl) $ free_all ! refl $ gives_unit x)))))
 
 pub deallocate_spec : {M : Type 1} → statement M
 unfolding tables_of
@@ -118,7 +136,13 @@ deallocate_spec 𝓤 𝓛 𝓜 𝓡 wired Y L g d dd met _ =
     let 𝓣 : Tables 𝓤 𝓛.H = tables_of 𝓤 𝓛.H 𝓜 (tables 𝓤 𝓛.H 𝓜 𝓡 𝓡.env) in
     let c = held Z 𝓛 𝓜.mem 𝓡.returns in
     let usize_goes = Goes-dropped 𝓛 2 (number Z) yes (λ κs x w. refl) in
-    entered 𝓤 𝓛.H (triple_of 𝓛 (F.signature Y) (F.spec Y g d dd 𝓛 𝓜.mem 𝓡.returns)) 𝓣.C 𝓣.Λ (key.name (bounded (a_type ∷ []) (Y, tt) (dcons d (dcons dd dnil)))) (here Z) (code.unfolded 𝓤 𝓛.H 𝓜 𝓡 wired (Y, tt) d dd)
-    (walk_Meets 𝓛 (ended Z) (stayed Z) (Goes-dropped 𝓛 2 (self Z) yes (λ κs x w. refl), (Goes-dropped 𝓛 2 (pointer Z) yes (λ κs x w. refl), (usize_goes, (usize_goes, tt)))) c (WpFn 𝓤 𝓛.H 𝓣.C 𝓣.Λ (here Z)) (WpFn-mono 𝓤 𝓛.H 𝓛.laws 𝓣 (here Z))
-    (walked 𝓛 (ended Z) (stayed Z) c (WpFn 𝓤 𝓛.H 𝓣.C 𝓣.Λ (here Z)) (λ κs. (shr_vals, (rawptr_vals, (uint_vals w64, (uint_vals w64, tt))))) (λ κs. ((λ x vs is. is.0), (rawptr_Tells, (uint_Tells w64, (uint_Tells w64, tt)))))
-    (λ κs qs bounds x τ are. walk Z 𝓛 𝓜.mem 𝓡.returns κs.0 κs.1.0 qs.0 qs.1.0 bounds.0 x.0 x.1.1.0 x.1.1.1.0 τ 𝓣 (met.deallocate dd) are.1.1.0.1 are.1.1.1.0.1 x.1.0)))
+    entered 𝓤 𝓛.H (triple_of 𝓛 (F.signature Y) (F.spec Y g d dd 𝓛 𝓜.mem 𝓡.returns)) 𝓣.C 𝓣.Λ
+    (key.name (bounded (a_type ∷ []) (Y, tt) (dcons d (dcons dd dnil)))) (here Z) (code.unfolded 𝓤 𝓛.H 𝓜 𝓡 wired (Y, tt) d dd)
+    (walk_Meets 𝓛 (ended Z) (stayed Z) (
+      Goes-dropped 𝓛 2 (self Z) yes (λ κs x w. refl),
+      (Goes-dropped 𝓛 2 (pointer Z) yes (λ κs x w. refl), (usize_goes, (usize_goes, tt))),
+    ) c (WpFn 𝓤 𝓛.H 𝓣.C 𝓣.Λ (here Z)) (WpFn-mono 𝓤 𝓛.H 𝓛.laws 𝓣 (here Z))
+    (walked 𝓛 (ended Z) (stayed Z) c (WpFn 𝓤 𝓛.H 𝓣.C 𝓣.Λ (here Z)) (λ κs. (shr_vals, (rawptr_vals, (uint_vals w64, (uint_vals w64, tt)))))
+    (λ κs. ((λ x vs is. is.0), (rawptr_Tells, (uint_Tells w64, (uint_Tells w64, tt)))))
+    (λ κs qs bounds x τ are. walk Z 𝓛 𝓜.mem 𝓡.returns κs.0 κs.1.0 qs.0 qs.1.0 bounds.0 x.0 x.1.1.0 x.1.1.1.0 τ 𝓣
+    (met.deallocate dd) are.1.1.0.1 are.1.1.1.0.1 x.1.0)))

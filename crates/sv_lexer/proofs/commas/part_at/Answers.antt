@@ -18,7 +18,9 @@ loop-passed-preserved c =
     let whole = rw c.in_ok-rest.was at c.first_outside.ensures.whole in
     record {
       left = left_next c.loop-passed.passed _ _ _ more;
-      place = ap (λ n. n + (length c.first_outside.result.0.now + 1)) c.loop-passed.invariant.place ∙ sym (place_next c.loop-passed.passed _ _ _ more);
-      stands = stands_in c.args.text.now c.loop-passed.rest.now c.in_ok-rest.rest.now c.loop-passed.place _ c.loop-passed.invariant.stands (stands_behind c.loop-passed.rest.now c.first_outside.result.0.now c.in_ok-rest.rest.now 44 _ whole refl);
+      place = ap (λ n. n + (length c.first_outside.result.0.now + 1)) c.loop-passed.invariant.place
+          ∙ sym (place_next c.loop-passed.passed _ _ _ more);
+      stands = stands_in c.args.text.now c.loop-passed.rest.now c.in_ok-rest.rest.now c.loop-passed.place _ c.loop-passed.invariant.stands
+          (stands_behind c.loop-passed.rest.now c.first_outside.result.0.now c.in_ok-rest.rest.now 44 _ whole refl);
       few = omega (arith, c.loop-passed-test.true);
     }

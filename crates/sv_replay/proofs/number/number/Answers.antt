@@ -5,23 +5,29 @@ use Rattle.sv_replay.proofs.Steps.{number_starts, no_number, digits_end, digits_
 use Rattle.sv_replay.proofs.number.number.Goals as goal
 
 pub returns-then-is_empty-clause-exact : goal.returns-then-is_empty-clause-exact
-returns-then-is_empty-clause-exact c = no_number c.args.most c.args.digits.now (eqb-true (length c.args.digits.now) 0 (sym c.if-is_empty.ensures))
+returns-then-is_empty-clause-exact c = no_number c.args.most c.args.digits.now
+    (eqb-true (length c.args.digits.now) 0 (sym c.if-is_empty.ensures))
 
 pub loop-digit-init : goal.loop-digit-init
-loop-digit-init c =
-    (number_starts c.args.most c.args.digits.now (λ e. eqb-false (length c.args.digits.now) 0 (sym c.if-is_empty.ensures) (sym e)), omega arith)
+loop-digit-init c = (
+  number_starts c.args.most c.args.digits.now (λ e. eqb-false (length c.args.digits.now) 0 (sym c.if-is_empty.ensures) (sym e)),
+  omega arith,
+)
 
 pub returns-then-not-is_ascii_digit-clause-exact : goal.returns-then-not-is_ascii_digit-clause-exact
 returns-then-not-is_ascii_digit-clause-exact c =
-    sym (digits_bad c.args.most c.loop-digit.value c.args.digits.now c.loop-digit.digit-index c.loop-digit-test.true (sym c.if-not-is_ascii_digit.ensures.value)) ∙ c.loop-digit.invariant.0
+    sym (digits_bad c.args.most c.loop-digit.value c.args.digits.now c.loop-digit.digit-index c.loop-digit-test.true
+    (sym c.if-not-is_ascii_digit.ensures.value)) ∙ c.loop-digit.invariant.0
 
 pub returns-then-most-value-clause-exact : goal.returns-then-most-value-clause-exact
 returns-then-most-value-clause-exact c =
-    sym (digits_above c.args.most c.loop-digit.value c.args.digits.now c.loop-digit.digit-index c.loop-digit-test.true (sym c.if-not-is_ascii_digit.ensures.value) (omega arith)) ∙ c.loop-digit.invariant.0
+    sym (digits_above c.args.most c.loop-digit.value c.args.digits.now c.loop-digit.digit-index c.loop-digit-test.true
+    (sym c.if-not-is_ascii_digit.ensures.value) (omega arith)) ∙ c.loop-digit.invariant.0
 
 pub loop-digit-preserved : goal.loop-digit-preserved
 loop-digit-preserved c =
-    let e = digits_next c.args.most c.loop-digit.value c.args.digits.now c.loop-digit.digit-index c.loop-digit-test.true (sym c.if-not-is_ascii_digit.ensures.value) (omega arith) in
+    let e = digits_next c.args.most c.loop-digit.value c.args.digits.now c.loop-digit.digit-index c.loop-digit-test.true
+    (sym c.if-not-is_ascii_digit.ensures.value) (omega arith) in
     (rw c.from.ensures (sym e ∙ c.loop-digit.invariant.0), omega arith)
 
 pub returns-clause-exact : goal.returns-clause-exact

@@ -14,8 +14,10 @@ returns-in_err-replay g c = λ config history s.
     let (other, after, replays, now, more) = c.in_err-replay.ensures config middle stands in (
       text ++ other,
       after,
-      performs_stop config history _ c.in_err-replay.field-0.0 c.from_residual.result _ after c.from_residual.ensures.0 c.from_residual.ensures.1
-          (ticks_stop config history c.loop.counter c.args.count c.in_err-replay.field-0.0 text other middle after c.loop-test.true prints replays),
+      performs_stop config history _ c.in_err-replay.field-0.0 c.from_residual.result _ after c.from_residual.ensures.0
+          c.from_residual.ensures.1
+          (ticks_stop config history c.loop.counter c.args.count c.in_err-replay.field-0.0 text other middle after c.loop-test.true prints
+          replays),
       now,
       appends_then _ _ _ text other put more,
     )
@@ -23,8 +25,13 @@ returns-in_err-replay g c = λ config history s.
 pub loop-preserved : goal.loop-preserved
 loop-preserved g c = λ config history s.
     let (text, middle, prints, stands, put) = c.loop.invariant config history s in
-    let (other, after, replays, now, more) = c.in_ok-replay.ensures config middle stands in
-    (text ++ other, after, ticks_more config history c.loop.counter (c.loop.counter + 1) text other middle after refl prints replays, now, appends_then _ _ _ text other put more)
+    let (other, after, replays, now, more) = c.in_ok-replay.ensures config middle stands in (
+      text ++ other,
+      after,
+      ticks_more config history c.loop.counter (c.loop.counter + 1) text other middle after refl prints replays,
+      now,
+      appends_then _ _ _ text other put more,
+    )
 
 pub returns : goal.returns
 returns g c = λ config history s.

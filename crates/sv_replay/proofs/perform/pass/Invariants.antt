@@ -8,5 +8,7 @@ use Rattle.sv_replay.proofs.perform.pass.Given as goal
 
 -- so many ticks were printed
 abbrev pub invariant-loop : goal.invariant-loop
-invariant-loop g l = (config : Config) (history : List Happening) → StandsFor l.fn.server config history → (text : List ℕ) × (after : List Happening)
-    × Prints config history (replicate l.counter Tick) text after × StandsFor l.server config after × Appends (g.W.Write.contents l.fn.writer) (g.W.Write.contents l.writer) text
+invariant-loop g l = (config : Config) (history : List Happening) → StandsFor l.fn.server config history
+    → (text : List ℕ) × (after : List Happening)
+    × Prints config history (replicate l.counter Tick) text after × StandsFor l.server config after
+    × Appends (g.W.Write.contents l.fn.writer) (g.W.Write.contents l.writer) text

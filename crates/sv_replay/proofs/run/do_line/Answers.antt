@@ -9,7 +9,9 @@ returns-in_err-perform-in-Some g c = λ history s.
     let (text, after, stops, stands, put) = c.in_err-perform-in-Some.ensures set_up history s in (
       text,
       after,
-      line_stops c.args.line.now c.args.number history (plain_line c.in-Some.said) c.in_err-perform-in-Some.field-0.0 c.from_residual.result text after (omega arith) c.in-Some.ensures.found
+      line_stops c.args.line.now c.args.number history
+          (plain_line c.in-Some.said) c.in_err-perform-in-Some.field-0.0 c.from_residual.result text after
+          (omega arith) c.in-Some.ensures.found
           c.from_residual.ensures.0 c.from_residual.ensures.1 stops,
       stands,
       put,

@@ -1,42 +1,10 @@
-use Rattle.std.proofs.Common.{false, true, ap, length, arith}
-use Rattle.std.specs.Prelude.{Ok, Err}
-use Rattle.sv_replay.specs.Text.{Held}
-use Rattle.sv_replay.proofs.Going.{so_far_start, so_far_turn, so_far_stop, so_far_end, so_far_at_end, no_memory}
+use Rattle.sv_replay.proofs.Going.{so_far_told, end_told}
 use Rattle.sv_replay.proofs.run.run_replay.Goals as goal
 
-pub returns-in_err-run-clause-runs : goal.returns-in_err-run-clause-runs
-returns-in_err-run-clause-runs g c = no_memory _ _ c.from_residual.result c.from_residual.ensures.0 c.from_residual.ensures.1
+pub returns-clause-runs : goal.returns-clause-runs
+returns-clause-runs g c =
+    so_far_told _ _ _ _ _ c.run_lines-answer.result c.pass_on.result c.run_lines-answer.ensures.end c.pass_on.ensures.answer
+    c.pass_on.ensures.kept c.run_lines-answer.ensures.runs
 
-pub loop-init : goal.loop-init
-loop-init g c =
-    let (stands, none, zero_lines) = c.in_ok-run.ensures in (
-      so_far_start c.in_ok-run.run'.server c.in_ok-run.run'.text.text c.in_ok-run.run'.lines _ _ stands (ap (λ (h : Held). h.text) none) zero_lines,
-      omega (arith, zero_lines, ap (λ (h : Held). h.reads) none),
-      omega (arith, zero_lines, ap (λ (h : Held). length h.text) none),
-      omega (arith, ap (λ (h : Held). h.reads) none),
-    )
-
-pub returns-in_err-turn-clause-runs : goal.returns-in_err-turn-clause-runs
-returns-in_err-turn-clause-runs g c =
-    so_far_stop c.turn.new.self.server c.turn.new.self.text.text c.turn.new.self.lines _ _ _ _ c.in_err-turn.field-0.0 c.from_residual-in_err-turn.result c.from_residual-in_err-turn.ensures.0
-    c.from_residual-in_err-turn.ensures.1 (so_far_turn c.loop.run.server c.turn.new.self.server c.loop.run.text.text c.turn.new.self.text.text c.loop.run.lines c.turn.new.self.lines _ _ _ _ _ _ (Err c.in_err-turn.field-0.0) c.loop.invariant.0 c.in_err-turn.ensures.goes)
-
-pub returns-then-not-branch-clause-runs : goal.returns-then-not-branch-clause-runs
-returns-then-not-branch-clause-runs g c =
-    so_far_end c.turn.new.self.server c.turn.new.self.text.text c.turn.new.self.lines _ _ _ _
-    (so_far_turn c.loop.run.server c.turn.new.self.server c.loop.run.text.text c.turn.new.self.text.text c.loop.run.lines c.turn.new.self.lines _ _ _ _ _ _ (Ok false) c.loop.invariant.0 (rw c.if-not-branch.true at c.in_ok-turn.ensures.goes))
-
-pub returns-then-not-branch-clause-end : goal.returns-then-not-branch-clause-end
-returns-then-not-branch-clause-end g c =
-    so_far_at_end c.turn.new.self.server c.turn.new.self.text.text c.turn.new.self.lines _ _ _ _
-    (so_far_turn c.loop.run.server c.turn.new.self.server c.loop.run.text.text c.turn.new.self.text.text c.loop.run.lines c.turn.new.self.lines _ _ _ _ _ _ (Ok false) c.loop.invariant.0 (rw c.if-not-branch.true at c.in_ok-turn.ensures.goes))
-
-pub loop-preserved : goal.loop-preserved
-loop-preserved g c =
-    let e = c.if-not-branch.false in (
-      so_far_turn c.loop.run.server c.turn.new.self.server c.loop.run.text.text c.turn.new.self.text.text c.loop.run.lines c.turn.new.self.lines _ _ _ _ _ _ (Ok true) c.loop.invariant.0
-          (rw e at c.in_ok-turn.ensures.goes),
-      omega (arith, rw e at c.in_ok-turn.ensures.counted, c.loop.invariant.1),
-      (rw e at c.in_ok-turn.ensures.bounded) c.loop.invariant.2,
-      (rw e at c.in_ok-turn.ensures.few) c.loop.invariant.3,
-    )
+pub returns-clause-end : goal.returns-clause-end
+returns-clause-end g c = end_told _ c.run_lines-answer.result c.pass_on.result c.run_lines-answer.ensures.end c.pass_on.ensures.answer

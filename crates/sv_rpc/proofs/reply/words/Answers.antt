@@ -12,11 +12,21 @@ returns-in_err-u32-clause-writes c =
     let words = c.args.words.now in
     let e = c.in_err-u32.ensures.exact in
     let written = Appends-stays _ c.args.writer.now c.loop-word.writer c.u32.new.self c.loop-word.invariant.written e.2 in
-    rw (p.1, p.2) (e.0, map f (take i words), map f (drop (suc i) words), _, cut_at f words i c.loop-word-test.true, written, omega (arith, ap length e.2.rest))
+    rw (p.1, p.2) (
+      e.0,
+      map f (take i words),
+      map f (drop (suc i) words),
+      _,
+      cut_at f words i c.loop-word-test.true,
+      written,
+      omega (arith, ap length e.2.rest),
+    )
 
 pub loop-word-preserved : goal.loop-word-preserved
 loop-word-preserved c =
     record {
       same_buffer = search rules;
-      written = one_more (λ word. spelling (Unsigned word)) c.args.words.now c.loop-word.word-index c.args.writer.now c.loop-word.writer c.u32.new.self c.loop-word-test.true c.loop-word.invariant.written c.in_ok-u32.ensures.exact;
+      written =
+          one_more (λ word. spelling (Unsigned word)) c.args.words.now c.loop-word.word-index c.args.writer.now c.loop-word.writer
+          c.u32.new.self c.loop-word-test.true c.loop-word.invariant.written c.in_ok-u32.ensures.exact;
     }

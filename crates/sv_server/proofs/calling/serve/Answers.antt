@@ -7,4 +7,5 @@ returns-in-Err-BadHeader-clause-ok g c = λ log t x.
     rw (← fault) (faults c.args.conn log _ _ _ t x)
 
 pub returns-in-Some-clause-ok : goal.returns-in-Some-clause-ok
-returns-in-Some-clause-ok g c = λ log t x. rw (← c.in-Ok.ensures.exact) (rw (← c.in-Some.ensures) (just_replied c.args.conn _ log _ _ _ _ c.send_reply-in-Some.ensures.sent t x))
+returns-in-Some-clause-ok g c = λ log t x. rw (← c.in-Ok.ensures.exact)
+    (rw (← c.in-Some.ensures) (just_replied c.args.conn _ log _ _ _ _ c.send_reply-in-Some.ensures.sent t x))

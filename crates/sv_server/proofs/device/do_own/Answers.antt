@@ -18,17 +18,21 @@ returns-in-DeviceRead-clause-ok g c = λ log t x.
 pub returns-in-DeviceAbort-clause-ok : goal.returns-in-DeviceAbort-clause-ok
 returns-in-DeviceAbort-clause-ok g c = λ log t x.
     let lid : c.lid_of-in-DeviceAbort.result ≡ lid_of c.in-DeviceAbort.lid = grind (arith, to_z-of_z) in
-    rw c.in-DeviceAbort.is (just_replied c.args.conn _ log _ _ _ _ (rw (rw lid at (c.abort_error.ensures log t)) at c.send_plain.ensures.sent) t x)
+    rw c.in-DeviceAbort.is (just_replied c.args.conn _ log _ _ _ _
+    (rw (rw lid at (c.abort_error.ensures log t)) at c.send_plain.ensures.sent) t x)
 
 pub returns-in-DeviceRemote-clause-ok : goal.returns-in-DeviceRemote-clause-ok
-returns-in-DeviceRemote-clause-ok g c = λ log t x. rw c.in-DeviceRemote.is (just_replied c.args.conn _ log _ _ _ _ c.send_plain-in-DeviceRemote.ensures.sent t x)
+returns-in-DeviceRemote-clause-ok g c = λ log t x. rw c.in-DeviceRemote.is
+    (just_replied c.args.conn _ log _ _ _ _ c.send_plain-in-DeviceRemote.ensures.sent t x)
 
 pub returns-in-DeviceLocal-clause-ok : goal.returns-in-DeviceLocal-clause-ok
-returns-in-DeviceLocal-clause-ok g c = λ log t x. rw c.in-DeviceLocal.is (just_replied c.args.conn _ log _ _ _ _ c.send_plain-in-DeviceLocal.ensures.sent t x)
+returns-in-DeviceLocal-clause-ok g c = λ log t x. rw c.in-DeviceLocal.is
+    (just_replied c.args.conn _ log _ _ _ _ c.send_plain-in-DeviceLocal.ensures.sent t x)
 
 pub returns-in-DeviceReadstb : goal.returns-in-DeviceReadstb
 returns-in-DeviceReadstb g c =
-    let is : (log : List Act) → own_acts c.args.config c.args.conn c.args.xid (plain_arguments c.args.args) log ≡ succeeded c.args.conn c.args.xid (failure (plain_arguments c.args.args) NotSupported) log =
+    let is : (log : List Act) → own_acts c.args.config c.args.conn c.args.xid (plain_arguments c.args.args) log
+    ≡ succeeded c.args.conn c.args.xid (failure (plain_arguments c.args.args) NotSupported) log =
     λ log. elim c.in-DeviceReadstb.is [
       | inl w ↦ rw w.4 refl
       | inr (inl w) ↦ rw w.4 refl
@@ -41,7 +45,8 @@ returns-in-DeviceReadstb g c =
       | inr (inr (inr (inr (inr (inr (inr (inr w))))))) ↦ rw w refl
     ] in
     record {
-      ok = λ log t x. rw (is log) (just_replied c.args.conn _ log _ _ _ _ (rw c.failure.ensures.result_is at c.send_result.ensures.sent) t x);
+      ok = λ log t x. rw (is log) (just_replied c.args.conn _ log _ _ _ _
+          (rw c.failure.ensures.result_is at c.send_result.ensures.sent) t x);
       err = tt;
       capacity = c.send_result.ensures.capacity;
       grows = c.send_result.ensures.grows;

@@ -10,5 +10,6 @@ pub returns-clause-sent : goal.returns-clause-sent
 returns-clause-sent g c =
     let fields : List Field = Unsigned c.args.number ∷ [] in
     let written = each_last (spelling (Unsigned c.args.number)) _ _ _ c.u32.ensures.exact in
-    let text = c.text.ensures ∙ both_are_written c.args.xid fields _ _ _ _ _ c.new-writer.ensures.text (omega (arith, ap length c.new-writer.ensures.rest)) (omega arith) c.write_reply.ensures.writes written in
+    let text = c.text.ensures ∙ both_are_written c.args.xid fields _ _ _ _ _ c.new-writer.ensures.text
+    (omega (arith, ap length c.new-writer.ensures.rest)) (omega arith) c.write_reply.ensures.writes written in
     c.send.ensures.sent ∙ ap (λ (t : List ℕ). c.args.out.now.items ++ fragment true t) text

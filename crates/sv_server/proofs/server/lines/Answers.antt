@@ -18,7 +18,8 @@ loop-preserved g c =
         | inl below ↦ rw (get_or_append_left lines (line ∷ []) other k (omega arith)) (c.loop.invariant.each d k other below)
         | inr above ↦
             let at : k ≡ length lines = omega arith in
-            let value : get_or (lines ++ line ∷ []) k other ≡ line = ap (λ (n : ℕ). get_or (lines ++ line ∷ []) n other) at ∙ get_or-append_seam lines line [] other in
+            let value : get_or (lines ++ line ∷ []) k other ≡ line =
+            ap (λ (n : ℕ). get_or (lines ++ line ∷ []) n other) at ∙ get_or-append_seam lines line [] other in
             subst (λ (l : Line). IsLine l d []) (sym value) (c.in_ok-new.ensures d)
       ]);
     }

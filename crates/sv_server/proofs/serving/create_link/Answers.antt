@@ -24,12 +24,14 @@ pub returns-then-not-may_make-clause-ok : goal.returns-then-not-may_make-clause-
 returns-then-not-may_make-clause-ok g c = λ log exchange t x.
     let same : not (bytes_eq c.args.device.now (codes "inst0")) ≡ false = rw c.as_slice.ensures at (sym c.if-ne.ensures) in
     let none = sym (c.if-not-may_make.ensures.answer _ t) in
-    rw (same, c.if-lock_device.false, none) (just_replied c.args.conn _ log _ exchange _ _ c.send_no_link-then-not-may_make.ensures.sent t x)
+    rw (same, c.if-lock_device.false, none) (just_replied c.args.conn _ log _ exchange _ _ c.send_no_link-then-not-may_make.ensures.sent t
+    x)
 
 pub returns-clause-ok : goal.returns-clause-ok
 returns-clause-ok g c = λ log exchange t x.
     let same : not (bytes_eq c.args.device.now (codes "inst0")) ≡ false = rw c.as_slice.ensures at (sym c.if-ne.ensures) in
     let one = sym (c.if-not-may_make.ensures.answer _ t) in
     let number : c.in_ok-lid.lid ≡ made (link_acts log) + 1 = c.in_ok-lid.ensures.number.0 ∙ ap (λ (n : ℕ). n + 1) t.count in
-    let sent = subst (λ (n : ℕ). c.send_link.new.out.items ≡ c.args.out.now.items ++ reply_record c.args.xid Success (result_fields (Link NoError (pos n) c.args.config.abort 4096))) number c.send_link.ensures.sent in
+    let sent = subst (λ (n : ℕ). c.send_link.new.out.items ≡ c.args.out.now.items
+    ++ reply_record c.args.xid Success (result_fields (Link NoError (pos n) c.args.config.abort 4096))) number c.send_link.ensures.sent in
     rw (same, c.if-lock_device.false, one) (replied_by_link c.args.conn _ _ log _ exchange _ _ sent (c.in_ok-lid.ensures.ok _ t) x)

@@ -7,7 +7,8 @@ use Rattle.sv_value.proofs.channels.are_spans.Given as goal
 
 -- the items that are left decide
 abbrev pub invariant-loop-item : goal.invariant-loop-item
-invariant-loop-item l = list_all (λ item. is_some (span item)) (cut_at 44 l.items) ≡ list_all (λ item. is_some (span item)) (cut_at 44 l.rest)
+invariant-loop-item l = list_all (λ item. is_some (span item)) (cut_at 44 l.items)
+    ≡ list_all (λ item. is_some (span item)) (cut_at 44 l.rest)
 
 abbrev pub decreases-loop-item : goal.decreases-loop-item
 decreases-loop-item l = length l.rest

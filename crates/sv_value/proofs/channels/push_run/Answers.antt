@@ -4,7 +4,8 @@ use Rattle.sv_value.proofs.channels.push_run.Goals as goal
 
 pub loop-channel-preserved-then-channel-last : goal.loop-channel-preserved-then-channel-last
 loop-channel-preserved-then-channel-last c = record {
-  same = push-up c.args.list.now.items c.loop-channel.list.items c.push.new.self.items c.args.first c.args.last c.loop-channel.channel c.if-channel-last.true c.push.ensures.items c.loop-channel.invariant.same;
+  same = push-up c.args.list.now.items c.loop-channel.list.items c.push.new.self.items c.args.first c.args.last c.loop-channel.channel
+      c.if-channel-last.true c.push.ensures.items c.loop-channel.invariant.same;
   fits = omega (arith, c.push.ensures.len, c.loop-channel.invariant.fits, c.if-channel-last.true);
 }
 
@@ -16,6 +17,7 @@ pub loop-channel-preserved : goal.loop-channel-preserved
 loop-channel-preserved c =
     let down = above c.loop-channel.channel c.args.last c.loop-channel-test.true c.if-channel-last.false in
     record {
-      same = push-down c.args.list.now.items c.loop-channel.list.items c.push.new.self.items c.args.first c.args.last c.loop-channel.channel down c.push.ensures.items c.loop-channel.invariant.same;
+      same = push-down c.args.list.now.items c.loop-channel.list.items c.push.new.self.items c.args.first c.args.last c.loop-channel.channel
+          down c.push.ensures.items c.loop-channel.invariant.same;
       fits = omega (arith, c.push.ensures.len, c.loop-channel.invariant.fits, down);
     }

@@ -5,7 +5,8 @@ use Rattle.sv_value.proofs.digits.value_after.Given as goal
 -- the digits that are left decide
 abbrev pub invariant-loop-rest : goal.invariant-loop-rest
 invariant-loop-rest l = record {
-  value : min (digits_value_after l.base l.front l.digits) 1000000000000000000 ≡ min (digits_value_after l.base l.value l.rest) 1000000000000000000;
+  value : min (digits_value_after l.base l.front l.digits) 1000000000000000000
+      ≡ min (digits_value_after l.base l.value l.rest) 1000000000000000000;
   most : l.value ≤ 1000000000000000000;
 }
 

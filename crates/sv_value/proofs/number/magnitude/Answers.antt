@@ -12,13 +12,16 @@ returns-then-up-down c =
     let down : ℕ = length c.args.number.now.fraction.now + c.moved-right.result.1 in
     let digits : List ℕ = c.args.number.now.whole.now ++ c.args.number.now.fraction.now in
     let value : c.value_after-value.result ≡ min (digits_value 10 digits) 1000000000000000000 =
-    c.value_after-value.ensures.value ∙ ap (λ n. min (digits_value_after 10 n c.args.number.now.fraction.now) 1000000000000000000) c.value_after.ensures.value ∙ cap_join 1000000000000000000 c.args.number.now.whole.now c.args.number.now.fraction.now in
+    c.value_after-value.ensures.value ∙ ap (λ n. min (digits_value_after 10 n c.args.number.now.fraction.now) 1000000000000000000)
+    c.value_after.ensures.value ∙ cap_join 1000000000000000000 c.args.number.now.whole.now c.args.number.now.fraction.now in
     c.shifted.ensures
     ∙ ap (λ n. min (n * 10 ^ (up - down)) 1000000000000000000) value
     ∙ cap_up 1000000000000000000 (digits_value 10 digits) (10 ^ (up - down)) (ten-some (up - down))
     ∙ ap (λ n. min n 1000000000000000000) (sym (nearest-right (digits_value 10 digits) up down c.if-up-down.true))
-    ∙ same-powers 1000000000000000000 (digits_value 10 digits) up (c.args.power + right (plain c.args.number.now)) down (length c.args.number.now.fraction.now + left (plain c.args.number.now))
-    (ap (λ n. c.args.power + n) c.moved-right.ensures.right) (ap (λ n. length c.args.number.now.fraction.now + n) c.moved-right.ensures.left)
+    ∙ same-powers 1000000000000000000 (digits_value 10 digits) up (c.args.power + right (plain c.args.number.now)) down
+    (length c.args.number.now.fraction.now + left (plain c.args.number.now))
+    (ap (λ n. c.args.power + n) c.moved-right.ensures.right)
+    (ap (λ n. length c.args.number.now.fraction.now + n) c.moved-right.ensures.left)
 
 pub returns-else-up-down : goal.returns-else-up-down
 returns-else-up-down c =
@@ -28,5 +31,7 @@ returns-else-up-down c =
     let le : up ≤ down = omega (arith, c.if-up-down.false) in
     c.rounded.ensures
     ∙ ap (λ n. min n 1000000000000000000) (sym (nearest-left (digits_value 10 digits) up down le))
-    ∙ same-powers 1000000000000000000 (digits_value 10 digits) up (c.args.power + right (plain c.args.number.now)) down (length c.args.number.now.fraction.now + left (plain c.args.number.now))
-    (ap (λ n. c.args.power + n) c.moved-right.ensures.right) (ap (λ n. length c.args.number.now.fraction.now + n) c.moved-right.ensures.left)
+    ∙ same-powers 1000000000000000000 (digits_value 10 digits) up (c.args.power + right (plain c.args.number.now)) down
+    (length c.args.number.now.fraction.now + left (plain c.args.number.now))
+    (ap (λ n. c.args.power + n) c.moved-right.ensures.right)
+    (ap (λ n. length c.args.number.now.fraction.now + n) c.moved-right.ensures.left)

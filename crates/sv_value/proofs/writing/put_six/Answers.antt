@@ -13,6 +13,7 @@ returns-clause-text c text rest size e =
     let are = zeros-are (length c.as_bytes-digits.result.now) (omega (arith, few, short)) in
     let count = ap length are ∙ length-replicate (6 - length c.as_bytes-digits.result.now) 48 in
     let first = c.put-behind.ensures.text text rest size e ∙ simp append_assoc refl in
-    let second = c.put.ensures.text (text ++ zeros) (drop (length zeros) rest) (length-append text zeros ∙ omega (arith, size, c.put-behind.ensures.place)) first in
+    let second = c.put.ensures.text (text ++ zeros) (drop (length zeros) rest)
+    (length-append text zeros ∙ omega (arith, size, c.put-behind.ensures.place)) first in
     six-behind text rest zeros c.as_bytes-digits.result.now c.put.new.out _ (omega (arith, count, few, short))
     (ap (λ ds. replicate (6 - length ds) 48 ++ ds) (sym digits) ∙ ap (λ z. z ++ c.as_bytes-digits.result.now) (sym are)) second

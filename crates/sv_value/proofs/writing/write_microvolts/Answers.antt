@@ -12,8 +12,10 @@ below n = omega arith
 pub returns-clause-size : goal.returns-clause-size
 returns-clause-size c =
     let same = to_z-of_z w64 c.args.value c.ranges.value in
-    let volts = ap length (c.as_bytes.ensures.value ∙ c.format.ensures.text ∙ ap (λ n. decimal (n / 1000000)) (c.unsigned_abs-magnitude.ensures.value ∙ ap unsigned_abs same)) in
-    let whole = voltage-size (decimal (unsigned_abs c.args.value / 1000000)) (unsigned_abs c.args.value % 1000000) (below (unsigned_abs c.args.value)) in
+    let volts = ap length (c.as_bytes.ensures.value ∙ c.format.ensures.text
+    ∙ ap (λ n. decimal (n / 1000000)) (c.unsigned_abs-magnitude.ensures.value ∙ ap unsigned_abs same)) in
+    let whole = voltage-size (decimal (unsigned_abs c.args.value / 1000000)) (unsigned_abs c.args.value % 1000000)
+    (below (unsigned_abs c.args.value)) in
     omega (arith, volts, whole, c.put_six.ensures.place, c.put-size-3.ensures.place, c.put-size-2.ensures.place, c.put-size.ensures.place)
 
 pub returns-clause-text : goal.returns-clause-text
@@ -24,10 +26,16 @@ returns-clause-text c =
     let volts : List ℕ = c.as_bytes.result.now in
     let one = c.put-size.ensures.text [] old refl refl in
     let two = c.put-size-2.ensures.text (c.sign_of.result ∷ []) (drop 1 old) (sym c.put-size.ensures.place) one in
-    let three = c.put-size-3.ensures.text ((c.sign_of.result ∷ []) ++ volts) (drop (length volts) (drop 1 old)) (omega (arith, c.put-size.ensures.place, c.put-size-2.ensures.place)) two in
-    let point : length (((c.sign_of.result ∷ []) ++ volts) ++ 46 ∷ []) ≡ length volts + 2 = length-append ((c.sign_of.result ∷ []) ++ volts) (46 ∷ []) ∙ omega arith in
+    let three = c.put-size-3.ensures.text ((c.sign_of.result ∷ []) ++ volts) (drop (length volts) (drop 1 old))
+    (omega (arith, c.put-size.ensures.place, c.put-size-2.ensures.place)) two in
+    let point : length (((c.sign_of.result ∷ []) ++ volts) ++ 46 ∷ []) ≡ length volts + 2 =
+    length-append ((c.sign_of.result ∷ []) ++ volts) (46 ∷ []) ∙ omega arith in
     let four = c.put_six.ensures.text (((c.sign_of.result ∷ []) ++ volts) ++ 46 ∷ []) (drop 1 (drop (length volts) (drop 1 old)))
-    (omega (arith, point, c.put-size.ensures.place, c.put-size-2.ensures.place, c.put-size-3.ensures.place)) (three ∙ simp append_assoc refl) in
-    all-behind old c.put_six.new.out volts (six_digits (c.unsigned_abs-magnitude.result % 1000000)) c.sign_of.result (length-six (c.unsigned_abs-magnitude.result % 1000000) (below c.unsigned_abs-magnitude.result)) four
-    ∙ voltage-same old volts (decimal (unsigned_abs c.args.value / 1000000)) c.sign_of.result (sign c.args.value) (c.unsigned_abs-magnitude.result % 1000000) (unsigned_abs c.args.value % 1000000)
-    (c.sign_of.ensures ∙ ap sign same) (c.as_bytes.ensures.value ∙ c.format.ensures.text ∙ ap (λ n. decimal (n / 1000000)) absolute) (ap (λ n. n % 1000000) absolute)
+    (omega (arith, point, c.put-size.ensures.place, c.put-size-2.ensures.place, c.put-size-3.ensures.place))
+    (three ∙ simp append_assoc refl) in
+    all-behind old c.put_six.new.out volts (six_digits (c.unsigned_abs-magnitude.result % 1000000)) c.sign_of.result
+    (length-six (c.unsigned_abs-magnitude.result % 1000000) (below c.unsigned_abs-magnitude.result)) four
+    ∙ voltage-same old volts (decimal (unsigned_abs c.args.value / 1000000)) c.sign_of.result (sign c.args.value)
+    (c.unsigned_abs-magnitude.result % 1000000) (unsigned_abs c.args.value % 1000000)
+    (c.sign_of.ensures ∙ ap sign same) (c.as_bytes.ensures.value ∙ c.format.ensures.text ∙ ap (λ n. decimal (n / 1000000)) absolute)
+    (ap (λ n. n % 1000000) absolute)

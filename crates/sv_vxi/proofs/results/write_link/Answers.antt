@@ -14,9 +14,18 @@ returns-in_err-i32-2-clause-writes c = search (rules, each_ends, each_first, c.i
 
 pub returns-in_err-u32-clause-writes : goal.returns-in_err-u32-clause-writes
 returns-in_err-u32-clause-writes c =
-    let first : Appends (spelling (error_field c.args.error)) c.args.writer.now c.i32.new.self = search (rules, c.in_ok-i32.ensures.exact) in
-    let second : Appends (spelling (Signed (unless_error c.args.error c.args.lid (pos 0)))) c.i32.new.self c.i32-2.new.self = search (rules, c.in_ok-i32-2.ensures.exact) in
+    let first : Appends (spelling (error_field c.args.error)) c.args.writer.now c.i32.new.self =
+    search (rules, c.in_ok-i32.ensures.exact) in
+    let second : Appends (spelling (Signed (unless_error c.args.error c.args.lid (pos 0)))) c.i32.new.self c.i32-2.new.self =
+    search (rules, c.in_ok-i32-2.ensures.exact) in
     search (rules, each_ends, each_first, first, second)
 
 pub returns-clause-writes : goal.returns-clause-writes
-returns-clause-writes c = search (rules, each_first, each_last, c.in_ok-i32.ensures.exact, c.in_ok-i32-2.ensures.exact, c.in_ok-u32.ensures.exact)
+returns-clause-writes c = search (
+  rules,
+  each_first,
+  each_last,
+  c.in_ok-i32.ensures.exact,
+  c.in_ok-i32-2.ensures.exact,
+  c.in_ok-u32.ensures.exact,
+)

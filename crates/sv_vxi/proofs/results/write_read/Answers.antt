@@ -14,10 +14,13 @@ pub returns-clause-writes : goal.returns-clause-writes
 returns-clause-writes c = λ fits.
     let text : List ℕ = unless_error c.args.error c.args.bytes.now [] in
     let reason = spelling (Signed (unless_error c.args.error (pos (reason_number c.args.reason)) (pos 0))) in
-    let first : Appends (spelling (error_field c.args.error)) c.args.writer.now c.i32.new.self = search (rules, c.in_ok-i32.ensures.exact) in
+    let first : Appends (spelling (error_field c.args.error)) c.args.writer.now c.i32.new.self =
+    search (rules, c.in_ok-i32.ensures.exact) in
     let second : Appends reason c.i32.new.self c.i32-2.new.self = search (rules, c.in_ok-i32-2.ensures.exact) in
     let last : Writes (spelling (Opaque text)) c.opaque.result c.i32-2.new.self c.opaque.new.self =
-    subst (λ (l : List ℕ). length l < 4294967296 → Writes (spelling (Opaque l)) c.opaque.result c.i32-2.new.self c.opaque.new.self) c.data_unless_error.ensures c.opaque.ensures.exact fits in
-    each_first (spelling (error_field c.args.error)) (reason ∷ spelling (Opaque text) ∷ []) c.opaque.result c.args.writer.now c.i32.new.self c.opaque.new.self first
+    subst (λ (l : List ℕ). length l < 4294967296 → Writes (spelling (Opaque l)) c.opaque.result c.i32-2.new.self c.opaque.new.self)
+    c.data_unless_error.ensures c.opaque.ensures.exact fits in
+    each_first (spelling (error_field c.args.error))
+    (reason ∷ spelling (Opaque text) ∷ []) c.opaque.result c.args.writer.now c.i32.new.self c.opaque.new.self first
     (each_first reason (spelling (Opaque text) ∷ []) c.opaque.result c.i32.new.self c.i32-2.new.self c.opaque.new.self second
     (each_last (spelling (Opaque text)) c.opaque.result c.i32-2.new.self c.opaque.new.self last))

@@ -15,22 +15,30 @@ keep_all : (capacity : ℕ) (codes : List Code) → length codes ≤ capacity �
 keep_all capacity codes few = let e : length codes - capacity ≡ 0 = omega arith in ap (λ (n : ℕ). drop n codes) e
 
 -- where there is room
-reported : (capacity : ℕ) (codes : List Code) (code : Code) (acts : List QueueAct) → capacity ≡ 16 → length codes < 16 → StandsFor codes acts → StandsFor (keep_last capacity (codes ++ code ∷ [])) (Report code ∷ acts)
-reported capacity codes code acts size room stands = keep_all capacity (codes ++ code ∷ []) (omega (arith, length-append codes (code ∷ []))) ∙ StandsFor-reported codes code acts room stands
+reported : (capacity : ℕ) (codes : List Code) (code : Code) (acts : List QueueAct) → capacity ≡ 16 → length codes < 16
+    → StandsFor codes acts → StandsFor (keep_last capacity (codes ++ code ∷ [])) (Report code ∷ acts)
+reported capacity codes code acts size room stands =
+    keep_all capacity (codes ++ code ∷ []) (omega (arith, length-append codes (code ∷ []))) ∙ StandsFor-reported codes code acts room stands
 
 -- where there is none
-overflowed : (capacity : ℕ) (codes : List Code) (code : Code) (acts : List QueueAct) → capacity ≡ 16 → length codes ≡ 16 → StandsFor codes acts
+overflowed : (capacity : ℕ) (codes : List Code) (code : Code) (acts : List QueueAct) → capacity ≡ 16 → length codes ≡ 16
+    → StandsFor codes acts
     → StandsFor (keep_last capacity (take (length codes - 1) codes ++ QueueOverflow ∷ [])) (Report code ∷ acts)
 overflowed capacity codes code acts size full stands =
     let front : length codes - 1 ≡ 15 = omega arith in
     ap (λ (n : ℕ). keep_last capacity (take n codes ++ QueueOverflow ∷ [])) front
-    ∙ keep_all capacity (take 15 codes ++ QueueOverflow ∷ []) (omega (arith, length-append (take 15 codes) (QueueOverflow ∷ []), length-take-le 15 codes (omega arith)))
+    ∙ keep_all capacity (take 15 codes ++ QueueOverflow ∷ [])
+    (omega (arith, length-append (take 15 codes) (QueueOverflow ∷ []), length-take-le 15 codes (omega arith)))
     ∙ StandsFor-overflowed codes code acts full stands
 
 pub returns-then-full-clause-stands : goal.returns-then-full-clause-stands
 returns-then-full-clause-stands g c =
-    rw (c.push_back.ensures.items, c.pop_back.ensures.items, ← c.self.view_is) (λ acts stands. overflowed c.self.inside.codes.capacity c.self.inside.codes.items c.args.code acts c.self.invariant.0 (omega arith) stands)
+    rw (c.push_back.ensures.items, c.pop_back.ensures.items, ← c.self.view_is)
+    (λ acts stands. overflowed c.self.inside.codes.capacity c.self.inside.codes.items c.args.code acts c.self.invariant.0
+    (omega arith) stands)
 
 pub returns-else-full-clause-stands : goal.returns-else-full-clause-stands
 returns-else-full-clause-stands g c =
-    rw (c.push_back-else-full.ensures.items, ← c.self.view_is) (λ acts stands. reported c.self.inside.codes.capacity c.self.inside.codes.items c.args.code acts c.self.invariant.0 (omega arith) stands)
+    rw (c.push_back-else-full.ensures.items, ← c.self.view_is)
+    (λ acts stands. reported c.self.inside.codes.capacity c.self.inside.codes.items c.args.code acts c.self.invariant.0
+    (omega arith) stands)

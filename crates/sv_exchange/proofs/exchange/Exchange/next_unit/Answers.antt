@@ -11,7 +11,8 @@ pub returns-then-readable-clause-answer : goal.returns-then-readable-clause-answ
 returns-then-readable-clause-answer g c = let is : InterruptDue ≡ next_of c.args.self.now = search rules in λ acts s. is ∙ due_is _ acts s
 
 pub returns-else-readable-clause-answer : goal.returns-else-readable-clause-answer
-returns-else-readable-clause-answer g c = let is : UnitDue c.in-Some.unit.now ≡ next_of c.args.self.now = search rules in λ acts s. is ∙ due_is _ acts s
+returns-else-readable-clause-answer g c = let is : UnitDue c.in-Some.unit.now ≡ next_of c.args.self.now = search rules in
+    λ acts s. is ∙ due_is _ acts s
 
 pub returns-in-None-clause-answer : goal.returns-in-None-clause-answer
 returns-in-None-clause-answer g c = let is : FinishDue ≡ next_of c.args.self.now = search rules in λ acts s. is ∙ due_is _ acts s

@@ -6,4 +6,5 @@ use Rattle.sv_header.proofs.resolving.Table.resolve.Given as goal
 
 -- the header fits no row in front
 abbrev pub invariant-loop-pattern : goal.invariant-loop-pattern
-invariant-loop-pattern g l = (k : ℕ) → (row : Row) → k < l.pattern-index → slice_index_or (map row_of l.pattern-items) k row ≡ row → FitsSent l.sent row → ⊥
+invariant-loop-pattern g l = (k : ℕ) → (row : Row) → k < l.pattern-index → slice_index_or (map row_of l.pattern-items) k row ≡ row
+    → FitsSent l.sent row → ⊥

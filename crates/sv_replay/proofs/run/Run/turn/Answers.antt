@@ -5,12 +5,16 @@ use Rattle.sv_replay.proofs.run.Run.turn.Goals as goal
 
 pub returns-in_err-do_line-in-Some-clause-goes : goal.returns-in_err-do_line-in-Some-clause-goes
 returns-in_err-do_line-in-Some-clause-goes g c =
-    go_line_stop c.args.self.now.server c.do_line.new.server c.args.self.now.text.text c.front-line.result.now c.whole_line.new.self.text c.in-Some.len c.args.self.now.lines (c.args.self.now.lines + 1)
+    go_line_stop c.args.self.now.server c.do_line.new.server c.args.self.now.text.text c.front-line.result.now c.whole_line.new.self.text
+    c.in-Some.len c.args.self.now.lines (c.args.self.now.lines + 1)
     c.args.self.now.lines _ _ _ c.in_err-do_line-in-Some.field-0.0 c.from_residual.result (sym c.in-Some.ensures.value)
-    (c.front-line.ensures ∙ ap (λ (h : Held). take c.in-Some.len h.text) c.in-Some.ensures.same) refl c.from_residual.ensures.0 c.from_residual.ensures.1 c.in_err-do_line-in-Some.ensures
+    (c.front-line.ensures ∙ ap (λ (h : Held). take c.in-Some.len h.text) c.in-Some.ensures.same) refl c.from_residual.ensures.0
+    c.from_residual.ensures.1 c.in_err-do_line-in-Some.ensures
 
 pub returns-in_ok-do_line-in-Some-clause-goes : goal.returns-in_ok-do_line-in-Some-clause-goes
 returns-in_ok-do_line-in-Some-clause-goes g c =
-    go_line c.args.self.now.server c.do_line.new.server c.args.self.now.text.text c.front-line.result.now c.drop_front.new.self.text c.in-Some.len c.args.self.now.lines (c.args.self.now.lines + 1) _ _ _
+    go_line c.args.self.now.server c.do_line.new.server c.args.self.now.text.text c.front-line.result.now c.drop_front.new.self.text
+    c.in-Some.len c.args.self.now.lines (c.args.self.now.lines + 1) _ _ _
     (sym c.in-Some.ensures.value) (c.front-line.ensures ∙ ap (λ (h : Held). take c.in-Some.len h.text) c.in-Some.ensures.same)
-    (ap (λ (h : Held). h.text) c.drop_front.ensures ∙ ap (λ (h : Held). drop (c.in-Some.len + 1) h.text) c.in-Some.ensures.same) refl c.in_ok-do_line-in-Some.ensures
+    (ap (λ (h : Held). h.text) c.drop_front.ensures
+    ∙ ap (λ (h : Held). drop (c.in-Some.len + 1) h.text) c.in-Some.ensures.same) refl c.in_ok-do_line-in-Some.ensures

@@ -14,7 +14,8 @@ invariant_of-self g c =
     let k = c.self.invariant in
     let header = rw (← c.self.view_is) at c.requires.header in
     let fits = rw (← c.self.view_is) at c.requires.fits in
-    finish_keeps _ _ _ _ _ _ _ _ _ _ k header (finish_room _ _ _ _ _ _ _ _ k header fits) c.push_reserved.ensures.items c.push_reserved.ensures.capacity
+    finish_keeps _ _ _ _ _ _ _ _ _ _ k header (finish_room _ _ _ _ _ _ _ _ k header fits) c.push_reserved.ensures.items
+    c.push_reserved.ensures.capacity
 
 pub returns : goal.returns
 returns g c =

@@ -7,4 +7,5 @@ pub returns-clause-goes : goal.returns-clause-goes
 returns-clause-goes g c =
     let header = rw (← c.self.view_is) at c.requires.header in
     header_goes_on _ _ _ _ c.args.self.now _ c.args.byte c.self.view_is c.requires.header (grind (arith, common_steps))
-    (λ _. whole_word c.self.inside.header c.self.inside.header_len c.args.byte c.word_of-word.result c.self.told (three_came _ _ _ _ _ c.self.invariant.at header c.if-self-lt3.false) c.word_of-word.ensures.value c.word_of-word.ensures.header)
+    (λ _. whole_word c.self.inside.header c.self.inside.header_len c.args.byte c.word_of-word.result c.self.told
+    (three_came _ _ _ _ _ c.self.invariant.at header c.if-self-lt3.false) c.word_of-word.ensures.value c.word_of-word.ensures.header)

@@ -13,4 +13,5 @@ returns-in-Header-clause-fits g c =
 
 pub returns-in-Data-clause-goes : goal.returns-in-Data-clause-goes
 returns-in-Data-clause-goes g c =
-    data_goes_on _ _ _ _ c.args.self.now _ _ _ _ c.self.view_is c.in-Data.is c.take_data.ensures (omega (arith, c.min-count.ensures, length-take c.min-count.result c.args.piece.now))
+    data_goes_on _ _ _ _ c.args.self.now _ _ _ _ c.self.view_is c.in-Data.is c.take_data.ensures
+    (omega (arith, c.min-count.ensures, length-take c.min-count.result c.args.piece.now))

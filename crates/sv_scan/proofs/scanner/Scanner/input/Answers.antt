@@ -1,13 +1,15 @@
-use Rattle.std.proofs.Common.{◌≡◌, ◌∙◌, true, sym, w64, to_z, of_z}
+use Rattle.std.proofs.Common.{◌≡◌, ◌∙◌, ap, true, sym, w64, to_z, of_z}
 use Rattle.std.proofs.lemmas.Int.{to_z-of_z}
 use Rattle.sv_scan.specs.declared.acts.ScanAct.TheVariants.{Input}
 use Rattle.sv_scan.specs.Counted.{kept}
-use Rattle.sv_scan.specs.Setting.{is_channel}
+use Rattle.sv_errors.specs.Limits.{is_channel}
 use Rattle.sv_scan.proofs.Stands.{StandsFor-counted, Holds-input}
 use Rattle.sv_scan.proofs.scanner.Scanner.input.Goals as goal
 
 pub returns-then-is_channel : goal.returns-then-is_channel
 returns-then-is_channel g c acts is =
     let same : to_z w64 (of_z w64 c.args.microvolts) ≡ c.args.microvolts = to_z-of_z w64 c.args.microvolts c.ranges.microvolts in
-    let legal : is_channel c.args.channel ≡ true = sym c.is_channel.ensures ∙ c.if-is_channel.true in
-    rw (c.from.ensures, same) (StandsFor-counted _ (Input c.args.channel c.args.microvolts) acts legal (Holds-input _ (kept acts) c.args.channel c.args.microvolts c.self.invariant.inputs legal (rw (← c.self.view_is) at is)))
+    let legal : is_channel c.args.channel ≡ true =
+    ap is_channel (sym c.from.ensures) ∙ (sym c.is_channel.ensures ∙ c.if-is_channel.true) in
+    rw (c.from-then-is_channel.ensures, same) (StandsFor-counted _ (Input c.args.channel c.args.microvolts) acts legal
+    (Holds-input _ (kept acts) c.args.channel c.args.microvolts c.self.invariant.inputs legal (rw (← c.self.view_is) at is)))

@@ -5,4 +5,5 @@ use Rattle.sv_scan.proofs.scanner.Scanner.last_reading.Goals as goal
 pub returns : goal.returns
 returns g c acts is =
     let h = rw (← c.self.view_is) at is in
-    rw (c.copied.ensures, c.last.ensures.value) (last_found c.deref.result.now c.self.inside.readings.items (kept acts) c.deref.ensures.value h.readings)
+    rw (c.copied.ensures, c.last.ensures.value) (last_found c.deref.result.now c.self.inside.readings.items
+    (kept acts) c.deref.ensures.value h.readings)

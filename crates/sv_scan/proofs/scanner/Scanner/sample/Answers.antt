@@ -10,7 +10,8 @@ use Rattle.sv_scan.proofs.scanner.Scanner.sample.Goals as goal
 
 pub push_reserved-requires : goal.push_reserved-requires
 push_reserved-requires g c =
-    let scanning = rw (← c.self.view_is) at (ap is_scanning (sym c.state.ensures.value) ∙ sym c.is_scanning.ensures ∙ c.if-not-is_scanning.false) in
+    let scanning = rw (← c.self.view_is) at (ap is_scanning (sym c.state.ensures.value) ∙ sym c.is_scanning.ensures
+    ∙ c.if-not-is_scanning.false) in
     let room = has_room _ _ c.in-Some.run' c.in-Some.is c.self.invariant scanning in
     omega (arith, c.self.inside.readings.ok.0, room)
 
@@ -24,6 +25,8 @@ returns-clause-stands g c acts is =
     let many = c.len.ensures ∙ c.self.inside.readings.ok.0 in
     let channel = c.channel-channel.ensures ∙ ap (channel_at c.in-Some.run'.channels) many in
     let voltage = c.voltage.ensures ∙ ap (λ (n : ℕ). get_or c.self.inside.inputs (n - 1) (pos 0)) channel in
-    let reading = c.reading_in-reading.ensures ∙ ap (λ (z : ℤ). reading_in z (to_z w64 (of_z w64 c.voltage.result))) (to_z-of_z w64 c.self.inside.settings.range fits)
+    let reading = c.reading_in-reading.ensures ∙ ap (λ (z : ℤ). reading_in z (to_z w64 (of_z w64 c.voltage.result)))
+    (to_z-of_z w64 c.self.inside.settings.range fits)
     ∙ ap (reading_in c.self.inside.settings.range) (to_z-of_z w64 c.voltage.result heard ∙ voltage) in
-    rw (c.push_reserved.ensures.items, reading) (StandsFor-counted _ Sample acts counted (Holds-sample _ (kept acts) c.in-Some.run' c.in-Some.is known h))
+    rw (c.push_reserved.ensures.items, reading) (StandsFor-counted _ Sample acts counted
+    (Holds-sample _ (kept acts) c.in-Some.run' c.in-Some.is known h))

@@ -6,4 +6,5 @@ use Rattle.sv_scan.proofs.scanner.Scanner.state.Goals as goal
 
 pub returns-clause-answer : goal.returns-clause-answer
 returns-clause-answer g c acts is =
-    c.state_in.ensures ∙ ap (run_state c.self.inside.run) (c.len.ensures ∙ c.self.inside.readings.ok.0) ∙ state_is _ (kept acts) (rw (← c.self.view_is) at is)
+    c.state_in.ensures ∙ ap (run_state c.self.inside.run) (c.len.ensures ∙ c.self.inside.readings.ok.0)
+    ∙ state_is _ (kept acts) (rw (← c.self.view_is) at is)

@@ -29,5 +29,6 @@ returns-clause-acts g c = λ log rep.
       refl,
       _,
       refl,
-      rw c.from-2.ensures (acted _ log c.args.conn c.index_mut-line.result.now c.push.new.self (Piece c.args.conn c.args.piece.now) state c.self.invariant.0 (omega arith) at refl (c.push.ensures c.args.conn log)),
+      rw c.from-2.ensures (acted _ log c.args.conn c.index_mut-line.result.now c.push.new.self
+          (Piece c.args.conn c.args.piece.now) state c.self.invariant.0 (omega arith) at refl (c.push.ensures c.args.conn log)),
     )

@@ -12,5 +12,6 @@ returns-clause-acts g c = λ log rep.
       refl,
       _,
       refl,
-      rw c.from-2.ensures (closes _ log c.args.conn c.index_mut-line.result.now c.close.new.self c.close_connection.new.self state c.self.invariant.0 (omega arith) at (c.close.ensures c.args.conn log) c.close_connection.ensures),
+      rw c.from-2.ensures (closes _ log c.args.conn c.index_mut-line.result.now c.close.new.self c.close_connection.new.self state
+          c.self.invariant.0 (omega arith) at (c.close.ensures c.args.conn log) c.close_connection.ensures),
     )

@@ -14,5 +14,6 @@ returns-clause-acts g c = λ log rep.
       refl,
       _,
       refl,
-      rw c.from-2.ensures (acted _ log c.args.conn c.index_mut-line.result.now c.open.new.self (Opened c.args.conn c.args.role) state c.self.invariant.0 (omega arith) at refl (c.open.ensures c.args.conn log)),
+      rw c.from-2.ensures (acted _ log c.args.conn c.index_mut-line.result.now c.open.new.self
+          (Opened c.args.conn c.args.role) state c.self.invariant.0 (omega arith) at refl (c.open.ensures c.args.conn log)),
     )

@@ -8,4 +8,5 @@ use Rattle.sv_server.proofs.server.Server.room.Goals as goal
 
 pub returns-in-Some : goal.returns-in-Some
 returns-in-Some g c = of_open room 0 c.args.self.now c.args.conn c.in-Some.line.now _ c.in-Some.ensures
-    (λ log is opened. let a = room_answer c.in-Some.line.now c.args.conn log is opened in (a.0, a.1, a.2, c.room.ensures.value ∙ ap (λ (l : Line). room_of l.input) c.line-in-Some.view_is ∙ a.3))
+    (λ log is opened. let a = room_answer c.in-Some.line.now c.args.conn log is opened in
+    (a.0, a.1, a.2, c.room.ensures.value ∙ ap (λ (l : Line). room_of l.input) c.line-in-Some.view_is ∙ a.3))

@@ -9,13 +9,15 @@ loop-number-init g c = λ config history log s. ([], appends_none _, so_far_none
 pub returns-in_err-show : goal.returns-in_err-show
 returns-in_err-show g c = λ config history log s.
     let (text, put, so) = c.loop-number.invariant config history log s in
-    so_far_stop config history log c.loop-number.number c.loop-number.self c.show.new.self text _ _ _ c.in_err-show.field-0.0 c.from_residual.result c.loop-number-test.true so put c.from_residual.ensures.0
+    so_far_stop config history log c.loop-number.number c.loop-number.self c.show.new.self text _ _ _ c.in_err-show.field-0.0
+    c.from_residual.result c.loop-number-test.true so put c.from_residual.ensures.0
     ((rw c.port_of.ensures at c.in_err-show.ensures) config)
 
 pub loop-number-preserved : goal.loop-number-preserved
 loop-number-preserved g c = λ config history log s.
     let (text, put, so) = c.loop-number.invariant config history log s in
-    so_far_more config history log c.loop-number.number (c.loop-number.number + 1) c.loop-number.self c.show.new.self text _ _ _ (omega arith) so put ((rw c.port_of.ensures at c.in_ok-show.ensures) config)
+    so_far_more config history log c.loop-number.number (c.loop-number.number + 1) c.loop-number.self c.show.new.self text _ _ _
+    (omega arith) so put ((rw c.port_of.ensures at c.in_ok-show.ensures) config)
 
 pub returns : goal.returns
 returns g c = λ config history log s.

@@ -10,4 +10,5 @@ use Rattle.sv_server.proofs.server.Server.show_all.Given as goal
 -- the lines of the ports below the number were written
 abbrev pub invariant-loop-number : goal.invariant-loop-number
 invariant-loop-number g l = (config : Config) (history : List Happening) (log : List Act) → StandsBy l.fn.self config history log
-    → (text : List ℕ) × Appends (g.W.Write.contents l.fn.writer) (g.W.Write.contents l.writer) text × SoFar config history log l.number l.self text
+    → (text : List ℕ) × Appends (g.W.Write.contents l.fn.writer) (g.W.Write.contents l.writer) text
+    × SoFar config history log l.number l.self text

@@ -8,5 +8,6 @@ returns-clause-acts g c = λ log rep.
     let at = rw c.from-2.ensures at c.index_mut-line.ensures.value in
     let state = rw (← c.self.view_is) at rep in
     let is = line_of _ log c.args.conn c.index_mut-line.result.now state (omega arith) at in
-    rw (← c.self.view_is, c.from-2.ensures) (turns_all _ log c.args.conn c.turn.result c.turn.new.line c.turn.new.links c.turn.new.exchange state c.self.invariant.0 (omega arith)
+    rw (← c.self.view_is, c.from-2.ensures) (turns_all _ log c.args.conn c.turn.result c.turn.new.line c.turn.new.links c.turn.new.exchange
+    state c.self.invariant.0 (omega arith)
     (c.turn.ensures.acts log is state.links state.exchange))

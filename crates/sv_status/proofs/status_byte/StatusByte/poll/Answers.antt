@@ -8,5 +8,6 @@ returns-clause-answer c = λ acts is k.
     let here = rw (← c.self.view_is) at is in
     elim c.if-self.branch [
       | then-self w ↦ rw w.status-is (status_of true c.self.inside.bits acts k (omega arith) here.bits (rw w.if-self.true at here.request))
-      | else-self w ↦ rw w.status-is (status_of false c.self.inside.bits acts k (omega arith) here.bits (rw w.if-self.false at here.request))
+      | else-self w ↦
+          rw w.status-is (status_of false c.self.inside.bits acts k (omega arith) here.bits (rw w.if-self.false at here.request))
     ]

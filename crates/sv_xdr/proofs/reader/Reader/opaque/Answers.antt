@@ -6,16 +6,19 @@ use Rattle.sv_xdr.proofs.reader.Reader.opaque.Goals as goal
 pub returns-in_err-text-clause-only : goal.returns-in_err-text-clause-only
 returns-in_err-text-clause-only c = λ text after b short.
     let first = ap unsigned_at (sym c.self.view_is) ∙ c.in_ok-size.ensures.exact in
-    let e = opaque_one c.args.max c.in_ok-size.size c.args.self.now c.u32.new.self text after _ first c.if-max-size.false c.in_err-text.ensures.0 b short in absurd cc
+    let e = opaque_one c.args.max c.in_ok-size.size c.args.self.now c.u32.new.self text after _ first c.if-max-size.false
+    c.in_err-text.ensures.0 b short in absurd cc
 
 pub returns-clause-found : goal.returns-clause-found
 returns-clause-found c =
     let begins = c.in_ok-size.ensures.found in
-    rw c.ahead.view_is (opaque_takes c.args.self.now begins.0 c.u32.new.self c.in_ok-text.text.now c.padded.new.self c.in_ok-size.size c.args.max (sym c.self.view_is ∙ begins.2) begins.1 c.if-max-size.false c.in_ok-text.ensures)
+    rw c.ahead.view_is (opaque_takes c.args.self.now begins.0 c.u32.new.self c.in_ok-text.text.now c.padded.new.self c.in_ok-size.size
+    c.args.max (sym c.self.view_is ∙ begins.2) begins.1 c.if-max-size.false c.in_ok-text.ensures)
 
 pub returns-clause-only : goal.returns-clause-only
 returns-clause-only c = λ text after b short.
     let first = ap unsigned_at (sym c.self.view_is) ∙ c.in_ok-size.ensures.exact in
-    let e = opaque_one c.args.max c.in_ok-size.size c.args.self.now c.u32.new.self text after _ first c.if-max-size.false c.in_ok-text.ensures b short in
+    let e = opaque_one c.args.max c.in_ok-size.size c.args.self.now c.u32.new.self text after _ first c.if-max-size.false
+    c.in_ok-text.ensures b short in
     let parts = pair_parts c.in_ok-text.text.now text c.padded.new.self after e in
     (parts.0, rw c.ahead.view_is parts.1)

@@ -9,8 +9,11 @@ returns-clause-spelled c =
     let text = c.args.text.now in (
       spelling (Opaque text),
       opaque_spelled text (search rules),
-      opaque_appended c.to_be_bytes.result text c.pad_len-pad.result c.args.self.now c.put.new.self c.put-2.new.self c.put-3.new.self (search rules) (search rules) c.put.ensures.appends c.put-2.ensures.appends c.put-3.ensures.appends,
+      opaque_appended c.to_be_bytes.result text c.pad_len-pad.result c.args.self.now c.put.new.self c.put-2.new.self c.put-3.new.self
+          (search rules) (search rules) c.put.ensures.appends c.put-2.ensures.appends c.put-3.ensures.appends,
     )
 
 pub returns-clause-exact : goal.returns-clause-exact
-returns-clause-exact c = λ _. opaque_appended c.to_be_bytes.result c.args.text.now c.pad_len-pad.result c.args.self.now c.put.new.self c.put-2.new.self c.put-3.new.self (search rules) (search rules) c.put.ensures.appends c.put-2.ensures.appends c.put-3.ensures.appends
+returns-clause-exact c =
+    λ _. opaque_appended c.to_be_bytes.result c.args.text.now c.pad_len-pad.result c.args.self.now c.put.new.self c.put-2.new.self
+    c.put-3.new.self (search rules) (search rules) c.put.ensures.appends c.put-2.ensures.appends c.put-3.ensures.appends

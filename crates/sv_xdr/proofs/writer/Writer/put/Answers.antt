@@ -8,6 +8,7 @@ returns-clause-appends c =
     let bytes = c.args.bytes.now in
     record {
       text = text_placed writer.written _ writer.out.now c.copy_from_slice.new.self bytes writer.within c.copy_from_slice.ensures.after;
-      rest = rest_placed writer.written _ writer.out.now c.copy_from_slice.new.self bytes writer.within (omega arith) c.copy_from_slice.ensures.after;
+      rest = rest_placed writer.written _ writer.out.now c.copy_from_slice.new.self bytes writer.within
+          (omega arith) c.copy_from_slice.ensures.after;
       fits = omega (arith, length-drop writer.written writer.out.now);
     }

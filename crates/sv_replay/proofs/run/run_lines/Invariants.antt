@@ -1,0 +1,13 @@
+use Rattle.std.proofs.Common.{◌≡◌, ℕ, ◌+◌, ◌*◌, ◌≤◌, List, length}
+use Rattle.std.specs.Io.KnownBytes.{Consumes, Appends}
+use Rattle.sv_replay.specs.Stage.{IsStage}
+use Rattle.sv_replay.proofs.run.run_lines.Given as goal
+
+-- what was read and printed until now is a stage, and each turn did a line or read
+abbrev pub invariant-loop : goal.invariant-loop
+invariant-loop g l =
+    ((read text : List ℕ) × Consumes (g.R.Read.remaining l.fn.reader) (g.R.Read.remaining l.reader) read
+    × Appends (g.W.Write.contents l.fn.writer) (g.W.Write.contents l.writer) text
+    × IsStage l.run.server l.run.text.text l.run.lines read text)
+    × (l.run.lines + l.run.text.reads ≡ l.counter) × (l.run.lines + length l.run.text.text ≤ 131072 * l.run.text.reads)
+    × (l.run.text.reads ≤ 4294967294)
