@@ -140,7 +140,8 @@ apart-places [] j k r s a lt in_bounds e f = absurd (omega arith)
 apart-places (row ∷ rows) j zero r s a lt in_bounds e f = absurd (omega arith)
 apart-places (row ∷ rows) zero (suc k) r s a lt in_bounds e f =
     subst (λ x. rows_clash x s ≡ true → ⊥) e (apart-behind rows row s k (and_parts _ _ a).0 (omega arith) f)
-apart-places (row ∷ rows) (suc j) (suc k) r s a lt in_bounds e f = apart-places rows j k r s (and_parts _ _ a).1 (omega arith) (omega arith) e f
+apart-places (row ∷ rows) (suc j) (suc k) r s a lt in_bounds e f =
+    apart-places rows j k r s (and_parts _ _ a).1 (omega arith) (omega arith) e f
 
 -- two rows that a header fits are one
 one-row : (path : List (List ℕ)) (header : List ℕ) (r s : Row) → Contains table r → Contains table s → FitsRow path header r

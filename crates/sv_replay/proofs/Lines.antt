@@ -121,7 +121,8 @@ ticks_takes line text what line_is e =
 behind_number : {A : Type 0} (at : List ℕ → Option A) (make : ℕ → A → Happening) (line text : List ℕ) (event : Happening)
     → ((x : ℕ × List ℕ) (value : A) (number : List ℕ) → IsPlain 255 number x.0 → at x.1 ≡ Some value → text ≡ number ++ 32 ∷ x.1
     → SaysEvent line (make x.0 value))
-    → option_and_then (λ x. option_and_then (λ value. Some (make x.0 value)) (at x.1)) (numbered_at text) ≡ Some event → SaysEvent line event
+    → option_and_then (λ x. option_and_then (λ value. Some (make x.0 value)) (at x.1)) (numbered_at text) ≡ Some event
+    → SaysEvent line event
 behind_number at make line text event said e =
     option_and_then_some _ (numbered_at text) event e (λ x numbered e1.
     option_and_then_some _ (at x.1) event e1 (λ value read e2.

@@ -41,14 +41,16 @@ line_clean (suc n) (b ∷ text) h = at (b == 10) (line_clean n text) h
 -- a search that found a new line found the end of the first line
 pub line_found : (text : List ℕ) (k : ℕ) → IsFirstByte (is_byte 10) text (Some k) → (line_size text ≡ k) × (k < length text)
 line_found text k h = (
-  prefix_len_is (λ b. not (b == 10)) text k 0 (omega (arith, h.0.high)) (λ j lt. not_from_false _ (false_from_ne_true _ (h.0.before j (omega arith) lt)))
+  prefix_len_is (λ b. not (b == 10)) text k 0 (omega (arith, h.0.high))
+      (λ j lt. not_from_false _ (false_from_ne_true _ (h.0.before j (omega arith) lt)))
       (λ _. ap not h.1),
   h.0.high,
 )
 
 -- a search that found none
 pub line_open : (text : List ℕ) → IsFirstByte (is_byte 10) text None → line_size text ≡ length text
-line_open text h = prefix_len_is (λ b. not (b == 10)) text (length text) 0 (omega arith) (λ j lt. not_from_false _ (false_from_ne_true _ (h j (omega arith) lt)))
+line_open text h = prefix_len_is (λ b. not (b == 10)) text (length text) 0 (omega arith)
+    (λ j lt. not_from_false _ (false_from_ne_true _ (h j (omega arith) lt)))
     (λ lt. absurd (omega arith))
 
 -- where the first line ends

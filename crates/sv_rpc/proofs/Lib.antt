@@ -7,3 +7,5 @@ pub mod Rooms
 pub mod Written
 pub mod Calls
 pub mod PrefixFree
+pub mod EveryStream
+pub mod Mappings

@@ -6,30 +6,8 @@ use Rattle.std.proofs.lemmas.Bool.{le-leb, lt-leb}
 use Rattle.std.proofs.lemmas.Nat.{from_be_bytes-to_be_bytes_4}
 use Rattle.std.proofs.lemmas.List.{append-nil, length-append, take_at, drop_at}
 use Rattle.sv_rpc.specs.Record.{header_of, fragment, Sent, bytes_of, record_of, IsTaken, Tail, Header, Data, TooLong, IsTail, Splits}
-use Rattle.sv_rpc.specs.Laws.{OneReading}
-
--- whole records, and what stands behind them
-abbrev Reading : Type 0
-Reading = List (List ℕ) × Tail
-
--- behind a fragment's data, by whether it was the last of its record
-abbrev go_on : (List ℕ → List ℕ → Reading) → List ℕ → Bool → List ℕ → Reading
-go_on next payload true rest = (payload ∷ (next [] rest).0, (next [] rest).1)
-go_on next payload false rest = next payload rest
-
--- behind a header: too long, or too few bytes, or the data
-abbrev read_data : (List ℕ → List ℕ → Reading) → List ℕ → Bool → ℕ → List ℕ → Reading
-read_data next payload last size rest =
-    cond (ltb 8192 (length payload + size)) ([], TooLong)
-    (cond (ltb (length rest) size) ([], Data (payload ++ rest) (size - length rest) last)
-    (go_on next (payload ++ take size rest) last (drop size rest)))
-
--- the reading of the bytes behind a payload, where the number is above their length
-read : ℕ → List ℕ → List ℕ → Reading
-read zero payload bytes = ([], TooLong)
-read (suc n) payload bytes =
-    cond (ltb (length bytes) 4) ([], Header payload bytes)
-    (read_data (read n) payload (leb (2 ^ 31) (from_be_bytes w32 bytes)) (from_be_bytes w32 bytes % 2 ^ 31) (drop 4 bytes))
+use Rattle.sv_rpc.specs.Stream.{Reading, read_on, read_data, read, reading, records_of, tail_of}
+use Rattle.sv_rpc.specs.Laws.{OneReading, ReadAlone}
 
 -- behind a payload the bytes are read so
 abbrev Reads : List ℕ → List ℕ → Reading → Type 0
@@ -84,7 +62,7 @@ part_reads last missing payload text some fits =
 
 -- a whole fragment
 fragment_reads : (last : Bool) (payload text rest : List ℕ) (reading : Reading) → length payload + length text ≤ 8192
-    → ((n : ℕ) → length rest < n → go_on (read n) (payload ++ text) last rest ≡ reading)
+    → ((n : ℕ) → length rest < n → read_on (read n) (payload ++ text) last rest ≡ reading)
     → Reads payload (fragment last text ++ rest) reading
 fragment_reads last payload text rest reading fits next =
     let long : length text ≤ length (text ++ rest) = omega (arith, length-append text rest) in
@@ -150,3 +128,9 @@ one_reading stream a b s t one other =
     let size : length stream < length stream + 1 = omega arith in
     let same = sym (splits_read stream a s one (length stream + 1) size) ∙ splits_read stream b t other (length stream + 1) size in
     (ap (λ (r : Reading). r.0) same, ap (λ (r : Reading). r.1) same)
+
+-- a stream splits in no other way than it is read
+pub read_alone : ReadAlone
+read_alone stream records tail splits =
+    let same = splits_read stream records tail splits (length stream + 1) (omega arith) in
+    (sym (ap (λ (r : Reading). r.0) same), sym (ap (λ (r : Reading). r.1) same))

@@ -1,15 +1,35 @@
 -- Laws of the definitions alone.
-use Rattle.std.specs.Prelude.{◌≡◌, ℕ, List, Result}
+use Rattle.std.specs.Prelude.{◌≡◌, ℕ, ◌<◌, List, All, Result}
 use Rattle.sv_xdr.specs.Spelling.{BeginsAll}
 use Rattle.sv_rpc.specs.declared.call.CallFault.{CallFault}
 use Rattle.sv_rpc.specs.declared.reply.Reply.{Reply}
 use Rattle.sv_rpc.specs.Record.{Tail, Splits}
-use Rattle.sv_rpc.specs.Call.{Asked, Auth, heading, CallIs}
+use Rattle.sv_rpc.specs.Stream.{records_of, tail_of}
+use Rattle.sv_rpc.specs.Call.{Asked, Auth, heading, CallIs, call_at}
+use Rattle.sv_rpc.specs.declared.ports.Ports.{Ports}
+use Rattle.sv_rpc.specs.Ports.{PortIs, port_at}
 use Rattle.sv_rpc.specs.Reply.{reply_fields}
 
 -- A stream has one reading: one list of records, and one tail.
 abbrev pub OneReading : Type 0
 OneReading = (stream : List ℕ) (a b : List (List ℕ)) (s t : Tail) → Splits stream a s → Splits stream b t → (a ≡ b) × (s ≡ t)
+
+-- Every stream of bytes splits as it is read.
+abbrev pub ReadAsSplit : Type 0
+ReadAsSplit = (stream : List ℕ) → All (λ byte. byte < 256) stream → Splits stream (records_of stream) (tail_of stream)
+
+-- A stream splits in no other way than it is read.
+abbrev pub ReadAlone : Type 0
+ReadAlone = (stream : List ℕ) (records : List (List ℕ)) (tail : Tail) → Splits stream records tail
+    → (records ≡ records_of stream) × (tail ≡ tail_of stream)
+
+-- What `call_at` gives of a record of bytes is what the record is as a call.
+abbrev pub CallAsSpelled : Type 0
+CallAsSpelled = (bytes : List ℕ) → All (λ byte. byte < 256) bytes → CallIs bytes (call_at bytes)
+
+-- What `port_at` gives of bytes is the answer to what is spelled there.
+abbrev pub PortAsSpelled : Type 0
+PortAsSpelled = (ports : Ports) (args : List ℕ) → All (λ byte. byte < 256) args → PortIs ports args (port_at ports args)
 
 -- A record is one call, or has one fault.
 abbrev pub OneCall : Type 0

@@ -1,4 +1,5 @@
 pub mod Record
+pub mod Stream
 pub mod RecordBuf
 pub mod Kept
 pub mod Call

@@ -1,41 +1,20 @@
-//! Tests of the fields, the records, the calls, the parts of the instrument, the server and the replay,
-//! by examples that were worked out from the standards, and of what a refusal of memory leaves. The
-//! library itself is empty.
+//! Tests of what no script and no line of a table can show: refusals of memory, readers and writers
+//! that fail, bytes that are taken in parts, the end of the clock, and calls that nothing joins
+//! yet. What scripts and lines can show is in `sv_rows` and `sv_tables`. The library itself is
+//! empty.
 #![tactic(auto)]
 
 #[cfg(test)]
-mod calls;
-#[cfg(test)]
-mod channels;
-#[cfg(test)]
 mod controller;
 #[cfg(test)]
-mod errors;
-#[cfg(test)]
-mod fields;
-#[cfg(test)]
-mod first_path;
-#[cfg(test)]
-mod headers;
+mod events;
 #[cfg(test)]
 mod memory;
 #[cfg(test)]
-mod ports;
-#[cfg(test)]
-mod records;
+mod parts;
 #[cfg(test)]
 mod replays;
 #[cfg(test)]
 mod same;
 #[cfg(test)]
-mod scanner;
-#[cfg(test)]
-mod status;
-#[cfg(test)]
 mod streams;
-#[cfg(test)]
-mod units;
-#[cfg(test)]
-mod values;
-#[cfg(test)]
-mod words;

@@ -37,7 +37,8 @@ wrong_kind Expression = DataTypeError
 -- up to 1,000 V in magnitude
 abbrev pub within_volts : Result ℤ Code → Result ℤ Code
 within_volts (Err code) = Err code
-within_volts (Ok value) = if int_le (neg_ℤ (pos most_microvolts)) value && int_le value (pos most_microvolts) then Ok value else Err DataOutOfRange
+within_volts (Ok value) = if int_le (neg_ℤ (pos most_microvolts)) value && int_le value
+    (pos most_microvolts) then Ok value else Err DataOutOfRange
 
 -- a voltage, in microvolts
 abbrev pub read_voltage : Kind → List ℕ → Result ℤ Code

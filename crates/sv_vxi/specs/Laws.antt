@@ -1,8 +1,14 @@
 -- Laws of the spelling alone.
-use Rattle.std.specs.Prelude.{◌≡◌, ℕ, List}
+use Rattle.std.specs.Prelude.{◌≡◌, ℕ, ◌<◌, List, ◌++◌, All, true}
 use Rattle.sv_xdr.specs.Spelling.{BeginsAll}
-use Rattle.sv_vxi.specs.Arguments.{Arguments, procedure_of, BeginsWith}
+use Rattle.sv_vxi.specs.Arguments.{Arguments, procedure_of, BeginsWith, ArgumentsAre, core_calls, abort_calls, is_one_of}
+use Rattle.sv_vxi.specs.Reading.{arguments_at}
 use Rattle.sv_vxi.specs.Results.{Outcome, result_fields, SameShape}
+
+-- What `arguments_at` gives of bytes, for a call of the core channel or device_abort, is what the bytes are as its arguments.
+abbrev pub ArgumentsAsSpelled : Type 0
+ArgumentsAsSpelled = (proc : ℕ) (bytes : List ℕ) → All (λ byte. byte < 256) bytes → is_one_of (core_calls ++ abort_calls) proc ≡ true
+    → ArgumentsAre proc bytes (arguments_at proc bytes)
 
 -- Where two lists of arguments of one call begin the same bytes, they are one, and what follows them too. So none is a proper prefix of
 -- another.

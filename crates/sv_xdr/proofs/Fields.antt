@@ -1,11 +1,12 @@
 -- What is read is spelled so, and what is spelled so is read.
-use Rattle.std.proofs.Common.{◌≡◌, ℕ, ◌+◌, ◌%◌, ◌<◌, ◌≤◌, ◌^◌, Bool, true, false, cond, eqb, ltb, List, [], ◌∷◌, ◌++◌, length, take, drop, get_or, Result, Ok, Err, refl, sym, ap, subst, ◌∙◌, append_assoc, arith, rules, eq-eqb}
+use Rattle.std.proofs.Common.{◌≡◌, ℕ, ◌+◌, ◌%◌, ◌<◌, ◌≤◌, ◌^◌, Bool, true, false, cond, eqb, ltb, List, [], ◌∷◌, ◌++◌, length, take, drop, get_or, Result, Ok, Err, refl, sym, ap, subst, ◌∙◌, append_assoc, arith, inl, inr, rules, eq-eqb}
 use Rattle.std.specs.List.{AllByRecursion, list_all}
 use Rattle.std.proofs.lemmas.Int.{ints, of_z-to_z}
 use Rattle.std.proofs.lemmas.Bool.Decides.{nat_tests}
-use Rattle.std.proofs.lemmas.Bool.{ltb-false, le-ltb, eqb-true, and_parts, and_from}
-use Rattle.std.proofs.lemmas.List.{get_or-append-add, take_at, drop_at, take-append-drop, length-append, length-take, length-drop, drop-drop}
-use Rattle.std.specs.Prelude.{ℤ, pos, negsuc, FitsSigned}
+use Rattle.std.proofs.lemmas.Bool.{cases_lt, ltb-false, le-ltb, eqb-true, and_parts, and_from}
+use Rattle.std.proofs.lemmas.List.Elements.{All-get_or}
+use Rattle.std.proofs.lemmas.List.{get_or_past, get_or-append-add, take_at, drop_at, take-append-drop, length-append, length-take, length-drop, drop-drop}
+use Rattle.std.specs.Prelude.{ℤ, pos, negsuc, FitsSigned, All}
 use Rattle.std.specs.Int.{w32, from_be_bytes, cast_signed, cast_unsigned, from_bool}
 use Rattle.sv_xdr.specs.declared.fault.XdrFault.{XdrFault}
 use Rattle.sv_xdr.specs.declared.fault.XdrFault.TheVariants.{Short, BadPad, BadBool, TooLong}
@@ -148,6 +149,13 @@ pair_parts {A} {B} x y v w e = (ap (λ (p : A × B). p.0) (ok_pair (x, v) (y, w)
 -- the elements are bytes
 abbrev pub IsBytes : List ℕ → Type 0
 IsBytes bytes = (i : ℕ) → get_or bytes i 0 < 256
+
+-- bytes below 256, at each place
+pub bytes_are : (bytes : List ℕ) → All (λ byte. byte < 256) bytes → IsBytes bytes
+bytes_are bytes all i = elim (cases_lt i (length bytes)) [
+  | inl within ↦ All-get_or (λ byte. byte < 256) bytes i 0 within all
+  | inr beyond ↦ rw (get_or_past bytes i 0 beyond) (omega arith)
+]
 
 -- what comes after a field are bytes
 pub bytes_after : (field : Field) (bytes after : List ℕ) → IsBytes bytes → Begins bytes field after → IsBytes after

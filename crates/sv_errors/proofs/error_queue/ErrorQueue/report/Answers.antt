@@ -1,12 +1,14 @@
 -- The ring keeps all codes, since there are at most 16.
-use Rattle.std.proofs.Common.{◌≡◌, ℕ, ◌-◌, ◌<◌, ◌≤◌, List, [], ◌∷◌, ◌++◌, length, take, drop, ap, ◌∙◌, arith, length-append}
+use Rattle.std.proofs.Common.{◌≡◌, ℕ, ◌-◌, ◌<◌, ◌≤◌, List, [], ◌∷◌, ◌++◌, length, take, drop, ap, ◌∙◌, arith, rules, length-append}
+use Rattle.std.proofs.lemmas.List.{length-map}
+use Rattle.std.specs.Prelude.{◌==◌, nat_le}
 use Rattle.std.proofs.lemmas.List.{length-take-le}
 use Rattle.circular_buffer.specs.Buffer.{keep_last}
 use Rattle.sv_errors.specs.declared.code.Code.{Code}
 use Rattle.sv_errors.specs.declared.code.Code.TheVariants.{QueueOverflow}
 use Rattle.sv_errors.specs.declared.error_queue.QueueAct.{QueueAct}
 use Rattle.sv_errors.specs.declared.error_queue.QueueAct.TheVariants.{Report}
-use Rattle.sv_errors.specs.ErrorQueue.{StandsFor}
+use Rattle.sv_errors.specs.ErrorQueue.{StandsFor, entries, shown}
 use Rattle.sv_errors.proofs.Queue.{StandsFor-reported, StandsFor-overflowed}
 use Rattle.sv_errors.proofs.error_queue.ErrorQueue.report.Goals as goal
 
@@ -42,3 +44,11 @@ returns-else-full-clause-stands g c =
     rw (c.push_back-else-full.ensures.items, ← c.self.view_is)
     (λ acts stands. reported c.self.inside.codes.capacity c.self.inside.codes.items c.args.code acts c.self.invariant.0
     (omega arith) stands)
+
+pub returns-then-full-clause-full : goal.returns-then-full-clause-full
+returns-then-full-clause-full g c = search rules
+
+pub returns-then-full-clause-answer : goal.returns-then-full-clause-answer
+returns-then-full-clause-answer g c =
+    let full : nat_le 16 c.len-full.result ≡ (length c.args.self.now == 16) = search rules in
+    λ acts stands. full ∙ ap (λ (n : ℕ). n == 16) (ap length stands ∙ length-map (entries acts) (shown acts))

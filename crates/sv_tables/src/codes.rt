@@ -1,0 +1,54 @@
+//! The errors by their numbers.
+
+use crate::line::{Fault, put, value_of};
+use sv_errors::Code;
+
+/// All codes.
+const CODES: [Code; 28] = [
+    Code::NoError,
+    Code::InvalidCharacter,
+    Code::SyntaxError,
+    Code::DataTypeError,
+    Code::ParameterNotAllowed,
+    Code::MissingParameter,
+    Code::ProgramMnemonicTooLong,
+    Code::UndefinedHeader,
+    Code::InvalidCharacterInNumber,
+    Code::ExponentTooLarge,
+    Code::TooManyDigits,
+    Code::InvalidSuffix,
+    Code::SuffixNotAllowed,
+    Code::InvalidCharacterData,
+    Code::InvalidExpression,
+    Code::TriggerIgnored,
+    Code::InitIgnored,
+    Code::TriggerDeadlock,
+    Code::SettingsConflict,
+    Code::DataOutOfRange,
+    Code::TooMuchData,
+    Code::IllegalParameterValue,
+    Code::DataCorruptOrStale,
+    Code::QueueOverflow,
+    Code::InputBufferOverrun,
+    Code::QueryInterrupted,
+    Code::QueryUnterminated,
+    Code::QueryDeadlocked,
+];
+
+/// Tells the name and the text of the error of a number.
+pub(crate) fn put_code(out: &mut String, text: &str) -> Result<(), Fault> {
+    let code = code_of(text)?;
+    put(out, code)?;
+    put(out, code.text())
+}
+
+/// The error of a number.
+pub(crate) fn code_of(text: &str) -> Result<Code, Fault> {
+    let number = value_of(text)?;
+    for code in CODES {
+        if code.number() == number {
+            return Ok(code);
+        }
+    }
+    Err(Fault::Unknown)
+}

@@ -1,0 +1,48 @@
+//! Fields, and the headers of calls.
+
+use crate::line::{Fault, bytes_of, cut, put, put_bytes, put_text, value_of};
+use std::alloc::Global;
+use sv_rpc::read_call;
+use sv_xdr::{Reader, Writer};
+
+/// Tells a field that is read, and how many bytes are left. A kind that is a number is opaque data
+/// of at most so many bytes.
+pub(crate) fn put_read(alloc: Global, out: &mut String, text: &str) -> Result<(), Fault> {
+    let (kind, digits) = cut(text);
+    let bytes = bytes_of(alloc, digits)?;
+    let mut reader = Reader::new(bytes.as_slice());
+    match kind {
+        "u32" => put(out, reader.u32())?,
+        "i32" => put(out, reader.i32())?,
+        "boolean" => put(out, reader.boolean())?,
+        most => match reader.opaque(value_of(most)?) {
+            Ok(text) => put_text(out, text)?,
+            Err(fault) => put(out, fault)?,
+        },
+    }
+    put(out, reader.rest().len())
+}
+
+/// Tells a field that is written, into 12 bytes.
+pub(crate) fn put_written(alloc: Global, out: &mut String, text: &str) -> Result<(), Fault> {
+    let (kind, value) = cut(text);
+    let mut buffer = [0xEE; 12];
+    let mut writer = Writer::new(&mut buffer);
+    let written = match kind {
+        "u32" => writer.u32(value_of(value)?),
+        "i32" => writer.i32(value_of(value)?),
+        "boolean" => writer.boolean(value_of(value)?),
+        "opaque" => writer.opaque(value.as_bytes()),
+        _ => return Err(Fault::Unknown),
+    };
+    match written {
+        Ok(()) => put_bytes(alloc, out, writer.text()),
+        Err(fault) => put(out, fault),
+    }
+}
+
+/// Tells the header of a call.
+pub(crate) fn put_call(alloc: Global, out: &mut String, text: &str) -> Result<(), Fault> {
+    let bytes = bytes_of(alloc, text)?;
+    put(out, read_call(bytes.as_slice()))
+}

@@ -1,0 +1,19 @@
+//! The headers of a message.
+
+use crate::line::{Fault, put};
+use sv_header::{Path, Table};
+
+/// Tells the command that each header of a message names, behind those in front of it.
+pub(crate) fn put_commands(out: &mut String, table: &Table, text: &str) -> Result<(), Fault> {
+    let mut path = Path::root();
+    for header in text.split(';') {
+        match table.resolve(&path, header.as_bytes()) {
+            Ok(command) => {
+                path.follow(header.as_bytes());
+                put(out, command)?;
+            }
+            Err(code) => put(out, code)?,
+        }
+    }
+    Ok(())
+}

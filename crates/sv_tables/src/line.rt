@@ -1,0 +1,57 @@
+//! Words of a line, and its answer.
+
+use std::alloc::{AllocError, Global};
+use std::fmt::Debug;
+use std::str::FromStr;
+
+/// Why a line has no answer.
+#[derive(Debug, Drop)]
+pub(crate) enum Fault {
+    /// It is spelled like none that has one.
+    Unknown,
+    /// Memory was refused.
+    Memory,
+}
+
+impl From<AllocError> for Fault {
+    fn from(_: AllocError) -> Fault {
+        Fault::Memory
+    }
+}
+
+/// The first word of a text, and what stands behind the space that ends it.
+pub(crate) fn cut(text: &str) -> (&str, &str) {
+    text.split_once(' ').unwrap_or((text, ""))
+}
+
+/// The value that a text spells.
+pub(crate) fn value_of<T: FromStr>(text: &str) -> Result<T, Fault>
+where
+    T::Err: Drop,
+{
+    text.parse().map_err(|_| Fault::Unknown)
+}
+
+/// The bytes of hexadecimal digits.
+pub(crate) fn bytes_of(alloc: Global, digits: &str) -> Result<Vec<u8>, Fault> {
+    hex::decode(alloc, digits).map_err(|_| Fault::Unknown)
+}
+
+/// Puts something behind what is there of an answer.
+pub(crate) fn put<T: Debug + Drop>(out: &mut String, value: T) -> Result<(), Fault> {
+    write!(out, " {value:?}")?;
+    Ok(())
+}
+
+/// Puts a text between quotes, what isn't printable by escapes.
+pub(crate) fn put_text(out: &mut String, text: &[u8]) -> Result<(), Fault> {
+    write!(out, " \"{}\"", text.escape_ascii())?;
+    Ok(())
+}
+
+/// Puts bytes, as hexadecimal digits.
+pub(crate) fn put_bytes(alloc: Global, out: &mut String, bytes: &[u8]) -> Result<(), Fault> {
+    out.push_str(" ")?;
+    out.push_str(hex::encode(alloc, bytes)?.as_str())?;
+    Ok(())
+}

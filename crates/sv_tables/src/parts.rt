@@ -1,0 +1,98 @@
+//! The lines, and the parts to which acts happen.
+
+use crate::codes::put_code;
+use crate::fields::{put_call, put_read, put_written};
+use crate::headers::put_commands;
+use crate::line::{Fault, cut, value_of};
+use crate::records::put_records;
+use crate::scans::put_scan;
+use crate::status::{put_queue, put_register, put_standard, put_status};
+use crate::texts::{put_cut, put_parts, put_trimmed, put_white};
+use crate::units::put_unit;
+use crate::values::put_value;
+use std::alloc::{AllocError, Global};
+use sv_errors::ErrorQueue;
+use sv_header::Table;
+use sv_rpc::RecordBuf;
+use sv_scan::Scanner;
+use sv_status::{Register, StandardEvent, StatusByte};
+
+/// The parts to which acts happen, and the table of commands.
+#[derive(Drop)]
+pub(crate) struct Parts {
+    commands: Table,
+    queue: ErrorQueue,
+    register: Register,
+    standard: StandardEvent,
+    status: StatusByte,
+    scanner: Scanner,
+    records: RecordBuf,
+}
+
+impl Parts {
+    /// Nothing happened to any of them yet.
+    pub(crate) fn new(alloc: Global) -> Result<Parts, AllocError> {
+        Ok(Parts {
+            commands: Table::new(alloc)?,
+            queue: ErrorQueue::new(alloc)?,
+            register: Register::new(),
+            standard: StandardEvent::new(),
+            status: StatusByte::new(),
+            scanner: Scanner::new(alloc)?,
+            records: RecordBuf::new(alloc)?,
+        })
+    }
+
+    /// Puts the answer of a line behind what is there, with a space in front.
+    pub(crate) fn put_answer(
+        &mut self,
+        alloc: Global,
+        out: &mut String,
+        line: &str,
+    ) -> Result<(), Fault> {
+        let (word, text) = cut(line);
+        if word != "times" {
+            return self.put_one(alloc, out, line);
+        }
+        let (times, line) = cut(text);
+        for _ in 0..value_of::<u16>(times)? {
+            self.put_one(alloc, out, line)?;
+        }
+        Ok(())
+    }
+
+    /// Puts the answer of a line that happens once.
+    fn put_one(&mut self, alloc: Global, out: &mut String, line: &str) -> Result<(), Fault> {
+        let (word, text) = cut(line);
+        match word {
+            "new" => {
+                *self = Parts::new(alloc)?;
+                Ok(())
+            }
+            "headers" => put_commands(out, &self.commands, text),
+            "queue" => put_queue(out, &mut self.queue, text),
+            "register" => put_register(out, &mut self.register, text),
+            "standard" => put_standard(out, &mut self.standard, text),
+            "status" => put_status(out, &mut self.status, text),
+            "scan" => put_scan(out, &mut self.scanner, text),
+            "records" => put_records(alloc, out, &mut self.records, text),
+            _ => put_of_text(alloc, out, word, text),
+        }
+    }
+}
+
+/// Puts the answer of a line to which no earlier one matters.
+fn put_of_text(alloc: Global, out: &mut String, word: &str, text: &str) -> Result<(), Fault> {
+    match word {
+        "white" => put_white(alloc, out, text),
+        "trim" => put_trimmed(alloc, out, text),
+        "cut" => put_cut(out, text),
+        "parts" => put_parts(out, text),
+        "unit" => put_unit(alloc, out, text),
+        "code" => put_code(out, text),
+        "read" => put_read(alloc, out, text),
+        "write" => put_written(alloc, out, text),
+        "call" => put_call(alloc, out, text),
+        _ => put_value(out, word, text),
+    }
+}

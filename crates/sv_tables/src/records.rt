@@ -1,0 +1,55 @@
+//! Acts of a buffer of records.
+
+use crate::line::{Fault, bytes_of, cut, put, put_bytes, value_of};
+use std::alloc::Global;
+use sv_rpc::RecordBuf;
+
+/// Tells what a buffer of records answers. An act that changes it is answered with the room that it
+/// leaves.
+pub(crate) fn put_records(
+    alloc: Global,
+    out: &mut String,
+    records: &mut RecordBuf,
+    text: &str,
+) -> Result<(), Fault> {
+    match cut(text) {
+        ("push", digits) => push(records, bytes_of(alloc, digits)?.as_slice())?,
+        ("zeros", count) => {
+            let zeros = vec![in alloc; 0u8; value_of(count)?]?;
+            push(records, zeros.as_slice())?;
+        }
+        ("next", "") => return put_next(alloc, out, records),
+        ("drop", "") => drop_first(records)?,
+        ("clear", "") => records.clear(),
+        _ => return Err(Fault::Unknown),
+    }
+    put(out, records.room())
+}
+
+/// Pushes bytes, for which there has to be room.
+fn push(records: &mut RecordBuf, bytes: &[u8]) -> Result<(), Fault> {
+    if bytes.len() > records.room() {
+        return Err(Fault::Unknown);
+    }
+    records.push(bytes);
+    Ok(())
+}
+
+/// Drops the first record, which has to be there.
+fn drop_first(records: &mut RecordBuf) -> Result<(), Fault> {
+    match records.next() {
+        Ok(Some(_)) => {}
+        Ok(None) | Err(_) => return Err(Fault::Unknown),
+    }
+    records.drop_first();
+    Ok(())
+}
+
+/// Tells the bytes of the next record, or that there is none, or its fault.
+fn put_next(alloc: Global, out: &mut String, records: &RecordBuf) -> Result<(), Fault> {
+    match records.next() {
+        Ok(Some(record)) => put_bytes(alloc, out, record),
+        Ok(None) => Ok(out.push_str(" none")?),
+        Err(fault) => put(out, fault),
+    }
+}

@@ -1,0 +1,73 @@
+//! Acts of the scanner.
+
+use crate::line::{Fault, cut, put, value_of};
+use arrayvec::ArrayVec;
+use sv_errors::Layer;
+use sv_scan::{ScanAct, ScanList, Scanner, Setting, Source};
+
+/// Tells what the scanner answers to a question or an act.
+pub(crate) fn put_scan(out: &mut String, scanner: &mut Scanner, text: &str) -> Result<(), Fault> {
+    match text {
+        "state" => put(out, scanner.state()),
+        "readings" => put(out, scanner.readings()),
+        "may_read" => put(out, scanner.may_read()),
+        "conditions" => {
+            let words = scanner.conditions();
+            put(out, words.operation)?;
+            put(out, words.questionable)
+        }
+        _ => put(out, scanner.act(act_of(text)?)),
+    }
+}
+
+/// The act of a word and its value.
+fn act_of(text: &str) -> Result<ScanAct, Fault> {
+    match cut(text) {
+        ("init", "") => Ok(ScanAct::Init),
+        ("abort", "") => Ok(ScanAct::Abort),
+        ("reset", "") => Ok(ScanAct::Reset),
+        ("sample", "") => Ok(ScanAct::Sample),
+        ("trigger", source) => Ok(ScanAct::Trigger(source_of(source)?)),
+        ("input", words) => {
+            let (channel, microvolts) = cut(words);
+            Ok(ScanAct::Input(value_of(channel)?, value_of(microvolts)?))
+        }
+        (name, value) => Ok(ScanAct::Configure(setting_of(name, value)?)),
+    }
+}
+
+/// The setting of a name and its value.
+fn setting_of(name: &str, value: &str) -> Result<Setting, Fault> {
+    match name {
+        "list" => Ok(Setting::List(list_of(value)?)),
+        "monitor" => Ok(Setting::Monitor(value_of(value)?)),
+        "range" => Ok(Setting::Range(value_of(value)?)),
+        "upper" => Ok(Setting::Upper(value_of(value)?)),
+        "lower" => Ok(Setting::Lower(value_of(value)?)),
+        "limits" => Ok(Setting::Limits(value_of(value)?)),
+        "source" => Ok(Setting::Source(source_of(value)?)),
+        "count" => Ok(Setting::Count(value_of(value)?)),
+        _ => Err(Fault::Unknown),
+    }
+}
+
+/// The source of triggers of a name.
+fn source_of(name: &str) -> Result<Source, Fault> {
+    match name {
+        "immediate" => Ok(Source::Immediate),
+        "bus" => Ok(Source::Bus),
+        "external" => Ok(Source::External),
+        _ => Err(Fault::Unknown),
+    }
+}
+
+/// The channels of a list, with commas between them.
+fn list_of(text: &str) -> Result<ScanList, Fault> {
+    let mut channels = ArrayVec::new();
+    for channel in text.split(',') {
+        if channels.try_push(value_of(channel)?).is_err() {
+            return Err(Fault::Unknown);
+        }
+    }
+    Ok(ScanList::new(channels))
+}

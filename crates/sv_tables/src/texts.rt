@@ -1,0 +1,45 @@
+//! The cutting of text.
+
+use crate::line::{Fault, cut, put, put_text};
+use bstr::ByteVec;
+use std::alloc::Global;
+use sv_text::{first_part, header_parts, is_space, place_of, trim, without_end, without_start};
+
+/// Tells of each byte whether it is white space.
+pub(crate) fn put_white(alloc: Global, out: &mut String, text: &str) -> Result<(), Fault> {
+    for byte in Vec::unescape_bytes(alloc, text)?.as_slice() {
+        put(out, is_space(*byte))?;
+    }
+    Ok(())
+}
+
+/// Tells a text without white space at both ends, in front, and behind.
+pub(crate) fn put_trimmed(alloc: Global, out: &mut String, text: &str) -> Result<(), Fault> {
+    let bytes = Vec::unescape_bytes(alloc, text)?;
+    put_text(out, trim(bytes.as_slice()))?;
+    put_text(out, without_start(bytes.as_slice()))?;
+    put_text(out, without_end(bytes.as_slice()))
+}
+
+/// Tells where a byte first stands in a text, and what stands in front of it and behind.
+pub(crate) fn put_cut(out: &mut String, text: &str) -> Result<(), Fault> {
+    let (separator, text) = cut(text);
+    let [separator] = separator.as_bytes() else {
+        return Err(Fault::Unknown);
+    };
+    put(out, place_of(text.as_bytes(), *separator))?;
+    let (part, behind) = first_part(text.as_bytes(), *separator);
+    put_text(out, part)?;
+    match behind {
+        Some(behind) => put_text(out, behind),
+        None => Ok(()),
+    }
+}
+
+/// Tells the parts of a header: what leads it, its mnemonics, and whether it is a query.
+pub(crate) fn put_parts(out: &mut String, text: &str) -> Result<(), Fault> {
+    let parts = header_parts(text.as_bytes());
+    put(out, parts.lead)?;
+    put_text(out, parts.body)?;
+    put(out, parts.query)
+}

@@ -1,0 +1,38 @@
+//! Units in their parts.
+
+use crate::line::{Fault, put, put_text};
+use bstr::ByteVec;
+use std::alloc::Global;
+use sv_lexer::{Params, Token, unit};
+
+/// Tells the header and the parameters of a unit, up to the first fault.
+pub(crate) fn put_unit(alloc: Global, out: &mut String, text: &str) -> Result<(), Fault> {
+    let bytes = Vec::unescape_bytes(alloc, text)?;
+    match unit(bytes.as_slice()) {
+        Ok(unit) => {
+            put_token(out, unit.header())?;
+            match unit.parameters() {
+                Ok(parameters) => put_parameters(out, &parameters),
+                Err(code) => put(out, code),
+            }
+        }
+        Err(code) => put(out, code),
+    }
+}
+
+/// Tells each parameter, and nothing where there is none at the place behind the last.
+fn put_parameters(out: &mut String, parameters: &Params<'_>) -> Result<(), Fault> {
+    for index in 0..=parameters.count() {
+        if let Some(token) = parameters.get(index) {
+            put_token(out, token)?;
+        }
+    }
+    Ok(())
+}
+
+/// Tells the place, the kind and the text of a token.
+fn put_token(out: &mut String, token: Token<'_>) -> Result<(), Fault> {
+    put(out, token.start)?;
+    put(out, token.kind)?;
+    put_text(out, token.text)
+}

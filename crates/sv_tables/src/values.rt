@@ -1,0 +1,50 @@
+//! The values of parameters, and printed voltages.
+
+use crate::line::{Fault, cut, put, put_text, value_of};
+use sv_lexer::{Token, unit};
+use sv_value::{boolean, channel_list, keyword, microvolts, whole, write_microvolts};
+
+/// The most microvolts that are printed.
+const MOST: u64 = 1_000_000_000;
+
+/// Tells the value of a parameter, or how a voltage is printed.
+pub(crate) fn put_value(out: &mut String, word: &str, text: &str) -> Result<(), Fault> {
+    match word {
+        "voltage" => put(out, microvolts(&parameter(text)?)),
+        "boolean" => put(out, boolean(&parameter(text)?)),
+        "keyword" => put(out, keyword(&parameter(text)?)),
+        "channels" => put(out, channel_list(&parameter(text)?)),
+        "whole" => put_whole(out, text),
+        "print" => put_printed(out, value_of(text)?),
+        _ => Err(Fault::Unknown),
+    }
+}
+
+/// The first parameter of a unit, which has to have one.
+fn parameter(text: &str) -> Result<Token<'_>, Fault> {
+    let Ok(unit) = unit(text.as_bytes()) else {
+        return Err(Fault::Unknown);
+    };
+    let Ok(parameters) = unit.parameters() else {
+        return Err(Fault::Unknown);
+    };
+    parameters.get(0).ok_or(Fault::Unknown)
+}
+
+/// Tells a whole number, behind the lowest and the highest that it may be.
+fn put_whole(out: &mut String, text: &str) -> Result<(), Fault> {
+    let (low, text) = cut(text);
+    let (high, text) = cut(text);
+    let token = parameter(text)?;
+    put(out, whole(&token, value_of(low)?, value_of(high)?))
+}
+
+/// Tells how a voltage is printed, up to 1,000 V in magnitude.
+fn put_printed(out: &mut String, value: i64) -> Result<(), Fault> {
+    if value.unsigned_abs() > MOST {
+        return Err(Fault::Unknown);
+    }
+    let mut buffer = [b'x'; 16];
+    let size = write_microvolts(value, &mut buffer);
+    put_text(out, &buffer[..size])
+}
