@@ -1,5 +1,6 @@
 -- The parameters of a program message unit (IEEE 488.2, 7.3.3 and 7.4.2).
 use Rattle.std.specs.Prelude.{ℕ, ◌+◌, ◌==◌, ◌&&◌, not, Bool, true, false, List, [], ◌∷◌, length, take, reverse, slice_index_or, Option, Some, None, if◌then◌else◌}
+use Rattle.sv_text.specs.Front.{is_empty}
 use Rattle.std.specs.List.{list_any, sum_by}
 use Rattle.sv_errors.specs.declared.code.Code.{Code}
 use Rattle.sv_errors.specs.declared.code.Code.TheVariants.{InvalidExpression, SyntaxError}
@@ -43,11 +44,7 @@ abbrev pub parameter_place : List ℕ → ℕ → ℕ
 parameter_place unit index = rest_place unit + part_place index (parts (rest unit)) + white_size (part unit index)
 
 abbrev pub is_blank : List ℕ → Bool
-is_blank part = nothing (trim part)
-  where
-    nothing : List ℕ → Bool
-    nothing [] = true
-    nothing (b ∷ bytes) = false
+is_blank part = is_empty (trim part)
 
 -- what is wrong with the parameters, the first of these: a parenthesis stays open, or one of them is empty
 abbrev pub parameters_fault : List ℕ → Option Code

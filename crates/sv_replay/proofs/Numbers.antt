@@ -1,12 +1,13 @@
 -- What is read as a number is what the digits spell.
 use Rattle.std.proofs.Common.{◌≡◌, ℕ, ◌+◌, ◌-◌, ◌*◌, ◌^◌, ◌≤◌, zero, suc, true, false, ltb, leb, ℤ, pos, negsuc, neg_ℤ, List, [], ◌∷◌, length, drop, Some, option_map, fold, refl, sym, subst, ap, ◌∙◌, inl, inr, add-one, arith}
+use Rattle.sv_text.specs.Front.{has_minus}
 use Rattle.std.specs.Char.{is_ascii_digit}
 use Rattle.std.specs.List.{AllByRecursion}
 use Rattle.std.proofs.lemmas.Bool.{and_from, and_parts, le-leb, leb-true, le-ltb, ltb-false, eqb-true, eqb-false, ne_eqb}
 use Rattle.std.proofs.lemmas.Option.{none-some, same_Some}
 use Rattle.std.proofs.Math.Nat.{mul-le-mul_right, mul_assoc, pow-succ', pow-le-pow_right, le_trans}
 use Rattle.sv_replay.specs.Line.{IsNumber, HasNoLeadingZero, IsPlain, IsVoltage}
-use Rattle.sv_replay.specs.Reading.{digits_onto, number_at, has_leading_zero, plain_at, short_at, has_minus, voltage_at}
+use Rattle.sv_replay.specs.Reading.{digits_onto, number_at, has_leading_zero, plain_at, short_at, voltage_at}
 use Rattle.sv_replay.proofs.Options.{map_some, chosen}
 
 -- decimal digits alone

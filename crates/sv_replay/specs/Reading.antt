@@ -1,5 +1,6 @@
 -- Reading a line, from left to right.
 use Rattle.std.specs.Prelude.{ℕ, ◌+◌, ◌-◌, ◌*◌, ℤ, pos, neg_ℤ, Bool, true, false, ◌&&◌, List, [], ◌∷◌, length, drop, codes, Option, Some, None, option_and_then, option_map, nat_le, nat_lt, ◌==◌, if◌then◌else◌}
+use Rattle.sv_text.specs.Front.{has_minus}
 use Rattle.std.specs.Char.{is_ascii_digit}
 use Rattle.std.specs.Str.{bytes_eq}
 use Rattle.sv_server.specs.declared.event.Role.{Role}
@@ -40,11 +41,6 @@ plain_at most digits = if has_leading_zero digits then None else number_at most 
 -- a number of at most 18 digits
 unfoldable pub short_at : List ℕ → Option ℕ
 short_at digits = if nat_lt 18 (length digits) then None else number_at 999999999999999999 digits
-
--- a minus in front
-abbrev pub has_minus : List ℕ → Bool
-has_minus [] = false
-has_minus (byte ∷ bytes) = byte == 45
 
 -- a voltage, with its sign
 unfoldable pub voltage_at : List ℕ → Option ℤ

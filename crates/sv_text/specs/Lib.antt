@@ -1,3 +1,4 @@
 pub mod Cut
+pub mod Front
 pub mod Header
 pub mod White

@@ -1,12 +1,13 @@
 -- Pieces of a text that are joined, and taken apart again.
 use Rattle.std.proofs.Common.{◌≡◌, ℕ, suc, ◌+◌, ◌==◌, ◌&&◌, ◌||◌, Bool, true, false, not, cond, List, [], ◌∷◌, ◌++◌, take, drop, refl, sym, ap, ◌∙◌, inl, inr, arith}
+use Rattle.sv_text.specs.Front.{has_minus}
 use Rattle.std.specs.List.{list_all}
 use Rattle.std.specs.Char.{is_ascii_digit}
 use Rattle.std.proofs.lemmas.Bool.Decides.{nat_tests}
 use Rattle.std.proofs.lemmas.Bool.{eqb-true}
 use Rattle.std.proofs.lemmas.List.{take-append-drop, append-nil}
 use Rattle.sv_text.specs.White.{is_white, trim_start}
-use Rattle.sv_value.specs.Decimal.{digits_in, behind_digits, digits_size, has_minus, behind_sign, fraction_in, behind_fraction}
+use Rattle.sv_value.specs.Decimal.{digits_in, behind_digits, digits_size, behind_sign, fraction_in, behind_fraction}
 use Rattle.sv_value.specs.Spelling.{AreDigits, IsSpace, IsSign, IsFraction}
 use Rattle.sv_value.proofs.Runs.{run-passes}
 

@@ -1,5 +1,6 @@
 -- What is printed of a voltage is read as that voltage.
 use Rattle.std.proofs.Common.{◌≡◌, ℕ, zero, suc, ◌+◌, ◌-◌, ◌*◌, ◌/◌, ◌%◌, ◌^◌, ◌<◌, ◌≤◌, Bool, true, false, List, [], ◌∷◌, ◌++◌, length, refl, sym, ap, ◌∙◌, pos, negsuc, Some, arith}
+use Rattle.sv_text.specs.Front.{is_empty}
 use Rattle.std.specs.Prelude.{decimal, replicate, Ok}
 use Rattle.std.specs.Char.{is_ascii_digit, digit_value}
 use Rattle.std.specs.List.{list_all}
@@ -11,7 +12,7 @@ use Rattle.std.proofs.lemmas.List.Folds.{list_all-append}
 use Rattle.std.proofs.lemmas.Fmt.{decimal_is_IsNumeral}
 use Rattle.sv_text.specs.White.{trim_start}
 use Rattle.sv_errors.specs.declared.code.Code.TheVariants.{InvalidSuffix}
-use Rattle.sv_value.specs.Decimal.{Parts, digits_in, behind_digits, is_nothing, fraction_in, behind_fraction, is_down, exponent_in, behind_exponent}
+use Rattle.sv_value.specs.Decimal.{Parts, digits_in, behind_digits, fraction_in, behind_fraction, is_down, exponent_in, behind_exponent}
 use Rattle.sv_value.specs.Number.{magnitude, nearest, significant, signed, read_with}
 use Rattle.sv_value.specs.Value.{power_of_volts, within_volts}
 use Rattle.sv_value.specs.Written.{PrintedIsRead, six_digits}
@@ -89,7 +90,7 @@ parts-printed negative whole fraction w f =
     ∙ ap (parts-of negative whole fraction) none
 
 -- something is there
-some-there : (digits : List ℕ) → 0 < length digits → is_nothing digits ≡ false
+some-there : (digits : List ℕ) → 0 < length digits → is_empty digits ≡ false
 some-there [] lt = absurd (omega (arith, lt))
 some-there (d ∷ digits) lt = refl
 

@@ -1,12 +1,13 @@
 -- A decimal number is read as it is spelled.
 use Rattle.std.proofs.Common.{◌≡◌, ◌≢◌, ℕ, ◌==◌, ◌&&◌, ◌||◌, Bool, true, false, not, cond, List, [], ◌∷◌, ◌++◌, refl, sym, ap, subst, ◌∙◌, ◌⊎◌, inl, inr, arith}
+use Rattle.sv_text.specs.Front.{is_empty, has_minus}
 use Rattle.std.specs.List.{list_all}
 use Rattle.std.specs.Char.{is_ascii_digit, is_ascii_alphabetic}
 use Rattle.std.proofs.lemmas.Bool.{and_parts, eqb-true}
 use Rattle.std.proofs.lemmas.Bool.Decides.{nat_tests}
 use Rattle.std.proofs.lemmas.List.{append_assoc, append-nil}
 use Rattle.sv_text.specs.White.{is_white, trim_start}
-use Rattle.sv_value.specs.Decimal.{Parts, parts, is_spelled, begins_well, is_nothing, digits_in, behind_digits, has_minus, behind_sign, fraction_in, behind_fraction, behind_letter, behind_mark, exponent_in, is_down, behind_exponent, behind_whole, behind_mantissa}
+use Rattle.sv_value.specs.Decimal.{Parts, parts, is_spelled, begins_well, digits_in, behind_digits, behind_sign, fraction_in, behind_fraction, behind_letter, behind_mark, exponent_in, is_down, behind_exponent, behind_whole, behind_mantissa}
 use Rattle.sv_value.specs.Spelling.{AreDigits, IsSpace, IsSign, IsFraction, IsExponent, NoExponent, IsSuffix, IsTail, Spells, ReadAsSpelled}
 use Rattle.sv_value.proofs.Pieces.{begins, is_sign, is_point, digits-joined, behind-joined, digits-none, behind-none, trim-joined, trim-none, digits-apart, digits-all, trim-apart, sign-joined, sign-apart, fraction-joined, fraction-apart}
 
@@ -96,12 +97,12 @@ exponent-joined piece digits text minus e =
     )
 
 -- the letter of an exponent that has digits, and the white space behind it
-marked : (text : List ℕ) → is_nothing (digits_in (behind_sign (behind_letter text))) ≡ false
+marked : (text : List ℕ) → is_empty (digits_in (behind_sign (behind_letter text))) ≡ false
     → (letter : ℕ) × (space : List ℕ) × (text ≡ letter ∷ (space ++ behind_letter text)) × ((letter ≡ 69) ⊎ (letter ≡ 101)) × IsSpace space
 marked [] h = absurd cc
 marked (b ∷ text) h = at (b == 69) (b == 101) refl refl h (trim-apart text)
   where
-    at : (e f : Bool) → (b == 69) ≡ e → (b == 101) ≡ f → is_nothing (digits_in (behind_sign (cond (e || f) (trim_start text) []))) ≡ false
+    at : (e f : Bool) → (b == 69) ≡ e → (b == 101) ≡ f → is_empty (digits_in (behind_sign (cond (e || f) (trim_start text) []))) ≡ false
         → ((space : List ℕ) × (text ≡ space ++ trim_start text) × IsSpace space)
         → (letter : ℕ) × (space : List ℕ) × (b ∷ text ≡ letter ∷ (space ++ cond (e || f) (trim_start text) []))
         × ((letter ≡ 69) ⊎ (letter ≡ 101)) × IsSpace space
@@ -110,7 +111,7 @@ marked (b ∷ text) h = at (b == 69) (b == 101) refl refl h (trim-apart text)
     at false false p q h a = absurd cc
 
 -- text is an exponent, where there is one, and what stands behind it
-exponent-apart : (text : List ℕ) → is_nothing (exponent_in text) ≡ false
+exponent-apart : (text : List ℕ) → is_empty (exponent_in text) ≡ false
     → (piece : List ℕ) × (text ≡ piece ++ behind_exponent text) × IsExponent piece (is_down text) (exponent_in text)
 exponent-apart text some =
     let a = trim-apart text in
@@ -120,18 +121,18 @@ exponent-apart text some =
     let rest = behind_digits (behind_sign (behind_mark text)) in
     let whole : text ≡ a.0 ++ m.0 ∷ (m.1 ++ (s.0 ++ (exponent_in text ++ rest))) =
     a.1 ∙ ap (λ xs. a.0 ++ xs) (m.2 ∙ ap (λ xs. m.0 ∷ (m.1 ++ xs)) (s.1 ∙ ap (λ xs. s.0 ++ xs) d)) in
-    let there : exponent_in text ≢ [] = λ e. absurd (let x : is_nothing (exponent_in text) ≡ true = ap is_nothing e in cc) in (
+    let there : exponent_in text ≢ [] = λ e. absurd (let x : is_empty (exponent_in text) ≡ true = ap is_empty e in cc) in (
       a.0 ++ m.0 ∷ (m.1 ++ (s.0 ++ exponent_in text)),
       rw some (whole ∙ sym (joined a.0 m.1 s.0 (exponent_in text) rest m.0)),
       (a.0, m.1, s.0, m.0, refl, a.2, m.3, m.4, rw some s.2, digits-all (behind_sign (behind_mark text)), there),
     )
 
 -- a list of which some is there, and one that is empty
-some-there : (xs : List ℕ) → xs ≢ [] → is_nothing xs ≡ false
+some-there : (xs : List ℕ) → xs ≢ [] → is_empty xs ≡ false
 some-there [] h = absurd (h refl)
 some-there (x ∷ xs) h = refl
 
-none-there : (xs : List ℕ) → is_nothing xs ≡ true → xs ≡ []
+none-there : (xs : List ℕ) → is_empty xs ≡ true → xs ≡ []
 none-there [] h = refl
 none-there (x ∷ xs) h = absurd cc
 
@@ -155,7 +156,7 @@ tail-read tail number (inl h) =
     let j = exponent-joined h.0 number.exponent h.1 number.down h.3 in
     let digits : exponent_in (h.0 ++ h.1) ≡ number.exponent =
     j.0 ∙ ap (λ xs. number.exponent ++ xs) (digits-none h.1 r.1.0) ∙ append-nil number.exponent in
-    let some : is_nothing (exponent_in (h.0 ++ h.1)) ≡ false = ap is_nothing digits ∙ some-there number.exponent h.3.10 in
+    let some : is_empty (exponent_in (h.0 ++ h.1)) ≡ false = ap is_empty digits ∙ some-there number.exponent h.3.10 in
     rw h.2 (
       rw some j.1,
       digits,
@@ -163,9 +164,9 @@ tail-read tail number (inl h) =
       h.4.3,
       exponent-plain h.0 number.exponent h.1 number.down h.3,
     )
-tail-read tail number (inr h) = at (is_nothing (exponent_in tail)) refl
+tail-read tail number (inr h) = at (is_empty (exponent_in tail)) refl
   where
-    at : (t : Bool) → is_nothing (exponent_in tail) ≡ t → IsRead tail number
+    at : (t : Bool) → is_empty (exponent_in tail) ≡ t → IsRead tail number
     at true is = let r = suffix-read tail number.suffix h.3 in
         (rw (is, h.1) refl, none-there (exponent_in tail) is ∙ sym h.2, rw is r.0, h.3.3, r.1)
     at false is = let a = exponent-apart tail is in absurd (h.0 a.0 (behind_exponent tail) (exponent_in tail) (is_down tail) a.1 a.2)
@@ -178,9 +179,9 @@ front-empty (b ∷ front) behind some e = absurd cc
 tail-spelled : (tail : List ℕ) (number : Parts) → is_down tail ≡ number.down → exponent_in tail ≡ number.exponent
     → trim_start (behind_exponent tail) ≡ number.suffix → begins_well number.suffix ≡ true
     → IsTail tail number
-tail-spelled tail number d x s w = at (is_nothing (exponent_in tail)) refl
+tail-spelled tail number d x s w = at (is_empty (exponent_in tail)) refl
   where
-    at : (t : Bool) → is_nothing (exponent_in tail) ≡ t → IsTail tail number
+    at : (t : Bool) → is_empty (exponent_in tail) ≡ t → IsTail tail number
     at false is =
         let a = exponent-apart tail is in
         inl (a.0, behind_exponent tail, a.1, rw (← d, ← x) a.2, rw (← s) (suffix-spelled (behind_exponent tail) (ap begins_well s ∙ w)))
@@ -207,13 +208,13 @@ fraction-plain fraction digits tail (inl f) h = rw f.0 h
 fraction-plain fraction digits tail (inr f) h = rw f.0 refl
 
 -- whether digits are there
-digits-there : (whole fraction : List ℕ) → (whole ≢ []) ⊎ (fraction ≢ []) → not (is_nothing whole && is_nothing fraction) ≡ true
+digits-there : (whole fraction : List ℕ) → (whole ≢ []) ⊎ (fraction ≢ []) → not (is_empty whole && is_empty fraction) ≡ true
 digits-there (b ∷ whole) fraction some = refl
 digits-there [] (b ∷ fraction) some = refl
 digits-there [] [] (inl some) = absurd (some refl)
 digits-there [] [] (inr some) = absurd (some refl)
 
-there-digits : (whole fraction : List ℕ) → not (is_nothing whole && is_nothing fraction) ≡ true → (whole ≢ []) ⊎ (fraction ≢ [])
+there-digits : (whole fraction : List ℕ) → not (is_empty whole && is_empty fraction) ≡ true → (whole ≢ []) ⊎ (fraction ≢ [])
 there-digits (b ∷ whole) fraction h = inl (λ e. absurd cc)
 there-digits [] (b ∷ fraction) h = inr (λ e. absurd cc)
 there-digits [] [] h = absurd cc

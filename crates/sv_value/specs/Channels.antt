@@ -1,5 +1,6 @@
 -- Channel lists (SCPI-1999, volume 1, chapter 8): `(@`, items with commas between, `)`; an item is a channel, or two with a colon between.
 use Rattle.std.specs.Prelude.{ℕ, ◌+◌, ◌-◌, ◌==◌, ◌&&◌, not, Bool, false, List, [], ◌∷◌, ◌++◌, length, take, reverse, nat_le, nat_lt, slice_get, Option, Some, None, is_some, Result, Ok, Err, if◌then◌else◌}
+use Rattle.sv_text.specs.Front.{is_empty}
 use Rattle.std.specs.List.{list_all, range_with_len}
 use Rattle.std.specs.Char.{is_ascii_digit}
 use Rattle.std.specs.Str.Parse.{digits_value}
@@ -8,7 +9,6 @@ use Rattle.sv_errors.specs.declared.code.Code.{Code}
 use Rattle.sv_errors.specs.declared.code.Code.TheVariants.{DataOutOfRange, TooMuchData, InvalidExpression}
 use Rattle.sv_text.specs.White.{trim}
 use Rattle.sv_text.specs.Cut.{cut_at}
-use Rattle.sv_value.specs.Decimal.{is_nothing}
 
 abbrev closes : Option ℕ → Bool
 closes None = false
@@ -25,7 +25,7 @@ inner (a ∷ b ∷ text) = if a == 40 && b == 64 then closed text else None
 
 -- digits, and perhaps white space around them
 abbrev pub is_number : List ℕ → Bool
-is_number text = not (is_nothing (trim text)) && list_all is_ascii_digit (trim text)
+is_number text = not (is_empty (trim text)) && list_all is_ascii_digit (trim text)
 
 abbrev pub number : List ℕ → ℕ
 number text = digits_value 10 (trim text)

@@ -1,12 +1,9 @@
 -- How decimal numbers are spelled (IEEE 488.2, 7.7.2 and 7.7.3): a sign, digits with a point, an exponent, and a suffix.
 use Rattle.std.specs.Prelude.{ℕ, ◌==◌, ◌&&◌, ◌||◌, not, Bool, true, false, List, [], ◌∷◌, take, drop, if◌then◌else◌}
+use Rattle.sv_text.specs.Front.{is_empty, has_minus}
 use Rattle.std.specs.List.{position_or_len}
 use Rattle.std.specs.Char.{is_ascii_digit, is_ascii_alphabetic}
 use Rattle.sv_text.specs.White.{trim_start}
-
-abbrev pub is_nothing : List ℕ → Bool
-is_nothing [] = true
-is_nothing (b ∷ text) = false
 
 -- the digits in front, up to the first byte that is none, and what stands behind them
 abbrev pub digits_size : List ℕ → ℕ
@@ -17,11 +14,6 @@ digits_in text = take (digits_size text) text
 
 abbrev pub behind_digits : List ℕ → List ℕ
 behind_digits text = drop (digits_size text) text
-
--- whether a minus stands in front
-abbrev pub has_minus : List ℕ → Bool
-has_minus [] = false
-has_minus (b ∷ text) = b == 45
 
 -- without the sign in front
 abbrev pub behind_sign : List ℕ → List ℕ
@@ -51,10 +43,10 @@ exponent_in text = digits_in (behind_sign (behind_mark text))
 
 -- whether it has a minus
 abbrev pub is_down : List ℕ → Bool
-is_down text = not (is_nothing (exponent_in text)) && has_minus (behind_mark text)
+is_down text = not (is_empty (exponent_in text)) && has_minus (behind_mark text)
 
 abbrev pub behind_exponent : List ℕ → List ℕ
-behind_exponent text = if is_nothing (exponent_in text) then text else behind_digits (behind_sign (behind_mark text))
+behind_exponent text = if is_empty (exponent_in text) then text else behind_digits (behind_sign (behind_mark text))
 
 -- the parts of a number
 pub record Parts : Type 0 where
@@ -88,4 +80,4 @@ begins_well (b ∷ suffix) = is_ascii_alphabetic b
 
 -- whether there is a digit, and what stands behind the number begins with a letter
 abbrev pub is_spelled : Parts → Bool
-is_spelled number = not (is_nothing number.whole && is_nothing number.fraction) && begins_well number.suffix
+is_spelled number = not (is_empty number.whole && is_empty number.fraction) && begins_well number.suffix

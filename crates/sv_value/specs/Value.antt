@@ -1,11 +1,11 @@
 -- What the value of a parameter is, by its kind, or which error it is.
 use Rattle.std.specs.Prelude.{ℕ, ℤ, pos, negsuc, neg_ℤ, int_le, nat_le, ◌&&◌, ◌==◌, Bool, true, false, List, codes, Option, Some, None, Result, Ok, Err, if◌then◌else◌}
+use Rattle.sv_text.specs.Front.{is_empty}
 use Rattle.sv_errors.specs.Limits.{most_microvolts}
 use Rattle.sv_errors.specs.declared.code.Code.{Code}
 use Rattle.sv_errors.specs.declared.code.Code.TheVariants.{SyntaxError, DataTypeError, InvalidSuffix, SuffixNotAllowed, DataOutOfRange}
 use Rattle.sv_lexer.specs.declared.token.Kind.{Kind}
 use Rattle.sv_lexer.specs.declared.token.Kind.TheVariants.{Number, Base, Word, Expression, Other}
-use Rattle.sv_value.specs.Decimal.{is_nothing}
 use Rattle.sv_value.specs.Number.{read_decimal}
 use Rattle.sv_value.specs.Based.{read_based}
 use Rattle.sv_value.specs.Choice.{is_same, read_switch, read_keyword}
@@ -15,7 +15,7 @@ use Rattle.sv_value.specs.declared.choice.Keyword.{Keyword}
 -- how many powers of ten a unit of voltage is above the microvolt; no suffix is volts
 abbrev pub power_of_volts : List ℕ → Option ℕ
 power_of_volts suffix =
-    if is_nothing suffix then Some 6
+    if is_empty suffix then Some 6
     else if is_same suffix (codes "V") then Some 6
     else if is_same suffix (codes "KV") then Some 9
     else if is_same suffix (codes "MV") then Some 3
@@ -24,7 +24,7 @@ power_of_volts suffix =
 
 -- a number without a unit takes no suffix
 abbrev pub power_of_none : List ℕ → Option ℕ
-power_of_none suffix = if is_nothing suffix then Some 0 else None
+power_of_none suffix = if is_empty suffix then Some 0 else None
 
 -- data of a kind that the place doesn't take
 abbrev pub wrong_kind : Kind → Code
