@@ -6,3 +6,6 @@ returns-then-is_err-clause-same_buffer c = refl
 
 pub returns-then-is_err-clause-too_long : goal.returns-then-is_err-clause-too_long
 returns-then-is_err-clause-too_long c = λ _. (refl, record { text = refl; rest = refl })
+
+pub returns-in-Size-clause-writes : goal.returns-in-Size-clause-writes
+returns-in-Size-clause-writes c = rw c.in-Size.is (λ _. c.write_number.ensures.writes)
