@@ -7,7 +7,7 @@ use Rattle.sv_server.specs.declared.event.Role.{Role}
 use Rattle.sv_server.specs.declared.event.Role.TheVariants.{Core, Abort, Portmap}
 use Rattle.sv_server.specs.declared.event.Port.{Port}
 use Rattle.sv_server.specs.declared.event.Port.TheVariants.{Conn, Intr}
-use Rattle.sv_server.specs.Event.{Happening, Open, Bytes, Turn, Refuse, Took, Close, Dialed, Input, External, Tick}
+use Rattle.sv_server.specs.Event.{PlainEvent, Open, Bytes, Turn, Refuse, Took, Close, Dialed, Input, External, Tick}
 use Rattle.sv_replay.specs.Line.{Line, Blank, One, Ticks, IsPlain, role_word, ok_word, SaysEvent, Says}
 use Rattle.sv_replay.specs.Reading.{cut_at, plain_at, voltage_at, hex_at, numbered_at, role_at, ok_at, port_at, ticks_at, open_at, bytes_at, dialed_at, input_at, traffic_at, event_at, lone_at, words_at, cut_line_at, line_at}
 use Rattle.sv_replay.specs.PlainLine.{plain_line}
@@ -82,7 +82,7 @@ ok_takes word ok e =
     absurd (none-some ok none)))
 
 -- an event that is said is read
-event_reads : (line : List ℕ) (event : Happening) → SaysEvent line event → line_at line ≡ Some (One event)
+event_reads : (line : List ℕ) (event : PlainEvent) → SaysEvent line event → line_at line ≡ Some (One event)
 unfolding line_at cut_at words_at event_at traffic_at lone_at open_at bytes_at dialed_at input_at port_at
 event_reads line (Open c role) is = rw (is.2, numbered_reads c is.0 (role_word role) is.1, role_reads role) refl
 event_reads line (Bytes c piece) is = rw (is.4, numbered_reads c is.0 is.1 is.2, hex_reads is.1 piece is.3) refl
@@ -118,7 +118,7 @@ ticks_takes line text what line_is e =
     (text, plain_takes 1000000 n text plain, (let h : n ≡ 0 → ⊥ = eqb-false n 0 some in omega arith), line_is)))
 
 -- what was read behind a number is said
-behind_number : {A : Type 0} (at : List ℕ → Option A) (make : ℕ → A → Happening) (line text : List ℕ) (event : Happening)
+behind_number : {A : Type 0} (at : List ℕ → Option A) (make : ℕ → A → PlainEvent) (line text : List ℕ) (event : PlainEvent)
     → ((x : ℕ × List ℕ) (value : A) (number : List ℕ) → IsPlain 255 number x.0 → at x.1 ≡ Some value → text ≡ number ++ 32 ∷ x.1
     → SaysEvent line (make x.0 value))
     → option_and_then (λ x. option_and_then (λ value. Some (make x.0 value)) (at x.1)) (numbered_at text) ≡ Some event
@@ -130,27 +130,27 @@ behind_number at make line text event said e =
     subst (SaysEvent line) (same_Some (make x.0 value) event e2) (said x value number plain read text_is))))
 
 -- what was read as an opening is said
-open_takes : (line text : List ℕ) (event : Happening) → line ≡ codes "open" ++ 32 ∷ text → open_at text ≡ Some event → SaysEvent line event
+open_takes : (line text : List ℕ) (event : PlainEvent) → line ≡ codes "open" ++ 32 ∷ text → open_at text ≡ Some event → SaysEvent line event
 unfolding open_at
 open_takes line text event line_is e = behind_number role_at Open line text event (λ x role number plain read text_is.
     (number, plain, rw (← role_takes x.1 role read) (line_is ∙ ap (λ t. codes "open " ++ t) text_is))) e
 
 -- what was read as bytes is said
-bytes_takes : (line text : List ℕ) (event : Happening) → line ≡ codes "bytes" ++ 32 ∷ text → bytes_at text ≡ Some event
+bytes_takes : (line text : List ℕ) (event : PlainEvent) → line ≡ codes "bytes" ++ 32 ∷ text → bytes_at text ≡ Some event
     → SaysEvent line event
 unfolding bytes_at
 bytes_takes line text event line_is e = behind_number hex_at Bytes line text event (λ x piece number plain read text_is.
     (number, x.1, plain, hex_takes x.1 piece read, line_is ∙ ap (λ t. codes "bytes " ++ t) text_is)) e
 
 -- what was read as the outcome of dialing is said
-dialed_takes : (line text : List ℕ) (event : Happening) → line ≡ codes "dialed" ++ 32 ∷ text → dialed_at text ≡ Some event
+dialed_takes : (line text : List ℕ) (event : PlainEvent) → line ≡ codes "dialed" ++ 32 ∷ text → dialed_at text ≡ Some event
     → SaysEvent line event
 unfolding dialed_at
 dialed_takes line text event line_is e = behind_number ok_at Dialed line text event (λ x ok number plain read text_is.
     (number, plain, rw (← ok_takes x.1 ok read) (line_is ∙ ap (λ t. codes "dialed " ++ t) text_is))) e
 
 -- what was read as an input is said
-input_takes : (line text : List ℕ) (event : Happening) → line ≡ codes "input" ++ 32 ∷ text → input_at text ≡ Some event
+input_takes : (line text : List ℕ) (event : PlainEvent) → line ≡ codes "input" ++ 32 ∷ text → input_at text ≡ Some event
     → SaysEvent line event
 unfolding input_at
 input_takes line text event line_is e = behind_number voltage_at Input line text event (λ x microvolts number plain read text_is.
@@ -181,7 +181,7 @@ worded : (line word w text : List ℕ) → IsWords line word text → word ≡ w
 worded line word w text line_is is = subst (λ (v : List ℕ). IsWords line v text) is line_is
 
 -- what was read as traffic is said
-traffic_takes : (line word text : List ℕ) (event : Happening) → IsWords line word text → traffic_at word text ≡ Some event
+traffic_takes : (line word text : List ℕ) (event : PlainEvent) → IsWords line word text → traffic_at word text ≡ Some event
     → SaysEvent line event
 unfolding traffic_at
 traffic_takes line word text event line_is e =
@@ -194,7 +194,7 @@ traffic_takes line word text event line_is e =
     absurd (none-some event none))))
 
 -- what was read as an event of a connection is said
-event_takes : (line word text : List ℕ) (event : Happening) → IsWords line word text → event_at word text ≡ Some event
+event_takes : (line word text : List ℕ) (event : PlainEvent) → IsWords line word text → event_at word text ≡ Some event
     → SaysEvent line event
 unfolding event_at
 event_takes line word text event line_is e =

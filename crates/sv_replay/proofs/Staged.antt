@@ -6,7 +6,7 @@ use Rattle.sv_server.specs.declared.replay.ReplayFault.TheVariants.{NoMemory, Wr
 use Rattle.sv_replay.specs.Line.{Line, Says}
 use Rattle.std.proofs.lemmas.List.{length-append}
 use Rattle.std.specs.Io.KnownBytes.{Appends, IsAtEnd}
-use Rattle.sv_server.specs.Event.{Happening}
+use Rattle.sv_server.specs.Event.{PlainEvent}
 use Rattle.sv_server.specs.State.{State, StandsFor}
 use Rattle.sv_replay.specs.declared.fault.RunFault.{RunFault}
 use Rattle.sv_replay.specs.declared.fault.RunFault.TheVariants.{BadLine, Input, Output, Memory}
@@ -23,8 +23,8 @@ stage_start server s = ([], [], [], refl, refl, refl, (refl, refl), s)
 
 -- what a line does, for each history
 abbrev pub LineDone : State → State → List ℕ → ℕ → Result ⊤ RunFault → Option (List ℕ) → Option (List ℕ) → Type 0
-LineDone old new line number result first last = (history : List Happening) → StandsFor old set_up history
-    → (text : List ℕ) × (after : List Happening) × LineRuns line number history result text after
+LineDone old new line number result first last = (history : List PlainEvent) → StandsFor old set_up history
+    → (text : List ℕ) × (after : List PlainEvent) × LineRuns line number history result text after
     × StandsFor new set_up after × Appends first last text
 
 -- a line was done
@@ -207,8 +207,8 @@ stage_input server left number read text tail none (lines, events, history, is, 
     (lines, left, is ∙ ap (λ (ps : List (List ℕ)). lines ++ ps) (parts_none left none), (events, history, script, prints))
 
 -- a replay's fault is told as the run's
-pub line_stops : (line : List ℕ) (number : ℕ) (history : List Happening) (said : Line) (fault : ReplayFault) (result : Result ⊤ RunFault)
-    (text : List ℕ) (after : List Happening) → length line ≤ 65536
+pub line_stops : (line : List ℕ) (number : ℕ) (history : List PlainEvent) (said : Line) (fault : ReplayFault) (result : Result ⊤ RunFault)
+    (text : List ℕ) (after : List PlainEvent) → length line ≤ 65536
     → Says line said → IsErr result → IsErrAnd result (λ e. e ≡ run_fault fault) → Stops set_up history (events_of said) fault text after
     → LineRuns line number history result text after
 line_stops line number history said fault (Ok all) text after short says failed is stops = absurd cc

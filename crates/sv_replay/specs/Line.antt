@@ -4,12 +4,12 @@ use Rattle.std.specs.List.{AllByRecursion}
 use Rattle.sv_server.specs.declared.event.Role.{Role}
 use Rattle.sv_server.specs.declared.event.Role.TheVariants.{Core, Abort, Portmap}
 use Rattle.sv_server.specs.declared.event.Port.TheVariants.{Conn, Intr}
-use Rattle.sv_server.specs.Event.{Happening, Open, Bytes, Turn, Refuse, Took, Close, Dialed, Input, External, Tick}
+use Rattle.sv_server.specs.Event.{PlainEvent, Open, Bytes, Turn, Refuse, Took, Close, Dialed, Input, External, Tick}
 
 -- nothing, one event, or so many ticks
 pub data Line : Type 0 where
   Blank : Line
-  One : Happening → Line
+  One : PlainEvent → Line
   Ticks : ℕ → Line
 
 -- Decimal digits, at least one, and the number that they spell.
@@ -57,7 +57,7 @@ ok_word true = codes "ok"
 ok_word false = codes "failed"
 
 -- words are separated by one space
-abbrev pub SaysEvent : List ℕ → Happening → Type 0
+abbrev pub SaysEvent : List ℕ → PlainEvent → Type 0
 SaysEvent line (Open c role) = (number : List ℕ) × IsPlain 255 number c × (line ≡ codes "open " ++ (number ++ 32 ∷ role_word role))
 SaysEvent line (Bytes c piece) = (number hex : List ℕ) × IsPlain 255 number c × IsHex hex piece
     × (line ≡ codes "bytes " ++ (number ++ 32 ∷ hex))

@@ -7,7 +7,7 @@ use Rattle.sv_server.specs.declared.event.Role.{Role}
 use Rattle.sv_server.specs.declared.event.Role.TheVariants.{Core, Abort, Portmap}
 use Rattle.sv_server.specs.declared.event.Port.{Port}
 use Rattle.sv_server.specs.declared.event.Port.TheVariants.{Conn, Intr}
-use Rattle.sv_server.specs.Event.{Happening, Open, Bytes, Turn, Refuse, Close, Dialed, Input, External, Tick}
+use Rattle.sv_server.specs.Event.{PlainEvent, Open, Bytes, Turn, Refuse, Close, Dialed, Input, External, Tick}
 use Rattle.sv_replay.specs.Line.{Line, Blank, One, Ticks}
 
 -- a part that is read, or else nothing is
@@ -111,42 +111,42 @@ ticks_at number = do
   if n == 0 then None else Some (Ticks n)
 
 -- that a connection opens, and what for
-unfoldable pub open_at : List ℕ → Option Happening
+unfoldable pub open_at : List ℕ → Option PlainEvent
 open_at text = do
   x ← numbered_at text
   role ← role_at x.1
   Some (Open x.0 role)
 
 -- bytes that come on a connection
-unfoldable pub bytes_at : List ℕ → Option Happening
+unfoldable pub bytes_at : List ℕ → Option PlainEvent
 bytes_at text = do
   x ← numbered_at text
   piece ← hex_at x.1
   Some (Bytes x.0 piece)
 
 -- what became of dialing
-unfoldable pub dialed_at : List ℕ → Option Happening
+unfoldable pub dialed_at : List ℕ → Option PlainEvent
 dialed_at text = do
   x ← numbered_at text
   ok ← ok_at x.1
   Some (Dialed x.0 ok)
 
 -- a voltage at a channel
-unfoldable pub input_at : List ℕ → Option Happening
+unfoldable pub input_at : List ℕ → Option PlainEvent
 input_at text = do
   x ← numbered_at text
   microvolts ← voltage_at x.1
   Some (Input x.0 microvolts)
 
 -- bytes on a connection, or one of its calls, in words, the first of which is this
-unfoldable pub traffic_at : List ℕ → List ℕ → Option Happening
+unfoldable pub traffic_at : List ℕ → List ℕ → Option PlainEvent
 traffic_at word text =
     if bytes_eq word (codes "bytes") then bytes_at text
     else (if bytes_eq word (codes "turn") then option_map Turn (plain_at 255 text)
     else (if bytes_eq word (codes "refuse") then option_map Refuse (plain_at 255 text) else None))
 
 -- an event of a connection, in words, the first of which is this
-unfoldable pub event_at : List ℕ → List ℕ → Option Happening
+unfoldable pub event_at : List ℕ → List ℕ → Option PlainEvent
 event_at word text =
     if bytes_eq word (codes "open") then open_at text
     else (if bytes_eq word (codes "close") then option_map Close (port_at text)

@@ -4,7 +4,7 @@ use Rattle.std.specs.Io.KnownBytes.{IsAtEnd}
 use Rattle.sv_server.specs.declared.event.Config.{Config}
 use Rattle.sv_server.specs.declared.replay.ReplayFault.{ReplayFault}
 use Rattle.sv_server.specs.declared.replay.ReplayFault.TheVariants.{NoMemory, Write}
-use Rattle.sv_server.specs.Event.{Happening}
+use Rattle.sv_server.specs.Event.{PlainEvent}
 use Rattle.sv_replay.specs.declared.fault.RunFault.{RunFault}
 use Rattle.sv_replay.specs.declared.fault.RunFault.TheVariants.{BadLine, Input, Output, Memory}
 use Rattle.sv_replay.specs.Script.{parts, IsScript, IsBad, Prints, Stops}
@@ -20,11 +20,11 @@ set_up = record { core = 4096; abort = 4097; clock = 0 }
 
 -- What the lines say is printed, by a server to which nothing happened.
 abbrev pub Printed : List (List ℕ) → List ℕ → Type 0
-Printed lines text = (events after : List Happening) × IsScript lines events × Prints set_up [] events text after
+Printed lines text = (events after : List PlainEvent) × IsScript lines events × Prints set_up [] events text after
 
 -- What the lines say is printed up to an event at which the replay stopped.
 abbrev pub PrintedUpTo : List (List ℕ) → ReplayFault → List ℕ → Type 0
-PrintedUpTo lines fault text = (events after : List Happening) × IsScript lines events × Stops set_up [] events fault text after
+PrintedUpTo lines fault text = (events after : List PlainEvent) × IsScript lines events × Stops set_up [] events fault text after
 
 -- A line is whole: another part stands behind it, or the reader is at its end.
 abbrev pub IsWhole : List (List ℕ) → Option (List ℕ) → Type 0

@@ -3,7 +3,7 @@ use Rattle.std.specs.Prelude.{◌≡◌, ◌⊎◌, ℕ, ◌<◌, ◌≤◌, Lis
 use Rattle.sv_text.specs.Cut.{cut_at}
 use Rattle.sv_server.specs.declared.event.Config.{Config}
 use Rattle.sv_server.specs.declared.replay.ReplayFault.{ReplayFault}
-use Rattle.sv_server.specs.Event.{Happening, Tick}
+use Rattle.sv_server.specs.Event.{PlainEvent, Tick}
 use Rattle.sv_server.specs.Replay.{Replays}
 use Rattle.sv_replay.specs.Line.{Line, Blank, One, Ticks, Says}
 
@@ -12,15 +12,15 @@ abbrev pub parts : List ℕ → List (List ℕ)
 parts text = cut_at 10 text
 
 -- the events of a line, the first one first
-abbrev pub events_of : Line → List Happening
+abbrev pub events_of : Line → List PlainEvent
 events_of Blank = []
 events_of (One event) = event ∷ []
 events_of (Ticks n) = replicate n Tick
 
 -- The lines have at most 65,536 bytes each, and say these events.
-abbrev pub IsScript : List (List ℕ) → List Happening → Type 0
+abbrev pub IsScript : List (List ℕ) → List PlainEvent → Type 0
 IsScript [] events = events ≡ []
-IsScript (line ∷ lines) events = (said : Line) × (others : List Happening) × (length line ≤ 65536) × Says line said × IsScript lines others
+IsScript (line ∷ lines) events = (said : Line) × (others : List PlainEvent) × (length line ≤ 65536) × Says line said × IsScript lines others
     × (events ≡ events_of said ++ others)
 
 -- A line that is too long, or says nothing.
@@ -28,19 +28,19 @@ abbrev pub IsBad : List ℕ → Type 0
 IsBad line = (65536 < length line) ⊎ ((said : Line) → Says line said → ⊥)
 
 -- After a history, the newest event first, these events are done, the first one first, and this is their print.
-abbrev pub Prints : Config → List Happening → List Happening → List ℕ → List Happening → Type 0
+abbrev pub Prints : Config → List PlainEvent → List PlainEvent → List ℕ → List PlainEvent → Type 0
 Prints config history [] text after = (text ≡ []) × (after ≡ history)
 Prints config history (event ∷ events) text after =
-    (first rest : List ℕ) × (middle : List Happening) × Replays config history event (Ok tt) first middle
+    (first rest : List ℕ) × (middle : List PlainEvent) × Replays config history event (Ok tt) first middle
     × Prints config middle events rest after
     × (text ≡ first ++ rest)
 
 -- The print of the events up to one at which the replay stopped, and what was written of that one's.
-abbrev pub Stops : Config → List Happening → List Happening → ReplayFault → List ℕ → List Happening → Type 0
-Stops config history events fault text after = (done others : List Happening) × (event : Happening) × (events ≡ done ++ event ∷ others)
-    × (first last : List ℕ) × (middle : List Happening) × Prints config history done first middle
+abbrev pub Stops : Config → List PlainEvent → List PlainEvent → ReplayFault → List ℕ → List PlainEvent → Type 0
+Stops config history events fault text after = (done others : List PlainEvent) × (event : PlainEvent) × (events ≡ done ++ event ∷ others)
+    × (first last : List ℕ) × (middle : List PlainEvent) × Prints config history done first middle
     × Replays config middle event (Err fault) last after × (text ≡ first ++ last)
 
-abbrev pub Performs : Config → List Happening → List Happening → Result ⊤ ReplayFault → List ℕ → List Happening → Type 0
+abbrev pub Performs : Config → List PlainEvent → List PlainEvent → Result ⊤ ReplayFault → List ℕ → List PlainEvent → Type 0
 Performs config history events (Ok all) text after = Prints config history events text after
 Performs config history events (Err fault) text after = Stops config history events fault text after

@@ -3,7 +3,7 @@ use Rattle.std.specs.Prelude.{◌≡◌, ℕ, ◌≤◌, List, [], ◌++◌, len
 use Rattle.std.specs.Io.KnownBytes.{IsAtEnd}
 use Rattle.sv_server.specs.declared.replay.ReplayFault.{ReplayFault}
 use Rattle.sv_server.specs.declared.replay.ReplayFault.TheVariants.{NoMemory, Write}
-use Rattle.sv_server.specs.Event.{Happening}
+use Rattle.sv_server.specs.Event.{PlainEvent}
 use Rattle.sv_server.specs.State.{State, StandsFor}
 use Rattle.sv_replay.specs.declared.fault.RunFault.{RunFault}
 use Rattle.sv_replay.specs.declared.fault.RunFault.TheVariants.{BadLine, Input, Output, Memory}
@@ -13,17 +13,17 @@ use Rattle.sv_replay.specs.Run.{set_up, Runs}
 
 -- Some lines of what was read are done, so many, and this is left of it; what they say is printed.
 abbrev pub IsStage : State → List ℕ → ℕ → List ℕ → List ℕ → Type 0
-IsStage server left number read text = (lines : List (List ℕ)) × (events history : List Happening) × (parts read ≡ lines ++ parts left)
+IsStage server left number read text = (lines : List (List ℕ)) × (events history : List PlainEvent) × (parts read ≡ lines ++ parts left)
     × (number ≡ length lines) × IsScript lines events
     × Prints set_up [] events text history × StandsFor server set_up history
 
 -- A replay stops at an event of a line.
-abbrev pub StopsAt : List ℕ → List Happening → ReplayFault → List ℕ → List Happening → Type 0
+abbrev pub StopsAt : List ℕ → List PlainEvent → ReplayFault → List ℕ → List PlainEvent → Type 0
 StopsAt line history fault text after = (said : Line) × (length line ≤ 65536) × Says line said
     × Stops set_up history (events_of said) fault text after
 
 -- What the line of this number does after a history.
-abbrev pub LineRuns : List ℕ → ℕ → List Happening → Result ⊤ RunFault → List ℕ → List Happening → Type 0
+abbrev pub LineRuns : List ℕ → ℕ → List PlainEvent → Result ⊤ RunFault → List ℕ → List PlainEvent → Type 0
 LineRuns line number history (Ok all) text after =
     (said : Line) × (length line ≤ 65536) × Says line said × Prints set_up history (events_of said) text after
 LineRuns line number history (Err (BadLine n)) text after = (n ≡ number) × IsBad line × (text ≡ [])

@@ -3,7 +3,7 @@
 ghost use Rattle.std.specs.Prelude.{◌≡◌, ℕ, List, replicate};
 ghost use Rattle.std.specs.Io.KnownBytes.{Appends};
 ghost use Rattle.sv_server.specs.declared.event.Config.{Config};
-ghost use Rattle.sv_server.specs.Event.{Happening, Tick};
+ghost use Rattle.sv_server.specs.Event.{PlainEvent, Tick};
 ghost use Rattle.sv_server.specs.State.{StandsFor};
 ghost use Rattle.sv_replay.specs.PlainLine.{plain_line};
 ghost use Rattle.sv_replay.specs.Script.{events_of, Performs};
@@ -19,8 +19,8 @@ pub fn perform<A: Allocator, W: Write>(
     line: Line<'_>,
     writer: &mut W,
 ) -> Result<(), ReplayFault>
-    ensures { (config : Config) (history : List Happening) → StandsFor server.old config history
-        → (text : List ℕ) × (after : List Happening)
+    ensures { (config : Config) (history : List PlainEvent) → StandsFor server.old config history
+        → (text : List ℕ) × (after : List PlainEvent)
         × Performs config history (events_of (plain_line line.entry)) result text after
         × StandsFor server.new config after
         × Appends (W.contents writer.old) (W.contents writer.new) text }
@@ -38,8 +38,8 @@ fn pass<A: Allocator, W: Write>(
     count: u32,
     writer: &mut W,
 ) -> Result<(), ReplayFault>
-    ensures { (config : Config) (history : List Happening) → StandsFor server.old config history
-        → (text : List ℕ) × (after : List Happening)
+    ensures { (config : Config) (history : List PlainEvent) → StandsFor server.old config history
+        → (text : List ℕ) × (after : List PlainEvent)
         × Performs config history (replicate count Tick) result text after
         × StandsFor server.new config after
         × Appends (W.contents writer.old) (W.contents writer.new) text }

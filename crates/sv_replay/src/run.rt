@@ -3,7 +3,7 @@
 ghost use Rattle.std.specs.Prelude.{◌≡◌, ◌≢◌, ◌⊎◌, ℕ, ◌+◌, ◌-◌, ◌*◌, ◌^◌, ◌<◌, ◌≤◌, List, [], ◌++◌, length, Err, None, IfOk, IfErr, OnOk};
 ghost use Rattle.std.specs.Io.Buffered.{writer_buffer, writer_contents};
 ghost use Rattle.std.specs.Io.KnownBytes.{Consumes, Appends, Keeps, IsAtEnd};
-ghost use Rattle.sv_server.specs.Event.{Happening};
+ghost use Rattle.sv_server.specs.Event.{PlainEvent};
 ghost use Rattle.sv_server.specs.State.{StandsFor};
 ghost use Rattle.sv_replay.specs.Text.{nothing_held, first_end};
 ghost use Rattle.sv_replay.specs.Run.{set_up, Runs};
@@ -134,8 +134,8 @@ fn do_line<A: Allocator, W: Write>(
     writer: &mut W,
 ) -> Result<(), RunFault>
     requires { length bytes.old ≡ 65536 }
-    ensures { (history : List Happening) → StandsFor server.old set_up history
-        → (text : List ℕ) × (after : List Happening)
+    ensures { (history : List PlainEvent) → StandsFor server.old set_up history
+        → (text : List ℕ) × (after : List PlainEvent)
         × LineRuns line.now number history result text after
         × StandsFor server.new set_up after
         × Appends (W.contents writer.old) (W.contents writer.new) text }

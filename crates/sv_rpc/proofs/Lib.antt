@@ -9,3 +9,4 @@ pub mod Calls
 pub mod PrefixFree
 pub mod EveryStream
 pub mod Mappings
+pub mod Keeping

@@ -109,3 +109,7 @@ after_data records TooLong piece = record { records = records; tail = TooLong }
 -- What is held goes on from old to new by these bytes of the stream.
 abbrev pub GoesOn : Held → Held → List ℕ → Type 0
 GoesOn old new front = (stream : List ℕ) (dropped : ℕ) → StandsFor old stream dropped → StandsFor new (stream ++ front) dropped
+
+-- The records that stood there stand in front of those that came.
+abbrev pub Keeps : Held → Held → Type 0
+Keeps old new = (more : List (List ℕ)) × (new.records ≡ old.records ++ more)

@@ -4,7 +4,7 @@ ghost use Rattle.std.specs.Prelude.{◌≡◌, ◌≢◌, ℕ, ◌+◌, ◌-◌,
 ghost use Rattle.std.specs.Int.{w32, from_be_bytes};
 ghost use Rattle.sv_rpc.specs.Record.{header_of};
 ghost use Rattle.sv_rpc.specs.RecordBuf.{Held, StandsFor, IsNext, IsRoom, nothing_held, room_of, next_among, used_by, seen};
-ghost use Rattle.sv_rpc.specs.Kept.{InRoom, GoesOn, IsInHeader, IsBeforeHeader, IsInData, after_byte, after_header, after_data, finished};
+ghost use Rattle.sv_rpc.specs.Kept.{InRoom, GoesOn, Keeps, IsInHeader, IsBeforeHeader, IsInData, after_byte, after_header, after_data, finished};
 
 use crate::NoMemory;
 use std::alloc::{Allocator, Global};
@@ -146,10 +146,11 @@ impl<A: Allocator> RecordBuf<A> {
         self.place = Place::Header;
     }
 
-    /// Takes in the next bytes of the stream.
+    /// Takes in the next bytes of the stream. The records that stand in the buffer stay.
     pub fn push(&mut self, piece: &[u8])
         requires { length piece.now ≤ room_of self.old }
-        ensures { GoesOn self.old self.new piece.now }
+        ensures stands { GoesOn self.old self.new piece.now }
+        ensures keeps { Keeps self.old self.new }
     {
         let mut rest = piece;
         while !rest.is_empty() {
@@ -166,6 +167,7 @@ impl<A: Allocator> RecordBuf<A> {
         ensures some { (0 < result) × (result ≤ length piece.now) }
         ensures fits { InRoom self.new (length piece.now - result) }
         ensures goes { GoesOn self.old self.new (take result piece.now) }
+        ensures keeps { Keeps self.old self.new }
     {
         match self.place {
             Place::Header => {

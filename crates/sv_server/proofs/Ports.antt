@@ -8,14 +8,13 @@ use Rattle.sv_server.specs.declared.event.Config.{Config}
 use Rattle.sv_server.specs.declared.event.Port.{Port}
 use Rattle.sv_server.specs.declared.event.Port.TheVariants.{Conn}
 use Rattle.sv_server.specs.declared.print.WriteFault.{WriteFault}
-use Rattle.sv_server.specs.Event.{Happening}
+use Rattle.sv_server.specs.Event.{PlainEvent}
 use Rattle.sv_server.specs.Act.{Act, BytesTaken}
-use Rattle.sv_server.specs.Connection.{is_open, waiting_on}
+use Rattle.sv_server.specs.Connection.{waiting, waiting_on}
 use Rattle.sv_server.specs.State.{State}
-use Rattle.sv_server.specs.Served.{SameLine}
 use Rattle.sv_server.specs.Print.{port_of, below, ports, port_line, lines_of, with_took, with_tooks}
-use Rattle.sv_server.specs.Showing.{StandsBy, ShowsPort, ShowsAll, log_with_took}
-use Rattle.sv_server.proofs.Frames.{others_stay}
+use Rattle.sv_server.specs.Inside.Showing.{StandsBy, ShowsPort, ShowsAll, log_with_took}
+use Rattle.sv_server.proofs.Projections.{of_other}
 use Rattle.sv_server.proofs.Taking.{appends_then}
 
 -- the first ports
@@ -28,7 +27,7 @@ lines-append (port ∷ a) b log =
     ap (λ (l : List ℕ). port_line port (waiting_on port log) ++ l) (lines-append a b log)
     ∙ sym (append_assoc (port_line port (waiting_on port log)) (lines_of a log) (lines_of b log))
 
-tooks-append : (a b : List Port) (log : List Act) (history : List Happening)
+tooks-append : (a b : List Port) (log : List Act) (history : List PlainEvent)
     → with_tooks (a ++ b) log history ≡ with_tooks b log (with_tooks a log history)
 tooks-append [] b log history = refl
 tooks-append (port ∷ a) b log history = tooks-append a b log (with_took port (waiting_on port log) history)
@@ -42,7 +41,7 @@ lines_more n log =
     ap (λ (ps : List Port). lines_of ps log) (first_more n) ∙ lines-append (first_ports n) (port_of n ∷ []) log
     ∙ ap (λ (l : List ℕ). lines_of (first_ports n) log ++ l) (append-nil (port_line (port_of n) (waiting_on (port_of n) log)))
 
-tooks_more : (n : ℕ) (log : List Act) (history : List Happening)
+tooks_more : (n : ℕ) (log : List Act) (history : List PlainEvent)
     → with_tooks (first_ports (suc n)) log history
     ≡ with_took (port_of n) (waiting_on (port_of n) log) (with_tooks (first_ports n) log history)
 tooks_more n log history = ap (λ (ps : List Port). with_tooks ps log history) (first_more n)
@@ -62,39 +61,33 @@ ports_split n h =
     let (others, e) = below_split 32 n h in
     (map port_of others, ap (map port_of) e ∙ map-append port_of (below n) (n ∷ others))
 
--- what waits on a connection, by the same parts of a log
-waits_same : (d : ℕ) (log new : List Act) → SameLine d log new → waiting_on (Conn d) new ≡ waiting_on (Conn d) log
-waits_same d log new same = let opened : is_open d new ≡ is_open d log = ap is_some same.role in rw (opened, same.gone, same.out) refl
-
 -- what was taken from one port changes nothing of a later one
-took_other : (n m count : ℕ) (log : List Act) → n < m
-    → waiting_on (port_of m) (BytesTaken (port_of n) count ∷ log) ≡ waiting_on (port_of m) log
-took_other n m count log less = elim (cases_lt m 16) [
-  | inl within ↦ (let here : n < 16 = omega arith in
-      rw (lt-ltb n 16 here, lt-ltb m 16 within) (waits_same m log _
-      (others_stay n m (BytesTaken (Conn n) count) log refl (λ e. omega (arith, e)))))
-  | inr beyond ↦ rw (le-ltb m 16 beyond) refl
-]
-
 shown_other : (n m : ℕ) (bytes : List ℕ) (log : List Act) → n < m
     → waiting_on (port_of m) (log_with_took (port_of n) bytes log) ≡ waiting_on (port_of m) log
 shown_other n m [] log less = refl
-shown_other n m (byte ∷ bytes) log less = took_other n m (length (byte ∷ bytes)) log less
+shown_other n m (byte ∷ bytes) log less = elim (cases_lt n 16) [
+  | inl within ↦ rw (lt-ltb n 16 within) (elim (cases_lt m 16) [
+    | inl near ↦ rw (lt-ltb m 16 near)
+        (ap waiting (of_other n m (BytesTaken (length (byte ∷ bytes))) log (λ e. omega (arith, e))))
+    | inr far ↦ rw (le-ltb m 16 far) refl
+  ])
+  | inr beyond ↦ rw (le-ltb n 16 beyond) refl
+]
 
 -- The lines of the first ports were written, and what they show was taken; what waits on the others is as it was.
-abbrev pub SoFar : Config → List Happening → List Act → ℕ → State → List ℕ → Type 0
+abbrev pub SoFar : Config → List PlainEvent → List Act → ℕ → State → List ℕ → Type 0
 SoFar config history log n new text = (text ≡ lines_of (first_ports n) log)
     × (now : List Act) × StandsBy new config (with_tooks (first_ports n) log history) now
     × ((m : ℕ) → n ≤ m → waiting_on (port_of m) now ≡ waiting_on (port_of m) log)
 
-pub so_far_none : (config : Config) (history : List Happening) (log : List Act) (state : State) → StandsBy state config history log
+pub so_far_none : (config : Config) (history : List PlainEvent) (log : List Act) (state : State) → StandsBy state config history log
     → SoFar config history log 0 state []
 so_far_none config history log state s = (refl, log, s, λ m h. refl)
 
-pub so_far_more : (config : Config) (history : List Happening) (log : List Act) (n next : ℕ) (old new : State) (text : List ℕ)
+pub so_far_more : (config : Config) (history : List PlainEvent) (log : List Act) (n next : ℕ) (old new : State) (text : List ℕ)
     (first mid last : Option (List ℕ)) → next ≡ suc n → SoFar config history log n old text
     → Appends first mid text
-    → ((h : List Happening) (now : List Act) → StandsBy old config h now
+    → ((h : List PlainEvent) (now : List Act) → StandsBy old config h now
     → (line : List ℕ) × Appends mid last line × ShowsPort (port_of n) config h now (Ok tt) new line)
     → (whole : List ℕ) × Appends first last whole × SoFar config history log next new whole
 so_far_more config history log n next old new text first mid last up (is, now, s, same) put shows =
@@ -106,14 +99,14 @@ so_far_more config history log n next old new text first mid last up (is, now, s
         ap (λ (l : List ℕ). l ++ line) is ∙ ap (λ (l : List ℕ). lines_of (first_ports n) log ++ l)
             (line_is ∙ ap (port_line (port_of n)) here) ∙ sym (lines_more n log),
         log_with_took (port_of n) (waiting_on (port_of n) now) now,
-        subst (λ (h : List Happening). StandsBy new config h (log_with_took (port_of n) (waiting_on (port_of n) now) now))
+        subst (λ (h : List PlainEvent). StandsBy new config h (log_with_took (port_of n) (waiting_on (port_of n) now) now))
             (ap (λ (bytes : List ℕ). with_took (port_of n) bytes (with_tooks (first_ports n) log history)) here
             ∙ sym (tooks_more n log history)) stands,
         λ m h. shown_other n m (waiting_on (port_of n) now) now (omega arith) ∙ same m (omega arith),
       ),
     )
 
-pub so_far_all : (config : Config) (history : List Happening) (log : List Act) (n : ℕ) (new : State) (text : List ℕ) → n ≡ 32
+pub so_far_all : (config : Config) (history : List PlainEvent) (log : List Act) (n : ℕ) (new : State) (text : List ℕ) → n ≡ 32
     → SoFar config history log n new text → ShowsAll config history log (Ok tt) new text
 so_far_all config history log n new text up (is, now, s, same) = (
   is ∙ ap (λ (m : ℕ). lines_of (first_ports m) log) up,
@@ -121,10 +114,10 @@ so_far_all config history log n new text up (is, now, s, same) = (
   subst (λ (m : ℕ). StandsBy new config (with_tooks (first_ports m) log history) now) up s,
 )
 
-pub so_far_stop : (config : Config) (history : List Happening) (log : List Act) (n : ℕ) (old new : State) (text : List ℕ)
+pub so_far_stop : (config : Config) (history : List PlainEvent) (log : List Act) (n : ℕ) (old new : State) (text : List ℕ)
     (first mid last : Option (List ℕ)) (e : WriteFault) (r : Result ⊤ WriteFault) → n < 32
     → SoFar config history log n old text → Appends first mid text → IsErr r
-    → ((h : List Happening) (now : List Act) → StandsBy old config h now
+    → ((h : List PlainEvent) (now : List Act) → StandsBy old config h now
     → (line : List ℕ) × Appends mid last line × ShowsPort (port_of n) config h now (Err e) new line)
     → (whole : List ℕ) × Appends first last whole × ShowsAll config history log r new whole
 so_far_stop config history log n old new text first mid last e (Ok all) within so put failed shows = absurd cc

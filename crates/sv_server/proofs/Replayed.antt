@@ -1,6 +1,6 @@
 -- The replay of an event is its refusal's line, and then the lines of the ports.
 use Rattle.std.proofs.Common.{◌≡◌, ◌≢◌, ℕ, true, false, List, ◌++◌, Option, refl, sym, ap, inl, inr, subst, ◌∙◌, append-nil}
-use Rattle.std.specs.Prelude.{Result, Ok, Err, ⊤, IsErr, IsErrAnd}
+use Rattle.std.specs.Prelude.{Result, Ok, Err, ⊤}
 use Rattle.std.specs.Io.KnownBytes.{Appends}
 use Rattle.sv_server.specs.declared.event.Config.{Config}
 use Rattle.sv_server.specs.declared.event.Did.{Did}
@@ -9,14 +9,14 @@ use Rattle.sv_server.specs.declared.event.Refused.TheVariants as refused
 use Rattle.sv_server.specs.declared.print.WriteFault.{WriteFault}
 use Rattle.sv_server.specs.declared.replay.ReplayFault.{ReplayFault}
 use Rattle.sv_server.specs.declared.replay.ReplayFault.TheVariants.{NoMemory, Write}
-use Rattle.sv_server.specs.Event.{Happening}
+use Rattle.sv_server.specs.Event.{PlainEvent}
 use Rattle.sv_server.specs.Act.{Act}
 use Rattle.sv_server.specs.History.{IsLogOf, Answers, history_after}
 use Rattle.sv_server.specs.State.{State, StandsFor}
 use Rattle.sv_server.specs.Written.{Takes}
 use Rattle.sv_server.specs.Print.{ports, ports_after, with_tooks, head_of, refusal_line, is_no_memory}
 use Rattle.sv_server.specs.Replay.{Writes, Replays}
-use Rattle.sv_server.specs.Showing.{StandsBy, ShowsAll}
+use Rattle.sv_server.specs.Inside.Showing.{StandsBy, ShowsAll}
 use Rattle.sv_server.proofs.Taking.{appends_then}
 
 -- what became of the writing is what is told
@@ -24,24 +24,20 @@ abbrev pub Told : Result ⊤ WriteFault → Result ⊤ ReplayFault → Type 0
 Told (Ok all) fault = fault ≡ Ok tt
 Told (Err e) fault = fault ≡ Err Write
 
-pub told_of : (fault : Result ⊤ ReplayFault) → IsErr fault → IsErrAnd fault (λ e. e ≡ Write) → fault ≡ Err Write
-told_of (Ok all) failed is = absurd cc
-told_of (Err e) failed is = ap Err is
-
 -- what a history answers to an event
-abbrev pub AnswersNow : Config → List Happening → Happening → Result Did Refused → Type 0
+abbrev pub AnswersNow : Config → List PlainEvent → PlainEvent → Result Did Refused → Type 0
 AnswersNow config history event did = (log : List Act) × IsLogOf config history log × Answers config event log did
 
 -- what a replay leaves
-abbrev pub Left : Config → List Happening → Happening → Result ⊤ ReplayFault → State → Option (List ℕ) → Option (List ℕ) → Type 0
-Left config history event fault new first last = (text : List ℕ) × (after : List Happening) × Replays config history event fault text after
+abbrev pub Left : Config → List PlainEvent → PlainEvent → Result ⊤ ReplayFault → State → Option (List ℕ) → Option (List ℕ) → Type 0
+Left config history event fault new first last = (text : List ℕ) × (after : List PlainEvent) × Replays config history event fault text after
     × StandsFor new config after × Appends first last text
 
 -- the lines that were written, behind a refusal's line
-writes_all : (did : Result Did Refused) (log : List Act) (history : List Happening) (r : Result ⊤ WriteFault) (fault : Result ⊤ ReplayFault)
+writes_all : (did : Result Did Refused) (log : List Act) (history : List PlainEvent) (r : Result ⊤ WriteFault) (fault : Result ⊤ ReplayFault)
     (config : Config) (new : State) (head text : List ℕ)
     → did ≢ Err refused.NoMemory → ports_after did ≡ ports → head ≡ head_of did → Told r fault → ShowsAll config history log r new text
-    → (after : List Happening) × (now : List Act) × Writes did log history fault (head ++ text) after × StandsBy new config after now
+    → (after : List PlainEvent) × (now : List Act) × Writes did log history fault (head ++ text) after × StandsBy new config after now
 writes_all did log history (Ok all) fault config new head text some shown is told (lines, now, stands) =
     (with_tooks ports log history, now, rw (told, is, lines, shown) (some, refl, refl), stands)
 writes_all did log history (Err e) fault config new head text some shown is told (first, others, part, split, front, lines, now, stands) = (
@@ -59,26 +55,26 @@ writes_all did log history (Err e) fault config new head text some shown is told
   stands,
 )
 
-pub replay_shown : (config : Config) (history : List Happening) (event : Happening) (did : Result Did Refused) (mid new : State)
+pub replay_shown : (config : Config) (history : List PlainEvent) (event : PlainEvent) (did : Result Did Refused) (mid new : State)
     (head : List ℕ) (first put last : Option (List ℕ)) (r : Result ⊤ WriteFault)
     (fault : Result ⊤ ReplayFault) → did ≢ Err refused.NoMemory → ports_after did ≡ ports → head ≡ head_of did → Told r fault
     → AnswersNow config history event did
     → StandsFor mid config (history_after event did history) → Appends first put head
-    → ((h : List Happening) (log : List Act) → StandsBy mid config h log
+    → ((h : List PlainEvent) (log : List Act) → StandsBy mid config h log
     → (text : List ℕ) × Appends put last text × ShowsAll config h log r new text) → Left config history event fault new first last
 replay_shown config history event did mid new head first put last r fault some shown is told answers s begun shows =
-    let (text, more, all) = shows (history_after event did history) s.log (s.set_up, s.is_log, s.represents, s.settled) in
+    let (text, more, all) = shows (history_after event did history) s.log (s.is_log, s.represents, s.settled) in
     let (after, now, writes, stands) = writes_all did s.log
     (history_after event did history) r fault config new head text some shown is told all in (
       head ++ text,
       after,
       record { before = answers.0; is_before = answers.1; did = did; answers = answers.2; log = s.log; is_log = s.is_log; writes = writes },
-      record { log = now; set_up = stands.0; is_log = stands.1; represents = stands.2; settled = stands.3 },
+      record { log = now; is_log = stands.0; represents = stands.1; settled = stands.2 },
       appends_then first put last head text begun more,
     )
 
 -- a refusal's line alone, or a part of it
-pub replay_stopped : (config : Config) (history : List Happening) (event : Happening) (refusal : Refused) (mid : State)
+pub replay_stopped : (config : Config) (history : List PlainEvent) (event : PlainEvent) (refusal : Refused) (mid : State)
     (first last : Option (List ℕ)) (e : WriteFault) (fault : Result ⊤ ReplayFault)
     → fault ≡ Err Write → AnswersNow config history event (Err refusal) → StandsFor mid config history
     → Takes first last (Err e) (refusal_line refusal) → Left config history event fault mid first last
@@ -98,7 +94,7 @@ replay_stopped config history event refusal mid first last e fault told answers 
   begun,
 )
 
-pub replay_no_memory : (config : Config) (history : List Happening) (event : Happening) (refusal : Refused) (mid : State)
+pub replay_no_memory : (config : Config) (history : List PlainEvent) (event : PlainEvent) (refusal : Refused) (mid : State)
     (first last : Option (List ℕ)) → refusal ≡ refused.NoMemory
     → AnswersNow config history event (Err refusal) → StandsFor mid config history → Appends first last (refusal_line refusal)
     → Left config history event (Err NoMemory) mid first last

@@ -2,16 +2,19 @@
 use Rattle.std.proofs.Common.{◌≡◌, ℕ, ◌+◌, ◌≤◌, List, [], ◌∷◌, ◌++◌, length, take, Result, Ok, Err, refl, sym, ap, ◌∙◌, arith}
 use Rattle.std.specs.Prelude.{map, replicate}
 use Rattle.std.specs.List.{concat}
-use Rattle.std.proofs.lemmas.List.{length-append, length-take-le, length-replicate}
+use Rattle.std.proofs.lemmas.List.{length-append, length-take-le, length-replicate, append-nil}
 use Rattle.std.proofs.lemmas.List.Folds.{concat-append}
 use Rattle.sv_xdr.specs.declared.fault.XdrFault.{XdrFault}
 use Rattle.sv_xdr.specs.declared.writer.Writer.{Writer}
-use Rattle.sv_xdr.specs.Spelling.{Field, Opaque, spelling, pad_len}
+use Rattle.sv_xdr.specs.Spelling.{Field, Unsigned, Opaque, spelling, pad_len}
 use Rattle.sv_xdr.specs.Writer.{text_of, rest_of, Appends, WritesEach}
 use Rattle.sv_rpc.specs.declared.reply.Reply.{Reply}
 use Rattle.sv_rpc.specs.declared.reply.Reply.TheVariants.{Success, Mismatch, ProgUnavail, ProgMismatch, ProcUnavail, GarbageArgs}
 use Rattle.sv_rpc.specs.Reply.{reply_fields}
-use Rattle.sv_vxi.specs.Results.{Outcome, Link, Size, Read, Status, Plain, Data, result_fields, data_of}
+use Rattle.sv_server.specs.declared.reply.Answer.{Answer}
+use Rattle.sv_server.specs.declared.reply.Answer.TheVariants as answers
+use Rattle.sv_server.specs.Inside.Outcome.{IsShort, reply_of, fields_of}
+use Rattle.sv_vxi.specs.Results.{Outcome, plain_result, Link, Size, Read, Status, Plain, Data, result_fields, data_of}
 
 -- bytes that were written leave so much less room
 room_left : (bytes : List ℕ) (old new : Writer) → Appends bytes old new → length bytes + length (rest_of new) ≡ length (rest_of old)
@@ -88,3 +91,15 @@ reply_fits xid fields short =
     let header = map spelling (reply_fields xid Success) in
     let body = map spelling fields in
     omega (arith, ap length (concat-append header body), length-append (concat header) (concat body), success_is_short xid)
+
+-- what was written is this answer
+abbrev pub Written : ℕ → Writer → Answer → Type 0
+Written xid writer answer = text_of writer ≡ concat (map spelling (reply_fields xid (reply_of answer) ++ fields_of answer))
+
+-- an answer has room in a reply
+pub answer_is_short : (xid : ℕ) (answer : Answer) → IsShort answer
+    → length (concat (map spelling (reply_fields xid (reply_of answer) ++ fields_of answer))) ≤ 8228
+answer_is_short xid (answers.Header reply) short =
+    omega (arith, reply_is_short xid reply, ap (λ (fs : List Field). length (concat (map spelling fs))) (append-nil (reply_fields xid reply)))
+answer_is_short xid (answers.Port port) short = reply_fits xid (Unsigned port ∷ []) (omega arith)
+answer_is_short xid (answers.Result outcome) short = reply_fits xid (result_fields (plain_result outcome)) (result_is_short _ short)

@@ -1,34 +1,83 @@
--- An event that was done, and the steps that are due after it, leave what stands for the longer history.
-use Rattle.std.proofs.Common.{◌≡◌, ℕ, zero, suc, List, [], ◌∷◌, ◌∙◌, subst}
-use Rattle.std.specs.Prelude.{Ok}
-use Rattle.sv_exchange.specs.ExchangeHeld.{Held, StandsFor as HoldsExchange}
+-- An event that was done, and the steps that are due after it, leave what stands for the longer history; and a history has one log.
+use Rattle.std.proofs.Common.{◌≡◌, ℕ, zero, suc, Bool, true, false, cond, refl, ap, List, [], ◌∷◌, ◌++◌, sym, ◌∙◌, subst}
+use Rattle.std.specs.Prelude.{Result, Ok, Err, IsErr, IsErrAnd}
 use Rattle.sv_server.specs.declared.event.Config.{Config}
 use Rattle.sv_server.specs.declared.event.Did.{Did}
-use Rattle.sv_server.specs.Event.{Happening, IsEvent}
-use Rattle.sv_server.specs.Act.{Act, exchange_acts}
-use Rattle.sv_server.specs.Settling.{step_of, SettlesIn}
+use Rattle.sv_server.specs.declared.event.Refused.{Refused}
+use Rattle.sv_server.specs.declared.event.Refused.TheVariants.{NoMemory, ConnInUse, NoConn, NoRoom, NotSent, NoDial, NotRefusable, BadChannel, BadInput, TimeOver}
+use Rattle.sv_server.specs.Event.{PlainEvent, IsEvent}
+use Rattle.sv_server.specs.Act.{Act, bench, of}
+use Rattle.sv_server.specs.Settling.{step_of, SettlesIn, Settles}
+use Rattle.sv_server.specs.History.{own_acts, IsLogOf, Answers}
+use Rattle.sv_server.specs.Laws.{OneLog}
+use Rattle.sv_server.specs.KeptConnection.{IsConnection}
+use Rattle.sv_server.specs.KeptBench.{IsBench, Bench as KeptBench}
 use Rattle.sv_server.specs.State.{State, Represents, StandsFor}
-use Rattle.sv_server.specs.Acting.{Acts}
-use Rattle.sv_server.proofs.Frames.{other_acts}
-use Rattle.sv_server.proofs.Steps.{Settled}
+use Rattle.sv_server.specs.Inside.Acting.{Acts, Settled}
 
-nothing_due : (n : ℕ) (log new : List Act) → SettlesIn n log new → step_of new ≡ []
-nothing_due zero log new (none, same) = rw same none
-nothing_due (suc n) log new (some, more) = nothing_due n _ new more
+nothing_due : (n : ℕ) (config : Config) (log new : List Act) → SettlesIn n config log new → step_of config new ≡ []
+nothing_due zero config log new (none, same) = rw same none
+nothing_due (suc n) config log new (some, more) = nothing_due n config _ new more
 
-pub stands_after : (config : Config) (history : List Happening) (event : Happening) (old new : State) (did : Did) (exchange : Held)
-    → StandsFor old config history → IsEvent event → new.config ≡ old.config
-    → ((log : List Act) → Represents old log → Acts old.config event log (Ok did) new)
-    → ((log : List Act) → HoldsExchange new.exchange (exchange_acts log) → Settled log exchange)
-    → StandsFor (record new { exchange = exchange }) config (event ∷ history)
-stands_after config history event old new did exchange s is_event same acts settles =
-    let (free, done, middle, does, rep) = subst (λ (k : Config). Acts k event s.log (Ok did) new) s.set_up (acts s.log s.represents) in
-    let (last, steps, held, only) = settles middle rep.exchange in
+pub stands_after : (config : Config) (history : List PlainEvent) (event : PlainEvent) (old new : State) (did : Did) (shared : KeptBench)
+    → StandsFor old config history → IsEvent event
+    → ((k : Config) (log : List Act) → Represents old k log → Acts k event log (Ok did) new)
+    → ((k : Config) (log : List Act) → IsBench new.bench k (bench log) → Settled k log shared)
+    → StandsFor (record new { bench = shared }) config (event ∷ history)
+stands_after config history event old new did shared s is_event acts settles =
+    let (free, done, rep) = acts config s.log s.represents in
+    let middle = own_acts config event s.log ++ s.log in
+    let (last, steps, held, same) = settles config middle rep.shared in
     record {
       log = last;
-      set_up = same ∙ s.set_up;
-      is_log = (s.log, middle, is_event, s.is_log, free, does, steps);
-      represents = other_acts new middle last rep only.lines new.links exchange new.clock (rw only.links_stay rep.links) held
-          (rw only.clock_stays rep.clock);
-      settled = nothing_due steps.0 middle last steps.1;
+      is_log = (s.log, is_event, s.is_log, free, steps);
+      represents = record {
+        each = λ c other lt. rw same (rep.each c other lt);
+        beyond = λ c h. same c ∙ rep.beyond c h;
+        shared = held;
+      };
+      settled = nothing_due steps.0 config middle last steps.1;
     }
+
+-- the steps that are due lead to one log
+one_end : (n m : ℕ) (config : Config) (log a b : List Act) → SettlesIn n config log a → SettlesIn m config log b → a ≡ b
+one_end zero zero config log a b x y = x.1 ∙ sym y.1
+one_end zero (suc m) config log a b x y = absurd (y.0 x.0)
+one_end (suc n) zero config log a b x y = absurd (x.0 y.0)
+one_end (suc n) (suc m) config log a b x y = one_end n m config (step_of config log ++ log) a b x.1 y.1
+
+-- a history has at most one log
+pub one_log : OneLog
+one_log config [] a b x y = x.1 ∙ sym y.1
+one_log config (event ∷ history) a b x y =
+    let before = one_log config history x.0 y.0 x.2 y.2 in
+    let settled = subst (λ (log : List Act). Settles config (own_acts config event log ++ log) b) (sym before) y.4 in
+    one_end x.4.0 settled.0 config (own_acts config event x.0 ++ x.0) a b x.4.1 settled.1
+
+-- ---- refusals
+
+-- what holds of either refusal
+pub either_refused : (P : Refused → Type 0) (b : Bool) (other r : Refused) → r ≡ cond b NoConn other → (b ≡ true → P NoConn)
+    → (b ≡ false → P other) → P r
+either_refused P true other r e p q = subst P (sym e) (p refl)
+either_refused P false other r e p q = subst P (sym e) (q refl)
+
+-- what a private function leaves says what is answered
+pub answered : (config : Config) (event : PlainEvent) (log : List Act) (r : Result Did Refused) (new : State) → Acts config event log r new
+    → Answers config event log r
+answered config event log (Ok what) new (none, does, rep) = (none, does)
+answered config event log (Err NoMemory) new why = why
+answered config event log (Err ConnInUse) new why = why
+answered config event log (Err NoConn) new why = why
+answered config event log (Err NoRoom) new why = why
+answered config event log (Err NotSent) new why = why
+answered config event log (Err NoDial) new why = why
+answered config event log (Err NotRefusable) new why = why
+answered config event log (Err BadChannel) new why = why
+answered config event log (Err BadInput) new why = why
+answered config event log (Err TimeOver) new why = why
+
+-- an error that is passed on
+pub passed_on : {A E : Type 0} (r : Result A E) (e : E) → IsErr r → IsErrAnd r (λ x. x ≡ e) → r ≡ Err e
+passed_on (Ok a) e failed is = absurd cc
+passed_on (Err x) e failed is = ap Err is

@@ -1,65 +1,71 @@
--- The steps that are due are of the exchange, and one after the other they settle a log.
-use Rattle.std.proofs.Common.{ℕ, suc, zero, true, false, List, [], ◌∷◌, ◌++◌, refl}
+-- The steps that are due, one after the other, settle a log.
+use Rattle.std.proofs.Common.{◌≡◌, ◌≢◌, ℕ, suc, zero, Bool, true, false, List, [], ◌∷◌, ◌++◌, refl, sym, ap, ◌∙◌}
 use Rattle.std.specs.Prelude.{map}
-use Rattle.sv_exchange.specs.Exchange.{ExchangeAct}
+use Rattle.sv_exchange.specs.Exchange.{ExchangeAct, due}
 use Rattle.sv_exchange.specs.ExchangeHeld.{Held, StandsFor as HoldsExchange}
-use Rattle.sv_exchange.specs.Exchange.{due}
-use Rattle.sv_server.specs.Act.{Act, Exchanged, exchange_acts}
-use Rattle.sv_server.specs.Settling.{step_acts, step_of, SettlesIn, Settles}
-use Rattle.sv_server.specs.Served.{OnlyExchange, StepDone}
-use Rattle.sv_server.proofs.Frames.{SameLine-then}
+use Rattle.sv_links.specs.Table.{Table}
+use Rattle.sv_server.specs.declared.event.Config.{Config}
+use Rattle.sv_server.specs.Act.{Act, BenchAct, Exchanged, Bench, of, bench, exchange_acts}
+use Rattle.sv_server.specs.Settling.{exchange_step, bench_step, step_of, SettlesIn, Settles}
+use Rattle.sv_server.specs.KeptBench.{IsBench, Bench as KeptBench}
+use Rattle.sv_server.specs.Inside.Acting.{ExchangeStep, StepDone, Settled}
+use Rattle.sv_server.proofs.Projections.{of_shared, bench_shared, link_acts-exchange, exchange_acts-exchange, ticks-exchange}
+
+some_mapped : {A B : Type 0} (f : A → B) (xs : List A) → xs ≢ [] → map f xs ≢ []
+some_mapped f [] some = absurd (some refl)
+some_mapped f (x ∷ xs) some = λ none. absurd cc
+
+none_mapped : {A B : Type 0} (f : A → B) (xs : List A) → map f xs ≡ [] → xs ≡ []
+none_mapped f [] none = refl
+none_mapped f (x ∷ xs) none = absurd cc
+
+-- a step of message exchange is one of what all share
+pub stepped : (done : Bool) (config : Config) (acts : List BenchAct) (old : KeptBench) (exchange : Held) → IsBench old config acts
+    → ((xs : List ExchangeAct) → HoldsExchange old.exchange xs → ExchangeStep done xs old.exchange exchange)
+    → StepDone done config acts old (record old { exchange = exchange })
+stepped true config acts old exchange (links, holds, set_up, clock) steps =
+    let (some, held) = steps (exchange_acts acts) holds in
+    let more = exchange_step (due (exchange_acts acts)) (exchange_acts acts) in (
+      some_mapped Exchanged more some,
+      (
+        rw (link_acts-exchange more acts) links,
+        rw (exchange_acts-exchange more acts) held,
+        set_up,
+        rw (ticks-exchange more acts) clock,
+      ),
+    )
+stepped false config acts old exchange (links, holds, set_up, clock) steps =
+    let (none, same) = steps (exchange_acts acts) holds in
+    (ap (map Exchanged) none, rw same refl)
 
 -- the steps from the one log to the other are those that settle the first
-abbrev pub Reaches : List Act → List Act → Type 0
-Reaches log mid = (n : ℕ) (new : List Act) → SettlesIn n mid new → (m : ℕ) × SettlesIn m log new
+abbrev pub Reaches : Config → List Act → List Act → Type 0
+Reaches config log mid = (n : ℕ) (new : List Act) → SettlesIn n config mid new → (m : ℕ) × SettlesIn m config log new
 
--- what some steps made of a log
-abbrev pub Stepped : List Act → Held → Type 0
-Stepped log exchange = (mid : List Act) × Reaches log mid × HoldsExchange exchange (exchange_acts mid) × OnlyExchange log mid
+-- what some steps made of any log
+abbrev pub AnyStepped : KeptBench → KeptBench → Type 0
+AnyStepped first now = (config : Config) (log : List Act) → IsBench first config (bench log)
+    → (mid : List Act) × Reaches config log mid × IsBench now config (bench mid) × ((c : ℕ) → of c mid ≡ of c log)
 
-abbrev pub AnyStepped : Held → Held → Type 0
-AnyStepped old exchange = (log : List Act) → HoldsExchange old (exchange_acts log) → Stepped log exchange
+pub stepped_none : (first : KeptBench) → AnyStepped first first
+stepped_none first = λ config log is. (log, λ n new s. (n, s), is, λ c. refl)
 
-abbrev pub Settled : List Act → Held → Type 0
-Settled log exchange = (new : List Act) × Settles log new × HoldsExchange exchange (exchange_acts new) × OnlyExchange log new
-
-only_same : (log : List Act) → OnlyExchange log log
-only_same log = record {
-  lines = λ d. record { role = refl; came = refl; calls = refl; fault = refl; out = refl; gone = refl };
-  links_stay =
-      refl;
-  clock_stays = refl;
-}
-
-only_steps : (acts : List ExchangeAct) (log new : List Act) → OnlyExchange log new → OnlyExchange log (map Exchanged acts ++ new)
-only_steps [] log new o = o
-only_steps (act ∷ acts) log new o =
-    let rest = only_steps acts log new o in
-    record {
-      lines = λ d. SameLine-then d log (map Exchanged acts ++ new) (Exchanged act ∷ map Exchanged acts ++ new) (rest.lines d)
-          (record { role = refl; came = refl; calls = refl; fault = refl; out = refl; gone = refl });
-      links_stay = rest.links_stay;
-      clock_stays = rest.clock_stays;
-    }
-
-pub stepped_none : (old : Held) → AnyStepped old old
-stepped_none old = λ log x. (log, λ n new s. (n, s), x, only_same log)
-
-pub stepped_more : (first old new : Held) → AnyStepped first old
-    → ((log : List Act) → HoldsExchange old (exchange_acts log) → StepDone true log old new) → AnyStepped first new
-stepped_more first old new some more = λ log x.
-    let (mid, reaches, holds, only) = some log x in
-    let (due_now, held) = more mid holds in (
-      step_of mid ++ mid,
-      λ n last s. reaches (suc n) last (due_now, s),
-      held,
-      only_steps (step_acts (due (exchange_acts mid)) (exchange_acts mid)) log mid only,
+pub stepped_more : (first old new : KeptBench) → AnyStepped first old
+    → ((config : Config) (acts : List BenchAct) → IsBench old config acts → StepDone true config acts old new) → AnyStepped first new
+stepped_more first old new some more = λ config log is.
+    let (mid, reaches, holds, same) = some config log is in
+    let (due_now, held) = more config (bench mid) holds in
+    let step = bench_step config (bench mid) in (
+      step_of config mid ++ mid,
+      λ n last s. reaches (suc n) last (some_mapped Bench step due_now, s),
+      rw (bench_shared step mid) held,
+      λ c. of_shared c step mid ∙ same c,
     )
 
-pub stepped_all : (first old new : Held) → AnyStepped first old
-    → ((log : List Act) → HoldsExchange old (exchange_acts log) → StepDone false log old new) → (log : List Act)
-    → HoldsExchange first (exchange_acts log) → Settled log new
-stepped_all first old new some none = λ log x.
-    let (mid, reaches, holds, only) = some log x in
-    let (nothing, same) = none mid holds in
-    (mid, reaches zero mid (nothing, refl), rw same holds, only)
+pub stepped_all : (first old new : KeptBench) → AnyStepped first old
+    → ((config : Config) (acts : List BenchAct) → IsBench old config acts → StepDone false config acts old new)
+    → (config : Config) (log : List Act) → IsBench first config (bench log) → Settled config log new
+stepped_all first old new some none = λ config log is.
+    let (mid, reaches, holds, same) = some config log is in
+    let (nothing, unchanged) = none config (bench mid) holds in
+    (mid, reaches zero mid (ap (map Bench) nothing, refl), rw unchanged holds, same)

@@ -1,29 +1,53 @@
--- What is recorded of each event, act by act. A log is a list of acts, the newest first.
-use Rattle.std.specs.Prelude.{ℕ, List, [], ◌∷◌}
+-- What is recorded of each event, act by act. A log is a list of acts, the newest first. Each act is one of a connection's, or one of what
+-- all connections share: links and the instrument.
+use Rattle.std.specs.Prelude.{ℕ, ◌+◌, ◌==◌, List, [], ◌∷◌, if◌then◌else◌}
 use Rattle.sv_links.specs.Links.{LinkAct}
 use Rattle.sv_exchange.specs.Exchange.{ExchangeAct}
 use Rattle.sv_server.specs.declared.event.Role.{Role}
-use Rattle.sv_server.specs.declared.event.Port.{Port}
+
+-- of a connection
+pub data ConnAct : Type 0 where
+  Opened : (role : Role) → ConnAct
+  Piece : (bytes : List ℕ) → ConnAct
+  CallTaken : (call : List ℕ) → ConnAct
+  Faulted : ConnAct
+  Replied : (bytes : List ℕ) → ConnAct
+  BytesTaken : (count : ℕ) → ConnAct
+  PortClosed : ConnAct
+
+-- of what all connections share
+pub data BenchAct : Type 0 where
+  Linked : (act : LinkAct) → BenchAct
+  Exchanged : (act : ExchangeAct) → BenchAct
+  Ticked : BenchAct
 
 pub data Act : Type 0 where
-  Opened : (conn : ℕ) (role : Role) → Act
-  Piece : (conn : ℕ) (bytes : List ℕ) → Act
-  CallTaken : (conn : ℕ) → Act
-  Faulted : (conn : ℕ) → Act
-  Replied : (conn : ℕ) (bytes : List ℕ) → Act
-  PortClosed : (conn : ℕ) → Act
-  BytesTaken : (port : Port) (count : ℕ) → Act
-  Ticked : Act
-  Linked : (act : LinkAct) → Act
-  Exchanged : (act : ExchangeAct) → Act
+  On : (conn : ℕ) (act : ConnAct) → Act
+  Bench : (act : BenchAct) → Act
 
--- the acts of the links, and those of message exchange
-abbrev pub link_acts : List Act → List LinkAct
+-- the acts of one connection, and those of what all share
+abbrev pub of : ℕ → List Act → List ConnAct
+of c [] = []
+of c (On d act ∷ log) = if d == c then act ∷ of c log else of c log
+of c (Bench act ∷ log) = of c log
+
+abbrev pub bench : List Act → List BenchAct
+bench [] = []
+bench (On c act ∷ log) = bench log
+bench (Bench act ∷ log) = act ∷ bench log
+
+-- of these the acts of links, those of message exchange, and the milliseconds that passed
+abbrev pub link_acts : List BenchAct → List LinkAct
 link_acts [] = []
-link_acts (Linked act ∷ log) = act ∷ link_acts log
-link_acts (_ ∷ log) = link_acts log
+link_acts (Linked act ∷ acts) = act ∷ link_acts acts
+link_acts (_ ∷ acts) = link_acts acts
 
-abbrev pub exchange_acts : List Act → List ExchangeAct
+abbrev pub exchange_acts : List BenchAct → List ExchangeAct
 exchange_acts [] = []
-exchange_acts (Exchanged act ∷ log) = act ∷ exchange_acts log
-exchange_acts (_ ∷ log) = exchange_acts log
+exchange_acts (Exchanged act ∷ acts) = act ∷ exchange_acts acts
+exchange_acts (_ ∷ acts) = exchange_acts acts
+
+abbrev pub ticks : List BenchAct → ℕ
+ticks [] = 0
+ticks (Ticked ∷ acts) = ticks acts + 1
+ticks (_ ∷ acts) = ticks acts

@@ -1,117 +1,112 @@
--- What a log says of a connection, by searches since it was last opened.
+-- What the acts of a connection say of it: searches that look no further back than to its newest opening, and find nothing once it is
+-- closed.
 use Rattle.std.specs.Prelude.{ℕ, ◌+◌, ◌-◌, ◌==◌, ◌&&◌, ◌||◌, Bool, true, false, List, [], ◌∷◌, ◌++◌, length, drop, Option, Some, None, is_none, is_some, slice_get, if◌then◌else◌}
-use Rattle.sv_rpc.specs.Record.{Tail, Header, Data, TooLong, Splits}
+use Rattle.sv_rpc.specs.Record.{Tail, Header, Data, TooLong}
 use Rattle.sv_rpc.specs.RecordBuf.{used_by}
+use Rattle.sv_rpc.specs.Stream.{records_of, tail_of}
 use Rattle.sv_server.specs.declared.event.Role.{Role}
 use Rattle.sv_server.specs.declared.event.Port.{Port}
 use Rattle.sv_server.specs.declared.event.Port.TheVariants.{Conn, Intr}
-use Rattle.sv_errors.specs.Since.{since}
-use Rattle.sv_server.specs.Act.{Act, Opened, Piece, CallTaken, Faulted, Replied, PortClosed, BytesTaken, Ticked}
+use Rattle.sv_server.specs.Act.{Act, ConnAct, Opened, Piece, CallTaken, Faulted, Replied, BytesTaken, PortClosed, of}
 
--- what the connection is open for, where its newest opening or closing is an opening
-abbrev pub open_role : ℕ → List Act → Option Role
-open_role c [] = None
-open_role c (Opened d role ∷ log) = if d == c then Some role else open_role c log
-open_role c (PortClosed d ∷ log) = if d == c then None else open_role c log
-open_role c (_ ∷ log) = open_role c log
+-- what it is open for, where its newest opening or closing is an opening
+abbrev pub open_role : List ConnAct → Option Role
+open_role [] = None
+open_role (Opened role ∷ acts) = Some role
+open_role (PortClosed ∷ acts) = None
+open_role (_ ∷ acts) = open_role acts
 
-abbrev pub is_open : ℕ → List Act → Bool
-is_open c log = is_some (open_role c log)
+abbrev pub is_open : List ConnAct → Bool
+is_open acts = is_some (open_role acts)
 
-abbrev pub is_opening : ℕ → Act → Bool
-is_opening c (Opened d role) = d == c
-is_opening c _ = false
+-- all bytes that came on it
+abbrev pub stream : List ConnAct → List ℕ
+stream [] = []
+stream (Opened role ∷ acts) = []
+stream (PortClosed ∷ acts) = []
+stream (Piece bytes ∷ acts) = stream acts ++ bytes
+stream (_ ∷ acts) = stream acts
 
--- the acts since the connection was last opened
-abbrev pub since_opening : ℕ → List Act → List Act
-since_opening c log = since (is_opening c) log
+-- the call that was taken on it and has no answer yet
+abbrev pub unanswered : List ConnAct → Option (List ℕ)
+unanswered [] = None
+unanswered (Opened role ∷ acts) = None
+unanswered (PortClosed ∷ acts) = None
+unanswered (CallTaken call ∷ acts) = Some call
+unanswered (Faulted ∷ acts) = None
+unanswered (Replied bytes ∷ acts) = None
+unanswered (_ ∷ acts) = unanswered acts
 
--- what came in pieces
-abbrev pub pieces : ℕ → List Act → List ℕ
-pieces c [] = []
-pieces c (Piece d bytes ∷ acts) = if d == c then pieces c acts ++ bytes else pieces c acts
-pieces c (_ ∷ acts) = pieces c acts
+abbrev pub is_busy : List ConnAct → Bool
+is_busy acts = is_some (unanswered acts)
 
--- all bytes that came on the connection
-abbrev pub stream : ℕ → List Act → List ℕ
-stream c log = pieces c (since_opening c log)
-
-abbrev pub calls : ℕ → List Act → ℕ
-calls c [] = 0
-calls c (CallTaken d ∷ acts) = if d == c then calls c acts + 1 else calls c acts
-calls c (_ ∷ acts) = calls c acts
-
--- how many calls were taken on it
-abbrev pub taken : ℕ → List Act → ℕ
-taken c log = calls c (since_opening c log)
-
-abbrev pub has_fault : ℕ → List Act → Bool
-has_fault c [] = false
-has_fault c (Faulted d ∷ acts) = if d == c then true else has_fault c acts
-has_fault c (_ ∷ acts) = has_fault c acts
+-- how many of its records came to their end: by an answer, or since they are no call
+abbrev pub ended : List ConnAct → ℕ
+ended [] = 0
+ended (Opened role ∷ acts) = 0
+ended (PortClosed ∷ acts) = 0
+ended (Faulted ∷ acts) = ended acts + 1
+ended (Replied bytes ∷ acts) = ended acts + 1
+ended (_ ∷ acts) = ended acts
 
 -- whether a record that is no call was taken on it
-abbrev pub took_no_call : ℕ → List Act → Bool
-took_no_call c log = has_fault c (since_opening c log)
+abbrev pub took_no_call : List ConnAct → Bool
+took_no_call [] = false
+took_no_call (Opened role ∷ acts) = false
+took_no_call (PortClosed ∷ acts) = false
+took_no_call (Faulted ∷ acts) = true
+took_no_call (_ ∷ acts) = took_no_call acts
 
-abbrev pub replies : ℕ → List Act → List ℕ
-replies c [] = []
-replies c (Replied d bytes ∷ acts) = if d == c then replies c acts ++ bytes else replies c acts
-replies c (_ ∷ acts) = replies c acts
+-- all bytes of its replies, and how many of them the peer took
+abbrev pub sent : List ConnAct → List ℕ
+sent [] = []
+sent (Opened role ∷ acts) = []
+sent (PortClosed ∷ acts) = []
+sent (Replied bytes ∷ acts) = sent acts ++ bytes
+sent (_ ∷ acts) = sent acts
 
--- all bytes of its replies
-abbrev pub sent : ℕ → List Act → List ℕ
-sent c log = replies c (since_opening c log)
+abbrev pub given : List ConnAct → ℕ
+given [] = 0
+given (Opened role ∷ acts) = 0
+given (PortClosed ∷ acts) = 0
+given (BytesTaken count ∷ acts) = given acts + count
+given (_ ∷ acts) = given acts
 
-abbrev pub is_conn : ℕ → Port → Bool
-is_conn c (Conn d) = d == c
-is_conn c (Intr d) = false
+-- those that the peer didn't take
+abbrev pub unsent : List ConnAct → List ℕ
+unsent acts = drop (given acts) (sent acts)
 
-abbrev pub bytes_taken : ℕ → List Act → ℕ
-bytes_taken c [] = 0
-bytes_taken c (BytesTaken port count ∷ acts) = if is_conn c port then bytes_taken c acts + count else bytes_taken c acts
-bytes_taken c (_ ∷ acts) = bytes_taken c acts
+-- the bytes that wait to be sent on it; none where it isn't open
+abbrev pub waiting : List ConnAct → List ℕ
+waiting acts = if is_open acts then unsent acts else []
 
--- how many of them the peer took
-abbrev pub given : ℕ → List Act → ℕ
-given c log = bytes_taken c (since_opening c log)
-
--- the bytes that wait on a port; none where it isn't open, and none on an interrupt channel while there are none
+-- the bytes that wait on a port; none on an interrupt channel while there are none
 abbrev pub waiting_on : Port → List Act → List ℕ
-waiting_on (Conn c) log = if is_open c log then drop (given c log) (sent c log) else []
+waiting_on (Conn c) log = waiting (of c log)
 waiting_on (Intr c) log = []
 
--- the milliseconds that passed
-abbrev pub ticks : List Act → ℕ
-ticks [] = 0
-ticks (Ticked ∷ log) = ticks log + 1
-ticks (_ ∷ log) = ticks log
+-- The call to take next (RFC 5531, section 11): the first record that didn't come to its end, unless it was taken already, or a record was no
+-- call.
+abbrev pub next_call : List ConnAct → Option (List ℕ)
+next_call acts = if took_no_call acts || is_busy acts then None else slice_get (records_of (stream acts)) (ended acts)
 
--- The stream of a connection is these records, and then this tail.
-abbrev pub Reads : ℕ → List Act → List (List ℕ) → Tail → Type 0
-Reads c log records tail = Splits (stream c log) records tail
-
--- the record that is taken next: its number is the count of calls taken
-abbrev pub next_call : ℕ → List Act → List (List ℕ) → Option (List ℕ)
-next_call c log records = slice_get records (taken c log)
+-- whether there is none
+abbrev pub is_idle : List ConnAct → Bool
+is_idle acts = is_none (next_call acts)
 
 abbrev pub is_too_long : Tail → Bool
 is_too_long (Header payload header) = false
 is_too_long (Data payload missing last) = false
 is_too_long TooLong = true
 
--- whether a record that is no call was taken, or all records in front of one that is too long were
-abbrev pub is_faulted : ℕ → List Act → List (List ℕ) → Tail → Bool
-is_faulted c log records tail = took_no_call c log || (is_too_long tail && (taken c log == length records))
+-- whether a record that is no call was taken, or all records in front of one that is too long came to their end
+abbrev pub is_faulted : List ConnAct → Bool
+is_faulted acts = took_no_call acts || (is_too_long (tail_of (stream acts)) && (ended acts == length (records_of (stream acts))))
 
--- whether there is no call to take
-abbrev pub is_idle : ℕ → List Act → List (List ℕ) → Tail → Bool
-is_idle c log records tail = is_faulted c log records tail || is_none (next_call c log records)
-
--- how many bytes may come
-abbrev pub room : ℕ → List Act → List (List ℕ) → Tail → ℕ
-room c log records tail = 16384 - used_by (drop (taken c log) records) tail
+-- how many bytes may come: a record counts until it comes to its end
+abbrev pub room : List ConnAct → ℕ
+room acts = if is_open acts then 16384 - used_by (drop (ended acts) (records_of (stream acts))) (tail_of (stream acts)) else 0
 
 -- how many outgoing bytes are free
-abbrev pub free : ℕ → List Act → ℕ
-free c log = 16384 - length (drop (given c log) (sent c log))
+abbrev pub free : List ConnAct → ℕ
+free acts = 16384 - length (unsent acts)

@@ -8,19 +8,19 @@ use Rattle.sv_server.specs.declared.event.Event.{Event}
 use Rattle.sv_server.specs.declared.event.Event.TheVariants as events
 
 -- an event without where its bytes lie in memory
-pub data Happening : Type 0 where
-  Open : (conn : ℕ) (role : Role) → Happening
-  Bytes : (conn : ℕ) (piece : List ℕ) → Happening
-  Turn : (conn : ℕ) → Happening
-  Refuse : (conn : ℕ) → Happening
-  Took : (port : Port) (count : ℕ) → Happening
-  Close : (port : Port) → Happening
-  Dialed : (conn : ℕ) (ok : Bool) → Happening
-  Input : (channel : ℕ) (microvolts : ℤ) → Happening
-  External : Happening
-  Tick : Happening
+pub data PlainEvent : Type 0 where
+  Open : (conn : ℕ) (role : Role) → PlainEvent
+  Bytes : (conn : ℕ) (piece : List ℕ) → PlainEvent
+  Turn : (conn : ℕ) → PlainEvent
+  Refuse : (conn : ℕ) → PlainEvent
+  Took : (port : Port) (count : ℕ) → PlainEvent
+  Close : (port : Port) → PlainEvent
+  Dialed : (conn : ℕ) (ok : Bool) → PlainEvent
+  Input : (channel : ℕ) (microvolts : ℤ) → PlainEvent
+  External : PlainEvent
+  Tick : PlainEvent
 
-abbrev pub plain : Event → Happening
+abbrev pub plain : Event → PlainEvent
 plain (events.Open conn role) = Open conn role
 plain (events.Bytes conn piece) = Bytes conn piece.now
 plain (events.Turn conn) = Turn conn
@@ -38,7 +38,7 @@ port_number (Conn c) = c
 port_number (Intr c) = c
 
 -- An event that can come: each number lies in the range of its field's type, and each byte is below 256.
-abbrev pub IsEvent : Happening → Type 0
+abbrev pub IsEvent : PlainEvent → Type 0
 IsEvent (Open conn role) = conn < 256
 IsEvent (Bytes conn piece) = (conn < 256) × All (λ b. b < 256) piece
 IsEvent (Turn conn) = conn < 256

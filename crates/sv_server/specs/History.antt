@@ -1,134 +1,103 @@
 -- The log of a history, and what the history refuses. Histories are lists of events that weren't refused, the newest first.
-use Rattle.std.specs.Prelude.{◌≡◌, ℕ, ◌+◌, ◌||◌, ◌&&◌, ◌==◌, not, ℤ, pos, negsuc, Bool, true, false, List, [], ◌∷◌, ◌++◌, length, map, Option, Some, None, is_none, Result, Ok, Err, codes, nat_lt, if◌then◌else◌}
-use Rattle.std.specs.Bool.{MatchBool}
-use Rattle.std.specs.Str.{bytes_eq}
-use Rattle.sv_rpc.specs.declared.call.CallFault.{CallFault}
-use Rattle.sv_rpc.specs.Record.{Tail}
-use Rattle.sv_rpc.specs.Call.{Asked, call_at}
-use Rattle.sv_vxi.specs.Arguments.{Arguments, CreateLink}
-use Rattle.sv_vxi.specs.Reading.{arguments_at}
-use Rattle.sv_links.specs.Links.{closing, may_make}
+use Rattle.std.specs.Prelude.{◌≡◌, ℕ, ◌+◌, ◌||◌, ◌==◌, not, ℤ, pos, negsuc, Bool, true, List, [], ◌∷◌, ◌++◌, length, map, Option, Some, None, Result, Ok, Err, nat_lt, if◌then◌else◌}
+use Rattle.sv_errors.specs.Limits.{is_channel, most_microvolts}
+use Rattle.sv_rpc.specs.Call.{call_at}
+use Rattle.sv_links.specs.Links.{closing, made}
 use Rattle.sv_server.specs.declared.event.Role.{Role}
-use Rattle.sv_server.specs.declared.event.Role.TheVariants.{Core}
 use Rattle.sv_server.specs.declared.event.Port.TheVariants.{Conn, Intr}
 use Rattle.sv_server.specs.declared.event.Config.{Config}
 use Rattle.sv_server.specs.declared.event.Did.{Did}
 use Rattle.sv_server.specs.declared.event.Did.TheVariants.{Done, Idle}
 use Rattle.sv_server.specs.declared.event.Refused.{Refused}
 use Rattle.sv_server.specs.declared.event.Refused.TheVariants.{NoMemory, ConnInUse, NoConn, NoRoom, NotSent, NoDial, NotRefusable, BadChannel, BadInput, TimeOver}
-use Rattle.sv_server.specs.Event.{IsEvent, IsConfig, Happening, Open, Bytes, Turn, Refuse, Took, Close, Dialed, Input, External, Tick}
-use Rattle.sv_server.specs.Act.{Act, Opened, Piece, BytesTaken, PortClosed, Ticked, Linked, link_acts}
-use Rattle.sv_server.specs.Connection.{is_open, open_role, waiting_on, ticks, Reads, next_call, is_idle, room, free}
-use Rattle.sv_server.specs.Checks.{header_reply}
-use Rattle.sv_server.specs.Serving.{served}
+use Rattle.sv_server.specs.Event.{IsEvent, IsConfig, PlainEvent, Open, Bytes, Turn, Refuse, Took, Close, Dialed, Input, External, Tick}
+use Rattle.sv_server.specs.Act.{Act, ConnAct, BenchAct, Opened, Piece, CallTaken, Faulted, Replied, BytesTaken, PortClosed, Linked, Ticked, On, Bench, of, bench, link_acts, ticks}
+use Rattle.sv_server.specs.Connection.{is_open, open_role, waiting, next_call, is_idle, room, free}
+use Rattle.sv_server.specs.Dispatch.{Verdict, NoCall, Replies, considered}
 use Rattle.sv_server.specs.Settling.{Settles}
 
--- the acts of a Turn: those of the next call, where there is one to take
-abbrev pub take_call : Config → ℕ → Option (List ℕ) → List Act → List Act
-take_call config c (Some bytes) log = served config c bytes log
-take_call config c None log = log
+-- the acts of a record that was taken, behind its CallTaken
+abbrev pub verdict_acts : ℕ → Verdict → List Act
+verdict_acts c NoCall = On c Faulted ∷ []
+verdict_acts c (Replies adds bytes) = On c (Replied bytes) ∷ map Bench adds
 
-abbrev pub turned : Config → ℕ → List (List ℕ) → Tail → List Act → List Act
-turned config c records tail log = if is_idle c log records tail then log else take_call config c (next_call c log records) log
+-- the acts of a Turn: those of the connection's next call, where there is one to take
+abbrev pub turn_acts : Config → ℕ → Option Role → Option (List ℕ) → List BenchAct → List Act
+turn_acts config c (Some role) (Some call) acts = verdict_acts c (considered config c role (call_at call) acts) ++ On c (CallTaken call) ∷ []
+turn_acts config c _ _ acts = []
 
--- the acts of closing a connection: its links are destroyed, by rising number
-abbrev pub closed : ℕ → List Act → List Act
-closed c log = map Linked (closing c (link_acts log)) ++ PortClosed c ∷ log
-
--- What an event adds to the log by itself.
-abbrev pub Does : Config → Happening → List Act → List Act → Type 0
-Does config (Open c role) log new = new ≡ Opened c role ∷ log
-Does config (Bytes c piece) log new = new ≡ Piece c piece ∷ log
-Does config (Turn c) log new = (records : List (List ℕ)) × (tail : Tail) × Reads c log records tail
-    × (new ≡ turned config c records tail log)
-Does config (Refuse c) log new = new ≡ log
-Does config (Took port count) log new = new ≡ BytesTaken port count ∷ log
-Does config (Close (Conn c)) log new = new ≡ closed c log
-Does config (Close (Intr c)) log new = new ≡ log
-Does config (Dialed c ok) log new = new ≡ log
-Does config (Input channel microvolts) log new = new ≡ log
-Does config External log new = new ≡ log
-Does config Tick log new = new ≡ Ticked ∷ log
+-- The acts that an event adds to the log by itself. Closing a connection destroys its links, by rising number.
+abbrev pub own_acts : Config → PlainEvent → List Act → List Act
+own_acts config (Open c role) log = On c (Opened role) ∷ []
+own_acts config (Bytes c piece) log = On c (Piece piece) ∷ []
+own_acts config (Turn c) log = turn_acts config c (open_role (of c log)) (next_call (of c log)) (bench log)
+own_acts config (Refuse c) log = []
+own_acts config (Took (Conn c) count) log = On c (BytesTaken count) ∷ []
+own_acts config (Took (Intr c) count) log = []
+own_acts config (Close (Conn c)) log = map Bench (map Linked (closing c (link_acts (bench log)))) ++ On c PortClosed ∷ []
+own_acts config (Close (Intr c)) log = []
+own_acts config (Dialed c ok) log = []
+own_acts config (Input channel microvolts) log = []
+own_acts config External log = []
+own_acts config Tick log = Bench Ticked ∷ []
 
 -- whether a number isn't that of an open connection
 abbrev pub is_shut : ℕ → List Act → Bool
-is_shut c log = nat_lt 15 c || not (is_open c log)
+is_shut c log = nat_lt 15 c || not (is_open (of c log))
 
-abbrev pub beyond_input : ℤ → Bool
-beyond_input (pos n) = nat_lt 1000000000 n
-beyond_input (negsuc n) = nat_lt 999999999 n
+-- whether a voltage is beyond 1,000 V in either direction
+abbrev pub is_beyond : ℤ → Bool
+is_beyond (pos n) = nat_lt most_microvolts n
+is_beyond (negsuc n) = nat_lt most_microvolts (n + 1)
 
 abbrev pub last_clock : ℕ
 last_clock = 9223372036854775807
 
 -- why a Turn of an open connection is refused: only one that isn't idle wants room for the longest reply
-abbrev pub turn_refusal : Bool → ℕ → Option Refused
-turn_refusal idle free = if idle then None else (if nat_lt free 8232 then Some NoRoom else None)
+abbrev pub turn_refusal : List ConnAct → Option Refused
+turn_refusal acts = if is_idle acts then None else (if nat_lt (free acts) 8232 then Some NoRoom else None)
 
 -- What refuses an event: the first, in the order of checks, that holds. Want of memory isn't among them.
-abbrev pub Refuses : Config → Happening → List Act → Option Refused → Type 0
-Refuses config (Open c role) log refusal = refusal ≡ (if nat_lt 15 c then Some NoConn else (if is_open c log then Some ConnInUse else None))
-Refuses config (Bytes c piece) log refusal = MatchBool (is_shut c log) (refusal ≡ Some NoConn)
-    ((records : List (List ℕ)) × (tail : Tail) × Reads c log records tail
-    × (refusal ≡ (if nat_lt (room c log records tail) (length piece) then Some NoRoom else None)))
-Refuses config (Turn c) log refusal = MatchBool (is_shut c log) (refusal ≡ Some NoConn)
-    ((records : List (List ℕ)) × (tail : Tail) × Reads c log records tail
-    × (refusal ≡ turn_refusal (is_idle c log records tail) (free c log)))
-Refuses config (Refuse c) log refusal = refusal ≡ (if is_shut c log then Some NoConn else Some NotRefusable)
-Refuses config (Took (Conn c) count) log refusal =
-    refusal ≡ (if is_shut c log then Some NoConn else (if nat_lt (length (waiting_on (Conn c) log)) count then Some NotSent else None))
-Refuses config (Took (Intr c) count) log refusal = refusal ≡ Some NoConn
-Refuses config (Close (Conn c)) log refusal = refusal ≡ (if is_shut c log then Some NoConn else None)
-Refuses config (Close (Intr c)) log refusal = refusal ≡ Some NoConn
-Refuses config (Dialed c ok) log refusal = refusal ≡ (if is_shut c log then Some NoConn else Some NoDial)
-Refuses config (Input channel microvolts) log refusal =
-    refusal ≡ (if (channel == 0) || nat_lt 32 channel then Some BadChannel else (if beyond_input microvolts then Some BadInput else None))
-Refuses config External log refusal = refusal ≡ None
-Refuses config Tick log refusal = refusal ≡ (if config.clock + ticks log == last_clock then Some TimeOver else None)
+abbrev pub refusal : Config → PlainEvent → List Act → Option Refused
+refusal config (Open c role) log = if nat_lt 15 c then Some NoConn else (if is_open (of c log) then Some ConnInUse else None)
+refusal config (Bytes c piece) log =
+    if is_shut c log then Some NoConn else (if nat_lt (room (of c log)) (length piece) then Some NoRoom else None)
+refusal config (Turn c) log = if is_shut c log then Some NoConn else turn_refusal (of c log)
+refusal config (Refuse c) log = if is_shut c log then Some NoConn else Some NotRefusable
+refusal config (Took (Conn c) count) log =
+    if is_shut c log then Some NoConn else (if nat_lt (length (waiting (of c log))) count then Some NotSent else None)
+refusal config (Took (Intr c) count) log = Some NoConn
+refusal config (Close (Conn c)) log = if is_shut c log then Some NoConn else None
+refusal config (Close (Intr c)) log = Some NoConn
+refusal config (Dialed c ok) log = if is_shut c log then Some NoConn else Some NoDial
+refusal config (Input channel microvolts) log =
+    if not (is_channel channel) then Some BadChannel else (if is_beyond microvolts then Some BadInput else None)
+refusal config External log = None
+refusal config Tick log = if config.clock + ticks (bench log) == last_clock then Some TimeOver else None
 
 -- The log of a history: each event's own acts, and then the steps that are due. Each number of a history lies in its range.
-abbrev pub IsLogOf : Config → List Happening → List Act → Type 0
+abbrev pub IsLogOf : Config → List PlainEvent → List Act → Type 0
 IsLogOf config [] log = IsConfig config × (log ≡ [])
-IsLogOf config (event ∷ history) log = (before middle : List Act) × IsEvent event × IsLogOf config history before
-    × Refuses config event before None
-    × Does config event before middle × Settles middle log
+IsLogOf config (event ∷ history) log = (before : List Act) × IsEvent event × IsLogOf config history before
+    × (refusal config event before ≡ None) × Settles config (own_acts config event before ++ before) log
 
 -- what an event that wasn't refused does: a Turn that finds no call to take is idle
-abbrev pub DidIs : Happening → List Act → Did → Type 0
-DidIs (Turn c) log did = (records : List (List ℕ)) × (tail : Tail) × Reads c log records tail
-    × (did ≡ (if is_idle c log records tail then Idle else Done))
-DidIs _ log did = did ≡ Done
+abbrev pub did : PlainEvent → List Act → Did
+did (Turn c) log = if is_idle (of c log) then Idle else Done
+did _ log = Done
 
--- whether these are the arguments of a create_link that passes the checks of its name and of the lock
-abbrev pub makes_link : Arguments → Bool
-makes_link (CreateLink client_id lock_device lock_timeout device) = bytes_eq device (codes "inst0") && not lock_device
-makes_link _ = false
+-- whether acts make a link, the one thing for which memory may be wanting
+abbrev pub makes_link : List Act → Bool
+makes_link acts = nat_lt 0 (made (link_acts (bench acts)))
 
-abbrev pub spells_link : {E : Type 0} → Result Arguments E → Bool
-spells_link (Ok arguments) = makes_link arguments
-spells_link (Err e) = false
-
--- whether a record is a create_link that passes the checks in front of its memory
-abbrev pub wants_memory : Option Role → Result Asked CallFault → List Act → Bool
-wants_memory (Some Core) (Ok call) log = is_none (header_reply Core call) &&
-    (spells_link (arguments_at call.proc call.args) && may_make (link_acts log))
-wants_memory _ _ log = false
-
--- Memory may be wanting only for a Turn that nothing else refuses and that isn't idle, and whose next call is such a create_link.
-abbrev pub MayLackMemory : Config → Happening → List Act → Type 0
-MayLackMemory config (Turn c) log = Refuses config (Turn c) log None × (records : List (List ℕ)) × (tail : Tail) × (bytes : List ℕ)
-    × Reads c log records tail
-    × (is_idle c log records tail ≡ false) × (next_call c log records ≡ Some bytes)
-    × (wants_memory (open_role c log) (call_at bytes) log ≡ true)
-MayLackMemory config _ log = ⊥
-
--- What a call of the server answers: what the event does, or what refuses it.
-abbrev pub Answers : Config → Happening → List Act → Result Did Refused → Type 0
-Answers config event log (Ok did) = Refuses config event log None × DidIs event log did
-Answers config event log (Err NoMemory) = MayLackMemory config event log
-Answers config event log (Err refusal) = Refuses config event log (Some refusal)
+-- What a call of the server answers: what the event does, or what refuses it. Memory may be wanting only for an event that nothing else
+-- refuses and that makes a link.
+abbrev pub Answers : Config → PlainEvent → List Act → Result Did Refused → Type 0
+Answers config event log (Ok what) = (refusal config event log ≡ None) × (what ≡ did event log)
+Answers config event log (Err NoMemory) = (refusal config event log ≡ None) × (makes_link (own_acts config event log) ≡ true)
+Answers config event log (Err refused) = refusal config event log ≡ Some refused
 
 -- the history with the event, unless it was refused
-abbrev pub history_after : Happening → Result Did Refused → List Happening → List Happening
-history_after event (Ok did) history = event ∷ history
-history_after event (Err refusal) history = history
+abbrev pub history_after : PlainEvent → Result Did Refused → List PlainEvent → List PlainEvent
+history_after event (Ok what) history = event ∷ history
+history_after event (Err refused) history = history

@@ -6,7 +6,7 @@ use Rattle.sv_server.specs.declared.event.Port.TheVariants.{Conn, Intr}
 use Rattle.sv_server.specs.declared.event.Did.{Did}
 use Rattle.sv_server.specs.declared.event.Refused.{Refused}
 use Rattle.sv_server.specs.declared.event.Refused.TheVariants.{NoMemory, ConnInUse, NoConn, NoRoom, NotSent, NoDial, NotRefusable, BadChannel, BadInput, TimeOver}
-use Rattle.sv_server.specs.Event.{Happening, Took}
+use Rattle.sv_server.specs.Event.{PlainEvent, Took}
 use Rattle.sv_server.specs.Act.{Act}
 use Rattle.sv_server.specs.Connection.{waiting_on}
 
@@ -54,12 +54,12 @@ lines_of [] log = []
 lines_of (port ∷ others) log = port_line port (waiting_on port log) ++ lines_of others log
 
 -- the history in which the peer took these bytes from a port; where there are none, nothing happened
-abbrev pub with_took : Port → List ℕ → List Happening → List Happening
+abbrev pub with_took : Port → List ℕ → List PlainEvent → List PlainEvent
 with_took port [] history = history
 with_took port (byte ∷ bytes) history = Took port (length (byte ∷ bytes)) ∷ history
 
 -- the history in which the peer took all that waits at ports by a log, from one port after the other
-abbrev pub with_tooks : List Port → List Act → List Happening → List Happening
+abbrev pub with_tooks : List Port → List Act → List PlainEvent → List PlainEvent
 with_tooks [] log history = history
 with_tooks (port ∷ others) log history = with_tooks others log (with_took port (waiting_on port log) history)
 

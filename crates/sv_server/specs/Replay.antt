@@ -7,7 +7,7 @@ use Rattle.sv_server.specs.declared.event.Refused.{Refused}
 use Rattle.sv_server.specs.declared.event.Refused.TheVariants as refused
 use Rattle.sv_server.specs.declared.replay.ReplayFault.{ReplayFault}
 use Rattle.sv_server.specs.declared.replay.ReplayFault.TheVariants.{NoMemory, Write}
-use Rattle.sv_server.specs.Event.{Happening}
+use Rattle.sv_server.specs.Event.{PlainEvent}
 use Rattle.sv_server.specs.Act.{Act}
 use Rattle.sv_server.specs.History.{IsLogOf, Answers, history_after}
 use Rattle.sv_server.specs.Print.{head_of, ports_after, lines_of, with_tooks, print_of}
@@ -16,7 +16,7 @@ use Rattle.sv_server.specs.Written.{IsFront}
 -- The print was written, and then the peer took all that it shows; where memory was refused the print is that alone. Where the writer
 -- failed, it failed in the refusal's line; or the lines of some first ports were written, and the peer took what they show, and of the
 -- others' lines a front was written.
-abbrev pub Writes : Result Did Refused → List Act → List Happening → Result ⊤ ReplayFault → List ℕ → List Happening → Type 0
+abbrev pub Writes : Result Did Refused → List Act → List PlainEvent → Result ⊤ ReplayFault → List ℕ → List PlainEvent → Type 0
 Writes did log history (Ok all) text after = (did ≢ Err refused.NoMemory) × (text ≡ print_of did log)
     × (after ≡ with_tooks (ports_after did) log history)
 Writes did log history (Err NoMemory) text after = (did ≡ Err refused.NoMemory) × (text ≡ print_of did log) × (after ≡ history)
@@ -25,8 +25,8 @@ Writes did log history (Err Write) text after = (IsFront text (head_of did) × (
     × (text ≡ head_of did ++ (lines_of shown log ++ part)) × (after ≡ with_tooks shown log history))
 
 -- The event is done or refused, as the history says, and then its print is written, by the log of the history that this leaves.
-pub record Replays (config : Config) (history : List Happening) (event : Happening) (result : Result ⊤ ReplayFault) (text : List ℕ)
-    (after : List Happening) : Type 0 where
+pub record Replays (config : Config) (history : List PlainEvent) (event : PlainEvent) (result : Result ⊤ ReplayFault) (text : List ℕ)
+    (after : List PlainEvent) : Type 0 where
   pub before : List Act
   pub is_before : IsLogOf config history before
   pub did : Result Did Refused

@@ -3,7 +3,8 @@ use Rattle.std.specs.Prelude.{◌≡◌, ◌≢◌, ℕ, zero, suc, List, [], �
 use Rattle.std.specs.Char.{to_ascii_lowercase}
 use Rattle.std.specs.Str.{bytes_eq}
 use Rattle.sv_exchange.specs.Exchange.{ExchangeAct, Overran, UnitDone, Answered, AnswersDropped, Finished, Interrupted, Due, NothingDue, OverrunDue, InterruptDue, UnitDue, FinishDue, due, answers, fits_response}
-use Rattle.sv_server.specs.Act.{Act, Exchanged, exchange_acts}
+use Rattle.sv_server.specs.declared.event.Config.{Config}
+use Rattle.sv_server.specs.Act.{Act, BenchAct, Exchanged, Bench, bench, exchange_acts}
 
 -- the answer to *IDN? (IEEE 488.2, 10.14)
 abbrev pub identity : List ℕ
@@ -21,21 +22,25 @@ answer_act answer acts = if fits_response (answers acts) answer then Answered an
 abbrev pub unit_acts : List ℕ → List ExchangeAct → List ExchangeAct
 unit_acts unit acts = if asks_identity unit then answer_act identity (UnitDone ∷ acts) ∷ UnitDone ∷ [] else UnitDone ∷ []
 
--- the acts of the step that is due, none where none is
-abbrev pub step_acts : Due → List ExchangeAct → List ExchangeAct
-step_acts NothingDue acts = []
-step_acts OverrunDue acts = Overran ∷ []
-step_acts InterruptDue acts = Interrupted ∷ []
-step_acts (UnitDue unit) acts = unit_acts unit acts
-step_acts FinishDue acts = Finished ∷ []
+-- the acts of the step of message exchange that is due, none where none is
+abbrev pub exchange_step : Due → List ExchangeAct → List ExchangeAct
+exchange_step NothingDue acts = []
+exchange_step OverrunDue acts = Overran ∷ []
+exchange_step InterruptDue acts = Interrupted ∷ []
+exchange_step (UnitDue unit) acts = unit_acts unit acts
+exchange_step FinishDue acts = Finished ∷ []
 
-abbrev pub step_of : List Act → List Act
-step_of log = map Exchanged (step_acts (due (exchange_acts log)) (exchange_acts log))
+abbrev pub bench_step : Config → List BenchAct → List BenchAct
+bench_step config acts = map Exchanged (exchange_step (due (exchange_acts acts)) (exchange_acts acts))
+
+-- the acts of the step that is due in a log, none where none is
+abbrev pub step_of : Config → List Act → List Act
+step_of config log = map Bench (bench_step config (bench log))
 
 -- In so many steps, each the one that is due, the first log becomes the second, at which none is due.
-abbrev pub SettlesIn : ℕ → List Act → List Act → Type 0
-SettlesIn zero log new = (step_of log ≡ []) × (new ≡ log)
-SettlesIn (suc n) log new = (step_of log ≢ []) × SettlesIn n (step_of log ++ log) new
+abbrev pub SettlesIn : ℕ → Config → List Act → List Act → Type 0
+SettlesIn zero config log new = (step_of config log ≡ []) × (new ≡ log)
+SettlesIn (suc n) config log new = (step_of config log ≢ []) × SettlesIn n config (step_of config log ++ log) new
 
-abbrev pub Settles : List Act → List Act → Type 0
-Settles log new = (n : ℕ) × SettlesIn n log new
+abbrev pub Settles : Config → List Act → List Act → Type 0
+Settles config log new = (n : ℕ) × SettlesIn n config log new

@@ -1,34 +1,26 @@
 -- What the server keeps, and what of a log and of a history that stands for.
-use Rattle.std.specs.Prelude.{◌≡◌, ℕ, ◌+◌, ◌<◌, ◌≤◌, List, [], None, slice_index_or}
-use Rattle.sv_links.specs.Table.{Table, IsTable}
-use Rattle.sv_exchange.specs.ExchangeHeld.{Held, StandsFor as HoldsExchange}
+use Rattle.std.specs.Prelude.{◌≡◌, ℕ, ◌<◌, ◌≤◌, List, [], slice_index_or}
 use Rattle.sv_server.specs.declared.event.Config.{Config}
-use Rattle.sv_server.specs.Event.{Happening}
-use Rattle.sv_server.specs.Act.{Act, link_acts, exchange_acts}
-use Rattle.sv_server.specs.Connection.{open_role, ticks}
-use Rattle.sv_server.specs.Line.{Line, IsLine}
+use Rattle.sv_server.specs.Event.{PlainEvent}
+use Rattle.sv_server.specs.Act.{Act, of, bench}
+use Rattle.sv_server.specs.KeptConnection.{Connection, IsConnection}
+use Rattle.sv_server.specs.KeptBench.{Bench, IsBench}
 use Rattle.sv_server.specs.Settling.{step_of}
 use Rattle.sv_server.specs.History.{IsLogOf}
 
 pub record State : Type 0 where
-  pub lines : List Line
-  pub links : Table
-  pub exchange : Held
-  pub config : Config
-  pub clock : ℕ
+  pub connections : List Connection
+  pub bench : Bench
 
--- The state keeps what the log says.
-pub record Represents (state : State) (log : List Act) : Type 0 where
-  pub lines : (c : ℕ) (other : Line) → c < 16 → IsLine (slice_index_or state.lines c other) c log
-  pub beyond : (c : ℕ) → 16 ≤ c → open_role c log ≡ None
-  pub links : IsTable state.links (link_acts log)
-  pub exchange : HoldsExchange state.exchange (exchange_acts log)
-  pub clock : state.clock ≡ state.config.clock + ticks log
+-- The state keeps what the log says, under a configuration.
+pub record Represents (state : State) (config : Config) (log : List Act) : Type 0 where
+  pub each : (c : ℕ) (other : Connection) → c < 16 → IsConnection (slice_index_or state.connections c other) (of c log)
+  pub beyond : (c : ℕ) → 16 ≤ c → of c log ≡ []
+  pub shared : IsBench state.bench config (bench log)
 
 -- The server stands for a history: it keeps what the history's log says, and nothing is due.
-pub record StandsFor (state : State) (config : Config) (history : List Happening) : Type 0 where
+pub record StandsFor (state : State) (config : Config) (history : List PlainEvent) : Type 0 where
   pub log : List Act
-  pub set_up : state.config ≡ config
   pub is_log : IsLogOf config history log
-  pub represents : Represents state log
-  pub settled : step_of log ≡ []
+  pub represents : Represents state config log
+  pub settled : step_of config log ≡ []

@@ -1,17 +1,18 @@
 //! The server: events in, and out the bytes of every reply.
 #![tactic(auto)]
 
-mod calling;
-mod checks;
-mod device;
+mod abort_channel;
+mod bench;
+mod connection;
+mod core_channel;
+mod dispatch;
 mod event;
 pub mod laws;
-mod line;
+mod port_mapper;
 mod print;
 mod replay;
-mod sending;
+mod reply;
 mod server;
-mod serving;
 mod settling;
 mod turn;
 

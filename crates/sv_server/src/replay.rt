@@ -4,12 +4,12 @@ ghost use Rattle.std.specs.Prelude.{◌≡◌, ℕ, List};
 ghost use Rattle.std.specs.Io.KnownBytes.{Appends};
 ghost use Rattle.sv_server.specs.declared.event.Config.{Config};
 ghost use Rattle.sv_server.specs.declared.event.Did.{Did};
-ghost use Rattle.sv_server.specs.Event.{Happening, plain};
+ghost use Rattle.sv_server.specs.Event.{PlainEvent, plain};
 ghost use Rattle.sv_server.specs.Act.{Act};
 ghost use Rattle.sv_server.specs.State.{StandsFor};
 ghost use Rattle.sv_server.specs.Print.{port_of, is_no_memory};
 ghost use Rattle.sv_server.specs.Replay.{Replays};
-ghost use Rattle.sv_server.specs.Showing.{StandsBy, ShowsPort, ShowsAll};
+ghost use Rattle.sv_server.specs.Inside.Showing.{StandsBy, ShowsPort, ShowsAll};
 
 use crate::event::{Event, Port, Refused};
 use crate::print::{WriteFault, put_line, put_refusal};
@@ -46,8 +46,8 @@ impl<A: Allocator> Server<A> {
     /// Where memory was refused, it writes `refused 1` alone and answers `NoMemory`; where the
     /// writer failed, `Write`, and nothing is taken that wasn't written.
     pub fn replay<W: Write>(&mut self, event: Event<'_>, writer: &mut W) -> Result<(), ReplayFault>
-        ensures { (config : Config) (history : List Happening) → StandsFor self.old config history
-            → (text : List ℕ) × (after : List Happening)
+        ensures { (config : Config) (history : List PlainEvent) → StandsFor self.old config history
+            → (text : List ℕ) × (after : List PlainEvent)
             × Replays config history (plain event.entry) result text after
             × StandsFor self.new config after
             × Appends (W.contents writer.old) (W.contents writer.new) text }
@@ -70,7 +70,7 @@ impl<A: Allocator> Server<A> {
 
     /// Writes the lines of all ports, and takes what they show.
     fn show_all<W: Write>(&mut self, writer: &mut W) -> Result<(), WriteFault>
-        ensures { (config : Config) (history : List Happening) (log : List Act)
+        ensures { (config : Config) (history : List PlainEvent) (log : List Act)
             → StandsBy self.old config history log
             → (text : List ℕ) × Appends (W.contents writer.old) (W.contents writer.new) text
             × ShowsAll config history log result self.new text }
@@ -83,7 +83,7 @@ impl<A: Allocator> Server<A> {
 
     /// Writes the line of a port, and takes what it shows.
     fn show<W: Write>(&mut self, port: Port, writer: &mut W) -> Result<(), WriteFault>
-        ensures { (config : Config) (history : List Happening) (log : List Act)
+        ensures { (config : Config) (history : List PlainEvent) (log : List Act)
             → StandsBy self.old config history log
             → (text : List ℕ) × Appends (W.contents writer.old) (W.contents writer.new) text
             × ShowsPort port config history log result self.new text }

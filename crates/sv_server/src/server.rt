@@ -1,40 +1,32 @@
 //! The server: connections, links and the instrument behind them.
 
-ghost use Rattle.std.specs.Prelude.{◌≡◌, ◌<◌, ◌≤◌, ℕ, List, [], length, slice_index_or, true, false, if◌then◌else◌, MatchOption, None, IfOk, OnErr};
-ghost use Rattle.sv_server.specs.Line.{Line as LineData, IsLine};
+ghost use Rattle.std.specs.Prelude.{◌≡◌, ◌<◌, ◌≤◌, ℕ, not, List, [], length, slice_index_or, true, false, if◌then◌else◌, MatchOption, None, is_some, IfOk, OnErr};
 ghost use Rattle.sv_server.specs.declared.event.Config.{Config};
-ghost use Rattle.sv_server.specs.Event.{Happening, Open, Bytes, Turn, Took, Close, Tick, plain, IsEvent};
+ghost use Rattle.sv_server.specs.Event.{PlainEvent, Open, Bytes, Turn, Took, Close, Tick, plain, IsEvent};
+ghost use Rattle.sv_server.specs.Act.{Act, of};
+ghost use Rattle.sv_server.specs.Connection.{is_open, waiting_on, room, is_idle, is_faulted};
 ghost use Rattle.sv_server.specs.History.{is_shut, IsLogOf, Answers, history_after};
-ghost use Rattle.sv_server.specs.Acting.{Acts, IsInput};
-ghost use Rattle.sv_server.specs.Act.{Act};
-ghost use Rattle.sv_server.specs.Connection.{is_open, waiting_on};
+ghost use Rattle.sv_server.specs.Asking.{Answered};
+ghost use Rattle.sv_server.specs.KeptConnection.{Connection as KeptConnection, IsConnection};
 ghost use Rattle.sv_server.specs.State.{Represents, StandsFor};
-ghost use Rattle.sv_server.specs.Asking.{AreWaiting, IsRoom, IsReady, HasFaulted};
+ghost use Rattle.sv_server.specs.Inside.Acting.{Acts, IsInput};
 
+use crate::bench::Bench;
+use crate::connection::Connection;
 use crate::event::{Config, Dial, Did, Event, Port, Refused, Role};
-use crate::line::Line;
-use crate::settling::settle;
 use crate::turn::turn;
 use std::alloc::{AllocError, Allocator, Global};
 use std::marker::Model;
-use sv_exchange::Exchange;
-use sv_links::Links;
+use sv_errors::{MOST_MICROVOLTS, is_channel};
 
 /// How many connections there may be.
 const CONNECTIONS: usize = 16;
-/// How far from zero a voltage may be, in microvolts.
-const LARGEST_INPUT: i64 = 1_000_000_000;
-/// The last value of the clock, in milliseconds.
-const LAST_CLOCK: u64 = 9_223_372_036_854_775_807;
 
 /// One simulated instrument and the connections to it.
 #[derive(Drop)]
 pub struct Server<A: Allocator = Global> {
-    lines: Vec<Line<A>, A>,
-    links: Links<A>,
-    exchange: Exchange<A>,
-    config: Config,
-    clock: u64,
+    connections: Vec<Connection<A>, A>,
+    bench: Bench<A>,
 }
 
 impl<A: Allocator> Model for Server<A> {
@@ -42,18 +34,11 @@ impl<A: Allocator> Model for Server<A> {
 
     ghost Value = { State };
 
-    ghost use Rattle.std.specs.Prelude.{◌≡◌, ◌≤◌, length};
+    ghost use Rattle.std.specs.Prelude.{◌≡◌, length};
 
-    ghost view = { λ a. record {
-      lines = a.lines.items;
-      links = a.links;
-      exchange =
-          a.exchange;
-      config = a.config;
-      clock = a.clock;
-    } };
+    ghost view = { λ a. record { connections = a.connections.items; bench = a.bench } };
 
-    ghost invariant = { λ a. (length a.lines.items ≡ 16) × (a.clock ≤ 9223372036854775807) };
+    ghost invariant = { λ a. length a.connections.items ≡ 16 };
 }
 
 impl<A: Allocator + Copy> Server<A> {
@@ -64,34 +49,32 @@ impl<A: Allocator + Copy> Server<A> {
         ensures { IfOk result (λ server. StandsFor server config []) }
     {
         Ok(Server {
-            lines: lines(alloc)?,
-            links: Links::new(alloc),
-            exchange: Exchange::new(alloc)?,
-            config,
-            clock: config.clock,
+            connections: connections(alloc)?,
+            bench: Bench::new(alloc, config)?,
         })
     }
 }
 
 /// Sixteen connections, none of them open.
-fn lines<A: Allocator + Copy>(alloc: A) -> Result<Vec<Line<A>, A>, AllocError>
-    ensures { IfOk result (λ lines. (length lines.items ≡ 16)
-        × ((c d : ℕ) (other : LineData) → d < 16
-        → IsLine (slice_index_or lines.items d other) c [])) }
+fn connections<A: Allocator + Copy>(alloc: A) -> Result<Vec<Connection<A>, A>, AllocError>
+    ensures { IfOk result (λ connections. (length connections.items ≡ 16)
+        × ((c : ℕ) (other : KeptConnection) → c < 16
+        → IsConnection (slice_index_or connections.items c other) [])) }
 {
-    let mut lines = Vec::with_capacity(alloc, CONNECTIONS)?;
+    let mut connections = Vec::with_capacity(alloc, CONNECTIONS)?;
     for _ in 0..CONNECTIONS {
-        lines.push(Line::new(alloc)?)?;
+        connections.push(Connection::new(alloc)?)?;
     }
-    Ok(lines)
+    Ok(connections)
 }
 
 impl<A: Allocator> Server<A> {
     /// The bytes that wait on a port, in the order in which they are to be sent; none where it
     /// isn't open.
     pub fn waiting(&self, port: Port) -> &[u8]
-        ensures waiting { (config : Config) (history : List Happening)
-            → StandsFor self.now config history → AreWaiting config history port result.now }
+        ensures waiting { (config : Config) (history : List PlainEvent)
+            → StandsFor self.now config history
+            → Answered (waiting_on port) config history result.now }
         ensures bounded { length result.now ≤ 16384 }
     {
         self.outgoing(port)
@@ -99,13 +82,13 @@ impl<A: Allocator> Server<A> {
 
     /// The bytes that wait on a port.
     pub(crate) fn outgoing(&self, port: Port) -> &[u8]
-        ensures exact { (log : List Act) → Represents self.now log
+        ensures exact { (config : Config) (log : List Act) → Represents self.now config log
             → result.now ≡ waiting_on port log }
         ensures bounded { length result.now ≤ 16384 }
     {
         match port {
-            Port::Conn(conn) => match self.line(conn) {
-                Some(line) => &line.output,
+            Port::Conn(conn) => match self.connection(conn) {
+                Some(connection) => connection.waiting(),
                 None => &[],
             },
             Port::Intr(_) => &[],
@@ -114,22 +97,22 @@ impl<A: Allocator> Server<A> {
 
     /// How many bytes of a piece the connection has room for; 0 where it isn't open.
     pub fn room(&self, conn: u8) -> u32
-        ensures { (config : Config) (history : List Happening) → StandsFor self.now config history
-            → IsRoom config history conn result }
+        ensures { (config : Config) (history : List PlainEvent) → StandsFor self.now config history
+            → Answered (λ log. room (of conn log)) config history result }
     {
-        match self.line(conn) {
-            Some(line) => line.input.room() as u32,
+        match self.connection(conn) {
+            Some(connection) => connection.room() as u32,
             None => 0,
         }
     }
 
     /// Whether a Turn would take a call.
     pub fn ready(&self, conn: u8) -> bool
-        ensures { (config : Config) (history : List Happening) → StandsFor self.now config history
-            → IsReady config history conn result }
+        ensures { (config : Config) (history : List PlainEvent) → StandsFor self.now config history
+            → Answered (λ log. not (is_idle (of conn log))) config history result }
     {
-        match self.line(conn) {
-            Some(line) => !line.is_idle(),
+        match self.connection(conn) {
+            Some(connection) => !connection.is_idle(),
             None => false,
         }
     }
@@ -137,11 +120,11 @@ impl<A: Allocator> Server<A> {
     /// Whether the connection only waits to be closed: a record that is no call was taken on it, or
     /// all records in front of one that is too long.
     pub fn faulted(&self, conn: u8) -> bool
-        ensures { (config : Config) (history : List Happening) → StandsFor self.now config history
-            → HasFaulted config history conn result }
+        ensures { (config : Config) (history : List PlainEvent) → StandsFor self.now config history
+            → Answered (λ log. is_faulted (of conn log)) config history result }
     {
-        match self.line(conn) {
-            Some(line) => line.is_faulted(),
+        match self.connection(conn) {
+            Some(connection) => connection.is_faulted(),
             None => false,
         }
     }
@@ -153,138 +136,141 @@ impl<A: Allocator> Server<A> {
         None
     }
 
-    /// The connection of this number, if it is open.
-    fn line(&self, conn: u8) -> Option<&Line<A>>
-        ensures { (log : List Act) → Represents self.now log
-            → MatchOption result (is_open conn log ≡ false) (λ line. (is_open conn log ≡ true)
-            × IsLine line.now conn log) }
+    /// Whether the connection of this number is open.
+    fn is_open(&self, conn: u8) -> bool
+        ensures { (config : Config) (log : List Act) → Represents self.now config log
+            → result ≡ not (is_shut conn log) }
+    {
+        match self.connection(conn) {
+            Some(connection) => connection.is_open(),
+            None => false,
+        }
+    }
+
+    /// The connection of this number; none above 15, of which nothing is ever recorded.
+    fn connection(&self, conn: u8) -> Option<&Connection<A>>
+        ensures { (config : Config) (log : List Act) → Represents self.now config log
+            → MatchOption result (of conn log ≡ [])
+            (λ connection. IsConnection connection.now (of conn log)) }
     {
         if usize::from(conn) >= CONNECTIONS {
             return None;
         }
-        let line = &self.lines[usize::from(conn)];
-        match line.role {
-            Some(_) => Some(line),
-            None => None,
-        }
+        Some(&self.connections[usize::from(conn)])
     }
 }
 
 impl<A: Allocator> Server<A> {
     /// Opens a connection.
     fn open(&mut self, conn: u8, role: Role) -> Result<Did, Refused>
-        ensures acts { (log : List Act) → Represents self.old log
-            → Acts self.old.config (Open conn role) log result self.new }
+        ensures acts { (config : Config) (log : List Act) → Represents self.old config log
+            → Acts config (Open conn role) log result self.new }
         ensures err { OnErr result (self.new ≡ self.old) }
-        ensures config { self.new.config ≡ self.old.config }
     {
         if usize::from(conn) >= CONNECTIONS {
             return Err(Refused::NoConn);
         }
-        let line = &mut self.lines[usize::from(conn)];
-        if line.is_open() {
+        let connection = &mut self.connections[usize::from(conn)];
+        if connection.is_open() {
             return Err(Refused::ConnInUse);
         }
-        line.open(role);
+        connection.open(role);
         Ok(Did::Done)
     }
 
     /// Takes in bytes of a connection.
     fn bytes(&mut self, conn: u8, piece: &[u8]) -> Result<Did, Refused>
         ensures within { IsEvent (Bytes conn piece.now) }
-        ensures acts { (log : List Act) → Represents self.old log
-            → Acts self.old.config (Bytes conn piece.now) log result self.new }
+        ensures acts { (config : Config) (log : List Act) → Represents self.old config log
+            → Acts config (Bytes conn piece.now) log result self.new }
         ensures err { OnErr result (self.new ≡ self.old) }
-        ensures config { self.new.config ≡ self.old.config }
     {
         if usize::from(conn) >= CONNECTIONS {
             return Err(Refused::NoConn);
         }
-        let line = &mut self.lines[usize::from(conn)];
-        if !line.is_open() {
+        let connection = &mut self.connections[usize::from(conn)];
+        if !connection.is_open() {
             return Err(Refused::NoConn);
         }
-        if line.input.room() < piece.len() {
+        if connection.room() < piece.len() {
             return Err(Refused::NoRoom);
         }
-        line.push(piece);
+        connection.push(piece);
         Ok(Did::Done)
     }
 
     /// Lets bytes go that the peer took.
     fn took(&mut self, conn: u8, count: u32) -> Result<Did, Refused>
-        ensures acts { (log : List Act) → Represents self.old log
-            → Acts self.old.config (Took (Port.Conn conn) count) log result self.new }
+        ensures acts { (config : Config) (log : List Act) → Represents self.old config log
+            → Acts config (Took (Port.Conn conn) count) log result self.new }
         ensures err { OnErr result (self.new ≡ self.old) }
-        ensures config { self.new.config ≡ self.old.config }
     {
         if usize::from(conn) >= CONNECTIONS {
             return Err(Refused::NoConn);
         }
-        let line = &mut self.lines[usize::from(conn)];
-        if !line.is_open() {
+        let connection = &mut self.connections[usize::from(conn)];
+        if !connection.is_open() {
             return Err(Refused::NoConn);
         }
-        if line.output.len() < count as usize {
+        if connection.waiting().len() < count as usize {
             return Err(Refused::NotSent);
         }
-        line.took(count as usize);
+        connection.took(count as usize);
         Ok(Did::Done)
     }
 
     /// Closes a connection: its links are destroyed, and what waits goes.
     fn close(&mut self, conn: u8) -> Result<Did, Refused>
-        ensures acts { (log : List Act) → Represents self.old log
-            → Acts self.old.config (Close (Port.Conn conn)) log result self.new }
+        ensures acts { (config : Config) (log : List Act) → Represents self.old config log
+            → Acts config (Close (Port.Conn conn)) log result self.new }
         ensures err { OnErr result (self.new ≡ self.old) }
-        ensures config { self.new.config ≡ self.old.config }
     {
         if usize::from(conn) >= CONNECTIONS {
             return Err(Refused::NoConn);
         }
-        let line = &mut self.lines[usize::from(conn)];
-        if !line.is_open() {
+        let connection = &mut self.connections[usize::from(conn)];
+        if !connection.is_open() {
             return Err(Refused::NoConn);
         }
-        line.close();
-        self.links.close_connection(conn);
+        connection.close();
+        self.bench.close_connection(conn);
         Ok(Did::Done)
     }
 
     /// A millisecond passes.
     fn tick(&mut self) -> Result<Did, Refused>
-        ensures acts { (log : List Act) → Represents self.old log
-            → Acts self.old.config Tick log result self.new }
+        ensures acts { (config : Config) (log : List Act) → Represents self.old config log
+            → Acts config Tick log result self.new }
         ensures err { OnErr result (self.new ≡ self.old) }
-        ensures config { self.new.config ≡ self.old.config }
     {
-        if self.clock == LAST_CLOCK {
+        if self.bench.is_at_end() {
             return Err(Refused::TimeOver);
         }
-        self.clock += 1;
+        self.bench.tick();
         Ok(Did::Done)
     }
 
     /// Takes the next call of a connection and does it.
     fn turn(&mut self, conn: u8) -> Result<Did, Refused>
-        ensures acts { (log : List Act) → Represents self.old log
-            → Acts self.old.config (Turn conn) log result self.new }
+        ensures acts { (config : Config) (log : List Act) → Represents self.old config log
+            → Acts config (Turn conn) log result self.new }
         ensures err { OnErr result (self.new ≡ self.old) }
-        ensures config { self.new.config ≡ self.old.config }
     {
         if usize::from(conn) >= CONNECTIONS {
             return Err(Refused::NoConn);
         }
-        let line = &mut self.lines[usize::from(conn)];
-        turn(self.config, conn, line, &mut self.links, &mut self.exchange)
+        let connection = &mut self.connections[usize::from(conn)];
+        let Some(role) = connection.role() else {
+            return Err(Refused::NoConn);
+        };
+        turn(connection, &mut self.bench, conn, role)
     }
 
     /// Lets bytes of a port go that the peer took.
     pub(crate) fn port_took(&mut self, port: Port, count: u32) -> Result<Did, Refused>
-        ensures acts { (log : List Act) → Represents self.old log
-            → Acts self.old.config (Took port count) log result self.new }
+        ensures acts { (config : Config) (log : List Act) → Represents self.old config log
+            → Acts config (Took port count) log result self.new }
         ensures err { OnErr result (self.new ≡ self.old) }
-        ensures config { self.new.config ≡ self.old.config }
     {
         match port {
             Port::Conn(conn) => self.took(conn, count),
@@ -294,10 +280,9 @@ impl<A: Allocator> Server<A> {
 
     /// Closes a port.
     fn close_port(&mut self, port: Port) -> Result<Did, Refused>
-        ensures acts { (log : List Act) → Represents self.old log
-            → Acts self.old.config (Close port) log result self.new }
+        ensures acts { (config : Config) (log : List Act) → Represents self.old config log
+            → Acts config (Close port) log result self.new }
         ensures err { OnErr result (self.new ≡ self.old) }
-        ensures config { self.new.config ≡ self.old.config }
     {
         match port {
             Port::Conn(conn) => self.close(conn),
@@ -308,10 +293,9 @@ impl<A: Allocator> Server<A> {
     /// Does what an event asks for, but for the steps that follow it.
     fn act(&mut self, event: Event<'_>) -> Result<Did, Refused>
         ensures within { IsEvent (plain event.entry) }
-        ensures acts { (log : List Act) → Represents self.old log
-            → Acts self.old.config (plain event.entry) log result self.new }
+        ensures acts { (config : Config) (log : List Act) → Represents self.old config log
+            → Acts config (plain event.entry) log result self.new }
         ensures err { OnErr result (self.new ≡ self.old) }
-        ensures config { self.new.config ≡ self.old.config }
     {
         match event {
             Event::Open { conn, role } => self.open(conn, role),
@@ -334,28 +318,29 @@ impl<A: Allocator> Server<A> {
     /// the first in the order of checks is given. `NoMemory` comes only at a Turn whose call makes
     /// a link, which may be tried again.
     pub fn apply(&mut self, event: Event<'_>) -> Result<Did, Refused>
-        ensures answers { (config : Config) (history : List Happening)
+        ensures answers { (config : Config) (history : List PlainEvent)
             → StandsFor self.old config history
             → (log : List Act) × IsLogOf config history log
             × Answers config (plain event.entry) log result }
-        ensures stands { (config : Config) (history : List Happening)
+        ensures stands { (config : Config) (history : List PlainEvent)
             → StandsFor self.old config history
             → StandsFor self.new config (history_after (plain event.entry) result history) }
         ensures err { OnErr result (self.new ≡ self.old) }
     {
         let did = self.act(event)?;
-        settle(&mut self.exchange);
+        self.bench.settle();
         Ok(did)
     }
 
     /// The refusal of an event that is never done yet: by the connection's number, or else this.
     fn refuse(&self, conn: u8, refusal: Refused) -> Refused
-        ensures { (log : List Act) → Represents self.now log
+        ensures { (config : Config) (log : List Act) → Represents self.now config log
             → result ≡ (if is_shut conn log then Refused.NoConn else refusal) }
     {
-        match self.line(conn) {
-            Some(_) => refusal,
-            None => Refused::NoConn,
+        if self.is_open(conn) {
+            refusal
+        } else {
+            Refused::NoConn
         }
     }
 }
@@ -364,10 +349,11 @@ impl<A: Allocator> Server<A> {
 fn input(channel: u8, microvolts: i64) -> Result<Did, Refused>
     ensures { IsInput channel microvolts result }
 {
-    if channel == 0 || channel > 32 {
+    if !is_channel(u64::from(channel)) {
         return Err(Refused::BadChannel);
     }
-    if microvolts < -LARGEST_INPUT || microvolts > LARGEST_INPUT {
+    let most = i64::from(MOST_MICROVOLTS);
+    if microvolts < -most || microvolts > most {
         return Err(Refused::BadInput);
     }
     Ok(Did::Done)

@@ -1,21 +1,24 @@
 //! The steps that follow an event.
 
 ghost use Rattle.std.specs.Prelude.{◌<◌, List, IsTrue};
+ghost use Rattle.sv_exchange.specs.Exchange.{ExchangeAct};
 ghost use Rattle.sv_exchange.specs.ExchangeHeld.{StandsFor as HoldsExchange, work_of};
-ghost use Rattle.sv_server.specs.Act.{Act, exchange_acts};
-ghost use Rattle.sv_server.specs.Settling.{Settles};
-ghost use Rattle.sv_server.specs.Served.{StepDone, OnlyExchange};
+ghost use Rattle.sv_server.specs.declared.event.Config.{Config};
+ghost use Rattle.sv_server.specs.Act.{Act, BenchAct, bench};
+ghost use Rattle.sv_server.specs.KeptBench.{IsBench};
+ghost use Rattle.sv_server.specs.Inside.Acting.{ExchangeStep, StepDone, Settled};
 
+use crate::bench::Bench;
 use std::alloc::Allocator;
 use sv_exchange::{Exchange, Next};
 
 /// The answer to `*IDN?` (IEEE 488.2, 10.14).
 const IDENTITY: &[u8] = b"SCANVOLT,SV32,0,1.0";
 
-/// Does the step that is due, and tells whether one was.
+/// Does the step of message exchange that is due, and tells whether one was.
 fn step<A: Allocator>(exchange: &mut Exchange<A>) -> bool
-    ensures done { (log : List Act) → HoldsExchange exchange.old (exchange_acts log)
-        → StepDone result log exchange.old exchange.new }
+    ensures done { (acts : List ExchangeAct) → HoldsExchange exchange.old acts
+        → ExchangeStep result acts exchange.old exchange.new }
     ensures less { IsTrue result → work_of exchange.new < work_of exchange.old }
 {
     match exchange.next_unit() {
@@ -34,11 +37,21 @@ fn step<A: Allocator>(exchange: &mut Exchange<A>) -> bool
     true
 }
 
-/// Does the steps that are due, until none is.
-pub fn settle<A: Allocator>(exchange: &mut Exchange<A>)
-    ensures { (log : List Act) → HoldsExchange exchange.old (exchange_acts log)
-        → (new : List Act) × Settles log new × HoldsExchange exchange.new (exchange_acts new)
-        × OnlyExchange log new }
-{
-    while step(exchange) {}
+impl<A: Allocator> Bench<A> {
+    /// Does the step that is due, and tells whether one was.
+    fn step(&mut self) -> bool
+        ensures done { (config : Config) (acts : List BenchAct) → IsBench self.old config acts
+            → StepDone result config acts self.old self.new }
+        ensures less { IsTrue result → work_of self.new.exchange < work_of self.old.exchange }
+    {
+        step(&mut self.exchange)
+    }
+
+    /// Does the steps that are due, until none is.
+    pub fn settle(&mut self)
+        ensures { (config : Config) (log : List Act) → IsBench self.old config (bench log)
+            → Settled config log self.new }
+    {
+        while self.step() {}
+    }
 }

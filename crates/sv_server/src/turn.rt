@@ -1,72 +1,95 @@
 //! A connection's next call is taken and done.
 
-ghost use Rattle.std.specs.Prelude.{◌≡◌, ◌<◌, ◌≤◌, List, OnErr, option_map};
-ghost use Rattle.sv_links.specs.Table.{IsTable};
-ghost use Rattle.sv_exchange.specs.ExchangeHeld.{StandsFor as HoldsExchange};
-ghost use Rattle.sv_server.specs.Act.{Act, link_acts, exchange_acts};
-ghost use Rattle.sv_server.specs.Line.{IsLine, next_left};
-ghost use Rattle.sv_server.specs.Acting.{Turns};
+ghost use Rattle.std.specs.Prelude.{◌≡◌, ℕ, List, Some, OnErr, true};
+ghost use Rattle.sv_server.specs.declared.event.Config.{Config};
+ghost use Rattle.sv_server.specs.Act.{Act, ConnAct, BenchAct, of, bench, exchange_acts};
+ghost use Rattle.sv_server.specs.Connection.{open_role, is_busy};
+ghost use Rattle.sv_server.specs.KeptConnection.{IsConnection};
+ghost use Rattle.sv_server.specs.KeptBench.{IsBench};
+ghost use Rattle.sv_server.specs.Dispatch.{Verdict as VerdictData};
+ghost use Rattle.sv_exchange.specs.Exchange.{response};
+ghost use Rattle.sv_server.specs.CoreChannel.{reads};
+ghost use Rattle.sv_server.specs.Dispatch.{concluded};
+ghost use Rattle.sv_server.specs.Inside.Acting.{Turns, Concludes};
+ghost use Rattle.sv_server.specs.Inside.Outcome.{ConsideredAs, IsShortVerdict};
 
-use crate::calling::serve;
-use crate::event::{Config, Did, Refused};
-use crate::line::{Line, OUTGOING};
+use crate::bench::Bench;
+use crate::connection::Connection;
+use crate::dispatch::{Verdict, consider};
+use crate::event::{Did, Refused, Role};
+use crate::reply::Answer;
 use std::alloc::Allocator;
-use sv_exchange::Exchange;
-use sv_links::Links;
-use sv_rpc::RecordBuf;
+use sv_vxi::{ErrorCode, Reason, VxiResult};
 
-/// How many outgoing bytes have to be free for a call: those of the longest reply.
-const LONGEST_REPLY: usize = 8232;
-
-/// The next record of a connection, where it isn't faulted and has one.
-fn next_record<A: Allocator>(input: &RecordBuf<A>, faulted: bool) -> Option<&[u8]>
-    ensures { option_map (λ r. r.now) result ≡ next_left faulted input.now.records }
+/// Takes the next call of an open connection and does it, where there is one, and room for its
+/// reply.
+pub fn turn<A: Allocator>(
+    connection: &mut Connection<A>,
+    shared: &mut Bench<A>,
+    conn: u8,
+    role: Role,
+) -> Result<Did, Refused>
+    ensures acts { (config : Config) (log : List Act) → IsConnection connection.old (of conn log)
+        → IsBench shared.old config (bench log) → open_role (of conn log) ≡ Some role
+        → Turns config conn log result connection.new shared.new }
+    ensures err { OnErr result ((connection.new ≡ connection.old) × (shared.new ≡ shared.old)) }
 {
-    if faulted {
-        return None;
+    let Some(call) = connection.next_call() else {
+        return Ok(Did::Idle);
+    };
+    if !connection.has_reply_room() {
+        return Err(Refused::NoRoom);
     }
-    match input.next() {
-        Ok(found) => found,
-        Err(_) => None,
+    let Ok(verdict) = consider(shared, conn, role, call) else {
+        return Err(Refused::NoMemory);
+    };
+    connection.take_call();
+    conclude(verdict, connection, shared);
+    Ok(Did::Done)
+}
+
+/// Ends the call that was taken as is said.
+fn conclude<A: Allocator>(verdict: Verdict, connection: &mut Connection<A>, shared: &mut Bench<A>)
+    requires { IsShortVerdict verdict }
+    ensures { (config : Config) (acts : List ConnAct) (before : List BenchAct) (said : VerdictData)
+        → IsConnection connection.old acts → is_busy acts ≡ true
+        → ConsideredAs verdict shared.old config before said
+        → Concludes said config acts before connection.new shared.new }
+{
+    match verdict {
+        Verdict::NoCall => connection.fault(),
+        Verdict::Answer { xid, answer } => connection.answer(xid, &answer),
+        Verdict::Response { xid, most, term } => {
+            answer_response(xid, most, term, connection, shared);
+        }
     }
 }
 
-/// Takes the next call of a connection and does it, where there is one, and room for its reply.
-pub fn turn<A: Allocator>(
-    config: Config,
-    conn: u8,
-    line: &mut Line<A>,
-    links: &mut Links<A>,
-    exchange: &mut Exchange<A>,
-) -> Result<Did, Refused>
-    requires { conn < 16 }
-    ensures acts { (log : List Act) → IsLine line.old conn log → IsTable links.old (link_acts log)
-        → HoldsExchange exchange.old (exchange_acts log)
-        → Turns config conn log result line.new links.new exchange.new }
-    ensures err { OnErr result ((line.new ≡ line.old) × (links.new ≡ links.old)
-        × (exchange.new ≡ exchange.old)) }
+/// Answers the call that was taken with what it is to read of the response.
+fn answer_response<A: Allocator>(
+    xid: u32,
+    most: u32,
+    term: Option<u8>,
+    connection: &mut Connection<A>,
+    shared: &mut Bench<A>,
+)
+    ensures { (config : Config) (acts : List ConnAct) (before : List BenchAct)
+        → IsConnection connection.old acts → is_busy acts ≡ true
+        → IsBench shared.old config before
+        → Concludes (concluded xid (reads (response (exchange_acts before)) most term)) config acts
+        before connection.new shared.new }
 {
-    let Some(role) = line.role else {
-        return Err(Refused::NoConn);
+    let read = shared.exchange.peek(most, term);
+    let count = read.bytes.len();
+    let given = VxiResult::Read {
+        error: ErrorCode::NoError,
+        reason: Reason {
+            request_count: read.request_count,
+            character: read.character,
+            end: read.end,
+        },
+        bytes: read.bytes,
     };
-    let Some(record) = next_record(&line.input, line.faulted) else {
-        return Ok(Did::Idle);
-    };
-    if OUTGOING.saturating_sub(line.output.len()) < LONGEST_REPLY {
-        return Err(Refused::NoRoom);
-    }
-    let Ok(faulted) = serve(
-        config,
-        conn,
-        role,
-        record,
-        links,
-        exchange,
-        &mut line.output,
-    ) else {
-        return Err(Refused::NoMemory);
-    };
-    line.input.drop_first();
-    line.faulted = faulted;
-    Ok(Did::Done)
+    connection.answer(xid, &Answer::Result(given));
+    shared.exchange.take(count);
 }

@@ -1,4 +1,4 @@
-use Rattle.sv_server.proofs.OneWay.{one_log}
+use Rattle.sv_server.proofs.Standing.{one_log}
 use Rattle.sv_server.proofs.laws.one_log.Goals as goal
 
 pub returns : goal.returns

@@ -1,16 +1,20 @@
-use Rattle.std.proofs.Common.{sym, arith}
-use Rattle.sv_server.proofs.Turned.{lacks, turned_done}
+use Rattle.std.proofs.Common.{◌≡◌, false, refl, sym, ◌∙◌}
+use Rattle.std.specs.Prelude.{nat_lt, Some}
+use Rattle.sv_server.specs.Act.{of, bench}
+use Rattle.sv_server.specs.Connection.{next_call, free}
+use Rattle.sv_server.proofs.Turned.{flipped, turn_done, turn_lacks}
 use Rattle.sv_server.proofs.turn.turn.Goals as goal
 
-pub returns-in_default-serve-clause-acts : goal.returns-in_default-serve-clause-acts
-returns-in_default-serve-clause-acts g c = λ log is t x.
-    let here = rw (← c.line.view_is) at is in
-    lacks c.args.config _ c.args.conn log c.in-Some.role c.in-Some-next_record.record.now here (omega arith) c.in-Some.is
-    (sym c.in-Some-next_record.ensures) (omega arith) (c.in_default-serve.ensures.wants log t)
+pub returns-in_default-consider-clause-acts : goal.returns-in_default-consider-clause-acts
+returns-in_default-consider-clause-acts g c = λ config log mine all opened.
+    let next : next_call (of c.args.conn log) ≡ Some c.in-Some.call.now = sym (c.in-Some.ensures.answer _ mine) in
+    let roomy : nat_lt (free (of c.args.conn log)) 8232 ≡ false = flipped _ (sym (c.if-not-has_reply_room.ensures.answer _ mine)) in
+    turn_lacks config c.args.conn log c.args.role c.in-Some.call.now c.args.connection.now c.args.shared.now opened next roomy
+    (c.in_default-consider.ensures.lacks config (bench log) all)
 
 pub returns-clause-acts : goal.returns-clause-acts
-returns-clause-acts g c = λ log is t x.
-    let here = rw (← c.line.view_is) at is in
-    turned_done c.args.config _ c.args.conn log c.in-Some.role c.in-Some-next_record.record.now c.serve.new.links c.serve.new.exchange
-    c.serve.new.out.items c.in-Ok.faulted c.drop_first.new.self
-    here (omega arith) c.in-Some.is (sym c.in-Some-next_record.ensures) (omega arith) (c.in-Ok.ensures.ok _ t x) c.drop_first.ensures.stands
+returns-clause-acts g c = λ config log mine all opened.
+    let next : next_call (of c.args.conn log) ≡ Some c.in-Some.call.now = sym (c.in-Some.ensures.answer _ mine) in
+    let roomy : nat_lt (free (of c.args.conn log)) 8232 ≡ false = flipped _ (sym (c.if-not-has_reply_room.ensures.answer _ mine)) in
+    turn_done config c.args.conn log c.args.role c.in-Some.call.now c.conclude.new.connection c.conclude.new.shared opened next roomy
+    (c.conclude.ensures config _ _ _ (c.take_call.ensures _ _ mine next) refl (c.in-Ok.ensures.ok config (bench log) all))

@@ -2,6 +2,7 @@ use Rattle.std.proofs.Common.{◌≡◌, ℕ, ◌-◌, List, ◌++◌, length, t
 use Rattle.std.proofs.lemmas.List.{take-append-drop}
 use Rattle.sv_rpc.specs.Kept.{InRoom}
 use Rattle.sv_rpc.proofs.Goes.{GoesOn-then}
+use Rattle.sv_rpc.proofs.Keeping.{keeps_then}
 use Rattle.sv_rpc.proofs.record_buf.RecordBuf.push.Goals as goal
 
 pub loop-rest-preserved : goal.loop-rest-preserved
@@ -20,4 +21,5 @@ loop-rest-preserved g c =
         GoesOn-then c.args.self.now c.loop-rest.self c.take_in-count.new.self before.0
             (take count rest) before.2 c.take_in-count.ensures.goes,
       );
+      keeps = keeps_then c.args.self.now c.loop-rest.self c.take_in-count.new.self c.loop-rest.invariant.keeps c.take_in-count.ensures.keeps;
     }

@@ -1,5 +1,5 @@
 use Rattle.std.proofs.Common.{◌≡◌, ℕ, ◌<◌, List, ◌++◌, length}
-use Rattle.sv_rpc.specs.Kept.{InRoom, GoesOn}
+use Rattle.sv_rpc.specs.Kept.{InRoom, GoesOn, Keeps}
 use Rattle.sv_rpc.proofs.record_buf.RecordBuf.push.Given as goal
 
 -- what was taken in stands in front of the rest, which fits
@@ -7,6 +7,7 @@ abbrev pub invariant-loop-rest : goal.invariant-loop-rest
 invariant-loop-rest g l = record {
   fits : 0 < length l.rest → InRoom l.self (length l.rest);
   goes : (taken : List ℕ) × (l.fn.piece ≡ taken ++ l.rest) × GoesOn l.fn.self l.self taken;
+  keeps : Keeps l.fn.self l.self;
 }
 
 abbrev pub decreases-loop-rest : goal.decreases-loop-rest

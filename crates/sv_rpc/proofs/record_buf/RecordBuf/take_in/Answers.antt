@@ -1,6 +1,8 @@
-use Rattle.std.proofs.Common.{◌≡◌, ℕ, ◌+◌, ◌-◌, length, subst, arith}
+use Rattle.std.proofs.Common.{◌≡◌, ℕ, ◌+◌, ◌-◌, length, sym, subst, arith}
 use Rattle.std.proofs.lemmas.List.{length-take}
-use Rattle.sv_rpc.specs.Kept.{InRoom}
+use Rattle.sv_rpc.specs.Kept.{InRoom, Keeps}
+use Rattle.sv_rpc.specs.RecordBuf.{Held}
+use Rattle.sv_rpc.proofs.Keeping.{byte_keeps, data_keeps}
 use Rattle.sv_rpc.proofs.Rooms.{byte_room}
 use Rattle.sv_rpc.proofs.Goes.{data_goes_on}
 use Rattle.sv_rpc.proofs.record_buf.RecordBuf.take_in.Goals as goal
@@ -15,3 +17,11 @@ pub returns-in-Data-clause-goes : goal.returns-in-Data-clause-goes
 returns-in-Data-clause-goes g c =
     data_goes_on _ _ _ _ c.args.self.now _ _ _ _ c.self.view_is c.in-Data.is c.take_data.ensures
     (omega (arith, c.min-count.ensures, length-take c.min-count.result c.args.piece.now))
+
+pub returns-in-Header-clause-keeps : goal.returns-in-Header-clause-keeps
+returns-in-Header-clause-keeps g c =
+    subst (λ (h : Held). Keeps c.args.self.now h) (sym c.take_header.ensures.value) (byte_keeps c.args.self.now.records c.args.self.now.tail _)
+
+pub returns-in-Data-clause-keeps : goal.returns-in-Data-clause-keeps
+returns-in-Data-clause-keeps g c =
+    subst (λ (h : Held). Keeps c.args.self.now h) (sym c.take_data.ensures) (data_keeps c.args.self.now.records c.args.self.now.tail _)

@@ -1,7 +1,26 @@
-use Rattle.sv_server.proofs.Standing.{stands_after}
+use Rattle.std.proofs.Common.{sym, subst}
+use Rattle.std.specs.Prelude.{Result, Ok, Err}
+use Rattle.sv_server.specs.declared.event.Did.{Did}
+use Rattle.sv_server.specs.declared.event.Refused.{Refused}
+use Rattle.sv_server.specs.Event.{plain}
+use Rattle.sv_server.specs.History.{Answers}
+use Rattle.sv_server.proofs.Standing.{answered, passed_on, stands_after}
 use Rattle.sv_server.proofs.server.Server.apply.Goals as goal
+
+pub returns-in_err-did-clause-answers : goal.returns-in_err-did-clause-answers
+returns-in_err-did-clause-answers g c = λ config history s. (
+  s.log,
+  s.is_log,
+  subst (λ (r : Result Did Refused). Answers config (plain c.args.event) s.log r)
+      (sym (passed_on c.from_residual.result c.in_err-did.field-0.0 c.from_residual.ensures.0 c.from_residual.ensures.1))
+      (answered config (plain c.args.event) s.log (Err c.in_err-did.field-0.0) c.act.new.self (c.in_err-did.ensures.acts config s.log s.represents)),
+)
+
+pub returns-clause-answers : goal.returns-clause-answers
+returns-clause-answers g c = λ config history s.
+    (s.log, s.is_log, answered config _ s.log (Ok c.in_ok-did.did) _ (c.in_ok-did.ensures.acts config s.log s.represents))
 
 pub returns-clause-stands : goal.returns-clause-stands
 returns-clause-stands g c = λ config history s.
-    stands_after config history _ c.args.self.now _ c.in_ok-did.did c.settle.new.exchange s c.act.ensures.within
-    (rw (← c.self.view_is) at c.act.ensures.config) (rw (← c.self.view_is) at c.in_ok-did.ensures.acts) c.settle.ensures
+    stands_after config history _ c.args.self.now _ c.in_ok-did.did c.settle.new.self s c.act.ensures.within
+    (rw (← c.self.view_is) at c.in_ok-did.ensures.acts) c.settle.ensures

@@ -1,17 +1,21 @@
-use Rattle.std.proofs.Common.{refl, sym, ◌∙◌, arith}
-use Rattle.sv_server.proofs.Done.{line_of, opened_is, shut_is, closes}
+use Rattle.std.proofs.Common.{refl, sym, ◌∙◌, ◌++◌, ◌∷◌, [], append_assoc, subst, List, arith}
+use Rattle.std.specs.Prelude.{map}
+use Rattle.sv_links.specs.Links.{closing}
+use Rattle.sv_server.specs.Act.{Act, PortClosed, Linked, On, Bench, of, bench, link_acts}
+use Rattle.sv_server.specs.State.{Represents}
+use Rattle.sv_server.proofs.Logs.{connection_of, open_is, shut_is, closes}
 use Rattle.sv_server.proofs.server.Server.close.Goals as goal
 
 pub returns-clause-acts : goal.returns-clause-acts
-returns-clause-acts g c = λ log rep.
-    let at = rw c.from-2.ensures at c.index_mut-line.ensures.value in
+returns-clause-acts g c = λ config log rep.
+    let at = rw c.from-2.ensures at c.index_mut-connection.ensures.value in
     let state = rw (← c.self.view_is) at rep in
-    let is = line_of _ log c.args.conn c.index_mut-line.result.now state (omega arith) at in
-    let opened = opened_is c.index_mut-line.result.now c.args.conn log _ is (sym c.is_open.ensures ∙ c.if-not-is_open.false) in (
+    let is = connection_of _ config log c.args.conn c.index_mut-connection.result.now state (omega arith) at in
+    let opened = open_is c.index_mut-connection.result.now _ _ is (sym c.is_open.ensures ∙ c.if-not-is_open.false) in
+    let links = map Linked (closing c.args.conn (link_acts (bench log))) in (
       rw (shut_is c.args.conn log _ (omega arith) opened) refl,
       refl,
-      _,
-      refl,
-      rw c.from-2.ensures (closes _ log c.args.conn c.index_mut-line.result.now c.close.new.self c.close_connection.new.self state
-          c.self.invariant.0 (omega arith) at (c.close.ensures c.args.conn log) c.close_connection.ensures),
+      rw (c.from-2.ensures, append_assoc (map Bench links) (On c.args.conn PortClosed ∷ []) log)
+          (closes _ config log c.args.conn c.index_mut-connection.result.now c.close.new.self c.close_connection.new.self state
+          c.self.invariant (omega arith) at (c.close.ensures (of c.args.conn log)) (c.close_connection.ensures config)),
     )

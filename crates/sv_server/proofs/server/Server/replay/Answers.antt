@@ -3,14 +3,16 @@ use Rattle.std.specs.Prelude.{Ok, Err}
 use Rattle.sv_server.specs.Event.{plain}
 use Rattle.sv_server.specs.Print.{refusal_line}
 use Rattle.sv_server.proofs.Taking.{appends_none}
-use Rattle.sv_server.proofs.Replayed.{told_of, replay_shown, replay_stopped, replay_no_memory, other_refusal, is_that}
+use Rattle.sv_server.specs.declared.replay.ReplayFault.TheVariants.{Write}
+use Rattle.sv_server.proofs.Standing.{passed_on}
+use Rattle.sv_server.proofs.Replayed.{replay_shown, replay_stopped, replay_no_memory, other_refusal, is_that}
 use Rattle.sv_server.proofs.server.Server.replay.Goals as goal
 
 pub returns-in_err-show_all-in-Ok : goal.returns-in_err-show_all-in-Ok
 returns-in_err-show_all-in-Ok g c = λ config history s.
     replay_shown config history (plain c.args.event) (Ok c.in-Ok.field-0) c.apply.new.self c.show_all.new.self [] _ _ _
     (Err c.in_err-show_all-in-Ok.field-0.0) c.from_residual.result (λ e. cc) refl refl
-    (told_of c.from_residual.result c.from_residual.ensures.0 c.from_residual.ensures.1) (c.in-Ok.ensures.answers config history s)
+    (passed_on c.from_residual.result Write c.from_residual.ensures.0 c.from_residual.ensures.1) (c.in-Ok.ensures.answers config history s)
     (c.in-Ok.ensures.stands config history s) (appends_none _)
     (c.in_err-show_all-in-Ok.ensures config)
 
@@ -18,7 +20,7 @@ pub returns-in_err-put_refusal-in-Err : goal.returns-in_err-put_refusal-in-Err
 returns-in_err-put_refusal-in-Err g c = λ config history s.
     replay_stopped config history (plain c.args.event) c.in-Err.refused c.apply.new.self _ _ c.in_err-put_refusal-in-Err.field-0.0
     c.from_residual-in_err-put_refusal-in-Err.result
-    (told_of c.from_residual-in_err-put_refusal-in-Err.result c.from_residual-in_err-put_refusal-in-Err.ensures.0
+    (passed_on c.from_residual-in_err-put_refusal-in-Err.result Write c.from_residual-in_err-put_refusal-in-Err.ensures.0
     c.from_residual-in_err-put_refusal-in-Err.ensures.1)
     (c.in-Err.ensures.answers config history s) (c.in-Err.ensures.stands config history s) c.in_err-put_refusal-in-Err.ensures
 
@@ -34,7 +36,7 @@ returns-in_err-show_all-in-Err g c = λ config history s.
     replay_shown config history (plain c.args.event) (Err c.in-Err.refused) c.apply.new.self c.show_all-in-Err.new.self
     (refusal_line c.in-Err.refused) _ _ _ (Err c.in_err-show_all-in-Err.field-0.0)
     c.from_residual-in_err-show_all-in-Err.result other.0 other.1 refl
-    (told_of c.from_residual-in_err-show_all-in-Err.result c.from_residual-in_err-show_all-in-Err.ensures.0
+    (passed_on c.from_residual-in_err-show_all-in-Err.result Write c.from_residual-in_err-show_all-in-Err.ensures.0
     c.from_residual-in_err-show_all-in-Err.ensures.1)
     (c.in-Err.ensures.answers config history s) (c.in-Err.ensures.stands config history s) c.in_ok-put_refusal-in-Err.ensures
     (c.in_err-show_all-in-Err.ensures config)

@@ -1,13 +1,14 @@
-use Rattle.std.proofs.Common.{arith}
-use Rattle.sv_server.proofs.Done.{line_of}
-use Rattle.sv_server.proofs.Turned.{turns_all}
+use Rattle.std.proofs.Common.{refl, sym, ap, ◌∙◌, arith}
+use Rattle.std.specs.Prelude.{is_some}
+use Rattle.sv_server.proofs.Logs.{connection_of, open_is, shut_is, turned}
 use Rattle.sv_server.proofs.server.Server.turn.Goals as goal
 
 pub returns-clause-acts : goal.returns-clause-acts
-returns-clause-acts g c = λ log rep.
-    let at = rw c.from-2.ensures at c.index_mut-line.ensures.value in
+returns-clause-acts g c = λ config log rep.
+    let at = rw c.from-2.ensures at c.index_mut-connection.ensures.value in
     let state = rw (← c.self.view_is) at rep in
-    let is = line_of _ log c.args.conn c.index_mut-line.result.now state (omega arith) at in
-    rw (← c.self.view_is, c.from-2.ensures) (turns_all _ log c.args.conn c.turn.result c.turn.new.line c.turn.new.links c.turn.new.exchange
-    state c.self.invariant.0 (omega arith)
-    (c.turn.ensures.acts log is state.links state.exchange))
+    let is = connection_of _ config log c.args.conn c.index_mut-connection.result.now state (omega arith) at in
+    let role = sym is.role ∙ sym c.role.ensures ∙ c.in-Some.is in
+    let shut = shut_is c.args.conn log _ (omega arith) (ap is_some role) in
+    rw c.from-2.ensures (turned _ config log c.args.conn _ _ _ state c.self.invariant (omega arith) shut
+    (c.turn.ensures.acts config log is state.shared role))

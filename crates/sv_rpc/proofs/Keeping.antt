@@ -1,0 +1,55 @@
+-- The records that stand in a buffer stay in front while bytes come.
+use Rattle.std.proofs.Common.{◌≡◌, ℕ, ◌+◌, ◌-◌, ◌%◌, ◌^◌, Bool, true, false, cond, leb, ltb, List, [], ◌∷◌, ◌++◌, length, refl, sym, ap, subst, ◌∙◌, append_assoc, append-nil}
+use Rattle.std.specs.Int.{w32, from_be_bytes}
+use Rattle.sv_rpc.specs.Record.{Tail, Header, Data, TooLong}
+use Rattle.sv_rpc.specs.RecordBuf.{Held}
+use Rattle.sv_rpc.specs.Kept.{Keeps, payload_of, after_byte, after_header, after_data, finished}
+
+abbrev held : List (List ℕ) → Tail → Held
+held records tail = record { records = records; tail = tail }
+
+pub keeps_all : (old : Held) → Keeps old old
+keeps_all old = ([], sym (append-nil old.records))
+
+pub keeps_then : (old mid new : Held) → Keeps old mid → Keeps mid new → Keeps old new
+keeps_then old mid new a b =
+    (a.0 ++ b.0, b.1 ∙ ap (λ (rs : List (List ℕ)). rs ++ b.0) a.1 ∙ append_assoc old.records a.0 b.0)
+
+-- the records with more behind them, or none
+abbrev Front : List (List ℕ) → Held → Type 0
+Front records new = (more : List (List ℕ)) × (new.records ≡ records ++ more)
+
+header_cases : (records : List (List ℕ)) (tail : Tail) (size : ℕ) (long some last : Bool)
+    → Front records (cond long (held records TooLong) (cond some (held records (Data (payload_of tail) size last))
+    (cond last (finished records tail) (held records (Header (payload_of tail) [])))))
+header_cases records tail size true some last = ([], sym (append-nil records))
+header_cases records tail size false true last = ([], sym (append-nil records))
+header_cases records tail size false false true = (payload_of tail ∷ [], refl)
+header_cases records tail size false false false = ([], sym (append-nil records))
+
+byte_cases : (records : List (List ℕ)) (t : Tail) (whole : Held) (more : Bool) → Front records whole
+    → Front records (cond more (held records t) whole)
+byte_cases records t whole true kept = ([], sym (append-nil records))
+byte_cases records t whole false kept = kept
+
+pub byte_keeps : (records : List (List ℕ)) (tail : Tail) (byte : ℕ) → Keeps (held records tail) (after_byte records tail byte)
+byte_keeps records (Header payload header) byte =
+    let word = from_be_bytes w32 (header ++ byte ∷ []) in
+    byte_cases records (Header payload (header ++ byte ∷ [])) (after_header records (Header payload header) (word % 2 ^ 31) (leb (2 ^ 31) word))
+    (ltb (length header) 3)
+    (header_cases records (Header payload header) (word % 2 ^ 31) (ltb 8192 (length payload + word % 2 ^ 31)) (ltb 0 (word % 2 ^ 31))
+    (leb (2 ^ 31) word))
+byte_keeps records (Data payload missing last) byte = ([], sym (append-nil records))
+byte_keeps records TooLong byte = ([], sym (append-nil records))
+
+data_cases : (records : List (List ℕ)) (payload : List ℕ) (t : Tail) (less last : Bool)
+    → Front records (cond less (held records t) (cond last (held (records ++ payload ∷ []) (Header [] [])) (held records (Header payload []))))
+data_cases records payload t true last = ([], sym (append-nil records))
+data_cases records payload t false true = (payload ∷ [], refl)
+data_cases records payload t false false = ([], sym (append-nil records))
+
+pub data_keeps : (records : List (List ℕ)) (tail : Tail) (piece : List ℕ) → Keeps (held records tail) (after_data records tail piece)
+data_keeps records (Header payload header) piece = ([], sym (append-nil records))
+data_keeps records (Data payload missing last) piece = data_cases records (payload ++ piece)
+    (Data (payload ++ piece) (missing - length piece) last) (ltb (length piece) missing) last
+data_keeps records TooLong piece = ([], sym (append-nil records))

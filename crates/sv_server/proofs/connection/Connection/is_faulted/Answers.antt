@@ -1,0 +1,10 @@
+use Rattle.std.proofs.Common.{sym}
+use Rattle.sv_server.proofs.Connections.{faulted_is, faulted_told}
+use Rattle.sv_server.proofs.connection.Connection.is_faulted.Goals as goal
+
+pub returns-in-Ok : goal.returns-in-Ok
+returns-in-Ok g c = λ acts is. rw (← c.in-Ok.ensures.value) at (faulted_is _ acts (rw (← c.self.view_is) at is))
+
+pub returns-in-Err-RecordTooLong : goal.returns-in-Err-RecordTooLong
+returns-in-Err-RecordTooLong g c = λ acts is.
+    faulted_told _ acts (rw (← c.self.view_is) at is) _ (sym c.in-Err-RecordTooLong.ensures.value)

@@ -1,0 +1,5 @@
+use Rattle.sv_server.proofs.Connections.{idle_told}
+use Rattle.sv_server.proofs.connection.Connection.is_idle.Goals as goal
+
+pub returns : goal.returns
+returns g c = λ acts is. idle_told _ c.is_none.result acts c.is_none.ensures (c.next_call.ensures.answer acts is)

@@ -1,0 +1,25 @@
+use Rattle.std.proofs.Common.{◌∙◌, ap, List, ℕ}
+use Rattle.std.specs.Prelude.{slice_get}
+use Rattle.sv_server.proofs.Connections.{first_stays, some_stay}
+use Rattle.sv_server.proofs.connection.Connection.push.Goals as goal
+
+pub invariant_of-self : goal.invariant_of-self
+invariant_of-self g c = (
+  c.self.invariant.0,
+  c.self.invariant.1,
+  λ busy. (some_stay _ c.push.ensures.keeps.0 _ c.push.ensures.keeps.1 (c.self.invariant.2 busy).0, (c.self.invariant.2 busy).1),
+)
+
+pub returns : goal.returns
+returns g c = λ acts old.
+    let is = rw (← c.self.view_is) at old in
+    record {
+      role = is.role;
+      input = c.push.ensures.stands _ _ is.input;
+      output = is.output;
+      bounded = is.bounded;
+      faulted = is.faulted;
+      busy = is.busy;
+      call = λ busy. ap (λ (rs : List (List ℕ)). slice_get rs 0) c.push.ensures.keeps.1
+          ∙ first_stays _ c.push.ensures.keeps.0 (c.self.invariant.2 busy).0 ∙ is.call busy;
+    }

@@ -1,0 +1,10 @@
+use Rattle.std.proofs.Common.{◌≡◌, ℕ, ◌<◌, [], length, get_or}
+use Rattle.sv_server.specs.KeptConnection.{Connection, IsConnection}
+use Rattle.sv_server.proofs.server.connections.Given as goal
+
+-- the connections so far keep no act
+abbrev pub invariant-loop : goal.invariant-loop
+invariant-loop g l = record {
+  count : length l.connections.items ≡ l.counter;
+  each : (c : ℕ) (other : Connection) → c < l.counter → IsConnection (get_or l.connections.items c other) [];
+}

@@ -1,0 +1,140 @@
+-- What a call of the core channel does, once its arguments are read (VXI-11 revision 1.0, section B.6): the link that it names is looked at
+-- first.
+use Rattle.std.specs.Prelude.{ℕ, ◌+◌, ◌%◌, ◌==◌, not, ℤ, pos, negsuc, Bool, false, List, [], ◌∷◌, length, take, Option, Some, None, codes, nat_lt, if◌then◌else◌}
+use Rattle.std.specs.Int.{bit_at}
+use Rattle.std.specs.Str.{bytes_eq}
+use Rattle.sv_vxi.specs.declared.error_code.ErrorCode.{ErrorCode}
+use Rattle.sv_vxi.specs.declared.error_code.ErrorCode.TheVariants.{NoError, NotAccessible, InvalidLink, ParameterError, NotSupported, OutOfResources, IoTimeout}
+use Rattle.sv_vxi.specs.Arguments.{Arguments, DeviceAbort, CreateLink, DeviceWrite, DeviceRead, DeviceReadstb, DeviceTrigger, DeviceClear, DeviceRemote, DeviceLocal, DeviceLock, DeviceUnlock, DeviceEnableSrq, DeviceDocmd, DestroyLink, CreateIntrChan, DestroyIntrChan}
+use Rattle.sv_vxi.specs.Results.{Outcome, Link, Size, Read, Status, Plain, Data}
+use Rattle.sv_links.specs.Links.{Made, Destroyed, owner, is_of, made, may_make}
+use Rattle.sv_exchange.specs.Exchange.{Accepted, TextDropped, ResponseRead, has_ended, response, is_something}
+use Rattle.sv_exchange.specs.Read.{read_count, ends_at_term}
+use Rattle.sv_server.specs.declared.event.Config.{Config}
+use Rattle.sv_server.specs.Act.{BenchAct, Linked, Exchanged, link_acts, exchange_acts}
+use Rattle.sv_server.specs.Execution.{Execution, only}
+use Rattle.sv_server.specs.AbortChannel.{device_abort}
+
+-- the number of a link, where it may be one
+abbrev pub lid_of : ℤ → Option ℕ
+lid_of (pos lid) = Some lid
+lid_of (negsuc lid) = None
+
+-- the link that a call of the core channel names, where it names one
+abbrev pub link_named : Arguments → Option ℤ
+link_named (DeviceAbort lid) = None
+link_named (CreateLink client_id lock_device lock_timeout device) = None
+link_named (DeviceWrite lid io_timeout lock_timeout flags bytes) = Some lid
+link_named (DeviceRead lid request_size io_timeout lock_timeout flags term_char) = Some lid
+link_named (DeviceReadstb lid flags lock_timeout io_timeout) = Some lid
+link_named (DeviceTrigger lid flags lock_timeout io_timeout) = Some lid
+link_named (DeviceClear lid flags lock_timeout io_timeout) = Some lid
+link_named (DeviceRemote lid flags lock_timeout io_timeout) = Some lid
+link_named (DeviceLocal lid flags lock_timeout io_timeout) = Some lid
+link_named (DeviceLock lid flags lock_timeout) = Some lid
+link_named (DeviceUnlock lid) = Some lid
+link_named (DeviceEnableSrq lid enable handle) = Some lid
+link_named (DeviceDocmd lid flags io_timeout lock_timeout cmd network_order datasize bytes) = Some lid
+link_named (DestroyLink lid) = Some lid
+link_named (CreateIntrChan host_addr host_port prog_num prog_vers prog_family) = None
+link_named DestroyIntrChan = None
+
+-- a link belongs to the connection that made it, while it lives
+abbrev pub owns : ℕ → Option ℕ → List BenchAct → Bool
+owns c (Some lid) acts = is_of c (owner lid (link_acts acts))
+owns c None acts = false
+
+-- whether a call names a link that isn't one of its connection
+abbrev pub names_another : ℕ → Option ℤ → List BenchAct → Bool
+names_another c (Some lid) acts = not (owns c (lid_of lid) acts)
+names_another c None acts = false
+
+-- the result of a read that gives nothing
+abbrev pub no_bytes : ErrorCode → Outcome
+no_bytes error = Read error (record { request_count = false; character = false; end = false }) []
+
+-- the result of a call that fails, in the shape of that call's; its other fields are 0 or empty
+abbrev pub failure : Arguments → ErrorCode → Outcome
+failure (DeviceAbort lid) error = Plain error
+failure (CreateLink client_id lock_device lock_timeout device) error = Link error (pos 0) 0 0
+failure (DeviceWrite lid io_timeout lock_timeout flags bytes) error = Size error 0
+failure (DeviceRead lid request_size io_timeout lock_timeout flags term_char) error = no_bytes error
+failure (DeviceReadstb lid flags lock_timeout io_timeout) error = Status error 0
+failure (DeviceTrigger lid flags lock_timeout io_timeout) error = Plain error
+failure (DeviceClear lid flags lock_timeout io_timeout) error = Plain error
+failure (DeviceRemote lid flags lock_timeout io_timeout) error = Plain error
+failure (DeviceLocal lid flags lock_timeout io_timeout) error = Plain error
+failure (DeviceLock lid flags lock_timeout) error = Plain error
+failure (DeviceUnlock lid) error = Plain error
+failure (DeviceEnableSrq lid enable handle) error = Plain error
+failure (DeviceDocmd lid flags io_timeout lock_timeout cmd network_order datasize bytes) error = Data error []
+failure (DestroyLink lid) error = Plain error
+failure (CreateIntrChan host_addr host_port prog_num prog_vers prog_family) error = Plain error
+failure DestroyIntrChan error = Plain error
+
+-- a link is made of the name inst0, while one more may be made; the lock can't be asked for yet
+abbrev pub create_link : Config → ℕ → Bool → List ℕ → List BenchAct → Execution
+create_link config c lock_device device acts =
+    if not (bytes_eq device (codes "inst0")) then only (Link NotAccessible (pos 0) 0 0)
+    else (if lock_device then only (Link NotSupported (pos 0) 0 0)
+    else (if not (may_make (link_acts acts)) then only (Link OutOfResources (pos 0) 0 0)
+    else (let lid = made (link_acts acts) + 1 in
+    record { adds = Linked (Made lid c) ∷ []; result = Link NoError (pos lid) config.abort 4096 })))
+
+-- a link is destroyed
+abbrev pub destroy_link : Option ℕ → Execution
+destroy_link (Some lid) = record { adds = Linked (Destroyed lid) ∷ []; result = Plain NoError }
+destroy_link None = only (Plain InvalidLink)
+
+-- the bytes of a write are accepted where no message waits to be executed
+abbrev pub device_write : ℕ → List ℕ → List BenchAct → Execution
+device_write flags bytes acts =
+    if nat_lt 4096 (length bytes) then only (Size ParameterError 0)
+    else (if has_ended (exchange_acts acts) then only (Size IoTimeout 0)
+    else record { adds = Exchanged (Accepted bytes (bit_at flags 3 == 1)) ∷ []; result = Size NoError (length bytes) })
+
+-- the termination character, where the flag for it is set: the low eight bits
+abbrev pub term_of : ℕ → ℕ → Option ℕ
+term_of flags term_char = if bit_at flags 7 == 1 then Some (term_char % 256) else None
+
+-- what a read gives of a response, and why it ends there
+abbrev pub read_of : List ℕ → ℕ → Option ℕ → Outcome
+read_of bytes most term =
+    let count = read_count bytes most term in
+    Read NoError (record { request_count = count == most; character = ends_at_term bytes count term; end = count == length bytes })
+    (take count bytes)
+
+abbrev pub reads : List ℕ → ℕ → Option ℕ → Execution
+reads bytes most term =
+    record { adds = Exchanged (ResponseRead (read_count bytes most term)) ∷ []; result = read_of bytes most term }
+
+-- a read gives what stands of the response; without one, where no message waits, the unfinished text is dropped
+abbrev pub device_read : ℕ → Option ℕ → List BenchAct → Execution
+device_read most term acts =
+    if is_something (response (exchange_acts acts)) then reads (response (exchange_acts acts)) most term
+    else (if has_ended (exchange_acts acts) then only (no_bytes IoTimeout)
+    else record { adds = Exchanged TextDropped ∷ []; result = no_bytes IoTimeout })
+
+-- A call by what it is. One whose meaning comes later isn't supported yet; device_docmd has none here.
+abbrev pub own_call : Config → ℕ → Arguments → List BenchAct → Execution
+own_call config c (DeviceAbort lid) acts = device_abort (lid_of lid) acts
+own_call config c (CreateLink client_id lock_device lock_timeout device) acts = create_link config c lock_device device acts
+own_call config c (DeviceWrite lid io_timeout lock_timeout flags bytes) acts = device_write flags bytes acts
+own_call config c (DeviceRead lid request_size io_timeout lock_timeout flags term_char) acts =
+    device_read request_size (term_of flags term_char) acts
+own_call config c (DeviceReadstb lid flags lock_timeout io_timeout) acts = only (Status NotSupported 0)
+own_call config c (DeviceTrigger lid flags lock_timeout io_timeout) acts = only (Plain NotSupported)
+own_call config c (DeviceClear lid flags lock_timeout io_timeout) acts = only (Plain NotSupported)
+own_call config c (DeviceRemote lid flags lock_timeout io_timeout) acts = only (Plain NoError)
+own_call config c (DeviceLocal lid flags lock_timeout io_timeout) acts = only (Plain NoError)
+own_call config c (DeviceLock lid flags lock_timeout) acts = only (Plain NotSupported)
+own_call config c (DeviceUnlock lid) acts = only (Plain NotSupported)
+own_call config c (DeviceEnableSrq lid enable handle) acts = only (Plain NotSupported)
+own_call config c (DeviceDocmd lid flags io_timeout lock_timeout cmd network_order datasize bytes) acts = only (Data NotSupported [])
+own_call config c (DestroyLink lid) acts = destroy_link (lid_of lid)
+own_call config c (CreateIntrChan host_addr host_port prog_num prog_vers prog_family) acts = only (Plain NotSupported)
+own_call config c DestroyIntrChan acts = only (Plain NotSupported)
+
+abbrev pub executed : Config → ℕ → Arguments → List BenchAct → Execution
+executed config c arguments acts =
+    if names_another c (link_named arguments) acts then only (failure arguments InvalidLink) else own_call config c arguments acts

@@ -1,0 +1,85 @@
+-- What becomes of a record that was taken: its header is looked at, in this order, and then it is a call of the program that its connection
+-- serves (RFC 5531, section 9; VXI-11 revision 1.0, section B.6; RFC 1833, section 3).
+use Rattle.std.specs.Prelude.{ℕ, ◌==◌, not, List, [], ◌∷◌, ◌++◌, Option, Some, None, Result, Ok, Err, map, if◌then◌else◌}
+use Rattle.sv_xdr.specs.declared.garbage.Garbage.{Garbage}
+use Rattle.sv_xdr.specs.Spelling.{Unsigned}
+use Rattle.sv_rpc.specs.declared.reply.Reply.{Reply}
+use Rattle.sv_rpc.specs.declared.reply.Reply.TheVariants.{Success, Mismatch, ProgUnavail, ProgMismatch, ProcUnavail, GarbageArgs}
+use Rattle.sv_rpc.specs.declared.call.CallFault.{CallFault}
+use Rattle.sv_rpc.specs.declared.call.CallFault.TheVariants.{BadHeader, Version}
+use Rattle.sv_rpc.specs.Call.{Asked}
+use Rattle.sv_rpc.specs.Ports.{port_at}
+use Rattle.sv_vxi.specs.Arguments.{Arguments, core_calls, abort_calls, is_one_of}
+use Rattle.sv_vxi.specs.Reading.{arguments_at}
+use Rattle.sv_vxi.specs.Results.{result_fields}
+use Rattle.sv_server.specs.declared.event.Role.{Role}
+use Rattle.sv_server.specs.declared.event.Role.TheVariants.{Core, Abort, Portmap}
+use Rattle.sv_server.specs.declared.event.Config.{Config}
+use Rattle.sv_server.specs.Act.{BenchAct}
+use Rattle.sv_server.specs.Reply.{reply_record}
+use Rattle.sv_server.specs.Execution.{Execution}
+use Rattle.sv_server.specs.CoreChannel.{executed}
+use Rattle.sv_server.specs.PortMapper.{ports_of}
+
+-- the program that a connection serves, its version, and its procedures beside 0, which does nothing
+abbrev pub program_of : Role → ℕ
+program_of Core = 395183
+program_of Abort = 395184
+program_of Portmap = 100000
+
+abbrev pub version_of : Role → ℕ
+version_of Core = 1
+version_of Abort = 1
+version_of Portmap = 2
+
+abbrev pub procedures_of : Role → List ℕ
+procedures_of Core = core_calls
+procedures_of Abort = abort_calls
+procedures_of Portmap = 3 ∷ []
+
+-- what the header of a call alone decides: another program, another version, nothing to do, or another procedure
+abbrev pub header_reply : Role → Asked → Option Reply
+header_reply role call =
+    if not (call.prog == program_of role) then Some ProgUnavail
+    else (if not (call.vers == version_of role) then Some (ProgMismatch (version_of role) (version_of role))
+    else (if call.proc == 0 then Some Success
+    else (if not (is_one_of (procedures_of role) call.proc) then Some ProcUnavail else None)))
+
+-- It is no call, and faults its connection; or it adds these acts to what all connections share, and is answered by these bytes.
+pub data Verdict : Type 0 where
+  NoCall : Verdict
+  Replies : (adds : List BenchAct) (bytes : List ℕ) → Verdict
+
+-- it is answered by a reply alone
+abbrev pub told : ℕ → Reply → Verdict
+told xid reply = Replies [] (reply_record xid reply [])
+
+abbrev pub concluded : ℕ → Execution → Verdict
+concluded xid execution = Replies execution.adds (reply_record xid Success (result_fields execution.result))
+
+-- GETPORT
+abbrev pub port_told : ℕ → Result ℕ Garbage → Verdict
+port_told xid (Ok port) = Replies [] (reply_record xid Success (Unsigned port ∷ []))
+port_told xid (Err garbage) = told xid GarbageArgs
+
+-- a call of the core or the abort channel
+abbrev pub device_call : Config → ℕ → ℕ → Result Arguments Garbage → List BenchAct → Verdict
+device_call config c xid (Ok arguments) acts = concluded xid (executed config c arguments acts)
+device_call config c xid (Err garbage) acts = told xid GarbageArgs
+
+-- a call of one of its program's procedures
+abbrev pub procedure : Config → ℕ → Role → Asked → List BenchAct → Verdict
+procedure config c Core call acts = device_call config c call.xid (arguments_at call.proc call.args) acts
+procedure config c Abort call acts = device_call config c call.xid (arguments_at call.proc call.args) acts
+procedure config c Portmap call acts = port_told call.xid (port_at (ports_of config) call.args)
+
+-- unless its header alone decides
+abbrev pub unless_told : Config → ℕ → Role → Asked → Option Reply → List BenchAct → Verdict
+unless_told config c role call (Some reply) acts = told call.xid reply
+unless_told config c role call None acts = procedure config c role call acts
+
+-- Another version of RPC is denied.
+abbrev pub considered : Config → ℕ → Role → Result Asked CallFault → List BenchAct → Verdict
+considered config c role (Ok call) acts = unless_told config c role call (header_reply role call) acts
+considered config c role (Err (Version xid)) acts = told xid Mismatch
+considered config c role (Err BadHeader) acts = NoCall

@@ -1,0 +1,100 @@
+//! What all connections share: links, message exchange and the clock.
+
+ghost use Rattle.std.specs.Prelude.{◌≡◌, ◌+◌, ◌<◌, ◌≤◌, List, [], ◌∷◌, ◌++◌, length, map, IfOk, ◌==◌, false};
+ghost use Rattle.sv_links.specs.Links.{closing};
+ghost use Rattle.sv_server.specs.declared.event.Config.{Config};
+ghost use Rattle.sv_server.specs.Act.{BenchAct, Linked, Ticked, link_acts, ticks};
+ghost use Rattle.sv_server.specs.KeptBench.{IsBench};
+
+use crate::event::Config;
+use std::alloc::{AllocError, Allocator};
+use std::marker::Model;
+use sv_exchange::Exchange;
+use sv_links::Links;
+use sv_vxi::VxiResult;
+
+/// The last value of the clock, in milliseconds.
+const LAST_CLOCK: u64 = 9_223_372_036_854_775_807;
+
+/// How a call ends that was executed.
+#[derive(Clone, Copy)]
+pub enum Ending {
+    /// With this result.
+    Result(VxiResult<'static>),
+    /// With what is to be read of the response.
+    Response {
+        /// The most bytes to give.
+        most: u32,
+        /// The termination character, where it counts.
+        term: Option<u8>,
+    },
+}
+
+/// What all connections share.
+#[derive(Drop)]
+pub struct Bench<A: Allocator> {
+    pub links: Links<A>,
+    pub exchange: Exchange<A>,
+    pub config: Config,
+    clock: u64,
+}
+
+impl<A: Allocator> Model for Bench<A> {
+    ghost use Rattle.sv_server.specs.KeptBench.{Bench};
+
+    ghost Value = { Bench };
+
+    ghost use Rattle.std.specs.Prelude.{◌≤◌};
+
+    ghost view = { λ a. record {
+      links = a.links;
+      exchange = a.exchange;
+      config = a.config;
+      clock = a.clock;
+    } };
+
+    ghost invariant = { λ a. a.clock ≤ 9223372036854775807 };
+}
+
+impl<A: Allocator + Copy> Bench<A> {
+    /// No link, no text, and the clock at its start.
+    pub fn new(alloc: A, config: Config) -> Result<Bench<A>, AllocError>
+        requires { config.clock ≤ 9223372036854775807 }
+        ensures { IfOk result (λ shared. IsBench shared config []) }
+    {
+        Ok(Bench {
+            links: Links::new(alloc),
+            exchange: Exchange::new(alloc)?,
+            config,
+            clock: config.clock,
+        })
+    }
+}
+
+impl<A: Allocator> Bench<A> {
+    /// Whether the clock is at its last value.
+    pub fn is_at_end(&self) -> bool
+        ensures value { result ≡ (self.now.clock == 9223372036854775807) }
+        ensures answer { (config : Config) (acts : List BenchAct) → IsBench self.now config acts
+            → result ≡ (config.clock + ticks acts == 9223372036854775807) }
+    {
+        self.clock == LAST_CLOCK
+    }
+
+    /// A millisecond passes.
+    pub fn tick(&mut self)
+        requires { (self.old.clock == 9223372036854775807) ≡ false }
+        ensures { (config : Config) (acts : List BenchAct) → IsBench self.old config acts
+            → IsBench self.new config (Ticked ∷ acts) }
+    {
+        self.clock += 1;
+    }
+
+    /// Destroys the links of a connection.
+    pub fn close_connection(&mut self, conn: u8)
+        ensures { (config : Config) (acts : List BenchAct) → IsBench self.old config acts
+            → IsBench self.new config (map Linked (closing conn (link_acts acts)) ++ acts) }
+    {
+        self.links.close_connection(conn);
+    }
+}

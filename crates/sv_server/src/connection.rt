@@ -1,0 +1,242 @@
+//! What the server keeps of a connection.
+
+ghost use Rattle.std.specs.Prelude.{◌≡◌, ◌≢◌, ◌+◌, ◌≤◌, ◌||◌, not, ◌&&◌, ℕ, List, [], ◌∷◌, length, IfOk, IsSome, Some, None, true, false, is_some, nat_lt, option_map, if◌then◌else◌};
+ghost use Rattle.sv_rpc.specs.RecordBuf.{StandsFor, room_of, nothing_held};
+ghost use Rattle.sv_server.specs.Act.{ConnAct, Opened, Piece, CallTaken, Faulted, Replied, BytesTaken, PortClosed};
+ghost use Rattle.sv_server.specs.Connection.{is_open, is_busy, next_call, is_idle, is_faulted, room, free, waiting};
+ghost use Rattle.sv_server.specs.KeptConnection.{IsConnection};
+ghost use Rattle.sv_server.specs.Inside.Kept.{kept_next};
+ghost use Rattle.sv_server.specs.Inside.Outcome.{answer_bytes, IsShort};
+
+use crate::event::Role;
+use crate::reply::{Answer, LONGEST_REPLY, put_reply};
+use std::alloc::{AllocError, Allocator};
+use std::marker::Model;
+use sv_rpc::{RecordBuf, RpcFault};
+
+/// How many outgoing bytes may wait.
+const OUTGOING: usize = 16384;
+
+/// A connection, open or not: what it is for, what came, what waits to be sent. A call that was
+/// taken stays in its input until it is answered, and room for the longest reply is kept for it.
+#[derive(Drop)]
+pub struct Connection<A: Allocator> {
+    role: Option<Role>,
+    input: RecordBuf<A>,
+    output: Vec<u8, A>,
+    /// Whether a record was taken that is no call.
+    faulted: bool,
+    /// Whether the first record of the input is a call that was taken.
+    busy: bool,
+}
+
+impl<A: Allocator> Model for Connection<A> {
+    ghost use Rattle.sv_server.specs.KeptConnection.{Connection};
+
+    ghost Value = { Connection };
+
+    ghost use Rattle.std.specs.Prelude.{◌≡◌, ◌≢◌, ◌+◌, ◌≤◌, true, [], length, vec_capacity};
+
+    ghost view = { λ a. record {
+      role = a.role;
+      input = a.input;
+      output = a.output.items;
+      faulted = a.faulted;
+      busy = a.busy;
+    } };
+
+    ghost invariant = { λ a. (length a.output.items ≤ 16384) × (16384 ≤ vec_capacity a.output)
+        × (a.busy ≡ true → (a.input.records ≢ []) × (length a.output.items + 8232 ≤ 16384)) };
+}
+
+impl<A: Allocator + Copy> Connection<A> {
+    /// A connection that isn't open. It takes all the memory that it ever uses.
+    pub fn new(alloc: A) -> Result<Connection<A>, AllocError>
+        ensures { IfOk result (λ connection. IsConnection connection []) }
+    {
+        Ok(Connection {
+            role: None,
+            input: RecordBuf::new(alloc)?,
+            output: Vec::with_capacity(alloc, OUTGOING)?,
+            faulted: false,
+            busy: false,
+        })
+    }
+}
+
+impl<A: Allocator> Connection<A> {
+    /// What it is open for.
+    pub fn role(&self) -> Option<Role>
+        ensures { result ≡ self.now.role }
+    {
+        self.role
+    }
+
+    /// Whether it is open.
+    pub fn is_open(&self) -> bool
+        ensures { result ≡ is_some self.now.role }
+    {
+        self.role.is_some()
+    }
+
+    /// The bytes that wait to be sent; none where it isn't open.
+    pub fn waiting(&self) -> &[u8]
+        ensures within { length result.now ≤ length self.now.output }
+        ensures bounded { length result.now ≤ 16384 }
+        ensures answer { (acts : List ConnAct) → IsConnection self.now acts
+            → result.now ≡ waiting acts }
+    {
+        match self.role {
+            Some(_) => &self.output,
+            None => &[],
+        }
+    }
+
+    /// Opens it, empty.
+    pub fn open(&mut self, role: Role)
+        ensures { (acts : List ConnAct) → IsConnection self.old acts
+            → IsConnection self.new (Opened role ∷ acts) }
+    {
+        self.empty();
+        self.role = Some(role);
+    }
+
+    /// Closes it, and lets what waits go.
+    pub fn close(&mut self)
+        ensures { (acts : List ConnAct) → IsConnection self.old acts
+            → IsConnection self.new (PortClosed ∷ acts) }
+    {
+        self.empty();
+        self.role = None;
+    }
+
+    /// Forgets all that came and waits.
+    fn empty(&mut self)
+        ensures value { self.new ≡ record self.old {
+          input = nothing_held;
+          output = [];
+          faulted = false;
+          busy = false;
+        } }
+        ensures stands { StandsFor self.new.input [] 0 }
+    {
+        self.input.clear();
+        self.output.clear();
+        self.faulted = false;
+        self.busy = false;
+    }
+
+    /// How many bytes may come; 0 where it isn't open.
+    pub fn room(&self) -> usize
+        ensures bounded { result ≤ room_of self.now.input }
+        ensures answer { (acts : List ConnAct) → IsConnection self.now acts → result ≡ room acts }
+    {
+        match self.role {
+            Some(_) => self.input.room(),
+            None => 0,
+        }
+    }
+
+    /// Takes in bytes that came.
+    pub fn push(&mut self, piece: &[u8])
+        requires { length piece.now ≤ room_of self.old.input }
+        ensures { (acts : List ConnAct) → IsConnection self.old acts
+            → IsConnection self.new (Piece piece.now ∷ acts) }
+    {
+        self.input.push(piece);
+    }
+
+    /// Lets the bytes go that the peer took.
+    pub fn took(&mut self, count: usize)
+        requires { count ≤ length self.old.output }
+        ensures { (acts : List ConnAct) → IsConnection self.old acts
+            → IsConnection self.new (BytesTaken count ∷ acts) }
+    {
+        self.output.drain(..count);
+    }
+
+    /// Whether a record was taken that is no call, or all records in front of one that is too long.
+    pub fn is_faulted(&self) -> bool
+        ensures { (acts : List ConnAct) → IsConnection self.now acts → result ≡ is_faulted acts }
+    {
+        match self.input.next() {
+            Ok(_) => self.faulted,
+            Err(RpcFault::RecordTooLong) => true,
+        }
+    }
+
+    /// The call to take next, where there is one.
+    pub fn next_call(&self) -> Option<&[u8]>
+        ensures value { option_map (λ call. call.now) result ≡ kept_next self.now }
+        ensures answer { (acts : List ConnAct) → IsConnection self.now acts
+            → option_map (λ call. call.now) result ≡ next_call acts }
+    {
+        self.first_call()
+    }
+
+    /// Whether there is none.
+    pub fn is_idle(&self) -> bool
+        ensures { (acts : List ConnAct) → IsConnection self.now acts → result ≡ is_idle acts }
+    {
+        self.next_call().is_none()
+    }
+
+    /// The first record, unless it was taken already, or a record was no call.
+    fn first_call(&self) -> Option<&[u8]>
+        ensures { option_map (λ call. call.now) result ≡ kept_next self.now }
+    {
+        if self.faulted || self.busy {
+            return None;
+        }
+        match self.input.next() {
+            Ok(found) => found,
+            Err(_) => None,
+        }
+    }
+
+    /// Whether there is room for the longest reply.
+    pub fn has_reply_room(&self) -> bool
+        ensures value { result ≡ not (nat_lt 16384 (length self.now.output + 8232)) }
+        ensures answer { (acts : List ConnAct) → IsConnection self.now acts
+            → result ≡ not (nat_lt (free acts) 8232) }
+    {
+        self.output.len() + LONGEST_REPLY <= OUTGOING
+    }
+
+    /// Takes the next call, which stays in the input until it is answered.
+    pub fn take_call(&mut self)
+        requires next { IsSome (kept_next self.old) }
+        requires room { length self.old.output + 8232 ≤ 16384 }
+        ensures { (acts : List ConnAct) (call : List ℕ) → IsConnection self.old acts
+            → next_call acts ≡ Some call → IsConnection self.new (CallTaken call ∷ acts) }
+    {
+        self.busy = true;
+    }
+
+    /// Answers the call that was taken, where there is one.
+    pub fn answer(&mut self, xid: u32, answer: &Answer<'_>)
+        requires { IsShort answer.now }
+        ensures { (acts : List ConnAct) → IsConnection self.old acts → is_busy acts ≡ true
+            → IsConnection self.new (Replied (answer_bytes xid answer.now) ∷ acts) }
+    {
+        if !self.busy {
+            return;
+        }
+        put_reply(&mut self.output, xid, answer);
+        self.input.drop_first();
+        self.busy = false;
+    }
+
+    /// The record that was taken, where there is one, is no call.
+    pub fn fault(&mut self)
+        ensures { (acts : List ConnAct) → IsConnection self.old acts → is_busy acts ≡ true
+            → IsConnection self.new (Faulted ∷ acts) }
+    {
+        if !self.busy {
+            return;
+        }
+        self.input.drop_first();
+        self.busy = false;
+        self.faulted = true;
+    }
+}

@@ -1,0 +1,250 @@
+//! What becomes of a record that was taken: its header is looked at, and then it is a call of the
+//! program that its connection serves.
+
+ghost use Rattle.std.specs.Prelude.{◌≡◌, ◌==◌, ◌++◌, true, List, Result, IfOk, OnErr, IsSome, None};
+ghost use Rattle.sv_rpc.specs.Call.{asked, call_at};
+ghost use Rattle.sv_vxi.specs.Arguments.{core_calls, abort_calls, is_one_of};
+ghost use Rattle.sv_vxi.specs.Reading.{arguments_at};
+ghost use Rattle.sv_server.specs.declared.event.Config.{Config as Configured};
+ghost use Rattle.sv_server.specs.Act.{BenchAct};
+ghost use Rattle.sv_server.specs.KeptBench.{IsBench};
+ghost use Rattle.sv_server.specs.Dispatch.{program_of as program_for, version_of as version_for, procedures_of, header_reply as reply_to, considered, unless_told as told_or_done, procedure as done_by, device_call as called};
+ghost use Rattle.sv_server.specs.Inside.Outcome.{ConsideredAs, IsConcluded, IsShortEnding, IsShortVerdict, verdict_makes};
+
+use crate::bench::{Bench, Ending};
+use crate::event::Role;
+use crate::port_mapper::port_answer;
+use crate::reply::Answer;
+use std::alloc::{AllocError, Allocator};
+use sv_rpc::{Call, CallFault, Reply, read_call};
+use sv_vxi::procedure::{
+    CREATE_INTR_CHAN, CREATE_LINK, DESTROY_INTR_CHAN, DESTROY_LINK, DEVICE_ABORT, DEVICE_CLEAR,
+    DEVICE_DOCMD, DEVICE_ENABLE_SRQ, DEVICE_LOCAL, DEVICE_LOCK, DEVICE_READ, DEVICE_READSTB,
+    DEVICE_REMOTE, DEVICE_TRIGGER, DEVICE_UNLOCK, DEVICE_WRITE,
+};
+use sv_vxi::read_args;
+
+/// The procedure that does nothing, of every program.
+const NULL: u32 = 0;
+/// GETPORT of the port mapper.
+const GETPORT: u32 = 3;
+
+/// The program that a connection serves.
+fn program_of(role: Role) -> u32
+    ensures { result ≡ program_for role }
+{
+    match role {
+        Role::Core => 0x0607AF,
+        Role::Abort => 0x0607B0,
+        Role::Portmap => 100_000,
+    }
+}
+
+/// Its version.
+fn version_of(role: Role) -> u32
+    ensures { result ≡ version_for role }
+{
+    match role {
+        Role::Core | Role::Abort => 1,
+        Role::Portmap => 2,
+    }
+}
+
+/// Whether it is a procedure of the program, beside the one that does nothing.
+fn has_procedure(role: Role, proc: u32) -> bool
+    ensures { result ≡ is_one_of (procedures_of role) proc }
+{
+    match role {
+        Role::Core => is_core_call(proc),
+        Role::Abort => proc == DEVICE_ABORT,
+        Role::Portmap => proc == GETPORT,
+    }
+}
+
+/// Whether it is a call of the core channel.
+fn is_core_call(proc: u32) -> bool
+    ensures { result ≡ is_one_of (procedures_of Role.Core) proc }
+{
+    matches!(
+        proc,
+        CREATE_LINK
+            | DEVICE_WRITE
+            | DEVICE_READ
+            | DEVICE_READSTB
+            | DEVICE_TRIGGER
+            | DEVICE_CLEAR
+            | DEVICE_REMOTE
+            | DEVICE_LOCAL
+            | DEVICE_LOCK
+            | DEVICE_UNLOCK
+            | DEVICE_ENABLE_SRQ
+            | DEVICE_DOCMD
+            | DESTROY_LINK
+            | CREATE_INTR_CHAN
+            | DESTROY_INTR_CHAN
+    )
+}
+
+/// The reply that the header of a call alone decides, where it does.
+pub fn header_reply(role: Role, call: &Call<'_>) -> Option<Reply>
+    ensures { result ≡ reply_to role (asked call.now) }
+{
+    if call.prog != program_of(role) {
+        return Some(Reply::ProgUnavail);
+    }
+    let version = version_of(role);
+    if call.vers != version {
+        return Some(Reply::ProgMismatch {
+            low: version,
+            high: version,
+        });
+    }
+    if call.proc == NULL {
+        return Some(Reply::Success);
+    }
+    if !has_procedure(role, call.proc) {
+        return Some(Reply::ProcUnavail);
+    }
+    None
+}
+
+/// What becomes of a record.
+#[derive(Clone, Copy)]
+pub enum Verdict {
+    /// It is no call, and faults its connection.
+    NoCall,
+    /// It is answered.
+    Answer {
+        /// Its transaction.
+        xid: u32,
+        /// By what.
+        answer: Answer<'static>,
+    },
+    /// It is answered with what is to be read of the response.
+    Response {
+        /// Its transaction.
+        xid: u32,
+        /// The most bytes to give.
+        most: u32,
+        /// The termination character, where it counts.
+        term: Option<u8>,
+    },
+}
+
+/// A call that was executed, as it is answered.
+fn concluded(xid: u32, ending: Ending) -> Verdict
+    ensures ends { IsConcluded xid ending result }
+    ensures short { IsShortEnding ending → IsShortVerdict result }
+{
+    match ending {
+        Ending::Result(outcome) => Verdict::Answer {
+            xid,
+            answer: Answer::Result(outcome),
+        },
+        Ending::Response { most, term } => Verdict::Response { xid, most, term },
+    }
+}
+
+/// Does a call of the core or the abort channel.
+fn device_call<A: Allocator>(
+    shared: &mut Bench<A>,
+    conn: u8,
+    call: &Call<'_>,
+) -> Result<Verdict, AllocError>
+    requires { is_one_of (core_calls ++ abort_calls) call.now.proc ≡ true }
+    ensures ok { (config : Configured) (acts : List BenchAct) → IsBench shared.old config acts
+        → IfOk result (λ verdict. ConsideredAs verdict shared.new config acts
+        (called config conn call.now.xid (arguments_at call.now.proc call.now.args.now) acts)) }
+    ensures short { IfOk result (λ verdict. IsShortVerdict verdict) }
+    ensures err { OnErr result (shared.new ≡ shared.old) }
+    ensures lacks { (config : Configured) (acts : List BenchAct) → IsBench shared.old config acts
+        → OnErr result (verdict_makes
+        (called config conn call.now.xid (arguments_at call.now.proc call.now.args.now) acts)
+        ≡ true) }
+{
+    match read_args(call.proc, call.args) {
+        Ok(args) => Ok(concluded(call.xid, shared.execute(conn, &args)?)),
+        Err(_) => Ok(Verdict::Answer {
+            xid: call.xid,
+            answer: Answer::Header(Reply::GarbageArgs),
+        }),
+    }
+}
+
+/// Does a call of a program's procedure.
+fn procedure<A: Allocator>(
+    shared: &mut Bench<A>,
+    conn: u8,
+    role: Role,
+    call: &Call<'_>,
+) -> Result<Verdict, AllocError>
+    requires { reply_to role (asked call.now) ≡ None }
+    ensures ok { (config : Configured) (acts : List BenchAct) → IsBench shared.old config acts
+        → IfOk result (λ verdict. ConsideredAs verdict shared.new config acts
+        (done_by config conn role (asked call.now) acts)) }
+    ensures short { IfOk result (λ verdict. IsShortVerdict verdict) }
+    ensures err { OnErr result (shared.new ≡ shared.old) }
+    ensures lacks { (config : Configured) (acts : List BenchAct) → IsBench shared.old config acts
+        → OnErr result (verdict_makes (done_by config conn role (asked call.now) acts) ≡ true) }
+{
+    match role {
+        Role::Core => device_call(shared, conn, call),
+        Role::Abort => device_call(shared, conn, call),
+        Role::Portmap => Ok(Verdict::Answer {
+            xid: call.xid,
+            answer: port_answer(shared.config, call.args),
+        }),
+    }
+}
+
+/// Does a call, unless its header alone decides the reply.
+fn unless_told<A: Allocator>(
+    shared: &mut Bench<A>,
+    conn: u8,
+    role: Role,
+    call: &Call<'_>,
+) -> Result<Verdict, AllocError>
+    ensures ok { (config : Configured) (acts : List BenchAct) → IsBench shared.old config acts
+        → IfOk result (λ verdict. ConsideredAs verdict shared.new config acts
+        (told_or_done config conn role (asked call.now) (reply_to role (asked call.now)) acts)) }
+    ensures short { IfOk result (λ verdict. IsShortVerdict verdict) }
+    ensures err { OnErr result (shared.new ≡ shared.old) }
+    ensures lacks { (config : Configured) (acts : List BenchAct) → IsBench shared.old config acts
+        → OnErr result (verdict_makes
+        (told_or_done config conn role (asked call.now) (reply_to role (asked call.now)) acts)
+        ≡ true) }
+{
+    if let Some(reply) = header_reply(role, call) {
+        return Ok(Verdict::Answer {
+            xid: call.xid,
+            answer: Answer::Header(reply),
+        });
+    }
+    procedure(shared, conn, role, call)
+}
+
+/// Says what becomes of a record, and does what it asks for, but for its answer.
+pub fn consider<A: Allocator>(
+    shared: &mut Bench<A>,
+    conn: u8,
+    role: Role,
+    bytes: &[u8],
+) -> Result<Verdict, AllocError>
+    ensures ok { (config : Configured) (acts : List BenchAct) → IsBench shared.old config acts
+        → IfOk result (λ verdict. ConsideredAs verdict shared.new config acts
+        (considered config conn role (call_at bytes.now) acts)) }
+    ensures short { IfOk result (λ verdict. IsShortVerdict verdict) }
+    ensures err { OnErr result (shared.new ≡ shared.old) }
+    ensures lacks { (config : Configured) (acts : List BenchAct) → IsBench shared.old config acts
+        → OnErr result (verdict_makes (considered config conn role (call_at bytes.now) acts)
+        ≡ true) }
+{
+    match read_call(bytes) {
+        Ok(call) => unless_told(shared, conn, role, &call),
+        Err(CallFault::BadHeader) => Ok(Verdict::NoCall),
+        Err(CallFault::Version(xid)) => Ok(Verdict::Answer {
+            xid,
+            answer: Answer::Header(Reply::Mismatch),
+        }),
+    }
+}

@@ -1,0 +1,82 @@
+//! Replies as they are sent.
+
+ghost use Rattle.std.specs.Prelude.{◌≡◌, ◌+◌, ◌<◌, ◌≤◌, ◌^◌, ◌++◌, [], true, length, map, vec_len, vec_capacity};
+ghost use Rattle.std.specs.List.{concat};
+ghost use Rattle.sv_rpc.specs.Record.{fragment};
+ghost use Rattle.sv_rpc.specs.Reply.{reply_fields};
+ghost use Rattle.sv_xdr.specs.Spelling.{spelling};
+ghost use Rattle.sv_xdr.specs.Writer.{text_of, rest_of};
+ghost use Rattle.sv_server.specs.Inside.Outcome.{reply_of, fields_of, answer_bytes, IsShort};
+
+use std::alloc::Allocator;
+use sv_rpc::{Reply, write_reply};
+use sv_text::append;
+use sv_vxi::{VxiResult, write_result};
+use sv_xdr::Writer;
+
+/// The longest reply with the header of its fragment, in bytes.
+pub const LONGEST_REPLY: usize = 8232;
+/// The same without that header: header, error, reason and 8,192 bytes.
+const LONGEST_TEXT: usize = LONGEST_REPLY - 4;
+
+/// What a call is answered.
+#[derive(Clone, Copy)]
+pub enum Answer<'a> {
+    /// What its header or its arguments alone decide.
+    Header(Reply),
+    /// The port that GETPORT asks for.
+    Port(u32),
+    /// The result of a call of the core or the abort channel.
+    Result(VxiResult<'a>),
+}
+
+/// Puts a reply behind the outgoing bytes.
+pub fn put_reply<A: Allocator>(out: &mut Vec<u8, A>, xid: u32, answer: &Answer<'_>)
+    requires room { vec_len out.old + 8232 ≤ vec_capacity out.old }
+    requires short { IsShort answer.now }
+    ensures sent { out.new.items ≡ out.old.items ++ answer_bytes xid answer.now }
+    ensures capacity { vec_capacity out.old ≤ vec_capacity out.new }
+    ensures grows { vec_len out.new ≤ vec_len out.old + 8232 }
+{
+    let mut text = [0; LONGEST_TEXT];
+    let mut writer = Writer::new(&mut text);
+    write_answer(&mut writer, xid, answer);
+    put_record(out, writer.text());
+}
+
+/// Writes a reply without the header of its fragment.
+fn write_answer(writer: &mut Writer<'_>, xid: u32, answer: &Answer<'_>)
+    requires empty { text_of writer.old ≡ [] }
+    requires room { 8228 ≤ length (rest_of writer.old) }
+    requires short { IsShort answer.now }
+    ensures same_buffer { writer.new.out.ghost_name ≡ writer.old.out.ghost_name }
+    ensures written { text_of writer.new
+        ≡ concat (map spelling (reply_fields xid (reply_of answer.now) ++ fields_of answer.now)) }
+{
+    match *answer {
+        Answer::Header(reply) => {
+            let _ = write_reply(writer, xid, reply);
+        }
+        Answer::Port(port) => {
+            let _ = write_reply(writer, xid, Reply::Success);
+            let _ = writer.u32(port);
+        }
+        Answer::Result(outcome) => {
+            let _ = write_reply(writer, xid, Reply::Success);
+            let _ = write_result(writer, &outcome);
+        }
+    }
+}
+
+/// Puts a record of one fragment behind the outgoing bytes.
+fn put_record<A: Allocator>(out: &mut Vec<u8, A>, text: &[u8])
+    requires fits { vec_len out.old + 4 + length text.now ≤ vec_capacity out.old }
+    requires short { length text.now < 2 ^ 31 }
+    ensures sent { out.new.items ≡ out.old.items ++ fragment true text.now }
+    ensures capacity { vec_capacity out.old ≤ vec_capacity out.new }
+    ensures grows { vec_len out.new ≡ vec_len out.old + 4 + length text.now }
+{
+    let header = text.len() as u32 + (1 << 31);
+    append(out, &header.to_be_bytes());
+    append(out, text);
+}
