@@ -5,4 +5,3 @@ pub mod Responses
 pub mod Dues
 pub mod Stands
 pub mod Fields
-pub mod LeftToDo

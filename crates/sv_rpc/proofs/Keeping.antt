@@ -1,5 +1,5 @@
 -- The records that stand in a buffer stay in front while bytes come.
-use Rattle.std.proofs.Common.{◌≡◌, ℕ, ◌+◌, ◌-◌, ◌%◌, ◌^◌, Bool, true, false, cond, leb, ltb, List, [], ◌∷◌, ◌++◌, length, refl, sym, ap, subst, ◌∙◌, append_assoc, append-nil}
+use Rattle.std.proofs.Common.{◌≡◌, ℕ, ◌+◌, ◌-◌, ◌%◌, ◌^◌, Bool, true, false, cond, leb, ltb, List, [], ◌∷◌, ◌++◌, length, refl, sym, ap, ◌∙◌, append_assoc, append-nil}
 use Rattle.std.specs.Int.{w32, from_be_bytes}
 use Rattle.sv_rpc.specs.Record.{Tail, Header, Data, TooLong}
 use Rattle.sv_rpc.specs.RecordBuf.{Held}
@@ -35,7 +35,8 @@ byte_cases records t whole false kept = kept
 pub byte_keeps : (records : List (List ℕ)) (tail : Tail) (byte : ℕ) → Keeps (held records tail) (after_byte records tail byte)
 byte_keeps records (Header payload header) byte =
     let word = from_be_bytes w32 (header ++ byte ∷ []) in
-    byte_cases records (Header payload (header ++ byte ∷ [])) (after_header records (Header payload header) (word % 2 ^ 31) (leb (2 ^ 31) word))
+    byte_cases records (Header payload (header ++ byte ∷ []))
+    (after_header records (Header payload header) (word % 2 ^ 31) (leb (2 ^ 31) word))
     (ltb (length header) 3)
     (header_cases records (Header payload header) (word % 2 ^ 31) (ltb 8192 (length payload + word % 2 ^ 31)) (ltb 0 (word % 2 ^ 31))
     (leb (2 ^ 31) word))
@@ -43,7 +44,8 @@ byte_keeps records (Data payload missing last) byte = ([], sym (append-nil recor
 byte_keeps records TooLong byte = ([], sym (append-nil records))
 
 data_cases : (records : List (List ℕ)) (payload : List ℕ) (t : Tail) (less last : Bool)
-    → Front records (cond less (held records t) (cond last (held (records ++ payload ∷ []) (Header [] [])) (held records (Header payload []))))
+    → Front records (cond less (held records t) (cond last (held (records ++ payload ∷ []) (Header [] []))
+    (held records (Header payload []))))
 data_cases records payload t true last = ([], sym (append-nil records))
 data_cases records payload t false true = (payload ∷ [], refl)
 data_cases records payload t false false = ([], sym (append-nil records))

@@ -1,12 +1,12 @@
 -- What is kept of a connection tells what its acts say.
 use Rattle.std.proofs.Common.{◌≡◌, ◌≢◌, ℕ, zero, suc, ◌≤◌, Bool, true, false, cond, eqb, List, [], ◌∷◌, ◌++◌, length, drop, Option, Some, None, refl, sym, ap, subst, ◌∙◌, arith, inl, inr, eq-eqb}
-use Rattle.std.specs.Prelude.{◌||◌, ◌&&◌, ◌-◌, ◌==◌, slice_get, is_some, is_none, not, option_map, Result, Ok, Err}
+use Rattle.std.specs.Prelude.{◌||◌, ◌&&◌, ◌-◌, slice_get, is_some, is_none, not, option_map, Result, Ok, Err}
 use Rattle.std.proofs.lemmas.Bool.{ne_eqb, cases_eq}
 use Rattle.std.specs.Borrow.{Bor}
 use Rattle.sv_rpc.specs.declared.record_buf.RpcFault.{RpcFault}
 use Rattle.sv_rpc.specs.declared.record_buf.RpcFault.TheVariants.{RecordTooLong}
 use Rattle.sv_rpc.specs.Record.{Tail, Header, Data, TooLong}
-use Rattle.sv_rpc.specs.RecordBuf.{StandsFor, room_of, used_by, next_among}
+use Rattle.sv_rpc.specs.RecordBuf.{room_of, used_by, next_among}
 use Rattle.sv_rpc.specs.Stream.{read, records_of, tail_of}
 use Rattle.sv_rpc.proofs.OneReading.{read_alone}
 use Rattle.sv_server.specs.Act.{ConnAct, CallTaken}

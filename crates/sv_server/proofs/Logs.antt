@@ -1,6 +1,6 @@
 -- What an event of one connection leaves, from the parts of the server.
-use Rattle.std.proofs.Common.{◌≡◌, ◌≢◌, ℕ, ◌<◌, ◌≤◌, Bool, true, false, List, [], ◌∷◌, ◌++◌, length, get_or, set, refl, sym, ap, subst, ◌∙◌, arith, inl, inr}
-use Rattle.std.specs.Prelude.{Result, Ok, Err, is_some, not, nat_lt, map, ◌||◌}
+use Rattle.std.proofs.Common.{◌≡◌, ◌≢◌, ℕ, ◌<◌, Bool, false, List, ◌∷◌, ◌++◌, length, get_or, set, refl, sym, ap, subst, ◌∙◌, arith, inl, inr}
+use Rattle.std.specs.Prelude.{Result, Ok, Err, is_some, not, map}
 use Rattle.std.proofs.lemmas.Bool.{le-ltb, cases_eq}
 use Rattle.std.proofs.lemmas.List.{get_or-set_same, get_or-set_other}
 use Rattle.sv_links.specs.Links.{closing}
@@ -74,7 +74,8 @@ closes state config log c old new shared rep sixteen lt e goes freed =
     (λ d ne. of_shared d links (On c PortClosed ∷ log) ∙ of_other c d PortClosed log ne)
 
 -- a Turn of an open connection
-pub turned : (state : State) (config : Config) (log : List Act) (c : ℕ) (kept : Connection) (shared : KeptBench) (result : Result Did Refused)
+pub turned : (state : State) (config : Config) (log : List Act) (c : ℕ) (kept : Connection) (shared : KeptBench)
+    (result : Result Did Refused)
     → Represents state config log → length state.connections ≡ 16 → c < 16 → is_shut c log ≡ false
     → Turns config c log result kept shared
     → Acts config (Turn c) log result (record { connections = set state.connections c kept; bench = shared })

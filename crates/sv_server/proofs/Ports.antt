@@ -1,12 +1,11 @@
 -- The lines of ports are written one after the other, and what one of them shows is not another's.
 use Rattle.std.proofs.Common.{◌≡◌, ℕ, zero, suc, ◌<◌, ◌≤◌, List, [], ◌∷◌, ◌++◌, length, map, Option, refl, sym, ap, inl, inr, subst, ◌∙◌, append_assoc, append-nil, arith}
-use Rattle.std.specs.Prelude.{Result, Ok, Err, is_some, ⊤, IsErr}
+use Rattle.std.specs.Prelude.{Result, Ok, Err, ⊤, IsErr}
 use Rattle.std.specs.Io.KnownBytes.{Appends}
 use Rattle.std.proofs.lemmas.Bool.{lt-ltb, le-ltb, cases_lt}
 use Rattle.std.proofs.lemmas.List.{map-append}
 use Rattle.sv_server.specs.declared.event.Config.{Config}
 use Rattle.sv_server.specs.declared.event.Port.{Port}
-use Rattle.sv_server.specs.declared.event.Port.TheVariants.{Conn}
 use Rattle.sv_server.specs.declared.print.WriteFault.{WriteFault}
 use Rattle.sv_server.specs.Event.{PlainEvent}
 use Rattle.sv_server.specs.Act.{Act, BytesTaken}

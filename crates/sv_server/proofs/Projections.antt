@@ -1,10 +1,11 @@
 -- The two projections of a log, over acts in front of it.
-use Rattle.std.proofs.Common.{◌≡◌, ◌≢◌, ℕ, ◌+◌, true, false, List, [], ◌∷◌, ◌++◌, refl, sym, ap, ◌∙◌, append_assoc, append-nil, eq-eqb}
+use Rattle.std.proofs.Common.{◌≡◌, ◌≢◌, ℕ, true, List, [], ◌∷◌, ◌++◌, refl, sym, ap, ◌∙◌, append_assoc, append-nil, eq-eqb}
 use Rattle.std.specs.Prelude.{map, nat_lt}
 use Rattle.std.proofs.lemmas.Bool.{ne_eqb}
 use Rattle.sv_links.specs.Links.{LinkAct, made}
 use Rattle.sv_exchange.specs.Exchange.{ExchangeAct}
-use Rattle.sv_server.specs.Act.{Act, ConnAct, BenchAct, Replied, CallTaken, Faulted, Linked, Exchanged, On, Bench, of, bench, link_acts, exchange_acts, ticks}
+use Rattle.sv_server.specs.declared.event.Config.{Config}
+use Rattle.sv_server.specs.Act.{Act, ConnAct, BenchAct, CallTaken, Faulted, Linked, Exchanged, On, Bench, of, bench, link_acts, exchange_acts, ticks}
 use Rattle.sv_server.specs.Dispatch.{Verdict, NoCall, Replies}
 use Rattle.sv_server.specs.History.{verdict_acts, makes_link}
 use Rattle.sv_server.specs.KeptConnection.{Connection, IsConnection}
@@ -57,7 +58,8 @@ ticks-exchange (act ∷ steps) acts = ticks-exchange steps acts
 -- ---- the acts of a record that was taken
 
 -- what stands for them
-pub concluded_stands : (config : _) (c : ℕ) (log : List Act) (call : List ℕ) (verdict : Verdict) (connection : Connection) (shared : KeptBench)
+pub concluded_stands : (config : Config) (c : ℕ) (log : List Act) (call : List ℕ) (verdict : Verdict) (connection : Connection)
+    (shared : KeptBench)
     → Concludes verdict config (CallTaken call ∷ of c log) (bench log) connection shared
     → let new = (verdict_acts c verdict ++ On c (CallTaken call) ∷ []) ++ log in
     IsConnection connection (of c new) × IsBench shared config (bench new) × ((d : ℕ) → d ≢ c → of d new ≡ of d log)
@@ -73,7 +75,8 @@ concluded_stands config c log call (Replies adds bytes) connection shared (mine,
     of_shared c adds (On c (CallTaken call) ∷ log) ∙ of_mine c (CallTaken call) log in (
       rw (eq-eqb c c refl, parts, here) mine,
       rw (parts, bench_shared adds (On c (CallTaken call) ∷ log)) all,
-      λ d ne. rw (ne_eqb c d (λ e. ne (sym e)), parts) (of_shared d adds (On c (CallTaken call) ∷ log) ∙ of_other c d (CallTaken call) log ne),
+      λ d ne. rw (ne_eqb c d (λ e. ne (sym e)), parts)
+          (of_shared d adds (On c (CallTaken call) ∷ log) ∙ of_other c d (CallTaken call) log ne),
     )
 
 -- whether they make a link

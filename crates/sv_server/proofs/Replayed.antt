@@ -34,7 +34,8 @@ Left config history event fault new first last = (text : List ℕ) × (after : L
     × StandsFor new config after × Appends first last text
 
 -- the lines that were written, behind a refusal's line
-writes_all : (did : Result Did Refused) (log : List Act) (history : List PlainEvent) (r : Result ⊤ WriteFault) (fault : Result ⊤ ReplayFault)
+writes_all : (did : Result Did Refused) (log : List Act) (history : List PlainEvent) (r : Result ⊤ WriteFault)
+    (fault : Result ⊤ ReplayFault)
     (config : Config) (new : State) (head text : List ℕ)
     → did ≢ Err refused.NoMemory → ports_after did ≡ ports → head ≡ head_of did → Told r fault → ShowsAll config history log r new text
     → (after : List PlainEvent) × (now : List Act) × Writes did log history fault (head ++ text) after × StandsBy new config after now

@@ -100,6 +100,11 @@ Written xid writer answer = text_of writer ≡ concat (map spelling (reply_field
 pub answer_is_short : (xid : ℕ) (answer : Answer) → IsShort answer
     → length (concat (map spelling (reply_fields xid (reply_of answer) ++ fields_of answer))) ≤ 8228
 answer_is_short xid (answers.Header reply) short =
-    omega (arith, reply_is_short xid reply, ap (λ (fs : List Field). length (concat (map spelling fs))) (append-nil (reply_fields xid reply)))
+    omega (
+      arith,
+      reply_is_short xid reply,
+      ap (λ (fs : List Field). length (concat (map spelling fs)))
+          (append-nil (reply_fields xid reply)),
+    )
 answer_is_short xid (answers.Port port) short = reply_fits xid (Unsigned port ∷ []) (omega arith)
 answer_is_short xid (answers.Result outcome) short = reply_fits xid (result_fields (plain_result outcome)) (result_is_short _ short)

@@ -36,7 +36,8 @@ pub waits_within : (c : ℕ) (state : State) (config : Config) (log : List Act) 
     → c ≤ 15
 waits_within c state config log rep o = elim (cases_lt c 16) [
   | inl below_it ↦ omega arith
-  | inr above ↦ (let shut : is_open (of c log) ≡ false = ap is_open (rep.beyond c above) in absurd (let z : true ≡ false = sym o ∙ shut in cc))
+  | inr above ↦ (let shut : is_open (of c log) ≡ false = ap is_open (rep.beyond c above) in absurd
+      (let z : true ≡ false = sym o ∙ shut in cc))
 ]
 
 -- what a Took of all that waits is refused for: nothing
@@ -50,7 +51,8 @@ took_free c count config log within o e =
 -- so it is done
 makes_none : (c count : ℕ) (config : Config) (log : List Act) (result : Result Did Refused) (new : State)
     → Acts config (Took (Conn c) count) log result new → result ≢ Err NoMemory
-makes_none c count config log result new acts e = absurd (let z = (subst (λ (r : Result Did Refused). Acts config (Took (Conn c) count) log r new) e acts).1 in cc)
+makes_none c count config log result new acts e = absurd (let z =
+    (subst (λ (r : Result Did Refused). Acts config (Took (Conn c) count) log r new) e acts).1 in cc)
 
 took_done : (c count : ℕ) (config : Config) (log : List Act) (result : Result Did Refused) (new : State)
     → refusal config (Took (Conn c) count) log ≡ None → Acts config (Took (Conn c) count) log result new

@@ -6,11 +6,10 @@ use Rattle.sv_server.specs.declared.event.Did.{Did}
 use Rattle.sv_server.specs.declared.event.Refused.{Refused}
 use Rattle.sv_server.specs.declared.event.Refused.TheVariants.{NoMemory, ConnInUse, NoConn, NoRoom, NotSent, NoDial, NotRefusable, BadChannel, BadInput, TimeOver}
 use Rattle.sv_server.specs.Event.{PlainEvent, IsEvent}
-use Rattle.sv_server.specs.Act.{Act, bench, of}
+use Rattle.sv_server.specs.Act.{Act, bench}
 use Rattle.sv_server.specs.Settling.{step_of, SettlesIn, Settles}
-use Rattle.sv_server.specs.History.{own_acts, IsLogOf, Answers}
+use Rattle.sv_server.specs.History.{own_acts, Answers}
 use Rattle.sv_server.specs.Laws.{OneLog}
-use Rattle.sv_server.specs.KeptConnection.{IsConnection}
 use Rattle.sv_server.specs.KeptBench.{IsBench, Bench as KeptBench}
 use Rattle.sv_server.specs.State.{State, Represents, StandsFor}
 use Rattle.sv_server.specs.Inside.Acting.{Acts, Settled}

@@ -1,12 +1,11 @@
 -- The steps that are due, one after the other, settle a log.
-use Rattle.std.proofs.Common.{◌≡◌, ◌≢◌, ℕ, suc, zero, Bool, true, false, List, [], ◌∷◌, ◌++◌, refl, sym, ap, ◌∙◌}
+use Rattle.std.proofs.Common.{◌≡◌, ◌≢◌, ℕ, suc, zero, Bool, true, false, List, [], ◌∷◌, ◌++◌, refl, ap, ◌∙◌}
 use Rattle.std.specs.Prelude.{map}
 use Rattle.sv_exchange.specs.Exchange.{ExchangeAct, due}
 use Rattle.sv_exchange.specs.ExchangeHeld.{Held, StandsFor as HoldsExchange}
-use Rattle.sv_links.specs.Table.{Table}
 use Rattle.sv_server.specs.declared.event.Config.{Config}
 use Rattle.sv_server.specs.Act.{Act, BenchAct, Exchanged, Bench, of, bench, exchange_acts}
-use Rattle.sv_server.specs.Settling.{exchange_step, bench_step, step_of, SettlesIn, Settles}
+use Rattle.sv_server.specs.Settling.{exchange_step, bench_step, step_of, SettlesIn}
 use Rattle.sv_server.specs.KeptBench.{IsBench, Bench as KeptBench}
 use Rattle.sv_server.specs.Inside.Acting.{ExchangeStep, StepDone, Settled}
 use Rattle.sv_server.proofs.Projections.{of_shared, bench_shared, link_acts-exchange, exchange_acts-exchange, ticks-exchange}

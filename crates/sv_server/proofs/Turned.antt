@@ -1,5 +1,5 @@
 -- What a Turn of an open connection leaves.
-use Rattle.std.proofs.Common.{◌≡◌, ℕ, Bool, true, false, cond, List, ◌∷◌, Option, Some, None, refl, sym, ap, ◌∙◌}
+use Rattle.std.proofs.Common.{◌≡◌, ℕ, Bool, true, false, List, ◌∷◌, Option, Some, refl}
 use Rattle.std.specs.Prelude.{nat_lt, not, Ok, Err}
 use Rattle.sv_exchange.specs.declared.read.Read.{Read}
 use Rattle.sv_exchange.specs.ReadGiven.{IsReadOf}
@@ -12,7 +12,7 @@ use Rattle.sv_server.specs.declared.event.Role.{Role}
 use Rattle.sv_server.specs.declared.event.Did.TheVariants.{Done}
 use Rattle.sv_server.specs.declared.event.Refused.TheVariants.{NoMemory}
 use Rattle.sv_server.specs.Act.{Act, CallTaken, of, bench}
-use Rattle.sv_server.specs.Connection.{open_role, next_call, is_idle, free}
+use Rattle.sv_server.specs.Connection.{open_role, next_call, free}
 use Rattle.sv_server.specs.Dispatch.{considered}
 use Rattle.sv_server.specs.KeptConnection.{Connection}
 use Rattle.sv_server.specs.KeptBench.{Bench}

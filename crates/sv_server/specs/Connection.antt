@@ -85,8 +85,7 @@ abbrev pub waiting_on : Port → List Act → List ℕ
 waiting_on (Conn c) log = waiting (of c log)
 waiting_on (Intr c) log = []
 
--- The call to take next (RFC 5531, section 11): the first record that didn't come to its end, unless it was taken already, or a record was no
--- call.
+-- The call to take next: the first record that didn't come to its end, unless it was taken already, or a record was no call.
 abbrev pub next_call : List ConnAct → Option (List ℕ)
 next_call acts = if took_no_call acts || is_busy acts then None else slice_get (records_of (stream acts)) (ended acts)
 

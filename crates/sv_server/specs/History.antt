@@ -23,7 +23,8 @@ verdict_acts c (Replies adds bytes) = On c (Replied bytes) ∷ map Bench adds
 
 -- the acts of a Turn: those of the connection's next call, where there is one to take
 abbrev pub turn_acts : Config → ℕ → Option Role → Option (List ℕ) → List BenchAct → List Act
-turn_acts config c (Some role) (Some call) acts = verdict_acts c (considered config c role (call_at call) acts) ++ On c (CallTaken call) ∷ []
+turn_acts config c (Some role) (Some call) acts =
+    verdict_acts c (considered config c role (call_at call) acts) ++ On c (CallTaken call) ∷ []
 turn_acts config c _ _ acts = []
 
 -- The acts that an event adds to the log by itself. Closing a connection destroys its links, by rising number.
@@ -57,19 +58,20 @@ last_clock = 9223372036854775807
 abbrev pub turn_refusal : List ConnAct → Option Refused
 turn_refusal acts = if is_idle acts then None else (if nat_lt (free acts) 8232 then Some NoRoom else None)
 
+abbrev pub unless_shut : ℕ → List Act → Option Refused → Option Refused
+unless_shut c log other = if is_shut c log then Some NoConn else other
+
 -- What refuses an event: the first, in the order of checks, that holds. Want of memory isn't among them.
 abbrev pub refusal : Config → PlainEvent → List Act → Option Refused
 refusal config (Open c role) log = if nat_lt 15 c then Some NoConn else (if is_open (of c log) then Some ConnInUse else None)
-refusal config (Bytes c piece) log =
-    if is_shut c log then Some NoConn else (if nat_lt (room (of c log)) (length piece) then Some NoRoom else None)
-refusal config (Turn c) log = if is_shut c log then Some NoConn else turn_refusal (of c log)
-refusal config (Refuse c) log = if is_shut c log then Some NoConn else Some NotRefusable
-refusal config (Took (Conn c) count) log =
-    if is_shut c log then Some NoConn else (if nat_lt (length (waiting (of c log))) count then Some NotSent else None)
+refusal config (Bytes c piece) log = unless_shut c log (if nat_lt (room (of c log)) (length piece) then Some NoRoom else None)
+refusal config (Turn c) log = unless_shut c log (turn_refusal (of c log))
+refusal config (Refuse c) log = unless_shut c log (Some NotRefusable)
+refusal config (Took (Conn c) count) log = unless_shut c log (if nat_lt (length (waiting (of c log))) count then Some NotSent else None)
 refusal config (Took (Intr c) count) log = Some NoConn
-refusal config (Close (Conn c)) log = if is_shut c log then Some NoConn else None
+refusal config (Close (Conn c)) log = unless_shut c log None
 refusal config (Close (Intr c)) log = Some NoConn
-refusal config (Dialed c ok) log = if is_shut c log then Some NoConn else Some NoDial
+refusal config (Dialed c ok) log = unless_shut c log (Some NoDial)
 refusal config (Input channel microvolts) log =
     if not (is_channel channel) then Some BadChannel else (if is_beyond microvolts then Some BadInput else None)
 refusal config External log = None

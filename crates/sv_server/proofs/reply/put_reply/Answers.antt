@@ -6,18 +6,28 @@ use Rattle.sv_server.proofs.reply.put_reply.Goals as goal
 
 pub put_record-requires-clause-fits : goal.put_record-requires-clause-fits
 put_record-requires-clause-fits g c =
-    omega (arith, ap length (c.text.ensures ∙ c.write_answer.ensures.written), answer_is_short c.args.xid c.args.answer.now c.requires.short,
-    c.requires.room)
+    omega (
+      arith,
+      ap length (c.text.ensures ∙ c.write_answer.ensures.written),
+      answer_is_short c.args.xid c.args.answer.now c.requires.short,
+      c.requires.room,
+    )
 
 pub put_record-requires-clause-short : goal.put_record-requires-clause-short
 put_record-requires-clause-short g c =
-    omega (arith, ap length (c.text.ensures ∙ c.write_answer.ensures.written), answer_is_short c.args.xid c.args.answer.now c.requires.short)
+    let text = c.text.ensures ∙ c.write_answer.ensures.written in
+    omega (arith, ap length text, answer_is_short c.args.xid c.args.answer.now c.requires.short)
 
 pub returns-clause-sent : goal.returns-clause-sent
 returns-clause-sent g c =
-    c.put_record.ensures.sent ∙ ap (λ (t : List ℕ). c.args.out.now.items ++ fragment true t) (c.text.ensures ∙ c.write_answer.ensures.written)
+    c.put_record.ensures.sent ∙ ap (λ (t : List ℕ). c.args.out.now.items ++ fragment true t)
+    (c.text.ensures ∙ c.write_answer.ensures.written)
 
 pub returns-clause-grows : goal.returns-clause-grows
 returns-clause-grows g c =
-    omega (arith, c.put_record.ensures.grows, ap length (c.text.ensures ∙ c.write_answer.ensures.written),
-    answer_is_short c.args.xid c.args.answer.now c.requires.short)
+    omega (
+      arith,
+      c.put_record.ensures.grows,
+      ap length (c.text.ensures ∙ c.write_answer.ensures.written),
+      answer_is_short c.args.xid c.args.answer.now c.requires.short,
+    )

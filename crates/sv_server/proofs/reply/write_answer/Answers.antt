@@ -1,4 +1,4 @@
-use Rattle.std.proofs.Common.{◌≡◌, ◌∷◌, ◌++◌, List, ℕ, [], ap, sym, subst, ◌∙◌, arith, length}
+use Rattle.std.proofs.Common.{◌≡◌, ◌∷◌, ◌++◌, List, ℕ, [], ap, sym, subst, ◌∙◌, arith}
 use Rattle.std.specs.Prelude.{map}
 use Rattle.std.specs.List.{concat}
 use Rattle.std.proofs.lemmas.List.{append-nil}
@@ -24,7 +24,8 @@ returns-in-Header-clause-written c =
 pub returns-in-Port-clause-written : goal.returns-in-Port-clause-written
 returns-in-Port-clause-written c =
     let fields : List Field = Unsigned c.in-Port.port ∷ [] in
-    let written = each_last (spelling (Unsigned c.in-Port.port)) c.u32.result c.write_reply-in-Port.new.writer c.u32.new.self c.u32.ensures.exact in
+    let word = spelling (Unsigned c.in-Port.port) in
+    let written = each_last word c.u32.result c.write_reply-in-Port.new.writer c.u32.new.self c.u32.ensures.exact in
     let text = both_are_written c.args.xid fields c.write_reply-in-Port.result c.u32.result c.args.writer.now
     c.write_reply-in-Port.new.writer c.u32.new.self c.requires.empty c.requires.room (omega arith)
     c.write_reply-in-Port.ensures.writes written in
@@ -34,6 +35,7 @@ pub returns-in-Result-clause-written : goal.returns-in-Result-clause-written
 returns-in-Result-clause-written c =
     let brief = subst IsShort c.in-Result.is c.requires.short in
     let text = both_are_written c.args.xid (result_fields (plain_result c.in-Result.outcome)) c.write_reply-in-Result.result
-    c.write_result.result c.args.writer.now c.write_reply-in-Result.new.writer c.write_result.new.writer c.requires.empty c.requires.room (result_is_short (plain_result c.in-Result.outcome) brief)
+    c.write_result.result c.args.writer.now c.write_reply-in-Result.new.writer c.write_result.new.writer c.requires.empty c.requires.room
+    (result_is_short (plain_result c.in-Result.outcome) brief)
     c.write_reply-in-Result.ensures.writes (c.write_result.ensures.writes (omega (arith, brief))) in
     subst (Written c.args.xid c.write_result.new.writer) (sym c.in-Result.is) text

@@ -1,7 +1,7 @@
-use Rattle.std.proofs.Common.{◌≡◌, ℕ, ◌∷◌, List, subst}
+use Rattle.std.proofs.Common.{ℕ, ◌∷◌, subst}
 use Rattle.sv_rpc.specs.declared.reply.Reply.TheVariants.{Success}
 use Rattle.sv_vxi.specs.Results.{Outcome, result_fields}
-use Rattle.sv_exchange.specs.Exchange.{ExchangeAct, ResponseRead}
+use Rattle.sv_exchange.specs.Exchange.{ResponseRead}
 use Rattle.sv_exchange.specs.ExchangeHeld.{StandsFor as HoldsExchange}
 use Rattle.sv_server.specs.Act.{Replied, exchange_acts}
 use Rattle.sv_server.specs.Reply.{reply_record}
@@ -16,10 +16,10 @@ returns g c = λ config acts before is busy old.
       subst (λ (o : Outcome). IsConnection c.answer.new.self (Replied (reply_record c.args.xid Success (result_fields o)) ∷ acts))
           (read_is c.peek-read.result _ c.args.most c.args.term given) (c.answer.ensures acts is busy),
       (
-      shared.0,
-      subst (λ (n : ℕ). HoldsExchange c.take.new.self (ResponseRead n ∷ exchange_acts before)) given.size
-          (c.take.ensures.stands (exchange_acts before) shared.1),
-      shared.2,
-      shared.3,
+        shared.0,
+        subst (λ (n : ℕ). HoldsExchange c.take.new.self (ResponseRead n ∷ exchange_acts before)) given.size
+            (c.take.ensures.stands (exchange_acts before) shared.1),
+        shared.2,
+        shared.3,
       ),
     )

@@ -1,4 +1,4 @@
-use Rattle.std.proofs.Common.{◌≡◌, false, refl, sym, ◌∙◌}
+use Rattle.std.proofs.Common.{◌≡◌, false, refl, sym}
 use Rattle.std.specs.Prelude.{nat_lt, Some}
 use Rattle.sv_server.specs.Act.{of, bench}
 use Rattle.sv_server.specs.Connection.{next_call, free}

@@ -13,6 +13,7 @@ loop-rest-preserved g c =
     let parts : rest ≡ take count rest ++ c.split_at.result.1.now =
     sym (take-append-drop count rest) ∙ ap (λ (l : List ℕ). take count rest ++ l) (sym c.split_at.ensures.back) in
     let size : length rest - count ≡ length c.split_at.result.1.now = omega (arith, c.split_at.ensures.back_len) in
+    let kept = c.loop-rest.invariant.keeps in
     record {
       fits = λ _. subst (λ (n : ℕ). InRoom c.take_in-count.new.self n) size c.take_in-count.ensures.fits;
       goes = (
@@ -21,5 +22,5 @@ loop-rest-preserved g c =
         GoesOn-then c.args.self.now c.loop-rest.self c.take_in-count.new.self before.0
             (take count rest) before.2 c.take_in-count.ensures.goes,
       );
-      keeps = keeps_then c.args.self.now c.loop-rest.self c.take_in-count.new.self c.loop-rest.invariant.keeps c.take_in-count.ensures.keeps;
+      keeps = keeps_then c.args.self.now c.loop-rest.self c.take_in-count.new.self kept c.take_in-count.ensures.keeps;
     }

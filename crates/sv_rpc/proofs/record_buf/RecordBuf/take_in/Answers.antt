@@ -20,7 +20,8 @@ returns-in-Data-clause-goes g c =
 
 pub returns-in-Header-clause-keeps : goal.returns-in-Header-clause-keeps
 returns-in-Header-clause-keeps g c =
-    subst (λ (h : Held). Keeps c.args.self.now h) (sym c.take_header.ensures.value) (byte_keeps c.args.self.now.records c.args.self.now.tail _)
+    subst (λ (h : Held). Keeps c.args.self.now h) (sym c.take_header.ensures.value)
+    (byte_keeps c.args.self.now.records c.args.self.now.tail _)
 
 pub returns-in-Data-clause-keeps : goal.returns-in-Data-clause-keeps
 returns-in-Data-clause-keeps g c =

@@ -18,5 +18,6 @@ returns-in-Refuse-clause-acts g c = λ config log rep.
 pub returns-in-Dialed-clause-acts : goal.returns-in-Dialed-clause-acts
 returns-in-Dialed-clause-acts g c = λ config log rep.
     subst (λ (e : Event). Acts config (plain e) log (Err c.refuse-in-Dialed.result) c.args.self.now) (sym c.in-Dialed.is)
-    (either_refused (λ (r : Refused). Acts config (Dialed c.in-Dialed.conn c.in-Dialed.ok) log (Err r) c.args.self.now) (is_shut c.in-Dialed.conn log)
+    (either_refused (λ (r : Refused). Acts config (Dialed c.in-Dialed.conn c.in-Dialed.ok) log (Err r) c.args.self.now)
+    (is_shut c.in-Dialed.conn log)
     NoDial _ (c.refuse-in-Dialed.ensures config log rep) (λ shut. rw shut refl) (λ here. rw here refl))

@@ -13,7 +13,8 @@ returns-in_err-did-clause-answers g c = λ config history s. (
   s.is_log,
   subst (λ (r : Result Did Refused). Answers config (plain c.args.event) s.log r)
       (sym (passed_on c.from_residual.result c.in_err-did.field-0.0 c.from_residual.ensures.0 c.from_residual.ensures.1))
-      (answered config (plain c.args.event) s.log (Err c.in_err-did.field-0.0) c.act.new.self (c.in_err-did.ensures.acts config s.log s.represents)),
+      (answered config (plain c.args.event) s.log (Err c.in_err-did.field-0.0) c.act.new.self
+      (c.in_err-did.ensures.acts config s.log s.represents)),
 )
 
 pub returns-clause-answers : goal.returns-clause-answers

@@ -1,8 +1,7 @@
-use Rattle.std.proofs.Common.{refl, sym, ◌∙◌, ◌++◌, ◌∷◌, [], append_assoc, subst, List, arith}
+use Rattle.std.proofs.Common.{refl, sym, ◌∙◌, ◌∷◌, [], append_assoc, arith}
 use Rattle.std.specs.Prelude.{map}
 use Rattle.sv_links.specs.Links.{closing}
-use Rattle.sv_server.specs.Act.{Act, PortClosed, Linked, On, Bench, of, bench, link_acts}
-use Rattle.sv_server.specs.State.{Represents}
+use Rattle.sv_server.specs.Act.{PortClosed, Linked, On, Bench, of, bench, link_acts}
 use Rattle.sv_server.proofs.Logs.{connection_of, open_is, shut_is, closes}
 use Rattle.sv_server.proofs.server.Server.close.Goals as goal
 

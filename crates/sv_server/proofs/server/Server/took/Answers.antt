@@ -1,4 +1,4 @@
-use Rattle.std.proofs.Common.{ℕ, List, length, refl, sym, ap, ◌∙◌, arith}
+use Rattle.std.proofs.Common.{length, refl, sym, ap, ◌∙◌, arith}
 use Rattle.std.proofs.lemmas.Bool.{le-ltb}
 use Rattle.sv_server.specs.Act.{BytesTaken, of}
 use Rattle.sv_server.specs.Connection.{waiting}
@@ -12,7 +12,11 @@ returns-clause-acts g c = λ config log rep.
     let is = connection_of _ config log c.args.conn c.index_mut-connection.result.now state (omega arith) at in
     let opened = open_is c.index_mut-connection.result.now _ _ is (sym c.is_open.ensures ∙ c.if-not-is_open.false) in
     let bytes = c.waiting.ensures.answer _ is in (
-      rw (shut_is c.args.conn log _ (omega arith) opened, le-ltb (length (waiting (of c.args.conn log))) c.args.count (omega (arith, ap length bytes))) refl,
+      rw (
+        shut_is c.args.conn log _ (omega arith) opened,
+        le-ltb (length (waiting (of c.args.conn log))) c.args.count
+            (omega (arith, ap length bytes)),
+      ) refl,
       refl,
       rw c.from-2.ensures (one_act _ config log c.args.conn c.index_mut-connection.result.now c.took.new.self
           (BytesTaken c.args.count) state c.self.invariant (omega arith) at (c.took.ensures (of c.args.conn log))),

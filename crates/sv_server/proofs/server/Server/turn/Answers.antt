@@ -1,6 +1,6 @@
-use Rattle.std.proofs.Common.{refl, sym, ap, ◌∙◌, arith}
+use Rattle.std.proofs.Common.{sym, ap, ◌∙◌, arith}
 use Rattle.std.specs.Prelude.{is_some}
-use Rattle.sv_server.proofs.Logs.{connection_of, open_is, shut_is, turned}
+use Rattle.sv_server.proofs.Logs.{connection_of, shut_is, turned}
 use Rattle.sv_server.proofs.server.Server.turn.Goals as goal
 
 pub returns-clause-acts : goal.returns-clause-acts
