@@ -1,4 +1,4 @@
-use Rattle.std.proofs.Common.{sym, subst}
+use Rattle.std.proofs.Common.{rules, sym, subst}
 use Rattle.std.specs.Prelude.{Result, Ok, Err}
 use Rattle.sv_server.specs.declared.event.Did.{Did}
 use Rattle.sv_server.specs.declared.event.Refused.{Refused}
@@ -25,3 +25,9 @@ pub returns-clause-stands : goal.returns-clause-stands
 returns-clause-stands g c = λ config history s.
     stands_after config history _ c.args.self.now _ c.in_ok-did.did c.settle.new.self s c.act.ensures.within
     (rw (← c.self.view_is) at c.in_ok-did.ensures.acts) c.settle.ensures
+
+pub returns-in_err-did-clause-stands : goal.returns-in_err-did-clause-stands
+returns-in_err-did-clause-stands g c = search rules
+
+pub returns-in_err-did-clause-err : goal.returns-in_err-did-clause-err
+returns-in_err-did-clause-err g c = search rules
