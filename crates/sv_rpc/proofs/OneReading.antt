@@ -1,12 +1,12 @@
 -- A stream has one reading: a function of the bytes gives it.
-use Rattle.std.proofs.Common.{◌≡◌, ℕ, zero, suc, ◌+◌, ◌-◌, ◌%◌, ◌<◌, ◌≤◌, ◌^◌, Bool, true, false, cond, leb, ltb, List, [], ◌∷◌, ◌++◌, length, take, drop, map, refl, sym, ap, subst, ◌∙◌, append_assoc, arith, lt-ltb, le-ltb}
+use Rattle.std.proofs.Common.{◌≡◌, ℕ, zero, suc, ◌+◌, ◌-◌, ◌%◌, ◌<◌, ◌≤◌, ◌^◌, Bool, true, false, leb, List, [], ◌∷◌, ◌++◌, length, drop, map, refl, sym, ap, subst, ◌∙◌, append_assoc, arith, lt-ltb, le-ltb}
 use Rattle.std.specs.List.{concat, flat_map, AllByRecursion}
 use Rattle.std.specs.Int.{w32, from_be_bytes}
 use Rattle.std.proofs.lemmas.Bool.{le-leb, lt-leb}
 use Rattle.std.proofs.lemmas.Nat.{from_be_bytes-to_be_bytes_4}
 use Rattle.std.proofs.lemmas.List.{append-nil, length-append, take_at, drop_at}
 use Rattle.sv_rpc.specs.Record.{header_of, fragment, Sent, bytes_of, record_of, IsTaken, Tail, Header, Data, TooLong, IsTail, Splits}
-use Rattle.sv_rpc.specs.Stream.{Reading, read_on, read_data, read, reading, records_of, tail_of}
+use Rattle.sv_rpc.specs.Stream.{Reading, read_on, read_data, read, reading}
 use Rattle.sv_rpc.specs.Laws.{OneReading, ReadAlone}
 
 -- behind a payload the bytes are read so
