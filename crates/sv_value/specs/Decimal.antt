@@ -1,5 +1,5 @@
 -- How decimal numbers are spelled (IEEE 488.2, 7.7.2 and 7.7.3): a sign, digits with a point, an exponent, and a suffix.
-use Rattle.std.specs.Prelude.{ℕ, ◌==◌, ◌&&◌, ◌||◌, not, Bool, true, false, List, [], ◌∷◌, take, drop, if◌then◌else◌}
+use Rattle.std.specs.Prelude.{ℕ, ◌==◌, ◌&&◌, ◌||◌, not, Bool, true, List, [], ◌∷◌, take, drop, if◌then◌else◌}
 use Rattle.sv_text.specs.Front.{is_empty, has_minus}
 use Rattle.std.specs.List.{position_or_len}
 use Rattle.std.specs.Char.{is_ascii_digit, is_ascii_alphabetic}

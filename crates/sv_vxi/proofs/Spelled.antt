@@ -16,44 +16,23 @@ generic_begins : (proc : ℕ) (lid : ℤ) (flags lock_timeout io_timeout : ℕ) 
     → generic_at proc bytes ≡ Ok (generic proc lid flags lock_timeout io_timeout)
 unfolding generic_at
 generic_begins proc lid flags lock_timeout io_timeout bytes after h =
-    rw (
-      signed_begins bytes h.0 lid h.1,
-      unsigned_begins h.0 h.2.0 flags h.2.1,
-      unsigned_begins h.2.0 h.2.2.0 lock_timeout h.2.2.1,
-      unsigned_begins h.2.2.0 h.2.2.2.0 io_timeout h.2.2.2.1,
-    ) refl
+    rw (signed_begins _ _ _ h.1, unsigned_begins _ _ _ h.2.1, unsigned_begins _ _ _ h.2.2.1, unsigned_begins _ _ _ h.2.2.2.1) refl
 
 link_begins : (proc : ℕ) (lid : ℤ) (bytes after : List ℕ) → BeginsAll bytes (link_fields lid) after
     → link_at proc bytes ≡ Ok (of_link proc lid)
 unfolding link_at
-link_begins proc lid bytes after h = rw (signed_begins bytes h.0 lid h.1) refl
+link_begins proc lid bytes after h = rw (signed_begins _ _ _ h.1) refl
 
 pub arguments_begin : (a : Arguments) (bytes after : List ℕ) → BeginsWith bytes a after → arguments_at (procedure_of a) bytes ≡ Ok a
 unfolding create_link_at device_write_at device_read_at device_lock_at device_enable_srq_at device_docmd_at create_intr_chan_at
 arguments_begin (CreateLink client_id lock_device lock_timeout device) bytes after (bounds, h) =
-    rw (
-      signed_begins bytes h.0 client_id h.1,
-      boolean_begins h.0 h.2.0 lock_device h.2.1,
-      unsigned_begins h.2.0 h.2.2.0 lock_timeout h.2.2.1,
-      text_begins h.2.2.0 device h.2.2.2.0 h.2.2.2.1,
-    ) refl
+    rw (signed_begins _ _ _ h.1, boolean_begins _ _ _ h.2.1, unsigned_begins _ _ _ h.2.2.1, text_begins _ _ _ h.2.2.2.1) refl
 arguments_begin (DeviceWrite lid io_timeout lock_timeout flags text) bytes after (bounds, h) =
-    rw (
-      signed_begins bytes h.0 lid h.1,
-      unsigned_begins h.0 h.2.0 io_timeout h.2.1,
-      unsigned_begins h.2.0 h.2.2.0 lock_timeout h.2.2.1,
-      unsigned_begins h.2.2.0 h.2.2.2.0 flags h.2.2.2.1,
-      text_begins h.2.2.2.0 text h.2.2.2.2.0 h.2.2.2.2.1,
-    ) refl
+    rw (signed_begins _ _ _ h.1, unsigned_begins _ _ _ h.2.1, unsigned_begins _ _ _ h.2.2.1, unsigned_begins _ _ _ h.2.2.2.1)
+    (rw (text_begins _ _ _ h.2.2.2.2.1) refl)
 arguments_begin (DeviceRead lid request_size io_timeout lock_timeout flags term_char) bytes after (bounds, h) =
-    rw (
-      signed_begins bytes h.0 lid h.1,
-      unsigned_begins h.0 h.2.0 request_size h.2.1,
-      unsigned_begins h.2.0 h.2.2.0 io_timeout h.2.2.1,
-      unsigned_begins h.2.2.0 h.2.2.2.0 lock_timeout h.2.2.2.1,
-      unsigned_begins h.2.2.2.0 h.2.2.2.2.0 flags h.2.2.2.2.1,
-      unsigned_begins h.2.2.2.2.0 h.2.2.2.2.2.0 term_char h.2.2.2.2.2.1,
-    ) refl
+    rw (signed_begins _ _ _ h.1, unsigned_begins _ _ _ h.2.1, unsigned_begins _ _ _ h.2.2.1, unsigned_begins _ _ _ h.2.2.2.1)
+    (rw (unsigned_begins _ _ _ h.2.2.2.2.1, unsigned_begins _ _ _ h.2.2.2.2.2.1) refl)
 arguments_begin (DeviceReadstb lid flags lock_timeout io_timeout) bytes after (bounds, h) =
     generic_begins 13 lid flags lock_timeout io_timeout bytes after h
 arguments_begin (DeviceTrigger lid flags lock_timeout io_timeout) bytes after (bounds, h) =
@@ -65,32 +44,16 @@ arguments_begin (DeviceRemote lid flags lock_timeout io_timeout) bytes after (bo
 arguments_begin (DeviceLocal lid flags lock_timeout io_timeout) bytes after (bounds, h) =
     generic_begins 17 lid flags lock_timeout io_timeout bytes after h
 arguments_begin (DeviceLock lid flags lock_timeout) bytes after (bounds, h) =
-    rw (signed_begins bytes h.0 lid h.1, unsigned_begins h.0 h.2.0 flags h.2.1, unsigned_begins h.2.0 h.2.2.0 lock_timeout h.2.2.1) refl
+    rw (signed_begins _ _ _ h.1, unsigned_begins _ _ _ h.2.1, unsigned_begins _ _ _ h.2.2.1) refl
 arguments_begin (DeviceEnableSrq lid enable handle) bytes after (bounds, h) =
-    rw (
-      signed_begins bytes h.0 lid h.1,
-      boolean_begins h.0 h.2.0 enable h.2.1,
-      opaque_again max_handle h.2.0 handle h.2.2.0 h.2.2.1 bounds,
-    ) refl
+    rw (signed_begins _ _ _ h.1, boolean_begins _ _ _ h.2.1, opaque_again max_handle _ _ _ h.2.2.1 bounds) refl
 arguments_begin (DeviceDocmd lid flags io_timeout lock_timeout cmd network_order datasize text) bytes after (bounds, h) =
-    rw (
-      signed_begins bytes h.0 lid h.1,
-      unsigned_begins h.0 h.2.0 flags h.2.1,
-      unsigned_begins h.2.0 h.2.2.0 io_timeout h.2.2.1,
-      unsigned_begins h.2.2.0 h.2.2.2.0 lock_timeout h.2.2.2.1,
-      signed_begins h.2.2.2.0 h.2.2.2.2.0 cmd h.2.2.2.2.1,
-      boolean_begins h.2.2.2.2.0 h.2.2.2.2.2.0 network_order h.2.2.2.2.2.1,
-      signed_begins h.2.2.2.2.2.0 h.2.2.2.2.2.2.0 datasize h.2.2.2.2.2.2.1,
-      text_begins h.2.2.2.2.2.2.0 text h.2.2.2.2.2.2.2.0 h.2.2.2.2.2.2.2.1,
-    ) refl
+    rw (signed_begins _ _ _ h.1, unsigned_begins _ _ _ h.2.1, unsigned_begins _ _ _ h.2.2.1, unsigned_begins _ _ _ h.2.2.2.1)
+    (rw (signed_begins _ _ _ h.2.2.2.2.1, boolean_begins _ _ _ h.2.2.2.2.2.1, signed_begins _ _ _ h.2.2.2.2.2.2.1)
+    (rw (text_begins _ _ _ h.2.2.2.2.2.2.2.1) refl))
 arguments_begin (CreateIntrChan host_addr host_port prog_num prog_vers prog_family) bytes after (bounds, h) =
-    rw (
-      unsigned_begins bytes h.0 host_addr h.1,
-      unsigned_begins h.0 h.2.0 host_port h.2.1,
-      unsigned_begins h.2.0 h.2.2.0 prog_num h.2.2.1,
-      unsigned_begins h.2.2.0 h.2.2.2.0 prog_vers h.2.2.2.1,
-      unsigned_begins h.2.2.2.0 h.2.2.2.2.0 prog_family h.2.2.2.2.1,
-    ) refl
+    rw (unsigned_begins _ _ _ h.1, unsigned_begins _ _ _ h.2.1, unsigned_begins _ _ _ h.2.2.1, unsigned_begins _ _ _ h.2.2.2.1)
+    (rw (unsigned_begins _ _ _ h.2.2.2.2.1) refl)
 arguments_begin DestroyIntrChan bytes after h = refl
 arguments_begin (DeviceAbort lid) bytes after (bounds, h) = link_begins 1 lid bytes after h
 arguments_begin (DeviceUnlock lid) bytes after (bounds, h) = link_begins 19 lid bytes after h

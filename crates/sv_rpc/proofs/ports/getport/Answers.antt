@@ -2,7 +2,7 @@ use Rattle.std.proofs.Common.{◌≡◌, rules, ℕ, List, Result, Ok, Err, subs
 use Rattle.std.proofs.lemmas.Result.{err_from_is_err_and}
 use Rattle.sv_xdr.specs.declared.fault.XdrFault.{XdrFault}
 use Rattle.sv_xdr.specs.Spelling.{Unsigned, Begins}
-use Rattle.sv_rpc.specs.Ports.{Mapping}
+use Rattle.sv_rpc.specs.Ports.{Mapping, port_at}
 use Rattle.sv_rpc.proofs.ports.getport.Goals as goal
 
 -- a field begins where the one in front of it ended
@@ -34,3 +34,7 @@ pub returns-clause-told : goal.returns-clause-told
 returns-clause-told c =
     let m : Mapping = record { prog = c.in_ok-prog.prog; vers = c.in_ok-vers.vers; prot = c.in_ok-prot.prot; port = c.in_ok-_port._port } in
     (m, c.u32-4.new.self, search rules, c.port_of.ensures)
+
+pub returns-clause-exact : goal.returns-clause-exact
+unfolding port_at
+returns-clause-exact c = search rules

@@ -22,3 +22,6 @@ returns-clause-value g c =
 
 pub returns-clause-stands : goal.returns-clause-stands
 returns-clause-stands g c = λ acts s. accept_stands _ _ acts c.args.bytes.now c.args.ended c.requires.«open» (returns-clause-value g c) s
+
+pub returns-clause-bounded : goal.returns-clause-bounded
+returns-clause-bounded g c = grind (arith, common_steps)

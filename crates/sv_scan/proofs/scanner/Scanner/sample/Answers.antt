@@ -15,10 +15,14 @@ push_reserved-requires g c =
     let room = has_room _ _ c.in-Some.run' c.in-Some.is c.self.invariant scanning in
     omega (arith, c.self.inside.readings.ok.0, room)
 
+pub returns-clause-answer : goal.returns-clause-answer
+returns-clause-answer g c acts is =
+    sym (ap is_scanning (sym (c.state.ensures.answer acts is)) ∙ sym c.is_scanning.ensures ∙ c.if-not-is_scanning.false)
+
 pub returns-clause-stands : goal.returns-clause-stands
 returns-clause-stands g c acts is =
     let h = rw (← c.self.view_is) at is in
-    let counted = ap is_scanning (sym (c.state.ensures.answer acts is)) ∙ sym c.is_scanning.ensures ∙ c.if-not-is_scanning.false in
+    let counted = sym (returns-clause-answer g c acts is) in
     let known = turn_is _ _ c.in-Some.run' c.in-Some.is c.self.invariant in
     let fits : SFits w64 c.self.inside.settings.range = search rules in
     let heard : SFits w64 c.voltage.result = search rules in

@@ -1,5 +1,5 @@
-use Rattle.std.proofs.Common.{sym, ap, ◌∙◌}
-use Rattle.sv_xdr.specs.Reader.{unsigned_at}
+use Rattle.std.proofs.Common.{rules, sym, ap, ◌∙◌}
+use Rattle.sv_xdr.specs.Reader.{unsigned_at, opaque_at}
 use Rattle.sv_xdr.proofs.Fields.{opaque_takes, opaque_one, pair_parts}
 use Rattle.sv_xdr.proofs.reader.Reader.opaque.Goals as goal
 
@@ -22,3 +22,18 @@ returns-clause-only c = λ text after b short.
     c.in_ok-text.ensures b short in
     let parts = pair_parts c.in_ok-text.text.now text c.padded.new.self after e in
     (parts.0, rw c.ahead.view_is parts.1)
+
+pub returns-clause-exact : goal.returns-clause-exact
+unfolding opaque_at
+returns-clause-exact c = search rules
+
+pub returns-then-max-size-clause-only : goal.returns-then-max-size-clause-only
+returns-then-max-size-clause-only c = search rules
+
+pub returns-then-max-size-clause-exact : goal.returns-then-max-size-clause-exact
+unfolding opaque_at
+returns-then-max-size-clause-exact c = search rules
+
+pub returns-in_err-text-clause-exact : goal.returns-in_err-text-clause-exact
+unfolding opaque_at
+returns-in_err-text-clause-exact c = search rules

@@ -17,3 +17,6 @@ pub returns-clause-exact : goal.returns-clause-exact
 returns-clause-exact c =
     λ _. opaque_appended c.to_be_bytes.result c.args.text.now c.pad_len-pad.result c.args.self.now c.put.new.self c.put-2.new.self
     c.put-3.new.self (search rules) (search rules) c.put.ensures.appends c.put-2.ensures.appends c.put-3.ensures.appends
+
+pub returns-in_default-clause-too_long : goal.returns-in_default-clause-too_long
+returns-in_default-clause-too_long c = search rules

@@ -1,0 +1,5 @@
+use Rattle.std.proofs.Common.{rules}
+use Rattle.sv_errors.proofs.error_queue.ErrorQueueLayer.act.Goals as goal
+
+pub returns-in-Take-clause-stands : goal.returns-in-Take-clause-stands
+returns-in-Take-clause-stands g c = search rules

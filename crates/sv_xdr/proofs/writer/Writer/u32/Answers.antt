@@ -1,0 +1,8 @@
+use Rattle.std.proofs.Common.{rules}
+use Rattle.sv_xdr.proofs.writer.Writer.u32.Goals as goal
+
+pub returns-clause-spelled : goal.returns-clause-spelled
+returns-clause-spelled c = search rules
+
+pub returns-clause-exact : goal.returns-clause-exact
+returns-clause-exact c = search rules
