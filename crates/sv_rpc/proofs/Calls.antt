@@ -7,11 +7,11 @@ use Rattle.sv_xdr.specs.Reader.{unsigned_at, opaque_at}
 use Rattle.sv_xdr.proofs.Fields.{IsBytes, bytes_after, unsigned_begins, unsigned_takes, opaque_again, opaque_at-takes}
 use Rattle.sv_rpc.specs.declared.call.CallFault.{CallFault}
 use Rattle.sv_rpc.specs.declared.call.CallFault.TheVariants.{BadHeader, Version}
-use Rattle.sv_rpc.specs.Call.{Asked, Auth, heading, IsCall, IsOtherVersion, CallIs, ◌>>=◌, body_at, call_at}
+use Rattle.sv_rpc.specs.Call.{PlainCall, Auth, heading, IsCall, IsOtherVersion, CallIs, ◌>>=◌, body_at, call_at}
 use Rattle.sv_rpc.specs.Laws.{OneCall}
 
 -- a call that is spelled is read
-call_reads : (bytes : List ℕ) (call : Asked) → IsCall bytes call → call_at bytes ≡ Ok call
+call_reads : (bytes : List ℕ) (call : PlainCall) → IsCall bytes call → call_at bytes ≡ Ok call
 unfolding call_at body_at
 call_reads bytes call h =
     let xid = h.4 in
@@ -65,17 +65,19 @@ one_call bytes (Err BadHeader) (Err (Version n)) h k = absurd (h.1 n k)
 one_call bytes (Err BadHeader) (Err BadHeader) h k = refl
 
 -- an outcome that is not a bad header
-abbrev Good : Result Asked CallFault → Type 0
+abbrev Good : Result PlainCall CallFault → Type 0
 Good r = r ≡ Err BadHeader → ⊥
 
 -- the value of a step, and what came of it
-bind_good : {A : Type 0} (s : Result A XdrFault) (f : A → Result Asked CallFault) (r : Result Asked CallFault) → Good r → (s >>= f) ≡ r
+bind_good : {A : Type 0} (s : Result A XdrFault) (f : A → Result PlainCall CallFault) (r : Result PlainCall CallFault) → Good r →
+    (s >>= f) ≡ r
     → (x : A) × (s ≡ Ok x) × (f x ≡ r)
 bind_good (Ok x) f r good e = (x, refl, e)
 bind_good (Err fault) f r good e = absurd (good (sym e))
 
 -- what follows from a test, whichever way it went
-tested : {P : Type 0} (m n : ℕ) (x y r : Result Asked CallFault) → cond (eqb m n) x y ≡ r → (m ≡ n → x ≡ r → P) → (m ≢ n → y ≡ r → P) → P
+tested : {P : Type 0} (m n : ℕ) (x y r : Result PlainCall CallFault) → cond (eqb m n) x y ≡ r → (m ≡ n → x ≡ r → P) → (m ≢ n → y ≡ r → P)
+    → P
 tested m n x y r e same other =
     elim (cases_Bool (eqb m n)) [
       | inl t ↦ same (eqb-true m n t) (sym (cond-true (eqb m n) x y t) ∙ e)
@@ -83,7 +85,7 @@ tested m n x y r e same other =
     ]
 
 -- an unsigned integer that was read, and what follows from that
-unsigned_step : {P : Type 0} (bytes : List ℕ) (f : ℕ × List ℕ → Result Asked CallFault) (r : Result Asked CallFault) → IsBytes bytes
+unsigned_step : {P : Type 0} (bytes : List ℕ) (f : ℕ × List ℕ → Result PlainCall CallFault) (r : Result PlainCall CallFault) → IsBytes bytes
     → Good r → (unsigned_at bytes >>= f) ≡ r
     → ((n : ℕ) (after : List ℕ) → Begins bytes (Unsigned n) after → IsBytes after → f (n, after) ≡ r → P) → P
 unsigned_step bytes f r fits good e then =
@@ -92,7 +94,8 @@ unsigned_step bytes f r fits good e then =
     then s.0.0 s.0.1 b (bytes_after (Unsigned s.0.0) bytes s.0.1 fits b) s.2
 
 -- likewise opaque data
-opaque_step : {P : Type 0} (bytes : List ℕ) (f : List ℕ × List ℕ → Result Asked CallFault) (r : Result Asked CallFault) → IsBytes bytes
+opaque_step : {P : Type 0} (bytes : List ℕ) (f : List ℕ × List ℕ → Result PlainCall CallFault) (r : Result PlainCall CallFault)
+    → IsBytes bytes
     → Good r → (opaque_at 400 bytes >>= f) ≡ r
     → ((text after : List ℕ) → Begins bytes (Opaque text) after → length text ≤ 400 → IsBytes after → f (text, after) ≡ r → P) → P
 opaque_step bytes f r fits good e then =
@@ -101,8 +104,8 @@ opaque_step bytes f r fits good e then =
     then s.0.0 s.0.1 b.0 b.1 (bytes_after (Opaque s.0.0) bytes s.0.1 fits b.0) s.2
 
 -- what is read behind the version is spelled there
-body_takes : (xid : ℕ) (bytes : List ℕ) (r : Result Asked CallFault) → IsBytes bytes → Good r → body_at xid bytes ≡ r
-    → (call : Asked) × (xid ≡ call.xid) × (Ok call ≡ r) × (c v : Auth) × (length c.body ≤ 400) × (length v.body ≤ 400)
+body_takes : (xid : ℕ) (bytes : List ℕ) (r : Result PlainCall CallFault) → IsBytes bytes → Good r → body_at xid bytes ≡ r
+    → (call : PlainCall) × (xid ≡ call.xid) × (Ok call ≡ r) × (c v : Auth) × (length c.body ≤ 400) × (length v.body ≤ 400)
     × BeginsAll bytes (drop 3 (heading call c v)) call.args
 unfolding body_at
 body_takes xid bytes r fits good e =
@@ -124,7 +127,7 @@ body_takes xid bytes r fits good e =
     ))))))))
 
 -- a call that is read is spelled, and another version that is reported too
-call_takes : (bytes : List ℕ) (r : Result Asked CallFault) → IsBytes bytes → Good r → call_at bytes ≡ r → CallIs bytes r
+call_takes : (bytes : List ℕ) (r : Result PlainCall CallFault) → IsBytes bytes → Good r → call_at bytes ≡ r → CallIs bytes r
 unfolding call_at
 call_takes bytes r fits good e =
     unsigned_step bytes _ r fits good e (λ xid l1 b1 fits1 e1.
@@ -141,7 +144,7 @@ call_takes bytes r fits good e =
     (λ other e3. absurd (good (sym e3)))))
 
 -- what reading gives is so, whatever it is
-is_outcome : (bytes : List ℕ) (r : Result Asked CallFault) → IsBytes bytes → call_at bytes ≡ r → CallIs bytes r
+is_outcome : (bytes : List ℕ) (r : Result PlainCall CallFault) → IsBytes bytes → call_at bytes ≡ r → CallIs bytes r
 is_outcome bytes (Ok call) fits e = call_takes bytes (Ok call) fits (λ bad. absurd cc) e
 is_outcome bytes (Err (Version xid)) fits e = call_takes bytes (Err (Version xid)) fits (λ bad. absurd cc) e
 is_outcome bytes (Err BadHeader) fits e = (
@@ -154,5 +157,5 @@ pub call_is : (bytes : List ℕ) → IsBytes bytes → CallIs bytes (call_at byt
 call_is bytes fits = is_outcome bytes (call_at bytes) fits refl
 
 -- what the record is is what reading gives
-pub call_only : (bytes : List ℕ) (outcome : Result Asked CallFault) → IsBytes bytes → CallIs bytes outcome → call_at bytes ≡ outcome
+pub call_only : (bytes : List ℕ) (outcome : Result PlainCall CallFault) → IsBytes bytes → CallIs bytes outcome → call_at bytes ≡ outcome
 call_only bytes outcome fits h = one_call bytes (call_at bytes) outcome (call_is bytes fits) h

@@ -5,13 +5,13 @@ use Rattle.std.specs.Int.{w32, from_be_bytes}
 use Rattle.std.proofs.lemmas.Bool.{cases_lt, le-ltb, lt-ltb}
 use Rattle.std.proofs.lemmas.List.{length-append, drop-append-le, append_assoc}
 use Rattle.sv_rpc.specs.Record.{Tail, Header, Data, TooLong, Splits, header_of}
-use Rattle.sv_rpc.specs.RecordBuf.{Held, StandsFor}
+use Rattle.sv_rpc.specs.RecordBuf.{Records, StandsFor}
 use Rattle.sv_rpc.specs.declared.record_buf.Place.{Place}
 use Rattle.sv_rpc.specs.declared.record_buf.Place.TheVariants as place
 use Rattle.sv_rpc.specs.Kept.{IsPlace, IsInHeader, held_of, tail_of, cut, GoesOn, after_byte, after_header, after_data}
 use Rattle.sv_rpc.proofs.Steps.{header_grows, header_ends, empty_ends, empty_last_ends, header_too_long, data_grows, data_ends, data_last_ends, too_long_stays}
 
-abbrev held : List (List ℕ) → Tail → Held
+abbrev held : List (List ℕ) → Tail → Records
 held records tail = record { records = records; tail = tail }
 
 -- another tail behind the same records
@@ -99,19 +99,19 @@ too_long_goes records piece stream dropped st = same_records records TooLong Too
     (too_long_stays stream piece st.all st.splits)
 
 -- one stretch after the other
-pub GoesOn-then : (old mid new : Held) (a b : List ℕ) → GoesOn old mid a → GoesOn mid new b → GoesOn old new (a ++ b)
+pub GoesOn-then : (old mid new : Records) (a b : List ℕ) → GoesOn old mid a → GoesOn mid new b → GoesOn old new (a ++ b)
 GoesOn-then old mid new a b first second stream dropped st =
     subst (λ (l : List ℕ). StandsFor new l dropped) (append_assoc stream a b) (second (stream ++ a) dropped (first stream dropped st))
 
 -- a byte of a header, where a buffer takes it in
-pub header_goes_on : (bytes lengths header : List ℕ) (spot : Place) (old new : Held) (byte : ℕ) → held_of bytes lengths header spot ≡ old
+pub header_goes_on : (bytes lengths header : List ℕ) (spot : Place) (old new : Records) (byte : ℕ) → held_of bytes lengths header spot ≡ old
     → IsInHeader old.tail
     → new ≡ after_byte old.records old.tail byte
     → (3 ≤ length header → let word = from_be_bytes w32 (header ++ byte ∷ []) in
     header ++ byte ∷ [] ≡ header_of (leb (2 ^ 31) word) (word % 2 ^ 31))
     → GoesOn old new (byte ∷ [])
 header_goes_on bytes lengths header spot old new byte is in_header value whole =
-    rw value (subst (λ (h : Held). IsInHeader h.tail → GoesOn h (after_byte h.records h.tail byte) (byte ∷ [])) is (at spot) in_header)
+    rw value (subst (λ (h : Records). IsInHeader h.tail → GoesOn h (after_byte h.records h.tail byte) (byte ∷ [])) is (at spot) in_header)
   where
     at : (p : Place) → IsInHeader (tail_of p (drop (sum lengths) bytes) header)
         → GoesOn (held_of bytes lengths header p) (after_byte (cut lengths bytes) (tail_of p (drop (sum lengths) bytes) header) byte)
@@ -144,10 +144,10 @@ three_came (place.Data missing last) payload n p h at in_header le = absurd in_h
 three_came place.TooLong payload n p h at in_header le = absurd in_header
 
 -- some of a fragment's data, where a buffer takes it in
-pub data_goes_on : (bytes lengths header : List ℕ) (spot : Place) (old new : Held) (missing : ℕ) (last : Bool) (piece : List ℕ)
+pub data_goes_on : (bytes lengths header : List ℕ) (spot : Place) (old new : Records) (missing : ℕ) (last : Bool) (piece : List ℕ)
     → held_of bytes lengths header spot ≡ old
     → spot ≡ place.Data missing last → new ≡ after_data old.records old.tail piece → length piece ≤ missing → GoesOn old new piece
 data_goes_on bytes lengths header spot old new missing last piece is at value within =
     let old_is : held_of bytes lengths header (place.Data missing last) ≡ old = ap (held_of bytes lengths header) (sym at) ∙ is in
-    rw value (subst (λ (h : Held). GoesOn h (after_data h.records h.tail piece) piece) old_is
+    rw value (subst (λ (h : Records). GoesOn h (after_data h.records h.tail piece) piece) old_is
     (data_goes (cut lengths bytes) (drop (sum lengths) bytes) piece missing last within))

@@ -2,21 +2,21 @@
 use Rattle.std.proofs.Common.{◌≡◌, ℕ, ◌+◌, ◌-◌, ◌%◌, ◌^◌, Bool, true, false, cond, leb, ltb, List, [], ◌∷◌, ◌++◌, length, refl, sym, ap, ◌∙◌, append_assoc, append-nil}
 use Rattle.std.specs.Int.{w32, from_be_bytes}
 use Rattle.sv_rpc.specs.Record.{Tail, Header, Data, TooLong}
-use Rattle.sv_rpc.specs.RecordBuf.{Held}
+use Rattle.sv_rpc.specs.RecordBuf.{Records}
 use Rattle.sv_rpc.specs.Kept.{Keeps, payload_of, after_byte, after_header, after_data, finished}
 
-abbrev held : List (List ℕ) → Tail → Held
+abbrev held : List (List ℕ) → Tail → Records
 held records tail = record { records = records; tail = tail }
 
-pub keeps_all : (old : Held) → Keeps old old
+pub keeps_all : (old : Records) → Keeps old old
 keeps_all old = ([], sym (append-nil old.records))
 
-pub keeps_then : (old mid new : Held) → Keeps old mid → Keeps mid new → Keeps old new
+pub keeps_then : (old mid new : Records) → Keeps old mid → Keeps mid new → Keeps old new
 keeps_then old mid new a b =
     (a.0 ++ b.0, b.1 ∙ ap (λ (rs : List (List ℕ)). rs ++ b.0) a.1 ∙ append_assoc old.records a.0 b.0)
 
 -- the records with more behind them, or none
-abbrev Front : List (List ℕ) → Held → Type 0
+abbrev Front : List (List ℕ) → Records → Type 0
 Front records new = (more : List (List ℕ)) × (new.records ≡ records ++ more)
 
 header_cases : (records : List (List ℕ)) (tail : Tail) (size : ℕ) (long some last : Bool)
@@ -27,7 +27,7 @@ header_cases records tail size false true last = ([], sym (append-nil records))
 header_cases records tail size false false true = (payload_of tail ∷ [], refl)
 header_cases records tail size false false false = ([], sym (append-nil records))
 
-byte_cases : (records : List (List ℕ)) (t : Tail) (whole : Held) (more : Bool) → Front records whole
+byte_cases : (records : List (List ℕ)) (t : Tail) (whole : Records) (more : Bool) → Front records whole
     → Front records (cond more (held records t) whole)
 byte_cases records t whole true kept = ([], sym (append-nil records))
 byte_cases records t whole false kept = kept

@@ -1,5 +1,5 @@
 pub mod Cuts
-pub mod Held
+pub mod Records
 pub mod Steps
 pub mod OneReading
 pub mod Goes

@@ -5,7 +5,7 @@ use Rattle.std.proofs.lemmas.Bool.{cases_lt, le-ltb, lt-ltb}
 use Rattle.std.proofs.lemmas.List.{length-append}
 use Rattle.std.proofs.lemmas.List.Sums.{sum_by-append, sum_by-cons}
 use Rattle.sv_rpc.specs.Record.{Tail, Header, Data, TooLong}
-use Rattle.sv_rpc.specs.RecordBuf.{Held}
+use Rattle.sv_rpc.specs.RecordBuf.{Records}
 use Rattle.sv_rpc.specs.Kept.{InRoom, Fits, IsInHeader, spare_of, after_byte, after_header}
 
 -- what records count, with one more
@@ -37,7 +37,8 @@ header_room records payload header size n last fits =
     empty false = omega (arith, fits)
 
 -- behind a byte of a header
-pub byte_room : (held new : Held) (byte n : ℕ) → IsInHeader held.tail → new ≡ after_byte held.records held.tail byte → InRoom held (1 + n)
+pub byte_room : (held new : Records) (byte n : ℕ) → IsInHeader held.tail → new ≡ after_byte held.records held.tail byte → InRoom held
+    (1 + n)
     → InRoom new n
 byte_room held new byte n in_header value fits = rw value (at held.tail in_header fits)
   where

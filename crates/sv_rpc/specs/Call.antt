@@ -8,15 +8,15 @@ use Rattle.sv_rpc.specs.declared.call.CallFault.{CallFault}
 use Rattle.sv_rpc.specs.declared.call.CallFault.TheVariants.{BadHeader, Version}
 
 -- a call without where it lies in memory
-pub record Asked : Type 0 where
+pub record PlainCall : Type 0 where
   pub xid : ℕ
   pub prog : ℕ
   pub vers : ℕ
   pub proc : ℕ
   pub args : List ℕ
 
-abbrev pub asked : Call → Asked
-asked call = record { xid = call.xid; prog = call.prog; vers = call.vers; proc = call.proc; args = call.args.now }
+abbrev pub plain_call : Call → PlainCall
+plain_call call = record { xid = call.xid; prog = call.prog; vers = call.vers; proc = call.proc; args = call.args.now }
 
 -- who asks, which nothing depends on (8.2): a flavor, and a body of at most 400 bytes
 pub record Auth : Type 0 where
@@ -24,13 +24,13 @@ pub record Auth : Type 0 where
   pub body : List ℕ
 
 -- the fields in front of the arguments: the message type is 0, a call, and the version of RPC is 2
-abbrev pub heading : Asked → Auth → Auth → List Field
+abbrev pub heading : PlainCall → Auth → Auth → List Field
 heading call credential verifier =
     Unsigned call.xid ∷ Unsigned 0 ∷ Unsigned 2 ∷ Unsigned call.prog ∷ Unsigned call.vers ∷ Unsigned call.proc
     ∷ Unsigned credential.flavor ∷ Opaque credential.body ∷ Unsigned verifier.flavor ∷ Opaque verifier.body ∷ []
 
 -- The record is this call, under some credential and verifier.
-abbrev pub IsCall : List ℕ → Asked → Type 0
+abbrev pub IsCall : List ℕ → PlainCall → Type 0
 IsCall bytes call = (credential verifier : Auth) × (length credential.body ≤ 400) × (length verifier.body ≤ 400)
     × BeginsAll bytes (heading call credential verifier) call.args
 
@@ -40,10 +40,10 @@ IsOtherVersion bytes xid = (version : ℕ) × (after : List ℕ) × (version ≢
     × BeginsAll bytes (Unsigned xid ∷ Unsigned 0 ∷ Unsigned version ∷ []) after
 
 -- What a record is as a call.
-abbrev pub CallIs : List ℕ → Result Asked CallFault → Type 0
+abbrev pub CallIs : List ℕ → Result PlainCall CallFault → Type 0
 CallIs bytes (Ok call) = IsCall bytes call
 CallIs bytes (Err (Version xid)) = IsOtherVersion bytes xid
-CallIs bytes (Err BadHeader) = ((call : Asked) → IsCall bytes call → ⊥) × ((xid : ℕ) → IsOtherVersion bytes xid → ⊥)
+CallIs bytes (Err BadHeader) = ((call : PlainCall) → IsCall bytes call → ⊥) × ((xid : ℕ) → IsOtherVersion bytes xid → ⊥)
 
 -- a field that is read, or else a bad header
 infixl 10 ◌>>=◌
@@ -52,7 +52,7 @@ abbrev pub ◌>>=◌ : {A B : Type 0} → Result A XdrFault → (A → Result B 
 (Err fault) >>= f = Err BadHeader
 
 -- behind the version
-unfoldable pub body_at : ℕ → List ℕ → Result Asked CallFault
+unfoldable pub body_at : ℕ → List ℕ → Result PlainCall CallFault
 body_at xid bytes = do
   prog ← unsigned_at bytes
   vers ← unsigned_at prog.1
@@ -64,7 +64,7 @@ body_at xid bytes = do
   Ok (record { xid = xid; prog = prog.0; vers = vers.0; proc = proc.0; args = verifier.1 })
 
 -- the record as a call, read from left to right
-unfoldable pub call_at : List ℕ → Result Asked CallFault
+unfoldable pub call_at : List ℕ → Result PlainCall CallFault
 call_at bytes = do
   xid ← unsigned_at bytes
   kind ← unsigned_at xid.1
@@ -73,6 +73,6 @@ call_at bytes = do
     if version.0 == 2 then body_at xid.0 version.1 else Err (Version xid.0)) else Err BadHeader
 
 -- what was read, as plain data
-abbrev pub seen : Result Call CallFault → Result Asked CallFault
-seen (Ok call) = Ok (asked call)
+abbrev pub seen : Result Call CallFault → Result PlainCall CallFault
+seen (Ok call) = Ok (plain_call call)
 seen (Err fault) = Err fault

@@ -4,7 +4,7 @@ use Rattle.std.specs.Int.{w32, from_be_bytes}
 use Rattle.sv_rpc.specs.declared.record_buf.Place.{Place}
 use Rattle.sv_rpc.specs.declared.record_buf.Place.TheVariants as place
 use Rattle.sv_rpc.specs.Record.{Tail, Header, Data, TooLong}
-use Rattle.sv_rpc.specs.RecordBuf.{Held, StandsFor, used_by}
+use Rattle.sv_rpc.specs.RecordBuf.{Records, StandsFor, used_by}
 
 -- the bytes cut into pieces of these lengths
 abbrev pub cut : List ℕ → List ℕ → List (List ℕ)
@@ -16,7 +16,7 @@ tail_of place.Header payload header = Header payload header
 tail_of (place.Data missing last) payload header = Data payload missing last
 tail_of place.TooLong payload header = TooLong
 
-abbrev pub held_of : List ℕ → List ℕ → List ℕ → Place → Held
+abbrev pub held_of : List ℕ → List ℕ → List ℕ → Place → Records
 held_of bytes lengths header place = record { records = cut lengths bytes; tail = tail_of place (drop (sum lengths) bytes) header }
 
 -- More bytes fit. While no header of the unfinished record is whole, the 4 that it counts are still free.
@@ -29,7 +29,7 @@ Fits records (Header payload header) n = used_by records (Header payload header)
 Fits records (Data payload missing last) n = used_by records (Data payload missing last) + n ≤ 16384
 Fits records TooLong n = Unit {0}
 
-abbrev pub InRoom : Held → ℕ → Type 0
+abbrev pub InRoom : Records → ℕ → Type 0
 InRoom held n = Fits held.records held.tail n
 
 -- what of an unfinished header counts, or all the room
@@ -44,7 +44,7 @@ IsPlace place.Header payload header_len = (payload ≤ 8192) × (header_len < 4)
 IsPlace (place.Data missing last) payload header_len = (0 < missing) × (payload + missing ≤ 8192) × (header_len ≡ 0)
 IsPlace place.TooLong payload header_len = Unit {0}
 
-pub record IsKept (bytes lengths header : List ℕ) (space slots payload header_len : ℕ) (place : Place) : Type 0 where
+pub record IsValid (bytes lengths header : List ℕ) (space slots payload header_len : ℕ) (place : Place) : Type 0 where
   pub whole : sum lengths + payload ≡ length bytes
   pub four : length header ≡ 4
   pub at : IsPlace place payload header_len
@@ -74,11 +74,11 @@ payload_of (Data payload missing last) = payload
 payload_of TooLong = []
 
 -- the unfinished record is whole
-abbrev pub finished : List (List ℕ) → Tail → Held
+abbrev pub finished : List (List ℕ) → Tail → Records
 finished records tail = record { records = records ++ payload_of tail ∷ []; tail = Header [] [] }
 
 -- a header is whole
-abbrev pub after_header : List (List ℕ) → Tail → ℕ → Bool → Held
+abbrev pub after_header : List (List ℕ) → Tail → ℕ → Bool → Records
 after_header records tail size last =
     let payload = payload_of tail in
     if nat_lt 8192 (length payload + size) then record { records = records; tail = TooLong }
@@ -86,7 +86,7 @@ after_header records tail size last =
     else (if last then finished records tail else record { records = records; tail = Header payload [] }))
 
 -- one more byte of a header
-abbrev pub after_byte : List (List ℕ) → Tail → ℕ → Held
+abbrev pub after_byte : List (List ℕ) → Tail → ℕ → Records
 after_byte records (Header payload header) byte =
     if nat_lt (length header) 3 then record { records = records; tail = Header payload (header ++ byte ∷ []) }
     else (let word = from_be_bytes w32 (header ++ byte ∷ []) in
@@ -95,7 +95,7 @@ after_byte records (Data payload missing last) byte = record { records = records
 after_byte records TooLong byte = record { records = records; tail = TooLong }
 
 -- more of a fragment's data
-abbrev pub after_data : List (List ℕ) → Tail → List ℕ → Held
+abbrev pub after_data : List (List ℕ) → Tail → List ℕ → Records
 after_data records (Header payload header) piece = record { records = records; tail = Header payload header }
 after_data records (Data payload missing last) piece =
     if nat_lt (length piece) missing then record { records = records; tail = Data (payload ++ piece) (missing - length piece) last }
@@ -107,9 +107,9 @@ after_data records (Data payload missing last) piece =
 after_data records TooLong piece = record { records = records; tail = TooLong }
 
 -- What is held goes on from old to new by these bytes of the stream.
-abbrev pub GoesOn : Held → Held → List ℕ → Type 0
+abbrev pub GoesOn : Records → Records → List ℕ → Type 0
 GoesOn old new front = (stream : List ℕ) (dropped : ℕ) → StandsFor old stream dropped → StandsFor new (stream ++ front) dropped
 
 -- The records that stood there stand in front of those that came.
-abbrev pub Keeps : Held → Held → Type 0
+abbrev pub Keeps : Records → Records → Type 0
 Keeps old new = (more : List (List ℕ)) × (new.records ≡ old.records ++ more)

@@ -5,7 +5,7 @@ use Rattle.sv_rpc.specs.declared.call.CallFault.{CallFault}
 use Rattle.sv_rpc.specs.declared.reply.Reply.{Reply}
 use Rattle.sv_rpc.specs.Record.{Tail, Splits}
 use Rattle.sv_rpc.specs.Stream.{records_of, tail_of}
-use Rattle.sv_rpc.specs.Call.{Asked, Auth, heading, CallIs, call_at}
+use Rattle.sv_rpc.specs.Call.{PlainCall, Auth, heading, CallIs, call_at}
 use Rattle.sv_rpc.specs.declared.ports.Ports.{Ports}
 use Rattle.sv_rpc.specs.Ports.{PortIs, port_at}
 use Rattle.sv_rpc.specs.Reply.{reply_fields}
@@ -33,11 +33,11 @@ PortAsSpelled = (ports : Ports) (args : List ℕ) → All (λ byte. byte < 256) 
 
 -- A record is one call, or has one fault.
 abbrev pub OneCall : Type 0
-OneCall = (bytes : List ℕ) (a b : Result Asked CallFault) → CallIs bytes a → CallIs bytes b → a ≡ b
+OneCall = (bytes : List ℕ) (a b : Result PlainCall CallFault) → CallIs bytes a → CallIs bytes b → a ≡ b
 
 -- Where two headers of calls begin the same bytes, they are one, and what follows them too. So none is a proper prefix of another.
 abbrev pub CallsPrefixFree : Type 0
-CallsPrefixFree = (x y : Asked) (c d v w : Auth) (bytes after behind : List ℕ) → BeginsAll bytes (heading x c v) after
+CallsPrefixFree = (x y : PlainCall) (c d v w : Auth) (bytes after behind : List ℕ) → BeginsAll bytes (heading x c v) after
     → BeginsAll bytes (heading y d w) behind
     → (heading x c v ≡ heading y d w) × (after ≡ behind)
 

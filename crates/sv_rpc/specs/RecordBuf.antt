@@ -6,15 +6,15 @@ use Rattle.sv_rpc.specs.declared.record_buf.RpcFault.TheVariants.{RecordTooLong}
 use Rattle.sv_rpc.specs.Record.{Tail, Header, Data, TooLong, Splits}
 
 -- the whole records that weren't dropped, and what stands behind them
-pub record Held : Type 0 where
+pub record Records : Type 0 where
   pub records : List (List ℕ)
   pub tail : Tail
 
-abbrev pub nothing_held : Held
-nothing_held = record { records = []; tail = Header [] [] }
+abbrev pub no_records : Records
+no_records = record { records = []; tail = Header [] [] }
 
 -- The buffer holds what is in the stream behind the records that were dropped, which are the first so many.
-pub record StandsFor (held : Held) (stream : List ℕ) (dropped : ℕ) : Type 0 where
+pub record StandsFor (held : Records) (stream : List ℕ) (dropped : ℕ) : Type 0 where
   pub all : List (List ℕ)
   pub splits : Splits stream all held.tail
   pub few : dropped ≤ length all
@@ -28,7 +28,7 @@ used_by records (Data payload missing last) = sum_by (λ r. 4 + length r) record
 used_by records TooLong = 16384
 
 -- how many bytes may be pushed
-abbrev pub room_of : Held → ℕ
+abbrev pub room_of : Records → ℕ
 room_of held = 16384 - used_by held.records held.tail
 
 -- the next record; behind the last one its fault, or none yet

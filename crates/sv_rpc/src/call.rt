@@ -2,7 +2,7 @@
 
 ghost use Rattle.std.specs.Prelude.{◌≡◌, Result};
 ghost use Rattle.sv_rpc.specs.declared.call.CallFault.{CallFault};
-ghost use Rattle.sv_rpc.specs.Call.{Asked, CallIs, asked, body_at, call_at, seen};
+ghost use Rattle.sv_rpc.specs.Call.{PlainCall, CallIs, plain_call, body_at, call_at, seen};
 
 use sv_xdr::{Reader, XdrFault};
 use thiserror::Error;
@@ -57,7 +57,7 @@ pub fn read_call(bytes: &[u8]) -> Result<Call<'_>, CallFault>
     // What is read is spelled there.
     ensures found { CallIs bytes.now (seen result) }
     // What is spelled there is read.
-    ensures only { (outcome : Result Asked CallFault) → CallIs bytes.now outcome
+    ensures only { (outcome : Result PlainCall CallFault) → CallIs bytes.now outcome
         → seen result ≡ outcome }
     // Which of the three it is, as a function of the bytes.
     ensures exact { seen result ≡ call_at bytes.now }

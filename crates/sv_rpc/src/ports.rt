@@ -27,7 +27,7 @@ pub struct Ports {
 /// for every other program, version or protocol. Bytes behind the arguments are ignored.
 #[tactic(auto, unfolding(crate::specs::Ports::port_at))]
 pub fn getport(args: &[u8], ports: Ports) -> Result<u32, Garbage>
-    ensures told { PortIs ports args.now result }
+    ensures answer { PortIs ports args.now result }
     // Which answer it is, as a function of the bytes.
     ensures exact { result ≡ port_at ports args.now }
 {

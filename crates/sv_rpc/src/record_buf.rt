@@ -3,7 +3,7 @@
 ghost use Rattle.std.specs.Prelude.{◌≡◌, ◌≢◌, ℕ, ◌+◌, ◌-◌, ◌%◌, ◌<◌, ◌≤◌, ◌^◌, List, [], ◌∷◌, ◌++◌, length, take, drop, nat_le, vec_len, vec_capacity, IfOk};
 ghost use Rattle.std.specs.Int.{w32, from_be_bytes};
 ghost use Rattle.sv_rpc.specs.Record.{header_of};
-ghost use Rattle.sv_rpc.specs.RecordBuf.{Held, StandsFor, IsNext, IsRoom, nothing_held, room_of, next_among, used_by, seen};
+ghost use Rattle.sv_rpc.specs.RecordBuf.{Records, StandsFor, IsNext, IsRoom, no_records, room_of, next_among, used_by, seen};
 ghost use Rattle.sv_rpc.specs.Kept.{InRoom, GoesOn, Keeps, IsInHeader, IsBeforeHeader, IsInData, after_byte, after_header, after_data, finished};
 
 use crate::NoMemory;
@@ -56,24 +56,24 @@ pub struct RecordBuf<A: Allocator = Global> {
 }
 
 impl<A: Allocator> Model for RecordBuf<A> {
-    ghost use Rattle.sv_rpc.specs.RecordBuf.{Held};
+    ghost use Rattle.sv_rpc.specs.RecordBuf.{Records};
 
-    ghost Value = { Held };
+    ghost Value = { Records };
 
     ghost use Rattle.std.specs.Prelude.{take, vec_capacity};
-    ghost use Rattle.sv_rpc.specs.Kept.{held_of, IsKept};
+    ghost use Rattle.sv_rpc.specs.Kept.{held_of, IsValid};
 
     ghost view = { λ a. held_of a.bytes.items a.lengths.items
         (take a.header_len a.header) a.place };
 
-    ghost invariant = { λ a. IsKept a.bytes.items a.lengths.items a.header (vec_capacity a.bytes)
+    ghost invariant = { λ a. IsValid a.bytes.items a.lengths.items a.header (vec_capacity a.bytes)
         (vec_capacity a.lengths) a.payload a.header_len a.place };
 }
 
 impl<A: Allocator + Copy> RecordBuf<A> {
     /// A buffer in which nothing stands. It takes all the memory that it ever uses.
     pub fn new(alloc: A) -> Result<RecordBuf<A>, NoMemory>
-        ensures { IfOk result (λ buffer. (buffer ≡ nothing_held) × StandsFor buffer [] 0) }
+        ensures { IfOk result (λ buffer. (buffer ≡ no_records) × StandsFor buffer [] 0) }
     {
         Ok(RecordBuf {
             bytes: Vec::with_capacity(alloc, CAPACITY)?,
@@ -136,7 +136,7 @@ impl<A: Allocator> RecordBuf<A> {
 
     /// Forgets everything, as when it was new.
     pub fn clear(&mut self)
-        ensures value { self.new ≡ nothing_held }
+        ensures value { self.new ≡ no_records }
         ensures stands { StandsFor self.new [] 0 }
     {
         self.bytes.clear();

@@ -10,7 +10,7 @@ use Rattle.sv_server.specs.declared.event.Port.{Port}
 use Rattle.sv_server.specs.declared.event.Port.TheVariants.{Conn, Intr}
 use Rattle.sv_server.specs.Event.{PlainEvent, Took}
 use Rattle.sv_server.specs.Act.{Act, On, BytesTaken, of}
-use Rattle.sv_server.specs.Connection.{is_open, unsent, waiting, waiting_on}
+use Rattle.sv_server.specs.Connection.{is_open, untaken, waiting, waiting_on}
 use Rattle.sv_server.specs.History.{refusal, is_shut}
 use Rattle.sv_server.specs.State.{State, Represents}
 use Rattle.sv_server.specs.Inside.Acting.{Acts}
@@ -29,7 +29,7 @@ opened_by true bytes some = refl
 opened_by false bytes some = absurd (omega arith)
 
 pub waits_open : (c : ℕ) (log : List Act) → 0 < length (waiting (of c log)) → is_open (of c log) ≡ true
-waits_open c log some = opened_by (is_open (of c log)) (unsent (of c log)) some
+waits_open c log some = opened_by (is_open (of c log)) (untaken (of c log)) some
 
 -- whose number is at most 15
 pub waits_within : (c : ℕ) (state : State) (config : Config) (log : List Act) → Represents state config log → is_open (of c log) ≡ true

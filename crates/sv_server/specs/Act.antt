@@ -1,5 +1,5 @@
 -- What is recorded of each event, act by act. A log is a list of acts, the newest first. Each act is one of a connection's, or one of what
--- all connections share: links and the instrument.
+-- all connections share: links, the instrument and the clock.
 use Rattle.std.specs.Prelude.{ℕ, ◌+◌, ◌==◌, List, [], ◌∷◌, if◌then◌else◌}
 use Rattle.sv_links.specs.Links.{LinkAct}
 use Rattle.sv_exchange.specs.Exchange.{ExchangeAct}

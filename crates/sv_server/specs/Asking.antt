@@ -5,6 +5,6 @@ use Rattle.sv_server.specs.Event.{PlainEvent}
 use Rattle.sv_server.specs.Act.{Act}
 use Rattle.sv_server.specs.History.{IsLogOf}
 
--- The answer is what this is of the history's log.
+-- The result is this function of the history's log.
 abbrev pub Answered : {A : Type 0} → (List Act → A) → Config → List PlainEvent → A → Type 0
 Answered answer config history result = (log : List Act) × IsLogOf config history log × (result ≡ answer log)

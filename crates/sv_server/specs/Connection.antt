@@ -73,12 +73,12 @@ given (BytesTaken count ∷ acts) = given acts + count
 given (_ ∷ acts) = given acts
 
 -- those that the peer didn't take
-abbrev pub unsent : List ConnAct → List ℕ
-unsent acts = drop (given acts) (sent acts)
+abbrev pub untaken : List ConnAct → List ℕ
+untaken acts = drop (given acts) (sent acts)
 
 -- the bytes that wait to be sent on it; none where it isn't open
 abbrev pub waiting : List ConnAct → List ℕ
-waiting acts = if is_open acts then unsent acts else []
+waiting acts = if is_open acts then untaken acts else []
 
 -- the bytes that wait on a port; none on an interrupt channel while there are none
 abbrev pub waiting_on : Port → List Act → List ℕ
@@ -108,4 +108,4 @@ room acts = if is_open acts then 16384 - used_by (drop (ended acts) (records_of 
 
 -- how many outgoing bytes are free
 abbrev pub free : List ConnAct → ℕ
-free acts = 16384 - length (unsent acts)
+free acts = 16384 - length (untaken acts)

@@ -1,5 +1,5 @@
--- What a call of the core channel does, once its arguments are read (VXI-11 revision 1.0, section B.6): the link that it names is looked at
--- first.
+-- What a call of the core or the abort channel does, once its arguments are read (VXI-11 revision 1.0, section B.6): the link that it names
+-- is looked at first.
 use Rattle.std.specs.Prelude.{ℕ, ◌+◌, ◌%◌, ◌==◌, not, ℤ, pos, negsuc, Bool, false, List, [], ◌∷◌, length, take, Option, Some, None, codes, nat_lt, if◌then◌else◌}
 use Rattle.std.specs.Int.{bit_at}
 use Rattle.std.specs.Str.{bytes_eq}
@@ -115,7 +115,7 @@ device_read most term acts =
     else (if has_ended (exchange_acts acts) then only (no_bytes IoTimeout)
     else record { adds = Exchanged TextDropped ∷ []; result = no_bytes IoTimeout })
 
--- A call by what it is. One whose meaning comes later isn't supported yet; device_docmd has none here.
+-- A call by what it is. One whose meaning comes later isn't supported yet; device_docmd never is.
 abbrev pub own_call : Config → ℕ → Arguments → List BenchAct → Execution
 own_call config c (DeviceAbort lid) acts = device_abort (lid_of lid) acts
 own_call config c (CreateLink client_id lock_device lock_timeout device) acts = create_link config c lock_device device acts

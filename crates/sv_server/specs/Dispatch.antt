@@ -7,7 +7,7 @@ use Rattle.sv_rpc.specs.declared.reply.Reply.{Reply}
 use Rattle.sv_rpc.specs.declared.reply.Reply.TheVariants.{Success, Mismatch, ProgUnavail, ProgMismatch, ProcUnavail, GarbageArgs}
 use Rattle.sv_rpc.specs.declared.call.CallFault.{CallFault}
 use Rattle.sv_rpc.specs.declared.call.CallFault.TheVariants.{BadHeader, Version}
-use Rattle.sv_rpc.specs.Call.{Asked}
+use Rattle.sv_rpc.specs.Call.{PlainCall}
 use Rattle.sv_rpc.specs.Ports.{port_at}
 use Rattle.sv_vxi.specs.Arguments.{Arguments, core_calls, abort_calls, is_one_of}
 use Rattle.sv_vxi.specs.Reading.{arguments_at}
@@ -38,7 +38,7 @@ procedures_of Abort = abort_calls
 procedures_of Portmap = 3 ∷ []
 
 -- what the header of a call alone decides: another program, another version, nothing to do, or another procedure
-abbrev pub header_reply : Role → Asked → Option Reply
+abbrev pub header_reply : Role → PlainCall → Option Reply
 header_reply role call =
     if not (call.prog == program_of role) then Some ProgUnavail
     else (if not (call.vers == version_of role) then Some (ProgMismatch (version_of role) (version_of role))
@@ -51,35 +51,35 @@ pub data Verdict : Type 0 where
   Replies : (adds : List BenchAct) (bytes : List ℕ) → Verdict
 
 -- it is answered by a reply alone
-abbrev pub told : ℕ → Reply → Verdict
-told xid reply = Replies [] (reply_record xid reply [])
+abbrev pub reply_verdict : ℕ → Reply → Verdict
+reply_verdict xid reply = Replies [] (reply_record xid reply [])
 
-abbrev pub concluded : ℕ → Execution → Verdict
-concluded xid execution = Replies execution.adds (reply_record xid Success (result_fields execution.result))
+abbrev pub execution_verdict : ℕ → Execution → Verdict
+execution_verdict xid execution = Replies execution.adds (reply_record xid Success (result_fields execution.result))
 
 -- GETPORT
-abbrev pub port_told : ℕ → Result ℕ Garbage → Verdict
-port_told xid (Ok port) = Replies [] (reply_record xid Success (Unsigned port ∷ []))
-port_told xid (Err garbage) = told xid GarbageArgs
+abbrev pub port_verdict : ℕ → Result ℕ Garbage → Verdict
+port_verdict xid (Ok port) = Replies [] (reply_record xid Success (Unsigned port ∷ []))
+port_verdict xid (Err garbage) = reply_verdict xid GarbageArgs
 
 -- a call of the core or the abort channel
-abbrev pub device_call : Config → ℕ → ℕ → Result Arguments Garbage → List BenchAct → Verdict
-device_call config c xid (Ok arguments) acts = concluded xid (executed config c arguments acts)
-device_call config c xid (Err garbage) acts = told xid GarbageArgs
+abbrev pub device_verdict : Config → ℕ → ℕ → Result Arguments Garbage → List BenchAct → Verdict
+device_verdict config c xid (Ok arguments) acts = execution_verdict xid (executed config c arguments acts)
+device_verdict config c xid (Err garbage) acts = reply_verdict xid GarbageArgs
 
 -- a call of one of its program's procedures
-abbrev pub procedure : Config → ℕ → Role → Asked → List BenchAct → Verdict
-procedure config c Core call acts = device_call config c call.xid (arguments_at call.proc call.args) acts
-procedure config c Abort call acts = device_call config c call.xid (arguments_at call.proc call.args) acts
-procedure config c Portmap call acts = port_told call.xid (port_at (ports_of config) call.args)
+abbrev pub procedure_verdict : Config → ℕ → Role → PlainCall → List BenchAct → Verdict
+procedure_verdict config c Core call acts = device_verdict config c call.xid (arguments_at call.proc call.args) acts
+procedure_verdict config c Abort call acts = device_verdict config c call.xid (arguments_at call.proc call.args) acts
+procedure_verdict config c Portmap call acts = port_verdict call.xid (port_at (ports_of config) call.args)
 
 -- unless its header alone decides
-abbrev pub unless_told : Config → ℕ → Role → Asked → Option Reply → List BenchAct → Verdict
-unless_told config c role call (Some reply) acts = told call.xid reply
-unless_told config c role call None acts = procedure config c role call acts
+abbrev pub call_verdict : Config → ℕ → Role → PlainCall → Option Reply → List BenchAct → Verdict
+call_verdict config c role call (Some reply) acts = reply_verdict call.xid reply
+call_verdict config c role call None acts = procedure_verdict config c role call acts
 
 -- Another version of RPC is denied.
-abbrev pub considered : Config → ℕ → Role → Result Asked CallFault → List BenchAct → Verdict
-considered config c role (Ok call) acts = unless_told config c role call (header_reply role call) acts
-considered config c role (Err (Version xid)) acts = told xid Mismatch
-considered config c role (Err BadHeader) acts = NoCall
+abbrev pub verdict_of : Config → ℕ → Role → Result PlainCall CallFault → List BenchAct → Verdict
+verdict_of config c role (Ok call) acts = call_verdict config c role call (header_reply role call) acts
+verdict_of config c role (Err (Version xid)) acts = reply_verdict xid Mismatch
+verdict_of config c role (Err BadHeader) acts = NoCall

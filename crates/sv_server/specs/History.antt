@@ -13,7 +13,7 @@ use Rattle.sv_server.specs.declared.event.Refused.TheVariants.{NoMemory, ConnInU
 use Rattle.sv_server.specs.Event.{IsEvent, IsConfig, PlainEvent, Open, Bytes, Turn, Refuse, Took, Close, Dialed, Input, External, Tick}
 use Rattle.sv_server.specs.Act.{Act, ConnAct, BenchAct, Opened, Piece, CallTaken, Faulted, Replied, BytesTaken, PortClosed, Linked, Ticked, On, Bench, of, bench, link_acts, ticks}
 use Rattle.sv_server.specs.Connection.{is_open, open_role, waiting, next_call, is_idle, room, free}
-use Rattle.sv_server.specs.Dispatch.{Verdict, NoCall, Replies, considered}
+use Rattle.sv_server.specs.Dispatch.{Verdict, NoCall, Replies, verdict_of}
 use Rattle.sv_server.specs.Settling.{Settles}
 
 -- the acts of a record that was taken, behind its CallTaken
@@ -24,7 +24,7 @@ verdict_acts c (Replies adds bytes) = On c (Replied bytes) ∷ map Bench adds
 -- the acts of a Turn: those of the connection's next call, where there is one to take
 abbrev pub turn_acts : Config → ℕ → Option Role → Option (List ℕ) → List BenchAct → List Act
 turn_acts config c (Some role) (Some call) acts =
-    verdict_acts c (considered config c role (call_at call) acts) ++ On c (CallTaken call) ∷ []
+    verdict_acts c (verdict_of config c role (call_at call) acts) ++ On c (CallTaken call) ∷ []
 turn_acts config c _ _ acts = []
 
 -- The acts that an event adds to the log by itself. Closing a connection destroys its links, by rising number.

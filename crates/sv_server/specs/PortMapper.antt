@@ -1,4 +1,4 @@
--- The answer of the port mapper (RFC 1833, section 3): the ports are those of the configuration.
+-- What the port mapper tells (RFC 1833, section 3): the ports of the configuration.
 use Rattle.sv_rpc.specs.declared.ports.Ports.{Ports}
 use Rattle.sv_server.specs.declared.event.Config.{Config}
 

@@ -1,7 +1,7 @@
 //! What the server keeps of a connection.
 
 ghost use Rattle.std.specs.Prelude.{◌≡◌, ◌≢◌, ◌+◌, ◌≤◌, ◌||◌, not, ◌&&◌, ℕ, List, [], ◌∷◌, length, IfOk, IsSome, Some, None, true, false, is_some, nat_lt, option_map, if◌then◌else◌};
-ghost use Rattle.sv_rpc.specs.RecordBuf.{StandsFor, room_of, nothing_held};
+ghost use Rattle.sv_rpc.specs.RecordBuf.{StandsFor, room_of, no_records};
 ghost use Rattle.sv_server.specs.Act.{ConnAct, Opened, Piece, CallTaken, Faulted, Replied, BytesTaken, PortClosed};
 ghost use Rattle.sv_server.specs.Connection.{is_open, is_busy, next_call, is_idle, is_faulted, room, free, waiting};
 ghost use Rattle.sv_server.specs.KeptConnection.{IsConnection};
@@ -113,7 +113,7 @@ impl<A: Allocator> Connection<A> {
     /// Forgets all that came and waits.
     fn empty(&mut self)
         ensures value { self.new ≡ record self.old {
-          input = nothing_held;
+          input = no_records;
           output = [];
           faulted = false;
           busy = false;
@@ -155,7 +155,8 @@ impl<A: Allocator> Connection<A> {
         self.output.drain(..count);
     }
 
-    /// Whether a record was taken that is no call, or all records in front of one that is too long.
+    /// Whether a record was taken that is no call, or all records in front of one that is too long
+    /// came to their end.
     pub fn is_faulted(&self) -> bool
         ensures { (acts : List ConnAct) → IsConnection self.now acts → result ≡ is_faulted acts }
     {

@@ -2,13 +2,13 @@
 //! program that its connection serves.
 
 ghost use Rattle.std.specs.Prelude.{◌≡◌, ◌==◌, ◌++◌, true, List, Result, IfOk, OnErr, IsSome, None};
-ghost use Rattle.sv_rpc.specs.Call.{asked, call_at};
+ghost use Rattle.sv_rpc.specs.Call.{plain_call, call_at};
 ghost use Rattle.sv_vxi.specs.Arguments.{core_calls, abort_calls, is_one_of};
 ghost use Rattle.sv_vxi.specs.Reading.{arguments_at};
 ghost use Rattle.sv_server.specs.declared.event.Config.{Config as Configured};
 ghost use Rattle.sv_server.specs.Act.{BenchAct};
 ghost use Rattle.sv_server.specs.KeptBench.{IsBench};
-ghost use Rattle.sv_server.specs.Dispatch.{program_of as program_for, version_of as version_for, procedures_of, header_reply as reply_to, considered, unless_told as told_or_done, procedure as done_by, device_call as called};
+ghost use Rattle.sv_server.specs.Dispatch.{program_of as program_for, version_of as version_for, procedures_of, header_reply as reply_to, verdict_of, call_verdict as verdict_for, procedure_verdict as verdict_by, device_verdict as device_verdict_for};
 ghost use Rattle.sv_server.specs.Inside.Outcome.{ConsideredAs, IsConcluded, IsShortEnding, IsShortVerdict, verdict_makes};
 
 use crate::bench::{Bench, Ending};
@@ -87,7 +87,7 @@ fn is_core_call(proc: u32) -> bool
 
 /// The reply that the header of a call alone decides, where it does.
 pub fn header_reply(role: Role, call: &Call<'_>) -> Option<Reply>
-    ensures { result ≡ reply_to role (asked call.now) }
+    ensures { result ≡ reply_to role (plain_call call.now) }
 {
     if call.prog != program_of(role) {
         return Some(Reply::ProgUnavail);
@@ -132,7 +132,7 @@ pub enum Verdict {
 }
 
 /// A call that was executed, as it is answered.
-fn concluded(xid: u32, ending: Ending) -> Verdict
+fn execution_verdict(xid: u32, ending: Ending) -> Verdict
     ensures ends { IsConcluded xid ending result }
     ensures short { IsShortEnding ending → IsShortVerdict result }
 {
@@ -146,7 +146,7 @@ fn concluded(xid: u32, ending: Ending) -> Verdict
 }
 
 /// Does a call of the core or the abort channel.
-fn device_call<A: Allocator>(
+fn device_verdict<A: Allocator>(
     shared: &mut Bench<A>,
     conn: u8,
     call: &Call<'_>,
@@ -154,16 +154,18 @@ fn device_call<A: Allocator>(
     requires { is_one_of (core_calls ++ abort_calls) call.now.proc ≡ true }
     ensures ok { (config : Configured) (acts : List BenchAct) → IsBench shared.old config acts
         → IfOk result (λ verdict. ConsideredAs verdict shared.new config acts
-        (called config conn call.now.xid (arguments_at call.now.proc call.now.args.now) acts)) }
+        (device_verdict_for config conn call.now.xid
+        (arguments_at call.now.proc call.now.args.now) acts)) }
     ensures short { IfOk result (λ verdict. IsShortVerdict verdict) }
     ensures err { OnErr result (shared.new ≡ shared.old) }
     ensures lacks { (config : Configured) (acts : List BenchAct) → IsBench shared.old config acts
         → OnErr result (verdict_makes
-        (called config conn call.now.xid (arguments_at call.now.proc call.now.args.now) acts)
+        (device_verdict_for config conn call.now.xid
+        (arguments_at call.now.proc call.now.args.now) acts)
         ≡ true) }
 {
     match read_args(call.proc, call.args) {
-        Ok(args) => Ok(concluded(call.xid, shared.execute(conn, &args)?)),
+        Ok(args) => Ok(execution_verdict(call.xid, shared.execute(conn, &args)?)),
         Err(_) => Ok(Verdict::Answer {
             xid: call.xid,
             answer: Answer::Header(Reply::GarbageArgs),
@@ -178,18 +180,19 @@ fn procedure<A: Allocator>(
     role: Role,
     call: &Call<'_>,
 ) -> Result<Verdict, AllocError>
-    requires { reply_to role (asked call.now) ≡ None }
+    requires { reply_to role (plain_call call.now) ≡ None }
     ensures ok { (config : Configured) (acts : List BenchAct) → IsBench shared.old config acts
         → IfOk result (λ verdict. ConsideredAs verdict shared.new config acts
-        (done_by config conn role (asked call.now) acts)) }
+        (verdict_by config conn role (plain_call call.now) acts)) }
     ensures short { IfOk result (λ verdict. IsShortVerdict verdict) }
     ensures err { OnErr result (shared.new ≡ shared.old) }
     ensures lacks { (config : Configured) (acts : List BenchAct) → IsBench shared.old config acts
-        → OnErr result (verdict_makes (done_by config conn role (asked call.now) acts) ≡ true) }
+        → OnErr result (verdict_makes (verdict_by config conn role (plain_call call.now) acts)
+        ≡ true) }
 {
     match role {
-        Role::Core => device_call(shared, conn, call),
-        Role::Abort => device_call(shared, conn, call),
+        Role::Core => device_verdict(shared, conn, call),
+        Role::Abort => device_verdict(shared, conn, call),
         Role::Portmap => Ok(Verdict::Answer {
             xid: call.xid,
             answer: port_answer(shared.config, call.args),
@@ -198,7 +201,7 @@ fn procedure<A: Allocator>(
 }
 
 /// Does a call, unless its header alone decides the reply.
-fn unless_told<A: Allocator>(
+fn call_verdict<A: Allocator>(
     shared: &mut Bench<A>,
     conn: u8,
     role: Role,
@@ -206,12 +209,14 @@ fn unless_told<A: Allocator>(
 ) -> Result<Verdict, AllocError>
     ensures ok { (config : Configured) (acts : List BenchAct) → IsBench shared.old config acts
         → IfOk result (λ verdict. ConsideredAs verdict shared.new config acts
-        (told_or_done config conn role (asked call.now) (reply_to role (asked call.now)) acts)) }
+        (verdict_for config conn role (plain_call call.now)
+        (reply_to role (plain_call call.now)) acts)) }
     ensures short { IfOk result (λ verdict. IsShortVerdict verdict) }
     ensures err { OnErr result (shared.new ≡ shared.old) }
     ensures lacks { (config : Configured) (acts : List BenchAct) → IsBench shared.old config acts
         → OnErr result (verdict_makes
-        (told_or_done config conn role (asked call.now) (reply_to role (asked call.now)) acts)
+        (verdict_for config conn role (plain_call call.now)
+        (reply_to role (plain_call call.now)) acts)
         ≡ true) }
 {
     if let Some(reply) = header_reply(role, call) {
@@ -232,15 +237,15 @@ pub fn consider<A: Allocator>(
 ) -> Result<Verdict, AllocError>
     ensures ok { (config : Configured) (acts : List BenchAct) → IsBench shared.old config acts
         → IfOk result (λ verdict. ConsideredAs verdict shared.new config acts
-        (considered config conn role (call_at bytes.now) acts)) }
+        (verdict_of config conn role (call_at bytes.now) acts)) }
     ensures short { IfOk result (λ verdict. IsShortVerdict verdict) }
     ensures err { OnErr result (shared.new ≡ shared.old) }
     ensures lacks { (config : Configured) (acts : List BenchAct) → IsBench shared.old config acts
-        → OnErr result (verdict_makes (considered config conn role (call_at bytes.now) acts)
+        → OnErr result (verdict_makes (verdict_of config conn role (call_at bytes.now) acts)
         ≡ true) }
 {
     match read_call(bytes) {
-        Ok(call) => unless_told(shared, conn, role, &call),
+        Ok(call) => call_verdict(shared, conn, role, &call),
         Err(CallFault::BadHeader) => Ok(Verdict::NoCall),
         Err(CallFault::Version(xid)) => Ok(Verdict::Answer {
             xid,

@@ -3,7 +3,7 @@
 ghost use Rattle.std.specs.Prelude.{◌≡◌, ℕ, []};
 ghost use Rattle.sv_rpc.specs.Ports.{port_at};
 ghost use Rattle.sv_server.specs.PortMapper.{ports_of};
-ghost use Rattle.sv_server.specs.Dispatch.{port_told, Replies};
+ghost use Rattle.sv_server.specs.Dispatch.{port_verdict, Replies};
 ghost use Rattle.sv_server.specs.Inside.Outcome.{answer_bytes, IsShort};
 
 use crate::event::Config;
@@ -12,7 +12,7 @@ use sv_rpc::{Ports, Reply, getport};
 
 /// The answer of GETPORT.
 pub fn port_answer(config: Config, args: &[u8]) -> Answer<'static>
-    ensures answer { (xid : ℕ) → port_told xid (port_at (ports_of config) args.now)
+    ensures answer { (xid : ℕ) → port_verdict xid (port_at (ports_of config) args.now)
         ≡ Replies [] (answer_bytes xid result) }
     ensures short { IsShort result }
 {

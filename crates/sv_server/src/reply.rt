@@ -16,7 +16,8 @@ use sv_xdr::Writer;
 
 /// The longest reply with the header of its fragment, in bytes.
 pub const LONGEST_REPLY: usize = 8232;
-/// The same without that header: header, error, reason and 8,192 bytes.
+/// The same without the header of its fragment: the reply's header (24 bytes), error, reason and
+/// length (4 each), and 8,192 bytes.
 const LONGEST_TEXT: usize = LONGEST_REPLY - 4;
 
 /// What a call is answered.

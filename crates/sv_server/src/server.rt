@@ -106,7 +106,7 @@ impl<A: Allocator> Server<A> {
         }
     }
 
-    /// Whether a Turn would take a call.
+    /// Whether there is a call for a Turn to take; it may still find no room for the reply.
     pub fn ready(&self, conn: u8) -> bool
         ensures { (config : Config) (history : List PlainEvent) → StandsFor self.now config history
             → Answered (λ log. not (is_idle (of conn log))) config history result }
@@ -118,7 +118,7 @@ impl<A: Allocator> Server<A> {
     }
 
     /// Whether the connection only waits to be closed: a record that is no call was taken on it, or
-    /// all records in front of one that is too long.
+    /// all records in front of one that is too long came to their end.
     pub fn faulted(&self, conn: u8) -> bool
         ensures { (config : Config) (history : List PlainEvent) → StandsFor self.now config history
             → Answered (λ log. is_faulted (of conn log)) config history result }

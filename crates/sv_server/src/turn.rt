@@ -9,7 +9,7 @@ ghost use Rattle.sv_server.specs.KeptBench.{IsBench};
 ghost use Rattle.sv_server.specs.Dispatch.{Verdict as VerdictData};
 ghost use Rattle.sv_exchange.specs.Exchange.{response};
 ghost use Rattle.sv_server.specs.CoreChannel.{reads};
-ghost use Rattle.sv_server.specs.Dispatch.{concluded};
+ghost use Rattle.sv_server.specs.Dispatch.{execution_verdict};
 ghost use Rattle.sv_server.specs.Inside.Acting.{Turns, Concludes};
 ghost use Rattle.sv_server.specs.Inside.Outcome.{ConsideredAs, IsShortVerdict};
 
@@ -48,7 +48,7 @@ pub fn turn<A: Allocator>(
     Ok(Did::Done)
 }
 
-/// Ends the call that was taken as is said.
+/// Ends the record that was taken: by its answer, or as one that is no call.
 fn conclude<A: Allocator>(verdict: Verdict, connection: &mut Connection<A>, shared: &mut Bench<A>)
     requires { IsShortVerdict verdict }
     ensures { (config : Config) (acts : List ConnAct) (before : List BenchAct) (said : VerdictData)
@@ -76,7 +76,8 @@ fn answer_response<A: Allocator>(
     ensures { (config : Config) (acts : List ConnAct) (before : List BenchAct)
         → IsConnection connection.old acts → is_busy acts ≡ true
         → IsBench shared.old config before
-        → Concludes (concluded xid (reads (response (exchange_acts before)) most term)) config acts
+        → Concludes
+        (execution_verdict xid (reads (response (exchange_acts before)) most term)) config acts
         before connection.new shared.new }
 {
     let read = shared.exchange.peek(most, term);

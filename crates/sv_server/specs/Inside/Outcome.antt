@@ -17,7 +17,7 @@ use Rattle.sv_server.specs.Act.{BenchAct, link_acts, exchange_acts}
 use Rattle.sv_server.specs.Reply.{reply_record}
 use Rattle.sv_server.specs.Execution.{Execution}
 use Rattle.sv_server.specs.CoreChannel.{reads}
-use Rattle.sv_server.specs.Dispatch.{Verdict, NoCall, Replies, concluded}
+use Rattle.sv_server.specs.Dispatch.{Verdict, NoCall, Replies, execution_verdict}
 use Rattle.sv_server.specs.KeptBench.{Bench, IsBench}
 
 -- the reply of an answer, and the fields behind it
@@ -61,7 +61,7 @@ ConsideredAs verdicts.NoCall shared config acts verdict = (verdict ≡ NoCall) �
 ConsideredAs (verdicts.Answer xid answer) shared config acts verdict = (adds : List BenchAct)
     × (verdict ≡ Replies adds (answer_bytes xid answer)) × IsBench shared config (adds ++ acts)
 ConsideredAs (verdicts.Response xid most term) shared config acts verdict =
-    (verdict ≡ concluded xid (reads (response (exchange_acts acts)) most term)) × IsBench shared config acts
+    (verdict ≡ execution_verdict xid (reads (response (exchange_acts acts)) most term)) × IsBench shared config acts
 
 abbrev pub IsShortVerdict : Considered → Type 0
 IsShortVerdict verdicts.NoCall = ⊤

@@ -1,5 +1,5 @@
 use Rattle.std.proofs.Common.{arith}
-use Rattle.sv_rpc.proofs.Held.{finish_room, finish_keeps, finish_holds}
+use Rattle.sv_rpc.proofs.Records.{finish_room, finish_keeps, finish_holds}
 use Rattle.sv_rpc.proofs.record_buf.RecordBuf.finish.Goals as goal
 
 pub push_reserved-requires : goal.push_reserved-requires

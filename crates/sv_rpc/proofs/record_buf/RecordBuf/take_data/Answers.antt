@@ -1,5 +1,5 @@
 use Rattle.std.proofs.Common.{◌≡◌, [], take, refl, arith}
-use Rattle.sv_rpc.proofs.Held.{at_data, data_room, data_keeps, data_grown, data_ended, data_finished, ended_room}
+use Rattle.sv_rpc.proofs.Records.{at_data, data_room, data_keeps, data_grown, data_ended, data_finished, ended_room}
 use Rattle.sv_rpc.proofs.record_buf.RecordBuf.take_data.Goals as goal
 
 pub append-requires : goal.append-requires

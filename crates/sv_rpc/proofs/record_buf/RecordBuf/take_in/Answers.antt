@@ -1,7 +1,7 @@
 use Rattle.std.proofs.Common.{◌≡◌, ℕ, ◌+◌, ◌-◌, length, sym, subst, arith}
 use Rattle.std.proofs.lemmas.List.{length-take}
 use Rattle.sv_rpc.specs.Kept.{InRoom, Keeps}
-use Rattle.sv_rpc.specs.RecordBuf.{Held}
+use Rattle.sv_rpc.specs.RecordBuf.{Records}
 use Rattle.sv_rpc.proofs.Keeping.{byte_keeps, data_keeps}
 use Rattle.sv_rpc.proofs.Rooms.{byte_room}
 use Rattle.sv_rpc.proofs.Goes.{data_goes_on}
@@ -20,9 +20,9 @@ returns-in-Data-clause-goes g c =
 
 pub returns-in-Header-clause-keeps : goal.returns-in-Header-clause-keeps
 returns-in-Header-clause-keeps g c =
-    subst (λ (h : Held). Keeps c.args.self.now h) (sym c.take_header.ensures.value)
+    subst (λ (h : Records). Keeps c.args.self.now h) (sym c.take_header.ensures.value)
     (byte_keeps c.args.self.now.records c.args.self.now.tail _)
 
 pub returns-in-Data-clause-keeps : goal.returns-in-Data-clause-keeps
 returns-in-Data-clause-keeps g c =
-    subst (λ (h : Held). Keeps c.args.self.now h) (sym c.take_data.ensures) (data_keeps c.args.self.now.records c.args.self.now.tail _)
+    subst (λ (h : Records). Keeps c.args.self.now h) (sym c.take_data.ensures) (data_keeps c.args.self.now.records c.args.self.now.tail _)

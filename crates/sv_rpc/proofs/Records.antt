@@ -6,12 +6,12 @@ use Rattle.std.proofs.lemmas.List.{length-append, length-take-le, drop-drop, dro
 use Rattle.sv_rpc.specs.declared.record_buf.Place.{Place}
 use Rattle.sv_rpc.specs.declared.record_buf.Place.TheVariants as place
 use Rattle.sv_rpc.specs.Record.{Header, Data}
-use Rattle.sv_rpc.specs.RecordBuf.{Held, StandsFor, IsRoom, used_by, room_of}
-use Rattle.sv_rpc.specs.Kept.{IsKept, InRoom, IsPlace, IsBeforeHeader, IsInData, held_of, cut, tail_of, finished, begun_of, after_data}
+use Rattle.sv_rpc.specs.RecordBuf.{Records, StandsFor, IsRoom, used_by, room_of}
+use Rattle.sv_rpc.specs.Kept.{IsValid, InRoom, IsPlace, IsBeforeHeader, IsInData, held_of, cut, tail_of, finished, begun_of, after_data}
 use Rattle.sv_rpc.proofs.Cuts.{sum-push, cut-append, cut-push, used_at_header, used_in_data}
 
 -- the room of a value is the room of the stream
-pub room_answer : (held : Held) (stream : List ℕ) (dropped room : ℕ) → room ≡ room_of held → StandsFor held stream dropped
+pub room_answer : (held : Records) (stream : List ℕ) (dropped room : ℕ) → room ≡ room_of held → StandsFor held stream dropped
     → IsRoom stream dropped room
 room_answer held stream dropped room e s = (
   s.all,
@@ -22,7 +22,7 @@ room_answer held stream dropped room e s = (
 )
 
 -- one record fewer
-pub drop_answer : (old new : Held) (stream : List ℕ) (dropped : ℕ) → new ≡ record { records = drop 1 old.records; tail = old.tail }
+pub drop_answer : (old new : Records) (stream : List ℕ) (dropped : ℕ) → new ≡ record { records = drop 1 old.records; tail = old.tail }
     → old.records ≢ [] → StandsFor old stream dropped
     → StandsFor new stream (dropped + 1)
 drop_answer old new stream dropped e some s =
@@ -36,7 +36,7 @@ drop_answer old new stream dropped e some s =
 
 -- the room, by the lengths of the parts
 pub room_by_parts : (bytes lengths header : List ℕ) (space slots payload header_len begun : ℕ) (spot : Place)
-    → IsKept bytes lengths header space slots payload header_len spot
+    → IsValid bytes lengths header space slots payload header_len spot
     → begun ≡ begun_of spot header_len → 16384 - (4 * length lengths + length bytes + 4 + begun)
     ≡ room_of (held_of bytes lengths (take header_len header) spot)
 room_by_parts bytes lengths header space slots payload header_len begun place.Header k e =
@@ -58,7 +58,7 @@ before_header place.TooLong payload header h = absurd h
 
 -- where a record ends, there is a slot for its length
 pub finish_room : (bytes lengths header : List ℕ) (space slots payload header_len : ℕ) (spot : Place)
-    → IsKept bytes lengths header space slots payload header_len spot
+    → IsValid bytes lengths header space slots payload header_len spot
     → IsBeforeHeader (tail_of spot (drop (sum lengths) bytes) (take header_len header))
     → used_by (cut lengths bytes) (tail_of spot (drop (sum lengths) bytes) (take header_len header)) ≤ 16384
     → 4 * length lengths + length bytes + 4 ≤ 16384
@@ -69,10 +69,10 @@ finish_room bytes lengths header space slots payload header_len place.TooLong k 
 
 -- with its length the record is whole
 pub finish_keeps : (bytes lengths lengths' header : List ℕ) (space slots slots' payload header_len : ℕ) (spot : Place)
-    → IsKept bytes lengths header space slots payload header_len spot
+    → IsValid bytes lengths header space slots payload header_len spot
     → IsBeforeHeader (tail_of spot (drop (sum lengths) bytes) (take header_len header)) → 4 * length lengths + length bytes + 4 ≤ 16384
     → lengths' ≡ lengths ++ payload ∷ [] → slots' ≡ slots
-    → IsKept bytes lengths' header space slots' 0 header_len spot
+    → IsValid bytes lengths' header space slots' 0 header_len spot
 finish_keeps bytes lengths lengths' header space slots slots' payload header_len place.Header k h room e f = record {
   whole = omega (arith, ap sum e, sum-push lengths payload, k.whole);
   four = k.four;
@@ -85,7 +85,7 @@ finish_keeps bytes lengths lengths' header space slots slots' payload header_len
 finish_keeps bytes lengths lengths' header space slots slots' payload header_len place.TooLong k h room e f = absurd h
 
 pub finish_holds : (bytes lengths lengths' header : List ℕ) (space slots payload header_len : ℕ) (spot : Place)
-    → IsKept bytes lengths header space slots payload header_len spot
+    → IsValid bytes lengths header space slots payload header_len spot
     → IsBeforeHeader (tail_of spot (drop (sum lengths) bytes) (take header_len header)) → lengths' ≡ lengths ++ payload ∷ []
     → held_of bytes lengths' (take header_len header) spot
     ≡ finished (cut lengths bytes) (tail_of spot (drop (sum lengths) bytes) (take header_len header))
@@ -94,7 +94,7 @@ finish_holds bytes lengths lengths' header space slots payload header_len place.
     ap (λ (ns : List ℕ). cut ns bytes) e ∙ cut-push lengths bytes payload k.whole in
     let size : sum lengths' ≡ length bytes = omega (arith, ap sum e, sum-push lengths payload, k.whole) in
     let rest : drop (sum lengths') bytes ≡ [] = drop_all (sum lengths') bytes (omega arith) in
-    let made : List (List ℕ) → List ℕ → List ℕ → Held = λ rs payload header. record { records = rs; tail = Header payload header } in
+    let made : List (List ℕ) → List ℕ → List ℕ → Records = λ rs payload header. record { records = rs; tail = Header payload header } in
     ap (λ (rs : List (List ℕ)). made rs (drop (sum lengths') bytes) (take header_len header)) records
     ∙ ap (λ (p : List ℕ). made (cut lengths bytes ++ drop (sum lengths) bytes ∷ []) p (take header_len header)) rest
     ∙ ap (λ (p : List ℕ). made (cut lengths bytes ++ drop (sum lengths) bytes ∷ []) [] p) h
@@ -110,7 +110,7 @@ at_data place.TooLong payload header missing last h = absurd h
 
 -- how many bytes there are with a piece of data
 pub data_room : (bytes lengths header : List ℕ) (space slots payload header_len n missing : ℕ) (last : Bool) (spot : Place)
-    → IsKept bytes lengths header space slots payload header_len spot
+    → IsValid bytes lengths header space slots payload header_len spot
     → spot ≡ place.Data missing last → InRoom (held_of bytes lengths (take header_len header) spot) n
     → 4 * length lengths + length bytes + 4 + n ≤ 16384
 data_room bytes lengths header space slots payload header_len n missing last place.Header k e room = absurd cc
@@ -120,10 +120,10 @@ data_room bytes lengths header space slots payload header_len n missing last pla
 
 -- the fields with a piece of data
 pub data_keeps : (bytes bytes' lengths header piece : List ℕ) (space space' slots payload header_len : ℕ) (spot spot' : Place)
-    → IsKept bytes lengths header space slots payload header_len spot → bytes' ≡ bytes ++ piece → space ≤ space'
+    → IsValid bytes lengths header space slots payload header_len spot → bytes' ≡ bytes ++ piece → space ≤ space'
     → 4 * length lengths + length bytes + 4 + length piece ≤ 16384
     → IsPlace spot' (payload + length piece) header_len
-    → IsKept bytes' lengths header space' slots (payload + length piece) header_len spot'
+    → IsValid bytes' lengths header space' slots (payload + length piece) header_len spot'
 data_keeps bytes bytes' lengths header piece space space' slots payload header_len spot spot' k e f room at =
     let size : length bytes' ≡ length bytes + length piece = ap length e ∙ length-append bytes piece in
     record {
@@ -148,18 +148,18 @@ data_holds bytes bytes' lengths header piece n spot' whole e =
     let records : cut lengths bytes' ≡ cut lengths bytes = ap (cut lengths) e ∙ cut-append lengths bytes piece le in
     let payload : drop (sum lengths) bytes' ≡ drop (sum lengths) bytes ++ piece =
     ap (drop (sum lengths)) e ∙ drop-append-le (sum lengths) bytes piece le in
-    let made : List (List ℕ) → List ℕ → Held = λ rs p. record { records = rs; tail = tail_of spot' p header } in
+    let made : List (List ℕ) → List ℕ → Records = λ rs p. record { records = rs; tail = tail_of spot' p header } in
     ap (λ (rs : List (List ℕ)). made rs (drop (sum lengths) bytes')) records ∙ ap (made (cut lengths bytes)) payload
 
 -- a piece of data that isn't the last of its fragment
-pub data_grown : (bytes bytes' lengths header piece : List ℕ) (n missing : ℕ) (last : Bool) (spot : Place) (old : Held)
+pub data_grown : (bytes bytes' lengths header piece : List ℕ) (n missing : ℕ) (last : Bool) (spot : Place) (old : Records)
     → held_of bytes lengths header spot ≡ old
     → spot ≡ place.Data missing last → sum lengths + n ≡ length bytes → bytes' ≡ bytes ++ piece → length piece < missing
     → held_of bytes' lengths header (place.Data (missing - length piece) last) ≡ after_data old.records old.tail piece
 data_grown bytes bytes' lengths header piece n missing last spot old is at whole e less =
     let old_is : held_of bytes lengths header (place.Data missing last) ≡ old = ap (held_of bytes lengths header) (sym at) ∙ is in
     data_holds bytes bytes' lengths header piece n (place.Data (missing - length piece) last) whole e
-    ∙ subst (λ (h : Held). record {
+    ∙ subst (λ (h : Records). record {
       records = cut lengths bytes;
       tail =
           Data (drop (sum lengths) bytes ++ piece) (missing - length piece) last;
@@ -167,7 +167,7 @@ data_grown bytes bytes' lengths header piece n missing last spot old is at whole
     (rw (lt-ltb (length piece) missing less) refl)
 
 -- the piece that ends a fragment, not the last one
-pub data_ended : (bytes bytes' lengths header piece : List ℕ) (n missing : ℕ) (last : Bool) (spot : Place) (old : Held)
+pub data_ended : (bytes bytes' lengths header piece : List ℕ) (n missing : ℕ) (last : Bool) (spot : Place) (old : Records)
     → held_of bytes lengths header spot ≡ old
     → spot ≡ place.Data missing last → sum lengths + n ≡ length bytes → bytes' ≡ bytes ++ piece → missing ≤ length piece → header ≡ []
     → last ≡ false
@@ -175,12 +175,12 @@ pub data_ended : (bytes bytes' lengths header piece : List ℕ) (n missing : ℕ
 data_ended bytes bytes' lengths header piece n missing last spot old is at whole e all none other =
     let old_is : held_of bytes lengths header (place.Data missing last) ≡ old = ap (held_of bytes lengths header) (sym at) ∙ is in
     data_holds bytes bytes' lengths header piece n place.Header whole e
-    ∙ subst (λ (h : Held). record { records = cut lengths bytes; tail = Header (drop (sum lengths) bytes ++ piece) header }
+    ∙ subst (λ (h : Records). record { records = cut lengths bytes; tail = Header (drop (sum lengths) bytes ++ piece) header }
     ≡ after_data h.records h.tail piece) old_is
     (rw (le-ltb (length piece) missing all, other, none) refl)
 
 -- the piece that ends the last fragment: the record is whole
-pub data_finished : (bytes bytes' lengths header piece : List ℕ) (n missing : ℕ) (last : Bool) (spot : Place) (old new : Held)
+pub data_finished : (bytes bytes' lengths header piece : List ℕ) (n missing : ℕ) (last : Bool) (spot : Place) (old new : Records)
     → held_of bytes lengths header spot ≡ old
     → spot ≡ place.Data missing last → sum lengths + n ≡ length bytes → bytes' ≡ bytes ++ piece → missing ≤ length piece → last ≡ true
     → new ≡ finished (cut lengths bytes') (Header (drop (sum lengths) bytes') header) → new ≡ after_data old.records old.tail piece
@@ -188,8 +188,8 @@ data_finished bytes bytes' lengths header piece n missing last spot old new is a
     let old_is : held_of bytes lengths header (place.Data missing last) ≡ old = ap (held_of bytes lengths header) (sym at) ∙ is in
     let parts = data_holds bytes bytes' lengths header piece n place.Header whole e in
     let ended : new ≡ finished (cut lengths bytes) (Header (drop (sum lengths) bytes ++ piece) header) =
-    value ∙ ap (λ (h : Held). finished h.records h.tail) parts in
-    ended ∙ subst (λ (h : Held). finished (cut lengths bytes) (Header (drop (sum lengths) bytes ++ piece) header)
+    value ∙ ap (λ (h : Records). finished h.records h.tail) parts in
+    ended ∙ subst (λ (h : Records). finished (cut lengths bytes) (Header (drop (sum lengths) bytes ++ piece) header)
     ≡ after_data h.records h.tail piece) old_is
     (rw (le-ltb (length piece) missing all, other) refl)
 
