@@ -64,22 +64,9 @@ fn failure(args: &Args<'_>, error: ErrorCode) -> VxiResult<'static>
     ensures short { data_of (plain_result result) ≡ [] }
 {
     match *args {
-        Args::CreateLink { .. } => VxiResult::Link {
-            error,
-            lid: 0,
-            abort_port: 0,
-            max_recv_size: 0,
-        },
-        Args::DeviceWrite { .. } => VxiResult::Size { error, size: 0 },
-        Args::DeviceRead { .. } => VxiResult::Read {
-            error,
-            reason: Reason {
-                request_count: false,
-                character: false,
-                end: false,
-            },
-            bytes: &[],
-        },
+        Args::CreateLink { .. } => no_link(error),
+        Args::DeviceWrite { .. } => written(error, 0),
+        Args::DeviceRead { .. } => nothing_read(error),
         Args::DeviceReadstb { .. } => VxiResult::Status { error, stb: 0 },
         Args::DeviceDocmd { .. } => VxiResult::Data { error, bytes: &[] },
         Args::DeviceAbort { .. }
@@ -92,7 +79,7 @@ fn failure(args: &Args<'_>, error: ErrorCode) -> VxiResult<'static>
         | Args::DeviceEnableSrq { .. }
         | Args::DestroyLink { .. }
         | Args::CreateIntrChan { .. }
-        | Args::DestroyIntrChan => VxiResult::Plain { error },
+        | Args::DestroyIntrChan => plain(error),
     }
 }
 
