@@ -1,1 +1,1 @@
-pub mod LiveLinks
+pub mod Tables
