@@ -21,7 +21,7 @@ tail_alone front bytes tail is = record {
   sent = [];
   rest = flat_map (fragment false) front ++ bytes;
   whole = refl;
-  told = refl;
+  records_are = refl;
   taken = tt;
   behind = is;
 }
@@ -48,7 +48,7 @@ last_more front text rest all tail short splits =
       sent = first ∷ splits.sent;
       rest = splits.rest;
       whole = ap (λ (l : List ℕ). flat_map (fragment false) front ++ (fragment true text ++ l)) splits.whole ∙ (simp append_assoc);
-      told = ap (λ (l : List (List ℕ)). (concat front ++ text) ∷ l) splits.told;
+      records_are = ap (λ (l : List (List ℕ)). (concat front ++ text) ∷ l) splits.records_are;
       taken = (short, splits.taken);
       behind = splits.behind;
     }

@@ -18,7 +18,7 @@ held records tail = record { records = records; tail = tail }
 same_records : (records : List (List ℕ)) (s t : Tail) (stream piece : List ℕ) (dropped : ℕ) (st : StandsFor (held records s) stream dropped)
     → Splits (stream ++ piece) st.all t
     → StandsFor (held records t) (stream ++ piece) dropped
-same_records records s t stream piece dropped st splits = record { all = st.all; splits = splits; few = st.few; kept = st.kept }
+same_records records s t stream piece dropped st splits = record { all = st.all; splits = splits; bounded = st.bounded; kept = st.kept }
 
 -- a record more
 more_records : (records : List (List ℕ)) (r : List ℕ) (s t : Tail) (stream piece : List ℕ) (dropped : ℕ)
@@ -27,8 +27,8 @@ more_records : (records : List (List ℕ)) (r : List ℕ) (s t : Tail) (stream p
 more_records records r s t stream piece dropped st splits = record {
   all = st.all ++ r ∷ [];
   splits = splits;
-  few = omega (arith, length-append st.all (r ∷ []), st.few);
-  kept = ap (λ (rs : List (List ℕ)). rs ++ r ∷ []) st.kept ∙ sym (drop-append-le dropped st.all (r ∷ []) st.few);
+  bounded = omega (arith, length-append st.all (r ∷ []), st.bounded);
+  kept = ap (λ (rs : List (List ℕ)). rs ++ r ∷ []) st.kept ∙ sym (drop-append-le dropped st.all (r ∷ []) st.bounded);
 }
 
 -- a whole header

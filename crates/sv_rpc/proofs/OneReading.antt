@@ -119,7 +119,7 @@ tail_reads rest TooLong is =
 
 -- a stream is read as it splits
 splits_read : (stream : List ℕ) (all : List (List ℕ)) (tail : Tail) → Splits stream all tail → Reads [] stream (all, tail)
-splits_read stream all tail splits = rw (splits.whole, ← splits.told)
+splits_read stream all tail splits = rw (splits.whole, ← splits.records_are)
     (records_read splits.sent splits.rest tail splits.taken (tail_reads splits.rest tail splits.behind))
 
 -- a stream that splits in two ways is read as both

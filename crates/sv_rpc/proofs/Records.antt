@@ -17,7 +17,7 @@ room_answer held stream dropped room e s = (
   s.all,
   held.tail,
   s.splits,
-  s.few,
+  s.bounded,
   e ∙ ap (λ (rs : List (List ℕ)). 16384 - used_by rs held.tail) s.kept,
 )
 
@@ -32,7 +32,7 @@ drop_answer old new stream dropped e some s =
       | inr le ↦
           absurd (some (s.kept ∙ drop_all dropped s.all le))
     ] in
-    rw e (record { all = s.all; splits = s.splits; few = few; kept = kept })
+    rw e (record { all = s.all; splits = s.splits; bounded = few; kept = kept })
 
 -- the room, by the lengths of the parts
 pub room_by_parts : (bytes lengths header : List ℕ) (space slots payload header_len begun : ℕ) (spot : Place)

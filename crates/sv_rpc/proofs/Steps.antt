@@ -21,7 +21,7 @@ longer stream piece all s t splits behind = record {
   sent = splits.sent;
   rest = splits.rest ++ piece;
   whole = rw (splits.whole, append_assoc) refl;
-  told = splits.told;
+  records_are = splits.records_are;
   taken = splits.taken;
   behind = behind;
 }
@@ -34,14 +34,14 @@ one_more stream piece all text s splits sent is text_is taken = record {
   sent = splits.sent ++ sent ∷ [];
   rest = [];
   whole = rw (splits.whole, append_assoc, is, flat_map-append bytes_of splits.sent (sent ∷ [])) (simp append-nil);
-  told = rw (map_push record_of splits.sent sent, splits.told, text_is) refl;
+  records_are = rw (map_push record_of splits.sent sent, splits.records_are, text_is) refl;
   taken = all_push IsTaken splits.sent sent splits.taken (rw (← text_is) taken);
   behind = ([], refl, refl, omega arith, omega arith);
 }
 
 -- the empty stream is no record, and no byte of a header
 pub nothing_splits : Splits [] [] (Header [] [])
-nothing_splits = record { sent = []; rest = []; whole = refl; told = refl; taken = tt; behind = ([], refl, refl, omega arith, omega arith) }
+nothing_splits = record { sent = []; rest = []; whole = refl; records_are = refl; taken = tt; behind = ([], refl, refl, omega arith, omega arith) }
 
 -- a byte that does not complete the header
 pub header_grows : (stream : List ℕ) (all : List (List ℕ)) (payload header : List ℕ) (byte : ℕ) → Splits stream all (Header payload header)

@@ -54,6 +54,6 @@ pub record Splits (stream : List ℕ) (records : List (List ℕ)) (tail : Tail) 
   pub sent : List Sent
   pub rest : List ℕ
   pub whole : stream ≡ flat_map bytes_of sent ++ rest
-  pub told : map record_of sent ≡ records
+  pub records_are : map record_of sent ≡ records
   pub taken : AllByRecursion IsTaken sent
   pub behind : IsTail rest tail

@@ -17,7 +17,7 @@ no_records = record { records = []; tail = Header [] [] }
 pub record StandsFor (held : Records) (stream : List ℕ) (dropped : ℕ) : Type 0 where
   pub all : List (List ℕ)
   pub splits : Splits stream all held.tail
-  pub few : dropped ≤ length all
+  pub bounded : dropped ≤ length all
   pub kept : held.records ≡ drop dropped all
 
 -- how many bytes are counted, in all, for whole records that stand there and for the unfinished one, which counts 4 even when nothing of it

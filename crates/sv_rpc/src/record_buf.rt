@@ -166,7 +166,7 @@ impl<A: Allocator> RecordBuf<A> {
         requires fits { InRoom self.old (length piece.now) }
         ensures some { (0 < result) × (result ≤ length piece.now) }
         ensures fits { InRoom self.new (length piece.now - result) }
-        ensures goes { GoesOn self.old self.new (take result piece.now) }
+        ensures stands { GoesOn self.old self.new (take result piece.now) }
         ensures keeps { Keeps self.old self.new }
     {
         match self.place {
@@ -188,7 +188,7 @@ impl<A: Allocator> RecordBuf<A> {
         requires header { IsInHeader self.old.tail }
         requires fits { InRoom self.old 1 }
         ensures value { self.new ≡ after_byte self.old.records self.old.tail byte }
-        ensures goes { GoesOn self.old self.new (byte ∷ []) }
+        ensures stands { GoesOn self.old self.new (byte ∷ []) }
     {
         let mut header = self.header;
         header[self.header_len] = byte;

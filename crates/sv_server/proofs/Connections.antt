@@ -61,7 +61,7 @@ tail_is kept acts is = (read_alone (stream acts) is.input.all kept.input.tail is
 
 few_ended : (kept : Connection) (acts : List ConnAct) → IsConnection kept acts → ended acts ≤ length (records_of (stream acts))
 few_ended kept acts is =
-    omega (arith, is.input.few, ap length (read_alone (stream acts) is.input.all kept.input.tail is.input.splits).0)
+    omega (arith, is.input.bounded, ap length (read_alone (stream acts) is.input.all kept.input.tail is.input.splits).0)
 
 -- the call to take next
 pub next_is : (kept : Connection) (acts : List ConnAct) → IsConnection kept acts → kept_next kept ≡ next_call acts

@@ -37,7 +37,7 @@ pub fn put_reply<A: Allocator>(out: &mut Vec<u8, A>, xid: u32, answer: &Answer<'
     requires short { IsShort answer.now }
     ensures sent { out.new.items ≡ out.old.items ++ answer_bytes xid answer.now }
     ensures capacity { vec_capacity out.old ≤ vec_capacity out.new }
-    ensures grows { vec_len out.new ≤ vec_len out.old + 8232 }
+    ensures bounded { vec_len out.new ≤ vec_len out.old + 8232 }
 {
     let mut text = [0; LONGEST_TEXT];
     let mut writer = Writer::new(&mut text);
@@ -75,7 +75,7 @@ fn put_record<A: Allocator>(out: &mut Vec<u8, A>, text: &[u8])
     requires short { length text.now < 2 ^ 31 }
     ensures sent { out.new.items ≡ out.old.items ++ fragment true text.now }
     ensures capacity { vec_capacity out.old ≤ vec_capacity out.new }
-    ensures grows { vec_len out.new ≡ vec_len out.old + 4 + length text.now }
+    ensures bounded { vec_len out.new ≡ vec_len out.old + 4 + length text.now }
 {
     let header = text.len() as u32 + (1 << 31);
     append(out, &header.to_be_bytes());

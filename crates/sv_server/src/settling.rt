@@ -19,7 +19,7 @@ const IDENTITY: &[u8] = b"SCANVOLT,SV32,0,1.0";
 fn step<A: Allocator>(exchange: &mut Exchange<A>) -> bool
     ensures done { (acts : List ExchangeAct) → HoldsExchange exchange.old acts
         → ExchangeStep result acts exchange.old exchange.new }
-    ensures less { IsTrue result → work_of exchange.new < work_of exchange.old }
+    ensures measure { IsTrue result → work_of exchange.new < work_of exchange.old }
 {
     match exchange.next_unit() {
         Next::Nothing => return false,
@@ -42,7 +42,7 @@ impl<A: Allocator> Bench<A> {
     fn step(&mut self) -> bool
         ensures done { (config : Config) (acts : List BenchAct) → IsBench self.old config acts
             → StepDone result config acts self.old self.new }
-        ensures less { IsTrue result → work_of self.new.exchange < work_of self.old.exchange }
+        ensures measure { IsTrue result → work_of self.new.exchange < work_of self.old.exchange }
     {
         step(&mut self.exchange)
     }

@@ -23,11 +23,11 @@ returns-clause-sent g c =
     c.put_record.ensures.sent ∙ ap (λ (t : List ℕ). c.args.out.now.items ++ fragment true t)
     (c.text.ensures ∙ c.write_answer.ensures.written)
 
-pub returns-clause-grows : goal.returns-clause-grows
-returns-clause-grows g c =
+pub returns-clause-bounded : goal.returns-clause-bounded
+returns-clause-bounded g c =
     omega (
       arith,
-      c.put_record.ensures.grows,
+      c.put_record.ensures.bounded,
       ap length (c.text.ensures ∙ c.write_answer.ensures.written),
       answer_is_short c.args.xid c.args.answer.now c.requires.short,
     )

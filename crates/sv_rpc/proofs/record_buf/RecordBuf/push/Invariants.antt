@@ -6,7 +6,7 @@ use Rattle.sv_rpc.proofs.record_buf.RecordBuf.push.Given as goal
 abbrev pub invariant-loop-rest : goal.invariant-loop-rest
 invariant-loop-rest g l = record {
   fits : 0 < length l.rest → InRoom l.self (length l.rest);
-  goes : (taken : List ℕ) × (l.fn.piece ≡ taken ++ l.rest) × GoesOn l.fn.self l.self taken;
+  stands : (taken : List ℕ) × (l.fn.piece ≡ taken ++ l.rest) × GoesOn l.fn.self l.self taken;
   keeps : Keeps l.fn.self l.self;
 }
 

@@ -13,8 +13,8 @@ returns-in-Header-clause-fits g c =
     byte_room c.args.self.now c.take_header.new.self _ _ (rw (← c.self.view_is, c.in-Header.is) tt) c.take_header.ensures.value
     (subst (λ (n : ℕ). InRoom c.args.self.now n) one_more c.requires.fits)
 
-pub returns-in-Data-clause-goes : goal.returns-in-Data-clause-goes
-returns-in-Data-clause-goes g c =
+pub returns-in-Data-clause-stands : goal.returns-in-Data-clause-stands
+returns-in-Data-clause-stands g c =
     data_goes_on _ _ _ _ c.args.self.now _ _ _ _ c.self.view_is c.in-Data.is c.take_data.ensures
     (omega (arith, c.min-count.ensures, length-take c.min-count.result c.args.piece.now))
 
