@@ -1,5 +1,5 @@
-//! What all layers of the instrument share: the error codes, the error queue, what a layer is, and
-//! how far numbers reach.
+//! What all layers of the instrument share: the error codes, the error queue, what a layer is, how
+//! far numbers reach, and where triggers come from.
 //!
 //! Only [`ErrorQueue::new`] takes memory.
 #![tactic(auto)]
@@ -8,8 +8,10 @@ mod code;
 mod error_queue;
 mod layer;
 mod limits;
+mod source;
 
 pub use code::Code;
 pub use error_queue::{ErrorQueue, QueueAct, QueueAnswer};
 pub use layer::{Layer, act_each};
 pub use limits::{CHANNELS, MOST_MICROVOLTS, is_channel};
+pub use source::Source;
