@@ -6,6 +6,16 @@ abbrev pub since : {A : Type 0} → (A → Bool) → List A → List A
 since is_start [] = []
 since is_start (act ∷ acts) = if is_start act then [] else act ∷ since is_start acts
 
+-- the newest place that is such a one; the empty list where none is
+abbrev pub newest : {A : Type 0} → (List A → Bool) → List A → List A
+newest is_such [] = []
+newest is_such (act ∷ acts) = if is_such (act ∷ acts) then act ∷ acts else newest is_such acts
+
+-- the acts since that place
+abbrev pub since_place : {A : Type 0} → (List A → Bool) → List A → List A
+since_place is_such [] = []
+since_place is_such (act ∷ acts) = if is_such (act ∷ acts) then [] else act ∷ since_place is_such acts
+
 -- Some place, so many acts ago, is a find, and each place since then, that one included, keeps it.
 pub record Since {A : Type 0} (IsFind Keeps : List A → Type 0) (log : List A) : Type 0 where
   pub ago : ℕ

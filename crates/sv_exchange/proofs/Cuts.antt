@@ -3,8 +3,8 @@ use Rattle.std.proofs.Common.{◌≡◌, ℕ, zero, suc, ◌+◌, ◌==◌, Bool
 use Rattle.std.proofs.lemmas.Bool.{cases_lt, lt-ltb, le-ltb}
 use Rattle.sv_text.specs.Cut.{onto}
 use Rattle.sv_exchange.specs.Exchange.{Symbol, Byte, End, messages}
-use Rattle.sv_exchange.specs.ExchangeHeld.{symbols, following}
-use Rattle.sv_exchange.specs.ExchangeKept.{first_size, has_line, second_at}
+use Rattle.sv_exchange.specs.Contents.{symbols, following}
+use Rattle.sv_exchange.specs.Fields.{first_size, has_line, second_at}
 
 -- a byte in front of the first part leaves the parts behind it
 onto_some : (b : ℕ) (parts : List (List ℕ)) → (first : List ℕ) × (others : List (List ℕ)) × (onto b parts ≡ first ∷ others)

@@ -2,8 +2,8 @@
 use Rattle.std.proofs.Common.{◌≡◌, ℕ, zero, suc, ◌+◌, ◌-◌, ◌==◌, Bool, true, false, not, ◌&&◌, cond, List, [], ◌∷◌, ◌++◌, length, drop, Option, Some, None, refl, sym, ap, ◌∙◌, nat_lt, slice_get, slice_index_or, get_or, arith}
 use Rattle.std.proofs.lemmas.Bool.{lt-ltb, le-ltb, ne_eqb}
 use Rattle.std.proofs.lemmas.List.{length-drop, get_or-drop}
-use Rattle.sv_exchange.specs.Exchange.{ExchangeAct, text, messages, message, finished, current, units, units_done, has_ended, is_long, has_overrun, has_dropped, next_unit, answers, response, is_something, Due, OverrunDue, UnitDue, FinishDue, due, due_unit}
-use Rattle.sv_exchange.specs.ExchangeHeld.{Held, StandsFor, IsSaid, IsUnitDue, symbols, following, shown, shown_by, next_of, unit_of}
+use Rattle.sv_exchange.specs.Exchange.{ExchangeAct, text, messages, message, finished, current, units, units_done, has_ended, is_long, has_overrun, has_dropped, next_unit, answers, response, is_something, Due, OverrunDue, InterruptDue, UnitDue, FinishDue, due, due_unit}
+use Rattle.sv_exchange.specs.Contents.{Contents, StandsFor, IsShown, IsUnitDue, symbols, following, shown, shown_by, next_of, unit_of}
 use Rattle.sv_exchange.proofs.Cuts.{messages_some}
 
 -- whether there is a message behind the current one
@@ -19,8 +19,9 @@ ended_by parts k message false later mark e =
     le-ltb (k + 1) (length parts) (omega arith)
 
 -- whether the current message has ended
-pub ended_is : (held : Held) (acts : List ExchangeAct) → StandsFor held acts → has_ended acts ≡ held.ended
-ended_is held acts s = ended_by (messages (text acts)) (finished acts) s.message held.ended held.later held.mark s.text_left
+pub ended_is : (contents : Contents) (acts : List ExchangeAct) → StandsFor contents acts → has_ended acts ≡ contents.ended
+ended_is contents acts s =
+    ended_by (messages (text acts)) (finished acts) s.message contents.ended contents.later contents.end_pending s.text_left
 
 -- the part at a place
 part_at : (parts : List (List ℕ)) (k : ℕ) (message : List ℕ) (others : List (List ℕ)) → drop k parts ≡ message ∷ others
@@ -30,22 +31,22 @@ part_at parts k message others e =
     sym (ap (λ (n : ℕ). get_or parts n []) place) ∙ sym (get_or-drop k parts 0 []) ∙ ap (λ (ps : List (List ℕ)). get_or ps 0 []) e
 
 -- the current message
-pub message_is : (held : Held) (acts : List ExchangeAct) (s : StandsFor held acts) → message acts ≡ s.message
-message_is held acts s = part_at (messages (text acts)) (finished acts) s.message _ s.text_left
+pub message_is : (contents : Contents) (acts : List ExchangeAct) (s : StandsFor contents acts) → message acts ≡ s.message
+message_is contents acts s = part_at (messages (text acts)) (finished acts) s.message _ s.text_left
 
 -- whether it is too long
-pub long_is : (held : Held) (acts : List ExchangeAct) → StandsFor held acts → is_long acts ≡ held.long
-long_is held acts s = ap (λ (m : List ℕ). nat_lt 4096 (length m)) (message_is held acts s) ∙ sym s.size
+pub long_is : (contents : Contents) (acts : List ExchangeAct) → StandsFor contents acts → is_long acts ≡ contents.overlong
+long_is contents acts s = ap (λ (m : List ℕ). nat_lt 4096 (length m)) (message_is contents acts s) ∙ sym s.size
 
 -- what can be read, by what is kept
-pub shown_is : (answering : Bool) (out : List ℕ) (given : List (List ℕ)) (readable : List ℕ) → IsSaid answering out given readable
+pub shown_is : (answering : Bool) (out : List ℕ) (given : List (List ℕ)) (readable : List ℕ) → IsShown answering out given readable
     → readable ≡ shown answering out
 shown_is true out given readable said = said.2
 shown_is false out given readable said = said.1
 
 -- what can be read is the response
-pub readable_is : (held : Held) (acts : List ExchangeAct) → StandsFor held acts → response acts ≡ shown_by held
-readable_is held acts s = shown_is held.answering held.out (answers acts) (response acts) s.said
+pub readable_is : (contents : Contents) (acts : List ExchangeAct) → StandsFor contents acts → response acts ≡ shown_by contents
+readable_is contents acts s = shown_is contents.answering contents.output (answers acts) (response acts) s.shows
 
 -- the element behind so many
 get_behind : (xs ys : List (List ℕ)) (n : ℕ) → length xs ≡ n → slice_get (xs ++ ys) n ≡ slice_get ys 0
@@ -63,22 +64,24 @@ same_unit true false false x y h = h refl
 same_unit false long lost x y h = refl
 
 -- the next unit
-pub unit_is : (held : Held) (acts : List ExchangeAct) → StandsFor held acts → next_unit acts ≡ unit_of held
-unit_is held acts s =
-    let ended = ended_is held acts s in
-    let long = long_is held acts s in
-    let message_here = message_is held acts s in
-    let found : held.long ≡ false → slice_get (units (message acts)) (units_done (current acts)) ≡ slice_get (units held.rest) 0 =
+pub unit_is : (contents : Contents) (acts : List ExchangeAct) → StandsFor contents acts → next_unit acts ≡ unit_of contents
+unit_is contents acts s =
+    let ended = ended_is contents acts s in
+    let long = long_is contents acts s in
+    let message_here = message_is contents acts s in
+    let found : contents.overlong ≡ false
+    → slice_get (units (message acts)) (units_done (current acts)) ≡ slice_get (units contents.rest) 0 =
     λ short. ap (λ (m : List ℕ). slice_get (units m) (units_done (current acts))) message_here
     ∙ ap (λ (us : List (List ℕ)). slice_get us (units_done (current acts))) (s.units_left short)
-    ∙ get_behind s.executed (units held.rest) (units_done (current acts)) s.count in
+    ∙ get_behind s.executed (units contents.rest) (units_done (current acts)) s.count in
     ap (λ (b : Bool). cond (b && (not (is_long acts) && not (has_dropped (current acts))))
     (slice_get (units (message acts)) (units_done (current acts))) None) ended
-    ∙ ap (λ (b : Bool). cond (held.ended && (not b && not (has_dropped (current acts))))
+    ∙ ap (λ (b : Bool). cond (contents.ended && (not b && not (has_dropped (current acts))))
     (slice_get (units (message acts)) (units_done (current acts))) None) long
-    ∙ ap (λ (b : Bool). cond (held.ended && (not held.long && not b)) (slice_get (units (message acts)) (units_done (current acts))) None)
-    s.lost
-    ∙ same_unit held.ended held.long held.lost _ _ found
+    ∙ ap (λ (b : Bool). cond (contents.ended && (not contents.overlong && not b))
+    (slice_get (units (message acts)) (units_done (current acts))) None)
+    s.answers_dropped
+    ∙ same_unit contents.ended contents.overlong contents.answers_dropped _ _ found
 
 -- whether there is something, by the length
 pub something_by_length : (bytes : List ℕ) → not (length bytes == 0) ≡ is_something bytes
@@ -96,32 +99,36 @@ abbrev due_by : Bool → Bool → Option (List ℕ) → Bool → Bool → Due
 due_by long told unit interrupts ended = cond (long && not told) OverrunDue (due_unit unit interrupts ended)
 
 -- what is due by the acts is due by what is held
-pub due_is : (held : Held) (acts : List ExchangeAct) → StandsFor held acts → next_of held ≡ due acts
-due_is held acts s =
-    let interrupts = interrupts_is (units_done (current acts) == 0) (response acts) s.quiet ∙ ap is_something (readable_is held acts s) in
+pub due_is : (contents : Contents) (acts : List ExchangeAct) → StandsFor contents acts → next_of contents ≡ due acts
+due_is contents acts s =
+    let interrupts = interrupts_is (units_done (current acts) == 0) (response acts) s.no_response
+    ∙ ap is_something (readable_is contents acts s) in
     let told = has_overrun (current acts) in
     let first = (units_done (current acts) == 0) && is_something (response acts) in
-    sym (ap (λ (b : Bool). due_by b told (next_unit acts) first (has_ended acts)) (long_is held acts s)
-    ∙ ap (λ (b : Bool). due_by held.long b (next_unit acts) first (has_ended acts)) s.told
-    ∙ ap (λ (u : Option (List ℕ)). due_by held.long held.told u first (has_ended acts)) (unit_is held acts s)
-    ∙ ap (λ (b : Bool). due_by held.long held.told (unit_of held) b (has_ended acts)) interrupts
-    ∙ ap (λ (b : Bool). due_by held.long held.told (unit_of held) (is_something (shown_by held)) b) (ended_is held acts s))
+    sym (ap (λ (b : Bool). due_by b told (next_unit acts) first (has_ended acts)) (long_is contents acts s)
+    ∙ ap (λ (b : Bool). due_by contents.overlong b (next_unit acts) first (has_ended acts)) s.overrun_reported
+    ∙ ap (λ (u : Option (List ℕ)). due_by contents.overlong contents.overrun_reported u first (has_ended acts)) (unit_is contents acts s)
+    ∙ ap (λ (b : Bool). due_by contents.overlong contents.overrun_reported (unit_of contents) b (has_ended acts)) interrupts
+    ∙ ap (λ (b : Bool). due_by contents.overlong contents.overrun_reported (unit_of contents) (is_something (shown_by contents)) b)
+    (ended_is contents acts s))
 
 -- The message at which a unit is due has ended, is not too long, lost no answers, and nothing can be read.
-pub record IsAtUnit (held : Held) : Type 0 where
-  pub ended : held.ended ≡ true
-  pub short : held.long ≡ false
-  pub kept : held.lost ≡ false
-  pub quiet : is_something (shown_by held) ≡ false
+pub record IsAtUnit (contents : Contents) : Type 0 where
+  pub ended : contents.ended ≡ true
+  pub short : contents.overlong ≡ false
+  pub kept : contents.answers_dropped ≡ false
+  pub no_response : is_something (shown_by contents) ≡ false
 
 -- this is so where a unit is due
-pub at_unit : (held : Held) → IsUnitDue (next_of held) → IsAtUnit held
-at_unit held due = at held.ended held.long held.told held.lost (is_something (shown_by held))
-    (slice_get (units held.rest) 0) refl refl refl refl due.1
+pub at_unit : (contents : Contents) → IsUnitDue (next_of contents) → IsAtUnit contents
+at_unit contents due =
+    at contents.ended contents.overlong contents.overrun_reported contents.answers_dropped (is_something (shown_by contents))
+    (slice_get (units contents.rest) 0) refl refl refl refl due.1
   where
-    at : (ended long told lost something : Bool) (found : Option (List ℕ)) → held.ended ≡ ended → held.long ≡ long → held.lost ≡ lost
-        → is_something (shown_by held) ≡ something
-        → due_by long told (cond (ended && (not long && not lost)) found None) something ended ≡ UnitDue due.0 → IsAtUnit held
+    at : (ended long told lost something : Bool) (found : Option (List ℕ)) → contents.ended ≡ ended → contents.overlong ≡ long
+        → contents.answers_dropped ≡ lost
+        → is_something (shown_by contents) ≡ something
+        → due_by long told (cond (ended && (not long && not lost)) found None) something ended ≡ UnitDue due.0 → IsAtUnit contents
     at true true true lost something found e f g h is = absurd cc
     at true true false lost something found e f g h is = absurd cc
     at false true true lost something found e f g h is = absurd cc
@@ -130,14 +137,15 @@ at_unit held due = at held.ended held.long held.told held.lost (is_something (sh
     at true false told true something found e f g h is = absurd cc
     at true false told false true None e f g h is = absurd cc
     at true false told false true (Some unit) e f g h is = absurd cc
-    at true false told false false found e f g h is = record { ended = e; short = f; kept = g; quiet = h }
+    at true false told false false found e f g h is = record { ended = e; short = f; kept = g; no_response = h }
 
 -- a message is finished once it has ended
-pub at_finish : (held : Held) → next_of held ≡ FinishDue → held.ended ≡ true
-at_finish held due = at held.ended held.long held.told (is_something (shown_by held)) (unit_of held) refl due
+pub at_finish : (contents : Contents) → next_of contents ≡ FinishDue → contents.ended ≡ true
+at_finish contents due =
+    at contents.ended contents.overlong contents.overrun_reported (is_something (shown_by contents)) (unit_of contents) refl due
   where
-    at : (ended long told something : Bool) (found : Option (List ℕ)) → held.ended ≡ ended
-        → due_by long told found something ended ≡ FinishDue → held.ended ≡ true
+    at : (ended long told something : Bool) (found : Option (List ℕ)) → contents.ended ≡ ended
+        → due_by long told found something ended ≡ FinishDue → contents.ended ≡ true
     at true long told something found e is = e
     at false true false something found e is = absurd cc
     at false true true something None e is = absurd cc
@@ -146,3 +154,24 @@ at_finish held due = at held.ended held.long held.told (is_something (shown_by h
     at false false told something None e is = absurd cc
     at false false told true (Some unit) e is = absurd cc
     at false false told false (Some unit) e is = absurd cc
+
+-- the unit that was about to interrupt is due once there is no response
+pub at_interrupt : (contents : Contents) → next_of contents ≡ InterruptDue → IsUnitDue (next_of (record contents { output = [] }))
+at_interrupt contents due =
+    at contents.overlong contents.overrun_reported contents.answering (unit_of contents) (is_something (shown_by contents)) contents.ended
+    due
+  where
+    at : (long told answering : Bool) (found : Option (List ℕ)) (something ended : Bool)
+        → due_by long told found something ended ≡ InterruptDue
+        → IsUnitDue (due_by long told found (is_something (shown answering [])) ended)
+    at true false answering found something ended is = absurd cc
+    at true true answering None something true is = absurd cc
+    at true true answering None something false is = absurd cc
+    at true true answering (Some unit) false ended is = absurd cc
+    at true true true (Some unit) true ended is = (unit, refl)
+    at true true false (Some unit) true ended is = (unit, refl)
+    at false told answering None something true is = absurd cc
+    at false told answering None something false is = absurd cc
+    at false told answering (Some unit) false ended is = absurd cc
+    at false told true (Some unit) true ended is = (unit, refl)
+    at false told false (Some unit) true ended is = (unit, refl)

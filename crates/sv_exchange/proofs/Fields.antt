@@ -2,8 +2,8 @@
 use Rattle.std.proofs.Common.{◌≡◌, ℕ, ◌+◌, ◌-◌, ◌≤◌, Bool, true, false, ◌&&◌, ◌||◌, cond, List, [], ◌∷◌, ◌++◌, length, take, drop, refl, sym, ap, ◌∙◌, nat_lt, slice_range, arith}
 use Rattle.std.proofs.lemmas.List.{length-append, length-drop, length-take-le, drop-take, drop-drop, take_rest}
 use Rattle.std.proofs.Math.Seq.{take-append-add, drop-append-add}
-use Rattle.sv_exchange.specs.ExchangeHeld.{Held}
-use Rattle.sv_exchange.specs.ExchangeKept.{held_of, IsText, IsOut, first_size, second_at, has_line, after_accept, with_answer}
+use Rattle.sv_exchange.specs.Contents.{Contents}
+use Rattle.sv_exchange.specs.Fields.{contents_of, IsText, IsOut, first_size, second_at, has_line, after_accept, with_answer}
 
 -- the later text is what one write brought
 pub few_later : (text : List ℕ) (at end behind : ℕ) (ended : Bool) → IsText ended (length text) at end behind
@@ -18,25 +18,28 @@ rest_size text at end le within = length-take-le (end - at) (drop at text) (omeg
 -- some of it was stepped over
 pub done_holds : (text : List ℕ) (at end behind : ℕ) (ended mark long told lost answering : Bool) (response : List ℕ) (taken count : ℕ)
     → at ≤ end → end ≤ length text → count ≤ length (slice_range text at end)
-    → held_of text (at + count) end behind ended mark long told lost answering response taken
-    ≡ record (held_of text at end behind ended mark long told lost answering response taken) { rest = drop count (slice_range text at end) }
+    → contents_of text (at + count) end behind ended mark long told lost answering response taken
+    ≡ record (contents_of text at end behind ended mark long told lost answering response taken) {
+      rest =
+          drop count (slice_range text at end);
+    }
 done_holds text at end behind ended mark long told lost answering response taken count le within some =
     let size = rest_size text at end le within in
     let parts : end - at ≡ count + (end - (at + count)) = omega arith in
     let rest : slice_range text (at + count) end ≡ drop count (slice_range text at end) =
     ap (take (end - (at + count))) (sym (drop-drop count at text)) ∙ sym (drop-take count (end - (at + count)) (drop at text))
     ∙ ap (λ (n : ℕ). drop count (take n (drop at text))) (sym parts) in
-    let made : List ℕ → Held = λ r. record {
+    let made : List ℕ → Contents = λ r. record {
       rest = r;
       ended = ended;
       later = drop behind text;
-      mark = mark;
-      long = long;
-      told =
+      end_pending = mark;
+      overlong = long;
+      overrun_reported =
           told;
-      lost = lost;
+      answers_dropped = lost;
       answering = answering;
-      out = drop taken response;
+      output = drop taken response;
     } in
     ap made rest
 
@@ -68,9 +71,9 @@ pub accept_holds : (text text' bytes : List ℕ) (at at' end behind before size 
     → end ≡ length text → text' ≡ drop at text ++ bytes → before ≡ length (drop at text) → size ≡ first_size bytes
     → second ≡ second_at bytes → ended' ≡ (has_line bytes || given)
     → mark' ≡ (has_line bytes && given) → at' ≡ cond (long || nat_lt 4096 (before + size)) (before + size) 0
-    → held_of text' at' (before + size) (before + second) ended' mark'
+    → contents_of text' at' (before + size) (before + second) ended' mark'
     (long || nat_lt 4096 (before + size)) told lost answering response taken
-    ≡ after_accept (held_of text at end behind ended mark long told lost answering response taken) bytes given
+    ≡ after_accept (contents_of text at end behind ended mark long told lost answering response taken) bytes given
 accept_holds text text' bytes at at' end behind before size second ended ended' mark mark' long told lost answering given response taken all
     text_is before_is size_is second_is ended_is mark_is at_is =
     let rest = rest_is_all text at end all in
@@ -82,17 +85,17 @@ accept_holds text text' bytes at at' end behind before size second ended ended' 
     rw (text_is, rest, ← size_is) (rest_with (drop at text) bytes before size at' (long || nat_lt 4096 (before + size)) before_is at_is) in
     let later_is : drop (before + second) text' ≡ drop (second_at bytes) bytes =
     rw (text_is, ← second_is) (drop_over before second (drop at text) bytes before_is) in
-    let made : List ℕ → Bool → List ℕ → Bool → Bool → Held =
+    let made : List ℕ → Bool → List ℕ → Bool → Bool → Contents =
     λ r e l m n. record {
       rest = r;
       ended = e;
       later = l;
-      mark = m;
-      long = n;
-      told = told;
-      lost = lost;
+      end_pending = m;
+      overlong = n;
+      overrun_reported = told;
+      answers_dropped = lost;
       answering = answering;
-      out =
+      output =
           drop taken response;
     } in
     let new_long : Bool = long || nat_lt 4096 (before + size) in

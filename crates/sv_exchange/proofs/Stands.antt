@@ -2,9 +2,9 @@
 use Rattle.std.proofs.Common.{◌≡◌, ◌≢◌, ℕ, zero, suc, ◌+◌, ◌≤◌, ◌<◌, ◌==◌, Bool, true, false, not, ◌&&◌, ◌||◌, cond, List, [], ◌∷◌, ◌++◌, length, take, drop, refl, sym, ap, ◌∙◌, nat_lt, append_assoc, IsTrue, arith}
 use Rattle.std.proofs.lemmas.Bool.{lt-ltb, le-ltb, ltb-true}
 use Rattle.std.proofs.lemmas.List.{length-append, drop-drop, drop_all, length-take-le}
-use Rattle.sv_exchange.specs.Exchange.{ExchangeAct, Accepted, UnitDone, Answered, AnswersDropped, Finished, ResponseRead, text, messages, message, finished, current, units, has_dropped, answers, response, fits_response, is_something, joined}
-use Rattle.sv_exchange.specs.ExchangeHeld.{Held, StandsFor, IsSaid, IsUnitDue, symbols, following, shown, shown_by, next_of, is_open, may_respond}
-use Rattle.sv_exchange.specs.ExchangeKept.{first_size, has_line, second_at, after_accept, after_finish, with_answer}
+use Rattle.sv_exchange.specs.Exchange.{ExchangeAct, Accepted, UnitDone, Answered, AnswersDropped, Finished, ResponseRead, TextDropped, text, messages, message, finished, current, units, has_dropped, answers, response, fits_response, is_something, joined}
+use Rattle.sv_exchange.specs.Contents.{Contents, StandsFor, IsShown, empty, IsUnitDue, symbols, following, shown, shown_by, next_of, is_open, may_respond}
+use Rattle.sv_exchange.specs.Fields.{first_size, has_line, second_at, after_accept, after_finish, with_answer}
 use Rattle.sv_exchange.specs.FirstUnit.{IsFirst}
 use Rattle.sv_text.proofs.Places.{place_within}
 use Rattle.sv_exchange.proofs.Cuts.{messages-append, first_cut}
@@ -17,14 +17,14 @@ nothing_there [] h = refl
 nothing_there (b ∷ bytes) h = absurd cc
 
 -- a unit was executed
-pub done_stands : (held new : Held) (acts : List ExchangeAct) (unit : List ℕ) (count : ℕ) → IsUnitDue (next_of held)
-    → IsFirst held.rest unit count
-    → new ≡ record held { rest = drop count held.rest } → StandsFor held acts → StandsFor new (UnitDone ∷ acts)
-done_stands held new acts unit count due first is s =
-    let at = at_unit held due in
-    let more : units s.message ≡ (s.executed ++ unit ∷ []) ++ units (drop count held.rest) =
+pub done_stands : (contents new : Contents) (acts : List ExchangeAct) (unit : List ℕ) (count : ℕ) → IsUnitDue (next_of contents)
+    → IsFirst contents.rest unit count
+    → new ≡ record contents { rest = drop count contents.rest } → StandsFor contents acts → StandsFor new (UnitDone ∷ acts)
+done_stands contents new acts unit count due first is s =
+    let at = at_unit contents due in
+    let more : units s.message ≡ (s.executed ++ unit ∷ []) ++ units (drop count contents.rest) =
     s.units_left at.short ∙ ap (λ (us : List (List ℕ)). s.executed ++ us) first.units
-    ∙ sym (append_assoc s.executed (unit ∷ []) (units (drop count held.rest))) in
+    ∙ sym (append_assoc s.executed (unit ∷ []) (units (drop count contents.rest))) in
     rw is (record {
       message = s.message;
       executed = s.executed ++ unit ∷ [];
@@ -32,13 +32,13 @@ done_stands held new acts unit count due first is s =
       size = s.size;
       units_left = λ short. more;
       count = omega (arith, length-append s.executed (unit ∷ []), s.count);
-      quiet = λ later. readable_is held acts s ∙ nothing_there (shown_by held) at.quiet;
+      no_response = λ later. readable_is contents acts s ∙ nothing_there (shown_by contents) at.no_response;
       whole = λ unended. (let z : true ≡ false = sym at.ended ∙ unended in absurd cc);
       unbegun = λ unended. (let z : true ≡ false = sym at.ended ∙ unended in absurd cc);
-      silent = s.silent;
-      told = s.told;
-      lost = s.lost;
-      said = s.said;
+      no_answers = s.no_answers;
+      overrun_reported = s.overrun_reported;
+      answers_dropped = s.answers_dropped;
+      shows = s.shows;
     })
 
 -- the text behind a message that has ended
@@ -52,35 +52,39 @@ following_open false later mark e = refl
 following_open true later mark e = absurd cc
 
 -- the answers become the response
-said_after : (answering : Bool) (out : List ℕ) (given : List (List ℕ)) (readable : List ℕ) → IsSaid answering out given readable
+said_after : (answering : Bool) (out : List ℕ) (given : List (List ℕ)) (readable : List ℕ) → IsShown answering out given readable
     → response_after given readable ≡ cond answering (out ++ 10 ∷ []) out
 said_after true out [] readable said = absurd (said.0 refl)
 said_after true out (answer ∷ others) readable said = ap (λ (l : List ℕ). l ++ 10 ∷ []) (sym said.1)
 said_after false out given readable said = ap (λ (g : List (List ℕ)). response_after g readable) said.0 ∙ said.1
 
 -- a message was finished
-pub finish_stands : (held new : Held) (acts : List ExchangeAct) → held.ended ≡ true → length held.later ≤ 4096 → new ≡ after_finish held
-    → StandsFor held acts → StandsFor new (Finished ∷ acts)
-finish_stands held new acts ended few is s =
-    let size = place_within (λ b. b == 10) held.later in
-    let first : List ℕ = take (first_size held.later) held.later in
+pub finish_stands : (contents new : Contents) (acts : List ExchangeAct) → contents.ended ≡ true → length contents.later ≤ 4096
+    → new ≡ after_finish contents
+    → StandsFor contents acts → StandsFor new (Finished ∷ acts)
+finish_stands contents new acts ended few is s =
+    let size = place_within (λ b. b == 10) contents.later in
+    let first : List ℕ = take (first_size contents.later) contents.later in
     let behind : drop 1 (drop (finished acts) (messages (text acts))) ≡ first
-    ∷ following (has_line held.later || held.mark) (drop (second_at held.later) held.later) (has_line held.later && held.mark) =
-    ap (drop 1) s.text_left ∙ following_ended held.ended held.later held.mark ended ∙ first_cut held.later held.mark in
+    ∷ following (has_line contents.later || contents.end_pending) (drop (second_at contents.later) contents.later)
+    (has_line contents.later && contents.end_pending) =
+    ap (drop 1) s.text_left ∙ following_ended contents.ended contents.later contents.end_pending ended
+    ∙ first_cut contents.later contents.end_pending in
+    let next : suc (finished acts) ≡ finished acts + 1 = omega arith in
     rw is (record {
       message = first;
       executed = [];
-      text_left = sym (drop-drop 1 (finished acts) (messages (text acts))) ∙ behind;
-      size = sym (le-ltb 4096 (length first) (omega (arith, length-take-le (first_size held.later) held.later size)));
+      text_left = ap (λ (n : ℕ). drop n (messages (text acts))) next ∙ sym (drop-drop 1 (finished acts) (messages (text acts))) ∙ behind;
+      size = sym (le-ltb 4096 (length first) (omega (arith, length-take-le (first_size contents.later) contents.later size)));
       units_left = λ short. refl;
       count = refl;
-      quiet = λ later. absurd cc;
+      no_response = λ later. absurd cc;
       whole = λ unended short. refl;
       unbegun = λ unended. refl;
-      silent = λ unended. refl;
-      told = refl;
-      lost = refl;
-      said = (refl, response-finished acts ∙ said_after held.answering held.out (answers acts) (response acts) s.said);
+      no_answers = λ unended. refl;
+      overrun_reported = refl;
+      answers_dropped = refl;
+      shows = (refl, response-finished acts ∙ said_after contents.answering contents.output (answers acts) (response acts) s.shows);
     })
 
 -- what is so where an answer may come
@@ -105,26 +109,27 @@ push_some [] answer e = cc
 push_some (first ∷ given) answer e = cc
 
 -- what is kept with an answer
-joined_with : (answering : Bool) (out : List ℕ) (given : List (List ℕ)) (readable answer : List ℕ) → IsSaid answering out given readable
+joined_with : (answering : Bool) (out : List ℕ) (given : List (List ℕ)) (readable answer : List ℕ) → IsShown answering out given readable
     → joined (given ++ answer ∷ []) ≡ with_answer answering out answer
 joined_with true out given readable answer said = joined-push given answer said.0 ∙ ap (λ (l : List ℕ). l ++ 59 ∷ answer) (sym said.1)
 joined_with false out given readable answer said = ap (λ (g : List (List ℕ)). joined (g ++ answer ∷ [])) said.0
 
 -- whether an answer fits
-pub fits_is : (held : Held) (acts : List ExchangeAct) (answer : List ℕ) (size : ℕ)
-    → length (with_answer held.answering held.out answer) ≡ size → StandsFor held acts
+pub fits_is : (contents : Contents) (acts : List ExchangeAct) (answer : List ℕ) (size : ℕ)
+    → length (with_answer contents.answering contents.output answer) ≡ size → StandsFor contents acts
     → fits_response (answers acts) answer ≡ nat_lt size 8192
-fits_is held acts answer size e s =
-    ap (λ (l : List ℕ). nat_lt (length l) 8192) (joined_with held.answering held.out (answers acts) (response acts) answer s.said)
+fits_is contents acts answer size e s =
+    ap (λ (l : List ℕ). nat_lt (length l) 8192)
+    (joined_with contents.answering contents.output (answers acts) (response acts) answer s.shows)
     ∙ ap (λ (n : ℕ). nat_lt n 8192) e
 
 -- an answer was put behind those before it
-pub answered_stands : (held new : Held) (acts : List ExchangeAct) (answer : List ℕ) → IsTrue (may_respond held)
-    → new ≡ record held { answering = true; out = with_answer held.answering held.out answer }
-    → StandsFor held acts → StandsFor new (Answered answer ∷ acts)
-answered_stands held new acts answer may is s =
-    let parts = may_parts held.ended held.lost (is_something (shown_by held)) may in
-    let kept : has_dropped (current acts) ≡ false = s.lost ∙ parts.1 in
+pub answered_stands : (contents new : Contents) (acts : List ExchangeAct) (answer : List ℕ) → IsTrue (may_respond contents)
+    → new ≡ record contents { answering = true; output = with_answer contents.answering contents.output answer }
+    → StandsFor contents acts → StandsFor new (Answered answer ∷ acts)
+answered_stands contents new acts answer may is s =
+    let parts = may_parts contents.ended contents.answers_dropped (is_something (shown_by contents)) may in
+    let kept : has_dropped (current acts) ≡ false = s.answers_dropped ∙ parts.1 in
     let now : answers (Answered answer ∷ acts) ≡ answers acts ++ answer ∷ [] = rw kept refl in
     rw is (record {
       message = s.message;
@@ -133,25 +138,25 @@ answered_stands held new acts answer may is s =
       size = s.size;
       units_left = s.units_left;
       count = s.count;
-      quiet = s.quiet;
+      no_response = s.no_response;
       whole = s.whole;
       unbegun = s.unbegun;
-      silent = λ unended. (let z : true ≡ false = sym parts.0 ∙ unended in absurd cc);
-      told = s.told;
-      lost = s.lost;
-      said = (
+      no_answers = λ unended. (let z : true ≡ false = sym parts.0 ∙ unended in absurd cc);
+      overrun_reported = s.overrun_reported;
+      answers_dropped = s.answers_dropped;
+      shows = (
         λ none. push_some (answers acts) answer (sym now ∙ none),
-        sym (joined_with held.answering held.out (answers acts) (response acts) answer s.said) ∙ ap joined (sym now),
-        readable_is held acts s ∙ nothing_there (shown_by held) parts.2,
+        sym (joined_with contents.answering contents.output (answers acts) (response acts) answer s.shows) ∙ ap joined (sym now),
+        readable_is contents acts s ∙ nothing_there (shown_by contents) parts.2,
       );
     })
 
 -- all answers were dropped
-pub dropped_stands : (held new : Held) (acts : List ExchangeAct) → IsTrue (may_respond held)
-    → new ≡ record held { lost = true; answering = false; out = [] }
-    → StandsFor held acts → StandsFor new (AnswersDropped ∷ acts)
-dropped_stands held new acts may is s =
-    let parts = may_parts held.ended held.lost (is_something (shown_by held)) may in
+pub dropped_stands : (contents new : Contents) (acts : List ExchangeAct) → IsTrue (may_respond contents)
+    → new ≡ record contents { answers_dropped = true; answering = false; output = [] }
+    → StandsFor contents acts → StandsFor new (AnswersDropped ∷ acts)
+dropped_stands contents new acts may is s =
+    let parts = may_parts contents.ended contents.answers_dropped (is_something (shown_by contents)) may in
     rw is (record {
       message = s.message;
       executed = s.executed;
@@ -159,13 +164,13 @@ dropped_stands held new acts may is s =
       size = s.size;
       units_left = s.units_left;
       count = s.count;
-      quiet = s.quiet;
+      no_response = s.no_response;
       whole = s.whole;
       unbegun = s.unbegun;
-      silent = λ unended. refl;
-      told = s.told;
-      lost = refl;
-      said = (refl, readable_is held acts s ∙ nothing_there (shown_by held) parts.2);
+      no_answers = λ unended. refl;
+      overrun_reported = s.overrun_reported;
+      answers_dropped = refl;
+      shows = (refl, readable_is contents acts s ∙ nothing_there (shown_by contents) parts.2);
     })
 
 -- what isn't true is false
@@ -192,46 +197,46 @@ grown false true message first rest short whole = absurd cc
 grown true more message first rest short whole = absurd cc
 
 -- text was taken in
-pub accept_stands : (held new : Held) (acts : List ExchangeAct) (bytes : List ℕ) (ended : Bool) → IsTrue (is_open held)
-    → new ≡ after_accept held bytes ended
-    → StandsFor held acts → StandsFor new (Accepted bytes ended ∷ acts)
-accept_stands held new acts bytes ended open_now is s =
-    let unended : held.ended ≡ false = not_true held.ended open_now in
+pub accept_stands : (contents new : Contents) (acts : List ExchangeAct) (bytes : List ℕ) (ended : Bool) → IsTrue (is_open contents)
+    → new ≡ after_accept contents bytes ended
+    → StandsFor contents acts → StandsFor new (Accepted bytes ended ∷ acts)
+accept_stands contents new acts bytes ended open_now is s =
+    let unended : contents.ended ≡ false = not_true contents.ended open_now in
     let first : List ℕ = take (first_size bytes) bytes in
     let size : length first ≡ first_size bytes = length-take-le (first_size bytes) bytes (place_within (λ b. b == 10) bytes) in
     let alone : drop (finished acts) (messages (text acts)) ≡ s.message ∷ [] =
-    s.text_left ∙ ap (λ (ms : List (List ℕ)). s.message ∷ ms) (following_open held.ended held.later held.mark unended) in
-    let more : Bool = nat_lt 4096 (length held.rest + first_size bytes) in
-    let rest : (held.long || more) ≡ false → s.message ++ first ≡ cond (held.long || more) [] (held.rest ++ first) =
-    λ short. grown held.long more s.message first held.rest short (s.whole unended) in
+    s.text_left ∙ ap (λ (ms : List (List ℕ)). s.message ∷ ms) (following_open contents.ended contents.later contents.end_pending unended) in
+    let more : Bool = nat_lt 4096 (length contents.rest + first_size bytes) in
+    let rest : (contents.overlong || more) ≡ false → s.message ++ first ≡ cond (contents.overlong || more) [] (contents.rest ++ first) =
+    λ short. grown contents.overlong more s.message first contents.rest short (s.whole unended) in
     rw is (record {
       message = s.message ++ first;
       executed = [];
       text_left = messages-append (text acts) (symbols bytes ended) (finished acts) s.message first _ alone (first_cut bytes ended);
-      size = long_on held.long s.message first held.rest (first_size bytes) s.size size (s.whole unended);
+      size = long_on contents.overlong s.message first contents.rest (first_size bytes) s.size size (s.whole unended);
       units_left = λ short. ap units (rest short);
       count = sym (ap length (s.unbegun unended)) ∙ s.count;
-      quiet = s.quiet;
+      no_response = s.no_response;
       whole = λ _ short. rest short;
       unbegun = λ _. refl;
-      silent = λ _. s.silent unended;
-      told = s.told;
-      lost = s.lost;
-      said = s.said;
+      no_answers = λ _. s.no_answers unended;
+      overrun_reported = s.overrun_reported;
+      answers_dropped = s.answers_dropped;
+      shows = s.shows;
     })
 
 -- what was read is taken from what is kept
 read_said : (answering : Bool) (out : List ℕ) (given : List (List ℕ)) (readable : List ℕ) (count : ℕ) → count ≤ length (shown answering out)
-    → IsSaid answering out given readable → IsSaid answering (drop count out) given (drop count readable)
+    → IsShown answering out given readable → IsShown answering (drop count out) given (drop count readable)
 read_said true out given readable zero few said = said
 read_said true out given readable (suc count) few said = absurd (omega arith)
 read_said false out given readable count few said = (said.0, ap (drop count) said.1)
 
 -- bytes of the response were read
-pub read_stands : (held new : Held) (acts : List ExchangeAct) (count : ℕ) → count ≤ length (shown_by held)
-    → new ≡ record held { out = drop count held.out }
-    → StandsFor held acts → StandsFor new (ResponseRead count ∷ acts)
-read_stands held new acts count few is s =
+pub read_stands : (contents new : Contents) (acts : List ExchangeAct) (count : ℕ) → count ≤ length (shown_by contents)
+    → new ≡ record contents { output = drop count contents.output }
+    → StandsFor contents acts → StandsFor new (ResponseRead count ∷ acts)
+read_stands contents new acts count few is s =
     let left : response (ResponseRead count ∷ acts) ≡ drop count (response acts) = response-read acts count in
     rw is (record {
       message = s.message;
@@ -240,11 +245,39 @@ read_stands held new acts count few is s =
       size = s.size;
       units_left = s.units_left;
       count = s.count;
-      quiet = λ later. left ∙ drop_all count (response acts) (omega (arith, ap length (s.quiet later)));
+      no_response = λ later. left ∙ drop_all count (response acts) (omega (arith, ap length (s.no_response later)));
       whole = s.whole;
       unbegun = s.unbegun;
-      silent = s.silent;
-      told = s.told;
-      lost = s.lost;
-      said = rw left (read_said held.answering held.out (answers acts) (response acts) count few s.said);
+      no_answers = s.no_answers;
+      overrun_reported = s.overrun_reported;
+      answers_dropped = s.answers_dropped;
+      shows = rw left (read_said contents.answering contents.output (answers acts) (response acts) count few s.shows);
+    })
+
+-- without answers the response is what it was
+said_alone : (answering : Bool) (out : List ℕ) (given : List (List ℕ)) (readable : List ℕ) → answering ≡ false
+    → IsShown answering out given readable → IsShown answering out [] readable
+said_alone true out given readable none said = absurd cc
+said_alone false out given readable none said = (refl, said.1)
+
+-- a message that hasn't ended was dropped
+pub text_dropped_stands : (contents new : Contents) (acts : List ExchangeAct) → IsTrue (is_open contents)
+    → new ≡ record empty { answering = contents.answering; output = contents.output } → StandsFor contents acts
+    → StandsFor new (TextDropped ∷ acts)
+text_dropped_stands contents new acts open_now is s =
+    let none = s.no_answers (not_true contents.ended open_now) in
+    rw is (record {
+      message = [];
+      executed = [];
+      text_left = refl;
+      size = refl;
+      units_left = λ short. refl;
+      count = refl;
+      no_response = λ later. absurd cc;
+      whole = λ unended short. refl;
+      unbegun = λ unended. refl;
+      no_answers = λ unended. none;
+      overrun_reported = refl;
+      answers_dropped = refl;
+      shows = said_alone contents.answering contents.output (answers acts) (response acts) none s.shows;
     })

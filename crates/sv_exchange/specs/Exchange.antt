@@ -1,6 +1,8 @@
 -- Message exchange (IEEE 488.2, 6.1 and 6.3): program text, its messages and units, and the response, each found by a search of the acts,
 -- which are read from the newest.
 use Rattle.std.specs.Prelude.{ℕ, ◌+◌, ◌==◌, Bool, true, false, not, ◌&&◌, List, [], ◌∷◌, ◌++◌, length, drop, map, filter, Option, Some, None, nat_lt, slice_get, slice_index_or, if◌then◌else◌}
+use Rattle.std.specs.List.{list_any}
+use Rattle.sv_errors.specs.Since.{since, newest, since_place}
 use Rattle.sv_text.specs.Cut.{cut_at, onto}
 use Rattle.sv_text.specs.White.{trim}
 
@@ -25,18 +27,20 @@ abbrev pub end_mark : Bool → List Symbol
 end_mark true = End ∷ []
 end_mark false = []
 
+-- what drops program text
+abbrev pub drops_text : ExchangeAct → Bool
+drops_text TextDropped = true
+drops_text _ = false
+
+-- what some acts bring, in order
+abbrev pub brought : List ExchangeAct → List Symbol
+brought [] = []
+brought (Accepted bytes ended ∷ acts) = brought acts ++ (map Byte bytes ++ end_mark ended)
+brought (_ ∷ acts) = brought acts
+
 -- what was accepted since text was last dropped
 abbrev pub text : List ExchangeAct → List Symbol
-text [] = []
-text (Accepted bytes ended ∷ acts) = text acts ++ (map Byte bytes ++ end_mark ended)
-text (TextDropped ∷ acts) = []
-text (Overran ∷ acts) = text acts
-text (UnitDone ∷ acts) = text acts
-text (Answered answer ∷ acts) = text acts
-text (AnswersDropped ∷ acts) = text acts
-text (Finished ∷ acts) = text acts
-text (Interrupted ∷ acts) = text acts
-text (ResponseRead count ∷ acts) = text acts
+text acts = brought (since drops_text acts)
 
 -- The text cut at each new line and each mark: each part but the last is a message that has ended; the last is one that hasn't.
 abbrev pub messages : List Symbol → List (List ℕ)
@@ -45,45 +49,43 @@ messages (End ∷ symbols) = [] ∷ messages symbols
 messages (Byte b ∷ symbols) = if b == 10 then [] ∷ messages symbols else onto b (messages symbols)
 
 -- how many messages were finished since text was last dropped
-abbrev pub finished : List ExchangeAct → ℕ
-finished [] = 0
-finished (Finished ∷ acts) = finished acts + 1
-finished (TextDropped ∷ acts) = 0
-finished (Accepted bytes ended ∷ acts) = finished acts
-finished (Overran ∷ acts) = finished acts
-finished (UnitDone ∷ acts) = finished acts
-finished (Answered answer ∷ acts) = finished acts
-finished (AnswersDropped ∷ acts) = finished acts
-finished (Interrupted ∷ acts) = finished acts
-finished (ResponseRead count ∷ acts) = finished acts
+abbrev is_finish : ExchangeAct → Bool
+is_finish Finished = true
+is_finish _ = false
 
--- the acts since the current message began: those behind the last message finished, or text dropped
+abbrev pub finished : List ExchangeAct → ℕ
+finished acts = length (filter is_finish (since drops_text acts))
+
+-- the acts since the current message began: those since a message was finished, or text dropped
+abbrev pub ends_message : ExchangeAct → Bool
+ends_message Finished = true
+ends_message TextDropped = true
+ends_message _ = false
+
 abbrev pub current : List ExchangeAct → List ExchangeAct
-current [] = []
-current (Finished ∷ acts) = []
-current (TextDropped ∷ acts) = []
-current (Accepted bytes ended ∷ acts) = Accepted bytes ended ∷ current acts
-current (Overran ∷ acts) = Overran ∷ current acts
-current (UnitDone ∷ acts) = UnitDone ∷ current acts
-current (Answered answer ∷ acts) = Answered answer ∷ current acts
-current (AnswersDropped ∷ acts) = AnswersDropped ∷ current acts
-current (Interrupted ∷ acts) = Interrupted ∷ current acts
-current (ResponseRead count ∷ acts) = ResponseRead count ∷ current acts
+current acts = since ends_message acts
+
+-- how many units of it were done, whether it was told to be too long, whether its answers were dropped, and which answers it had
+abbrev is_unit_done : ExchangeAct → Bool
+is_unit_done UnitDone = true
+is_unit_done _ = false
+
+abbrev is_overrun : ExchangeAct → Bool
+is_overrun Overran = true
+is_overrun _ = false
+
+abbrev is_drop : ExchangeAct → Bool
+is_drop AnswersDropped = true
+is_drop _ = false
 
 abbrev pub units_done : List ExchangeAct → ℕ
-units_done [] = 0
-units_done (UnitDone ∷ acts) = units_done acts + 1
-units_done (_ ∷ acts) = units_done acts
+units_done acts = length (filter is_unit_done acts)
 
 abbrev pub has_overrun : List ExchangeAct → Bool
-has_overrun [] = false
-has_overrun (Overran ∷ acts) = true
-has_overrun (_ ∷ acts) = has_overrun acts
+has_overrun acts = list_any is_overrun acts
 
 abbrev pub has_dropped : List ExchangeAct → Bool
-has_dropped [] = false
-has_dropped (AnswersDropped ∷ acts) = true
-has_dropped (_ ∷ acts) = has_dropped acts
+has_dropped acts = list_any is_drop acts
 
 abbrev pub answered : List ExchangeAct → List (List ℕ)
 answered [] = []
@@ -129,21 +131,31 @@ abbrev pub is_answered : List (List ℕ) → Bool
 is_answered [] = false
 is_answered (answer ∷ others) = true
 
--- the response as it was when it began: the answers of the last finished message that had any, joined and ended by a new line; none once
--- interrupted
-abbrev pub whole_response : List ExchangeAct → List ℕ
-whole_response [] = []
-whole_response (Finished ∷ acts) = if is_answered (answers acts) then joined (answers acts) ++ 10 ∷ [] else whole_response acts
-whole_response (Interrupted ∷ acts) = []
-whole_response (_ ∷ acts) = whole_response acts
+-- At the newest act the response is another: a message that had answers is finished, or the response is interrupted.
+abbrev pub renews : List ExchangeAct → Bool
+renews [] = false
+renews (Finished ∷ acts) = is_answered (answers acts)
+renews (Interrupted ∷ acts) = true
+renews (_ ∷ acts) = false
 
--- how many bytes were read since it began, or was interrupted
+-- what it is then: the answers, joined and ended by a new line; none once interrupted
+abbrev pub renewed : List ExchangeAct → List ℕ
+renewed [] = []
+renewed (Finished ∷ acts) = joined (answers acts) ++ 10 ∷ []
+renewed (_ ∷ acts) = []
+
+-- the response as it was when it began
+abbrev pub whole_response : List ExchangeAct → List ℕ
+whole_response acts = renewed (newest renews acts)
+
+-- how many bytes were read since
+abbrev pub bytes_read : List ExchangeAct → ℕ
+bytes_read [] = 0
+bytes_read (ResponseRead count ∷ acts) = bytes_read acts + count
+bytes_read (_ ∷ acts) = bytes_read acts
+
 abbrev pub read_since : List ExchangeAct → ℕ
-read_since [] = 0
-read_since (Finished ∷ acts) = if is_answered (answers acts) then 0 else read_since acts
-read_since (Interrupted ∷ acts) = 0
-read_since (ResponseRead count ∷ acts) = read_since acts + count
-read_since (_ ∷ acts) = read_since acts
+read_since acts = bytes_read (since_place renews acts)
 
 -- what can be read: the response without the bytes that were read since it began
 abbrev pub response : List ExchangeAct → List ℕ

@@ -1,6 +1,6 @@
 pub mod Exchange
 pub mod Read
-pub mod ExchangeHeld
-pub mod ExchangeKept
+pub mod Contents
+pub mod Fields
 pub mod FirstUnit
 pub mod ReadGiven

@@ -3,8 +3,8 @@
 ghost use Rattle.std.specs.Prelude.{◌≡◌, ℕ, ◌+◌, ◌*◌, ◌<◌, ◌≤◌, ◌==◌, Bool, true, false, not, List, [], ◌∷◌, ◌++◌, Option, length, take, drop, nat_lt, vec_len, vec_capacity, IsTrue, IfOk, if◌then◌else◌};
 ghost use Rattle.sv_exchange.specs.Exchange.{ExchangeAct, Accepted, TextDropped, Overran, UnitDone, Answered, AnswersDropped, Finished, Interrupted, ResponseRead, OverrunDue, InterruptDue, FinishDue, due, has_ended, answers, response, fits_response, is_something};
 ghost use Rattle.sv_exchange.specs.ReadGiven.{IsReadOf};
-ghost use Rattle.sv_exchange.specs.ExchangeHeld.{Held, StandsFor, nothing_held, is_open, shown_by, next_of, IsUnitDue, may_respond, work_of, seen};
-ghost use Rattle.sv_exchange.specs.ExchangeKept.{after_accept, after_finish, after_answer, with_answer};
+ghost use Rattle.sv_exchange.specs.Contents.{Contents, StandsFor, empty, is_open, shown_by, next_of, IsUnitDue, may_respond, work_of, plain_next};
+ghost use Rattle.sv_exchange.specs.Fields.{after_accept, after_finish, after_answer, with_answer};
 
 use crate::message::first_message;
 use crate::read::{Read, read_of};
@@ -39,63 +39,63 @@ pub enum Next<'a> {
 /// cut into messages and units, and the response. It holds no more than 8,192 bytes of each.
 #[derive(Drop)]
 pub struct Exchange<A: Allocator = Global> {
-    /// Program text, whose units are executed up to `at`.
+    /// Program text, whose units are executed up to `cursor`.
     text: Vec<u8, A>,
-    at: usize,
+    cursor: usize,
     /// Where the current message ends.
     end: usize,
     /// Where the next message begins.
-    behind: usize,
+    next_start: usize,
     /// Whether the current message has ended.
     ended: bool,
     /// Whether END came with the last byte of the later text.
-    mark: bool,
+    end_pending: bool,
     /// Whether the current message is too long, whose bytes are dropped then.
-    long: bool,
+    overlong: bool,
     /// Whether that was told.
-    told: bool,
+    overrun_reported: bool,
     /// Whether the answers of the current message were dropped.
-    lost: bool,
+    answers_dropped: bool,
     /// Whether the response isn't a response yet, but the answers of the current message.
     answering: bool,
     response: Vec<u8, A>,
     /// How many bytes of the response were read.
-    taken: usize,
+    read: usize,
 }
 
 impl<A: Allocator> Model for Exchange<A> {
-    ghost use Rattle.sv_exchange.specs.ExchangeHeld.{Held};
+    ghost use Rattle.sv_exchange.specs.Contents.{Contents};
 
-    ghost Value = { Held };
+    ghost Value = { Contents };
 
     ghost use Rattle.std.specs.Prelude.{vec_capacity};
-    ghost use Rattle.sv_exchange.specs.ExchangeKept.{held_of, IsKept};
+    ghost use Rattle.sv_exchange.specs.Fields.{contents_of, IsValid};
 
-    ghost view = { λ a. held_of a.text.items a.at a.end a.behind a.ended a.mark a.long a.told a.lost
-        a.answering a.response.items a.taken };
+    ghost view = { λ a. contents_of a.text.items a.cursor a.end a.next_start a.ended a.end_pending
+        a.overlong a.overrun_reported a.answers_dropped a.answering a.response.items a.read };
 
-    ghost invariant = { λ a. IsKept a.text.items a.at a.end a.behind a.ended
-        (vec_capacity a.text) a.response.items a.taken a.answering (vec_capacity a.response) };
+    ghost invariant = { λ a. IsValid a.text.items a.cursor a.end a.next_start a.ended
+        (vec_capacity a.text) a.response.items a.read a.answering (vec_capacity a.response) };
 }
 
 impl<A: Allocator + Copy> Exchange<A> {
     /// An exchange with no text and no response. It takes all the memory that it ever uses.
     pub fn new(alloc: A) -> Result<Exchange<A>, AllocError>
-        ensures { IfOk result (λ exchange. (exchange ≡ nothing_held) × StandsFor exchange []) }
+        ensures { IfOk result (λ exchange. (exchange ≡ empty) × StandsFor exchange []) }
     {
         Ok(Exchange {
             text: Vec::with_capacity(alloc, MAX_TEXT)?,
-            at: 0,
+            cursor: 0,
             end: 0,
-            behind: 0,
+            next_start: 0,
             ended: false,
-            mark: false,
-            long: false,
-            told: false,
-            lost: false,
+            end_pending: false,
+            overlong: false,
+            overrun_reported: false,
+            answers_dropped: false,
             answering: false,
             response: Vec::with_capacity(alloc, MAX_RESPONSE)?,
-            taken: 0,
+            read: 0,
         })
     }
 }
@@ -122,34 +122,34 @@ impl<A: Allocator> Exchange<A> {
         ensures stands { (acts : List ExchangeAct) → StandsFor self.old acts
             → StandsFor self.new (Accepted bytes.now ended ∷ acts) }
     {
-        self.text.drain(..self.at);
+        self.text.drain(..self.cursor);
         let before = self.text.len();
         append(&mut self.text, bytes);
         let cut = first_message(bytes, ended);
         self.end = before + cut.size;
-        self.behind = before + cut.behind;
+        self.next_start = before + cut.next_start;
         self.ended = cut.ended;
-        self.mark = cut.mark;
-        self.long |= self.end > MAX_MESSAGE;
-        self.at = if self.long { self.end } else { 0 };
+        self.end_pending = cut.end_pending;
+        self.overlong |= self.end > MAX_MESSAGE;
+        self.cursor = if self.overlong { self.end } else { 0 };
     }
 
     /// What is due. Of a message that is too long or lost its answers no unit is.
     pub fn next_unit(&self) -> Next<'_>
-        ensures value { seen result ≡ next_of self.now }
+        ensures value { plain_next result ≡ next_of self.now }
         ensures answer { (acts : List ExchangeAct) → StandsFor self.now acts
-            → seen result ≡ due acts }
+            → plain_next result ≡ due acts }
     {
-        if self.long && !self.told {
+        if self.overlong && !self.overrun_reported {
             return Next::Overrun;
         }
         if !self.ended {
             return Next::Nothing;
         }
-        if self.long || self.lost {
+        if self.overlong || self.answers_dropped {
             return Next::Finish;
         }
-        match first_unit(&self.text[self.at..self.end]) {
+        match first_unit(&self.text[self.cursor..self.end]) {
             Some((unit, _)) => {
                 if self.readable() {
                     Next::Interrupt
@@ -165,39 +165,40 @@ impl<A: Allocator> Exchange<A> {
     pub fn done(&mut self)
         requires { IsUnitDue (next_of self.old) }
         ensures value { self.new ≡ record self.old { rest = self.new.rest } }
-        ensures less { work_of self.new < work_of self.old }
-        ensures as_open { is_open self.new ≡ is_open self.old }
+        ensures measure { work_of self.new < work_of self.old }
+        ensures stays_open { is_open self.new ≡ is_open self.old }
         ensures may_respond { IsTrue (may_respond self.new) }
         ensures stands { (acts : List ExchangeAct) → StandsFor self.old acts
             → StandsFor self.new (UnitDone ∷ acts) }
     {
-        if let Some((_, count)) = first_unit(&self.text[self.at..self.end]) {
-            self.at += count;
+        if let Some((_, count)) = first_unit(&self.text[self.cursor..self.end]) {
+            self.cursor += count;
         }
     }
 
     /// The message that is too long was told. It is dropped up to its end.
     pub fn overran(&mut self)
         requires { next_of self.old ≡ OverrunDue }
-        ensures value { self.new ≡ record self.old { told = true } }
-        ensures less { work_of self.new < work_of self.old }
-        ensures as_open { is_open self.new ≡ is_open self.old }
+        ensures value { self.new ≡ record self.old { overrun_reported = true } }
+        ensures measure { work_of self.new < work_of self.old }
+        ensures stays_open { is_open self.new ≡ is_open self.old }
         ensures stands { (acts : List ExchangeAct) → StandsFor self.old acts
             → StandsFor self.new (Overran ∷ acts) }
     {
-        self.told = true;
+        self.overrun_reported = true;
     }
 
     /// Drops the response, which is interrupted by a new message (IEEE 488.2, 6.3.2.3).
     pub fn drop_response(&mut self)
         requires { next_of self.old ≡ InterruptDue }
-        ensures value { self.new ≡ record self.old { out = [] } }
-        ensures less { work_of self.new < work_of self.old }
-        ensures as_open { is_open self.new ≡ is_open self.old }
+        ensures value { self.new ≡ record self.old { output = [] } }
+        ensures measure { work_of self.new < work_of self.old }
+        ensures stays_open { is_open self.new ≡ is_open self.old }
+        ensures next { IsUnitDue (next_of self.new) }
         ensures stands { (acts : List ExchangeAct) → StandsFor self.old acts
             → StandsFor self.new (Interrupted ∷ acts) }
     {
-        self.taken = self.response.len();
+        self.read = self.response.len();
     }
 
     /// Goes on to the next message. Where there were answers, they become the response, with a new
@@ -205,20 +206,20 @@ impl<A: Allocator> Exchange<A> {
     pub fn finish(&mut self)
         requires { next_of self.old ≡ FinishDue }
         ensures value { self.new ≡ after_finish self.old }
-        ensures less { work_of self.new < work_of self.old }
+        ensures measure { work_of self.new < work_of self.old }
         ensures stands { (acts : List ExchangeAct) → StandsFor self.old acts
             → StandsFor self.new (Finished ∷ acts) }
     {
         end_response(&mut self.response, self.answering);
-        let cut = first_message(&self.text[self.behind..], self.mark);
-        self.at = self.behind;
-        self.end = self.behind + cut.size;
-        self.behind += cut.behind;
+        let cut = first_message(&self.text[self.next_start..], self.end_pending);
+        self.cursor = self.next_start;
+        self.end = self.next_start + cut.size;
+        self.next_start += cut.next_start;
         self.ended = cut.ended;
-        self.mark = cut.mark;
-        self.long = false;
-        self.told = false;
-        self.lost = false;
+        self.end_pending = cut.end_pending;
+        self.overlong = false;
+        self.overrun_reported = false;
+        self.answers_dropped = false;
         self.answering = false;
     }
 
@@ -230,9 +231,9 @@ impl<A: Allocator> Exchange<A> {
         requires { IsTrue (may_respond self.old) }
         ensures value { self.new ≡ after_answer self.old answer.now result }
         ensures fits { result ≡ nat_lt
-            (length (with_answer self.old.answering self.old.out answer.now)) 8192 }
-        ensures no_more { work_of self.new ≤ work_of self.old }
-        ensures as_open { is_open self.new ≡ is_open self.old }
+            (length (with_answer self.old.answering self.old.output answer.now)) 8192 }
+        ensures measure { work_of self.new ≤ work_of self.old }
+        ensures stays_open { is_open self.new ≡ is_open self.old }
         ensures stands { (acts : List ExchangeAct) → StandsFor self.old acts
             → (result ≡ fits_response (answers acts) answer.now)
             × StandsFor self.new ((if result then Answered answer.now else AnswersDropped) ∷ acts) }
@@ -242,11 +243,11 @@ impl<A: Allocator> Exchange<A> {
         } else {
             0
         };
-        self.taken = 0;
+        self.read = 0;
         if answer.len() >= MAX_RESPONSE - before {
             self.response.clear();
             self.answering = false;
-            self.lost = true;
+            self.answers_dropped = true;
             return false;
         }
         put_answer(&mut self.response, self.answering, answer);
@@ -277,34 +278,58 @@ impl<A: Allocator> Exchange<A> {
     /// Drops so many bytes of the response, which were read (VXI-11, device_read).
     pub fn take(&mut self, count: usize)
         requires { count ≤ length (shown_by self.old) }
-        ensures value { self.new ≡ record self.old { out = drop count self.old.out } }
-        ensures as_open { is_open self.new ≡ is_open self.old }
+        ensures value { self.new ≡ record self.old { output = drop count self.old.output } }
+        ensures stays_open { is_open self.new ≡ is_open self.old }
         ensures stands { (acts : List ExchangeAct) → StandsFor self.old acts
             → StandsFor self.new (ResponseRead count ∷ acts) }
     {
-        self.taken += count;
+        self.read += count;
     }
 
     /// Drops the text of the current message, which must not have ended (IEEE 488.2, 6.3.2.2).
     pub fn drop_unfinished(&mut self)
         requires { IsTrue (is_open self.old) }
-        ensures value { self.new ≡ record nothing_held {
+        ensures value { self.new ≡ record empty {
           answering = self.old.answering;
-          out =
-              self.old.out;
+          output =
+              self.old.output;
         } }
-        ensures still_open { IsTrue (is_open self.new) }
+        ensures stays_open { IsTrue (is_open self.new) }
         ensures stands { (acts : List ExchangeAct) → StandsFor self.old acts
             → StandsFor self.new (TextDropped ∷ acts) }
     {
+        self.drop_text();
+    }
+
+    /// Drops program text, answers and response, as a device clear does (IEEE 488.2, 5.8).
+    pub fn clear(&mut self)
+        ensures value { self.new ≡ empty }
+        ensures stands { (acts : List ExchangeAct) → StandsFor self.old acts
+            → StandsFor self.new (Interrupted ∷ TextDropped ∷ acts) }
+    {
+        self.drop_text();
+        self.answering = false;
+        self.response.clear();
+        self.read = 0;
+    }
+
+    /// Drops all text, and what happened to its messages.
+    fn drop_text(&mut self)
+        ensures { self.new ≡ record empty {
+          answering = self.old.answering;
+          output =
+              self.old.output;
+        } }
+    {
         self.text.clear();
-        self.at = 0;
+        self.cursor = 0;
         self.end = 0;
-        self.behind = 0;
-        self.mark = false;
-        self.long = false;
-        self.told = false;
-        self.lost = false;
+        self.next_start = 0;
+        self.ended = false;
+        self.end_pending = false;
+        self.overlong = false;
+        self.overrun_reported = false;
+        self.answers_dropped = false;
     }
 
     /// What can be read.
@@ -314,7 +339,7 @@ impl<A: Allocator> Exchange<A> {
         if self.answering {
             &[]
         } else {
-            &self.response[self.taken..]
+            &self.response[self.read..]
         }
     }
 }

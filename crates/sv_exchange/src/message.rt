@@ -1,7 +1,7 @@
 //! Where a program message ends.
 
 ghost use Rattle.std.specs.Prelude.{◌≡◌, ◌≤◌, ◌&&◌, ◌||◌, length};
-ghost use Rattle.sv_exchange.specs.ExchangeKept.{first_size, second_at, has_line};
+ghost use Rattle.sv_exchange.specs.Fields.{first_size, second_at, has_line};
 
 use sv_text::place_of;
 
@@ -11,36 +11,36 @@ pub(crate) struct Cut {
     /// How many bytes it has.
     pub(crate) size: usize,
     /// Where the next message begins.
-    pub(crate) behind: usize,
+    pub(crate) next_start: usize,
     /// Whether it has ended.
     pub(crate) ended: bool,
     /// Whether END comes behind the bytes of the later messages.
-    pub(crate) mark: bool,
+    pub(crate) end_pending: bool,
 }
 
 /// Cuts the first message off. It ends at a new line, or at END, which comes with the last byte
-/// where there is a mark (IEEE 488.2, 7.5).
-pub(crate) fn first_message(bytes: &[u8], mark: bool) -> Cut
+/// where there is a end_pending (IEEE 488.2, 7.5).
+pub(crate) fn first_message(bytes: &[u8], end_pending: bool) -> Cut
     ensures size { result.size ≡ first_size bytes.now }
-    ensures behind { result.behind ≡ second_at bytes.now }
-    ensures ended { result.ended ≡ (has_line bytes.now || mark) }
-    ensures mark { result.mark ≡ (has_line bytes.now && mark) }
-    ensures order { (result.size ≤ result.behind) × (result.behind ≤ length bytes.now) }
+    ensures next_start { result.next_start ≡ second_at bytes.now }
+    ensures ended { result.ended ≡ (has_line bytes.now || end_pending) }
+    ensures end_pending { result.end_pending ≡ (has_line bytes.now && end_pending) }
+    ensures order { (result.size ≤ result.next_start) × (result.next_start ≤ length bytes.now) }
 {
     let size = place_of(bytes, b'\n');
     if size < bytes.len() {
         Cut {
             size,
-            behind: size + 1,
+            next_start: size + 1,
             ended: true,
-            mark,
+            end_pending,
         }
     } else {
         Cut {
             size,
-            behind: size,
-            ended: mark,
-            mark: false,
+            next_start: size,
+            ended: end_pending,
+            end_pending: false,
         }
     }
 }

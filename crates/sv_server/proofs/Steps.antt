@@ -2,7 +2,7 @@
 use Rattle.std.proofs.Common.{◌≡◌, ◌≢◌, ℕ, suc, zero, Bool, true, false, List, [], ◌∷◌, ◌++◌, refl, ap, ◌∙◌}
 use Rattle.std.specs.Prelude.{map}
 use Rattle.sv_exchange.specs.Exchange.{ExchangeAct, due}
-use Rattle.sv_exchange.specs.ExchangeHeld.{Held, StandsFor as HoldsExchange}
+use Rattle.sv_exchange.specs.Contents.{Contents, StandsFor as HoldsExchange}
 use Rattle.sv_server.specs.declared.event.Config.{Config}
 use Rattle.sv_server.specs.Act.{Act, BenchAct, Exchanged, Bench, of, bench, exchange_acts}
 use Rattle.sv_server.specs.Settling.{exchange_step, bench_step, step_of, SettlesIn}
@@ -19,7 +19,7 @@ none_mapped f [] none = refl
 none_mapped f (x ∷ xs) none = absurd cc
 
 -- a step of message exchange is one of what all share
-pub stepped : (done : Bool) (config : Config) (acts : List BenchAct) (old : KeptBench) (exchange : Held) → IsBench old config acts
+pub stepped : (done : Bool) (config : Config) (acts : List BenchAct) (old : KeptBench) (exchange : Contents) → IsBench old config acts
     → ((xs : List ExchangeAct) → HoldsExchange old.exchange xs → ExchangeStep done xs old.exchange exchange)
     → StepDone done config acts old (record old { exchange = exchange })
 stepped true config acts old exchange (links, holds, set_up, clock) steps =

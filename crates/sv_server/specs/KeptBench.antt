@@ -1,13 +1,13 @@
 -- What the server keeps of what all connections share, and what of its acts that stands for.
 use Rattle.std.specs.Prelude.{◌≡◌, ℕ, ◌+◌, List}
 use Rattle.sv_links.specs.Table.{Table, IsTable}
-use Rattle.sv_exchange.specs.ExchangeHeld.{Held, StandsFor}
+use Rattle.sv_exchange.specs.Contents.{Contents, StandsFor}
 use Rattle.sv_server.specs.declared.event.Config.{Config}
 use Rattle.sv_server.specs.Act.{BenchAct, link_acts, exchange_acts, ticks}
 
 pub record Bench : Type 0 where
   pub links : Table
-  pub exchange : Held
+  pub exchange : Contents
   pub config : Config
   pub clock : ℕ
 

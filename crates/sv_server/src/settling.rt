@@ -2,7 +2,7 @@
 
 ghost use Rattle.std.specs.Prelude.{◌<◌, List, IsTrue};
 ghost use Rattle.sv_exchange.specs.Exchange.{ExchangeAct};
-ghost use Rattle.sv_exchange.specs.ExchangeHeld.{StandsFor as HoldsExchange, work_of};
+ghost use Rattle.sv_exchange.specs.Contents.{StandsFor as HoldsExchange, work_of};
 ghost use Rattle.sv_server.specs.declared.event.Config.{Config};
 ghost use Rattle.sv_server.specs.Act.{Act, BenchAct, bench};
 ghost use Rattle.sv_server.specs.KeptBench.{IsBench};

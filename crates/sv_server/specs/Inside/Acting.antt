@@ -2,7 +2,7 @@
 use Rattle.std.specs.Prelude.{◌≡◌, ◌≢◌, ℕ, ℤ, not, true, Bool, false, List, [], ◌∷◌, ◌++◌, Some, None, Result, Ok, Err, if◌then◌else◌}
 use Rattle.sv_errors.specs.Limits.{is_channel}
 use Rattle.sv_exchange.specs.Exchange.{ExchangeAct, due}
-use Rattle.sv_exchange.specs.ExchangeHeld.{Held, StandsFor as HoldsExchange}
+use Rattle.sv_exchange.specs.Contents.{Contents, StandsFor as HoldsExchange}
 use Rattle.sv_server.specs.declared.event.Config.{Config}
 use Rattle.sv_server.specs.declared.event.Did.{Did}
 use Rattle.sv_server.specs.declared.event.Did.TheVariants.{Done, Idle}
@@ -47,7 +47,7 @@ Concludes (Replies adds bytes) config acts before connection shared =
     IsConnection connection (Replied bytes ∷ acts) × IsBench shared config (adds ++ before)
 
 -- The step of message exchange that was due is done, or none was due and nothing changed.
-abbrev pub ExchangeStep : Bool → List ExchangeAct → Held → Held → Type 0
+abbrev pub ExchangeStep : Bool → List ExchangeAct → Contents → Contents → Type 0
 ExchangeStep true acts old new = (exchange_step (due acts) acts ≢ []) × HoldsExchange new (exchange_step (due acts) acts ++ acts)
 ExchangeStep false acts old new = (exchange_step (due acts) acts ≡ []) × (new ≡ old)
 

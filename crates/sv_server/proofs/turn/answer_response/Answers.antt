@@ -2,7 +2,7 @@ use Rattle.std.proofs.Common.{ℕ, ◌∷◌, subst}
 use Rattle.sv_rpc.specs.declared.reply.Reply.TheVariants.{Success}
 use Rattle.sv_vxi.specs.Results.{Outcome, result_fields}
 use Rattle.sv_exchange.specs.Exchange.{ResponseRead}
-use Rattle.sv_exchange.specs.ExchangeHeld.{StandsFor as HoldsExchange}
+use Rattle.sv_exchange.specs.Contents.{StandsFor as HoldsExchange}
 use Rattle.sv_server.specs.Act.{Replied, exchange_acts}
 use Rattle.sv_server.specs.Reply.{reply_record}
 use Rattle.sv_server.specs.KeptConnection.{IsConnection}

@@ -1,5 +1,7 @@
-use Rattle.std.proofs.Common.{rules, arith}
+use Rattle.std.proofs.Common.{rules, sym, subst, arith}
 use Rattle.std.proofs.lemmas.Grind.{common_steps}
+use Rattle.sv_exchange.specs.Contents.{Contents, IsUnitDue, next_of}
+use Rattle.sv_exchange.proofs.Dues.{at_interrupt}
 use Rattle.sv_exchange.proofs.exchange.Exchange.drop_response.Goals as goal
 
 pub invariant_of-self : goal.invariant_of-self
@@ -8,11 +10,15 @@ invariant_of-self g c = search rules
 pub returns-clause-value : goal.returns-clause-value
 returns-clause-value g c = grind (arith, common_steps)
 
-pub returns-clause-less : goal.returns-clause-less
-returns-clause-less g c = grind (arith, common_steps)
+pub returns-clause-measure : goal.returns-clause-measure
+returns-clause-measure g c = grind (arith, common_steps)
 
-pub returns-clause-as_open : goal.returns-clause-as_open
-returns-clause-as_open g c = search rules
+pub returns-clause-stays_open : goal.returns-clause-stays_open
+returns-clause-stays_open g c = search rules
 
 pub returns-clause-stands : goal.returns-clause-stands
 returns-clause-stands g c = grind (arith, common_steps)
+
+pub returns-clause-next : goal.returns-clause-next
+returns-clause-next g c =
+    subst (λ (contents : Contents). IsUnitDue (next_of contents)) (sym (returns-clause-value g c)) (at_interrupt c.args.self.now c.requires)

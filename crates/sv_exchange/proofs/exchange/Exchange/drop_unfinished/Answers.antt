@@ -1,6 +1,5 @@
-use Rattle.std.proofs.Common.{arith}
-use Rattle.std.proofs.lemmas.Grind.{common_steps}
+use Rattle.sv_exchange.proofs.Stands.{text_dropped_stands}
 use Rattle.sv_exchange.proofs.exchange.Exchange.drop_unfinished.Goals as goal
 
-pub returns-clause-value : goal.returns-clause-value
-returns-clause-value g c = grind (arith, common_steps)
+pub returns-clause-stands : goal.returns-clause-stands
+returns-clause-stands g c = λ acts s. text_dropped_stands _ _ acts c.requires c.drop_text.ensures s

@@ -13,5 +13,5 @@ returns-clause-stands g c =
 pub returns-clause-value : goal.returns-clause-value
 returns-clause-value g c = grind (arith, common_steps)
 
-pub returns-clause-less : goal.returns-clause-less
-returns-clause-less g c = grind (arith, common_steps)
+pub returns-clause-measure : goal.returns-clause-measure
+returns-clause-measure g c = grind (arith, common_steps)

@@ -1,6 +1,6 @@
 use Rattle.std.proofs.Common.{rules, ◌≡◌, ◌∙◌}
 use Rattle.sv_exchange.specs.Exchange.{InterruptDue, FinishDue, UnitDue}
-use Rattle.sv_exchange.specs.ExchangeHeld.{next_of}
+use Rattle.sv_exchange.specs.Contents.{next_of}
 use Rattle.sv_exchange.proofs.Dues.{due_is}
 use Rattle.sv_exchange.proofs.exchange.Exchange.next_unit.Goals as goal
 

@@ -10,8 +10,8 @@ returns-then-answer-before-clause-stands g c =
     let before : c.if-self.before ≡ cond c.self.inside.answering (length c.self.inside.response.items + 1) 0 =
     elim c.if-self.branch [ then-self w ↦ rw w.if-self.true (omega arith) | else-self w ↦ rw w.if-self.false w.before-is ] in
     let size =
-    size_with c.self.inside.answering c.self.inside.response.items c.args.answer.now c.self.inside.taken c.if-self.before
-    c.self.invariant.out before in
+    size_with c.self.inside.answering c.self.inside.response.items c.args.answer.now c.self.inside.read c.if-self.before
+    c.self.invariant.output before in
     let may = rw (← c.self.view_is) at c.requires in
     rw (← c.self.view_is) (λ acts s. (
       sym (fits_is _ acts c.args.answer.now _ size s ∙ le-ltb (c.if-self.before + length c.args.answer.now) 8192 (omega arith)),
@@ -23,8 +23,8 @@ returns-clause-stands g c =
     let before : c.if-self.before ≡ cond c.self.inside.answering (length c.self.inside.response.items + 1) 0 =
     elim c.if-self.branch [ then-self w ↦ rw w.if-self.true (omega arith) | else-self w ↦ rw w.if-self.false w.before-is ] in
     let size =
-    size_with c.self.inside.answering c.self.inside.response.items c.args.answer.now c.self.inside.taken c.if-self.before
-    c.self.invariant.out before in
+    size_with c.self.inside.answering c.self.inside.response.items c.args.answer.now c.self.inside.read c.if-self.before
+    c.self.invariant.output before in
     let may = rw (← c.self.view_is) at c.requires in
     rw (← c.self.view_is) (λ acts s. (
       sym (fits_is _ acts c.args.answer.now _ size s ∙ lt-ltb (c.if-self.before + length c.args.answer.now) 8192 (omega arith)),
@@ -32,6 +32,6 @@ returns-clause-stands g c =
           (rw (
             c.put_answer.ensures.items,
             with_all c.self.inside.answering c.self.inside.response.items c.args.answer.now
-                c.self.inside.taken c.self.invariant.out,
+                c.self.inside.read c.self.invariant.output,
           ) refl) s,
     ))

@@ -1,4 +1,4 @@
-use Rattle.sv_exchange.specs.ExchangeHeld.{work_of}
+use Rattle.sv_exchange.specs.Contents.{work_of}
 use Rattle.sv_server.proofs.Steps.{AnyStepped}
 use Rattle.sv_server.proofs.bench.Bench.settle.Given as goal
 

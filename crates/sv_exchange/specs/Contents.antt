@@ -1,0 +1,117 @@
+-- What a message exchange holds of its acts.
+use Rattle.std.specs.Prelude.{◌≡◌, ◌≢◌, ℕ, ◌+◌, ◌*◌, ◌==◌, Bool, true, false, not, ◌&&◌, List, [], ◌∷◌, ◌++◌, length, drop, map, Option, None, nat_lt, slice_get, if◌then◌else◌}
+use Rattle.sv_exchange.specs.declared.exchange.Next.{Next}
+use Rattle.sv_exchange.specs.declared.exchange.Next.TheVariants as next
+use Rattle.sv_exchange.specs.Exchange.{ExchangeAct, Symbol, Byte, end_mark, text, messages, finished, current, units_done, has_overrun, has_dropped, answers, units, is_something, joined, response, Due, NothingDue, OverrunDue, InterruptDue, UnitDue, FinishDue, due_unit}
+
+-- what is left of the current message, whether it has ended, and then the text behind it with its mark; what happened to the message; and
+-- the answers that were given to it, or else what can be read
+pub record Contents : Type 0 where
+  pub rest : List ℕ
+  pub ended : Bool
+  pub later : List ℕ
+  pub end_pending : Bool
+  pub overlong : Bool
+  pub overrun_reported : Bool
+  pub answers_dropped : Bool
+  pub answering : Bool
+  pub output : List ℕ
+
+-- no text, and nothing to read
+abbrev pub empty : Contents
+empty = record {
+  rest = [];
+  ended = false;
+  later = [];
+  end_pending = false;
+  overlong = false;
+  overrun_reported = false;
+  answers_dropped = false;
+  answering =
+      false;
+  output = [];
+}
+
+-- bytes, and a mark behind them
+abbrev pub symbols : List ℕ → Bool → List Symbol
+symbols bytes end_pending = map Byte bytes ++ end_mark end_pending
+
+-- the messages behind the current one, where that has ended
+abbrev pub following : Bool → List ℕ → Bool → List (List ℕ)
+following true later end_pending = messages (symbols later end_pending)
+following false later end_pending = []
+
+-- What is kept is the answers of the current message, joined, or the response.
+abbrev pub IsShown : Bool → List ℕ → List (List ℕ) → List ℕ → Type 0
+IsShown true output given readable = (given ≢ []) × (output ≡ joined given) × (readable ≡ [])
+IsShown false output given readable = (given ≡ []) × (readable ≡ output)
+
+-- The exchange holds what these acts leave: with the current message, and its units that were executed.
+pub record StandsFor (contents : Contents) (acts : List ExchangeAct) : Type 0 where
+  pub message : List ℕ
+  pub executed : List (List ℕ)
+  pub text_left : drop (finished acts) (messages (text acts)) ≡ message ∷ following contents.ended contents.later contents.end_pending
+  pub size : contents.overlong ≡ nat_lt 4096 (length message)
+  pub units_left : contents.overlong ≡ false → units message ≡ executed ++ units contents.rest
+  pub count : length executed ≡ units_done (current acts)
+  pub no_response : (units_done (current acts) == 0) ≡ false → response acts ≡ []
+  pub whole : contents.ended ≡ false → contents.overlong ≡ false → message ≡ contents.rest
+  pub unbegun : contents.ended ≡ false → executed ≡ []
+  pub no_answers : contents.ended ≡ false → contents.answering ≡ false
+  pub overrun_reported : has_overrun (current acts) ≡ contents.overrun_reported
+  pub answers_dropped : has_dropped (current acts) ≡ contents.answers_dropped
+  pub shows : IsShown contents.answering contents.output (answers acts) (response acts)
+
+-- no ended message waits to be finished
+abbrev pub is_open : Contents → Bool
+is_open contents = not contents.ended
+
+-- what can be read: nothing while answers are collected
+abbrev pub shown : Bool → List ℕ → List ℕ
+shown true output = []
+shown false output = output
+
+-- what can be read of what is held
+abbrev pub shown_by : Contents → List ℕ
+shown_by contents = shown contents.answering contents.output
+
+-- the next unit: of a message that has ended, is not too long, and lost no answers
+abbrev pub unit_of : Contents → Option (List ℕ)
+unit_of contents = if contents.ended && (not contents.overlong && not contents.answers_dropped) then slice_get (units contents.rest) 0
+    else None
+
+-- what is due
+abbrev pub next_of : Contents → Due
+next_of contents = if contents.overlong && not contents.overrun_reported then OverrunDue else due_unit (unit_of contents)
+    (is_something (shown_by contents)) contents.ended
+
+-- A unit is due.
+abbrev pub IsUnitDue : Due → Type 0
+IsUnitDue due = (unit : List ℕ) × (due ≡ UnitDue unit)
+
+-- The current message has ended, its answers weren't dropped, and nothing can be read, as where a unit was executed.
+abbrev pub may_respond : Contents → Bool
+may_respond contents = contents.ended && (not contents.answers_dropped && not (is_something (shown_by contents)))
+
+-- 1 for true
+abbrev pub bit : Bool → ℕ
+bit true = 1
+bit false = 0
+
+-- how much text there is
+abbrev pub text_size : Bool → ℕ → ℕ → Bool → ℕ
+text_size true rest later end_pending = rest + (1 + (later + bit end_pending))
+text_size false rest later end_pending = rest
+
+-- how much is left to be done, so that whoever does what is due comes to an end
+abbrev pub work_of : Contents → ℕ
+work_of contents = 3 * text_size contents.ended (length contents.rest) (length contents.later) contents.end_pending +
+    (bit (contents.overlong && not contents.overrun_reported) + bit (is_something (shown_by contents)))
+
+-- what is due as plain data
+abbrev pub plain_next : Next → Due
+plain_next next.Nothing = NothingDue
+plain_next next.Overrun = OverrunDue
+plain_next next.Interrupt = InterruptDue
+plain_next (next.Unit unit) = UnitDue unit.now
+plain_next next.Finish = FinishDue

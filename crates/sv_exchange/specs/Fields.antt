@@ -1,0 +1,85 @@
+-- How the fields of a message exchange keep what it holds, and how that changes.
+use Rattle.std.specs.Prelude.{◌≡◌, ℕ, ◌+◌, ◌==◌, ◌<◌, ◌≤◌, Bool, true, false, ◌&&◌, ◌||◌, List, [], ◌∷◌, ◌++◌, length, take, drop, nat_lt, slice_range, if◌then◌else◌}
+use Rattle.std.specs.List.{position_or_len}
+use Rattle.sv_exchange.specs.Contents.{Contents}
+
+-- how many bytes the first message has
+abbrev pub first_size : List ℕ → ℕ
+first_size bytes = position_or_len (λ b. b == 10) bytes
+
+-- a new line ends it
+abbrev pub has_line : List ℕ → Bool
+has_line bytes = nat_lt (first_size bytes) (length bytes)
+
+-- where the second message begins
+abbrev pub second_at : List ℕ → ℕ
+second_at bytes = if has_line bytes then first_size bytes + 1 else length bytes
+
+-- more text
+abbrev pub after_accept : Contents → List ℕ → Bool → Contents
+after_accept contents bytes ended =
+    let overlong = contents.overlong || nat_lt 4096 (length contents.rest + first_size bytes) in
+    record contents {
+      rest = if overlong then [] else contents.rest ++ take (first_size bytes) bytes;
+      ended = has_line bytes || ended;
+      later = drop (second_at bytes) bytes;
+      end_pending = has_line bytes && ended;
+      overlong = overlong;
+    }
+
+-- the next message becomes the current one
+abbrev pub after_finish : Contents → Contents
+after_finish contents = record {
+  rest = take (first_size contents.later) contents.later;
+  ended = has_line contents.later || contents.end_pending;
+  later = drop (second_at contents.later) contents.later;
+  end_pending = has_line contents.later && contents.end_pending;
+  overlong = false;
+  overrun_reported = false;
+  answers_dropped = false;
+  answering = false;
+  output = if contents.answering then contents.output ++ 10 ∷ [] else contents.output;
+}
+
+-- an answer behind those before it
+abbrev pub with_answer : Bool → List ℕ → List ℕ → List ℕ
+with_answer true output answer = output ++ 59 ∷ answer
+with_answer false output answer = answer
+
+-- an answer was put there, or was too long, and all answers are dropped
+abbrev pub after_answer : Contents → List ℕ → Bool → Contents
+after_answer contents answer true = record contents { answering = true; output = with_answer contents.answering contents.output answer }
+after_answer contents answer false = record contents { answers_dropped = true; answering = false; output = [] }
+
+-- the fields as what is held
+abbrev pub contents_of : List ℕ → ℕ → ℕ → ℕ → Bool → Bool → Bool → Bool → Bool → Bool → List ℕ → ℕ → Contents
+contents_of text cursor end next_start ended end_pending overlong overrun_reported answers_dropped answering response read = record {
+  rest = slice_range text cursor end;
+  ended = ended;
+  later = drop next_start text;
+  end_pending = end_pending;
+  overlong = overlong;
+  overrun_reported = overrun_reported;
+  answers_dropped = answers_dropped;
+  answering = answering;
+  output = drop read response;
+}
+
+-- While answers are collected none of them was read, and a new line fits behind them.
+abbrev pub IsOut : Bool → ℕ → ℕ → Type 0
+IsOut true size read = (size < 8192) × (read ≡ 0)
+IsOut false size read = (size ≤ 8192) × (read ≤ size)
+
+-- Of a message that hasn't ended no more is kept than it may be long.
+abbrev pub IsText : Bool → ℕ → ℕ → ℕ → ℕ → Type 0
+IsText true size cursor end next_start = (size ≤ 8192) × (size ≤ next_start + 4096)
+IsText false size cursor end next_start = (end ≡ size) × (next_start ≡ size) × (end ≤ cursor + 4096)
+
+-- The fields are in order, and what they hold has room.
+pub record IsValid (text : List ℕ) (cursor end next_start : ℕ) (ended : Bool) (space : ℕ) (response : List ℕ) (read : ℕ) (answering : Bool)
+    (slots : ℕ) : Type 0 where
+  pub order : (cursor ≤ end) × (end ≤ next_start) × (next_start ≤ length text)
+  pub bounds : IsText ended (length text) cursor end next_start
+  pub output : IsOut answering (length response) read
+  pub enough : 8192 ≤ space
+  pub many : 8192 ≤ slots
