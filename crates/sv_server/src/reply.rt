@@ -1,12 +1,9 @@
 //! Replies as they are sent.
 
-ghost use Rattle.std.specs.Prelude.{◌≡◌, ◌+◌, ◌<◌, ◌≤◌, ◌^◌, ◌++◌, [], true, length, map, vec_len, vec_capacity};
-ghost use Rattle.std.specs.List.{concat};
+ghost use Rattle.std.specs.Prelude.{◌≡◌, ◌+◌, ◌<◌, ◌≤◌, ◌^◌, ◌++◌, [], true, length, vec_len, vec_capacity};
 ghost use Rattle.sv_rpc.specs.Record.{fragment};
-ghost use Rattle.sv_rpc.specs.Reply.{reply_fields};
-ghost use Rattle.sv_xdr.specs.Spelling.{spelling};
 ghost use Rattle.sv_xdr.specs.Writer.{text_of, rest_of};
-ghost use Rattle.sv_server.specs.Inside.Outcome.{reply_of, fields_of, answer_bytes, IsShort};
+ghost use Rattle.sv_server.specs.Inside.Outcome.{answer_text, answer_bytes, HasAtMost, IsShort};
 
 use std::alloc::Allocator;
 use sv_rpc::{Reply, write_reply};
@@ -19,6 +16,10 @@ pub const LONGEST_REPLY: usize = 8232;
 /// The same without the header of its fragment: the reply's header (24 bytes), error, reason and
 /// length (4 each), and 8,192 bytes.
 const LONGEST_TEXT: usize = LONGEST_REPLY - 4;
+/// The most data of a brief answer, in bytes: that of all but long responses.
+const BRIEF_DATA: usize = 256;
+/// The longest reply with a brief answer, without the header of its fragment.
+const BRIEF_TEXT: usize = LONGEST_TEXT - 8192 + BRIEF_DATA;
 
 /// What a call is answered.
 #[derive(Clone, Copy)]
@@ -39,8 +40,42 @@ pub fn put_reply<A: Allocator>(out: &mut Vec<u8, A>, xid: u32, answer: &Answer<'
     ensures capacity { vec_capacity out.old ≤ vec_capacity out.new }
     ensures bounded { vec_len out.new ≤ vec_len out.old + 8232 }
 {
-    let mut text = [0; LONGEST_TEXT];
-    let mut writer = Writer::new(&mut text);
+    if is_brief(answer) {
+        put_through(out, &mut [0; BRIEF_TEXT], xid, answer);
+    } else {
+        put_through(out, &mut [0; LONGEST_TEXT], xid, answer);
+    }
+}
+
+/// Whether an answer is known to be brief: a smaller text, with less to clear, then has room for
+/// its reply.
+fn is_brief(answer: &Answer<'_>) -> bool
+    ensures { result ≡ true → HasAtMost 256 answer.now }
+{
+    match *answer {
+        Answer::Header(_) | Answer::Port(_) => true,
+        Answer::Result(VxiResult::Read { bytes, .. } | VxiResult::Data { bytes, .. }) => {
+            bytes.len() <= BRIEF_DATA
+        }
+        Answer::Result(
+            VxiResult::Link { .. }
+            | VxiResult::Size { .. }
+            | VxiResult::Status { .. }
+            | VxiResult::Plain { .. },
+        ) => true,
+    }
+}
+
+/// Writes a reply into a text that has room for it, and puts it behind the outgoing bytes.
+fn put_through<A: Allocator>(out: &mut Vec<u8, A>, text: &mut [u8], xid: u32, answer: &Answer<'_>)
+    requires fits { length (answer_text xid answer.now) ≤ length text.old }
+    requires room { vec_len out.old + 8232 ≤ vec_capacity out.old }
+    requires short { IsShort answer.now }
+    ensures sent { out.new.items ≡ out.old.items ++ answer_bytes xid answer.now }
+    ensures capacity { vec_capacity out.old ≤ vec_capacity out.new }
+    ensures bounded { vec_len out.new ≤ vec_len out.old + 8232 }
+{
+    let mut writer = Writer::new(text);
     write_answer(&mut writer, xid, answer);
     put_record(out, writer.text());
 }
@@ -48,11 +83,10 @@ pub fn put_reply<A: Allocator>(out: &mut Vec<u8, A>, xid: u32, answer: &Answer<'
 /// Writes a reply without the header of its fragment.
 fn write_answer(writer: &mut Writer<'_>, xid: u32, answer: &Answer<'_>)
     requires empty { text_of writer.old ≡ [] }
-    requires room { 8228 ≤ length (rest_of writer.old) }
+    requires room { length (answer_text xid answer.now) ≤ length (rest_of writer.old) }
     requires short { IsShort answer.now }
     ensures same_buffer { writer.new.out.ghost_name ≡ writer.old.out.ghost_name }
-    ensures written { text_of writer.new
-        ≡ concat (map spelling (reply_fields xid (reply_of answer.now) ++ fields_of answer.now)) }
+    ensures written { text_of writer.new ≡ answer_text xid answer.now }
 {
     match *answer {
         Answer::Header(reply) => {

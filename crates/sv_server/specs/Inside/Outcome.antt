@@ -1,6 +1,8 @@
 -- What a call that is executed, or a record that is considered, comes to, as the code says it.
-use Rattle.std.specs.Prelude.{◌≡◌, ℕ, ◌≤◌, List, [], ◌∷◌, ◌++◌, length, nat_lt, Bool, false, ⊤}
-use Rattle.sv_xdr.specs.Spelling.{Unsigned, Field}
+use Rattle.std.specs.Prelude.{◌≡◌, ℕ, ◌≤◌, List, [], ◌∷◌, ◌++◌, length, map, nat_lt, Bool, false, ⊤}
+use Rattle.std.specs.List.{concat}
+use Rattle.sv_xdr.specs.Spelling.{Unsigned, Field, spelling}
+use Rattle.sv_rpc.specs.Reply.{reply_fields}
 use Rattle.sv_rpc.specs.declared.reply.Reply.{Reply}
 use Rattle.sv_rpc.specs.declared.reply.Reply.TheVariants.{Success}
 use Rattle.sv_vxi.specs.Results.{plain_result, result_fields, data_of}
@@ -31,14 +33,21 @@ fields_of (answers.Header reply) = []
 fields_of (answers.Port port) = Unsigned port ∷ []
 fields_of (answers.Result outcome) = result_fields (plain_result outcome)
 
+abbrev pub answer_text : ℕ → Answer → List ℕ
+answer_text xid answer = concat (map spelling (reply_fields xid (reply_of answer) ++ fields_of answer))
+
 abbrev pub answer_bytes : ℕ → Answer → List ℕ
 answer_bytes xid answer = reply_record xid (reply_of answer) (fields_of answer)
 
+-- an answer with at most so many bytes of data
+abbrev pub HasAtMost : ℕ → Answer → Type 0
+HasAtMost most (answers.Header reply) = ⊤
+HasAtMost most (answers.Port port) = ⊤
+HasAtMost most (answers.Result outcome) = length (data_of (plain_result outcome)) ≤ most
+
 -- an answer whose data have room in a reply
 abbrev pub IsShort : Answer → Type 0
-IsShort (answers.Header reply) = ⊤
-IsShort (answers.Port port) = ⊤
-IsShort (answers.Result outcome) = length (data_of (plain_result outcome)) ≤ 8192
+IsShort answer = HasAtMost 8192 answer
 
 -- whether acts make a link
 abbrev pub makes : List BenchAct → Bool

@@ -1,4 +1,4 @@
-use Rattle.std.proofs.Common.{◌≡◌, false, refl, sym}
+use Rattle.std.proofs.Common.{rules, ◌≡◌, false, refl, sym}
 use Rattle.std.specs.Prelude.{nat_lt, Some}
 use Rattle.sv_server.specs.Act.{of, bench}
 use Rattle.sv_server.specs.Connection.{next_call, free}
@@ -18,3 +18,6 @@ returns-clause-acts g c = λ config log mine all opened.
     let roomy : nat_lt (free (of c.args.conn log)) 8232 ≡ false = flipped _ (sym (c.if-not-has_reply_room.ensures.answer _ mine)) in
     turn_done config c.args.conn log c.args.role c.in-Some.call.now c.conclude.new.connection c.conclude.new.shared opened next roomy
     (c.conclude.ensures config _ _ _ (c.take_call.ensures _ _ mine next) refl (c.in-Ok.ensures.ok config (bench log) all))
+
+pub returns-then-not-has_reply_room-clause-err : goal.returns-then-not-has_reply_room-clause-err
+returns-then-not-has_reply_room-clause-err g c = search rules
