@@ -1,6 +1,7 @@
--- What an act makes of what the error queue holds.
+-- What is queued after one more act: `queued-reported`, `queued-overflowed` (both in `queued-report`), `queued-taken` and
+-- `queued-cleared`.
 use Rattle.std.proofs.Common.{◌≡◌, ℕ, suc, ◌+◌, ◌-◌, ◌<◌, ◌≤◌, Bool, true, false, ◌&&◌, cond, List, [], ◌∷◌, ◌++◌, length, take, drop, refl, sym, ap, subst, ◌∙◌, add-one, arith, ◌⊎◌, inl, inr, length-append, length-drop}
-use Rattle.std.specs.Prelude.{map}
+use Rattle.std.specs.Prelude.{◌==◌, map, if◌then◌else◌}
 use Rattle.std.specs.List.{AllByRecursion}
 use Rattle.std.proofs.lemmas.Bool.{and_right, cases_lt, lt-ltb, le-ltb, eq-eqb, ne_eqb}
 use Rattle.std.proofs.lemmas.List.{drop-drop, drop-append-le, drop-map, map_push, take_at, length-map}
@@ -8,7 +9,7 @@ use Rattle.sv_errors.specs.declared.code.Code.{Code}
 use Rattle.sv_errors.specs.declared.code.Code.TheVariants.{QueueOverflow}
 use Rattle.sv_errors.specs.declared.error_queue.QueueAct.{QueueAct}
 use Rattle.sv_errors.specs.declared.error_queue.QueueAct.TheVariants.{Report, Take, Clear}
-use Rattle.sv_errors.specs.ErrorQueue.{Counted, left, is_any, admit, take_one, counted, entries, is_full, up_to, reported, is_report, is_overtaken, shown, held, StandsFor}
+use Rattle.sv_errors.specs.ErrorQueue.{Counted, left, is_any, admit, take_one, counted, entries, is_full, up_to, reported, is_report, is_overtaken, shown, queued, StandsFor}
 
 -- ---- what is left of the admitted reports
 
@@ -136,7 +137,7 @@ record IsFull (acts : List QueueAct) : Type 0 where
   newest : (last ≡ length acts) ⊎ (last < length acts) × (shown acts last ≡ QueueOverflow)
 
 -- There are at most 16 entries, each at a place of the acts.
-record IsKept (acts : List QueueAct) : Type 0 where
+record IsValid (acts : List QueueAct) : Type 0 where
   taken : (counted acts).taken ≤ length (counted acts).admitted
   few : length (entries acts) ≤ 16
   within : AllByRecursion (λ place. place ≤ length acts) (entries acts)
@@ -144,11 +145,12 @@ record IsKept (acts : List QueueAct) : Type 0 where
 
 -- ---- a report that finds room
 
-entries-reported : (code : Code) (acts : List QueueAct) → IsKept acts → length (entries acts) < 16
+entries-reported : (code : Code) (acts : List QueueAct) → IsValid acts → length (entries acts) < 16
     → entries (Report code ∷ acts) ≡ entries acts ++ (length acts + 1) ∷ []
 entries-reported code acts is room = left-admitted (counted acts) (length acts + 1) is.taken room
 
-reported-full : (code : Code) (acts : List QueueAct) → IsKept acts → length (entries acts) < 16 → length (entries (Report code ∷ acts)) ≡ 16
+reported-full : (code : Code) (acts : List QueueAct) → IsValid acts → length (entries acts) < 16
+    → length (entries (Report code ∷ acts)) ≡ 16
     → IsFull (Report code ∷ acts)
 reported-full code acts is room many =
     let split = entries-reported code acts is room in
@@ -162,8 +164,8 @@ reported-full code acts is room many =
       newest = inl (add-one (length acts));
     }
 
-kept-reported : (code : Code) (acts : List QueueAct) → IsKept acts → length (entries acts) < 16 → IsKept (Report code ∷ acts)
-kept-reported code acts is room =
+valid-reported : (code : Code) (acts : List QueueAct) → IsValid acts → length (entries acts) < 16 → IsValid (Report code ∷ acts)
+valid-reported code acts is room =
     let split = entries-reported code acts is room in
     let wider = all-weaker (λ place. place ≤ length acts) (λ place. place ≤ length (Report code ∷ acts)) (entries acts)
     (λ place le. omega arith) is.within in
@@ -205,8 +207,8 @@ overflowed-full code acts many is = record {
   newest = inr (newest-within acts is.last is.newest, shown-overflowed code acts is.last many is.newest);
 }
 
-kept-overflowed : (code : Code) (acts : List QueueAct) → IsKept acts → 16 ≤ length (entries acts) → IsKept (Report code ∷ acts)
-kept-overflowed code acts is full =
+valid-overflowed : (code : Code) (acts : List QueueAct) → IsValid acts → 16 ≤ length (entries acts) → IsValid (Report code ∷ acts)
+valid-overflowed code acts is full =
     let same = entries-overflowed code acts full in
     let few = is.few in
     let many : length (entries acts) ≡ 16 = omega arith in
@@ -224,8 +226,8 @@ kept-overflowed code acts is full =
 entries-taken : (acts : List QueueAct) → entries (Take ∷ acts) ≡ drop 1 (entries acts)
 entries-taken acts = left-taken (counted acts)
 
-kept-taken : (acts : List QueueAct) → IsKept acts → IsKept (Take ∷ acts)
-kept-taken acts is =
+valid-taken : (acts : List QueueAct) → IsValid acts → IsValid (Take ∷ acts)
+valid-taken acts is =
     let rest = entries-taken acts in
     let few = is.few in
     let size : length (entries (Take ∷ acts)) ≡ length (entries acts) - 1 = ap length rest ∙ length-drop 1 (entries acts) in
@@ -240,33 +242,46 @@ kept-taken acts is =
     }
 
 -- all acts keep this
-kept : (acts : List QueueAct) → IsKept acts
-kept [] = record { taken = omega arith; few = omega arith; within = tt; full = λ many. absurd (omega arith) }
-kept (Report code ∷ acts) = elim (cases_lt (length (entries acts)) 16) [
-  | inl room ↦ kept-reported code acts (kept acts) room
+valid : (acts : List QueueAct) → IsValid acts
+valid [] = record { taken = omega arith; few = omega arith; within = tt; full = λ many. absurd (omega arith) }
+valid (Report code ∷ acts) = elim (cases_lt (length (entries acts)) 16) [
+  | inl room ↦ valid-reported code acts (valid acts) room
   | inr full ↦
-      kept-overflowed code acts (kept acts) full
+      valid-overflowed code acts (valid acts) full
 ]
-kept (Take ∷ acts) = kept-taken acts (kept acts)
-kept (Clear ∷ acts) = record { taken = omega arith; few = omega arith; within = tt; full = λ many. absurd (omega arith) }
+valid (Take ∷ acts) = valid-taken acts (valid acts)
+valid (Clear ∷ acts) = record { taken = omega arith; few = omega arith; within = tt; full = λ many. absurd (omega arith) }
 
--- ---- what is held, one act later
+-- ---- what is queued, one act later
 
 -- what the entries show stays, but where a report overflows
 shown-entries : (act : QueueAct) (acts : List QueueAct) → (is_full acts && is_report (act ∷ acts)) ≡ false
-    → map (shown (act ∷ acts)) (entries acts) ≡ held acts
+    → map (shown (act ∷ acts)) (entries acts) ≡ queued acts
 shown-entries act acts quiet = map-same (λ place. place ≤ length acts) (shown (act ∷ acts)) (shown acts) (entries acts)
-    (λ place le. shown-same place act acts quiet le) (kept acts).within
+    (λ place le. shown-same place act acts quiet le) (valid acts).within
+
+-- each entry shows one code
+pub length-queued : (acts : List QueueAct) → length (queued acts) ≡ length (entries acts)
+length-queued acts = length-map (entries acts) (shown acts)
+
+-- whether the queue is full, and that it never has more
+pub full-queued : (acts : List QueueAct) → is_full acts ≡ (length (queued acts) == 16)
+full-queued acts = ap (λ (n : ℕ). n == 16) (sym (length-queued acts))
+
+pub queued-few : (acts : List QueueAct) → length (queued acts) ≤ 16
+queued-few acts = omega (arith, length-queued acts, (valid acts).few)
 
 -- a report that finds room becomes the newest
-held-reported : (code : Code) (acts : List QueueAct) → length (entries acts) < 16 → held (Report code ∷ acts) ≡ held acts ++ code ∷ []
-held-reported code acts room =
+pub queued-reported : (code : Code) (acts : List QueueAct) → length (queued acts) < 16
+    → queued (Report code ∷ acts) ≡ queued acts ++ code ∷ []
+queued-reported code acts few =
+    let room : length (entries acts) < 16 = omega (arith, few, length-queued acts) in
     let quiet : (is_full acts && true) ≡ false = ap (λ (b : Bool). b && true) (ne_eqb (length (entries acts)) 16 (λ e. omega arith)) in
-    ap (map (shown (Report code ∷ acts))) (entries-reported code acts (kept acts) room)
+    ap (map (shown (Report code ∷ acts))) (entries-reported code acts (valid acts) room)
     ∙ map_push (shown (Report code ∷ acts)) (entries acts) (length acts + 1)
     ∙ ap (λ (cs : List Code). cs ++ shown (Report code ∷ acts) (length acts + 1) ∷ []) (shown-entries (Report code) acts quiet)
-    ∙ ap (λ (n : ℕ). held acts ++ shown (Report code ∷ acts) n ∷ []) (add-one (length acts))
-    ∙ ap (λ (c : Code). held acts ++ c ∷ []) (shown-newest (Report code ∷ acts))
+    ∙ ap (λ (n : ℕ). queued acts ++ shown (Report code ∷ acts) n ∷ []) (add-one (length acts))
+    ∙ ap (λ (c : Code). queued acts ++ c ∷ []) (shown-newest (Report code ∷ acts))
 
 -- the entries of a full queue
 full-shown : (acts : List QueueAct) (now : List QueueAct) (is : IsFull acts)
@@ -274,11 +289,12 @@ full-shown : (acts : List QueueAct) (now : List QueueAct) (is : IsFull acts)
 full-shown acts now is = ap (map (shown now)) is.split ∙ map_push (shown now) is.front is.last
 
 -- a report that finds none shows the overflow in the place of the newest
-held-overflowed : (code : Code) (acts : List QueueAct) → length (entries acts) ≡ 16
-    → held (Report code ∷ acts) ≡ take 15 (held acts) ++ QueueOverflow ∷ []
-held-overflowed code acts many =
-    let is = (kept acts).full many in
-    let front : take 15 (held acts) ≡ map (shown acts) is.front =
+pub queued-overflowed : (code : Code) (acts : List QueueAct) → length (queued acts) ≡ 16
+    → queued (Report code ∷ acts) ≡ take 15 (queued acts) ++ QueueOverflow ∷ []
+queued-overflowed code acts full =
+    let many = sym (length-queued acts) ∙ full in
+    let is = (valid acts).full many in
+    let front : take 15 (queued acts) ≡ map (shown acts) is.front =
     ap (take 15) (full-shown acts acts is) ∙ take_at (map (shown acts) is.front) (shown acts is.last ∷ []) 15
     (length-map is.front (shown acts) ∙ is.size) in
     ap (map (shown (Report code ∷ acts))) (entries-overflowed code acts (omega arith))
@@ -288,35 +304,43 @@ held-overflowed code acts many =
     (map-same (λ place. place < length acts) (shown (Report code ∷ acts)) (shown acts) is.front
     (λ place lt. shown-older place (Report code) acts lt) is.older ∙ sym front)
 
+-- a report, whether it finds room or not
+pub queued-report : (code : Code) (acts : List QueueAct) → queued (Report code ∷ acts)
+    ≡ (if is_full acts then take 15 (queued acts) ++ QueueOverflow ∷ [] else queued acts ++ code ∷ [])
+queued-report code acts = elim (cases_lt (length (queued acts)) 16) [
+  | inl room ↦ rw (full-queued acts, ne_eqb (length (queued acts)) 16 (λ e. omega arith)) (queued-reported code acts room)
+  | inr full ↦
+      let many : length (queued acts) ≡ 16 = omega (arith, full, queued-few acts) in
+      rw (full-queued acts, eq-eqb (length (queued acts)) 16 many) (queued-overflowed code acts many)
+]
+
 -- a taking leaves out the oldest
-held-taken : (acts : List QueueAct) → held (Take ∷ acts) ≡ drop 1 (held acts)
-held-taken acts =
+pub queued-taken : (acts : List QueueAct) → queued (Take ∷ acts) ≡ drop 1 (queued acts)
+queued-taken acts =
     ap (map (shown (Take ∷ acts))) (entries-taken acts) ∙ sym (drop-map (shown (Take ∷ acts)) 1 (entries acts))
     ∙ ap (drop 1) (shown-entries Take acts (and_right (is_full acts) false refl))
 
--- ---- the codes that are kept
+-- clearing leaves nothing
+pub queued-cleared : (acts : List QueueAct) → queued (Clear ∷ acts) ≡ []
+queued-cleared acts = refl
 
--- as many codes as entries
-count-entries : (codes : List Code) (acts : List QueueAct) → StandsFor codes acts → length (entries acts) ≡ length codes
-count-entries codes acts stands = sym (ap length stands ∙ length-map (entries acts) (shown acts))
+-- ---- the codes that stand for the acts
 
 -- a report that finds room
 pub StandsFor-reported : (codes : List Code) (code : Code) (acts : List QueueAct) → length codes < 16 → StandsFor codes acts
     → StandsFor (codes ++ code ∷ []) (Report code ∷ acts)
 StandsFor-reported codes code acts room stands =
-    let size = count-entries codes acts stands in
-    ap (λ (cs : List Code). cs ++ code ∷ []) stands ∙ sym (held-reported code acts (omega arith))
+    ap (λ (cs : List Code). cs ++ code ∷ []) stands ∙ sym (queued-reported code acts (omega (arith, room, ap length stands)))
 
 -- a report that finds none
 pub StandsFor-overflowed : (codes : List Code) (code : Code) (acts : List QueueAct) → length codes ≡ 16 → StandsFor codes acts
     → StandsFor (take 15 codes ++ QueueOverflow ∷ []) (Report code ∷ acts)
 StandsFor-overflowed codes code acts full stands =
-    let size = count-entries codes acts stands in
-    ap (λ (cs : List Code). take 15 cs ++ QueueOverflow ∷ []) stands ∙ sym (held-overflowed code acts (omega arith))
+    ap (λ (cs : List Code). take 15 cs ++ QueueOverflow ∷ []) stands ∙ sym (queued-overflowed code acts (sym (ap length stands) ∙ full))
 
 -- a taking
 pub StandsFor-taken : (codes : List Code) (acts : List QueueAct) → StandsFor codes acts → StandsFor (drop 1 codes) (Take ∷ acts)
-StandsFor-taken codes acts stands = ap (drop 1) stands ∙ sym (held-taken acts)
+StandsFor-taken codes acts stands = ap (drop 1) stands ∙ sym (queued-taken acts)
 
 -- clearing leaves nothing
 pub StandsFor-cleared : (acts : List QueueAct) → StandsFor [] (Clear ∷ acts)

@@ -48,6 +48,26 @@ since_step F K a log = (
   (λ (h : K (a ∷ log) × (F (a ∷ log) ⊎ Since F K log)). found_or F K a log h.0 h.1),
 )
 
+-- the newest place keeps it
+pub since_kept : {A : Type 0} (F K : List A → Type 0) (a : A) (log : List A) → K (a ∷ log)
+    → Since F K (a ∷ log) ↔ (F (a ∷ log) ⊎ Since F K log)
+since_kept F K a log k =
+    let law = since_step F K a log in
+    ((λ (s : Since F K (a ∷ log)). (law.0 s).1), (λ (h : F (a ∷ log) ⊎ Since F K log). law.1 (k, h)))
+
+-- the newest place keeps it, and is no find
+pub since_same : {A : Type 0} (F K : List A → Type 0) (a : A) (log : List A) → K (a ∷ log) → (F (a ∷ log) → ⊥)
+    → Since F K (a ∷ log) ↔ Since F K log
+since_same F K a log k none =
+    let law = since_step F K a log in (
+      (λ (s : Since F K (a ∷ log)). elim (law.0 s).1 [ inl f ↦ absurd (none f) | inr before ↦ before ]),
+      (λ (before : Since F K log). law.1 (k, inr before)),
+    )
+
+-- the newest place doesn't keep it
+pub since_ended : {A : Type 0} (F K : List A → Type 0) (a : A) (log : List A) → (K (a ∷ log) → ⊥) → Since F K (a ∷ log) → ⊥
+since_ended F K a log ends s = ends ((since_step F K a log).0 s).0
+
 -- what has these laws is that search
 pub since_unique : {A : Type 0} (F K P : List A → Type 0) → P [] ↔ (F [] × K [])
     → ((a : A) (log : List A) → P (a ∷ log) ↔ (K (a ∷ log) × (F (a ∷ log) ⊎ P log))) → (log : List A)

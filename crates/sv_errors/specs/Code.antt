@@ -1,5 +1,5 @@
 -- The error codes (SCPI-1999, volume 2, section 21.8): their numbers and texts.
-use Rattle.std.specs.Prelude.{ℤ, ℕ, pos, neg_ℤ, List, codes}
+use Rattle.std.specs.Prelude.{ℤ, ℕ, ◌/◌, ◌^◌, ◌==◌, pos, neg_ℤ, unsigned_abs, List, codes, if◌then◌else◌}
 use Rattle.sv_errors.specs.declared.code.Code.{Code}
 use Rattle.sv_errors.specs.declared.code.Code.TheVariants.{NoError, InvalidCharacter, SyntaxError, DataTypeError, ParameterNotAllowed, MissingParameter, ProgramMnemonicTooLong, UndefinedHeader, InvalidCharacterInNumber, ExponentTooLarge, TooManyDigits, InvalidSuffix, SuffixNotAllowed, InvalidCharacterData, InvalidExpression, TriggerIgnored, InitIgnored, TriggerDeadlock, SettingsConflict, DataOutOfRange, TooMuchData, IllegalParameterValue, DataCorruptOrStale, QueueOverflow, InputBufferOverrun, QueryInterrupted, QueryUnterminated, QueryDeadlocked}
 
@@ -36,6 +36,23 @@ number_of InputBufferOverrun = minus 363
 number_of QueryInterrupted = minus 410
 number_of QueryUnterminated = minus 420
 number_of QueryDeadlocked = minus 430
+
+-- the class of an error, and of nothing wrong: the hundreds of its number
+abbrev pub class_of : Code → ℕ
+class_of code = unsigned_abs (number_of code) / 100
+
+-- The standard event that an error of a class is, as a word with its bit (IEEE 488.2, 11.5.1): command error, execution error,
+-- device-specific error, query error.
+abbrev pub class_event : ℕ → ℕ
+class_event class =
+    if class == 1 then 2 ^ 5
+    else if class == 2 then 2 ^ 4
+    else if class == 3 then 2 ^ 3
+    else if class == 4 then 2 ^ 2
+    else 0
+
+abbrev pub standard_event_of : Code → ℕ
+standard_event_of code = class_event (class_of code)
 
 abbrev pub text_of : Code → List ℕ
 text_of NoError = codes "No error"

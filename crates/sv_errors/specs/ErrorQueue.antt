@@ -1,4 +1,4 @@
--- The error queue (SCPI-1999, volume 2, section 21.8): what it holds, found by a search of its acts, which are read from the newest. A
+-- The error queue (SCPI-1999, volume 2, section 21.8): what is queued, found by a search of its acts, which are read from the newest. A
 -- place of the acts is told by how many acts there are up to it.
 use Rattle.std.specs.Prelude.{◌≡◌, ℕ, ◌+◌, ◌-◌, ◌==◌, ◌&&◌, Bool, true, false, List, [], ◌∷◌, ◌++◌, length, map, drop, Option, nat_lt, slice_get, if◌then◌else◌}
 use Rattle.sv_errors.specs.declared.code.Code.{Code}
@@ -66,13 +66,13 @@ abbrev pub shown : List QueueAct → ℕ → Code
 shown acts place = if is_full (up_to place acts) && is_overtaken place acts then QueueOverflow else reported (up_to place acts)
 
 -- what can be taken, oldest first
-abbrev pub held : List QueueAct → List Code
-held acts = map (shown acts) (entries acts)
+abbrev pub queued : List QueueAct → List Code
+queued acts = map (shown acts) (entries acts)
 
 -- the oldest of it, where there is any
 abbrev pub oldest : List QueueAct → Option Code
-oldest acts = slice_get (held acts) 0
+oldest acts = slice_get (queued acts) 0
 
--- The codes that are kept stand for the acts.
+-- The codes are those that the acts leave queued.
 abbrev pub StandsFor : List Code → List QueueAct → Type 0
-StandsFor codes acts = codes ≡ held acts
+StandsFor codes acts = codes ≡ queued acts

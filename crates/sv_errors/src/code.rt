@@ -1,7 +1,16 @@
 //! The error codes (SCPI-1999, volume 2, section 21.8).
 
 ghost use Rattle.std.specs.Prelude.{◌≡◌};
-ghost use Rattle.sv_errors.specs.Code.{number_of, text_of};
+ghost use Rattle.sv_errors.specs.Code.{number_of, text_of, standard_event_of};
+
+/// A command error's bit in the standard event register (IEEE 488.2, 11.5.1).
+const COMMAND_ERROR: u8 = 1 << 5;
+/// An execution error's bit.
+const EXECUTION_ERROR: u8 = 1 << 4;
+/// A device-specific error's bit.
+const DEVICE_ERROR: u8 = 1 << 3;
+/// A query error's bit.
+const QUERY_ERROR: u8 = 1 << 2;
 
 /// What the instrument can answer when it is asked for errors: one of them, or that there is none.
 #[derive(Clone, Copy, Debug, PartialEq, Eq)]
@@ -98,6 +107,21 @@ impl Code {
             Code::QueryInterrupted => -410,
             Code::QueryUnterminated => -420,
             Code::QueryDeadlocked => -430,
+        }
+    }
+
+    /// Which standard event a report of the error is, as a word with its bit in the standard event
+    /// register (IEEE 488.2, 11.5.1): 32, a command error, for -1xx; 16, an execution error, for
+    /// -2xx; 8, a device-specific error, for -3xx; 4, a query error, for -4xx; 0 if there is none.
+    pub fn standard_event(self) -> u8
+        ensures { result ≡ standard_event_of self }
+    {
+        match self.number().unsigned_abs() / 100 {
+            1 => COMMAND_ERROR,
+            2 => EXECUTION_ERROR,
+            3 => DEVICE_ERROR,
+            4 => QUERY_ERROR,
+            _ => 0,
         }
     }
 

@@ -1,7 +1,7 @@
 //! The error queue (SCPI-1999, volume 2, section 21.8).
 
 ghost use Rattle.std.specs.Prelude.{◌≡◌, ◌==◌, ◌≤◌, [], ◌∷◌, List, length, IfOk};
-ghost use Rattle.sv_errors.specs.ErrorQueue.{StandsFor, entries, is_full, oldest};
+ghost use Rattle.sv_errors.specs.ErrorQueue.{StandsFor, entries, is_full, oldest as oldest_of};
 
 use crate::code::Code;
 use crate::layer::Layer;
@@ -85,9 +85,17 @@ impl<A: Allocator> ErrorQueue<A> {
     pub fn take(&mut self) -> Option<Code>
         ensures stands { (acts : List QueueAct) → StandsFor self.old acts
             → StandsFor self.new (QueueAct.Take ∷ acts) }
-        ensures answer { (acts : List QueueAct) → StandsFor self.old acts → result ≡ oldest acts }
+        ensures answer { (acts : List QueueAct) → StandsFor self.old acts
+            → result ≡ oldest_of acts }
     {
         self.codes.pop_front()
+    }
+
+    /// The oldest entry, which stays, where there is one.
+    pub fn oldest(&self) -> Option<Code>
+        ensures { (acts : List QueueAct) → StandsFor self.now acts → result ≡ oldest_of acts }
+    {
+        self.codes.front().copied()
     }
 
     /// How many entries there are.

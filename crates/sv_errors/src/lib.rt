@@ -13,5 +13,5 @@ mod source;
 pub use code::Code;
 pub use error_queue::{ErrorQueue, QueueAct, QueueAnswer};
 pub use layer::{Layer, act_each};
-pub use limits::{CHANNELS, MOST_MICROVOLTS, is_channel};
+pub use limits::{CHANNELS, MOST_MICROVOLTS, is_channel, is_channel_list};
 pub use source::Source;

@@ -1,7 +1,8 @@
 //! How far the instrument's numbers reach.
 
 ghost use Rattle.std.specs.Prelude.{◌≡◌};
-ghost use Rattle.sv_errors.specs.Limits.{is_channel as is_channel_number};
+ghost use Rattle.std.specs.List.{list_all};
+ghost use Rattle.sv_errors.specs.Limits.{is_channel as is_channel_number, is_channel_list as is_list_of_channels};
 
 /// How many channels there are; they are numbered from 1.
 pub const CHANNELS: u8 = 32;
@@ -13,4 +14,18 @@ pub fn is_channel(number: u64) -> bool
     ensures { result ≡ is_channel_number number }
 {
     1 <= number && number <= CHANNELS as u64
+}
+
+/// Whether there is a channel of each of these numbers.
+fn are_channels(numbers: &[u8]) -> bool
+    ensures { result ≡ list_all is_channel_number numbers.now }
+{
+    numbers.iter().all(|number| is_channel(u64::from(*number)))
+}
+
+/// Whether these can be listed as channels: 1 to 32 numbers, each of a channel.
+pub fn is_channel_list(channels: &[u8]) -> bool
+    ensures { result ≡ is_list_of_channels channels.now }
+{
+    1 <= channels.len() && (channels.len() <= CHANNELS as usize && are_channels(channels))
 }

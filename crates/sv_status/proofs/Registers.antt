@@ -1,33 +1,63 @@
--- A register after one more act.
-use Rattle.std.proofs.Common.{◌≡◌, ℕ, List, ◌∷◌, refl, ap, ◌∙◌, subst, sym, ◌⊎◌, inl, inr, bit_and, bit_or, arith}
+-- A register after one more act: what of its events stands (`event-..`), and that what it keeps stands for the acts (`StandsFor-..`).
+use Rattle.std.proofs.Common.{◌≡◌, ℕ, List, [], ◌∷◌, refl, ap, ◌∙◌, subst, sym, ◌⊎◌, inl, inr, bit_and, bit_or, arith}
 use Rattle.std.specs.Prelude.{◌↔◌, bit_xor}
 use Rattle.std.specs.Int.{bit_at}
-use Rattle.std.proofs.lemmas.Nat.Bits.{bit_at-zero}
-use Rattle.sv_errors.proofs.Since.{since_step}
+use Rattle.sv_errors.proofs.Since.{since_empty, since_step, since_kept, since_same, since_ended}
 use Rattle.sv_status.specs.declared.register.RegisterAct.{RegisterAct}
 use Rattle.sv_status.specs.declared.register.RegisterAct.TheVariants.{Condition, SetFilter, SetEnable, ReadEvent, Preset, Clear}
-use Rattle.sv_status.specs.Register.{Held, StandsFor, EventStands, Passes, IsKept, Summary, condition, rise, fall, masked}
-use Rattle.sv_status.proofs.Words.{both_bits, either_bit, rose, fell}
+use Rattle.sv_status.specs.Register.{Latches, StandsFor, EventStands, Passes, NotCleared, Summary, condition, rise, fall, masked}
+use Rattle.sv_status.proofs.Words.{then_same, no_bits, both_bits, either_bit, rose, fell}
 
 -- a bit that doesn't change passes no filter
 no_change : (c k : ℕ) (P Q : Type 0) → ((bit_at c k ≡ 0) × (bit_at c k ≡ 1) × P) ⊎ ((bit_at c k ≡ 1) × (bit_at c k ≡ 0) × Q) → ⊥
 no_change c k P Q (inl h) = absurd (omega arith)
 no_change c k P Q (inr h) = absurd (omega arith)
 
+-- ---- which events stand
+
+-- none before all acts
+pub event-none : (k : ℕ) → EventStands k [] → ⊥
+event-none k stands = ((since_empty (Passes k) NotCleared).0 stands).0
+
 -- an act that keeps a bit, and at which it doesn't pass
-pub same_event : (k : ℕ) (act : RegisterAct) (acts : List RegisterAct) → IsKept (act ∷ acts) → (Passes k (act ∷ acts) → ⊥)
+pub same_event : (k : ℕ) (act : RegisterAct) (acts : List RegisterAct) → NotCleared (act ∷ acts) → (Passes k (act ∷ acts) → ⊥)
     → EventStands k acts ↔ EventStands k (act ∷ acts)
 same_event k act acts kept none =
-    let law = since_step (Passes k) IsKept act acts in
-    ((λ s. law.1 (kept, inr s)), (λ s. elim (law.0 s).1 [ inl passes ↦ absurd (none passes) | inr before ↦ before ]))
+    let same = since_same (Passes k) NotCleared act acts kept none in (same.1, same.0)
 
-then_same : {P Q R : Type 0} → P ↔ Q → Q ↔ R → P ↔ R
-then_same f g = ((λ p. g.0 (f.0 p)), (λ r. f.1 (g.1 r)))
+-- a condition: a bit passes its filter, or its event stood before
+pub event-condition : (k word : ℕ) (acts : List RegisterAct)
+    → EventStands k (Condition word ∷ acts) ↔ (Passes k (Condition word ∷ acts) ⊎ EventStands k acts)
+event-condition k word acts = since_kept (Passes k) NotCleared (Condition word) acts tt
+
+-- the condition that there was
+pub event-unchanged : (k word : ℕ) (acts : List RegisterAct) → word ≡ condition acts
+    → EventStands k (Condition word ∷ acts) ↔ EventStands k acts
+event-unchanged k word acts same = since_same (Passes k) NotCleared (Condition word) acts tt (rw same (no_change (condition acts) k _ _))
+
+-- filters, enable and presetting
+pub event-filter : (k up down : ℕ) (acts : List RegisterAct) → EventStands k (SetFilter up down ∷ acts) ↔ EventStands k acts
+event-filter k up down acts = since_same (Passes k) NotCleared (SetFilter up down) acts tt (no_change (condition acts) k _ _)
+
+pub event-enable : (k word : ℕ) (acts : List RegisterAct) → EventStands k (SetEnable word ∷ acts) ↔ EventStands k acts
+event-enable k word acts = since_same (Passes k) NotCleared (SetEnable word) acts tt (no_change (condition acts) k _ _)
+
+pub event-preset : (k : ℕ) (acts : List RegisterAct) → EventStands k (Preset ∷ acts) ↔ EventStands k acts
+event-preset k acts = since_same (Passes k) NotCleared Preset acts tt (no_change (condition acts) k _ _)
+
+-- a reading or a clearing
+pub event-read : (k : ℕ) (acts : List RegisterAct) → EventStands k (ReadEvent ∷ acts) → ⊥
+event-read k acts = since_ended (Passes k) NotCleared ReadEvent acts (λ kept. kept)
+
+pub event-cleared : (k : ℕ) (acts : List RegisterAct) → EventStands k (Clear ∷ acts) → ⊥
+event-cleared k acts = since_ended (Passes k) NotCleared Clear acts (λ kept. kept)
+
+-- ---- what a register keeps
 
 -- filters and enable change no event
-pub StandsFor-filter : (held : Held) (acts : List RegisterAct) (up down : ℕ) → StandsFor held acts
-    → StandsFor (record held { rise = masked up; fall = masked down }) (SetFilter up down ∷ acts)
-StandsFor-filter held acts up down is = record {
+pub StandsFor-filter : (latches : Latches) (acts : List RegisterAct) (up down : ℕ) → StandsFor latches acts
+    → StandsFor (record latches { rise = masked up; fall = masked down }) (SetFilter up down ∷ acts)
+StandsFor-filter latches acts up down is = record {
   condition = is.condition;
   rise = refl;
   fall = refl;
@@ -35,9 +65,9 @@ StandsFor-filter held acts up down is = record {
   event = λ k. then_same (is.event k) (same_event k (SetFilter up down) acts tt (no_change (condition acts) k _ _));
 }
 
-pub StandsFor-enable : (held : Held) (acts : List RegisterAct) (word : ℕ) → StandsFor held acts
-    → StandsFor (record held { enable = masked word }) (SetEnable word ∷ acts)
-StandsFor-enable held acts word is = record {
+pub StandsFor-enable : (latches : Latches) (acts : List RegisterAct) (word : ℕ) → StandsFor latches acts
+    → StandsFor (record latches { enable = masked word }) (SetEnable word ∷ acts)
+StandsFor-enable latches acts word is = record {
   condition = is.condition;
   rise = is.rise;
   fall = is.fall;
@@ -45,9 +75,9 @@ StandsFor-enable held acts word is = record {
   event = λ k. then_same (is.event k) (same_event k (SetEnable word) acts tt (no_change (condition acts) k _ _));
 }
 
-pub StandsFor-preset : (held : Held) (acts : List RegisterAct) → StandsFor held acts
-    → StandsFor (record held { rise = 32767; fall = 0; enable = 0 }) (Preset ∷ acts)
-StandsFor-preset held acts is = record {
+pub StandsFor-preset : (latches : Latches) (acts : List RegisterAct) → StandsFor latches acts
+    → StandsFor (record latches { rise = 32767; fall = 0; enable = 0 }) (Preset ∷ acts)
+StandsFor-preset latches acts is = record {
   condition = is.condition;
   rise = refl;
   fall = refl;
@@ -56,10 +86,10 @@ StandsFor-preset held acts is = record {
 }
 
 -- the bits that a change of the condition sets
-abbrev pub latched : Held → ℕ → ℕ
-latched held word =
-    bit_or (bit_or held.event (bit_and (bit_and (bit_xor held.condition word) word) held.rise))
-    (bit_and (bit_and (bit_xor held.condition word) held.condition) held.fall)
+abbrev pub latched : Latches → ℕ → ℕ
+latched latches word =
+    bit_or (bit_or latches.event (bit_and (bit_and (bit_xor latches.condition word) word) latches.rise))
+    (bit_and (bit_and (bit_xor latches.condition word) latches.condition) latches.fall)
 
 -- a bit changes in a direction whose filter is on
 abbrev PassesBy : ℕ → ℕ → ℕ → ℕ → ℕ → Type 0
@@ -72,17 +102,17 @@ same_passing k old old' new up up' down down' e f g p =
     subst (λ (o : ℕ). PassesBy k o new up' down') e
     (subst (λ (u : ℕ). PassesBy k old new u down') f (subst (λ (d : ℕ). PassesBy k old new up d) g p))
 
-latched_bit : (held : Held) (word k : ℕ) → (bit_at (latched held word) k ≡ 1)
-    ↔ (PassesBy k held.condition word held.rise held.fall ⊎ (bit_at held.event k ≡ 1))
-latched_bit held word k =
-    let up = bit_and (bit_xor held.condition word) word in
-    let down = bit_and (bit_xor held.condition word) held.condition in
-    let all = either_bit (bit_or held.event (bit_and up held.rise)) (bit_and down held.fall) k in
-    let first = either_bit held.event (bit_and up held.rise) k in
-    let rising = both_bits up held.rise k in
-    let falling = both_bits down held.fall k in
-    let rise_is = rose held.condition word k in
-    let fall_is = fell held.condition word k in (
+latched_bit : (latches : Latches) (word k : ℕ) → (bit_at (latched latches word) k ≡ 1)
+    ↔ (PassesBy k latches.condition word latches.rise latches.fall ⊎ (bit_at latches.event k ≡ 1))
+latched_bit latches word k =
+    let up = bit_and (bit_xor latches.condition word) word in
+    let down = bit_and (bit_xor latches.condition word) latches.condition in
+    let all = either_bit (bit_or latches.event (bit_and up latches.rise)) (bit_and down latches.fall) k in
+    let first = either_bit latches.event (bit_and up latches.rise) k in
+    let rising = both_bits up latches.rise k in
+    let falling = both_bits down latches.fall k in
+    let rise_is = rose latches.condition word k in
+    let fall_is = fell latches.condition word k in (
       (λ h. elim (all.0 h) [
         | inl some ↦ elim (first.0 some) [
           | inl event ↦ inr event
@@ -100,19 +130,19 @@ latched_bit held word k =
     )
 
 -- a change of the condition
-pub StandsFor-condition : (held : Held) (acts : List RegisterAct) (word : ℕ) → StandsFor held acts
-    → StandsFor (record held { condition = word; event = latched held word }) (Condition word ∷ acts)
-StandsFor-condition held acts word is = record {
+pub StandsFor-condition : (latches : Latches) (acts : List RegisterAct) (word : ℕ) → StandsFor latches acts
+    → StandsFor (record latches { condition = word; event = latched latches word }) (Condition word ∷ acts)
+StandsFor-condition latches acts word is = record {
   condition = refl;
   rise = is.rise;
   fall = is.fall;
   enable = is.enable;
   event = λ k.
-      let bit = latched_bit held word k in
-      let law = since_step (Passes k) IsKept (Condition word) acts in
-      let to = same_passing k held.condition (condition acts) word held.rise (rise acts) held.fall
+      let bit = latched_bit latches word k in
+      let law = since_step (Passes k) NotCleared (Condition word) acts in
+      let to = same_passing k latches.condition (condition acts) word latches.rise (rise acts) latches.fall
       (fall acts) is.condition is.rise is.fall in
-      let from = same_passing k (condition acts) held.condition word (rise acts) held.rise (fall acts) held.fall (sym is.condition)
+      let from = same_passing k (condition acts) latches.condition word (rise acts) latches.rise (fall acts) latches.fall (sym is.condition)
       (sym is.rise) (sym is.fall) in (
         (λ h. law.1 (tt, elim (bit.0 h) [ inl passes ↦ inl (to passes) | inr event ↦ inr ((is.event k).0 event) ])),
         (λ s. bit.1 (elim (law.0 s).1 [ inl passes ↦ inl (from passes) | inr before ↦ inr ((is.event k).1 before) ])),
@@ -120,34 +150,30 @@ StandsFor-condition held acts word is = record {
 }
 
 -- some bit stands that is enabled
-pub summary_is : (held : Held) (acts : List RegisterAct) → StandsFor held acts
-    → ((k : ℕ) × (bit_at held.event k ≡ 1) × (bit_at held.enable k ≡ 1)) ↔ Summary acts
-summary_is held acts is = (
+pub summary_is : (latches : Latches) (acts : List RegisterAct) → StandsFor latches acts
+    → ((k : ℕ) × (bit_at latches.event k ≡ 1) × (bit_at latches.enable k ≡ 1)) ↔ Summary acts
+summary_is latches acts is = (
   (λ h. (h.0, (is.event h.0).0 h.1, ap (λ (w : ℕ). bit_at w h.0) (sym is.enable) ∙ h.2)),
   (λ h. (h.0, (is.event h.0).1 h.1, ap (λ (w : ℕ). bit_at w h.0) is.enable ∙ h.2)),
 )
 
 -- the event register is cleared, by reading it or by itself
-none_stands : (k : ℕ) (act : RegisterAct) (acts : List RegisterAct) → (IsKept (act ∷ acts) → ⊥)
-    → (bit_at 0 k ≡ 1) ↔ EventStands k (act ∷ acts)
-none_stands k act acts cleared =
-    ((λ h. absurd (let zero = bit_at-zero k in omega arith)), (λ s. absurd (cleared ((since_step (Passes k) IsKept act acts).0 s).0)))
-
-pub StandsFor-read : (held : Held) (acts : List RegisterAct) → StandsFor held acts
-    → StandsFor (record held { event = 0 }) (ReadEvent ∷ acts)
-StandsFor-read held acts is = record {
+pub StandsFor-read : (latches : Latches) (acts : List RegisterAct) → StandsFor latches acts
+    → StandsFor (record latches { event = 0 }) (ReadEvent ∷ acts)
+StandsFor-read latches acts is = record {
   condition = is.condition;
   rise = is.rise;
   fall = is.fall;
   enable = is.enable;
-  event = λ k. none_stands k ReadEvent acts (λ kept. kept);
+  event = λ k. no_bits k (EventStands k (ReadEvent ∷ acts)) (event-read k acts);
 }
 
-pub StandsFor-cleared : (held : Held) (acts : List RegisterAct) → StandsFor held acts → StandsFor (record held { event = 0 }) (Clear ∷ acts)
-StandsFor-cleared held acts is = record {
+pub StandsFor-cleared : (latches : Latches) (acts : List RegisterAct) → StandsFor latches acts
+    → StandsFor (record latches { event = 0 }) (Clear ∷ acts)
+StandsFor-cleared latches acts is = record {
   condition = is.condition;
   rise = is.rise;
   fall = is.fall;
   enable = is.enable;
-  event = λ k. none_stands k Clear acts (λ kept. kept);
+  event = λ k. no_bits k (EventStands k (Clear ∷ acts)) (event-cleared k acts);
 }

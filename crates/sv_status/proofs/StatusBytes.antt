@@ -1,26 +1,80 @@
--- The status byte after one more act.
-use Rattle.std.proofs.Common.{◌≡◌, ℕ, Bool, true, false, ◌&&◌, ◌||◌, eqb, List, ◌∷◌, refl, ap, ◌∙◌, sym, inl, inr, bit_and, bit_or, ◌<◌, arith}
+-- The status byte after one more act: whether a request stands (`request-..`) and is raised (`raised-..`), and that what is kept
+-- stands for the acts (`StandsFor-..`).
+use Rattle.std.proofs.Common.{◌≡◌, ◌≢◌, ◌⊎◌, ℕ, Bool, true, false, ◌&&◌, ◌||◌, eqb, List, [], ◌∷◌, refl, ap, ◌∙◌, sym, inl, inr, bit_and, bit_or, ◌<◌, arith}
 use Rattle.std.specs.Prelude.{◌↔◌, not, bit_xor}
 use Rattle.std.specs.Int.{bit_at}
 use Rattle.std.proofs.lemmas.Bool.{and_from, and_parts, false_from_ne_true, not_from_false, or_cases, or_left, or_right, cases_eq}
 use Rattle.std.proofs.lemmas.Nat.Bits.{bit_at-lt, bit_at-pow_other}
-use Rattle.sv_errors.proofs.Since.{since_step}
+use Rattle.sv_errors.proofs.Since.{since_empty, since_step, since_ended}
 use Rattle.sv_status.specs.declared.status_byte.StatusAct.{StatusAct}
 use Rattle.sv_status.specs.declared.status_byte.StatusAct.TheVariants.{Update, Poll}
-use Rattle.sv_status.specs.StatusByte.{Held, StandsFor, Asks, AsksAt, Master, Reason, IsKept, Request, IsRaised, StatusBit, bits, enable}
+use Rattle.sv_status.specs.StatusByte.{Latches, StandsFor, Asks, AsksAt, Master, Reason, Lasts, Request, IsRaised, StatusBit, MasterBit, bits, enable}
 use Rattle.sv_status.proofs.Words.{not_zero, rose, either_bit, without_six}
+
+-- ---- whether a request stands
+
+-- none before all acts
+pub request-none : Request [] → ⊥
+request-none stands = ((since_empty Reason Lasts).0 stands).0
+
+-- an update: it stands if the master summary does, and a reason arises or it stood before
+pub request-updated : (word mask : ℕ) (acts : List StatusAct) → Request (Update word mask ∷ acts)
+    ↔ (Master (Update word mask ∷ acts) × (Reason (Update word mask ∷ acts) ⊎ Request acts))
+request-updated word mask acts = since_step Reason Lasts (Update word mask) acts
+
+-- an update without the master summary, and a poll
+pub request-unasked : (word mask : ℕ) (acts : List StatusAct) → (Master (Update word mask ∷ acts) → ⊥)
+    → Request (Update word mask ∷ acts) → ⊥
+request-unasked word mask acts none = since_ended Reason Lasts (Update word mask) acts none
+
+pub request-polled : (acts : List StatusAct) → Request (Poll ∷ acts) → ⊥
+request-polled acts = since_ended Reason Lasts Poll acts (λ lasts. lasts)
+
+-- the master summary stands with it
+pub request-master : (acts : List StatusAct) → Request acts → Master acts
+request-master [] stands = absurd (request-none stands)
+request-master (Update word mask ∷ acts) stands = ((request-updated word mask acts).0 stands).0
+request-master (Poll ∷ acts) stands = absurd (request-polled acts stands)
+
+-- an update to the bits and the enable that there were
+pub request-unchanged : (word mask : ℕ) (acts : List StatusAct) → word ≡ bits acts → mask ≡ enable acts
+    → Request (Update word mask ∷ acts) ↔ Request acts
+request-unchanged word mask acts same alike =
+    let law = request-updated word mask acts in
+    let now : (k : ℕ) → Asks k word mask → AsksAt k acts = λ k h. rw (same, alike) at h in
+    let before : (k : ℕ) → AsksAt k acts → Asks k word mask = λ k h. rw (same, alike) h in (
+      (λ s. elim (law.0 s).1 [ inl r ↦ absurd (r.2 (now r.0 r.1)) | inr stood ↦ stood ]),
+      (λ stood. let m = request-master acts stood in law.1 ((m.0, before m.0 m.1), inr stood)),
+    )
+
+-- ---- whether it is raised
+
+-- an update: a reason arises, and none stood
+pub raised-updated : (word mask : ℕ) (acts : List StatusAct)
+    → IsRaised (Update word mask ∷ acts) ↔ (Reason (Update word mask ∷ acts) × (Request acts → ⊥))
+raised-updated word mask acts =
+    let law = request-updated word mask acts in (
+      (λ raised. (elim (law.0 raised.0).1 [ inl r ↦ r | inr stood ↦ absurd (raised.1 stood) ], raised.1)),
+      (λ h. let r = h.0 in (law.1 ((r.0, r.1), inl r), h.1)),
+    )
+
+-- a poll
+pub raised-polled : (acts : List StatusAct) → IsRaised (Poll ∷ acts) → ⊥
+raised-polled acts raised = request-polled acts raised.0
+
+-- ---- what the status byte keeps
 
 -- The word has these summary bits that ask.
 abbrev pub HasAsking : ℕ → ℕ → ℕ → Type 0
 HasAsking word bits enable = (k : ℕ) → (bit_at word k ≡ 1) ↔ Asks k bits enable
 
 -- some bit asks
-pub master_is : (word : ℕ) (held : Held) (acts : List StatusAct) → StandsFor held acts → HasAsking word held.bits held.enable
+pub master_is : (word : ℕ) (latches : Latches) (acts : List StatusAct) → StandsFor latches acts → HasAsking word latches.bits latches.enable
     → (not (eqb word 0) ≡ true) ↔ Master acts
-master_is word held acts is asks =
+master_is word latches acts is asks =
     let zero = not_zero word in
-    let to : (k : ℕ) → Asks k held.bits held.enable → AsksAt k acts = λ k h. rw (is.bits, is.enable) at h in
-    let from : (k : ℕ) → AsksAt k acts → Asks k held.bits held.enable = λ k h. rw (is.bits, is.enable) h in (
+    let to : (k : ℕ) → Asks k latches.bits latches.enable → AsksAt k acts = λ k h. rw (is.bits, is.enable) at h in
+    let from : (k : ℕ) → AsksAt k acts → Asks k latches.bits latches.enable = λ k h. rw (is.bits, is.enable) h in (
       (λ h. let some = zero.0 h in (some.0, to some.0 ((asks some.0).0 some.1))),
       (λ m. zero.1 (m.0, (asks m.0).1 (from m.0 m.1))),
     )
@@ -29,10 +83,10 @@ zero_bit : (w k : ℕ) → (bit_at w k ≡ 1 → ⊥) → bit_at w k ≡ 0
 zero_bit w k none = elim (cases_eq (bit_at w k) 1) [ inl one ↦ absurd (none one) | inr other ↦ (let lt = bit_at-lt w k in omega arith) ]
 
 -- a reason arises where a bit asks that didn't before
-reason_is : (before now : ℕ) (held : Held) (acts : List StatusAct) (word mask : ℕ) → StandsFor held acts
-    → HasAsking before held.bits held.enable → HasAsking now word mask
+reason_is : (before now : ℕ) (latches : Latches) (acts : List StatusAct) (word mask : ℕ) → StandsFor latches acts
+    → HasAsking before latches.bits latches.enable → HasAsking now word mask
     → (not (eqb (bit_and (bit_xor before now) now) 0) ≡ true) ↔ Reason (Update word mask ∷ acts)
-reason_is before now held acts word mask is was asks =
+reason_is before now latches acts word mask is was asks =
     let zero = not_zero (bit_and (bit_xor before now) now) in (
       (λ h.
           let some = zero.0 h in
@@ -48,19 +102,19 @@ reason_is before now held acts word mask is was asks =
     )
 
 -- a request after an update: it stands where a bit asks, and a reason arises or it stood before
-request_is : (before now : ℕ) (held : Held) (acts : List StatusAct) (word mask : ℕ) → StandsFor held acts
-    → HasAsking before held.bits held.enable → HasAsking now word mask
-    → (((not (eqb (bit_and (bit_xor before now) now) 0) || held.request) && not (eqb now 0)) ≡ true) ↔ Request (Update word mask ∷ acts)
-request_is before now held acts word mask is was asks =
-    let law = since_step Reason IsKept (Update word mask) acts in
-    let reason = reason_is before now held acts word mask is was asks in
+request_is : (before now : ℕ) (latches : Latches) (acts : List StatusAct) (word mask : ℕ) → StandsFor latches acts
+    → HasAsking before latches.bits latches.enable → HasAsking now word mask
+    → (((not (eqb (bit_and (bit_xor before now) now) 0) || latches.request) && not (eqb now 0)) ≡ true) ↔ Request (Update word mask ∷ acts)
+request_is before now latches acts word mask is was asks =
+    let law = request-updated word mask acts in
+    let reason = reason_is before now latches acts word mask is was asks in
     let zero = not_zero now in (
       (λ h.
-          let both = and_parts (not (eqb (bit_and (bit_xor before now) now) 0) || held.request) (not (eqb now 0)) h in
+          let both = and_parts (not (eqb (bit_and (bit_xor before now) now) 0) || latches.request) (not (eqb now 0)) h in
           let some = zero.0 both.1 in
           law.1 (
             (some.0, (asks some.0).0 some.1),
-            elim (or_cases (not (eqb (bit_and (bit_xor before now) now) 0)) held.request both.0) [
+            elim (or_cases (not (eqb (bit_and (bit_xor before now) now) 0)) latches.request both.0) [
               | inl r ↦ inl (reason.0 r)
               | inr stood ↦
                   inr (is.request.0 stood)
@@ -68,9 +122,9 @@ request_is before now held acts word mask is was asks =
           )),
       (λ s.
           let parts = law.0 s in
-          and_from (not (eqb (bit_and (bit_xor before now) now) 0) || held.request) (not (eqb now 0))
+          and_from (not (eqb (bit_and (bit_xor before now) now) 0) || latches.request) (not (eqb now 0))
           (elim parts.1 [
-            | inl r ↦ or_left _ held.request (reason.1 r)
+            | inl r ↦ or_left _ latches.request (reason.1 r)
             | inr stood ↦
                 or_right (not (eqb (bit_and (bit_xor before now) now) 0)) _ (is.request.1 stood)
           ])
@@ -78,49 +132,53 @@ request_is before now held acts word mask is was asks =
     )
 
 -- it is raised where a reason arises and it didn't stand
-pub raised_is : (before now : ℕ) (held : Held) (acts : List StatusAct) (word mask : ℕ) → StandsFor held acts
-    → HasAsking before held.bits held.enable → HasAsking now word mask
-    → ((not (eqb (bit_and (bit_xor before now) now) 0) && not held.request) ≡ true) ↔ IsRaised (Update word mask ∷ acts)
-raised_is before now held acts word mask is was asks =
-    let law = since_step Reason IsKept (Update word mask) acts in
-    let reason = reason_is before now held acts word mask is was asks in (
+pub raised_is : (before now : ℕ) (latches : Latches) (acts : List StatusAct) (word mask : ℕ) → StandsFor latches acts
+    → HasAsking before latches.bits latches.enable → HasAsking now word mask
+    → ((not (eqb (bit_and (bit_xor before now) now) 0) && not latches.request) ≡ true) ↔ IsRaised (Update word mask ∷ acts)
+raised_is before now latches acts word mask is was asks =
+    let law = raised-updated word mask acts in
+    let reason = reason_is before now latches acts word mask is was asks in (
       (λ h.
-          let both = and_parts (not (eqb (bit_and (bit_xor before now) now) 0)) (not held.request) h in
-          let r = reason.0 both.0 in
-          (law.1 ((r.0, r.1), inl r), λ stood. let one = is.request.1 stood in absurd (cc))),
+          let both = and_parts (not (eqb (bit_and (bit_xor before now) now) 0)) (not latches.request) h in
+          law.1 (reason.0 both.0, λ stood. let one = is.request.1 stood in absurd (cc))),
       (λ s.
-          let parts = law.0 s.0 in
-          and_from (not (eqb (bit_and (bit_xor before now) now) 0)) (not held.request)
-          (reason.1 (elim parts.1 [ inl r ↦ r | inr stood ↦ absurd (s.1 stood) ]))
-          (not_from_false held.request (false_from_ne_true held.request (λ one. s.1 (is.request.0 one))))),
+          let parts = law.0 s in
+          and_from (not (eqb (bit_and (bit_xor before now) now) 0)) (not latches.request) (reason.1 parts.0)
+          (not_from_false latches.request (false_from_ne_true latches.request (λ one. parts.1 (is.request.0 one))))),
     )
 
 -- the bits that asked before an update, and those that ask after it, decide the request
-pub StandsFor-updated : (before now : ℕ) (held : Held) (acts : List StatusAct) (word mask : ℕ) → StandsFor held acts
-    → HasAsking before held.bits held.enable → HasAsking now word mask
+pub StandsFor-updated : (before now : ℕ) (latches : Latches) (acts : List StatusAct) (word mask : ℕ) → StandsFor latches acts
+    → HasAsking before latches.bits latches.enable → HasAsking now word mask
     → StandsFor (record {
       bits = word;
       enable = mask;
       request =
-          (not (eqb (bit_and (bit_xor before now) now) 0) || held.request) && not (eqb now 0);
+          (not (eqb (bit_and (bit_xor before now) now) 0) || latches.request) && not (eqb now 0);
     }) (Update word mask ∷ acts)
-StandsFor-updated before now held acts word mask is was asks =
-    record { bits = refl; enable = refl; request = request_is before now held acts word mask is was asks }
+StandsFor-updated before now latches acts word mask is was asks =
+    record { bits = refl; enable = refl; request = request_is before now latches acts word mask is was asks }
 
 -- a poll ends the request
-pub StandsFor-polled : (held : Held) (acts : List StatusAct) → StandsFor held acts
-    → StandsFor (record held { request = false }) (Poll ∷ acts)
-StandsFor-polled held acts is = record {
+pub StandsFor-polled : (latches : Latches) (acts : List StatusAct) → StandsFor latches acts
+    → StandsFor (record latches { request = false }) (Poll ∷ acts)
+StandsFor-polled latches acts is = record {
   bits = is.bits;
   enable = is.enable;
   request =
-      ((λ h. absurd cc), (λ s. absurd (((since_step Reason IsKept Poll acts).0 s).0)));
+      ((λ h. absurd cc), (λ s. absurd (request-polled acts s)));
 }
 
--- the status byte with the request in bit 6
-abbrev pub with_request : Bool → ℕ → ℕ
-with_request true word = bit_or (bit_and word 191) 64
-with_request false word = bit_and word 191
+-- ---- the status byte as it is shown
+
+-- these bits, but bit 6 as told
+abbrev pub with_six : Bool → ℕ → ℕ
+with_six true word = bit_or (bit_and word 191) 64
+with_six false word = bit_and word 191
+
+-- a bit of it, where bit 6 tells a fact
+abbrev pub ShowsBit : ℕ → ℕ → Type 0 → Type 0
+ShowsBit k word P = ((k ≢ 6) × (bit_at word k ≡ 1)) ⊎ ((k ≡ 6) × P)
 
 six_alone : (k : ℕ) → (bit_at 64 k ≡ 1) ↔ (k ≡ 6)
 six_alone k = (
@@ -128,34 +186,39 @@ six_alone k = (
   (λ e. ap (bit_at 64) e),
 )
 
-pub status_of : (request : Bool) (word : ℕ) (acts : List StatusAct) (k : ℕ) → word < 256 → word ≡ bits acts
-    → (request ≡ true) ↔ Request acts
-    → (bit_at (with_request request word) k ≡ 1) ↔ StatusBit k acts
-status_of true word acts k fits same stands =
+pub shown_bit : (stands : Bool) (word k : ℕ) → word < 256 → (bit_at (with_six stands word) k ≡ 1) ↔ ShowsBit k word (stands ≡ true)
+shown_bit true word k fits =
     let without = without_six word k fits in
     let either = either_bit (bit_and word 191) 64 k in
     let six = six_alone k in (
-      (λ h. elim (either.0 h) [
-        | inl other ↦ let o = without.0 other in
-            inl (o.0, ap (λ (w : ℕ). bit_at w k) (sym same) ∙ o.1)
-        | inr request ↦ inr (six.0 request, stands.0 refl)
-      ]),
-      (λ s. elim s [
-        | inl other ↦ either.1 (inl (without.1 (other.0, ap (λ (w : ℕ). bit_at w k) same ∙ other.1)))
-        | inr request ↦
-            either.1 (inr (six.1 request.0))
-      ]),
+      (λ h. elim (either.0 h) [ inl other ↦ inl (without.0 other) | inr told ↦ inr (six.0 told, refl) ]),
+      (λ s. elim s [ inl other ↦ either.1 (inl (without.1 other)) | inr told ↦ either.1 (inr (six.1 told.0)) ]),
     )
-status_of false word acts k fits same stands =
+shown_bit false word k fits =
     let without = without_six word k fits in (
-      (λ h. let o = without.0 h in inl (o.0, ap (λ (w : ℕ). bit_at w k) (sym same) ∙ o.1)),
-      (λ s. elim s [
-        | inl other ↦ without.1 (other.0, ap (λ (w : ℕ). bit_at w k) same ∙ other.1)
-        | inr request ↦
-            absurd (let one = stands.1 request.1 in cc)
-      ]),
+      (λ h. inl (without.0 h)),
+      (λ s. elim s [ inl other ↦ without.1 other | inr told ↦ absurd (let one = told.1 in cc) ]),
     )
 
-pub status_is : (held : Held) (acts : List StatusAct) (k : ℕ) → held.bits < 256 → StandsFor held acts
-    → (bit_at (with_request held.request held.bits) k ≡ 1) ↔ StatusBit k acts
-status_is held acts k fits is = status_of held.request held.bits acts k fits is.bits is.request
+same_shown : (k word found : ℕ) (P Q : Type 0) → word ≡ found → P ↔ Q → ShowsBit k word P ↔ ShowsBit k found Q
+same_shown k word found P Q e same = (
+  (λ s. elim s [
+    | inl other ↦ inl (other.0, ap (λ (w : ℕ). bit_at w k) (sym e) ∙ other.1)
+    | inr told ↦ inr (told.0, same.0 told.1)
+  ]),
+  (λ s. elim s [
+    | inl other ↦ inl (other.0, ap (λ (w : ℕ). bit_at w k) e ∙ other.1)
+    | inr told ↦ inr (told.0, same.1 told.1)
+  ]),
+)
+
+-- as a poll gives it
+pub polled_bit : (latches : Latches) (acts : List StatusAct) (k : ℕ) → StandsFor latches acts
+    → ShowsBit k latches.bits (latches.request ≡ true) ↔ StatusBit k acts
+polled_bit latches acts k is = same_shown k latches.bits (bits acts) (latches.request ≡ true) (Request acts) is.bits is.request
+
+-- as `*STB?` gives it
+pub master_bit : (latches : Latches) (acts : List StatusAct) (k : ℕ) (master : Bool) → StandsFor latches acts
+    → (master ≡ true) ↔ Master acts
+    → ShowsBit k latches.bits (master ≡ true) ↔ MasterBit k acts
+master_bit latches acts k master is same = same_shown k latches.bits (bits acts) (master ≡ true) (Master acts) is.bits same

@@ -6,6 +6,9 @@ use Rattle.std.proofs.lemmas.Bool.{cases_eq, cases_lt, ne_eqb}
 use Rattle.std.proofs.Common.{eq-eqb}
 use Rattle.std.proofs.lemmas.Nat.Bits.{bit_at_and, bit_at_or, bit_at_xor, bit_at-lt, bit_at-zero, bit_at_lowest, bit_at-suc, bit_at_above}
 
+pub then_same : {P Q R : Type 0} → P ↔ Q → Q ↔ R → P ↔ R
+then_same f g = ((λ p. g.0 (f.0 p)), (λ r. f.1 (g.1 r)))
+
 -- a word that isn't 0 has a bit
 bit_within : (most w : ℕ) → w ≤ most → w ≢ 0 → (k : ℕ) × (bit_at w k ≡ 1)
 bit_within zero w le ne = absurd (ne (omega arith))
@@ -38,6 +41,10 @@ not_zero w = (
   (λ h. some_bit w (λ e. let yes : eqb w 0 ≡ true = eq-eqb w 0 e in absurd cc)),
   (λ h. ap not (ne_eqb w 0 (no_bit w h.0 h.1))),
 )
+
+-- 0 has none
+pub no_bits : (k : ℕ) (P : Type 0) → (P → ⊥) → (bit_at 0 k ≡ 1) ↔ P
+no_bits k P none = ((λ h. absurd (no_bit 0 k h refl)), (λ p. absurd (none p)))
 
 -- two words meet in some bit
 pub meets : (a b : ℕ) → (not (eqb (bit_and a b) 0) ≡ true) ↔ ((k : ℕ) × (bit_at a k ≡ 1) × (bit_at b k ≡ 1))

@@ -43,31 +43,31 @@ Passes k (act ∷ before) =
     ⊎ ((bit_at (condition before) k ≡ 1) × (bit_at (condition (act ∷ before)) k ≡ 0) × (bit_at (fall before) k ≡ 1))
 
 -- The newest act doesn't clear the event register.
-abbrev pub IsKept : List RegisterAct → Type 0
-IsKept (ReadEvent ∷ acts) = ⊥
-IsKept (Clear ∷ acts) = ⊥
-IsKept _ = ⊤
+abbrev pub NotCleared : List RegisterAct → Type 0
+NotCleared (ReadEvent ∷ acts) = ⊥
+NotCleared (Clear ∷ acts) = ⊥
+NotCleared _ = ⊤
 
 -- A bit of the event register stands exactly if it passed its filter after the last clearing.
 abbrev pub EventStands : ℕ → List RegisterAct → Type 0
-EventStands k acts = Since (Passes k) IsKept acts
+EventStands k acts = Since (Passes k) NotCleared acts
 
 -- Some bit stands that is enabled.
 abbrev pub Summary : List RegisterAct → Type 0
 Summary acts = (k : ℕ) × EventStands k acts × (bit_at (enable acts) k ≡ 1)
 
--- what a register holds
-pub record Held : Type 0 where
+-- what a register keeps
+pub record Latches : Type 0 where
   pub condition : ℕ
   pub rise : ℕ
   pub fall : ℕ
   pub event : ℕ
   pub enable : ℕ
 
--- What it holds stands for the acts.
-pub record StandsFor (held : Held) (acts : List RegisterAct) : Type 0 where
-  pub condition : held.condition ≡ condition acts
-  pub rise : held.rise ≡ rise acts
-  pub fall : held.fall ≡ fall acts
-  pub enable : held.enable ≡ enable acts
-  pub event : (k : ℕ) → (bit_at held.event k ≡ 1) ↔ EventStands k acts
+-- What it keeps stands for the acts.
+pub record StandsFor (latches : Latches) (acts : List RegisterAct) : Type 0 where
+  pub condition : latches.condition ≡ condition acts
+  pub rise : latches.rise ≡ rise acts
+  pub fall : latches.fall ≡ fall acts
+  pub enable : latches.enable ≡ enable acts
+  pub event : (k : ℕ) → (bit_at latches.event k ≡ 1) ↔ EventStands k acts

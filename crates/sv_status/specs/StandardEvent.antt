@@ -12,14 +12,14 @@ Occurs k (Occur bits ∷ acts) = bit_at bits k ≡ 1
 Occurs k (_ ∷ acts) = ⊥
 
 -- The newest act doesn't clear the register.
-abbrev pub IsKept : List StandardAct → Type 0
-IsKept (Read ∷ acts) = ⊥
-IsKept (Clear ∷ acts) = ⊥
-IsKept _ = ⊤
+abbrev pub NotCleared : List StandardAct → Type 0
+NotCleared (Read ∷ acts) = ⊥
+NotCleared (Clear ∷ acts) = ⊥
+NotCleared _ = ⊤
 
 -- A bit stands exactly if its event occurred after the last clearing.
 abbrev pub Stands : ℕ → List StandardAct → Type 0
-Stands k acts = Since (Occurs k) IsKept acts
+Stands k acts = Since (Occurs k) NotCleared acts
 
 -- the enable that was set last
 abbrev pub enable : List StandardAct → ℕ
@@ -31,12 +31,12 @@ enable (_ ∷ acts) = enable acts
 abbrev pub Summary : List StandardAct → Type 0
 Summary acts = (k : ℕ) × Stands k acts × (bit_at (enable acts) k ≡ 1)
 
--- what the register holds
-pub record Held : Type 0 where
+-- what the register keeps
+pub record Latches : Type 0 where
   pub event : ℕ
   pub enable : ℕ
 
--- What it holds stands for the acts.
-pub record StandsFor (held : Held) (acts : List StandardAct) : Type 0 where
-  pub enable : held.enable ≡ enable acts
-  pub event : (k : ℕ) → (bit_at held.event k ≡ 1) ↔ Stands k acts
+-- What it keeps stands for the acts.
+pub record StandsFor (latches : Latches) (acts : List StandardAct) : Type 0 where
+  pub enable : latches.enable ≡ enable acts
+  pub event : (k : ℕ) → (bit_at latches.event k ≡ 1) ↔ Stands k acts

@@ -32,32 +32,36 @@ abbrev pub Reason : List StatusAct → Type 0
 Reason [] = ⊥
 Reason (act ∷ before) = (k : ℕ) × AsksAt k (act ∷ before) × (AsksAt k before → ⊥)
 
--- The newest act leaves a request: it is no poll, and the master summary stands.
-abbrev pub IsKept : List StatusAct → Type 0
-IsKept (Poll ∷ acts) = ⊥
-IsKept acts = Master acts
+-- A request lasts at the newest act: it is no poll, and the master summary stands.
+abbrev pub Lasts : List StatusAct → Type 0
+Lasts (Poll ∷ acts) = ⊥
+Lasts acts = Master acts
 
 -- A request stands exactly if a reason arose, and since then the master summary stood at each place and no poll came.
 abbrev pub Request : List StatusAct → Type 0
-Request acts = Since Reason IsKept acts
+Request acts = Since Reason Lasts acts
 
 -- A request is raised at the newest act: it stands there, and didn't before.
 abbrev pub IsRaised : List StatusAct → Type 0
 IsRaised [] = ⊥
 IsRaised (act ∷ before) = Request (act ∷ before) × (Request before → ⊥)
 
--- a bit of the status byte as a poll gives it
+-- a bit of the status byte as a poll gives it: bit 6 is the request
 abbrev pub StatusBit : ℕ → List StatusAct → Type 0
 StatusBit k acts = ((k ≢ 6) × (bit_at (bits acts) k ≡ 1)) ⊎ ((k ≡ 6) × Request acts)
 
--- what the status byte holds
-pub record Held : Type 0 where
+-- a bit of the status byte as `*STB?` gives it (IEEE 488.2, 11.2.2.2): bit 6 is the master summary
+abbrev pub MasterBit : ℕ → List StatusAct → Type 0
+MasterBit k acts = ((k ≢ 6) × (bit_at (bits acts) k ≡ 1)) ⊎ ((k ≡ 6) × Master acts)
+
+-- what the status byte keeps
+pub record Latches : Type 0 where
   pub bits : ℕ
   pub enable : ℕ
   pub request : Bool
 
--- What it holds stands for the acts.
-pub record StandsFor (held : Held) (acts : List StatusAct) : Type 0 where
-  pub bits : held.bits ≡ bits acts
-  pub enable : held.enable ≡ enable acts
-  pub request : (held.request ≡ true) ↔ Request acts
+-- What it keeps stands for the acts.
+pub record StandsFor (latches : Latches) (acts : List StatusAct) : Type 0 where
+  pub bits : latches.bits ≡ bits acts
+  pub enable : latches.enable ≡ enable acts
+  pub request : (latches.request ≡ true) ↔ Request acts

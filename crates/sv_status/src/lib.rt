@@ -5,9 +5,11 @@
 #![tactic(auto)]
 
 mod register;
+mod register_name;
 mod standard_event;
 mod status_byte;
 
 pub use register::{Register, RegisterAct, RegisterAnswer};
+pub use register_name::RegisterName;
 pub use standard_event::{StandardAct, StandardAnswer, StandardEvent};
 pub use status_byte::{StatusAct, StatusAnswer, StatusByte};

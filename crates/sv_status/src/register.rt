@@ -55,9 +55,9 @@ pub struct Register {
 }
 
 impl Model for Register {
-    ghost use Rattle.sv_status.specs.Register.{Held};
+    ghost use Rattle.sv_status.specs.Register.{Latches};
 
-    ghost Value = { Held };
+    ghost Value = { Latches };
 
     ghost view = { λ r. record {
       condition = r.condition;

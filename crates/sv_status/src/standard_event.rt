@@ -41,9 +41,9 @@ pub struct StandardEvent {
 }
 
 impl Model for StandardEvent {
-    ghost use Rattle.sv_status.specs.StandardEvent.{Held};
+    ghost use Rattle.sv_status.specs.StandardEvent.{Latches};
 
-    ghost Value = { Held };
+    ghost Value = { Latches };
 
     ghost view = { λ r. record { event = r.event; enable = r.enable } };
 }

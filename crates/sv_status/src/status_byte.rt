@@ -1,8 +1,8 @@
 //! The status byte and requests for service (IEEE 488.2, 11.2 and 11.3).
 
-ghost use Rattle.std.specs.Prelude.{◌≡◌, ◌↔◌, ℕ, true, [], ◌∷◌, List};
+ghost use Rattle.std.specs.Prelude.{◌≡◌, ◌≢◌, ◌↔◌, ◌⊎◌, ℕ, true, [], ◌∷◌, List};
 ghost use Rattle.std.specs.Int.{bit_at};
-ghost use Rattle.sv_status.specs.StatusByte.{StandsFor, Asks, StatusBit, IsRaised, Master, Request};
+ghost use Rattle.sv_status.specs.StatusByte.{StandsFor, Asks, StatusBit, MasterBit, IsRaised, Master, Request, enable as enable_of};
 
 use std::marker::Model;
 use sv_errors::Layer;
@@ -42,9 +42,9 @@ pub struct StatusByte {
 }
 
 impl Model for StatusByte {
-    ghost use Rattle.sv_status.specs.StatusByte.{Held};
+    ghost use Rattle.sv_status.specs.StatusByte.{Latches};
 
-    ghost Value = { Held };
+    ghost Value = { Latches };
 
     ghost view = { λ s. record { bits = s.bits; enable = s.enable; request = s.request } };
 }
@@ -79,17 +79,33 @@ impl StatusByte {
         raised
     }
 
-    /// The status byte with the request for service in bit 6, which then ends.
+    /// The status byte with the request for service in bit 6, which then ends (IEEE 488.2,
+    /// 11.2.2.1).
     pub fn poll(&mut self) -> u8
         ensures stands { (acts : List StatusAct) → StandsFor self.old acts
             → StandsFor self.new (StatusAct.Poll ∷ acts) }
         ensures answer { (acts : List StatusAct) → StandsFor self.old acts → (k : ℕ)
             → (bit_at result k ≡ 1) ↔ StatusBit k acts }
     {
-        let bits = self.bits & !REQUEST;
-        let status = if self.request { bits | REQUEST } else { bits };
+        let status = with_bit_6(self.bits, self.request);
         self.request = false;
         status
+    }
+
+    /// The status byte with the master summary in bit 6, as `*STB?` gives it, which changes nothing
+    /// (IEEE 488.2, 11.2.2.2).
+    pub fn status(&self) -> u8
+        ensures { (acts : List StatusAct) → StandsFor self.now acts → (k : ℕ)
+            → (bit_at result k ≡ 1) ↔ MasterBit k acts }
+    {
+        with_bit_6(self.bits, self.mss())
+    }
+
+    /// The enable: which summary bits ask for service. Bit 6 is as it was given.
+    pub fn enable(&self) -> u8
+        ensures { (acts : List StatusAct) → StandsFor self.now acts → result ≡ enable_of acts }
+    {
+        self.enable
     }
 
     /// The master summary: whether some bit but bit 6 stands that is enabled.
@@ -114,6 +130,15 @@ fn asking(bits: u8, enable: u8) -> u8
     ensures { (k : ℕ) → (bit_at result k ≡ 1) ↔ Asks k bits enable }
 {
     bits & enable & !REQUEST
+}
+
+/// These bits, but bit 6 as told.
+fn with_bit_6(bits: u8, stands: bool) -> u8
+    ensures { (k : ℕ) → (bit_at result k ≡ 1)
+        ↔ (((k ≢ 6) × (bit_at bits k ≡ 1)) ⊎ ((k ≡ 6) × (stands ≡ true))) }
+{
+    let others = bits & !REQUEST;
+    if stands { others | REQUEST } else { others }
 }
 
 impl Layer for StatusByte {

@@ -1,0 +1,12 @@
+//! Which of the two status registers (SCPI-1999, chapter 20, STATus).
+
+/// One of the two status registers.
+#[derive(Clone, Copy, Debug, PartialEq, Eq)]
+pub enum RegisterName {
+    /// What the instrument is doing, as measuring or waiting for a trigger: `STATus:OPERation`.
+    /// Its summary is bit 7 of the status byte.
+    Operation,
+    /// What makes readings doubtful, as an overload or a limit that is passed:
+    /// `STATus:QUEStionable`. Its summary is bit 3 of the status byte.
+    Questionable,
+}
