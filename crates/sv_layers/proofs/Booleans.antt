@@ -1,0 +1,23 @@
+-- Small facts of booleans.
+use Rattle.std.proofs.Common.{◌≡◌, ℕ, zero, suc, ◌^◌, Bool, true, false, cond, List, [], ◌∷◌, length, refl, sym, nat_lt, arith}
+use Rattle.std.specs.Prelude.{◌↔◌}
+use Rattle.std.proofs.lemmas.Bool.{lt-ltb}
+use Rattle.sv_errors.specs.ErrorQueue.{is_any}
+use Rattle.sv_scan.specs.Condition.{bit}
+
+-- booleans that say the same are the same
+pub same_bool : {P : Type 0} (a b : Bool) → (a ≡ true) ↔ P → (b ≡ true) ↔ P → a ≡ b
+same_bool true true p q = refl
+same_bool true false p q = sym (q.1 (p.0 refl))
+same_bool false true p q = p.1 (q.0 refl)
+same_bool false false p q = refl
+
+-- a bit of a word, by a test
+pub bit_is : (k : ℕ) (b : Bool) → cond b (2 ^ k) 0 ≡ bit k b
+bit_is k true = refl
+bit_is k false = refl
+
+-- whether there is any place, by how many there are
+pub any_is : (places : List ℕ) → nat_lt 0 (length places) ≡ is_any places
+any_is [] = refl
+any_is (place ∷ places) = lt-ltb 0 (suc (length places)) (omega arith)

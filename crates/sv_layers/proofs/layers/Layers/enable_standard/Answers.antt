@@ -1,0 +1,10 @@
+use Rattle.std.proofs.Common.{rules}
+use Rattle.sv_layers.specs.Act.{StandardEnabled}
+use Rattle.sv_layers.specs.Inside.Seen.{begun, seen}
+use Rattle.sv_layers.proofs.layers.Layers.enable_standard.Goals as goal
+
+pub returns-clause-happens : goal.returns-clause-happens
+returns-clause-happens g c = λ log h.
+    let k = rw (← c.self.view_is) at (c.compare.ensures.stands (begun (StandardEnabled c.args.mask) (seen log)) h.told h.joined) in
+    let set = c.set_enable.ensures _ k.standard in
+    c.tell.ensures.happens log (StandardEnabled c.args.mask) h.told h.are (search rules)

@@ -1,0 +1,9 @@
+use Rattle.std.proofs.Common.{rules, refl}
+use Rattle.sv_exchange.specs.Exchange.{Finished}
+use Rattle.sv_layers.specs.Act.{Exchanged}
+use Rattle.sv_layers.proofs.layers.Layers.finish.Goals as goal
+
+pub returns-clause-happens : goal.returns-clause-happens
+returns-clause-happens g c = λ log h.
+    let j = rw (← c.self.view_is) at h.joined in
+    c.settle.ensures.happens log (Exchanged Finished) (record { told = h.told; are = h.are; joined = search rules }) refl

@@ -1,0 +1,17 @@
+use Rattle.std.proofs.Common.{rules}
+use Rattle.sv_status.specs.declared.register_name.RegisterName.TheVariants.{Operation, Questionable}
+use Rattle.sv_layers.specs.Act.{EventRead}
+use Rattle.sv_layers.specs.Inside.Seen.{begun, seen}
+use Rattle.sv_layers.proofs.layers.Layers.read_event.Goals as goal
+
+pub returns-in-Operation-clause-happens : goal.returns-in-Operation-clause-happens
+returns-in-Operation-clause-happens g c = rw c.in-Operation.is (λ log h.
+    let k = rw (← c.self.view_is) at (c.compare.ensures.stands (begun (EventRead Operation) (seen log)) h.told h.joined) in
+    let set = c.read_event.ensures.stands _ k.operation in
+    c.tell.ensures.happens log (EventRead Operation) h.told h.are (search rules))
+
+pub returns-in-Questionable-clause-happens : goal.returns-in-Questionable-clause-happens
+returns-in-Questionable-clause-happens g c = rw c.in-Questionable.is (λ log h.
+    let k = rw (← c.self-in-Questionable.view_is) at (c.compare.ensures.stands (begun (EventRead Questionable) (seen log)) h.told h.joined) in
+    let set = c.read_event-in-Questionable.ensures.stands _ k.questionable in
+    c.tell-in-Questionable.ensures.happens log (EventRead Questionable) h.told h.are (search rules))

@@ -1,0 +1,19 @@
+use Rattle.std.proofs.Common.{rules, refl}
+use Rattle.std.specs.Prelude.{if◌then◌else◌}
+use Rattle.sv_exchange.specs.Exchange.{Answered, AnswersDropped}
+use Rattle.sv_layers.specs.Act.{Exchanged}
+use Rattle.sv_layers.specs.Inside.Seen.{seen}
+use Rattle.sv_layers.proofs.Compared.{plain_ended}
+use Rattle.sv_layers.proofs.layers.Layers.respond.Goals as goal
+
+pub returns-clause-fits : goal.returns-clause-fits
+returns-clause-fits g c = λ log h.
+    let j = rw (← c.self.view_is) at h.joined in
+    (c.respond-fits.ensures.stands (seen log).exchange j.exchange).0
+
+pub returns-clause-happens : goal.returns-clause-happens
+returns-clause-happens g c = λ log h.
+    let j = rw (← c.self.view_is) at h.joined in
+    let stands = (c.respond-fits.ensures.stands (seen log).exchange j.exchange).1 in
+    c.settle-raised.ensures.happens log (Exchanged (if c.respond-fits.result then Answered c.args.answer.now else AnswersDropped))
+    (record { told = h.told; are = h.are; joined = search rules }) refl

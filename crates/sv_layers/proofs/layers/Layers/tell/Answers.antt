@@ -1,0 +1,41 @@
+use Rattle.std.proofs.Common.{◌≡◌, ℕ, true, ◌∷◌, List, refl, subst}
+use Rattle.std.specs.Prelude.{◌↔◌}
+use Rattle.sv_status.specs.declared.status_byte.StatusAct.{StatusAct}
+use Rattle.sv_status.specs.declared.status_byte.StatusAct.TheVariants.{Update}
+use Rattle.sv_status.specs.StatusByte.{StandsFor as Statuses, IsRaised}
+use Rattle.sv_layers.specs.Inside.Seen.{seen}
+use Rattle.sv_layers.specs.Inside.Kept.{IsStatus, own_status}
+use Rattle.sv_layers.proofs.OneStatus.{one_status}
+use Rattle.sv_layers.proofs.layers.Layers.tell.Goals as goal
+
+pub returns-clause-happens : goal.returns-clause-happens
+returns-clause-happens g c = λ log act before is h.
+    let j = rw (← c.self.view_is) at h in
+    let told : List StatusAct = Update c.summary-bits.result (seen (act ∷ log)).service ∷ own_status act before in
+    let are : IsStatus (act ∷ log) told = (c.summary-bits.result, before, c.summary-bits.ensures _ _ h, is, refl) in
+    let status : Statuses c.update.new.self told =
+    subst (λ (n : ℕ). Statuses c.update.new.self (Update c.summary-bits.result n ∷ own_status act before)) j.service
+    (c.update.ensures.stands _ j.status) in
+    let raised = subst (λ (n : ℕ). (c.update.result ≡ true) ↔ IsRaised (Update c.summary-bits.result n ∷ own_status act before)) j.service
+    (c.update.ensures.answer _ j.status) in
+    record {
+      stands = record {
+        told = told;
+        are = are;
+        joined = record {
+          exchange = j.exchange;
+          errors = j.errors;
+          operation = j.operation;
+          questionable = j.questionable;
+          standard = j.standard;
+          status = status;
+          scanner = j.scanner;
+          service = j.service;
+          waits = j.waits;
+        };
+      };
+      requests = (
+        λ e. (told, are, raised.0 e),
+        λ (other, so, up). raised.1 (subst IsRaised (one_status (act ∷ log) other told so are) up),
+      );
+    }

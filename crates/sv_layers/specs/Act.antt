@@ -1,0 +1,55 @@
+-- What happens to the instrument, an act for each change, and what of it happens to its exchange, its error queue and its scanner. Acts
+-- are read from the newest.
+use Rattle.std.specs.Prelude.{ℕ, List, [], ◌∷◌}
+use Rattle.sv_errors.specs.declared.code.Code.{Code}
+use Rattle.sv_errors.specs.declared.error_queue.QueueAct.{QueueAct}
+use Rattle.sv_errors.specs.declared.error_queue.QueueAct.TheVariants as queue
+use Rattle.sv_status.specs.declared.register_name.RegisterName.{RegisterName}
+use Rattle.sv_scan.specs.declared.acts.ScanAct.{ScanAct}
+use Rattle.sv_layers.specs.declared.change.Awaited.{Awaited}
+use Rattle.sv_exchange.specs.Exchange.{ExchangeAct, TextDropped, Interrupted}
+
+pub data Act : Type 0 where
+  -- program text and responses; all of it is dropped by a device clear
+  Exchanged : (act : ExchangeAct) → Act
+  Purged : Act
+  -- inputs, settings and the trigger system
+  Scanned : (act : ScanAct) → Act
+  -- a unit is held until no measurement is under way
+  Held : (awaited : Awaited) → Act
+  -- the error queue
+  Reported : (code : Code) → Act
+  EntryTaken : Act
+  -- status
+  Cleared : Act
+  Preset : Act
+  OpcAsked : Act
+  StandardRead : Act
+  StandardEnabled : (mask : ℕ) → Act
+  EventRead : (name : RegisterName) → Act
+  Enabled : (name : RegisterName) (mask : ℕ) → Act
+  RiseSet : (name : RegisterName) (mask : ℕ) → Act
+  FallSet : (name : RegisterName) (mask : ℕ) → Act
+  ServiceEnabled : (mask : ℕ) → Act
+  Polled : Act
+
+-- what happens to the exchange
+abbrev pub exchange_acts : List Act → List ExchangeAct
+exchange_acts [] = []
+exchange_acts (Exchanged act ∷ log) = act ∷ exchange_acts log
+exchange_acts (Purged ∷ log) = Interrupted ∷ TextDropped ∷ exchange_acts log
+exchange_acts (_ ∷ log) = exchange_acts log
+
+-- what happens to the scanner
+abbrev pub scan_acts : List Act → List ScanAct
+scan_acts [] = []
+scan_acts (Scanned act ∷ log) = act ∷ scan_acts log
+scan_acts (_ ∷ log) = scan_acts log
+
+-- what happens to the error queue
+abbrev pub queue_acts : List Act → List QueueAct
+queue_acts [] = []
+queue_acts (Reported code ∷ log) = queue.Report code ∷ queue_acts log
+queue_acts (EntryTaken ∷ log) = queue.Take ∷ queue_acts log
+queue_acts (Cleared ∷ log) = queue.Clear ∷ queue_acts log
+queue_acts (_ ∷ log) = queue_acts log

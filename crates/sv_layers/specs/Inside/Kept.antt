@@ -1,0 +1,88 @@
+-- What the layers keep, and that it stands for a log.
+use Rattle.std.specs.Prelude.{◌≡◌, ◌↔◌, ℕ, ◌+◌, Bool, true, List, [], ◌∷◌}
+use Rattle.sv_errors.specs.declared.code.Code.{Code}
+use Rattle.sv_errors.specs.ErrorQueue.{entries, is_any, StandsFor as Queues}
+use Rattle.sv_status.specs.declared.register_name.RegisterName.{RegisterName}
+use Rattle.sv_status.specs.declared.register_name.RegisterName.TheVariants.{Operation, Questionable}
+use Rattle.sv_status.specs.Register.{Latches as RegisterLatches, Summary, StandsFor as Registers}
+use Rattle.sv_status.specs.StandardEvent.{Latches as StandardLatches, Summary as StandardSummary, StandsFor as Standards}
+use Rattle.sv_status.specs.declared.status_byte.StatusAct.{StatusAct}
+use Rattle.sv_status.specs.declared.status_byte.StatusAct.TheVariants.{Update, Poll}
+use Rattle.sv_status.specs.StatusByte.{Latches as StatusLatches, IsRaised, StandsFor as Statuses}
+use Rattle.sv_scan.specs.Condition.{bit}
+use Rattle.sv_scan.specs.Stands.{Held as ScanHeld, StandsFor as Scans}
+use Rattle.sv_exchange.specs.Exchange.{response, is_something}
+use Rattle.sv_exchange.specs.Contents.{Contents, StandsFor as Exchanges}
+use Rattle.sv_layers.specs.Act.{Act, Polled}
+use Rattle.sv_layers.specs.Inside.Seen.{Seen, begun, seen}
+
+pub record Layered : Type 0 where
+  pub exchange : Contents
+  pub errors : List Code
+  pub operation : RegisterLatches
+  pub questionable : RegisterLatches
+  pub standard : StandardLatches
+  pub status : StatusLatches
+  pub scanner : ScanHeld
+  pub service : ℕ
+  pub waits : Bool
+
+-- a word has the summary bits of what the layers see
+pub record IsSummary (word : ℕ) (at : Seen) : Type 0 where
+  pub operates : Bool
+  pub happened : Bool
+  pub questioned : Bool
+  pub operation : (operates ≡ true) ↔ Summary at.operation
+  pub standard : (happened ≡ true) ↔ StandardSummary at.standard
+  pub questionable : (questioned ≡ true) ↔ Summary at.questionable
+  pub word_is : word ≡ bit 7 operates + bit 5 happened + bit 4 (is_something (response at.exchange)) + bit 3 questioned
+      + bit 2 (is_any (entries at.errors))
+
+-- a poll comes before the status byte is told
+abbrev pub own_status : Act → List StatusAct → List StatusAct
+own_status Polled acts = Poll ∷ acts
+own_status _ acts = acts
+
+-- The status byte sees these acts: behind each act it is told the summary bits and the enable.
+abbrev pub IsStatus : List Act → List StatusAct → Type 0
+IsStatus [] acts = acts ≡ []
+IsStatus (act ∷ log) acts = (word : ℕ) × (before : List StatusAct) × IsSummary word (seen (act ∷ log)) × IsStatus log before
+    × (acts ≡ Update word (seen (act ∷ log)).service ∷ own_status act before)
+
+-- A request is raised at the newest act, as the status byte sees it.
+abbrev pub RaisedAt : List Act → Type 0
+RaisedAt log = (acts : List StatusAct) × IsStatus log acts × IsRaised acts
+
+-- What is kept stands for what the layers saw, and for what the status byte was told.
+pub record Joined (layered : Layered) (at : Seen) (told : List StatusAct) : Type 0 where
+  pub exchange : Exchanges layered.exchange at.exchange
+  pub errors : Queues layered.errors at.errors
+  pub operation : Registers layered.operation at.operation
+  pub questionable : Registers layered.questionable at.questionable
+  pub standard : Standards layered.standard at.standard
+  pub status : Statuses layered.status told
+  pub scanner : Scans layered.scanner at.scanner
+  pub service : layered.service ≡ at.service
+  pub waits : layered.waits ≡ at.waits
+
+-- What is kept stands for the log.
+pub record StandsFor (layered : Layered) (log : List Act) : Type 0 where
+  pub told : List StatusAct
+  pub are : IsStatus log told
+  pub joined : Joined layered (seen log) told
+
+-- The newest act has happened to its own layer, and to nothing else yet.
+pub record Begun (layered : Layered) (act : Act) (log : List Act) : Type 0 where
+  pub told : List StatusAct
+  pub are : IsStatus log told
+  pub joined : Joined layered (begun act (seen log)) (own_status act told)
+
+-- What is kept stands for the log, and a request was raised at its newest act exactly if this says so.
+pub record Happens (layered : Layered) (raised : Bool) (log : List Act) : Type 0 where
+  pub stands : StandsFor layered log
+  pub requests : (raised ≡ true) ↔ RaisedAt log
+
+-- one of the two registers
+abbrev pub register_of : RegisterName → Layered → RegisterLatches
+register_of Operation layered = layered.operation
+register_of Questionable layered = layered.questionable

@@ -1,0 +1,58 @@
+-- The status byte and requests for service (IEEE 488.2, 11.2 and 11.3), by searches of the instrument's log.
+use Rattle.std.specs.Prelude.{◌≡◌, ◌⊎◌, ℕ, true, List, [], ◌∷◌}
+use Rattle.std.specs.Int.{bit_at}
+use Rattle.sv_errors.specs.Since.{Since}
+use Rattle.sv_errors.specs.ErrorQueue.{entries, is_any}
+use Rattle.sv_status.specs.declared.register_name.RegisterName.TheVariants.{Operation, Questionable}
+use Rattle.sv_exchange.specs.Exchange.{response, is_something}
+use Rattle.sv_layers.specs.Act.{Act, ServiceEnabled, Polled, exchange_acts, queue_acts}
+use Rattle.sv_layers.specs.Event.{Summary}
+use Rattle.sv_layers.specs.Standard.{Summary as StandardSummary}
+
+-- A summary bit stands: 7 of the operation register, 5 of the standard events, 4 a message is available, 3 of the questionable register,
+-- 2 the error queue isn't empty.
+abbrev pub SummaryBit : ℕ → List Act → Type 0
+SummaryBit k log = ((k ≡ 7) × Summary Operation log) ⊎ ((k ≡ 5) × StandardSummary log)
+    ⊎ ((k ≡ 4) × (is_something (response (exchange_acts log)) ≡ true)) ⊎ ((k ≡ 3) × Summary Questionable log)
+    ⊎ ((k ≡ 2) × (is_any (entries (queue_acts log)) ≡ true))
+
+-- the service request enable that was set last
+abbrev pub service : List Act → ℕ
+service [] = 0
+service (ServiceEnabled mask ∷ log) = mask
+service (_ ∷ log) = service log
+
+-- A summary bit stands and is enabled.
+abbrev pub Asks : ℕ → List Act → Type 0
+Asks k log = SummaryBit k log × (bit_at (service log) k ≡ 1)
+
+-- the master summary
+abbrev pub Master : List Act → Type 0
+Master log = (k : ℕ) × Asks k log
+
+-- A reason arises at the newest act: some bit asks that didn't before.
+abbrev pub Reason : List Act → Type 0
+Reason [] = ⊥
+Reason (act ∷ before) = (k : ℕ) × Asks k (act ∷ before) × (Asks k before → ⊥)
+
+-- The newest act leaves a request: it is no poll, and the master summary stands.
+abbrev pub Lasts : List Act → Type 0
+Lasts (Polled ∷ log) = ⊥
+Lasts log = Master log
+
+-- A request stands exactly if a reason arose, and since then the master summary stood at each place and no poll came.
+abbrev pub Request : List Act → Type 0
+Request log = Since Reason Lasts log
+
+-- A request is raised at the newest act: it stands there, and didn't before.
+abbrev pub IsRaised : List Act → Type 0
+IsRaised [] = ⊥
+IsRaised (act ∷ before) = Request (act ∷ before) × (Request before → ⊥)
+
+-- a bit of the status byte as a poll gives it: bit 6 is the request
+abbrev pub PolledBit : ℕ → List Act → Type 0
+PolledBit k log = SummaryBit k log ⊎ ((k ≡ 6) × Request log)
+
+-- a bit of it as `*STB?` gives it (IEEE 488.2, 11.2.2.2): bit 6 is the master summary
+abbrev pub MasterBit : ℕ → List Act → Type 0
+MasterBit k log = SummaryBit k log ⊎ ((k ≡ 6) × Master log)

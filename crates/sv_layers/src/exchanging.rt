@@ -1,0 +1,136 @@
+//! What happens to program text and the response, and what follows.
+
+ghost use Rattle.std.specs.Prelude.{◌≡◌, ◌+◌, ◌*◌, ◌<◌, ◌≤◌, List, ◌∷◌, length, IsTrue, if◌then◌else◌};
+ghost use Rattle.sv_exchange.specs.Exchange.{Accepted, TextDropped, Overran, UnitDone, Answered, AnswersDropped, Finished, Interrupted, ResponseRead, OverrunDue, InterruptDue, FinishDue, answers, fits_response};
+ghost use Rattle.sv_exchange.specs.Contents.{empty, is_open, shown_by, next_of, IsUnitDue, may_respond, work_of};
+ghost use Rattle.sv_layers.specs.Act.{Act, Exchanged, Purged};
+ghost use Rattle.sv_layers.specs.Inside.Seen.{seen};
+ghost use Rattle.sv_layers.specs.Inside.Kept.{StandsFor, Happens};
+
+use crate::layers::Layers;
+use std::alloc::Allocator;
+
+/// What becomes of an answer.
+#[derive(Clone, Copy, Debug, PartialEq, Eq)]
+pub struct Response {
+    /// Whether it has room; else all answers of the message are dropped.
+    pub fits: bool,
+    /// Whether a request for service is raised.
+    pub raised: bool,
+}
+
+impl<A: Allocator> Layers<A> {
+    /// Takes in the bytes of a write, and whether END came with the last of them. It has to be open
+    /// for a write, of at most 4,096 bytes. It tells whether a request for service is raised, as
+    /// all calls below do.
+    pub fn accept(&mut self, bytes: &[u8], ended: bool) -> bool
+        requires open { IsTrue (is_open self.old.exchange) }
+        requires short { length bytes.now ≤ 4096 }
+        ensures happens { (log : List Act) → StandsFor self.old log
+            → Happens self.new result (Exchanged (Accepted bytes.now ended) ∷ log) }
+        ensures bounded { work_of self.new.exchange
+            ≤ work_of self.old.exchange + 3 * length bytes.now + 4 }
+    {
+        self.exchange.accept(bytes, ended);
+        self.settle()
+    }
+
+    /// Steps over the unit that was due, which was executed.
+    pub fn done(&mut self) -> bool
+        requires { IsUnitDue (next_of self.old.exchange) }
+        ensures happens { (log : List Act) → StandsFor self.old log
+            → Happens self.new result (Exchanged UnitDone ∷ log) }
+        ensures measure { work_of self.new.exchange < work_of self.old.exchange }
+        ensures stays_open { is_open self.new.exchange ≡ is_open self.old.exchange }
+        ensures may_respond { IsTrue (may_respond self.new.exchange) }
+    {
+        self.exchange.done();
+        self.settle()
+    }
+
+    /// The message that is too long was told.
+    pub fn overran(&mut self) -> bool
+        requires { next_of self.old.exchange ≡ OverrunDue }
+        ensures happens { (log : List Act) → StandsFor self.old log
+            → Happens self.new result (Exchanged Overran ∷ log) }
+        ensures measure { work_of self.new.exchange < work_of self.old.exchange }
+        ensures stays_open { is_open self.new.exchange ≡ is_open self.old.exchange }
+    {
+        self.exchange.overran();
+        self.settle()
+    }
+
+    /// Drops the response, which is interrupted by a new message.
+    pub fn interrupt(&mut self) -> bool
+        requires { next_of self.old.exchange ≡ InterruptDue }
+        ensures happens { (log : List Act) → StandsFor self.old log
+            → Happens self.new result (Exchanged Interrupted ∷ log) }
+        ensures measure { work_of self.new.exchange < work_of self.old.exchange }
+        ensures stays_open { is_open self.new.exchange ≡ is_open self.old.exchange }
+        ensures next { IsUnitDue (next_of self.new.exchange) }
+    {
+        self.exchange.drop_response();
+        self.settle()
+    }
+
+    /// Goes on to the next message; the answers become the response.
+    pub fn finish(&mut self) -> bool
+        requires { next_of self.old.exchange ≡ FinishDue }
+        ensures happens { (log : List Act) → StandsFor self.old log
+            → Happens self.new result (Exchanged Finished ∷ log) }
+        ensures measure { work_of self.new.exchange < work_of self.old.exchange }
+    {
+        self.exchange.finish();
+        self.settle()
+    }
+
+    /// Puts an answer behind those of the units before; where it has no room, all answers of the
+    /// message are dropped.
+    pub fn respond(&mut self, answer: &[u8]) -> Response
+        requires { IsTrue (may_respond self.old.exchange) }
+        ensures fits { (log : List Act) → StandsFor self.old log
+            → result.fits ≡ fits_response (answers (seen log).exchange) answer.now }
+        ensures happens { (log : List Act) → StandsFor self.old log
+            → Happens self.new result.raised (Exchanged (if result.fits then Answered answer.now else
+            AnswersDropped) ∷ log) }
+        ensures measure { work_of self.new.exchange ≤ work_of self.old.exchange }
+        ensures stays_open { is_open self.new.exchange ≡ is_open self.old.exchange }
+    {
+        let fits = self.exchange.respond(answer);
+        let raised = self.settle();
+        Response { fits, raised }
+    }
+
+    /// Drops so many bytes of the response, which were read.
+    pub fn take(&mut self, count: usize) -> bool
+        requires { count ≤ length (shown_by self.old.exchange) }
+        ensures happens { (log : List Act) → StandsFor self.old log
+            → Happens self.new result (Exchanged (ResponseRead count) ∷ log) }
+        ensures stays_open { is_open self.new.exchange ≡ is_open self.old.exchange }
+    {
+        self.exchange.take(count);
+        self.settle()
+    }
+
+    /// Drops the text of the current message, which must not have ended.
+    pub fn drop_unfinished(&mut self) -> bool
+        requires { IsTrue (is_open self.old.exchange) }
+        ensures happens { (log : List Act) → StandsFor self.old log
+            → Happens self.new result (Exchanged TextDropped ∷ log) }
+        ensures stays_open { IsTrue (is_open self.new.exchange) }
+    {
+        self.exchange.drop_unfinished();
+        self.settle()
+    }
+
+    /// Drops program text, answers and response, and cancels an `*OPC`, as a device clear does.
+    pub fn purge(&mut self) -> bool
+        ensures happens { (log : List Act) → StandsFor self.old log
+            → Happens self.new result (Purged ∷ log) }
+        ensures value { self.new.exchange ≡ empty }
+    {
+        self.waits = false;
+        self.exchange.clear();
+        self.settle()
+    }
+}

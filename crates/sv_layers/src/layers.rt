@@ -1,0 +1,128 @@
+//! All layers, and what they keep.
+
+ghost use Rattle.std.specs.Prelude.{◌≡◌, [], IfOk};
+ghost use Rattle.sv_layers.specs.Inside.Kept.{StandsFor, register_of};
+
+use std::alloc::{AllocError, Allocator, Global};
+use std::marker::Model;
+use sv_errors::ErrorQueue;
+use sv_exchange::Exchange;
+use sv_scan::Scanner;
+use sv_status::{Register, RegisterName, StandardEvent, StatusByte};
+
+/// The layers of the instrument.
+#[derive(Drop)]
+pub struct Layers<A: Allocator = Global> {
+    /// Program text and the response.
+    pub(crate) exchange: Exchange<A>,
+    /// The errors that were reported.
+    pub(crate) errors: ErrorQueue<A>,
+    /// The operation status register.
+    pub(crate) operation: Register,
+    /// The questionable status register.
+    pub(crate) questionable: Register,
+    /// The standard event status register.
+    pub(crate) standard: StandardEvent,
+    /// The status byte.
+    pub(crate) status: StatusByte,
+    /// Inputs, settings, the trigger state and the readings.
+    pub(crate) scanner: Scanner<A>,
+    /// The service request enable.
+    pub(crate) service: u8,
+    /// Whether an `*OPC` waits for the end of a measurement.
+    pub(crate) waits: bool,
+}
+
+impl<A: Allocator> Model for Layers<A> {
+    ghost use Rattle.sv_layers.specs.Inside.Kept.{Layered};
+
+    ghost Value = { Layered };
+
+    ghost view = { λ a. record {
+      exchange = a.exchange;
+      errors = a.errors;
+      operation = a.operation;
+      questionable = a.questionable;
+      standard = a.standard;
+      status = a.status;
+      scanner = a.scanner;
+      service = a.service;
+      waits = a.waits;
+    } };
+}
+
+impl<A: Allocator + Copy> Layers<A> {
+    /// All layers as they are when power comes on. Takes the memory of all of them.
+    ///
+    /// # Errors
+    /// Where memory is refused.
+    pub fn new(alloc: A) -> Result<Layers<A>, AllocError>
+        ensures { IfOk result (λ layers. StandsFor layers []) }
+    {
+        Ok(Layers {
+            exchange: Exchange::new(alloc)?,
+            errors: ErrorQueue::new(alloc)?,
+            operation: Register::new(),
+            questionable: Register::new(),
+            standard: StandardEvent::new(),
+            status: StatusByte::new(),
+            scanner: Scanner::new(alloc)?,
+            service: 0,
+            waits: false,
+        })
+    }
+}
+
+impl<A: Allocator> Layers<A> {
+    /// Program text and the response.
+    pub fn exchange(&self) -> &Exchange<A>
+        ensures { result.now ≡ self.now.exchange }
+    {
+        &self.exchange
+    }
+
+    /// The errors that were reported.
+    pub fn errors(&self) -> &ErrorQueue<A>
+        ensures { result.now ≡ self.now.errors }
+    {
+        &self.errors
+    }
+
+    /// One of the two status registers.
+    pub fn register(&self, name: RegisterName) -> &Register
+        ensures { result.now ≡ register_of name self.now }
+    {
+        match name {
+            RegisterName::Operation => &self.operation,
+            RegisterName::Questionable => &self.questionable,
+        }
+    }
+
+    /// The standard event status register.
+    pub fn standard(&self) -> &StandardEvent
+        ensures { result.now ≡ self.now.standard }
+    {
+        &self.standard
+    }
+
+    /// The status byte.
+    pub fn status(&self) -> &StatusByte
+        ensures { result.now ≡ self.now.status }
+    {
+        &self.status
+    }
+
+    /// Inputs, settings, the trigger state and the readings.
+    pub fn scanner(&self) -> &Scanner<A>
+        ensures { result.now ≡ self.now.scanner }
+    {
+        &self.scanner
+    }
+
+    /// The service request enable.
+    pub fn service(&self) -> u8
+        ensures { result ≡ self.now.service }
+    {
+        self.service
+    }
+}

@@ -1,0 +1,17 @@
+//! The layers of the instrument, joined: an act of the instrument happens to the layer that it is
+//! of, then the conditions are compared, and then the status byte is told.
+//!
+//! [`Layers::new`] takes the memory of all layers, and no other call takes any.
+#![tactic(auto)]
+
+mod change;
+mod exchanging;
+mod happening;
+mod layers;
+mod polling;
+mod status;
+
+pub use change::{Awaited, Change};
+pub use exchanging::Response;
+pub use layers::Layers;
+pub use polling::Poll;
