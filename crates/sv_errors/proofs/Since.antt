@@ -82,3 +82,21 @@ since_unique F K P empty step (a ∷ log) =
       (λ (p : P (a ∷ log)). let h = (step a log).0 p in law.1 (h.0, to h.1)),
       (λ (s : Since F K (a ∷ log)). let h = law.0 s in (step a log).1 (h.0, from h.1)),
     )
+
+-- ---- the step that `since_unique` asks for: what P is now by what Q was before
+
+-- the newest place keeps it
+pub step_kept : {F K P Q : Type 0} → K → P ↔ (F ⊎ Q) → P ↔ (K × (F ⊎ Q))
+step_kept k same = ((λ p. (k, same.0 p)), (λ h. same.1 h.1))
+
+-- the newest place keeps it, and is no find
+pub step_same : {F K P Q : Type 0} → K → (F → ⊥) → P ↔ Q → P ↔ (K × (F ⊎ Q))
+step_same k none same = ((λ p. (k, inr (same.0 p))), (λ h. elim h.1 [ inl f ↦ absurd (none f) | inr q ↦ same.1 q ]))
+
+-- the newest place doesn't keep it
+pub step_ended : {F K P Q : Type 0} → (K → ⊥) → (P → ⊥) → P ↔ (K × (F ⊎ Q))
+step_ended ends none = ((λ p. absurd (none p)), (λ h. absurd (ends h.0)))
+
+-- two steps, where one act is two of another list
+pub then_same : {P Q R : Type 0} → P ↔ Q → Q ↔ R → P ↔ R
+then_same f g = ((λ p. g.0 (f.0 p)), (λ r. f.1 (g.1 r)))

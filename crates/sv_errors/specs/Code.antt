@@ -41,8 +41,8 @@ number_of QueryDeadlocked = minus 430
 abbrev pub class_of : Code → ℕ
 class_of code = unsigned_abs (number_of code) / 100
 
--- The standard event that an error of a class is, as a word with its bit (IEEE 488.2, 11.5.1): command error, execution error,
--- device-specific error, query error.
+-- The standard event that an error of a class is, as a word with its bit (IEEE 488.2, 11.5.1; SCPI-1999, volume 2, 21.8): command error,
+-- execution error, device-specific error, query error.
 abbrev pub class_event : ℕ → ℕ
 class_event class =
     if class == 1 then 2 ^ 5

@@ -111,8 +111,9 @@ impl Code {
     }
 
     /// Which standard event a report of the error is, as a word with its bit in the standard event
-    /// register (IEEE 488.2, 11.5.1): 32, a command error, for -1xx; 16, an execution error, for
-    /// -2xx; 8, a device-specific error, for -3xx; 4, a query error, for -4xx; 0 if there is none.
+    /// register (IEEE 488.2, 11.5.1; SCPI-1999, volume 2, 21.8): 32, a command error, for -1xx; 16,
+    /// an execution error, for -2xx; 8, a device-specific error, for -3xx; 4, a query error, for
+    /// -4xx; 0 if there is none.
     pub fn standard_event(self) -> u8
         ensures { result ≡ standard_event_of self }
     {

@@ -2,14 +2,14 @@
 use Rattle.std.proofs.Common.{◌≡◌, ℕ, List, [], ◌∷◌, refl, ap, ◌∙◌, subst, sym, ◌⊎◌, inl, inr, bit_and, bit_or, arith}
 use Rattle.std.specs.Prelude.{◌↔◌, bit_xor}
 use Rattle.std.specs.Int.{bit_at}
-use Rattle.sv_errors.proofs.Since.{since_empty, since_step, since_kept, since_same, since_ended}
+use Rattle.sv_errors.proofs.Since.{since_empty, since_step, since_kept, since_same, since_ended, then_same}
 use Rattle.sv_status.specs.declared.register.RegisterAct.{RegisterAct}
 use Rattle.sv_status.specs.declared.register.RegisterAct.TheVariants.{Condition, SetFilter, SetEnable, ReadEvent, Preset, Clear}
 use Rattle.sv_status.specs.Register.{Latches, StandsFor, EventStands, Passes, NotCleared, Summary, condition, rise, fall, masked}
-use Rattle.sv_status.proofs.Words.{then_same, no_bits, both_bits, either_bit, rose, fell}
+use Rattle.sv_status.proofs.Words.{no_bits, both_bits, either_bit, rose, fell}
 
 -- a bit that doesn't change passes no filter
-no_change : (c k : ℕ) (P Q : Type 0) → ((bit_at c k ≡ 0) × (bit_at c k ≡ 1) × P) ⊎ ((bit_at c k ≡ 1) × (bit_at c k ≡ 0) × Q) → ⊥
+pub no_change : (c k : ℕ) (P Q : Type 0) → ((bit_at c k ≡ 0) × (bit_at c k ≡ 1) × P) ⊎ ((bit_at c k ≡ 1) × (bit_at c k ≡ 0) × Q) → ⊥
 no_change c k P Q (inl h) = absurd (omega arith)
 no_change c k P Q (inr h) = absurd (omega arith)
 

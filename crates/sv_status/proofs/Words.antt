@@ -6,9 +6,6 @@ use Rattle.std.proofs.lemmas.Bool.{cases_eq, cases_lt, ne_eqb}
 use Rattle.std.proofs.Common.{eq-eqb}
 use Rattle.std.proofs.lemmas.Nat.Bits.{bit_at_and, bit_at_or, bit_at_xor, bit_at-lt, bit_at-zero, bit_at_lowest, bit_at-suc, bit_at_above}
 
-pub then_same : {P Q R : Type 0} → P ↔ Q → Q ↔ R → P ↔ R
-then_same f g = ((λ p. g.0 (f.0 p)), (λ r. f.1 (g.1 r)))
-
 -- a word that isn't 0 has a bit
 bit_within : (most w : ℕ) → w ≤ most → w ≢ 0 → (k : ℕ) × (bit_at w k ≡ 1)
 bit_within zero w le ne = absurd (ne (omega arith))
