@@ -1,5 +1,5 @@
 -- What is read as a channel list is one.
-use Rattle.std.proofs.Common.{◌≡◌, ℕ, zero, suc, ◌+◌, ◌-◌, ◌<◌, ◌≤◌, ◌&&◌, Bool, true, false, not, cond, List, [], ◌∷◌, ◌++◌, length, refl, sym, ap, ◌∙◌, inl, inr, arith}
+use Rattle.std.proofs.Common.{◌≡◌, ℕ, zero, suc, ◌+◌, ◌-◌, ◌<◌, ◌≤◌, ◌&&◌, Bool, true, false, not, cond, List, [], ◌∷◌, ◌++◌, length, refl, ap, ◌∙◌, inl, inr, arith}
 use Rattle.std.specs.Prelude.{nat_le, nat_lt, is_some, Option, Some, None, Result, Ok, Err, MatchResult, IfOk}
 use Rattle.std.specs.List.{list_all}
 use Rattle.std.proofs.lemmas.Bool.{cases_lt, le-leb, leb-true, ltb-false}
@@ -8,7 +8,6 @@ use Rattle.std.proofs.lemmas.List.Folds.{list_all-append}
 use Rattle.sv_errors.specs.Limits.{is_channel, is_channel_list}
 use Rattle.sv_errors.specs.declared.code.Code.{Code}
 use Rattle.sv_errors.specs.declared.code.Code.TheVariants.{DataOutOfRange, TooMuchData, InvalidExpression}
-use Rattle.sv_lexer.specs.declared.token.Kind.{Kind}
 use Rattle.sv_lexer.specs.declared.token.Kind.TheVariants.{Number, Base, Word, Expression, Other}
 use Rattle.sv_text.specs.Cut.{cut_at}
 use Rattle.sv_text.proofs.Parts.{parts_some}
