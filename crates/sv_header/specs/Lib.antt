@@ -3,3 +3,4 @@ pub mod Table
 pub mod Plain
 pub mod Resolve
 pub mod Laws
+pub mod Arity

@@ -1,9 +1,10 @@
-//! Headers of commands: which command one names, and what it leaves for the next (SCPI-1999, volume
-//! 1, chapter 6).
+//! Headers of commands: which command one names, how many parameters it takes, and what the header
+//! leaves for the next (SCPI-1999, volume 1, chapter 6).
 //!
 //! [`Table::new`] takes the memory of the table; no other call takes any.
 #![tactic(auto)]
 
+mod arity;
 mod command;
 pub mod laws;
 mod left;
@@ -14,6 +15,7 @@ mod resolving;
 mod sent;
 mod table;
 
+pub use arity::Arity;
 pub use command::CommandId;
 pub use path::Path;
 pub use pattern::{Form, Node, Pattern};

@@ -12,9 +12,14 @@
 //! | `parts TEXT` | the parts of a header |
 //! | `unit TEXT` | the header and the parameters of a unit, each with its place and its kind |
 //! | `headers TEXT` | the commands that the headers of a message name, with `;` between two |
+//! | `arity HEADER` | how many parameters the command takes that a header names |
 //! | `voltage UNIT`, `boolean UNIT`, `keyword UNIT`, `channels UNIT` | a unit's first parameter |
 //! | `whole LOW HIGH UNIT` | the same, as a whole number |
 //! | `print MICROVOLTS` | a voltage as it is printed |
+//! | `response voltage UNIT` | the value of a unit's first parameter, as response data print it |
+//! | `response channels UNIT`, `response source UNIT` | the same, of a channel list and a source |
+//! | `response overload BELOW`, `response switch ON` | the same, of what is `true` or `false` |
+//! | `response whole NUMBER`, `response error NUMBER` | the same, of a number and an error |
 //! | `code NUMBER` | the name and the text of an error |
 //! | `queue ACT`, `register ACT`, `standard ACT`, `status ACT` | what an act is answered with |
 //! | `scan ACT` | the same, of the scanner |
@@ -32,6 +37,7 @@ mod headers;
 mod line;
 mod parts;
 mod records;
+mod responses;
 mod scans;
 mod status;
 mod texts;

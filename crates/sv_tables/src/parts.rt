@@ -2,9 +2,10 @@
 
 use crate::codes::put_code;
 use crate::fields::{put_call, put_read, put_written};
-use crate::headers::put_commands;
+use crate::headers::{put_arity, put_commands};
 use crate::line::{Fault, cut, value_of};
 use crate::records::put_records;
+use crate::responses::put_response;
 use crate::scans::put_scan;
 use crate::status::{put_queue, put_register, put_standard, put_status};
 use crate::texts::{put_cut, put_parts, put_trimmed, put_white};
@@ -70,6 +71,7 @@ impl Parts {
                 Ok(())
             }
             "headers" => put_commands(out, &self.commands, text),
+            "arity" => put_arity(out, &self.commands, text),
             "queue" => put_queue(out, &mut self.queue, text),
             "register" => put_register(out, &mut self.register, text),
             "standard" => put_standard(out, &mut self.standard, text),
@@ -90,6 +92,7 @@ fn put_of_text(alloc: Global, out: &mut String, word: &str, text: &str) -> Resul
         "parts" => put_parts(out, text),
         "unit" => put_unit(alloc, out, text),
         "code" => put_code(out, text),
+        "response" => put_response(alloc, out, text),
         "read" => put_read(alloc, out, text),
         "write" => put_written(alloc, out, text),
         "call" => put_call(alloc, out, text),

@@ -21,7 +21,7 @@ pub(crate) fn put_value(out: &mut String, word: &str, text: &str) -> Result<(), 
 }
 
 /// The first parameter of a unit, which has to have one.
-fn parameter(text: &str) -> Result<Token<'_>, Fault> {
+pub(crate) fn parameter(text: &str) -> Result<Token<'_>, Fault> {
     let Ok(unit) = unit(text.as_bytes()) else {
         return Err(Fault::Unknown);
     };

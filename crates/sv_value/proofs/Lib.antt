@@ -6,3 +6,4 @@ pub mod Pieces
 pub mod Spelled
 pub mod Printed
 pub mod ReadAgain
+pub mod Listed

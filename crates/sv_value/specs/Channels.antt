@@ -62,7 +62,7 @@ abbrev pub listed : List ℕ → List (List ℕ) → Result (List ℕ) Code
 listed before [] = Ok before
 listed before (item ∷ items) = next (span item) before (λ so_far. listed so_far items)
 
-abbrev read_items : Option (List ℕ) → Result (List ℕ) Code
+abbrev pub read_items : Option (List ℕ) → Result (List ℕ) Code
 read_items None = Err InvalidExpression
 read_items (Some text) = if list_all (λ item. is_some (span item)) (cut_at 44 text) then listed []
     (cut_at 44 text) else Err InvalidExpression

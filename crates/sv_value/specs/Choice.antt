@@ -4,9 +4,9 @@ use Rattle.std.specs.List.{list_all}
 use Rattle.std.specs.Str.{str_eq_ignore_ascii_case}
 use Rattle.sv_errors.specs.declared.code.Code.{Code}
 use Rattle.sv_errors.specs.declared.code.Code.TheVariants.{InvalidCharacterData, IllegalParameterValue}
+use Rattle.sv_errors.specs.declared.source.Source.{Source}
+use Rattle.sv_errors.specs.declared.source.Source.TheVariants.{Immediate, Bus, External}
 use Rattle.sv_lexer.specs.Spelled.{is_word_byte}
-use Rattle.sv_value.specs.declared.choice.Keyword.{Keyword}
-use Rattle.sv_value.specs.declared.choice.Keyword.TheVariants.{Immediate, Bus, External}
 
 -- the same letters, in any case
 abbrev pub is_same : List ℕ → List ℕ → Bool
@@ -20,8 +20,8 @@ read_switch text =
     else if is_same text (codes "OFF") then Ok false
     else Err IllegalParameterValue
 
--- a keyword in its short or its long form, or what is wrong
-abbrev pub read_keyword : List ℕ → Result Keyword Code
+-- a source of triggers by its keyword, in its short or its long form, or what is wrong
+abbrev pub read_keyword : List ℕ → Result Source Code
 read_keyword text =
     if not (list_all is_word_byte text) then Err InvalidCharacterData
     else if is_same text (codes "IMM") || is_same text (codes "IMMEDIATE") then Ok Immediate

@@ -7,3 +7,4 @@ pub mod Channels
 pub mod Plain
 pub mod Value
 pub mod Written
+pub mod Printing

@@ -1,16 +1,16 @@
 -- What the value of a parameter is, by its kind, or which error it is.
-use Rattle.std.specs.Prelude.{ℕ, ℤ, pos, negsuc, neg_ℤ, int_le, nat_le, ◌&&◌, ◌==◌, Bool, true, false, List, codes, Option, Some, None, Result, Ok, Err, if◌then◌else◌}
+use Rattle.std.specs.Prelude.{◌≡◌, ℕ, ℤ, pos, negsuc, neg_ℤ, int_le, nat_le, ◌&&◌, ◌==◌, Bool, true, false, List, codes, Option, Some, None, Result, Ok, Err, if◌then◌else◌}
 use Rattle.sv_text.specs.Front.{is_empty}
-use Rattle.sv_errors.specs.Limits.{most_microvolts}
+use Rattle.sv_errors.specs.Limits.{most_microvolts, is_channel_list}
 use Rattle.sv_errors.specs.declared.code.Code.{Code}
 use Rattle.sv_errors.specs.declared.code.Code.TheVariants.{SyntaxError, DataTypeError, InvalidSuffix, SuffixNotAllowed, DataOutOfRange}
+use Rattle.sv_errors.specs.declared.source.Source.{Source}
 use Rattle.sv_lexer.specs.declared.token.Kind.{Kind}
 use Rattle.sv_lexer.specs.declared.token.Kind.TheVariants.{Number, Base, Word, Expression, Other}
 use Rattle.sv_value.specs.Number.{read_decimal}
 use Rattle.sv_value.specs.Based.{read_based}
 use Rattle.sv_value.specs.Choice.{is_same, read_switch, read_keyword}
 use Rattle.sv_value.specs.Channels.{read_list}
-use Rattle.sv_value.specs.declared.choice.Keyword.{Keyword}
 
 -- how many powers of ten a unit of voltage is above the microvolt; no suffix is volts
 abbrev pub power_of_volts : List ℕ → Option ℕ
@@ -76,7 +76,7 @@ read_boolean Expression text = Err (wrong_kind Expression)
 read_boolean Other text = Err (wrong_kind Other)
 
 -- a source of triggers
-abbrev pub read_source : Kind → List ℕ → Result Keyword Code
+abbrev pub read_source : Kind → List ℕ → Result Source Code
 read_source Word text = read_keyword text
 read_source Number text = Err (wrong_kind Number)
 read_source Base text = Err (wrong_kind Base)
@@ -90,3 +90,7 @@ read_channels Number text = Err (wrong_kind Number)
 read_channels Base text = Err (wrong_kind Base)
 read_channels Word text = Err (wrong_kind Word)
 read_channels Other text = Err (wrong_kind Other)
+
+-- What is read as a channel list is one.
+abbrev pub ReadIsChannelList : Type 0
+ReadIsChannelList = (kind : Kind) (text list : List ℕ) → read_channels kind text ≡ Ok list → is_channel_list list ≡ true

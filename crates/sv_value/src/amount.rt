@@ -1,6 +1,6 @@
 //! Numbers before it is known whether they are in range.
 
-ghost use Rattle.std.specs.Prelude.{◌≡◌, ◌≤◌, ◌++◌, ◌==◌, ℤ, not, true, length, position, Result, Ok, Err, MatchResult, IfSome};
+ghost use Rattle.std.specs.Prelude.{◌≡◌, ◌≤◌, ◌++◌, ◌==◌, ℤ, not, true, length, position, Result, Ok, Err, MatchResult, IfOk, IfSome, unsigned_abs};
 ghost use Rattle.std.specs.Char.{is_ascii_digit};
 ghost use Rattle.std.specs.List.{list_all};
 ghost use Rattle.sv_errors.specs.declared.code.Code.{Code as ErrorCode};
@@ -62,8 +62,9 @@ impl Amount {
 
     /// The voltage, in microvolts, where it is within 1,000 V.
     pub(crate) fn in_volts(self) -> Result<i64, Code>
-        ensures { (answer : Result ℤ ErrorCode) → StandsFor self answer
+        ensures value { (answer : Result ℤ ErrorCode) → StandsFor self answer
             → result ≡ within_volts answer }
+        ensures range { IfOk result (λ voltage. unsigned_abs voltage ≤ 1000000000) }
     {
         if self.magnitude > u64::from(MOST_MICROVOLTS) {
             return Err(Code::DataOutOfRange);
@@ -74,8 +75,9 @@ impl Amount {
 
     /// The number, where it is from the lowest to the highest.
     pub(crate) fn in_range(self, low: u16, high: u16) -> Result<u16, Code>
-        ensures { (answer : Result ℤ ErrorCode) → StandsFor self answer
+        ensures value { (answer : Result ℤ ErrorCode) → StandsFor self answer
             → result ≡ within low high answer }
+        ensures range { IfOk result (λ number. (low ≤ number) × (number ≤ high)) }
     {
         let below = self.negative && self.magnitude > 0 || self.magnitude < u64::from(low);
         if below || self.magnitude > u64::from(high) {

@@ -5,34 +5,23 @@ ghost use Rattle.std.specs.List.{list_all};
 ghost use Rattle.sv_lexer.specs.Spelled.{is_word_byte};
 ghost use Rattle.sv_value.specs.Choice.{is_same as is_same_text, read_keyword, read_switch};
 
-use sv_errors::Code;
+use sv_errors::{Code, Source};
 
-/// Where triggers come from, as a parameter names it.
-#[derive(Clone, Copy, Debug, PartialEq, Eq)]
-pub enum Keyword {
-    /// `IMMediate`.
-    Immediate,
-    /// `BUS`.
-    Bus,
-    /// `EXTernal`.
-    External,
-}
-
-/// The keyword that character data are.
-pub(crate) fn keyword_of(text: &[u8]) -> Result<Keyword, Code>
+/// The source of triggers that character data name.
+pub(crate) fn keyword_of(text: &[u8]) -> Result<Source, Code>
     ensures { result ≡ read_keyword text.now }
 {
     if !is_word(text) {
         return Err(Code::InvalidCharacterData);
     }
     if is_same(text, b"IMM") || is_same(text, b"IMMEDIATE") {
-        return Ok(Keyword::Immediate);
+        return Ok(Source::Immediate);
     }
     if is_same(text, b"BUS") {
-        return Ok(Keyword::Bus);
+        return Ok(Source::Bus);
     }
     if is_same(text, b"EXT") || is_same(text, b"EXTERNAL") {
-        return Ok(Keyword::External);
+        return Ok(Source::External);
     }
     Err(Code::IllegalParameterValue)
 }

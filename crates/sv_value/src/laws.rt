@@ -1,11 +1,17 @@
 //! Laws of the definitions.
 
+ghost use Rattle.sv_value.specs.Value.{ReadIsChannelList};
 ghost use Rattle.sv_value.specs.Spelling.{ReadAsSpelled};
 ghost use Rattle.sv_value.specs.Written.{PrintedIsRead};
 
 /// What is printed of a voltage up to 1,000 V in magnitude is read as that voltage.
 pub fn printed_is_read()
     ensures { PrintedIsRead }
+{}
+
+/// What is read as a channel list has 1 to 32 channels, each 1 to 32.
+pub fn read_is_channel_list()
+    ensures { ReadIsChannelList }
 {}
 
 /// A text counts as spelled as a decimal number exactly if it is joined of the pieces of one, and

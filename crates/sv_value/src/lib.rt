@@ -1,5 +1,5 @@
 //! Values of parameters: voltages, whole numbers, booleans, keywords and channel lists; and how
-//! voltages are printed (IEEE 488.2, 7.7; SCPI-1999, volume 1).
+//! response data are printed (IEEE 488.2, 7.7 and 8.7; SCPI-1999, volume 1).
 //!
 //! Nothing here takes memory, and nothing is a floating-point number.
 #![tactic(auto)]
@@ -12,10 +12,10 @@ mod decimal;
 mod digits;
 pub mod laws;
 mod number;
+pub mod printing;
 mod suffix;
 mod value;
 mod writing;
 
-pub use choice::Keyword;
 pub use value::{boolean, channel_list, keyword, microvolts, whole};
 pub use writing::write_microvolts;

@@ -1,20 +1,21 @@
 //! The values of parameters.
 
-ghost use Rattle.std.specs.Prelude.{◌≡◌, Ok, Err, MatchResult};
+ghost use Rattle.std.specs.Prelude.{◌≡◌, ◌≤◌, true, unsigned_abs, Ok, Err, MatchResult, IfOk};
 ghost use Rattle.sv_value.specs.Number.{read_decimal};
 ghost use Rattle.sv_value.specs.Plain.{StandsFor};
 ghost use Rattle.sv_value.specs.Value.{power_of_none, read_boolean, read_channels, read_source, read_voltage, read_whole, wrong_kind};
 ghost use Rattle.sv_lexer.specs.declared.token.Kind.TheVariants.{Number};
+ghost use Rattle.sv_errors.specs.Limits.{is_channel_list};
 ghost use Rattle.sv_errors.specs.declared.code.Code.TheVariants.{SuffixNotAllowed};
 
 use crate::amount::Amount;
 use crate::based::based;
 use crate::channels::channels_of;
-use crate::choice::{Keyword, keyword_of, switch_of};
+use crate::choice::{keyword_of, switch_of};
 use crate::decimal::Decimal;
 use crate::suffix;
 use arrayvec::ArrayVec;
-use sv_errors::Code;
+use sv_errors::{Code, Source};
 use sv_lexer::{Kind, Token};
 
 /// A voltage, in microvolts, up to 1,000 V in magnitude: a decimal number, and `V`, `KV`, `MV` (a
@@ -26,7 +27,8 @@ use sv_lexer::{Kind, Token};
 /// [`Code::InvalidCharacterInNumber`], [`Code::InvalidSuffix`], [`Code::TooManyDigits`],
 /// [`Code::ExponentTooLarge`], [`Code::DataOutOfRange`], the first of these.
 pub fn microvolts(token: &Token<'_>) -> Result<i64, Code>
-    ensures { result ≡ read_voltage token.now.kind token.now.text.now }
+    ensures value { result ≡ read_voltage token.now.kind token.now.text.now }
+    ensures range { IfOk result (λ voltage. unsigned_abs voltage ≤ 1000000000) }
 {
     match token.kind {
         Kind::Number => voltage(token.text),
@@ -44,7 +46,8 @@ pub fn microvolts(token: &Token<'_>) -> Result<i64, Code>
 /// [`Code::SyntaxError`] without a digit in front, [`Code::InvalidCharacterInNumber`],
 /// [`Code::DataOutOfRange`].
 pub fn whole(token: &Token<'_>, low: u16, high: u16) -> Result<u16, Code>
-    ensures { result ≡ read_whole low high token.now.kind token.now.text.now }
+    ensures value { result ≡ read_whole low high token.now.kind token.now.text.now }
+    ensures range { IfOk result (λ number. (low ≤ number) × (number ≤ high)) }
 {
     let amount = match token.kind {
         Kind::Number => unitless(token.text),
@@ -86,7 +89,7 @@ pub fn boolean(token: &Token<'_>) -> Result<bool, Code>
 /// [`Code::InvalidCharacterData`] where a byte is no letter, digit or underscore;
 /// [`Code::IllegalParameterValue`] for another word; [`Code::SyntaxError`] or
 /// [`Code::DataTypeError`] for other data.
-pub fn keyword(token: &Token<'_>) -> Result<Keyword, Code>
+pub fn keyword(token: &Token<'_>) -> Result<Source, Code>
     ensures { result ≡ read_source token.now.kind token.now.text.now }
 {
     match token.kind {
@@ -103,8 +106,9 @@ pub fn keyword(token: &Token<'_>) -> Result<Keyword, Code>
 /// there are more than 32 channels so far; [`Code::SyntaxError`] or [`Code::DataTypeError`] for
 /// other data.
 pub fn channel_list(token: &Token<'_>) -> Result<ArrayVec<u8, 32>, Code>
-    ensures { MatchResult result (λ list. read_channels token.now.kind token.now.text.now
+    ensures value { MatchResult result (λ list. read_channels token.now.kind token.now.text.now
         ≡ Ok list.items) (λ code. read_channels token.now.kind token.now.text.now ≡ Err code) }
+    ensures range { IfOk result (λ list. is_channel_list list.items ≡ true) }
 {
     match token.kind {
         Kind::Expression => channels_of(token.text),
@@ -114,7 +118,8 @@ pub fn channel_list(token: &Token<'_>) -> Result<ArrayVec<u8, 32>, Code>
 
 /// The voltage that a decimal number is.
 fn voltage(text: &[u8]) -> Result<i64, Code>
-    ensures { result ≡ read_voltage Number text.now }
+    ensures value { result ≡ read_voltage Number text.now }
+    ensures range { IfOk result (λ voltage. unsigned_abs voltage ≤ 1000000000) }
 {
     let number = Decimal::of(text);
     match Amount::of(&number, suffix::volts(number.suffix), Code::InvalidSuffix) {

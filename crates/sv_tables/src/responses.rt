@@ -1,0 +1,39 @@
+//! Response data as they are printed.
+
+use crate::codes::code_of;
+use crate::line::{Fault, cut, put_text, value_of};
+use crate::values::parameter;
+use std::alloc::Global;
+use sv_value::printing::{
+    put_channels, put_error, put_overload, put_source, put_switch, put_voltage, put_whole,
+};
+use sv_value::{channel_list, keyword, microvolts};
+
+/// Room for any of them: a list of 32 channels is the longest.
+const MOST: usize = 3 + 4 * 32;
+
+/// Tells how response data are printed.
+pub(crate) fn put_response(alloc: Global, out: &mut String, text: &str) -> Result<(), Fault> {
+    let mut bytes = Vec::with_capacity(alloc, MOST)?;
+    let (kind, text) = cut(text);
+    match kind {
+        "voltage" => match microvolts(&parameter(text)?) {
+            Ok(voltage) => put_voltage(&mut bytes, voltage),
+            Err(_) => return Err(Fault::Unknown),
+        },
+        "channels" => match channel_list(&parameter(text)?) {
+            Ok(channels) => put_channels(&mut bytes, channels.as_slice()),
+            Err(_) => return Err(Fault::Unknown),
+        },
+        "source" => match keyword(&parameter(text)?) {
+            Ok(source) => put_source(&mut bytes, source),
+            Err(_) => return Err(Fault::Unknown),
+        },
+        "overload" => put_overload(&mut bytes, value_of(text)?),
+        "whole" => put_whole(&mut bytes, value_of(text)?),
+        "error" => put_error(&mut bytes, code_of(text)?),
+        "switch" => put_switch(&mut bytes, value_of(text)?),
+        _ => return Err(Fault::Unknown),
+    }
+    put_text(out, bytes.as_slice())
+}

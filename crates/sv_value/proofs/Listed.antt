@@ -1,0 +1,109 @@
+-- What is read as a channel list is one.
+use Rattle.std.proofs.Common.{◌≡◌, ℕ, zero, suc, ◌+◌, ◌-◌, ◌<◌, ◌≤◌, ◌&&◌, Bool, true, false, not, cond, List, [], ◌∷◌, ◌++◌, length, refl, ap, ◌∙◌, inl, inr, arith}
+use Rattle.std.specs.Prelude.{nat_le, nat_lt, is_some, Option, Some, None, Result, Ok, Err, MatchResult, IfOk}
+use Rattle.std.specs.List.{list_all}
+use Rattle.std.proofs.lemmas.Bool.{cases_lt, le-leb, leb-true, ltb-false}
+use Rattle.std.proofs.lemmas.List.{length-append}
+use Rattle.std.proofs.lemmas.List.Folds.{list_all-append}
+use Rattle.sv_errors.specs.Limits.{is_channel, is_channel_list}
+use Rattle.sv_errors.specs.declared.code.Code.{Code}
+use Rattle.sv_errors.specs.declared.code.Code.TheVariants.{DataOutOfRange, TooMuchData, InvalidExpression}
+use Rattle.sv_lexer.specs.declared.token.Kind.TheVariants.{Number, Base, Word, Expression, Other}
+use Rattle.sv_text.specs.Cut.{cut_at}
+use Rattle.sv_text.proofs.Parts.{parts_some}
+use Rattle.sv_value.specs.Channels.{Span as Ends, inner, listed, next, read_items, read_list, run, span}
+use Rattle.sv_value.specs.Value.{ReadIsChannelList}
+use Rattle.sv_value.proofs.Spans.{run-up, run-down, run-one, length-run}
+
+-- one more channel in front
+cons-channel : (c : ℕ) (cs : List ℕ) → 1 ≤ c → c ≤ 32 → list_all is_channel cs ≡ true → list_all is_channel (c ∷ cs) ≡ true
+cons-channel c cs some most h = rw (le-leb 1 c some, le-leb c 32 most) h
+
+-- a run between two channels
+run-channels : (k first last : ℕ) → (first - last) + (last - first) ≡ k → 1 ≤ first → first ≤ 32 → 1 ≤ last → last ≤ 32
+    → list_all is_channel (run first last) ≡ true
+run-channels zero first last size f1 f2 l1 l2 =
+    let e : first ≡ last = omega (arith, size) in
+    rw e (ap (list_all is_channel) (run-one last) ∙ cons-channel last [] l1 l2 refl)
+run-channels (suc k) first last size f1 f2 l1 l2 =
+    elim (cases_lt first last) [
+      | inl up ↦
+          ap (list_all is_channel) (run-up first last up)
+          ∙ cons-channel first (run (first + 1) last) f1 f2
+          (run-channels k (first + 1) last (omega (arith, size, up)) (omega arith) (omega (arith, up, l2)) l1 l2)
+      | inr other ↦
+          let down : last < first = omega (arith, size, other) in
+          ap (list_all is_channel) (run-down first last down)
+          ∙ cons-channel first (run (first - 1) last) f1 f2
+          (run-channels k (first - 1) last (omega (arith, size, down)) (omega (arith, down, l1)) (omega (arith, f2)) l1 l2)
+    ]
+
+-- both tests hold
+both : (a b : Bool) → (a && b) ≡ true → (a ≡ true) × (b ≡ true)
+both true b h = (refl, h)
+both false b h = absurd cc
+
+ends-channels : (first last : ℕ) → (is_channel first && is_channel last) ≡ true → list_all is_channel (run first last) ≡ true
+ends-channels first last h =
+    let one = both (is_channel first) (is_channel last) h in
+    let f = both (nat_le 1 first) (nat_le first 32) one.0 in
+    let l = both (nat_le 1 last) (nat_le last 32) one.1 in
+    run-channels ((first - last) + (last - first)) first last refl (leb-true 1 first f.0) (leb-true first 32 f.1) (leb-true 1 last l.0)
+    (leb-true last 32 l.1)
+
+-- 1 to 32 of them
+are-listed : (before list : List ℕ) → list_all is_channel before ≡ true → length before ≤ 32 → 1 ≤ length before → before ≡ list
+    → is_channel_list list ≡ true
+are-listed before list all most some e = rw (← e) (rw (le-leb 1 (length before) some, le-leb (length before) 32 most) all)
+
+-- the channels of an item behind others, if the items behind it go on well
+item-channels : (o : Option Ends) (before list : List ℕ) (others : List ℕ → Result (List ℕ) Code) → list_all is_channel before ≡ true
+    → ((so_far : List ℕ) → list_all is_channel so_far ≡ true → length so_far ≤ 32 → 1 ≤ length so_far → others so_far ≡ Ok list
+    → is_channel_list list ≡ true)
+    → next o before others ≡ Ok list → is_channel_list list ≡ true
+item-channels None before list others all go h = absurd cc
+item-channels (Some ends) before list others all go h =
+    at (is_channel ends.first && is_channel ends.last) (nat_lt 32 (length (before ++ run ends.first ends.last))) refl refl h
+  where
+    at : (legal full : Bool) → (is_channel ends.first && is_channel ends.last) ≡ legal
+        → nat_lt 32 (length (before ++ run ends.first ends.last)) ≡ full
+        → cond (not legal) (Err DataOutOfRange) (cond full (Err TooMuchData) (others (before ++ run ends.first ends.last))) ≡ Ok list
+        → is_channel_list list ≡ true
+    at false full is_legal is_full e = absurd cc
+    at true true is_legal is_full e = absurd cc
+    at true false is_legal is_full e =
+        let channels = ends-channels ends.first ends.last is_legal in
+        let run_size = length-run ends.first ends.last in
+        let size = length-append before (run ends.first ends.last) in
+        go (before ++ run ends.first ends.last)
+        (list_all-append is_channel before (run ends.first ends.last) ∙ rw (all, channels) refl)
+        (ltb-false 32 (length (before ++ run ends.first ends.last)) is_full) (omega (arith, size, run_size)) e
+
+listed-channels : (items : List (List ℕ)) (before list : List ℕ) → list_all is_channel before ≡ true → length before ≤ 32
+    → 1 ≤ length before + length items → listed before items ≡ Ok list → is_channel_list list ≡ true
+listed-channels [] before list all most some h = are-listed before list all most (omega (arith, some)) cc
+listed-channels (item ∷ items) before list all most some h =
+    item-channels (span item) before list (λ so_far. listed so_far items) all
+    (λ so_far a m s e. listed-channels items so_far list a m (omega (arith, s)) e) h
+
+items-channels : (o : Option (List ℕ)) (list : List ℕ) → read_items o ≡ Ok list → is_channel_list list ≡ true
+items-channels None list h = absurd cc
+items-channels (Some text) list h = at (list_all (λ item. is_some (span item)) (cut_at 44 text)) h
+  where
+    at : (t : Bool) → cond t (listed [] (cut_at 44 text)) (Err InvalidExpression) ≡ Ok list → is_channel_list list ≡ true
+    at false e = absurd cc
+    at true e = let some = parts_some 44 text in listed-channels (cut_at 44 text) [] list refl (omega arith) (omega (arith, some)) e
+
+pub read-channels : ReadIsChannelList
+read-channels Expression text list h = items-channels (inner text) list h
+read-channels Number text list h = absurd cc
+read-channels Base text list h = absurd cc
+read-channels Word text list h = absurd cc
+read-channels Other text list h = absurd cc
+
+-- what is found to be a list is one
+pub if-listed : {L : Type 0} (items : L → List ℕ) (text : List ℕ) (r : Result L Code)
+    → MatchResult r (λ list. read_list text ≡ Ok (items list)) (λ code. read_list text ≡ Err code)
+    → IfOk r (λ list. is_channel_list (items list) ≡ true)
+if-listed items text (Ok list) h = items-channels (inner text) (items list) h
+if-listed items text (Err code) h = tt

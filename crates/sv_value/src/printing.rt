@@ -1,0 +1,128 @@
+//! Printing response data behind the bytes of a vector that has room for them (IEEE 488.2, 8.7).
+
+ghost use Rattle.std.specs.Prelude.{◌≡◌, ◌≤◌, ◌+◌, ◌*◌, ◌++◌, codes, decimal, length, unsigned_abs, vec_capacity, vec_len};
+ghost use Rattle.std.specs.List.{join_by};
+ghost use Rattle.sv_value.specs.Printing.{channels_text, error_text, overload_text, source_text, switch_text, whole_text};
+ghost use Rattle.sv_value.specs.Written.{voltage_text};
+
+use crate::writing::write_microvolts;
+use itoa::Buffer;
+use std::alloc::Allocator;
+use sv_errors::{Code, Source};
+use sv_text::append;
+
+/// Puts a voltage of so many microvolts, up to 1,000 V in magnitude, behind bytes that have room
+/// for 12 more: a sign (`+` for 0), whole volts, a point and six digits.
+pub fn put_voltage<A: Allocator>(out: &mut Vec<u8, A>, microvolts: i64)
+    requires room { vec_len out.old + 12 ≤ vec_capacity out.old }
+    requires small { unsigned_abs microvolts ≤ 1000000000 }
+    ensures text { out.new.items ≡ out.old.items ++ voltage_text microvolts }
+    ensures capacity { vec_capacity out.old ≤ vec_capacity out.new }
+    ensures bounded { vec_len out.new ≤ vec_len out.old + 12 }
+{
+    let mut buffer = [0; 16];
+    let size = write_microvolts(microvolts, &mut buffer);
+    append(out, &buffer[..size]);
+}
+
+/// Puts an overload behind bytes that have room for 8 more: `-9.9E+37` for a voltage below the
+/// range, else `+9.9E+37` (SCPI-1999, volume 1, 7.2.1.5).
+pub fn put_overload<A: Allocator>(out: &mut Vec<u8, A>, below: bool)
+    requires room { vec_len out.old + 8 ≤ vec_capacity out.old }
+    ensures text { out.new.items ≡ out.old.items ++ overload_text below }
+    ensures capacity { vec_capacity out.old ≤ vec_capacity out.new }
+    ensures bounded { vec_len out.new ≤ vec_len out.old + 8 }
+{
+    append(out, if below { b"-9.9E+37" } else { b"+9.9E+37" });
+}
+
+/// Puts a whole number behind bytes that have room for 10 more: its digits, without a sign or zeros
+/// in front.
+pub fn put_whole<A: Allocator>(out: &mut Vec<u8, A>, number: u32)
+    requires room { vec_len out.old + 10 ≤ vec_capacity out.old }
+    ensures text { out.new.items ≡ out.old.items ++ whole_text number }
+    ensures capacity { vec_capacity out.old ≤ vec_capacity out.new }
+    ensures bounded { vec_len out.new ≤ vec_len out.old + 10 }
+{
+    append(out, Buffer::new().format(number).as_bytes());
+}
+
+/// Puts a channel list, as `(@5,4,3,3)`, behind bytes that have room for 3 more, and 4 for each
+/// channel.
+pub fn put_channels<A: Allocator>(out: &mut Vec<u8, A>, channels: &[u8])
+    requires room { vec_len out.old + (3 + 4 * length channels.now) ≤ vec_capacity out.old }
+    ensures text { out.new.items ≡ out.old.items ++ channels_text channels.now }
+    ensures capacity { vec_capacity out.old ≤ vec_capacity out.new }
+    ensures bounded { vec_len out.new ≤ vec_len out.old + (3 + 4 * length channels.now) }
+{
+    append(out, b"(@");
+    put_joined(out, channels);
+    append(out, b")");
+}
+
+/// Puts an entry of the error queue, as `-113,"Undefined header"`, behind bytes that have room for
+/// 40 more: its number, a comma, and its text in double quotes (SCPI-1999, volume 2, section 21.8).
+pub fn put_error<A: Allocator>(out: &mut Vec<u8, A>, code: Code)
+    requires room { vec_len out.old + 40 ≤ vec_capacity out.old }
+    ensures text { out.new.items ≡ out.old.items ++ error_text code }
+    ensures capacity { vec_capacity out.old ≤ vec_capacity out.new }
+    ensures bounded { vec_len out.new ≤ vec_len out.old + 40 }
+{
+    append(out, Buffer::new().format(code.number()).as_bytes());
+    append(out, b",\"");
+    append(out, code.text().as_bytes());
+    append(out, b"\"");
+}
+
+/// Puts a boolean behind bytes that have room for 1 more: `1` for on, `0` for off.
+pub fn put_switch<A: Allocator>(out: &mut Vec<u8, A>, on: bool)
+    requires room { vec_len out.old + 1 ≤ vec_capacity out.old }
+    ensures text { out.new.items ≡ out.old.items ++ switch_text on }
+    ensures capacity { vec_capacity out.old ≤ vec_capacity out.new }
+    ensures bounded { vec_len out.new ≤ vec_len out.old + 1 }
+{
+    append(out, if on { b"1" } else { b"0" });
+}
+
+/// Puts the short form of a source of triggers, `IMM`, `BUS` or `EXT`, behind bytes that have room
+/// for 3 more.
+pub fn put_source<A: Allocator>(out: &mut Vec<u8, A>, source: Source)
+    requires room { vec_len out.old + 3 ≤ vec_capacity out.old }
+    ensures text { out.new.items ≡ out.old.items ++ source_text source }
+    ensures capacity { vec_capacity out.old ≤ vec_capacity out.new }
+    ensures bounded { vec_len out.new ≤ vec_len out.old + 3 }
+{
+    let keyword: &[u8] = match source {
+        Source::Immediate => b"IMM",
+        Source::Bus => b"BUS",
+        Source::External => b"EXT",
+    };
+    append(out, keyword);
+}
+
+/// Puts channels in decimal, with commas between them.
+fn put_joined<A: Allocator>(out: &mut Vec<u8, A>, channels: &[u8])
+    requires room { vec_len out.old + 4 * length channels.now ≤ vec_capacity out.old }
+    ensures text { out.new.items ≡ out.old.items ++ join_by decimal (codes ",") channels.now }
+    ensures capacity { vec_capacity out.old ≤ vec_capacity out.new }
+    ensures bounded { vec_len out.new ≤ vec_len out.old + 4 * length channels.now }
+{
+    let [first, others @ ..] = channels else {
+        return;
+    };
+    put_channel(out, *first);
+    for channel in others {
+        append(out, b",");
+        put_channel(out, *channel);
+    }
+}
+
+/// Puts a channel in decimal.
+fn put_channel<A: Allocator>(out: &mut Vec<u8, A>, channel: u8)
+    requires room { vec_len out.old + 3 ≤ vec_capacity out.old }
+    ensures text { out.new.items ≡ out.old.items ++ decimal channel }
+    ensures capacity { vec_capacity out.old ≤ vec_capacity out.new }
+    ensures bounded { vec_len out.new ≤ vec_len out.old + 3 }
+{
+    append(out, Buffer::new().format(channel).as_bytes());
+}
