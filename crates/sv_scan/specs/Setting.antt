@@ -4,8 +4,8 @@ use Rattle.std.specs.List.{list_all}
 use Rattle.sv_errors.specs.Limits.{is_channel, most_microvolts}
 use Rattle.sv_scan.specs.declared.setting.Setting.{Setting}
 use Rattle.sv_scan.specs.declared.setting.Setting.TheVariants.{List as SetList, Monitor, Range, Upper, Lower, Limits, Source as SetSource, Count}
-use Rattle.sv_scan.specs.declared.setting.Source.{Source}
-use Rattle.sv_scan.specs.declared.setting.Source.TheVariants.{Immediate}
+use Rattle.sv_errors.specs.declared.source.Source.{Source}
+use Rattle.sv_errors.specs.declared.source.Source.TheVariants.{Immediate}
 use Rattle.sv_scan.specs.declared.acts.ScanAct.{ScanAct}
 use Rattle.sv_scan.specs.declared.acts.ScanAct.TheVariants.{Input, Configure, Reset}
 

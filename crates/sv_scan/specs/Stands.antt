@@ -2,7 +2,7 @@
 use Rattle.std.specs.Prelude.{◌≡◌, ℕ, ◌-◌, ℤ, pos, Bool, true, List, Option, slice_index_or}
 use Rattle.std.specs.Prelude.{option_map}
 use Rattle.sv_scan.specs.declared.setting.Reading.{Reading}
-use Rattle.sv_scan.specs.declared.setting.Source.{Source}
+use Rattle.sv_errors.specs.declared.source.Source.{Source}
 use Rattle.sv_scan.specs.declared.acts.ScanAct.{ScanAct}
 use Rattle.sv_errors.specs.Limits.{is_channel}
 use Rattle.sv_scan.specs.Setting.{scan_list, monitor, range, upper, lower, limits, source, count, input}

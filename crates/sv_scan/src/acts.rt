@@ -1,6 +1,7 @@
 //! What happens to the scanner.
 
-use crate::setting::{Setting, Source};
+use crate::setting::Setting;
+use sv_errors::Source;
 use sv_errors::Code;
 
 /// What happens to the scanner.

@@ -1,0 +1,7 @@
+use Rattle.std.proofs.Common.{ap, inr, refl}
+use Rattle.std.specs.Prelude.{Err}
+use Rattle.sv_command.proofs.reading.named.Goals as goal
+
+pub returns-in-Err : goal.returns-in-Err
+returns-in-Err g c =
+    let none = rw c.header-header.ensures.text at c.in-Err.ensures in inr (none.1, ap Err none.0, refl)

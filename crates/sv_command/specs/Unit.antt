@@ -1,0 +1,43 @@
+-- What a program message unit asks for, and its faults in their order (SCPI-1999, volume 1, chapters 6 and 7; volume 2, 21.8).
+use Rattle.std.specs.Prelude.{◌≡◌, ◌⊎◌, ℕ, ◌==◌, List, Option, Some, None, Result, Err, nat_lt, if◌then◌else◌}
+use Rattle.sv_errors.specs.declared.code.Code.{Code}
+use Rattle.sv_errors.specs.declared.code.Code.TheVariants.{ParameterNotAllowed, MissingParameter, UndefinedHeader}
+use Rattle.sv_lexer.specs.Token.{kind_of}
+use Rattle.sv_lexer.specs.Unit.{unit_fault, header}
+use Rattle.sv_lexer.specs.Parameters.{parameters_fault, parameter, count}
+use Rattle.sv_header.specs.declared.arity.Arity.{Arity}
+use Rattle.sv_header.specs.declared.arity.Arity.TheVariants.{Nothing, One, Optional}
+use Rattle.sv_header.specs.declared.command.CommandId.{CommandId}
+use Rattle.sv_header.specs.Arity.{arity_of}
+use Rattle.sv_header.specs.Resolve.{Resolves, kept}
+use Rattle.sv_command.specs.declared.order.Order.{Order}
+use Rattle.sv_command.specs.Order.{Parameter, order_of}
+
+-- too many parameters, or too few
+abbrev pub count_fault : Arity → ℕ → Option Code
+count_fault Nothing given = if nat_lt 0 given then Some ParameterNotAllowed else None
+count_fault One given = if nat_lt 1 given then Some ParameterNotAllowed else if given == 0 then Some MissingParameter else None
+count_fault Optional given = if nat_lt 1 given then Some ParameterNotAllowed else None
+
+-- the first parameter, where there is one
+abbrev pub first_parameter : List ℕ → Option Parameter
+first_parameter unit = if count unit == 0 then None else Some (record { kind = kind_of (parameter unit 0); text = parameter unit 0 })
+
+abbrev pub unless : Option Code → Result Order Code → Result Order Code
+unless (Some code) outcome = Err code
+unless None outcome = outcome
+
+-- what a command asks for in a unit: the spelling of its parameters is looked at, then how many there are, then their values
+abbrev pub asked : CommandId → List ℕ → Result Order Code
+asked command unit = unless (parameters_fault unit) (unless (count_fault (arity_of command) (count unit)) (order_of command (first_parameter unit)))
+
+-- The header names a command, or none does.
+abbrev pub IsNamed : List (List ℕ) → List ℕ → Result Order Code → List (List ℕ) → Type 0
+IsNamed path unit outcome behind =
+    ((command : CommandId) × Resolves path (header unit) command × (outcome ≡ asked command unit) × (behind ≡ kept path (header unit)))
+    ⊎ (((command : CommandId) → Resolves path (header unit) command → ⊥) × (outcome ≡ Err UndefinedHeader) × (behind ≡ path))
+
+-- A unit behind a path asks for this, and leaves a path: the header follows it where it names a command.
+abbrev pub IsReadAs : List (List ℕ) → List ℕ → Result Order Code → List (List ℕ) → Type 0
+IsReadAs path unit outcome behind = ((code : Code) × (unit_fault unit ≡ Some code) × (outcome ≡ Err code) × (behind ≡ path))
+    ⊎ ((unit_fault unit ≡ None) × IsNamed path unit outcome behind)

@@ -1,0 +1,90 @@
+//! Reading a unit.
+
+ghost use Rattle.std.specs.Prelude.{◌≡◌};
+ghost use Rattle.sv_command.specs.Unit.{IsReadAs, IsNamed, asked as asked_by, count_fault};
+
+use crate::filling::order;
+use crate::order::Order;
+use std::alloc::Allocator;
+use sv_errors::Code;
+use sv_header::{Arity, CommandId, Path, Table};
+use sv_lexer::{Unit, unit};
+
+/// Reads a unit behind a path, as what it asks for. Where its header names a command, the path
+/// follows it, whatever is wrong with the parameters.
+///
+/// # Errors
+/// The first fault of the unit: [`Code::InvalidCharacter`], [`Code::SyntaxError`] and
+/// [`Code::ProgramMnemonicTooLong`] of the header's spelling; [`Code::UndefinedHeader`];
+/// [`Code::InvalidExpression`] and [`Code::SyntaxError`] of the parameters' spelling;
+/// [`Code::ParameterNotAllowed`], [`Code::MissingParameter`]; then those of the parameter's value.
+pub fn read_unit<A: Allocator>(
+    table: &Table<A>,
+    path: &mut Path,
+    text: &[u8],
+) -> Result<Order, Code>
+    ensures { IsReadAs path.old text.now result path.new }
+{
+    match unit(text) {
+        Ok(unit) => named(table, path, &unit),
+        Err(code) => Err(code),
+    }
+}
+
+/// What a unit asks for whose header is spelled as one.
+fn named<A: Allocator>(table: &Table<A>, path: &mut Path, unit: &Unit<'_>) -> Result<Order, Code>
+    ensures { IsNamed path.old unit.now result path.new }
+{
+    let header = unit.header();
+    match table.resolve(path, header.text) {
+        Ok(command) => {
+            path.follow(header.text);
+            asked(command, unit)
+        }
+        Err(code) => Err(code),
+    }
+}
+
+/// What a command asks for in a unit.
+fn asked(command: CommandId, unit: &Unit<'_>) -> Result<Order, Code>
+    ensures { result ≡ asked_by command unit.now }
+{
+    match unit.parameters() {
+        Ok(parameters) => match refused_count(command.arity(), parameters.count()) {
+            Some(code) => Err(code),
+            None => order(command, parameters.get(0)),
+        },
+        Err(code) => Err(code),
+    }
+}
+
+/// What is wrong with how many parameters there are.
+fn refused_count(arity: Arity, given: usize) -> Option<Code>
+    ensures { result ≡ count_fault arity given }
+{
+    match arity {
+        Arity::Nothing => {
+            if given > 0 {
+                Some(Code::ParameterNotAllowed)
+            } else {
+                None
+            }
+        }
+        Arity::One => {
+            if given > 1 {
+                Some(Code::ParameterNotAllowed)
+            } else if given == 0 {
+                Some(Code::MissingParameter)
+            } else {
+                None
+            }
+        }
+        Arity::Optional => {
+            if given > 1 {
+                Some(Code::ParameterNotAllowed)
+            } else {
+                None
+            }
+        }
+    }
+}
