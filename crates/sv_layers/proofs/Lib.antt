@@ -1,3 +1,4 @@
 pub mod Booleans
 pub mod OneStatus
 pub mod Compared
+pub mod Projected

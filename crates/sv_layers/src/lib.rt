@@ -7,11 +7,13 @@
 mod change;
 mod exchanging;
 mod happening;
+mod laws;
 mod layers;
 mod polling;
 mod status;
 
 pub use change::{Awaited, Change};
 pub use exchanging::Response;
+pub use laws::own_acts;
 pub use layers::Layers;
 pub use polling::Poll;
