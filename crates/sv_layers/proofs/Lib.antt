@@ -2,3 +2,5 @@ pub mod Booleans
 pub mod OneStatus
 pub mod Compared
 pub mod Projected
+pub mod Registered
+pub mod SameWords

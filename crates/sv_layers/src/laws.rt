@@ -1,9 +1,14 @@
 //! What the layers see is what the standards say of the log.
 
-ghost use Rattle.sv_layers.specs.Laws.{OwnActs};
+ghost use Rattle.sv_layers.specs.Laws.{OwnActs, SameWords};
 
 /// Exchange, error queue and scanner see the acts that are theirs, and the service request enable
 /// is the one that was set last.
 pub fn own_acts()
     ensures { OwnActs }
+{}
+
+/// Condition, filters and enable of a status register are those of the log (SCPI-1999, chapter 20).
+pub fn same_words()
+    ensures { SameWords }
 {}
