@@ -4,3 +4,4 @@ pub mod Compared
 pub mod Projected
 pub mod Registered
 pub mod SameWords
+pub mod SameEvents

@@ -1,6 +1,6 @@
 //! What the layers see is what the standards say of the log.
 
-ghost use Rattle.sv_layers.specs.Laws.{OwnActs, SameWords};
+ghost use Rattle.sv_layers.specs.Laws.{OwnActs, SameWords, SameEvents};
 
 /// Exchange, error queue and scanner see the acts that are theirs, and the service request enable
 /// is the one that was set last.
@@ -11,4 +11,9 @@ pub fn own_acts()
 /// Condition, filters and enable of a status register are those of the log (SCPI-1999, chapter 20).
 pub fn same_words()
     ensures { SameWords }
+{}
+
+/// A bit of a status register stands exactly if it does by the log (SCPI-1999, chapter 20).
+pub fn same_events()
+    ensures { SameEvents }
 {}
