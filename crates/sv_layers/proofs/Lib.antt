@@ -5,3 +5,4 @@ pub mod Projected
 pub mod Registered
 pub mod SameWords
 pub mod SameEvents
+pub mod Completion

@@ -1,6 +1,6 @@
 //! What the layers see is what the standards say of the log.
 
-ghost use Rattle.sv_layers.specs.Laws.{OwnActs, SameWords, SameEvents};
+ghost use Rattle.sv_layers.specs.Laws.{OwnActs, SameWords, SameEvents, SameWaiting, SameCompletion};
 
 /// Exchange, error queue and scanner see the acts that are theirs, and the service request enable
 /// is the one that was set last.
@@ -16,4 +16,15 @@ pub fn same_words()
 /// A bit of a status register stands exactly if it does by the log (SCPI-1999, chapter 20).
 pub fn same_events()
     ensures { SameEvents }
+{}
+
+/// An `*OPC` waits exactly if it does by the log (IEEE 488.2, 12.5.2).
+pub fn same_waiting()
+    ensures { SameWaiting }
+{}
+
+/// Operation complete occurs at an act exactly if an `*OPC` completes at it by the log (IEEE 488.2,
+/// 12.5.2).
+pub fn same_completion()
+    ensures { SameCompletion }
 {}
