@@ -6,3 +6,5 @@ pub mod Registered
 pub mod SameWords
 pub mod SameEvents
 pub mod Completion
+pub mod Bits
+pub mod SameStandard

@@ -1,6 +1,6 @@
 //! What the layers see is what the standards say of the log.
 
-ghost use Rattle.sv_layers.specs.Laws.{OwnActs, SameWords, SameEvents, SameWaiting, SameCompletion};
+ghost use Rattle.sv_layers.specs.Laws.{OwnActs, SameWords, SameEvents, SameWaiting, SameCompletion, SameStandardEvents, SameEnable};
 
 /// Exchange, error queue and scanner see the acts that are theirs, and the service request enable
 /// is the one that was set last.
@@ -27,4 +27,14 @@ pub fn same_waiting()
 /// 12.5.2).
 pub fn same_completion()
     ensures { SameCompletion }
+{}
+
+/// A standard event stands exactly if it does by the log (IEEE 488.2, 11.5.1).
+pub fn same_standard_events()
+    ensures { SameStandardEvents }
+{}
+
+/// The enable of the standard events is that of the log (IEEE 488.2, 11.5.1).
+pub fn same_enable()
+    ensures { SameEnable }
 {}
