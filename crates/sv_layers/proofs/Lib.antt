@@ -8,3 +8,4 @@ pub mod SameEvents
 pub mod Completion
 pub mod Bits
 pub mod SameStandard
+pub mod SameSummaries

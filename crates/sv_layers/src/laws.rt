@@ -1,6 +1,6 @@
 //! What the layers see is what the standards say of the log.
 
-ghost use Rattle.sv_layers.specs.Laws.{OwnActs, SameWords, SameEvents, SameWaiting, SameCompletion, SameStandardEvents, SameEnable};
+ghost use Rattle.sv_layers.specs.Laws.{OwnActs, SameWords, SameEvents, SameWaiting, SameCompletion, SameStandardEvents, SameEnable, SameSummaries};
 
 /// Exchange, error queue and scanner see the acts that are theirs, and the service request enable
 /// is the one that was set last.
@@ -37,4 +37,10 @@ pub fn same_standard_events()
 /// The enable of the standard events is that of the log (IEEE 488.2, 11.5.1).
 pub fn same_enable()
     ensures { SameEnable }
+{}
+
+/// The summary bits of the status byte are those of the log (IEEE 488.2, 11.2.1; SCPI-1999, chapter
+/// 20).
+pub fn same_summaries()
+    ensures { SameSummaries }
 {}
