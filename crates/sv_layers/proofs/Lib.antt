@@ -9,3 +9,5 @@ pub mod Completion
 pub mod Bits
 pub mod SameStandard
 pub mod SameSummaries
+pub mod NothingAtPoll
+pub mod SameRequests

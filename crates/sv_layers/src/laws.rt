@@ -1,6 +1,6 @@
 //! What the layers see is what the standards say of the log.
 
-ghost use Rattle.sv_layers.specs.Laws.{OwnActs, SameWords, SameEvents, SameWaiting, SameCompletion, SameStandardEvents, SameEnable, SameSummaries};
+ghost use Rattle.sv_layers.specs.Laws.{OwnActs, SameWords, SameEvents, SameWaiting, SameCompletion, SameStandardEvents, SameEnable, SameSummaries, SameRequests, SameRaising, SameStatus};
 
 /// Exchange, error queue and scanner see the acts that are theirs, and the service request enable
 /// is the one that was set last.
@@ -43,4 +43,19 @@ pub fn same_enable()
 /// 20).
 pub fn same_summaries()
     ensures { SameSummaries }
+{}
+
+/// A request for service stands exactly if it does by the log (IEEE 488.2, 11.3).
+pub fn same_requests()
+    ensures { SameRequests }
+{}
+
+/// A request for service is raised exactly where it is by the log (IEEE 488.2, 11.3).
+pub fn same_raising()
+    ensures { SameRaising }
+{}
+
+/// The status byte is that of the log, as a poll gives it and as `*STB?` does (IEEE 488.2, 11.2.2).
+pub fn same_status()
+    ensures { SameStatus }
 {}
