@@ -11,3 +11,4 @@ pub mod SameStandard
 pub mod SameSummaries
 pub mod NothingAtPoll
 pub mod SameRequests
+pub mod AlwaysTold

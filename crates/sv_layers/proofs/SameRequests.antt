@@ -11,7 +11,7 @@ use Rattle.sv_layers.specs.Act.{Act, Exchanged, Purged, Scanned, Held, Reported,
 use Rattle.sv_layers.specs.StatusByte.{SummaryBit, service, Asks, Master, Reason, Lasts, Request, IsRaised}
 use Rattle.sv_layers.specs.Inside.Seen.{seen}
 use Rattle.sv_layers.specs.Inside.Kept.{IsSummary, IsStatus, own_status}
-use Rattle.sv_layers.specs.Laws.{SameRequests, SameRaising, SameStatus}
+use Rattle.sv_layers.specs.Laws.{SameRequests, SameStatus}
 use Rattle.sv_layers.proofs.Projected.{projected}
 use Rattle.sv_layers.proofs.SameSummaries.{same_summaries, no_summary}
 use Rattle.sv_layers.proofs.NothingAtPoll.{polled_asks}
@@ -143,15 +143,11 @@ other_raised act other log now before stands same = (
   (λ r. (stands.1 r.0, λ q. r.1 (same.0 (rw (other.0 before) at q)))),
 )
 
-told_raised : (log : List Act) (told : List StatusAct) → IsStatus log told → status.IsRaised told ↔ IsRaised log
+pub told_raised : (log : List Act) (told : List StatusAct) → IsStatus log told → status.IsRaised told ↔ IsRaised log
 told_raised [] told is = rw is ((λ r. absurd r), (λ r. absurd r))
 told_raised (act ∷ log) told (word, before, summary, is, made) =
     rw made (by_kind RaisedStep polled_raised other_raised act log _ before
     (same_requests (act ∷ log) _ (word, before, summary, is, refl)) (same_requests log before is))
-
-pub same_raising : SameRaising
-same_raising log told is =
-    ((λ h. (told_raised log h.0 h.1).0 h.2), (λ r. (told, is, (told_raised log told is).1 r)))
 
 -- the status byte, where bit 6 tells a fact
 shown : {B P Q : Type 0} (k : ℕ) (log : List Act) → B ↔ SummaryBit k log → P ↔ Q

@@ -54,13 +54,17 @@ SameStandardEvents = (k : ℕ) (log : List Act) → standard.Stands k (seen log)
 abbrev pub SameSummaries : Type 0
 SameSummaries = (word : ℕ) (log : List Act) → IsSummary word (seen log) → (k : ℕ) → (bit_at word k ≡ 1) ↔ SummaryBit k log
 
+-- For each log there is one list of acts that the status byte is told.
+abbrev pub OneAccount : Type 0
+OneAccount = (log : List Act) → (told : List StatusAct) × IsStatus log told × ((other : List StatusAct) → IsStatus log other → other ≡ told)
+
 -- A request for service stands exactly if it does by the log.
 abbrev pub SameRequests : Type 0
 SameRequests = (log : List Act) (told : List StatusAct) → IsStatus log told → status.Request told ↔ Request log
 
 -- A request is raised at the newest act exactly if it is by the log.
 abbrev pub SameRaising : Type 0
-SameRaising = (log : List Act) (told : List StatusAct) → IsStatus log told → RaisedAt log ↔ IsRaised log
+SameRaising = (log : List Act) → RaisedAt log ↔ IsRaised log
 
 -- A bit of the status byte is as the log tells, as a poll gives it and as `*STB?` does.
 abbrev pub SameStatus : Type 0

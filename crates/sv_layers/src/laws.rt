@@ -1,6 +1,6 @@
 //! What the layers see is what the standards say of the log.
 
-ghost use Rattle.sv_layers.specs.Laws.{OwnActs, SameWords, SameEvents, SameWaiting, SameCompletion, SameStandardEvents, SameEnable, SameSummaries, SameRequests, SameRaising, SameStatus};
+ghost use Rattle.sv_layers.specs.Laws.{OwnActs, SameWords, SameEvents, SameWaiting, SameCompletion, SameStandardEvents, SameEnable, SameSummaries, OneAccount, SameRequests, SameRaising, SameStatus};
 
 /// Exchange, error queue and scanner see the acts that are theirs, and the service request enable
 /// is the one that was set last.
@@ -43,6 +43,11 @@ pub fn same_enable()
 /// 20).
 pub fn same_summaries()
     ensures { SameSummaries }
+{}
+
+/// For each log there is one list of acts that the status byte is told.
+pub fn one_account()
+    ensures { OneAccount }
 {}
 
 /// A request for service stands exactly if it does by the log (IEEE 488.2, 11.3).

@@ -1,4 +1,4 @@
-use Rattle.sv_layers.proofs.SameRequests.{same_raising}
+use Rattle.sv_layers.proofs.AlwaysTold.{same_raising}
 use Rattle.sv_layers.proofs.laws.same_raising.Goals as goal
 
 pub returns : goal.returns
