@@ -1,7 +1,7 @@
 -- Small facts of booleans.
 use Rattle.std.proofs.Common.{◌≡◌, ℕ, zero, suc, ◌^◌, Bool, true, false, cond, List, [], ◌∷◌, length, refl, sym, nat_lt, arith}
-use Rattle.std.specs.Prelude.{◌↔◌}
-use Rattle.std.proofs.lemmas.Bool.{lt-ltb}
+use Rattle.std.specs.Prelude.{◌↔◌, not, ◌&&◌}
+use Rattle.std.proofs.lemmas.Bool.{lt-ltb, and_parts, and_from}
 use Rattle.sv_errors.specs.ErrorQueue.{is_any}
 use Rattle.sv_scan.specs.Condition.{bit}
 
@@ -21,3 +21,13 @@ bit_is k false = refl
 pub any_is : (places : List ℕ) → nat_lt 0 (length places) ≡ is_any places
 any_is [] = refl
 any_is (place ∷ places) = lt-ltb 0 (suc (length places)) (omega arith)
+
+-- both of two
+pub and_both : (a b : Bool) → ((a && b) ≡ true) ↔ ((b ≡ true) × (a ≡ true))
+and_both a true = ((λ h. (refl, (and_parts a true h).0)), (λ h. and_from a true h.1 refl))
+and_both a false = ((λ h. absurd (let none = (and_parts a false h).1 in cc)), (λ h. absurd (let none = h.0 in cc)))
+
+-- one and not the other
+pub and_not : (a b : Bool) → ((a && not b) ≡ true) ↔ ((b ≡ false) × (a ≡ true))
+and_not a true = ((λ h. absurd (let none = (and_parts a false h).1 in cc)), (λ h. absurd (let none = h.0 in cc)))
+and_not a false = ((λ h. (refl, (and_parts a true h).0)), (λ h. and_from a true h.1 refl))

@@ -1,3 +1,14 @@
 pub mod Booleans
 pub mod OneStatus
 pub mod Compared
+pub mod Projected
+pub mod Registered
+pub mod SameWords
+pub mod SameEvents
+pub mod Completion
+pub mod Bits
+pub mod SameStandard
+pub mod SameSummaries
+pub mod NothingAtPoll
+pub mod SameRequests
+pub mod AlwaysTold

@@ -5,3 +5,4 @@ pub mod Event
 pub mod Standard
 pub mod StatusByte
 pub mod Inside
+pub mod Laws

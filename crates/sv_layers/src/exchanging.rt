@@ -3,8 +3,7 @@
 ghost use Rattle.std.specs.Prelude.{◌≡◌, ◌+◌, ◌*◌, ◌<◌, ◌≤◌, List, ◌∷◌, length, IsTrue, if◌then◌else◌};
 ghost use Rattle.sv_exchange.specs.Exchange.{Accepted, TextDropped, Overran, UnitDone, Answered, AnswersDropped, Finished, Interrupted, ResponseRead, OverrunDue, InterruptDue, FinishDue, answers, fits_response};
 ghost use Rattle.sv_exchange.specs.Contents.{empty, is_open, shown_by, next_of, IsUnitDue, may_respond, work_of};
-ghost use Rattle.sv_layers.specs.Act.{Act, Exchanged, Purged};
-ghost use Rattle.sv_layers.specs.Inside.Seen.{seen};
+ghost use Rattle.sv_layers.specs.Act.{Act, Exchanged, Purged, exchange_acts};
 ghost use Rattle.sv_layers.specs.Inside.Kept.{StandsFor, Happens};
 
 use crate::layers::Layers;
@@ -89,7 +88,7 @@ impl<A: Allocator> Layers<A> {
     pub fn respond(&mut self, answer: &[u8]) -> Response
         requires { IsTrue (may_respond self.old.exchange) }
         ensures fits { (log : List Act) → StandsFor self.old log
-            → result.fits ≡ fits_response (answers (seen log).exchange) answer.now }
+            → result.fits ≡ fits_response (answers (exchange_acts log)) answer.now }
         ensures happens { (log : List Act) → StandsFor self.old log
             → Happens self.new result.raised (Exchanged (if result.fits then Answered answer.now else
             AnswersDropped) ∷ log) }

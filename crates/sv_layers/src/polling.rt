@@ -2,10 +2,9 @@
 
 ghost use Rattle.std.specs.Prelude.{◌≡◌, ◌↔◌, ℕ, List, ◌∷◌};
 ghost use Rattle.std.specs.Int.{bit_at};
-ghost use Rattle.sv_status.specs.declared.status_byte.StatusAct.{StatusAct};
-ghost use Rattle.sv_status.specs.StatusByte.{StatusBit};
 ghost use Rattle.sv_layers.specs.Act.{Act, Polled};
-ghost use Rattle.sv_layers.specs.Inside.Kept.{IsStatus, StandsFor, Happens};
+ghost use Rattle.sv_layers.specs.StatusByte.{PolledBit};
+ghost use Rattle.sv_layers.specs.Inside.Kept.{StandsFor, Happens};
 
 use crate::layers::Layers;
 use std::alloc::Allocator;
@@ -22,8 +21,8 @@ pub struct Poll {
 impl<A: Allocator> Layers<A> {
     /// Polls the status byte, which ends a request for service (IEEE 488.2, 11.2.1).
     pub fn poll(&mut self) -> Poll
-        ensures status { (log : List Act) → StandsFor self.old log → (told : List StatusAct)
-            → IsStatus log told → (k : ℕ) → (bit_at result.status k ≡ 1) ↔ StatusBit k told }
+        ensures status { (log : List Act) → StandsFor self.old log
+            → (k : ℕ) → (bit_at result.status k ≡ 1) ↔ PolledBit k log }
         ensures happens { (log : List Act) → StandsFor self.old log
             → Happens self.new result.raised (Polled ∷ log) }
         ensures exchange { self.new.exchange ≡ self.old.exchange }

@@ -1,17 +1,13 @@
-use Rattle.std.proofs.Common.{rules, refl, subst, ◌≡◌, List}
-use Rattle.std.specs.Prelude.{◌↔◌}
-use Rattle.std.specs.Int.{bit_at}
-use Rattle.sv_status.specs.declared.status_byte.StatusAct.{StatusAct}
-use Rattle.sv_status.specs.StatusByte.{StatusBit}
+use Rattle.std.proofs.Common.{rules, refl}
+use Rattle.sv_errors.proofs.Since.{then_same}
 use Rattle.sv_layers.specs.Act.{Polled}
-use Rattle.sv_layers.proofs.OneStatus.{one_status}
+use Rattle.sv_layers.proofs.SameRequests.{same_status}
 use Rattle.sv_layers.proofs.layers.Layers.poll.Goals as goal
 
 pub returns-clause-status : goal.returns-clause-status
-returns-clause-status g c = λ log h told are k.
+returns-clause-status g c = λ log h k.
     let j = rw (← c.self.view_is) at h.joined in
-    subst (λ (acts : List StatusAct). (bit_at c.poll-status.result k ≡ 1) ↔ StatusBit k acts) (one_status log h.told told h.are are)
-    (c.poll-status.ensures.answer h.told j.status k)
+    then_same (c.poll-status.ensures.answer h.told j.status k) (same_status log h.told h.are k).0
 
 pub returns-clause-happens : goal.returns-clause-happens
 returns-clause-happens g c = λ log h.

@@ -1,0 +1,114 @@
+-- Whether an `*OPC` waits, and whether it completes at an act, as it is seen and as the log tells.
+use Rattle.std.proofs.Common.{◌≡◌, Bool, true, false, List, [], ◌∷◌, refl, ap, ◌∙◌, subst, sym, ◌⊎◌, inl, inr}
+use Rattle.std.specs.Prelude.{◌↔◌, not, ◌&&◌}
+use Rattle.sv_errors.proofs.Since.{since_unique, step_kept, step_same, step_ended, then_same}
+use Rattle.sv_scan.specs.declared.acts.ScanAct.{ScanAct}
+use Rattle.sv_scan.specs.declared.acts.ScanAct.TheVariants.{Input, Configure, Init, Abort, Reset, Trigger, Sample}
+use Rattle.sv_scan.specs.Scan.{state}
+use Rattle.sv_scan.specs.Counted.{kept, is_idle as idle_state}
+use Rattle.sv_layers.specs.Act.{Act, Exchanged, Purged, Scanned, Held, Reported, EntryTaken, Cleared, Preset, OpcAsked, StandardRead, StandardEnabled, EventRead, Enabled, RiseSet, FallSet, ServiceEnabled, Polled}
+use Rattle.sv_layers.specs.Condition.{is_idle}
+use Rattle.sv_layers.specs.Standard.{IsAsked, IsPending, Waits, Completes, cancels}
+use Rattle.sv_layers.specs.Inside.Seen.{Seen, begun, compared, resets, idles, seen}
+use Rattle.sv_layers.specs.Laws.{SameWaiting, SameCompletion}
+use Rattle.sv_layers.proofs.Booleans.{and_both, and_not}
+use Rattle.sv_layers.proofs.Projected.{begun_projects, projected, ended_others}
+
+-- what nothing happens to is as before
+unchanged : {P : Type 0} → P ↔ P
+unchanged = ((λ p. p), (λ p. p))
+
+-- a reset cancels an `*OPC`, and no other act of the scanner does
+scanned_waits : (act : ScanAct) (log : List Act) (b : Bool)
+    → ((b && not (resets act)) ≡ true) ↔ ((cancels (Scanned act) ≡ false) × (IsAsked (Scanned act ∷ log) ⊎ (b ≡ true)))
+scanned_waits (Input channel microvolts) log b = step_same refl (λ none. none) (then_same (and_not b false) ((λ h. h.1), (λ e. (refl, e))))
+scanned_waits (Configure setting) log b = step_same refl (λ none. none) (then_same (and_not b false) ((λ h. h.1), (λ e. (refl, e))))
+scanned_waits Init log b = step_same refl (λ none. none) (then_same (and_not b false) ((λ h. h.1), (λ e. (refl, e))))
+scanned_waits Abort log b = step_same refl (λ none. none) (then_same (and_not b false) ((λ h. h.1), (λ e. (refl, e))))
+scanned_waits Reset log b = step_ended (λ e. absurd cc) (λ e. absurd (let h = (and_not b true).0 e in cc))
+scanned_waits (Trigger source) log b = step_same refl (λ none. none) (then_same (and_not b false) ((λ h. h.1), (λ e. (refl, e))))
+scanned_waits Sample log b = step_same refl (λ none. none) (then_same (and_not b false) ((λ h. h.1), (λ e. (refl, e))))
+
+-- before the conditions are compared
+begun_waits : (act : Act) (log : List Act) (at : Seen)
+    → ((begun act at).waits ≡ true) ↔ ((cancels act ≡ false) × (IsAsked (act ∷ log) ⊎ (at.waits ≡ true)))
+begun_waits (Exchanged act) log at = step_same refl (λ none. none) unchanged
+begun_waits Purged log at = step_ended (λ e. absurd cc) (λ e. absurd cc)
+begun_waits (Scanned act) log at = scanned_waits act log at.waits
+begun_waits (Held awaited) log at = step_same refl (λ none. none) unchanged
+begun_waits (Reported code) log at = step_same refl (λ none. none) unchanged
+begun_waits EntryTaken log at = step_same refl (λ none. none) unchanged
+begun_waits Cleared log at = step_ended (λ e. absurd cc) (λ e. absurd cc)
+begun_waits Preset log at = step_same refl (λ none. none) unchanged
+begun_waits OpcAsked log at = step_kept refl ((λ e. inl tt), (λ h. refl))
+begun_waits StandardRead log at = step_same refl (λ none. none) unchanged
+begun_waits (StandardEnabled mask) log at = step_same refl (λ none. none) unchanged
+begun_waits (EventRead name) log at = step_same refl (λ none. none) unchanged
+begun_waits (Enabled name mask) log at = step_same refl (λ none. none) unchanged
+begun_waits (RiseSet name mask) log at = step_same refl (λ none. none) unchanged
+begun_waits (FallSet name mask) log at = step_same refl (λ none. none) unchanged
+begun_waits (ServiceEnabled mask) log at = step_same refl (λ none. none) unchanged
+begun_waits Polled log at = step_same refl (λ none. none) unchanged
+
+-- an `*OPC` cancels none
+asked_keeps : (act : Act) (log : List Act) → IsAsked (act ∷ log) → cancels act ≡ false
+asked_keeps (Exchanged act) log asked = refl
+asked_keeps Purged log asked = absurd asked
+asked_keeps (Scanned act) log asked = absurd asked
+asked_keeps (Held awaited) log asked = refl
+asked_keeps (Reported code) log asked = refl
+asked_keeps EntryTaken log asked = refl
+asked_keeps Cleared log asked = absurd asked
+asked_keeps Preset log asked = refl
+asked_keeps OpcAsked log asked = refl
+asked_keeps StandardRead log asked = refl
+asked_keeps (StandardEnabled mask) log asked = refl
+asked_keeps (EventRead name) log asked = refl
+asked_keeps (Enabled name mask) log asked = refl
+asked_keeps (RiseSet name mask) log asked = refl
+asked_keeps (FallSet name mask) log asked = refl
+asked_keeps (ServiceEnabled mask) log asked = refl
+asked_keeps Polled log asked = refl
+
+-- whether no measurement is under way where an act began
+begun_idle : (act : Act) (log : List Act) → idles (begun act (seen log)) ≡ is_idle (act ∷ log)
+begun_idle act log = ap (λ (acts : List ScanAct). idle_state (state (kept acts))) (begun_projects act log (seen log) (projected log)).2
+
+seen_waits : (act : Act) (log : List Act) → (seen (act ∷ log)).waits ≡ ((begun act (seen log)).waits && not (is_idle (act ∷ log)))
+seen_waits act log = ap (λ (at : Seen). at.waits) (ended_others act (compared (begun act (seen log))))
+    ∙ ap (λ (b : Bool). (begun act (seen log)).waits && not b) (begun_idle act log)
+
+waits_step : (act : Act) (log : List Act)
+    → ((seen (act ∷ log)).waits ≡ true) ↔ (IsPending (act ∷ log) × (IsAsked (act ∷ log) ⊎ ((seen log).waits ≡ true)))
+waits_step act log =
+    let both = and_not (begun act (seen log)).waits (is_idle (act ∷ log)) in
+    let began = begun_waits act log (seen log) in (
+      (λ e. let h = both.0 (sym (seen_waits act log) ∙ e) in let w = began.0 h.1 in ((h.0, w.0), w.1)),
+      (λ h. seen_waits act log ∙ both.1 (h.0.0, began.1 (h.0.1, h.1))),
+    )
+
+pub same_waiting : SameWaiting
+same_waiting = since_unique IsAsked IsPending (λ log. (seen log).waits ≡ true) ((λ e. absurd cc), (λ h. absurd h.0)) waits_step
+
+-- whether an `*OPC` completes at an act
+abbrev pub completes : Act → List Act → Bool
+completes act before = (begun act (seen before)).waits && idles (begun act (seen before))
+
+pub completes_is : (act : Act) (before : List Act) → (completes act before ≡ true) ↔ Completes (act ∷ before)
+completes_is act before =
+    let both = and_both (begun act (seen before)).waits (idles (begun act (seen before))) in
+    let began = begun_waits act before (seen before) in
+    let idle = begun_idle act before in
+    let waits = same_waiting before in (
+      (λ e.
+          let h = both.0 e in
+          let w = began.0 h.1 in
+          (sym idle ∙ h.0, elim w.1 [ inl asked ↦ inl asked | inr waited ↦ inr (waits.0 waited, w.0) ])),
+      (λ h. both.1 (idle ∙ h.0, elim h.1 [
+        | inl asked ↦ began.1 (asked_keeps act before asked, inl asked)
+        | inr waited ↦ began.1 (waited.1, inr (waits.1 waited.0))
+      ])),
+    )
+
+pub same_completion : SameCompletion
+same_completion act before = (completes act before, refl, completes_is act before)

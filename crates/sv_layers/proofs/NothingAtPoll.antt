@@ -1,0 +1,47 @@
+-- A poll changes nothing that the status byte sums up, so it gives no reason for service.
+use Rattle.std.proofs.Common.{◌≡◌, ℕ, true, false, List, [], ◌∷◌, ◌⊎◌, inl, inr, sym, ◌∙◌}
+use Rattle.std.specs.Prelude.{◌↔◌}
+use Rattle.std.specs.Int.{bit_at}
+use Rattle.sv_errors.proofs.Since.{since_empty, since_step, since_same}
+use Rattle.sv_status.specs.declared.register_name.RegisterName.{RegisterName}
+use Rattle.sv_status.specs.declared.register_name.RegisterName.TheVariants.{Operation, Questionable}
+use Rattle.sv_status.proofs.Registers.{no_change}
+use Rattle.sv_layers.specs.Act.{Act, Polled}
+use Rattle.sv_layers.specs.Condition.{condition}
+use Rattle.sv_layers.specs.Event.{Passes, NotCleared, EventStands, Summary}
+use Rattle.sv_layers.specs.Standard.{IsAsked, IsPending, Waits, Completes, Occurs, Stands, NotCleared as StandardNotCleared, Summary as StandardSummary}
+use Rattle.sv_layers.specs.StatusByte.{SummaryBit, Asks}
+
+no_pass : (name : RegisterName) (k : ℕ) (log : List Act) → Passes name k (Polled ∷ log) → ⊥
+no_pass Operation k log = no_change (condition Operation log) k _ _
+no_pass Questionable k log = no_change (condition Questionable log) k _ _
+
+polled_summary : (name : RegisterName) (log : List Act) → Summary name (Polled ∷ log) → Summary name log
+polled_summary name log s = (s.0, (since_same (Passes name s.0) (NotCleared name) Polled log tt (no_pass name s.0 log)).0 s.1, s.2)
+
+-- an `*OPC` that waits isn't at an idle place
+no_completion : (log : List Act) → Completes (Polled ∷ log) → ⊥
+no_completion [] c = elim c.1 [ inl asked ↦ asked | inr waited ↦ ((since_empty IsAsked IsPending).0 waited.0).0 ]
+no_completion (act ∷ log) c = elim c.1 [
+  | inl asked ↦ asked
+  | inr waited ↦ absurd (let pending = ((since_step IsAsked IsPending act log).0 waited.0).0.0 in let both = sym pending ∙ c.0 in cc)
+]
+
+polled_standard : (log : List Act) → StandardSummary (Polled ∷ log) → StandardSummary log
+polled_standard log s = (s.0, (since_same (Occurs s.0) StandardNotCleared Polled log tt (λ occurs. no_completion log occurs.1)).0 s.1, s.2)
+
+-- What asks behind a poll asked before it.
+pub polled_asks : (k : ℕ) (log : List Act) → Asks k (Polled ∷ log) → Asks k log
+polled_asks k log asks = (
+  elim asks.0 [
+    | inl seven ↦ inl (seven.0, polled_summary Operation log seven.1)
+    | inr rest ↦ inr (elim rest [
+      | inl five ↦ inl (five.0, polled_standard log five.1)
+      | inr rest ↦ inr (elim rest [
+        | inl four ↦ inl four
+        | inr rest ↦ inr (elim rest [ inl three ↦ inl (three.0, polled_summary Questionable log three.1) | inr two ↦ inr two ])
+      ])
+    ])
+  ],
+  asks.1,
+)

@@ -1,0 +1,163 @@
+-- Requests for service and the bits of the status byte, as they are told and as the log tells.
+use Rattle.std.proofs.Common.{◌≡◌, ◌≢◌, ℕ, List, [], ◌∷◌, refl, ap, sym, subst, ◌∙◌, ◌⊎◌, inl, inr, arith}
+use Rattle.std.specs.Prelude.{◌↔◌}
+use Rattle.std.specs.Int.{bit_at}
+use Rattle.sv_errors.proofs.Since.{since_empty, since_step, since_ended}
+use Rattle.sv_status.specs.declared.status_byte.StatusAct.{StatusAct}
+use Rattle.sv_status.specs.declared.status_byte.StatusAct.TheVariants.{Update, Poll}
+use Rattle.sv_status.specs.StatusByte as status
+use Rattle.sv_status.proofs.StatusBytes.{request-none, request-updated, request-polled}
+use Rattle.sv_layers.specs.Act.{Act, Exchanged, Purged, Scanned, Held, Reported, EntryTaken, Cleared, Preset, OpcAsked, StandardRead, StandardEnabled, EventRead, Enabled, RiseSet, FallSet, ServiceEnabled, Polled}
+use Rattle.sv_layers.specs.StatusByte.{SummaryBit, service, Asks, Master, Reason, Lasts, Request, IsRaised}
+use Rattle.sv_layers.specs.Inside.Seen.{seen}
+use Rattle.sv_layers.specs.Inside.Kept.{IsSummary, IsStatus, own_status}
+use Rattle.sv_layers.specs.Laws.{SameRequests, SameStatus}
+use Rattle.sv_layers.proofs.Projected.{projected}
+use Rattle.sv_layers.proofs.SameSummaries.{same_summaries, no_summary}
+use Rattle.sv_layers.proofs.NothingAtPoll.{polled_asks}
+
+-- an act that is no poll: it isn't told of itself, and a request lasts at it by the master summary alone
+abbrev IsOther : Act → Type 0
+IsOther act = ((told : List StatusAct) → own_status act told ≡ told) × ((log : List Act) → Lasts (act ∷ log) ↔ Master (act ∷ log))
+
+-- what is so of a poll and of every other act is so
+by_kind : (P : Act → Type 0) → P Polled → ((act : Act) → IsOther act → P act) → (act : Act) → P act
+by_kind P polled other (Exchanged act) = other _ ((λ told. refl), (λ log. ((λ m. m), (λ m. m))))
+by_kind P polled other Purged = other _ ((λ told. refl), (λ log. ((λ m. m), (λ m. m))))
+by_kind P polled other (Scanned act) = other _ ((λ told. refl), (λ log. ((λ m. m), (λ m. m))))
+by_kind P polled other (Held awaited) = other _ ((λ told. refl), (λ log. ((λ m. m), (λ m. m))))
+by_kind P polled other (Reported code) = other _ ((λ told. refl), (λ log. ((λ m. m), (λ m. m))))
+by_kind P polled other EntryTaken = other _ ((λ told. refl), (λ log. ((λ m. m), (λ m. m))))
+by_kind P polled other Cleared = other _ ((λ told. refl), (λ log. ((λ m. m), (λ m. m))))
+by_kind P polled other Preset = other _ ((λ told. refl), (λ log. ((λ m. m), (λ m. m))))
+by_kind P polled other OpcAsked = other _ ((λ told. refl), (λ log. ((λ m. m), (λ m. m))))
+by_kind P polled other StandardRead = other _ ((λ told. refl), (λ log. ((λ m. m), (λ m. m))))
+by_kind P polled other (StandardEnabled mask) = other _ ((λ told. refl), (λ log. ((λ m. m), (λ m. m))))
+by_kind P polled other (EventRead name) = other _ ((λ told. refl), (λ log. ((λ m. m), (λ m. m))))
+by_kind P polled other (Enabled name mask) = other _ ((λ told. refl), (λ log. ((λ m. m), (λ m. m))))
+by_kind P polled other (RiseSet name mask) = other _ ((λ told. refl), (λ log. ((λ m. m), (λ m. m))))
+by_kind P polled other (FallSet name mask) = other _ ((λ told. refl), (λ log. ((λ m. m), (λ m. m))))
+by_kind P polled other (ServiceEnabled mask) = other _ ((λ told. refl), (λ log. ((λ m. m), (λ m. m))))
+by_kind P polled other Polled = polled
+
+-- the summary bits and the enable that were told last
+told_bits : (log : List Act) (told : List StatusAct) → IsStatus log told → (k : ℕ) → (bit_at (status.bits told) k ≡ 1) ↔ SummaryBit k log
+told_bits [] told is k = rw is (same_summaries 0 [] no_summary k)
+told_bits (act ∷ log) told (word, before, summary, is, made) k = rw made (same_summaries word (act ∷ log) summary k)
+
+told_enable : (log : List Act) (told : List StatusAct) → IsStatus log told → status.enable told ≡ service log
+told_enable [] told is = rw is refl
+told_enable (act ∷ log) told (word, before, summary, is, made) = rw made (projected (act ∷ log)).3
+
+-- bit 6 is no summary bit
+not_six : (k : ℕ) (log : List Act) → SummaryBit k log → k ≢ 6
+not_six k log bit six = elim bit [
+  | inl h ↦ absurd (let e = h.0 in omega arith)
+  | inr rest ↦ elim rest [
+    | inl h ↦ absurd (let e = h.0 in omega arith)
+    | inr rest ↦ elim rest [
+      | inl h ↦ absurd (let e = h.0 in omega arith)
+      | inr rest ↦ elim rest [ inl h ↦ absurd (let e = h.0 in omega arith) | inr h ↦ absurd (let e = h.0 in omega arith) ]
+    ]
+  ]
+]
+
+told_asks : (log : List Act) (told : List StatusAct) → IsStatus log told → (k : ℕ) → status.AsksAt k told ↔ Asks k log
+told_asks log told is k =
+    let bits = told_bits log told is k in
+    let enable = told_enable log told is in (
+      (λ h. (bits.0 h.1, ap (λ (w : ℕ). bit_at w k) (sym enable) ∙ h.2)),
+      (λ h. (not_six k log h.0, bits.1 h.0, ap (λ (w : ℕ). bit_at w k) enable ∙ h.1)),
+    )
+
+told_master : (log : List Act) (told : List StatusAct) → IsStatus log told → status.Master told ↔ Master log
+told_master log told is =
+    ((λ m. (m.0, (told_asks log told is m.0).0 m.1)), (λ m. (m.0, (told_asks log told is m.0).1 m.1)))
+
+-- a poll ends a request
+polled_ended : (log : List Act) → Request (Polled ∷ log) → ⊥
+polled_ended log = since_ended Reason Lasts Polled log (λ lasts. lasts)
+
+-- the request behind an act by that before it
+abbrev RequestStep : Act → Type 0
+RequestStep act = (log : List Act) (word : ℕ) (before : List StatusAct) → IsSummary word (seen (act ∷ log)) → IsStatus log before
+    → status.Request before ↔ Request log
+    → status.Request (Update word (seen (act ∷ log)).service ∷ own_status act before) ↔ Request (act ∷ log)
+
+polled_step : RequestStep Polled
+polled_step log word before summary is same =
+    let now = told_asks (Polled ∷ log) _ (word, before, summary, is, refl) in
+    let was = told_asks log before is in (
+      (λ s. elim ((request-updated word (seen (Polled ∷ log)).service (Poll ∷ before)).0 s).1 [
+        | inl r ↦ absurd (r.2 ((was r.0).1 (polled_asks r.0 log ((now r.0).0 r.1))))
+        | inr q ↦ absurd (request-polled before q)
+      ]),
+      (λ s. absurd (polled_ended log s)),
+    )
+
+other_step : (act : Act) → IsOther act → RequestStep act
+other_step act other log word before summary is same =
+    let mask = (seen (act ∷ log)).service in
+    let made : Update word mask ∷ before ≡ Update word mask ∷ own_status act before =
+    ap (λ (acts : List StatusAct). Update word mask ∷ acts) (sym (other.0 before)) in
+    let now = told_asks (act ∷ log) (Update word mask ∷ before) (word, before, summary, is, made) in
+    let was = told_asks log before is in
+    let law = request-updated word mask before in
+    let step = since_step Reason Lasts act log in
+    let lasts = other.1 log in
+    rw (other.0 before) (
+      (λ s.
+          let h = law.0 s in
+          step.1 (
+            lasts.1 (h.0.0, (now h.0.0).0 h.0.1),
+            elim h.1 [ inl r ↦ inl (r.0, (now r.0).0 r.1, λ a. r.2 ((was r.0).1 a)) | inr q ↦ inr (same.0 q) ],
+          )),
+      (λ s.
+          let h = step.0 s in
+          let m = lasts.0 h.0 in
+          law.1 (
+            (m.0, (now m.0).1 m.1),
+            elim h.1 [ inl r ↦ inl (r.0, (now r.0).1 r.1, λ a. r.2 ((was r.0).0 a)) | inr q ↦ inr (same.1 q) ],
+          )),
+    )
+
+pub same_requests : SameRequests
+same_requests [] told is =
+    rw is ((λ s. absurd (request-none s)), (λ s. absurd ((since_empty Reason Lasts).0 s).0))
+same_requests (act ∷ log) told (word, before, summary, is, made) =
+    rw made (by_kind RequestStep polled_step other_step act log word before summary is (same_requests log before is))
+
+-- whether it is raised, by whether it stood before
+abbrev RaisedStep : Act → Type 0
+RaisedStep act = (log : List Act) (now : StatusAct) (before : List StatusAct) → status.Request (now ∷ own_status act before) ↔ Request (act ∷ log)
+    → status.Request before ↔ Request log
+    → status.IsRaised (now ∷ own_status act before) ↔ IsRaised (act ∷ log)
+
+polled_raised : RaisedStep Polled
+polled_raised log now before stands same =
+    ((λ r. absurd (polled_ended log (stands.0 r.0))), (λ r. absurd (polled_ended log r.0)))
+
+other_raised : (act : Act) → IsOther act → RaisedStep act
+other_raised act other log now before stands same = (
+  (λ r. (stands.0 r.0, λ q. r.1 (rw (other.0 before) (same.1 q)))),
+  (λ r. (stands.1 r.0, λ q. r.1 (same.0 (rw (other.0 before) at q)))),
+)
+
+pub told_raised : (log : List Act) (told : List StatusAct) → IsStatus log told → status.IsRaised told ↔ IsRaised log
+told_raised [] told is = rw is ((λ r. absurd r), (λ r. absurd r))
+told_raised (act ∷ log) told (word, before, summary, is, made) =
+    rw made (by_kind RaisedStep polled_raised other_raised act log _ before
+    (same_requests (act ∷ log) _ (word, before, summary, is, refl)) (same_requests log before is))
+
+-- the status byte, where bit 6 tells a fact
+shown : {B P Q : Type 0} (k : ℕ) (log : List Act) → B ↔ SummaryBit k log → P ↔ Q
+    → (((k ≢ 6) × B) ⊎ ((k ≡ 6) × P)) ↔ (SummaryBit k log ⊎ ((k ≡ 6) × Q))
+shown k log bit same = (
+  (λ h. elim h [ inl other ↦ inl (bit.0 other.1) | inr six ↦ inr (six.0, same.0 six.1) ]),
+  (λ h. elim h [ inl other ↦ inl (not_six k log other, bit.1 other) | inr six ↦ inr (six.0, same.1 six.1) ]),
+)
+
+pub same_status : SameStatus
+same_status log told is k =
+    let bits = told_bits log told is k in
+    (shown k log bits (same_requests log told is), shown k log bits (told_master log told is))

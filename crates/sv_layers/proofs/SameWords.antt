@@ -1,0 +1,94 @@
+-- Condition, filters and enables, as they are seen and as the log has them.
+use Rattle.std.proofs.Common.{◌≡◌, ℕ, Bool, true, false, List, [], ◌∷◌, refl, ap, ◌∙◌, subst, sym}
+use Rattle.std.specs.Prelude.{◌%◌, ◌^◌, if◌then◌else◌}
+use Rattle.std.proofs.Math.Nat.{mod-mod}
+use Rattle.sv_status.specs.declared.register_name.RegisterName.{RegisterName}
+use Rattle.sv_status.specs.declared.register_name.RegisterName.TheVariants.{Operation, Questionable}
+use Rattle.sv_status.specs.declared.register.RegisterAct.{RegisterAct}
+use Rattle.sv_status.specs.declared.register.RegisterAct.TheVariants.{Condition, SetFilter, SetEnable, ReadEvent, Clear}
+use Rattle.sv_status.specs.declared.register.RegisterAct.TheVariants as register
+use Rattle.sv_status.specs.Register as register_words
+use Rattle.sv_status.specs.Register.{masked}
+use Rattle.sv_layers.specs.Act.{Act, Exchanged, Purged, Scanned, Held, Reported, EntryTaken, Cleared, Preset, OpcAsked, StandardRead, StandardEnabled, EventRead, Enabled, RiseSet, FallSet, ServiceEnabled, Polled}
+use Rattle.sv_layers.specs.Condition.{condition}
+use Rattle.sv_layers.specs.Event.{is_same, rise, fall, enable}
+use Rattle.sv_layers.specs.Inside.Seen.{seen, register_acts}
+use Rattle.sv_layers.specs.Laws.{SameWords}
+use Rattle.sv_layers.proofs.Registered.{own, seen_register}
+
+-- the words that a register has behind its acts
+abbrev Words : List RegisterAct → ℕ → ℕ → ℕ → ℕ → Type 0
+Words acts c r f e = (register_words.condition acts ≡ c) × (register_words.rise acts ≡ r) × (register_words.fall acts ≡ f)
+    × (register_words.enable acts ≡ e)
+
+abbrev WordsOf : RegisterName → List RegisterAct → List Act → Type 0
+WordsOf name acts log = Words acts (condition name log) (rise name log) (fall name log) (enable name log)
+
+-- a filter has no bit 15
+rise_masked : (acts : List RegisterAct) → masked (register_words.rise acts) ≡ register_words.rise acts
+rise_masked [] = refl
+rise_masked (Condition word ∷ acts) = rise_masked acts
+rise_masked (SetFilter up down ∷ acts) = mod-mod up (2 ^ 15)
+rise_masked (SetEnable word ∷ acts) = rise_masked acts
+rise_masked (ReadEvent ∷ acts) = rise_masked acts
+rise_masked (register.Preset ∷ acts) = refl
+rise_masked (Clear ∷ acts) = rise_masked acts
+
+fall_masked : (acts : List RegisterAct) → masked (register_words.fall acts) ≡ register_words.fall acts
+fall_masked [] = refl
+fall_masked (Condition word ∷ acts) = fall_masked acts
+fall_masked (SetFilter up down ∷ acts) = mod-mod down (2 ^ 15)
+fall_masked (SetEnable word ∷ acts) = fall_masked acts
+fall_masked (ReadEvent ∷ acts) = fall_masked acts
+fall_masked (register.Preset ∷ acts) = refl
+fall_masked (Clear ∷ acts) = fall_masked acts
+
+-- an act of the register that is named, or of the other
+read_words : (b : Bool) (acts : List RegisterAct) (c r f e : ℕ) → Words acts c r f e → Words (if b then ReadEvent ∷ acts else acts) c r f e
+read_words true acts c r f e h = h
+read_words false acts c r f e h = h
+
+enabled_words : (b : Bool) (mask : ℕ) (acts : List RegisterAct) (c r f e : ℕ) → Words acts c r f e
+    → Words (if b then SetEnable mask ∷ acts else acts) c r f (if b then masked mask else e)
+enabled_words true mask acts c r f e h = (h.0, h.1, h.2, refl)
+enabled_words false mask acts c r f e h = h
+
+rise_words : (b : Bool) (mask : ℕ) (acts : List RegisterAct) (c r f e : ℕ) → Words acts c r f e
+    → Words (if b then SetFilter mask (register_words.fall acts) ∷ acts else acts) c (if b then masked mask else r) f e
+rise_words true mask acts c r f e h = (h.0, refl, fall_masked acts ∙ h.2, h.3)
+rise_words false mask acts c r f e h = h
+
+fall_words : (b : Bool) (mask : ℕ) (acts : List RegisterAct) (c r f e : ℕ) → Words acts c r f e
+    → Words (if b then SetFilter (register_words.rise acts) mask ∷ acts else acts) c r (if b then masked mask else f) e
+fall_words true mask acts c r f e h = (h.0, rise_masked acts ∙ h.1, refl, h.3)
+fall_words false mask acts c r f e h = h
+
+-- what a register has behind a condition, and behind what an act does to the register itself
+own_words : (name : RegisterName) (act : Act) (log : List Act) (acts : List RegisterAct)
+    → Words acts (condition name (act ∷ log)) (rise name log) (fall name log) (enable name log)
+    → WordsOf name (own name act acts) (act ∷ log)
+own_words name (Exchanged act) log acts h = h
+own_words name Purged log acts h = h
+own_words name (Scanned act) log acts h = h
+own_words name (Held awaited) log acts h = h
+own_words name (Reported code) log acts h = h
+own_words name EntryTaken log acts h = h
+own_words name Cleared log acts h = h
+own_words name Preset log acts h = (h.0, refl, refl, refl)
+own_words name OpcAsked log acts h = h
+own_words name StandardRead log acts h = h
+own_words name (StandardEnabled mask) log acts h = h
+own_words name (EventRead other) log acts h = read_words (is_same name other) acts _ _ _ _ h
+own_words name (Enabled other mask) log acts h = enabled_words (is_same name other) mask acts _ _ _ _ h
+own_words name (RiseSet other mask) log acts h = rise_words (is_same name other) mask acts _ _ _ _ h
+own_words name (FallSet other mask) log acts h = fall_words (is_same name other) mask acts _ _ _ _ h
+own_words name (ServiceEnabled mask) log acts h = h
+own_words name Polled log acts h = h
+
+pub same_words : SameWords
+same_words Operation [] = (refl, refl, refl, refl)
+same_words Questionable [] = (refl, refl, refl, refl)
+same_words name (act ∷ log) =
+    let h = same_words name log in
+    subst (λ (acts : List RegisterAct). WordsOf name acts (act ∷ log)) (sym (seen_register name act log))
+    (own_words name act log (Condition (condition name (act ∷ log)) ∷ register_acts name (seen log)) (refl, h.1, h.2, h.3))

@@ -1,0 +1,72 @@
+-- The laws that tie what the layers see to the definitions in the words of the standards.
+use Rattle.std.specs.Prelude.{◌≡◌, ◌↔◌, ℕ, Bool, true, List, ◌∷◌}
+use Rattle.std.specs.Int.{bit_at}
+use Rattle.sv_status.specs.declared.register_name.RegisterName.{RegisterName}
+use Rattle.sv_status.specs.declared.standard_event.StandardAct.TheVariants.{Occur}
+use Rattle.sv_status.specs.declared.status_byte.StatusAct.{StatusAct}
+use Rattle.sv_status.specs.Register as register
+use Rattle.sv_status.specs.StandardEvent as standard
+use Rattle.sv_status.specs.StatusByte as status
+use Rattle.sv_scan.specs.Condition.{bit}
+use Rattle.sv_layers.specs.Act.{Act, exchange_acts, queue_acts, scan_acts}
+use Rattle.sv_layers.specs.Condition.{condition}
+use Rattle.sv_layers.specs.Event.{rise, fall, enable, EventStands}
+use Rattle.sv_layers.specs.Standard.{Waits, Completes, Stands, enable as standard_enable}
+use Rattle.sv_layers.specs.StatusByte.{service, SummaryBit, Request, IsRaised, PolledBit, MasterBit}
+use Rattle.sv_layers.specs.Inside.Seen.{seen, begun, compared, register_acts}
+use Rattle.sv_layers.specs.Inside.Kept.{IsSummary, IsStatus, RaisedAt}
+
+-- Exchange, error queue and scanner see the acts that are theirs, and the service request enable is the one that was set last.
+abbrev pub OwnActs : Type 0
+OwnActs = (log : List Act) → ((seen log).exchange ≡ exchange_acts log) × ((seen log).errors ≡ queue_acts log)
+    × ((seen log).scanner ≡ scan_acts log) × ((seen log).service ≡ service log)
+
+-- Condition, filters and enable of a status register are those of the log.
+abbrev pub SameWords : Type 0
+SameWords = (name : RegisterName) (log : List Act) → (register.condition (register_acts name (seen log)) ≡ condition name log)
+    × (register.rise (register_acts name (seen log)) ≡ rise name log) × (register.fall (register_acts name (seen log)) ≡ fall name log)
+    × (register.enable (register_acts name (seen log)) ≡ enable name log)
+
+-- The enable of the standard events is that of the log.
+abbrev pub SameEnable : Type 0
+SameEnable = (log : List Act) → standard.enable (seen log).standard ≡ standard_enable log
+
+-- A bit of a status register stands exactly if it does by the log.
+abbrev pub SameEvents : Type 0
+SameEvents = (name : RegisterName) (k : ℕ) (log : List Act)
+    → register.EventStands k (register_acts name (seen log)) ↔ EventStands name k log
+
+-- An `*OPC` waits exactly if it does by the log.
+abbrev pub SameWaiting : Type 0
+SameWaiting = (log : List Act) → ((seen log).waits ≡ true) ↔ Waits log
+
+-- Where the conditions are compared at an act, operation complete occurs exactly if an `*OPC` completes at that act.
+abbrev pub SameCompletion : Type 0
+SameCompletion = (act : Act) (before : List Act) → (completes : Bool)
+    × ((compared (begun act (seen before))).standard ≡ Occur (bit 0 completes) ∷ (begun act (seen before)).standard)
+    × ((completes ≡ true) ↔ Completes (act ∷ before))
+
+-- A standard event stands exactly if it does by the log.
+abbrev pub SameStandardEvents : Type 0
+SameStandardEvents = (k : ℕ) (log : List Act) → standard.Stands k (seen log).standard ↔ Stands k log
+
+-- A word of the summary bits of what the layers see has those of the log.
+abbrev pub SameSummaries : Type 0
+SameSummaries = (word : ℕ) (log : List Act) → IsSummary word (seen log) → (k : ℕ) → (bit_at word k ≡ 1) ↔ SummaryBit k log
+
+-- For each log there is one list of acts that the status byte is told.
+abbrev pub OneAccount : Type 0
+OneAccount = (log : List Act) → (told : List StatusAct) × IsStatus log told × ((other : List StatusAct) → IsStatus log other → other ≡ told)
+
+-- A request for service stands exactly if it does by the log.
+abbrev pub SameRequests : Type 0
+SameRequests = (log : List Act) (told : List StatusAct) → IsStatus log told → status.Request told ↔ Request log
+
+-- A request is raised at the newest act exactly if it is by the log.
+abbrev pub SameRaising : Type 0
+SameRaising = (log : List Act) → RaisedAt log ↔ IsRaised log
+
+-- A bit of the status byte is as the log tells, as a poll gives it and as `*STB?` does.
+abbrev pub SameStatus : Type 0
+SameStatus = (log : List Act) (told : List StatusAct) → IsStatus log told → (k : ℕ)
+    → (status.StatusBit k told ↔ PolledBit k log) × (status.MasterBit k told ↔ MasterBit k log)
