@@ -21,13 +21,16 @@ use Rattle.sv_layers.proofs.SameRequests.{told_raised}
 
 -- what a register keeps behind its acts
 register_kept : (acts : List RegisterAct) → (latches : register.Latches) × register.StandsFor latches acts
-register_kept [] = (record { condition = 0; rise = 32767; fall = 0; event = 0; enable = 0 }, record {
-  condition = refl;
-  rise = refl;
-  fall = refl;
-  enable = refl;
-  event = λ k. no_bits k _ (registers.event-none k);
-})
+register_kept [] = (
+  record { condition = 0; rise = 32767; fall = 0; event = 0; enable = 0 },
+  record {
+    condition = refl;
+    rise = refl;
+    fall = refl;
+    enable = refl;
+    event = λ k. no_bits k _ (registers.event-none k);
+  },
+)
 register_kept (Condition word ∷ acts) = let h = register_kept acts in (_, registers.StandsFor-condition h.0 acts word h.1)
 register_kept (SetFilter up down ∷ acts) = let h = register_kept acts in (_, registers.StandsFor-filter h.0 acts up down h.1)
 register_kept (SetEnable word ∷ acts) = let h = register_kept acts in (_, registers.StandsFor-enable h.0 acts word h.1)
@@ -53,15 +56,18 @@ standard_test acts = let h = standard_kept acts in
 
 -- a word has the summary bits
 some_summary : (at : Seen) → (word : ℕ) × IsSummary word at
-some_summary at = (_, record {
-  operates = (register_test at.operation).0;
-  happened = (standard_test at.standard).0;
-  questioned = (register_test at.questionable).0;
-  operation = (register_test at.operation).1;
-  standard = (standard_test at.standard).1;
-  questionable = (register_test at.questionable).1;
-  word_is = refl;
-})
+some_summary at = (
+  _,
+  record {
+    operates = (register_test at.operation).0;
+    happened = (standard_test at.standard).0;
+    questioned = (register_test at.questionable).0;
+    operation = (register_test at.operation).1;
+    standard = (standard_test at.standard).1;
+    questionable = (register_test at.questionable).1;
+    word_is = refl;
+  },
+)
 
 some_status : (log : List Act) → (told : List StatusAct) × IsStatus log told
 some_status [] = ([], refl)

@@ -1,5 +1,5 @@
 -- Small facts of booleans.
-use Rattle.std.proofs.Common.{◌≡◌, ℕ, zero, suc, ◌^◌, Bool, true, false, cond, List, [], ◌∷◌, length, refl, sym, nat_lt, arith}
+use Rattle.std.proofs.Common.{◌≡◌, ℕ, suc, ◌^◌, Bool, true, false, cond, List, [], ◌∷◌, length, refl, sym, nat_lt, arith}
 use Rattle.std.specs.Prelude.{◌↔◌, not, ◌&&◌}
 use Rattle.std.proofs.lemmas.Bool.{lt-ltb, and_parts, and_from}
 use Rattle.sv_errors.specs.ErrorQueue.{is_any}

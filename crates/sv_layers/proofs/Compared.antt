@@ -1,5 +1,5 @@
 -- An act that does nothing to a register itself ends where the conditions were compared.
-use Rattle.std.proofs.Common.{◌≡◌, true, List, ◌∷◌, refl}
+use Rattle.std.proofs.Common.{◌≡◌, true, refl}
 use Rattle.sv_layers.specs.Act.{Act, Exchanged, Purged, Scanned, Held, Reported, EntryTaken, Cleared, Preset, OpcAsked, StandardRead, StandardEnabled, EventRead, Enabled, RiseSet, FallSet, ServiceEnabled, Polled}
 use Rattle.sv_layers.specs.Inside.Seen.{Seen, ended, is_plain}
 

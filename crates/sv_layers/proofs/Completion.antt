@@ -1,5 +1,5 @@
 -- Whether an `*OPC` waits, and whether it completes at an act, as it is seen and as the log tells.
-use Rattle.std.proofs.Common.{◌≡◌, Bool, true, false, List, [], ◌∷◌, refl, ap, ◌∙◌, subst, sym, ◌⊎◌, inl, inr}
+use Rattle.std.proofs.Common.{◌≡◌, Bool, true, false, List, ◌∷◌, refl, ap, ◌∙◌, sym, ◌⊎◌, inl, inr}
 use Rattle.std.specs.Prelude.{◌↔◌, not, ◌&&◌}
 use Rattle.sv_errors.proofs.Since.{since_unique, step_kept, step_same, step_ended, then_same}
 use Rattle.sv_scan.specs.declared.acts.ScanAct.{ScanAct}
@@ -8,7 +8,7 @@ use Rattle.sv_scan.specs.Scan.{state}
 use Rattle.sv_scan.specs.Counted.{kept, is_idle as idle_state}
 use Rattle.sv_layers.specs.Act.{Act, Exchanged, Purged, Scanned, Held, Reported, EntryTaken, Cleared, Preset, OpcAsked, StandardRead, StandardEnabled, EventRead, Enabled, RiseSet, FallSet, ServiceEnabled, Polled}
 use Rattle.sv_layers.specs.Condition.{is_idle}
-use Rattle.sv_layers.specs.Standard.{IsAsked, IsPending, Waits, Completes, cancels}
+use Rattle.sv_layers.specs.Standard.{IsAsked, IsPending, Completes, cancels}
 use Rattle.sv_layers.specs.Inside.Seen.{Seen, begun, compared, resets, idles, seen}
 use Rattle.sv_layers.specs.Laws.{SameWaiting, SameCompletion}
 use Rattle.sv_layers.proofs.Booleans.{and_both, and_not}
@@ -104,10 +104,13 @@ completes_is act before =
           let h = both.0 e in
           let w = began.0 h.1 in
           (sym idle ∙ h.0, elim w.1 [ inl asked ↦ inl asked | inr waited ↦ inr (waits.0 waited, w.0) ])),
-      (λ h. both.1 (idle ∙ h.0, elim h.1 [
-        | inl asked ↦ began.1 (asked_keeps act before asked, inl asked)
-        | inr waited ↦ began.1 (waited.1, inr (waits.1 waited.0))
-      ])),
+      (λ h. both.1 (
+        idle ∙ h.0,
+        elim h.1 [
+          | inl asked ↦ began.1 (asked_keeps act before asked, inl asked)
+          | inr waited ↦ began.1 (waited.1, inr (waits.1 waited.0))
+        ],
+      )),
     )
 
 pub same_completion : SameCompletion

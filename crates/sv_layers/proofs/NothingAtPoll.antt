@@ -1,16 +1,14 @@
 -- A poll changes nothing that the status byte sums up, so it gives no reason for service.
-use Rattle.std.proofs.Common.{◌≡◌, ℕ, true, false, List, [], ◌∷◌, ◌⊎◌, inl, inr, sym, ◌∙◌}
-use Rattle.std.specs.Prelude.{◌↔◌}
-use Rattle.std.specs.Int.{bit_at}
+use Rattle.std.proofs.Common.{ℕ, List, [], ◌∷◌, inl, inr, sym, ◌∙◌}
 use Rattle.sv_errors.proofs.Since.{since_empty, since_step, since_same}
 use Rattle.sv_status.specs.declared.register_name.RegisterName.{RegisterName}
 use Rattle.sv_status.specs.declared.register_name.RegisterName.TheVariants.{Operation, Questionable}
 use Rattle.sv_status.proofs.Registers.{no_change}
 use Rattle.sv_layers.specs.Act.{Act, Polled}
 use Rattle.sv_layers.specs.Condition.{condition}
-use Rattle.sv_layers.specs.Event.{Passes, NotCleared, EventStands, Summary}
-use Rattle.sv_layers.specs.Standard.{IsAsked, IsPending, Waits, Completes, Occurs, Stands, NotCleared as StandardNotCleared, Summary as StandardSummary}
-use Rattle.sv_layers.specs.StatusByte.{SummaryBit, Asks}
+use Rattle.sv_layers.specs.Event.{Passes, NotCleared, Summary}
+use Rattle.sv_layers.specs.Standard.{IsAsked, IsPending, Completes, Occurs, NotCleared as StandardNotCleared, Summary as StandardSummary}
+use Rattle.sv_layers.specs.StatusByte.{Asks}
 
 no_pass : (name : RegisterName) (k : ℕ) (log : List Act) → Passes name k (Polled ∷ log) → ⊥
 no_pass Operation k log = no_change (condition Operation log) k _ _

@@ -1,5 +1,5 @@
 -- Which bits of a status register stand, as it is seen and as the log tells.
-use Rattle.std.proofs.Common.{◌≡◌, ℕ, Bool, true, false, List, [], ◌∷◌, refl, subst, sym, ◌⊎◌}
+use Rattle.std.proofs.Common.{◌≡◌, ℕ, Bool, true, false, List, [], ◌∷◌, refl, ◌⊎◌}
 use Rattle.std.specs.Prelude.{◌↔◌, if◌then◌else◌}
 use Rattle.sv_errors.proofs.Since.{since_unique, step_kept, step_ended, then_same}
 use Rattle.sv_status.specs.declared.register_name.RegisterName.{RegisterName}
@@ -10,7 +10,7 @@ use Rattle.sv_status.specs.Register as stands
 use Rattle.sv_status.proofs.Registers.{event-none, event-condition, event-read, event-cleared, event-filter, event-enable, event-preset}
 use Rattle.sv_layers.specs.Act.{Act, Exchanged, Purged, Scanned, Held, Reported, EntryTaken, Cleared, Preset, OpcAsked, StandardRead, StandardEnabled, EventRead, Enabled, RiseSet, FallSet, ServiceEnabled, Polled}
 use Rattle.sv_layers.specs.Condition.{condition}
-use Rattle.sv_layers.specs.Event.{is_same, Passes, NotCleared, EventStands}
+use Rattle.sv_layers.specs.Event.{is_same, Passes, NotCleared}
 use Rattle.sv_layers.specs.Inside.Seen.{seen, register_acts}
 use Rattle.sv_layers.specs.Laws.{SameEvents}
 use Rattle.sv_layers.proofs.Registered.{own, seen_register}

@@ -1,7 +1,6 @@
 -- Which standard events stand, and their enable, as they are seen and as the log tells.
-use Rattle.std.proofs.Common.{◌≡◌, ℕ, Bool, true, false, List, [], ◌∷◌, refl, ap, ◌∙◌, sym, subst, ◌⊎◌, inl, inr, arith}
+use Rattle.std.proofs.Common.{◌≡◌, ℕ, List, [], ◌∷◌, refl, ap, ◌∙◌, sym, ◌⊎◌, inl, inr}
 use Rattle.std.specs.Prelude.{◌↔◌}
-use Rattle.std.specs.Int.{bit_at}
 use Rattle.sv_errors.specs.declared.code.Code.{Code}
 use Rattle.sv_errors.specs.declared.error_queue.QueueAct.{QueueAct}
 use Rattle.sv_errors.specs.Code.{standard_event_of}
@@ -15,9 +14,9 @@ use Rattle.sv_status.specs.declared.standard_event.StandardAct.TheVariants as st
 use Rattle.sv_status.specs.StandardEvent as stands
 use Rattle.sv_status.proofs.StandardEvents.{stands-none, stands-occurred, stands-enable, stands-read, stands-cleared}
 use Rattle.sv_scan.specs.Condition.{bit}
-use Rattle.sv_layers.specs.Act.{Act, Exchanged, Purged, Scanned, Held, Reported, EntryTaken, Cleared, Preset, OpcAsked, StandardRead, StandardEnabled, EventRead, Enabled, RiseSet, FallSet, ServiceEnabled, Polled, queue_acts}
-use Rattle.sv_layers.specs.Standard.{Completes, Occurs, NotCleared, Stands, enable}
-use Rattle.sv_layers.specs.Inside.Seen.{Seen, begun, compared, ended, on_register, report_bits, seen}
+use Rattle.sv_layers.specs.Act.{Act, Exchanged, Purged, Scanned, Held, Reported, EntryTaken, Cleared, Preset, OpcAsked, StandardRead, StandardEnabled, EventRead, Enabled, RiseSet, FallSet, ServiceEnabled, Polled}
+use Rattle.sv_layers.specs.Standard.{Completes, Occurs, NotCleared}
+use Rattle.sv_layers.specs.Inside.Seen.{Seen, compared, on_register, report_bits, seen}
 use Rattle.sv_layers.specs.Laws.{SameEnable, SameStandardEvents}
 use Rattle.sv_layers.proofs.Bits.{bit_of}
 use Rattle.sv_layers.proofs.Projected.{projected}

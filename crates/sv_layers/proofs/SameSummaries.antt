@@ -1,5 +1,5 @@
 -- The summary bits of the status byte, as they are seen and as the log tells.
-use Rattle.std.proofs.Common.{◌≡◌, ℕ, ◌+◌, Bool, true, false, List, [], ◌∷◌, refl, ap, ◌∙◌, sym, ◌⊎◌, inl, inr, arith}
+use Rattle.std.proofs.Common.{◌≡◌, ℕ, ◌+◌, Bool, true, false, List, [], refl, ap, ◌∙◌, sym, ◌⊎◌, inl, inr, arith}
 use Rattle.std.specs.Prelude.{◌↔◌}
 use Rattle.std.specs.Int.{bit_at}
 use Rattle.std.proofs.lemmas.Nat.Bits.{bit_at-zero}
@@ -13,10 +13,9 @@ use Rattle.sv_status.specs.StandardEvent as standard
 use Rattle.sv_status.proofs.Registers.{event-none}
 use Rattle.sv_scan.specs.Condition.{bit}
 use Rattle.sv_exchange.specs.Exchange.{ExchangeAct, response, is_something}
-use Rattle.sv_layers.specs.Act.{Act, exchange_acts, queue_acts}
+use Rattle.sv_layers.specs.Act.{Act}
 use Rattle.sv_layers.specs.Event.{Summary}
 use Rattle.sv_layers.specs.Standard.{Summary as StandardSummary}
-use Rattle.sv_layers.specs.StatusByte.{SummaryBit}
 use Rattle.sv_layers.specs.Inside.Seen.{seen, register_acts}
 use Rattle.sv_layers.specs.Inside.Kept.{IsSummary}
 use Rattle.sv_layers.specs.Laws.{SameSummaries}

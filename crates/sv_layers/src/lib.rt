@@ -14,6 +14,9 @@ mod status;
 
 pub use change::{Awaited, Change};
 pub use exchanging::Response;
-pub use laws::{one_account, own_acts, same_completion, same_enable, same_events, same_raising, same_requests, same_standard_events, same_status, same_summaries, same_waiting, same_words};
+pub use laws::{
+    one_account, own_acts, same_completion, same_enable, same_events, same_raising, same_requests,
+    same_standard_events, same_status, same_summaries, same_waiting, same_words,
+};
 pub use layers::Layers;
 pub use polling::Poll;

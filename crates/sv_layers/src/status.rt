@@ -13,9 +13,13 @@ use sv_scan::State;
 
 /// The summary bits of the status byte (IEEE 488.2, 11.2.1; SCPI-1999, chapter 20).
 const OPERATION: u8 = 1 << 7;
+
 const STANDARD: u8 = 1 << 5;
+
 const AVAILABLE: u8 = 1 << 4;
+
 const QUESTIONABLE: u8 = 1 << 3;
+
 const ERRORS: u8 = 1 << 2;
 /// Operation complete, of the standard events.
 const COMPLETE: u8 = 1 << 0;
