@@ -3,8 +3,8 @@ use Rattle.std.specs.Prelude.{◌&&◌, not, Bool, true, false, List, [], ◌∷
 use Rattle.sv_errors.specs.declared.code.Code.{Code}
 use Rattle.sv_errors.specs.declared.code.Code.TheVariants.{DataOutOfRange, SettingsConflict, TriggerIgnored, InitIgnored, TriggerDeadlock}
 use Rattle.sv_scan.specs.declared.setting.Setting.{Setting}
-use Rattle.sv_scan.specs.declared.setting.Source.{Source}
-use Rattle.sv_scan.specs.declared.setting.Source.TheVariants.{Immediate, Bus, External}
+use Rattle.sv_errors.specs.declared.source.Source.{Source}
+use Rattle.sv_errors.specs.declared.source.Source.TheVariants.{Immediate, Bus, External}
 use Rattle.sv_scan.specs.declared.setting.State.{State}
 use Rattle.sv_scan.specs.declared.setting.State.TheVariants.{Idle, Waiting, Scanning}
 use Rattle.sv_scan.specs.declared.acts.ScanAct.{ScanAct}

@@ -6,6 +6,7 @@
 #![tactic(auto)]
 
 mod acts;
+mod current;
 mod possible;
 mod reading;
 mod run;
@@ -19,5 +20,6 @@ mod words;
 pub use acts::{ScanAct, ScanAnswer};
 pub use scan_list::ScanList;
 pub use scanner::Scanner;
-pub use setting::{Reading, Setting, Source, State};
+pub use setting::{Reading, Setting, State};
+pub use sv_errors::Source;
 pub use words::Conditions;

@@ -1,21 +1,11 @@
 //! What can be set, and what a scan gives.
 
 use crate::scan_list::ScanList;
-
-/// Where triggers come from.
-#[derive(Clone, Copy, Debug, PartialEq, Eq)]
-pub enum Source {
-    /// From the instrument itself, as soon as it waits for one.
-    Immediate,
-    /// From the controller.
-    Bus,
-    /// From the trigger input.
-    External,
-}
+use sv_errors::Source;
 
 /// A setting and its value. Each but [`Setting::Monitor`] and those of the limits can be changed in
 /// the idle state alone.
-#[derive(Debug, Drop)]
+#[derive(Clone, Copy, Debug)]
 pub enum Setting {
     /// The channels that a scan reads, in their order: 1 to 32 of them, each 1 to 32. At first
     /// channel 1.

@@ -5,7 +5,8 @@ ghost use Rattle.sv_scan.specs.Counted.{is_idle as idles, is_waiting as waits, i
 ghost use Rattle.sv_scan.specs.Kept.{run_state, run_complete};
 
 use crate::run::Run;
-use crate::setting::{Source, State};
+use crate::setting::State;
+use sv_errors::Source;
 
 /// The state of a measurement behind so many samples; idle without one.
 pub(crate) fn state_in(run: &Option<Run>, samples: usize) -> State

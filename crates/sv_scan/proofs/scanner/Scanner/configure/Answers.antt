@@ -1,17 +1,15 @@
-use Rattle.std.proofs.Common.{rules, ◌∙◌, ap, sym}
+use Rattle.std.proofs.Common.{rules}
 use Rattle.sv_scan.specs.declared.acts.ScanAct.TheVariants.{Configure}
-use Rattle.sv_scan.specs.Counted.{kept, is_idle}
-use Rattle.sv_scan.proofs.Stands.{StandsFor-dropped, counts-busy}
+use Rattle.sv_scan.specs.Counted.{kept, setting_fault}
+use Rattle.sv_scan.proofs.Stands.{StandsFor-counted, StandsFor-dropped, is_accepted, is_refused}
 use Rattle.sv_scan.proofs.scanner.Scanner.configure.Goals as goal
 
-pub returns-then-not-is_idle-clause-stands : goal.returns-then-not-is_idle-clause-stands
-returns-then-not-is_idle-clause-stands g c acts is =
-    let fixed = sym c.is_fixed.ensures ∙ c.if-is_fixed.true in
-    let busy = ap is_idle (sym (c.state.ensures.answer acts is)) ∙ sym c.is_idle.ensures ∙ c.if-not-is_idle.true in
-    StandsFor-dropped _ (Configure c.args.setting) acts (counts-busy (kept acts) c.args.setting fixed busy) is
+pub returns-in_err-may_set-clause-stands : goal.returns-in_err-may_set-clause-stands
+returns-in_err-may_set-clause-stands g c acts is =
+    StandsFor-dropped _ (Configure c.args.setting) acts (is_refused (setting_fault (kept acts) c.args.setting) _
+    (c.in_err-may_set.ensures.answer acts is)) is
 
-pub returns-then-not-is_idle-clause-answer : goal.returns-then-not-is_idle-clause-answer
-returns-then-not-is_idle-clause-answer g c = search rules
-
-pub returns-then-not-is_idle-clause-refused : goal.returns-then-not-is_idle-clause-refused
-returns-then-not-is_idle-clause-refused g c = search rules
+pub returns-clause-stands : goal.returns-clause-stands
+returns-clause-stands g c acts is =
+    StandsFor-counted _ (Configure c.args.setting) acts (is_accepted (setting_fault (kept acts) c.args.setting)
+    (c.in_ok-may_set.ensures.answer acts is)) (search rules)
