@@ -1,3 +1,4 @@
+pub mod Padding
 pub mod Searches
 pub mod Runs
 pub mod Stands

@@ -1,21 +1,23 @@
 -- What is true of a measurement: its channels are there, and there is room for its readings.
-use Rattle.std.proofs.Common.{◌≡◌, ℕ, ◌*◌, ◌%◌, ◌<◌, ◌≤◌, Bool, true, false, List, length, Some, Option, refl, subst, arith, if◌then◌else◌}
+use Rattle.std.proofs.Common.{◌≡◌, ℕ, ◌*◌, ◌%◌, ◌<◌, ◌≤◌, ◌+◌, Bool, true, false, List, [], ◌∷◌, ◌++◌, length, length-append, Some, None, Option, refl, ap, ◌∙◌, sym, subst, arith, if◌then◌else◌}
 use Rattle.std.proofs.Math.Nat.{mul-le-mul}
 use Rattle.std.proofs.lemmas.Bool.{and_parts, eqb-false}
 use Rattle.std.proofs.lemmas.Bool.Decides.{nat_tests}
 use Rattle.std.proofs.lemmas.Nat.{mod_below}
 use Rattle.std.proofs.lemmas.List.Elements.{All-get_or}
 use Rattle.std.proofs.lemmas.List.Sums.{AllPass-from_list_all}
+use Rattle.std.proofs.lemmas.List.Folds.{list_all-append}
 use Rattle.std.specs.List.{list_all}
 use Rattle.std.specs.Prelude.{◌==◌, nat_le, ◌&&◌}
 use Rattle.sv_scan.specs.declared.setting.Setting.TheVariants.{List as SetList}
+use Rattle.sv_scan.specs.declared.setting.Reading.{Reading}
 use Rattle.sv_scan.specs.declared.setting.State.TheVariants.{Idle, Waiting, Scanning}
 use Rattle.sv_errors.specs.Limits.{is_channel}
 use Rattle.sv_scan.specs.Setting.{is_possible}
-use Rattle.sv_scan.specs.Scan.{channel_at, state_by}
+use Rattle.sv_scan.specs.Scan.{channel_at, state_by, is_bounded}
 use Rattle.sv_scan.specs.Counted.{is_scanning}
-use Rattle.sv_scan.specs.Stands.{Run, Held}
-use Rattle.sv_scan.specs.Kept.{IsKept, IsRun, IsRunOf, run_state}
+use Rattle.sv_scan.specs.Stands.{Run, Contents}
+use Rattle.sv_scan.specs.Kept.{IsValid, IsRun, IsRunOf, run_state}
 
 -- a list that may be scanned
 size_is : (n : ℕ) → nat_le 1 n ≡ true → nat_le n 32 ≡ true → (1 ≤ n) × (n ≤ 32)
@@ -35,11 +37,11 @@ channel_in channels read possible =
     (mod_below read (length channels) (omega arith)) (AllPass-from_list_all is_channel channels all)
 
 -- the channel whose turn it is
-pub turn_is : (held : Held) (capacity : ℕ) (r : Run) → held.run ≡ Some r → IsKept held capacity
-    → is_channel (channel_at r.channels (length held.readings)) ≡ true
-turn_is held capacity r e kept =
-    let run : IsRun r (length held.readings) = subst (λ (o : Option Run). IsRunOf o (length held.readings)) e kept.run in
-    channel_in r.channels (length held.readings) run.channels
+pub turn_is : (contents : Contents) (capacity : ℕ) (r : Run) → contents.run ≡ Some r → IsValid contents capacity
+    → is_channel (channel_at r.channels (length contents.readings)) ≡ true
+turn_is contents capacity r e kept =
+    let run : IsRun r (length contents.readings) = subst (λ (o : Option Run). IsRunOf o (length contents.readings)) e kept.run in
+    channel_in r.channels (length contents.readings) run.channels
 
 -- in a scan not each triggered channel was read
 is_short : (all triggered : Bool) → is_scanning (if all then Idle else if triggered then Waiting else Scanning) ≡ true → triggered ≡ false
@@ -60,10 +62,60 @@ room_in r read capacity room run short =
     let bound : r.triggers * length r.channels ≤ 16 * 32 = mul-le-mul triggers size.1 in
     omega (arith, run.read, short)
 
-pub has_room : (held : Held) (capacity : ℕ) (r : Run) → held.run ≡ Some r → IsKept held capacity
-    → is_scanning (run_state held.run (length held.readings)) ≡ true → length held.readings < capacity
-has_room held capacity r e kept scanning =
-    let run : IsRun r (length held.readings) = subst (λ (o : Option Run). IsRunOf o (length held.readings)) e kept.run in
-    let now : is_scanning (run_state (Some r) (length held.readings)) ≡ true =
-    subst (λ (o : Option Run). is_scanning (run_state o (length held.readings)) ≡ true) e scanning in
-    room_in r (length held.readings) capacity kept.room run (short_in r (length held.readings) now)
+pub has_room : (contents : Contents) (capacity : ℕ) (r : Run) → contents.run ≡ Some r → IsValid contents capacity
+    → is_scanning (run_state contents.run (length contents.readings)) ≡ true → length contents.readings < capacity
+has_room contents capacity r e kept scanning =
+    let run : IsRun r (length contents.readings) = subst (λ (o : Option Run). IsRunOf o (length contents.readings)) e kept.run in
+    let now : is_scanning (run_state (Some r) (length contents.readings)) ≡ true =
+    subst (λ (o : Option Run). is_scanning (run_state o (length contents.readings)) ≡ true) e scanning in
+    room_in r (length contents.readings) capacity kept.room run (short_in r (length contents.readings) now)
+
+-- one reading more
+read_more : (r : Run) (read : ℕ) → IsRun r read → (read ≡ r.triggers * length r.channels → ⊥) → IsRun r (read + 1)
+read_more r read run short = record {
+  channels = run.channels;
+  scans = run.scans;
+  triggers = run.triggers;
+  read = omega (arith, run.read, short);
+}
+
+bounded_more : (readings : List Reading) (x : Reading) → list_all is_bounded readings ≡ true → is_bounded x ≡ true
+    → list_all is_bounded (readings ++ x ∷ []) ≡ true
+bounded_more readings x all one =
+    list_all-append is_bounded readings (x ∷ []) ∙ ap (λ (b : Bool). b && (is_bounded x && true)) all ∙ ap (λ (b : Bool). b && true) one
+
+pub IsValid-sample : (contents : Contents) (capacity : ℕ) (r : Run) (x : Reading) → contents.run ≡ Some r → IsValid contents capacity
+    → is_scanning (run_state contents.run (length contents.readings)) ≡ true → is_bounded x ≡ true
+    → IsValid (record contents { readings = contents.readings ++ x ∷ [] }) capacity
+IsValid-sample contents capacity r x e valid scanning one =
+    let run : IsRun r (length contents.readings) = subst (λ (o : Option Run). IsRunOf o (length contents.readings)) e valid.run in
+    let now : is_scanning (run_state (Some r) (length contents.readings)) ≡ true =
+    subst (λ (o : Option Run). is_scanning (run_state o (length contents.readings)) ≡ true) e scanning in
+    let more : IsRun r (length contents.readings + 1) =
+    read_more r (length contents.readings) run (short_in r (length contents.readings) now) in
+    let many : length contents.readings + 1 ≡ length (contents.readings ++ x ∷ []) = sym (length-append contents.readings (x ∷ [])) in
+    record {
+      inputs = valid.inputs;
+      room = valid.room;
+      list = valid.list;
+      monitor = valid.monitor;
+      range = valid.range;
+      range_bounded = valid.range_bounded;
+      upper = valid.upper;
+      lower = valid.lower;
+      count = valid.count;
+      run = subst (λ (o : Option Run). IsRunOf o (length (contents.readings ++ x ∷ []))) (sym e) (subst (IsRun r) many more);
+      readings = bounded_more contents.readings x valid.readings one;
+    }
+
+-- there are at most 512 readings
+few_of : (r : Run) (read : ℕ) → IsRun r read → read ≤ 512
+few_of r read run =
+    let size = size_in r.channels run.channels in
+    let triggers : r.triggers ≤ 16 = omega (arith, run.scans, run.triggers) in
+    let bound : r.triggers * length r.channels ≤ 16 * 32 = mul-le-mul triggers size.1 in
+    omega (arith, run.read)
+
+pub few_in : (run : Option Run) (read : ℕ) → IsRunOf run read → read ≤ 512
+few_in None read e = omega (arith, e)
+few_in (Some r) read run = few_of r read run

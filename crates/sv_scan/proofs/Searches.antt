@@ -8,7 +8,7 @@ use Rattle.sv_scan.specs.declared.acts.ScanAct.{ScanAct}
 use Rattle.sv_scan.specs.declared.acts.ScanAct.TheVariants.{Input, Configure, Init, Abort, Reset, Trigger, Sample}
 use Rattle.sv_scan.specs.Setting.{scan_list, count}
 use Rattle.sv_scan.specs.Scan.{before_init, triggers, samples, state, state_since, complete_since, is_complete, list_since, readings, reading, last_reading}
-use Rattle.sv_scan.specs.Stands.{Run, Held, Holds, run}
+use Rattle.sv_scan.specs.Stands.{Run, Contents, Holds, run}
 use Rattle.sv_scan.specs.Kept.{run_state, run_complete}
 
 -- there are as many readings as samples
@@ -42,23 +42,24 @@ last_is (Input channel microvolts ∷ log) = last_is log
 last_is (Configure setting ∷ log) = last_is log
 last_is (Trigger source ∷ log) = last_is log
 
-pub last_found : (found held : List Reading) (log : List ScanAct) → found ≡ held → held ≡ readings log
+pub last_found : (found kept : List Reading) (log : List ScanAct) → found ≡ kept → kept ≡ readings log
     → slice_get found (length found - 1) ≡ last_reading log
-last_found found held log same is = ap (λ (xs : List Reading). slice_get xs (length xs - 1)) (same ∙ is) ∙ last_is log
+last_found found kept log same is = ap (λ (xs : List Reading). slice_get xs (length xs - 1)) (same ∙ is) ∙ last_is log
 
 -- a measurement, as the acts in front of its initiation give it
 abbrev run_of : ℕ → List ScanAct → Run
 run_of count_of before = record { channels = scan_list before; scans = count before; triggers = count_of }
 
--- the state of the measurement that is held
+-- the state of the measurement of the contents
 state_of_run : (before : Option (List ScanAct)) (had read : ℕ)
     → run_state (option_map (run_of had) before) read ≡ state_since before had read
 state_of_run None had read = refl
 state_of_run (Some before) had read = refl
 
-pub state_is : (held : Held) (log : List ScanAct) → Holds held log → run_state held.run (length held.readings) ≡ state log
-state_is held log is =
-    ap (λ (r : Option Run). run_state r (length held.readings)) is.run
+pub state_is : (contents : Contents) (log : List ScanAct) → Holds contents log
+    → run_state contents.run (length contents.readings) ≡ state log
+state_is contents log is =
+    ap (λ (r : Option Run). run_state r (length contents.readings)) is.run
     ∙ ap (run_state (run log)) (ap length is.readings ∙ length-readings log)
     ∙ state_of_run (before_init log) (triggers log) (samples log)
 
@@ -68,13 +69,14 @@ complete_of_run : (before : Option (List ScanAct)) (had read : ℕ)
 complete_of_run None had read = refl
 complete_of_run (Some before) had read = refl
 
-pub complete_is : (held : Held) (log : List ScanAct) → Holds held log → run_complete held.run (length held.readings) ≡ is_complete log
-complete_is held log is =
-    ap (λ (r : Option Run). run_complete r (length held.readings)) is.run
+pub complete_is : (contents : Contents) (log : List ScanAct) → Holds contents log
+    → run_complete contents.run (length contents.readings) ≡ is_complete log
+complete_is contents log is =
+    ap (λ (r : Option Run). run_complete r (length contents.readings)) is.run
     ∙ ap (run_complete (run log)) (ap length is.readings ∙ length-readings log)
     ∙ complete_of_run (before_init log) (triggers log) (samples log)
 
--- the list of the measurement that is held
+-- the list of the measurement of the contents
 list_of_run : (before : Option (List ScanAct)) (had : ℕ) (r : Run) → option_map (run_of had) before ≡ Some r
     → list_since before ≡ r.channels
 list_of_run None had r e = cc

@@ -1,9 +1,10 @@
 -- The scanner after one more act.
-use Rattle.std.proofs.Common.{◌≡◌, ◌≢◌, ℕ, ◌-◌, ◌<◌, ◌≤◌, ◌==◌, ℤ, pos, Bool, true, List, [], ◌∷◌, ◌++◌, length, get_or, Some, None, inl, inr, replicate, refl, ap, ◌∙◌, sym, subst, arith, if◌then◌else◌}
+use Rattle.std.proofs.Common.{◌≡◌, ◌≢◌, ℕ, ◌-◌, ◌<◌, ◌≤◌, ◌==◌, ℤ, pos, Bool, true, false, List, [], ◌∷◌, ◌++◌, length, get_or, Some, None, Option, inl, inr, replicate, refl, ap, ◌∙◌, sym, subst, arith, if◌then◌else◌}
 use Rattle.std.proofs.lemmas.Bool.{cond_both, cases_lt, eqb-true, eqb-false}
 use Rattle.std.proofs.lemmas.Bool.Decides.{nat_tests}
 use Rattle.std.proofs.lemmas.List.{get_or-set_same, get_or-set_other, get_or-replicate, get_or_past, length-replicate}
-use Rattle.std.specs.Prelude.{slice_index_or, slice_set}
+use Rattle.std.specs.Prelude.{Ok, Err, is_none, slice_index_or, slice_set}
+use Rattle.sv_errors.specs.declared.code.Code.{Code}
 use Rattle.sv_scan.specs.declared.setting.Reading.{Reading}
 use Rattle.sv_scan.specs.declared.settings.Settings.{Settings}
 use Rattle.sv_scan.specs.declared.acts.ScanAct.{ScanAct}
@@ -12,8 +13,9 @@ use Rattle.sv_errors.specs.Limits.{is_channel}
 use Rattle.sv_scan.specs.Setting.{scan_list, monitor, range, upper, lower, limits, source, count, input}
 use Rattle.sv_scan.specs.Scan.{before_init, samples, readings, reading, reading_in, channel_at, list_since}
 use Rattle.sv_scan.specs.Counted.{kept, counts}
-use Rattle.sv_scan.specs.Stands.{Run, Held, Holds, StandsFor}
-use Rattle.sv_scan.specs.Kept.{held_of}
+use Rattle.sv_scan.specs.Answered.{refused_by}
+use Rattle.sv_scan.specs.Stands.{Run, Contents, Holds, StandsFor}
+use Rattle.sv_scan.specs.Kept.{contents_of}
 use Rattle.sv_scan.proofs.Searches.{length-readings, list_is}
 
 -- ---- acts that count
@@ -21,9 +23,28 @@ use Rattle.sv_scan.proofs.Searches.{length-readings, list_is}
 keeps : (act : ScanAct) (acts : List ScanAct) → counts (kept acts) act ≡ true → kept (act ∷ acts) ≡ act ∷ kept acts
 keeps act acts e = ap (λ (b : Bool). if b then act ∷ kept acts else kept acts) e
 
-pub StandsFor-counted : (held : Held) (act : ScanAct) (acts : List ScanAct) → counts (kept acts) act ≡ true → Holds held (act ∷ kept acts)
-    → StandsFor held (act ∷ acts)
-StandsFor-counted held act acts e is = subst (Holds held) (sym (keeps act acts e)) is
+pub StandsFor-counted : (contents : Contents) (act : ScanAct) (acts : List ScanAct) → counts (kept acts) act ≡ true
+    → Holds contents (act ∷ kept acts) → StandsFor contents (act ∷ acts)
+StandsFor-counted contents act acts e is = subst (Holds contents) (sym (keeps act acts e)) is
+
+-- ---- acts that don't
+
+drops : (act : ScanAct) (acts : List ScanAct) → counts (kept acts) act ≡ false → kept (act ∷ acts) ≡ kept acts
+drops act acts e = ap (λ (b : Bool). if b then act ∷ kept acts else kept acts) e
+
+pub StandsFor-dropped : (contents : Contents) (act : ScanAct) (acts : List ScanAct) → counts (kept acts) act ≡ false
+    → StandsFor contents acts → StandsFor contents (act ∷ acts)
+StandsFor-dropped contents act acts e is = subst (Holds contents) (sym (drops act acts e)) is
+
+-- ---- what is accepted counts, and what is refused doesn't
+
+pub is_accepted : (fault : Option Code) → Ok tt ≡ refused_by fault → is_none fault ≡ true
+is_accepted None e = refl
+is_accepted (Some code) e = cc
+
+pub is_refused : (fault : Option Code) (code : Code) → Err code ≡ refused_by fault → is_none fault ≡ false
+is_refused None code e = cc
+is_refused (Some other) code e = refl
 
 -- ---- the scanner after an act that counts
 
@@ -48,11 +69,11 @@ input_after inputs channel other microvolts before size legal known same =
     let apart : other - 1 ≢ channel - 1 = λ (h : other - 1 ≡ channel - 1). ne (omega arith) in
     get_or-set_other inputs (channel - 1) (other - 1) microvolts (pos 0) apart ∙ same)
 
-pub Holds-input : (held : Held) (log : List ScanAct) (channel : ℕ) (microvolts : ℤ) → length held.inputs ≡ 32 → is_channel channel ≡ true
-    → Holds held log
-    → Holds (record held { inputs = slice_set held.inputs (channel - 1) microvolts }) (Input channel microvolts ∷ log)
-Holds-input held log channel microvolts size legal is = record {
-  inputs = λ other known. input_after held.inputs channel other microvolts (input other log) size legal known (is.inputs other known);
+pub Holds-input : (contents : Contents) (log : List ScanAct) (channel : ℕ) (microvolts : ℤ) → length contents.inputs ≡ 32
+    → is_channel channel ≡ true → Holds contents log
+    → Holds (record contents { inputs = slice_set contents.inputs (channel - 1) microvolts }) (Input channel microvolts ∷ log)
+Holds-input contents log channel microvolts size legal is = record {
+  inputs = λ other known. input_after contents.inputs channel other microvolts (input other log) size legal known (is.inputs other known);
   list = is.list;
   monitor = is.monitor;
   range = is.range;
@@ -66,23 +87,24 @@ Holds-input held log channel microvolts size legal is = record {
 }
 
 -- a sample
-abbrev pub sampled : Held → Run → Reading
-sampled held r = reading_in held.range (slice_index_or held.inputs (channel_at r.channels (length held.readings) - 1) (pos 0))
+abbrev pub sampled : Contents → Run → Reading
+sampled contents r =
+    reading_in contents.range (slice_index_or contents.inputs (channel_at r.channels (length contents.readings) - 1) (pos 0))
 
-sampled_is : (held : Held) (log : List ScanAct) (r : Run) → held.run ≡ Some r
-    → is_channel (channel_at r.channels (length held.readings)) ≡ true → Holds held log → sampled held r ≡ reading log
-sampled_is held log r e known is =
+sampled_is : (contents : Contents) (log : List ScanAct) (r : Run) → contents.run ≡ Some r
+    → is_channel (channel_at r.channels (length contents.readings)) ≡ true → Holds contents log → sampled contents r ≡ reading log
+sampled_is contents log r e known is =
     let channels : list_since (before_init log) ≡ r.channels = list_is log r (sym is.run ∙ e) in
-    let many : length held.readings ≡ samples log = ap length is.readings ∙ length-readings log in
-    ap (reading_in held.range) (is.inputs (channel_at r.channels (length held.readings)) known)
-    ∙ ap (λ (range : ℤ). reading_in range (input (channel_at r.channels (length held.readings)) log)) is.range
+    let many : length contents.readings ≡ samples log = ap length is.readings ∙ length-readings log in
+    ap (reading_in contents.range) (is.inputs (channel_at r.channels (length contents.readings)) known)
+    ∙ ap (λ (range : ℤ). reading_in range (input (channel_at r.channels (length contents.readings)) log)) is.range
     ∙ ap (λ (n : ℕ). reading_in (range log) (input (channel_at r.channels n) log)) many
     ∙ ap (λ (cs : List ℕ). reading_in (range log) (input (channel_at cs (samples log)) log)) (sym channels)
 
-pub Holds-sample : (held : Held) (log : List ScanAct) (r : Run) → held.run ≡ Some r
-    → is_channel (channel_at r.channels (length held.readings)) ≡ true → Holds held log
-    → Holds (record held { readings = held.readings ++ sampled held r ∷ [] }) (Sample ∷ log)
-Holds-sample held log r e known is = record {
+pub Holds-sample : (contents : Contents) (log : List ScanAct) (r : Run) → contents.run ≡ Some r
+    → is_channel (channel_at r.channels (length contents.readings)) ≡ true → Holds contents log
+    → Holds (record contents { readings = contents.readings ++ sampled contents r ∷ [] }) (Sample ∷ log)
+Holds-sample contents log r e known is = record {
   inputs = is.inputs;
   list = is.list;
   monitor = is.monitor;
@@ -93,8 +115,8 @@ Holds-sample held log r e known is = record {
   source = is.source;
   count = is.count;
   run = is.run;
-  readings = ap (λ (xs : List Reading). xs ++ sampled held r ∷ []) is.readings
-      ∙ ap (λ (x : Reading). readings log ++ x ∷ []) (sampled_is held log r e known is);
+  readings = ap (λ (xs : List Reading). xs ++ sampled contents r ∷ []) is.readings
+      ∙ ap (λ (x : Reading). readings log ++ x ∷ []) (sampled_is contents log r e known is);
 }
 
 zeros : (n place : ℕ) → get_or (replicate n (pos 0)) place (pos 0) ≡ pos 0
@@ -107,7 +129,7 @@ zeros n place = elim (cases_lt place n) [
 pub StandsFor-new : (n : ℕ) (settings : Settings) → settings.list ≡ scan_list [] → settings.monitor ≡ monitor [] → settings.range ≡ range []
     → settings.upper ≡ upper [] → settings.lower ≡ lower []
     → settings.limits ≡ limits [] → settings.source ≡ source [] → settings.count ≡ count []
-    → StandsFor (held_of (replicate n (pos 0)) settings None []) []
+    → StandsFor (contents_of (replicate n (pos 0)) settings None []) []
 StandsFor-new n settings list monitor range upper lower limits source count = record {
   inputs = λ channel known. zeros n (channel - 1);
   list = list;

@@ -1,5 +1,6 @@
 -- What is true of all that the scanner holds.
-use Rattle.std.specs.Prelude.{◌≡◌, ℕ, ◌*◌, ◌==◌, ◌≤◌, ℤ, pos, int_le, Bool, true, false, List, length, Option, Some, None}
+use Rattle.std.specs.Prelude.{◌≡◌, ℕ, ◌*◌, ◌==◌, ◌≤◌, ℤ, pos, int_le, unsigned_abs, Bool, true, false, List, length, Option, Some, None}
+use Rattle.std.specs.List.{list_all}
 use Rattle.sv_scan.specs.declared.setting.Setting.TheVariants.{List as SetList, Count}
 use Rattle.sv_scan.specs.declared.setting.Reading.{Reading}
 use Rattle.sv_scan.specs.declared.setting.State.{State}
@@ -7,8 +8,8 @@ use Rattle.sv_scan.specs.declared.setting.State.TheVariants.{Idle}
 use Rattle.sv_scan.specs.declared.settings.Settings.{Settings}
 use Rattle.sv_errors.specs.Limits.{is_channel}
 use Rattle.sv_scan.specs.Setting.{is_possible}
-use Rattle.sv_scan.specs.Scan.{state_by}
-use Rattle.sv_scan.specs.Stands.{Run, Held}
+use Rattle.sv_scan.specs.Scan.{state_by, is_bounded}
+use Rattle.sv_scan.specs.Stands.{Run, Contents}
 
 -- the state of a measurement behind so many samples; idle without one
 abbrev pub run_state : Option Run → ℕ → State
@@ -32,19 +33,24 @@ abbrev pub IsRunOf : Option Run → ℕ → Type 0
 IsRunOf None samples = samples ≡ 0
 IsRunOf (Some run) samples = IsRun run samples
 
--- There are 32 inputs and room for 512 readings, and list, monitor, range, count and measurement are legal.
-pub record IsKept (held : Held) (capacity : ℕ) : Type 0 where
-  pub inputs : length held.inputs ≡ 32
+-- There are 32 inputs and room for 512 readings; list, monitor, range, limits, count and measurement are legal, and no reading is beyond
+-- 1,000 V.
+pub record IsValid (contents : Contents) (capacity : ℕ) : Type 0 where
+  pub inputs : length contents.inputs ≡ 32
   pub room : 512 ≤ capacity
-  pub list : is_possible (SetList held.list) ≡ true
-  pub monitor : is_channel held.monitor ≡ true
-  pub range : int_le (pos 0) held.range ≡ true
-  pub count : is_possible (Count held.count) ≡ true
-  pub run : IsRunOf held.run (length held.readings)
+  pub list : is_possible (SetList contents.list) ≡ true
+  pub monitor : is_channel contents.monitor ≡ true
+  pub range : int_le (pos 0) contents.range ≡ true
+  pub range_bounded : unsigned_abs contents.range ≤ 100000000
+  pub upper : unsigned_abs contents.upper ≤ 1000000000
+  pub lower : unsigned_abs contents.lower ≤ 1000000000
+  pub count : is_possible (Count contents.count) ≡ true
+  pub run : IsRunOf contents.run (length contents.readings)
+  pub readings : list_all is_bounded contents.readings ≡ true
 
--- what is held, by its parts
-abbrev pub held_of : List ℤ → Settings → Option Run → List Reading → Held
-held_of inputs settings run readings = record {
+-- the contents, by their parts
+abbrev pub contents_of : List ℤ → Settings → Option Run → List Reading → Contents
+contents_of inputs settings run readings = record {
   inputs = inputs;
   list = settings.list;
   monitor = settings.monitor;

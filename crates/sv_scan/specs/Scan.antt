@@ -1,5 +1,6 @@
 -- The trigger state and the readings (SCPI-1999, volume 2, chapter 24), by counts over the acts that count, which are read from the newest.
-use Rattle.std.specs.Prelude.{ℕ, ◌*◌, ◌%◌, ◌==◌, ℤ, neg_ℤ, int_lt, Bool, true, false, List, [], ◌∷◌, ◌++◌, length, filter, Option, Some, None, slice_index_or, if◌then◌else◌}
+use Rattle.std.specs.Prelude.{ℕ, ◌*◌, ◌%◌, ◌==◌, ℤ, neg_ℤ, int_lt, nat_le, unsigned_abs, Bool, true, false, List, [], ◌∷◌, ◌++◌, length, filter, Option, Some, None, slice_index_or, if◌then◌else◌}
+use Rattle.sv_errors.specs.Limits.{most_microvolts}
 use Rattle.sv_errors.specs.Since.{since}
 use Rattle.sv_scan.specs.declared.setting.Reading.{Reading}
 use Rattle.sv_scan.specs.declared.setting.Reading.TheVariants.{Value, Over, Under}
@@ -10,11 +11,11 @@ use Rattle.sv_scan.specs.declared.acts.ScanAct.TheVariants.{Init, Abort, Reset, 
 use Rattle.sv_scan.specs.Setting.{scan_list, count, range, input}
 
 -- what begins a measurement or ends it
-abbrev pub is_turn : ScanAct → Bool
-is_turn Init = true
-is_turn Abort = true
-is_turn Reset = true
-is_turn _ = false
+abbrev pub starts_or_ends : ScanAct → Bool
+starts_or_ends Init = true
+starts_or_ends Abort = true
+starts_or_ends Reset = true
+starts_or_ends _ = false
 
 -- the acts in front of the newest of these, where it was an initiation
 abbrev pub before_init : List ScanAct → Option (List ScanAct)
@@ -34,10 +35,10 @@ is_sample _ = false
 
 -- how many triggers and samples came since
 abbrev pub triggers : List ScanAct → ℕ
-triggers log = length (filter is_trigger (since is_turn log))
+triggers log = length (filter is_trigger (since starts_or_ends log))
 
 abbrev pub samples : List ScanAct → ℕ
-samples log = length (filter is_sample (since is_turn log))
+samples log = length (filter is_sample (since starts_or_ends log))
 
 -- the state of a measurement, by how many triggers and samples it had, how many channels its list has, and how many scans are wanted
 abbrev pub state_by : ℕ → ℕ → ℕ → ℕ → State
@@ -55,6 +56,12 @@ state log = state_since (before_init log) (triggers log) (samples log)
 -- a voltage as it reads in a range
 abbrev pub reading_in : ℤ → ℤ → Reading
 reading_in range value = if int_lt range value then Over else if int_lt value (neg_ℤ range) then Under else Value value
+
+-- whether a reading has no voltage beyond 1,000 V in magnitude
+abbrev pub is_bounded : Reading → Bool
+is_bounded (Value microvolts) = nat_le (unsigned_abs microvolts) most_microvolts
+is_bounded Over = true
+is_bounded Under = true
 
 -- the channel of the sample that has so many before it: they go round the list
 abbrev pub channel_at : List ℕ → ℕ → ℕ

@@ -1,7 +1,6 @@
 -- Settings and inputs: the value last given, found by a search of the acts that count, which are read from the newest.
-use Rattle.std.specs.Prelude.{ℕ, ℤ, pos, neg_ℤ, int_le, nat_le, ◌==◌, ◌&&◌, Bool, true, false, List, [], ◌∷◌, length, Option, Some, None, unwrap_or, if◌then◌else◌}
-use Rattle.std.specs.List.{list_all}
-use Rattle.sv_errors.specs.Limits.{is_channel, most_microvolts}
+use Rattle.std.specs.Prelude.{ℕ, ℤ, pos, neg_ℤ, int_le, nat_le, ◌==◌, ◌&&◌, Bool, true, false, List, [], ◌∷◌, Option, Some, None, unwrap_or, if◌then◌else◌}
+use Rattle.sv_errors.specs.Limits.{is_channel, is_channel_list, most_microvolts}
 use Rattle.sv_scan.specs.declared.setting.Setting.{Setting}
 use Rattle.sv_scan.specs.declared.setting.Setting.TheVariants.{List as SetList, Monitor, Range, Upper, Lower, Limits, Source as SetSource, Count}
 use Rattle.sv_errors.specs.declared.source.Source.{Source}
@@ -94,7 +93,7 @@ is_limit value = is_between (neg_ℤ (pos most_microvolts)) value (pos most_micr
 
 -- whether a setting may have its value
 abbrev pub is_possible : Setting → Bool
-is_possible (SetList channels) = nat_le 1 (length channels) && (nat_le (length channels) 32 && list_all is_channel channels)
+is_possible (SetList channels) = is_channel_list channels
 is_possible (Monitor channel) = is_channel channel
 is_possible (Range wanted) = is_between (pos 0) wanted (pos 100000000)
 is_possible (Upper limit) = is_limit limit

@@ -20,7 +20,7 @@ abbrev pub run : List ScanAct → Option Run
 run log = option_map (λ before. record { channels = scan_list before; scans = count before; triggers = triggers log }) (before_init log)
 
 -- what the scanner holds
-pub record Held : Type 0 where
+pub record Contents : Type 0 where
   pub inputs : List ℤ
   pub list : List ℕ
   pub monitor : ℕ
@@ -34,19 +34,19 @@ pub record Held : Type 0 where
   pub readings : List Reading
 
 -- Each thing that it holds is what a search of the acts that count finds.
-pub record Holds (held : Held) (log : List ScanAct) : Type 0 where
-  pub inputs : (channel : ℕ) → is_channel channel ≡ true → slice_index_or held.inputs (channel - 1) (pos 0) ≡ input channel log
-  pub list : held.list ≡ scan_list log
-  pub monitor : held.monitor ≡ monitor log
-  pub range : held.range ≡ range log
-  pub upper : held.upper ≡ upper log
-  pub lower : held.lower ≡ lower log
-  pub limits : held.limits ≡ limits log
-  pub source : held.source ≡ source log
-  pub count : held.count ≡ count log
-  pub run : held.run ≡ run log
-  pub readings : held.readings ≡ readings log
+pub record Holds (contents : Contents) (log : List ScanAct) : Type 0 where
+  pub inputs : (channel : ℕ) → is_channel channel ≡ true → slice_index_or contents.inputs (channel - 1) (pos 0) ≡ input channel log
+  pub list : contents.list ≡ scan_list log
+  pub monitor : contents.monitor ≡ monitor log
+  pub range : contents.range ≡ range log
+  pub upper : contents.upper ≡ upper log
+  pub lower : contents.lower ≡ lower log
+  pub limits : contents.limits ≡ limits log
+  pub source : contents.source ≡ source log
+  pub count : contents.count ≡ count log
+  pub run : contents.run ≡ run log
+  pub readings : contents.readings ≡ readings log
 
 -- What it holds stands for all that happened, of which some counts.
-abbrev pub StandsFor : Held → List ScanAct → Type 0
-StandsFor held acts = Holds held (kept acts)
+abbrev pub StandsFor : Contents → List ScanAct → Type 0
+StandsFor contents acts = Holds contents (kept acts)

@@ -1,11 +1,10 @@
 //! What happens to the scanner.
 
 use crate::setting::Setting;
-use sv_errors::Source;
-use sv_errors::Code;
+use sv_errors::{Code, Source};
 
 /// What happens to the scanner.
-#[derive(Debug, Drop)]
+#[derive(Clone, Copy, Debug)]
 pub enum ScanAct {
     /// The voltage of a channel's input, in microvolts.
     Input(u8, i64),

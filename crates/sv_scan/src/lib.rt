@@ -6,6 +6,7 @@
 #![tactic(auto)]
 
 mod acts;
+mod current;
 mod possible;
 mod reading;
 mod run;

@@ -1,28 +1,15 @@
 //! Which values a setting may have, and when it can be changed.
 
 ghost use Rattle.std.specs.Prelude.{◌≡◌};
-ghost use Rattle.std.specs.List.{list_all};
-ghost use Rattle.sv_errors.specs.Limits.{is_channel as is_channel_number};
 ghost use Rattle.sv_scan.specs.Setting.{is_limit as is_limit_value, is_possible as may_have, is_fixed as has_to_wait, least_range as least_range_of};
 
 use crate::setting::Setting;
-use sv_errors::{MOST_MICROVOLTS, is_channel};
+use sv_errors::{MOST_MICROVOLTS, is_channel, is_channel_list};
 
-/// How long a scan list may be.
-const MAX_LIST: usize = 32;
 /// How many scans a measurement may have.
 const MAX_COUNT: u8 = 16;
 /// The ranges, in microvolts: 1, 10 and 100 V.
 const RANGES: (i64, i64, i64) = (1_000_000, 10_000_000, 100_000_000);
-
-/// Whether there is a channel of each of these numbers.
-fn are_channels(channels: &[u8]) -> bool
-    ensures { result ≡ list_all is_channel_number channels.now }
-{
-    channels
-        .iter()
-        .all(|channel| is_channel(u64::from(*channel)))
-}
 
 /// Whether a limit may be this, in microvolts: up to 1,000 V in magnitude.
 fn is_limit(microvolts: i64) -> bool
@@ -49,10 +36,7 @@ pub(crate) fn is_possible(setting: &Setting) -> bool
     ensures { result ≡ may_have setting.now }
 {
     match setting {
-        Setting::List(list) => {
-            let channels = list.channels();
-            1 <= channels.len() && (channels.len() <= MAX_LIST && are_channels(channels))
-        }
+        Setting::List(list) => is_channel_list(list.channels()),
         Setting::Monitor(channel) => is_channel(u64::from(*channel)),
         Setting::Range(wanted) => 0 <= *wanted && *wanted <= RANGES.2,
         Setting::Upper(limit) => is_limit(*limit),

@@ -1,8 +1,8 @@
 //! Voltages and readings.
 
-ghost use Rattle.std.specs.Prelude.{◌≡◌, ◌-◌, pos, int_le, IsTrue, length, slice_index_or};
+ghost use Rattle.std.specs.Prelude.{◌≡◌, ◌-◌, ◌≤◌, true, pos, int_le, unsigned_abs, IsTrue, length, slice_index_or};
 ghost use Rattle.sv_errors.specs.Limits.{is_channel};
-ghost use Rattle.sv_scan.specs.Scan.{reading_in as reading_of};
+ghost use Rattle.sv_scan.specs.Scan.{reading_in as reading_of, is_bounded};
 ghost use Rattle.sv_scan.specs.Condition.{is_overload as overloads, is_below as lies_below, is_above as lies_above};
 
 use crate::setting::Reading;
@@ -18,7 +18,8 @@ pub(crate) fn voltage(inputs: &[i64; 32], channel: u8) -> i64
 /// A voltage as it reads in a range, both in microvolts.
 pub(crate) fn reading_in(range: i64, microvolts: i64) -> Reading
     requires { IsTrue (int_le (pos 0) range) }
-    ensures { result ≡ reading_of range microvolts }
+    ensures value { result ≡ reading_of range microvolts }
+    ensures bounded { unsigned_abs range ≤ 100000000 → is_bounded result ≡ true }
 {
     if microvolts > range {
         Reading::Over

@@ -6,17 +6,37 @@ use arrayvec::ArrayVec;
 use std::marker::Model;
 
 /// Up to 32 channels, in the order in which they are read.
-#[derive(Debug, Drop)]
+#[derive(Clone, Copy, Debug)]
 pub struct ScanList {
-    channels: ArrayVec<u8, 32>,
+    /// The channels, and zeros behind them.
+    channels: [u8; 32],
+    /// How many channels there are.
+    count: usize,
 }
 
 impl Model for ScanList {
-    ghost use Rattle.std.specs.Prelude.{ℕ, List};
+    ghost use Rattle.std.specs.Prelude.{◌≡◌, ◌≤◌, ◌-◌, ◌++◌, ℕ, List, length, take, drop, replicate};
+    ghost use Rattle.std.proofs.Common.{◌∙◌, ap, sym, arith, length-take-le, take-append-drop};
 
     ghost Value = { List ℕ };
 
-    ghost view = { λ list. list.channels.items };
+    ghost view = { λ a. take a.count a.channels };
+
+    ghost invariant = { λ a. (a.count ≤ 32) × (length a.channels ≡ 32)
+        × (drop a.count a.channels ≡ replicate (32 - a.count) 0) };
+
+    ghost inverse = { λ channels. record {
+      channels = channels ++ replicate (32 - length channels) 0;
+      count = length channels;
+    } };
+
+    ghost inverse_ok = { λ a h i. record {
+      channels = (ap (λ (n : ℕ). take a.count a.channels ++ replicate (32 - n) 0)
+          (length-take-le a.count a.channels (omega (arith, h.0, h.1)))
+          ∙ ap (λ (rest : List ℕ). take a.count a.channels ++ rest) (sym h.2)
+          ∙ take-append-drop a.count a.channels) i;
+      count = length-take-le a.count a.channels (omega (arith, h.0, h.1)) i;
+    } };
 }
 
 impl ScanList {
@@ -24,25 +44,22 @@ impl ScanList {
     pub fn new(channels: ArrayVec<u8, 32>) -> ScanList
         ensures { result ≡ channels.items }
     {
-        ScanList { channels }
+        let given = channels.as_slice();
+        let mut channels = [0; 32];
+        channels[..given.len()].copy_from_slice(given);
+        ScanList {
+            channels,
+            count: given.len(),
+        }
     }
 
     /// The list of this channel alone.
     pub fn of(channel: u8) -> ScanList
         ensures { result ≡ channel ∷ [] }
     {
-        let mut channels = ArrayVec::new();
-        channels.push(channel);
-        ScanList { channels }
-    }
-
-    /// The same list once more. Takes no memory.
-    pub fn copied(&self) -> ScanList
-        ensures { result ≡ self.now }
-    {
-        let mut channels = ArrayVec::new();
-        let _fits = channels.try_extend_from_slice(self.channels.as_slice());
-        ScanList { channels }
+        let mut channels = [0; 32];
+        channels[0] = channel;
+        ScanList { channels, count: 1 }
     }
 
     /// The channels, in their order.
@@ -50,6 +67,6 @@ impl ScanList {
         ensures same { result.now ≡ self.now }
         ensures few { length result.now ≤ 32 }
     {
-        self.channels.as_slice()
+        &self.channels[..self.count]
     }
 }

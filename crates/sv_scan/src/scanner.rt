@@ -1,10 +1,12 @@
 //! The scanner.
 
-ghost use Rattle.std.specs.Prelude.{◌≡◌, ◌&&◌, true, false, [], ◌∷◌, List, length, IfOk, OnErr, MatchResult};
+ghost use Rattle.std.specs.Prelude.{◌≡◌, ◌≤◌, true, false, [], ◌∷◌, List, length, IfOk, OnOk, OnErr, MatchResult};
+ghost use Rattle.std.specs.List.{list_all};
 ghost use Rattle.sv_errors.specs.declared.code.Code.TheVariants.{DataCorruptOrStale};
-ghost use Rattle.sv_scan.specs.Setting.{source as source_of};
-ghost use Rattle.sv_scan.specs.Scan.{state as state_of, readings as readings_of, last_reading as last_of, is_complete as completes};
-ghost use Rattle.sv_scan.specs.Counted.{kept, setting_fault, init_fault, trigger_fault, read_fault, is_waiting as waits, is_scanning as scans, same_source};
+ghost use Rattle.sv_scan.specs.declared.setting.State.TheVariants.{Waiting, Scanning};
+ghost use Rattle.sv_scan.specs.Setting.{is_possible as may_have};
+ghost use Rattle.sv_scan.specs.Scan.{state as state_of, readings as readings_of, last_reading as last_of, is_complete as completes, is_bounded};
+ghost use Rattle.sv_scan.specs.Counted.{kept, setting_fault, init_fault, trigger_fault, read_fault, is_scanning as scans};
 ghost use Rattle.sv_scan.specs.Condition.{operation, questionable, is_outside as lies_outside};
 ghost use Rattle.sv_scan.specs.Answered.{refused_by};
 ghost use Rattle.sv_scan.specs.Stands.{StandsFor};
@@ -15,13 +17,12 @@ use crate::possible::{is_fixed, is_possible};
 use crate::reading::{is_above, is_below, is_overload, reading_in, voltage};
 use crate::run::Run;
 use crate::setting::{Reading, Setting, State};
-use sv_errors::Source;
 use crate::settings::Settings;
 use crate::state::{is_complete, is_idle, is_same, is_scanning, is_waiting, state_in};
 use crate::words::{Conditions, operation_word, questionable_word};
 use std::alloc::{AllocError, Allocator, Global};
 use std::marker::Model;
-use sv_errors::{Code, Layer, is_channel};
+use sv_errors::{Code, Layer, Source, is_channel};
 
 /// How many readings there may be: 16 scans of 32 channels.
 const MAX_READINGS: usize = 512;
@@ -32,7 +33,8 @@ const MAX_READINGS: usize = 512;
 pub struct Scanner<A: Allocator = Global> {
     /// The input of each channel, in microvolts; that of channel 1 first.
     inputs: [i64; 32],
-    settings: Settings,
+    /// What is set.
+    pub(crate) settings: Settings,
     /// The measurement since the last initiation.
     run: Option<Run>,
     /// Its readings, oldest first; none without a measurement.
@@ -40,16 +42,16 @@ pub struct Scanner<A: Allocator = Global> {
 }
 
 impl<A: Allocator> Model for Scanner<A> {
-    ghost use Rattle.sv_scan.specs.Stands.{Held};
+    ghost use Rattle.sv_scan.specs.Stands.{Contents};
 
-    ghost Value = { Held };
+    ghost Value = { Contents };
 
     ghost use Rattle.std.specs.Prelude.{vec_capacity};
-    ghost use Rattle.sv_scan.specs.Kept.{held_of, IsKept};
+    ghost use Rattle.sv_scan.specs.Kept.{contents_of, IsValid};
 
-    ghost view = { λ a. held_of a.inputs a.settings a.run a.readings.items };
+    ghost view = { λ a. contents_of a.inputs a.settings a.run a.readings.items };
 
-    ghost invariant = { λ a. IsKept (held_of a.inputs a.settings a.run a.readings.items)
+    ghost invariant = { λ a. IsValid (contents_of a.inputs a.settings a.run a.readings.items)
         (vec_capacity a.readings) };
 }
 
@@ -90,13 +92,27 @@ impl<A: Allocator> Scanner<A> {
             → result ≡ refused_by (setting_fault (kept acts) setting) }
         ensures refused { OnErr result (self.new ≡ self.old) }
     {
-        if !is_possible(&setting) {
+        self.may_set(&setting)?;
+        self.settings.set(setting);
+        Ok(())
+    }
+
+    /// Whether [`Scanner::configure`] would change a setting so.
+    ///
+    /// # Errors
+    /// [`Code::DataOutOfRange`] where it may not have this value, then [`Code::SettingsConflict`]
+    /// where it can't be changed now.
+    pub fn may_set(&self, setting: &Setting) -> Result<(), Code>
+        ensures answer { (acts : List ScanAct) → StandsFor self.now acts
+            → result ≡ refused_by (setting_fault (kept acts) setting.now) }
+        ensures possible { OnOk result (may_have setting.now ≡ true) }
+    {
+        if !is_possible(setting) {
             return Err(Code::DataOutOfRange);
         }
-        if is_fixed(&setting) && !is_idle(self.state()) {
+        if is_fixed(setting) && !is_idle(self.state()) {
             return Err(Code::SettingsConflict);
         }
-        self.settings.set(setting);
         Ok(())
     }
 
@@ -111,11 +127,23 @@ impl<A: Allocator> Scanner<A> {
             → result ≡ refused_by (init_fault (kept acts)) }
         ensures refused { OnErr result (self.new ≡ self.old) }
     {
+        self.may_init()?;
+        self.readings.clear();
+        self.run = Some(Run::new(self.settings.list, self.settings.count));
+        Ok(())
+    }
+
+    /// Whether [`Scanner::init`] would initiate a measurement.
+    ///
+    /// # Errors
+    /// [`Code::InitIgnored`] where one is under way.
+    pub fn may_init(&self) -> Result<(), Code>
+        ensures { (acts : List ScanAct) → StandsFor self.now acts
+            → result ≡ refused_by (init_fault (kept acts)) }
+    {
         if !is_idle(self.state()) {
             return Err(Code::InitIgnored);
         }
-        self.readings.clear();
-        self.run = Some(Run::new(self.settings.list.copied(), self.settings.count));
         Ok(())
     }
 
@@ -163,15 +191,31 @@ impl<A: Allocator> Scanner<A> {
         ensures answer { (acts : List ScanAct) → StandsFor self.old acts
             → result ≡ refused_by (trigger_fault (kept acts) source) }
         ensures refused { OnErr result (self.new ≡ self.old) }
+        ensures scanning { OnOk result (run_state self.new.run (length self.new.readings)
+            ≡ Scanning) }
     {
-        let awaited = self.awaits(source);
+        self.may_trigger(source)?;
         let Some(run) = &mut self.run else {
             return Err(Code::TriggerIgnored);
         };
-        if !awaited {
+        run.trigger();
+        Ok(())
+    }
+
+    /// Whether a trigger from this source is waited for, so that [`Scanner::trigger`] would begin
+    /// the next scan.
+    ///
+    /// # Errors
+    /// [`Code::TriggerIgnored`] where none is waited for, or one from another source.
+    pub fn may_trigger(&self, source: Source) -> Result<(), Code>
+        ensures answer { (acts : List ScanAct) → StandsFor self.now acts
+            → result ≡ refused_by (trigger_fault (kept acts) source) }
+        ensures waiting { OnOk result (run_state self.now.run (length self.now.readings)
+            ≡ Waiting) }
+    {
+        if !is_waiting(self.state()) || !is_same(self.settings.source, source) {
             return Err(Code::TriggerIgnored);
         }
-        run.trigger();
         Ok(())
     }
 
@@ -202,17 +246,6 @@ impl<A: Allocator> Scanner<A> {
             → result ≡ state_of (kept acts) }
     {
         state_in(&self.run, self.readings.len())
-    }
-
-    /// Whether a trigger from this source is waited for.
-    fn awaits(&self, from: Source) -> bool
-        ensures value { result ≡ (waits
-            (run_state self.now.run (length self.now.readings)) && same_source self.now.source
-            from) }
-        ensures answer { (acts : List ScanAct) → StandsFor self.now acts
-            → result ≡ (waits (state_of (kept acts)) && same_source (source_of (kept acts)) from) }
-    {
-        is_waiting(self.state()) && is_same(self.settings.source, from)
     }
 
     /// The newest reading of the measurement, where there is one.
@@ -252,15 +285,17 @@ impl<A: Allocator> Scanner<A> {
     }
 
     /// The readings of the last measurement, oldest first: scan by scan, each in the order of its
-    /// list.
+    /// list. There are at most 512, and no voltage of them is beyond 1,000 V in magnitude.
     ///
     /// # Errors
     /// [`Code::DataCorruptOrStale`] where they aren't complete, or were aborted.
     pub fn readings(&self) -> Result<&[Reading], Code>
-        ensures { (acts : List ScanAct) → StandsFor self.now acts
+        ensures answer { (acts : List ScanAct) → StandsFor self.now acts
             → MatchResult result (λ found. (completes (kept acts) ≡ true)
             × (found.now ≡ readings_of (kept acts))) (λ code. (completes (kept acts) ≡ false)
             × (code ≡ DataCorruptOrStale)) }
+        ensures few { IfOk result (λ found. length found.now ≤ 512) }
+        ensures bounded { IfOk result (λ found. list_all is_bounded found.now ≡ true) }
     {
         if is_complete(&self.run, self.readings.len()) {
             Ok(self.readings.as_slice())

@@ -5,7 +5,7 @@ use sv_errors::Source;
 
 /// A setting and its value. Each but [`Setting::Monitor`] and those of the limits can be changed in
 /// the idle state alone.
-#[derive(Debug, Drop)]
+#[derive(Clone, Copy, Debug)]
 pub enum Setting {
     /// The channels that a scan reads, in their order: 1 to 32 of them, each 1 to 32. At first
     /// channel 1.

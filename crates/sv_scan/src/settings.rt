@@ -6,8 +6,7 @@ ghost use Rattle.sv_scan.specs.Setting.{scan_list, monitor, range, upper, lower,
 use crate::possible::least_range;
 use crate::scan_list::ScanList;
 use crate::setting::Setting;
-use sv_errors::Source;
-use sv_errors::MOST_MICROVOLTS;
+use sv_errors::{MOST_MICROVOLTS, Source};
 
 /// What is set.
 #[derive(Drop)]

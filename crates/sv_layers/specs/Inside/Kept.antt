@@ -10,7 +10,7 @@ use Rattle.sv_status.specs.declared.status_byte.StatusAct.{StatusAct}
 use Rattle.sv_status.specs.declared.status_byte.StatusAct.TheVariants.{Update, Poll}
 use Rattle.sv_status.specs.StatusByte.{Latches as StatusLatches, IsRaised, StandsFor as Statuses}
 use Rattle.sv_scan.specs.Condition.{bit}
-use Rattle.sv_scan.specs.Stands.{Held as ScanHeld, StandsFor as Scans}
+use Rattle.sv_scan.specs.Stands.{Contents as ScanContents, StandsFor as Scans}
 use Rattle.sv_exchange.specs.Exchange.{response, is_something}
 use Rattle.sv_exchange.specs.Contents.{Contents, StandsFor as Exchanges}
 use Rattle.sv_layers.specs.Act.{Act, Polled}
@@ -23,7 +23,7 @@ pub record Layered : Type 0 where
   pub questionable : RegisterLatches
   pub standard : StandardLatches
   pub status : StatusLatches
-  pub scanner : ScanHeld
+  pub scanner : ScanContents
   pub service : ℕ
   pub waits : Bool
 

@@ -4,7 +4,7 @@ use mir.Val.{SFits}
 use Rattle.sv_scan.specs.declared.acts.ScanAct.TheVariants.{Sample}
 use Rattle.sv_scan.specs.Scan.{channel_at, reading_in}
 use Rattle.sv_scan.specs.Counted.{kept, is_scanning}
-use Rattle.sv_scan.proofs.Runs.{has_room, turn_is}
+use Rattle.sv_scan.proofs.Runs.{has_room, turn_is, IsValid-sample}
 use Rattle.sv_scan.proofs.Stands.{StandsFor-counted, Holds-sample}
 use Rattle.sv_scan.proofs.scanner.Scanner.sample.Goals as goal
 
@@ -14,6 +14,14 @@ push_reserved-requires g c =
     ∙ c.if-not-is_scanning.false) in
     let room = has_room _ _ c.in-Some.run' c.in-Some.is c.self.invariant scanning in
     omega (arith, c.self.inside.readings.ok.0, room)
+
+pub invariant_of-self : goal.invariant_of-self
+invariant_of-self g c =
+    let scanning = rw (← c.self.view_is) at (ap is_scanning (sym c.state.ensures.value) ∙ sym c.is_scanning.ensures
+    ∙ c.if-not-is_scanning.false) in
+    let bounded = c.reading_in-reading.ensures.bounded (search rules) in
+    rw (c.push_reserved.ensures.items, c.push_reserved.ensures.capacity) (IsValid-sample _ _ c.in-Some.run' _ c.in-Some.is c.self.invariant
+    scanning bounded)
 
 pub returns-clause-answer : goal.returns-clause-answer
 returns-clause-answer g c acts is =
@@ -29,7 +37,7 @@ returns-clause-stands g c acts is =
     let many = c.len.ensures ∙ c.self.inside.readings.ok.0 in
     let channel = c.channel-channel.ensures ∙ ap (channel_at c.in-Some.run'.channels) many in
     let voltage = c.voltage.ensures ∙ ap (λ (n : ℕ). get_or c.self.inside.inputs (n - 1) (pos 0)) channel in
-    let reading = c.reading_in-reading.ensures ∙ ap (λ (z : ℤ). reading_in z (to_z w64 (of_z w64 c.voltage.result)))
+    let reading = c.reading_in-reading.ensures.value ∙ ap (λ (z : ℤ). reading_in z (to_z w64 (of_z w64 c.voltage.result)))
     (to_z-of_z w64 c.self.inside.settings.range fits)
     ∙ ap (reading_in c.self.inside.settings.range) (to_z-of_z w64 c.voltage.result heard ∙ voltage) in
     rw (c.push_reserved.ensures.items, reading) (StandsFor-counted _ Sample acts counted
