@@ -1,10 +1,11 @@
 -- The bits of words that are made of single bits.
-use Rattle.std.proofs.Common.{◌≡◌, ℕ, Bool, true, false, ◌+◌, ◌*◌, ◌-◌, ◌^◌, ◌<◌, ◌≤◌, ap, sym, ◌∙◌, ◌⊎◌, inl, inr, arith, refl}
+use Rattle.std.proofs.Common.{◌≡◌, ℕ, Bool, true, false, ◌+◌, ◌-◌, ◌^◌, ◌<◌, ◌≤◌, ap, sym, ◌∙◌, ◌⊎◌, inl, inr, arith, refl, zero-add, one-mul}
 use Rattle.std.specs.Prelude.{◌↔◌}
 use Rattle.std.specs.Int.{bit_at}
 use Rattle.std.proofs.lemmas.Bool.{cases_eq, cases_lt}
 use Rattle.std.proofs.lemmas.Nat.Bits.{bit_at-pow_same, bit_at-pow_other, bit_at-zero, bit_at_above, bit_at_cat_low, bit_at_cat_high}
 use Rattle.sv_scan.specs.Condition.{bit}
+use Rattle.sv_layers.proofs.Either.{unchanged, either_same}
 
 -- one bit
 pub bit_of : (place : ℕ) (b : Bool) (k : ℕ) → (bit_at (bit place b) k ≡ 1) ↔ ((k ≡ place) × (b ≡ true))
@@ -22,35 +23,29 @@ bit-le place true = omega arith
 bit-le place false = omega arith
 
 -- the bit above those of a word
-above_word : (place w k : ℕ) → w < 2 ^ place → (bit_at (1 * 2 ^ place + w) k ≡ 1) ↔ ((k ≡ place) ⊎ (bit_at w k ≡ 1))
-above_word place w k fits = elim (cases_lt k place) [
-  | inl lt ↦
-      let low = bit_at_cat_low 1 place w k lt in
-      ((λ h. inr (sym low ∙ h)), (λ h. elim h [ inl e ↦ absurd (omega arith) | inr other ↦ low ∙ other ]))
-  | inr le ↦
-      let high = bit_at_cat_high 1 place w k fits le in
-      let none = bit_at_above w place k fits le in (
-        (λ h. elim (cases_eq k place) [
-          | inl e ↦ inl e
-          | inr ne ↦ absurd (let zero = bit_at-pow_other 0 (k - place) (omega arith) in omega arith)
-        ]),
-        (λ h. elim h [
-          | inl e ↦ high ∙ ap (bit_at 1) (let none : k - place ≡ 0 = omega arith in none)
-          | inr other ↦ absurd (omega arith)
-        ]),
-      )
-]
+above_word : (place w k : ℕ) → w < 2 ^ place → (bit_at (2 ^ place + w) k ≡ 1) ↔ ((k ≡ place) ⊎ (bit_at w k ≡ 1))
+above_word place w k fits =
+    let once = one-mul (2 ^ place) in
+    elim (cases_lt k place) [
+      | inl lt ↦
+          let low = rw once at (bit_at_cat_low 1 place w k lt) in
+          ((λ h. inr (sym low ∙ h)), (λ h. elim h [ inl e ↦ absurd (omega arith) | inr other ↦ low ∙ other ]))
+      | inr le ↦
+          let high = rw once at (bit_at_cat_high 1 place w k fits le) in
+          let none = bit_at_above w place k fits le in (
+            (λ h. elim (cases_eq k place) [
+              | inl e ↦ inl e
+              | inr ne ↦ absurd (let zero = bit_at-pow_other 0 (k - place) (omega arith) in omega arith)
+            ]),
+            (λ h. elim h [
+              | inl e ↦ high ∙ ap (bit_at 1) (let none : k - place ≡ 0 = omega arith in none)
+              | inr other ↦ absurd (omega arith)
+            ]),
+          )
+    ]
 
 pub top_bit : (place : ℕ) (b : Bool) (w k : ℕ) → w < 2 ^ place
     → (bit_at (bit place b + w) k ≡ 1) ↔ (((k ≡ place) × (b ≡ true)) ⊎ (bit_at w k ≡ 1))
-top_bit place true w k fits =
-    let law = above_word place w k fits in
-    let same : 2 ^ place + w ≡ 1 * 2 ^ place + w = omega arith in (
-      (λ h. elim (law.0 (ap (λ (n : ℕ). bit_at n k) (sym same) ∙ h)) [ inl e ↦ inl (e, refl) | inr other ↦ inr other ]),
-      (λ h. ap (λ (n : ℕ). bit_at n k) same ∙ law.1 (elim h [ inl e ↦ inl e.0 | inr other ↦ inr other ])),
-    )
+top_bit place true w k fits = either_same (above_word place w k fits) ((λ e. (e, refl)), (λ h. h.0)) unchanged
 top_bit place false w k fits =
-    let same : 0 + w ≡ w = omega arith in (
-      (λ h. inr (ap (λ (n : ℕ). bit_at n k) (sym same) ∙ h)),
-      (λ h. elim h [ inl e ↦ absurd (let none = e.1 in cc) | inr other ↦ ap (λ (n : ℕ). bit_at n k) same ∙ other ]),
-    )
+    rw (zero-add w) ((λ h. inr h), (λ h. elim h [ inl e ↦ absurd (let none = e.1 in cc) | inr other ↦ other ]))

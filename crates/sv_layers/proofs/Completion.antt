@@ -11,12 +11,9 @@ use Rattle.sv_layers.specs.Condition.{is_idle}
 use Rattle.sv_layers.specs.Standard.{IsAsked, IsPending, Completes, cancels}
 use Rattle.sv_layers.specs.Inside.Seen.{Seen, begun, compared, resets, idles, seen}
 use Rattle.sv_layers.specs.Laws.{SameWaiting, SameCompletion}
+use Rattle.sv_layers.proofs.Either.{unchanged}
 use Rattle.sv_layers.proofs.Booleans.{and_both, and_not}
-use Rattle.sv_layers.proofs.Projected.{begun_projects, projected, ended_others}
-
--- what nothing happens to is as before
-unchanged : {P : Type 0} → P ↔ P
-unchanged = ((λ p. p), (λ p. p))
+use Rattle.sv_layers.proofs.Projected.{begun_scanner, ended_others}
 
 -- a reset cancels an `*OPC`, and no other act of the scanner does
 scanned_waits : (act : ScanAct) (log : List Act) (b : Bool)
@@ -29,50 +26,31 @@ scanned_waits Reset log b = step_ended (λ e. absurd cc) (λ e. absurd (let h = 
 scanned_waits (Trigger source) log b = step_same refl (λ none. none) (then_same (and_not b false) ((λ h. h.1), (λ e. (refl, e))))
 scanned_waits Sample log b = step_same refl (λ none. none) (then_same (and_not b false) ((λ h. h.1), (λ e. (refl, e))))
 
--- before the conditions are compared
+-- before the conditions are compared; and an `*OPC` cancels none
 begun_waits : (act : Act) (log : List Act) (at : Seen)
-    → ((begun act at).waits ≡ true) ↔ ((cancels act ≡ false) × (IsAsked (act ∷ log) ⊎ (at.waits ≡ true)))
-begun_waits (Exchanged act) log at = step_same refl (λ none. none) unchanged
-begun_waits Purged log at = step_ended (λ e. absurd cc) (λ e. absurd cc)
-begun_waits (Scanned act) log at = scanned_waits act log at.waits
-begun_waits (Held awaited) log at = step_same refl (λ none. none) unchanged
-begun_waits (Reported code) log at = step_same refl (λ none. none) unchanged
-begun_waits EntryTaken log at = step_same refl (λ none. none) unchanged
-begun_waits Cleared log at = step_ended (λ e. absurd cc) (λ e. absurd cc)
-begun_waits Preset log at = step_same refl (λ none. none) unchanged
-begun_waits OpcAsked log at = step_kept refl ((λ e. inl tt), (λ h. refl))
-begun_waits StandardRead log at = step_same refl (λ none. none) unchanged
-begun_waits (StandardEnabled mask) log at = step_same refl (λ none. none) unchanged
-begun_waits (EventRead name) log at = step_same refl (λ none. none) unchanged
-begun_waits (Enabled name mask) log at = step_same refl (λ none. none) unchanged
-begun_waits (RiseSet name mask) log at = step_same refl (λ none. none) unchanged
-begun_waits (FallSet name mask) log at = step_same refl (λ none. none) unchanged
-begun_waits (ServiceEnabled mask) log at = step_same refl (λ none. none) unchanged
-begun_waits Polled log at = step_same refl (λ none. none) unchanged
-
--- an `*OPC` cancels none
-asked_keeps : (act : Act) (log : List Act) → IsAsked (act ∷ log) → cancels act ≡ false
-asked_keeps (Exchanged act) log asked = refl
-asked_keeps Purged log asked = absurd asked
-asked_keeps (Scanned act) log asked = absurd asked
-asked_keeps (Held awaited) log asked = refl
-asked_keeps (Reported code) log asked = refl
-asked_keeps EntryTaken log asked = refl
-asked_keeps Cleared log asked = absurd asked
-asked_keeps Preset log asked = refl
-asked_keeps OpcAsked log asked = refl
-asked_keeps StandardRead log asked = refl
-asked_keeps (StandardEnabled mask) log asked = refl
-asked_keeps (EventRead name) log asked = refl
-asked_keeps (Enabled name mask) log asked = refl
-asked_keeps (RiseSet name mask) log asked = refl
-asked_keeps (FallSet name mask) log asked = refl
-asked_keeps (ServiceEnabled mask) log asked = refl
-asked_keeps Polled log asked = refl
+    → (((begun act at).waits ≡ true) ↔ ((cancels act ≡ false) × (IsAsked (act ∷ log) ⊎ (at.waits ≡ true))))
+    × (IsAsked (act ∷ log) → cancels act ≡ false)
+begun_waits (Exchanged act) log at = (step_same refl (λ none. none) unchanged, λ asked. refl)
+begun_waits Purged log at = (step_ended (λ e. absurd cc) (λ e. absurd cc), λ asked. absurd asked)
+begun_waits (Scanned act) log at = (scanned_waits act log at.waits, λ asked. absurd asked)
+begun_waits (Held awaited) log at = (step_same refl (λ none. none) unchanged, λ asked. refl)
+begun_waits (Reported code) log at = (step_same refl (λ none. none) unchanged, λ asked. refl)
+begun_waits EntryTaken log at = (step_same refl (λ none. none) unchanged, λ asked. refl)
+begun_waits Cleared log at = (step_ended (λ e. absurd cc) (λ e. absurd cc), λ asked. absurd asked)
+begun_waits Preset log at = (step_same refl (λ none. none) unchanged, λ asked. refl)
+begun_waits OpcAsked log at = (step_kept refl ((λ e. inl tt), (λ h. refl)), λ asked. refl)
+begun_waits StandardRead log at = (step_same refl (λ none. none) unchanged, λ asked. refl)
+begun_waits (StandardEnabled mask) log at = (step_same refl (λ none. none) unchanged, λ asked. refl)
+begun_waits (EventRead name) log at = (step_same refl (λ none. none) unchanged, λ asked. refl)
+begun_waits (Enabled name mask) log at = (step_same refl (λ none. none) unchanged, λ asked. refl)
+begun_waits (RiseSet name mask) log at = (step_same refl (λ none. none) unchanged, λ asked. refl)
+begun_waits (FallSet name mask) log at = (step_same refl (λ none. none) unchanged, λ asked. refl)
+begun_waits (ServiceEnabled mask) log at = (step_same refl (λ none. none) unchanged, λ asked. refl)
+begun_waits Polled log at = (step_same refl (λ none. none) unchanged, λ asked. refl)
 
 -- whether no measurement is under way where an act began
 begun_idle : (act : Act) (log : List Act) → idles (begun act (seen log)) ≡ is_idle (act ∷ log)
-begun_idle act log = ap (λ (acts : List ScanAct). idle_state (state (kept acts))) (begun_projects act log (seen log) (projected log)).2
+begun_idle act log = ap (λ (acts : List ScanAct). idle_state (state (kept acts))) (begun_scanner act log)
 
 seen_waits : (act : Act) (log : List Act) → (seen (act ∷ log)).waits ≡ ((begun act (seen log)).waits && not (is_idle (act ∷ log)))
 seen_waits act log = ap (λ (at : Seen). at.waits) (ended_others act (compared (begun act (seen log))))
@@ -82,7 +60,7 @@ waits_step : (act : Act) (log : List Act)
     → ((seen (act ∷ log)).waits ≡ true) ↔ (IsPending (act ∷ log) × (IsAsked (act ∷ log) ⊎ ((seen log).waits ≡ true)))
 waits_step act log =
     let both = and_not (begun act (seen log)).waits (is_idle (act ∷ log)) in
-    let began = begun_waits act log (seen log) in (
+    let began = (begun_waits act log (seen log)).0 in (
       (λ e. let h = both.0 (sym (seen_waits act log) ∙ e) in let w = began.0 h.1 in ((h.0, w.0), w.1)),
       (λ h. seen_waits act log ∙ both.1 (h.0.0, began.1 (h.0.1, h.1))),
     )
@@ -97,7 +75,7 @@ completes act before = (begun act (seen before)).waits && idles (begun act (seen
 pub completes_is : (act : Act) (before : List Act) → (completes act before ≡ true) ↔ Completes (act ∷ before)
 completes_is act before =
     let both = and_both (begun act (seen before)).waits (idles (begun act (seen before))) in
-    let began = begun_waits act before (seen before) in
+    let began = (begun_waits act before (seen before)).0 in
     let idle = begun_idle act before in
     let waits = same_waiting before in (
       (λ e.
@@ -107,7 +85,7 @@ completes_is act before =
       (λ h. both.1 (
         idle ∙ h.0,
         elim h.1 [
-          | inl asked ↦ began.1 (asked_keeps act before asked, inl asked)
+          | inl asked ↦ began.1 ((begun_waits act before (seen before)).1 asked, inl asked)
           | inr waited ↦ began.1 (waited.1, inr (waits.1 waited.0))
         ],
       )),

@@ -12,3 +12,4 @@ pub mod SameSummaries
 pub mod NothingAtPoll
 pub mod SameRequests
 pub mod AlwaysTold
+pub mod Either

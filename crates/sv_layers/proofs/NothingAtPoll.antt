@@ -1,5 +1,5 @@
 -- A poll changes nothing that the status byte sums up, so it gives no reason for service.
-use Rattle.std.proofs.Common.{ℕ, List, [], ◌∷◌, inl, inr, sym, ◌∙◌}
+use Rattle.std.proofs.Common.{ℕ, List, [], ◌∷◌, ◌⊎◌, inl, inr, arith, sym, ◌∙◌}
 use Rattle.sv_errors.proofs.Since.{since_empty, since_step, since_same}
 use Rattle.sv_status.specs.declared.register_name.RegisterName.{RegisterName}
 use Rattle.sv_status.specs.declared.register_name.RegisterName.TheVariants.{Operation, Questionable}
@@ -28,18 +28,13 @@ no_completion (act ∷ log) c = elim c.1 [
 polled_standard : (log : List Act) → StandardSummary (Polled ∷ log) → StandardSummary log
 polled_standard log s = (s.0, (since_same (Occurs s.0) StandardNotCleared Polled log tt (λ occurs. no_completion log occurs.1)).0 s.1, s.2)
 
+-- one of five
+some_of_five : {A B C D E P Q R : Type 0} → (A → P) → (B → Q) → (D → R) → A ⊎ B ⊎ C ⊎ D ⊎ E → P ⊎ Q ⊎ C ⊎ R ⊎ E
+some_of_five a b d h = grind (arith, a, b, d, h)
+
 -- What asks behind a poll asked before it.
 pub polled_asks : (k : ℕ) (log : List Act) → Asks k (Polled ∷ log) → Asks k log
-polled_asks k log asks = (
-  elim asks.0 [
-    | inl seven ↦ inl (seven.0, polled_summary Operation log seven.1)
-    | inr rest ↦ inr (elim rest [
-      | inl five ↦ inl (five.0, polled_standard log five.1)
-      | inr rest ↦ inr (elim rest [
-        | inl four ↦ inl four
-        | inr rest ↦ inr (elim rest [ inl three ↦ inl (three.0, polled_summary Questionable log three.1) | inr two ↦ inr two ])
-      ])
-    ])
-  ],
-  asks.1,
-)
+polled_asks k log asks =
+    let bit = some_of_five (λ h. (h.0, polled_summary Operation log h.1)) (λ h. (h.0, polled_standard log h.1))
+    (λ h. (h.0, polled_summary Questionable log h.1)) asks.0 in
+    (bit, asks.1)

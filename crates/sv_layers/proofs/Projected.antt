@@ -9,7 +9,7 @@ use Rattle.sv_scan.specs.declared.acts.ScanAct.{ScanAct}
 use Rattle.sv_exchange.specs.Exchange.{ExchangeAct, TextDropped, Interrupted}
 use Rattle.sv_layers.specs.Act.{Act, Exchanged, Purged, Scanned, Held, Reported, EntryTaken, Cleared, Preset, OpcAsked, StandardRead, StandardEnabled, EventRead, Enabled, RiseSet, FallSet, ServiceEnabled, Polled, exchange_acts, queue_acts, scan_acts}
 use Rattle.sv_layers.specs.StatusByte.{service}
-use Rattle.sv_layers.specs.Inside.Seen.{Seen, begun, compared, ended, on_register, seen}
+use Rattle.sv_layers.specs.Inside.Seen.{Seen, begun, compared, ended, on_register, register_acts, seen}
 use Rattle.sv_layers.specs.Laws.{OwnActs}
 
 -- what is seen without registers and standard events
@@ -41,35 +41,50 @@ ended_others (ServiceEnabled mask) at = refl
 ended_others Polled at = refl
 
 -- these layers see what is theirs of the log
-abbrev pub Projects : Seen → List Act → Type 0
-Projects at log = (at.exchange ≡ exchange_acts log) × (at.errors ≡ queue_acts log) × (at.scanner ≡ scan_acts log) × (at.service ≡ service log)
+abbrev Projects : Seen → List Act → Type 0
+Projects at log = (at.exchange ≡ exchange_acts log) × (at.errors ≡ queue_acts log) × (at.scanner ≡ scan_acts log)
+    × (at.service ≡ service log)
 
-pub begun_projects : (act : Act) (log : List Act) (at : Seen) → Projects at log → Projects (begun act at) (act ∷ log)
-begun_projects (Exchanged act) log at h = (ap (λ (acts : List ExchangeAct). act ∷ acts) h.0, h.1, h.2, h.3)
-begun_projects Purged log at h = (ap (λ (acts : List ExchangeAct). Interrupted ∷ TextDropped ∷ acts) h.0, h.1, h.2, h.3)
-begun_projects (Scanned act) log at h = (h.0, h.1, ap (λ (acts : List ScanAct). act ∷ acts) h.2, h.3)
-begun_projects (Held awaited) log at h = h
-begun_projects (Reported code) log at h = (h.0, ap (λ (acts : List QueueAct). queue.Report code ∷ acts) h.1, h.2, h.3)
-begun_projects EntryTaken log at h = (h.0, ap (λ (acts : List QueueAct). queue.Take ∷ acts) h.1, h.2, h.3)
-begun_projects Cleared log at h = (h.0, ap (λ (acts : List QueueAct). queue.Clear ∷ acts) h.1, h.2, h.3)
-begun_projects Preset log at h = h
-begun_projects OpcAsked log at h = h
-begun_projects StandardRead log at h = h
-begun_projects (StandardEnabled mask) log at h = h
-begun_projects (EventRead name) log at h = h
-begun_projects (Enabled name mask) log at h = h
-begun_projects (RiseSet name mask) log at h = h
-begun_projects (FallSet name mask) log at h = h
-begun_projects (ServiceEnabled mask) log at h = (h.0, h.1, h.2, refl)
-begun_projects Polled log at h = h
+-- It begins in these layers, and in no register.
+abbrev Begins : Act → List Act → Seen → Type 0
+Begins act log at = Projects at log → Projects (begun act at) (act ∷ log)
+    × ((begun act at).operation ≡ at.operation) × ((begun act at).questionable ≡ at.questionable)
+
+begins : (act : Act) (log : List Act) (at : Seen) → Begins act log at
+begins (Exchanged act) log at h = ((ap (λ (acts : List ExchangeAct). act ∷ acts) h.0, h.1, h.2, h.3), refl, refl)
+begins Purged log at h = ((ap (λ (acts : List ExchangeAct). Interrupted ∷ TextDropped ∷ acts) h.0, h.1, h.2, h.3), refl, refl)
+begins (Scanned act) log at h = ((h.0, h.1, ap (λ (acts : List ScanAct). act ∷ acts) h.2, h.3), refl, refl)
+begins (Held awaited) log at h = (h, refl, refl)
+begins (Reported code) log at h = ((h.0, ap (λ (acts : List QueueAct). queue.Report code ∷ acts) h.1, h.2, h.3), refl, refl)
+begins EntryTaken log at h = ((h.0, ap (λ (acts : List QueueAct). queue.Take ∷ acts) h.1, h.2, h.3), refl, refl)
+begins Cleared log at h = ((h.0, ap (λ (acts : List QueueAct). queue.Clear ∷ acts) h.1, h.2, h.3), refl, refl)
+begins Preset log at h = (h, refl, refl)
+begins OpcAsked log at h = (h, refl, refl)
+begins StandardRead log at h = (h, refl, refl)
+begins (StandardEnabled mask) log at h = (h, refl, refl)
+begins (EventRead name) log at h = (h, refl, refl)
+begins (Enabled name mask) log at h = (h, refl, refl)
+begins (RiseSet name mask) log at h = (h, refl, refl)
+begins (FallSet name mask) log at h = (h, refl, refl)
+begins (ServiceEnabled mask) log at h = ((h.0, h.1, h.2, refl), refl, refl)
+begins Polled log at h = (h, refl, refl)
 
 pub projected : OwnActs
 projected [] = (refl, refl, refl, refl)
 projected (act ∷ log) =
-    let h = begun_projects act log (seen log) (projected log) in
+    let h = (begins act log (seen log) (projected log)).0 in
     let same = ended_others act (compared (begun act (seen log))) in (
       ap (λ (at : Seen). at.exchange) same ∙ h.0,
       ap (λ (at : Seen). at.errors) same ∙ h.1,
       ap (λ (at : Seen). at.scanner) same ∙ h.2,
       ap (λ (at : Seen). at.service) same ∙ h.3,
     )
+
+-- where an act began
+pub begun_scanner : (act : Act) (log : List Act) → (begun act (seen log)).scanner ≡ scan_acts (act ∷ log)
+begun_scanner act log = (begins act log (seen log) (projected log)).0.2
+
+pub begun_register : (name : RegisterName) (act : Act) (log : List Act)
+    → register_acts name (begun act (seen log)) ≡ register_acts name (seen log)
+begun_register Operation act log = (begins act log (seen log) (projected log)).1
+begun_register Questionable act log = (begins act log (seen log) (projected log)).2

@@ -11,7 +11,7 @@ use Rattle.sv_layers.specs.Act.{Act, Exchanged, Purged, Scanned, Held, Reported,
 use Rattle.sv_layers.specs.Condition.{condition}
 use Rattle.sv_layers.specs.Event.{is_same}
 use Rattle.sv_layers.specs.Inside.Seen.{Seen, begun, compared, ended, on_register, both_registers, register_acts, seen}
-use Rattle.sv_layers.proofs.Projected.{begun_projects, projected}
+use Rattle.sv_layers.proofs.Projected.{begun_scanner, begun_register}
 
 -- an act of a register behind others, where it is the one that is named
 abbrev pub where_same : RegisterName → RegisterName → RegisterAct → List RegisterAct → List RegisterAct
@@ -32,17 +32,14 @@ on_both Operation act at = refl
 on_both Questionable act at = refl
 
 on_one : (name other : RegisterName) (act : List RegisterAct → RegisterAct) (at : Seen)
-    → register_acts name (on_register other (act (register_acts other at)) at) ≡ where_same name other (act (register_acts name at)) (register_acts name at)
+    → register_acts name (on_register other (act (register_acts other at)) at)
+    ≡ where_same name other (act (register_acts name at)) (register_acts name at)
 on_one Operation Operation act at = refl
 on_one Operation Questionable act at = refl
 on_one Questionable Operation act at = refl
 on_one Questionable Questionable act at = refl
 
--- clearing the standard events too changes no register
-cleared_own : (name : RegisterName) (at : Seen) → register_acts name (ended Cleared at) ≡ register.Clear ∷ register_acts name at
-cleared_own Operation at = refl
-cleared_own Questionable at = refl
-
+-- another list of standard events changes no register
 standard_own : (name : RegisterName) (acts : List StandardAct) (at : Seen)
     → register_acts name (record at { standard = acts }) ≡ register_acts name at
 standard_own Operation acts at = refl
@@ -55,7 +52,7 @@ ended_own name (Scanned act) at = refl
 ended_own name (Held awaited) at = refl
 ended_own name (Reported code) at = refl
 ended_own name EntryTaken at = refl
-ended_own name Cleared at = cleared_own name at
+ended_own name Cleared at = standard_own name _ (both_registers register.Clear at) ∙ on_both name register.Clear at
 ended_own name Preset at = on_both name register.Preset at
 ended_own name OpcAsked at = refl
 ended_own name StandardRead at = standard_own name _ at
@@ -67,30 +64,10 @@ ended_own name (FallSet other mask) at = on_one name other (λ acts. register.Se
 ended_own name (ServiceEnabled mask) at = refl
 ended_own name Polled at = refl
 
--- an act begins in no register
-begun_registers : (act : Act) (at : Seen) → ((begun act at).operation ≡ at.operation) × ((begun act at).questionable ≡ at.questionable)
-begun_registers (Exchanged act) at = (refl, refl)
-begun_registers Purged at = (refl, refl)
-begun_registers (Scanned act) at = (refl, refl)
-begun_registers (Held awaited) at = (refl, refl)
-begun_registers (Reported code) at = (refl, refl)
-begun_registers EntryTaken at = (refl, refl)
-begun_registers Cleared at = (refl, refl)
-begun_registers Preset at = (refl, refl)
-begun_registers OpcAsked at = (refl, refl)
-begun_registers StandardRead at = (refl, refl)
-begun_registers (StandardEnabled mask) at = (refl, refl)
-begun_registers (EventRead name) at = (refl, refl)
-begun_registers (Enabled name mask) at = (refl, refl)
-begun_registers (RiseSet name mask) at = (refl, refl)
-begun_registers (FallSet name mask) at = (refl, refl)
-begun_registers (ServiceEnabled mask) at = (refl, refl)
-begun_registers Polled at = (refl, refl)
-
 compared_register : (name : RegisterName) (act : Act) (log : List Act)
     → register_acts name (compared (begun act (seen log))) ≡ register.Condition (condition name (act ∷ log)) ∷ register_acts name (seen log)
-compared_register Operation act log = rw ((begun_projects act log (seen log) (projected log)).2, (begun_registers act (seen log)).0) refl
-compared_register Questionable act log = rw ((begun_projects act log (seen log) (projected log)).2, (begun_registers act (seen log)).1) refl
+compared_register Operation act log = rw (begun_scanner act log, begun_register Operation act log) refl
+compared_register Questionable act log = rw (begun_scanner act log, begun_register Questionable act log) refl
 
 pub seen_register : (name : RegisterName) (act : Act) (log : List Act) → register_acts name (seen (act ∷ log))
     ≡ own name act (register.Condition (condition name (act ∷ log)) ∷ register_acts name (seen log))

@@ -51,16 +51,7 @@ told_enable (act ∷ log) told (word, before, summary, is, made) = rw made (proj
 
 -- bit 6 is no summary bit
 not_six : (k : ℕ) (log : List Act) → SummaryBit k log → k ≢ 6
-not_six k log bit six = elim bit [
-  | inl h ↦ absurd (let e = h.0 in omega arith)
-  | inr rest ↦ elim rest [
-    | inl h ↦ absurd (let e = h.0 in omega arith)
-    | inr rest ↦ elim rest [
-      | inl h ↦ absurd (let e = h.0 in omega arith)
-      | inr rest ↦ elim rest [ inl h ↦ absurd (let e = h.0 in omega arith) | inr h ↦ absurd (let e = h.0 in omega arith) ]
-    ]
-  ]
-]
+not_six k log bit six = grind (arith, bit, six)
 
 told_asks : (log : List Act) (told : List StatusAct) → IsStatus log told → (k : ℕ) → status.AsksAt k told ↔ Asks k log
 told_asks log told is k =
@@ -129,7 +120,8 @@ same_requests (act ∷ log) told (word, before, summary, is, made) =
 
 -- whether it is raised, by whether it stood before
 abbrev RaisedStep : Act → Type 0
-RaisedStep act = (log : List Act) (now : StatusAct) (before : List StatusAct) → status.Request (now ∷ own_status act before) ↔ Request (act ∷ log)
+RaisedStep act = (log : List Act) (now : StatusAct) (before : List StatusAct)
+    → status.Request (now ∷ own_status act before) ↔ Request (act ∷ log)
     → status.Request before ↔ Request log
     → status.IsRaised (now ∷ own_status act before) ↔ IsRaised (act ∷ log)
 

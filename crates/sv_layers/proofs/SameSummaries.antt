@@ -1,5 +1,5 @@
 -- The summary bits of the status byte, as they are seen and as the log tells.
-use Rattle.std.proofs.Common.{◌≡◌, ℕ, ◌+◌, Bool, true, false, List, [], refl, ap, ◌∙◌, sym, ◌⊎◌, inl, inr, arith}
+use Rattle.std.proofs.Common.{◌≡◌, ℕ, ◌+◌, false, List, [], refl, ap, ◌∙◌, sym, arith}
 use Rattle.std.specs.Prelude.{◌↔◌}
 use Rattle.std.specs.Int.{bit_at}
 use Rattle.std.proofs.lemmas.Nat.Bits.{bit_at-zero}
@@ -19,6 +19,7 @@ use Rattle.sv_layers.specs.Standard.{Summary as StandardSummary}
 use Rattle.sv_layers.specs.Inside.Seen.{seen, register_acts}
 use Rattle.sv_layers.specs.Inside.Kept.{IsSummary}
 use Rattle.sv_layers.specs.Laws.{SameSummaries}
+use Rattle.sv_layers.proofs.Either.{either_same, both_same, equal_same}
 use Rattle.sv_layers.proofs.Bits.{bit-le, bit_of, top_bit}
 use Rattle.sv_layers.proofs.Projected.{projected}
 use Rattle.sv_layers.proofs.SameWords.{same_words}
@@ -40,19 +41,6 @@ same_standard_summary log =
       (λ s. (s.0, (same_standard_events s.0 log).1 s.1, ap (λ (w : ℕ). bit_at w s.0) enable ∙ s.2)),
     )
 
--- one of two, and what each of them is
-either_same : {P A B Q R : Type 0} → P ↔ (A ⊎ Q) → A ↔ B → Q ↔ R → P ↔ (B ⊎ R)
-either_same law a q = (
-  (λ p. elim (law.0 p) [ inl x ↦ inl (a.0 x) | inr y ↦ inr (q.0 y) ]),
-  (λ h. law.1 (elim h [ inl x ↦ inl (a.1 x) | inr y ↦ inr (q.1 y) ])),
-)
-
-both_same : {A P Q : Type 0} → P ↔ Q → (A × P) ↔ (A × Q)
-both_same same = ((λ h. (h.0, same.0 h.1)), (λ h. (h.0, same.1 h.1)))
-
-equal_same : (a b : Bool) → a ≡ b → (a ≡ true) ↔ (b ≡ true)
-equal_same a b same = ((λ e. sym same ∙ e), (λ e. same ∙ e))
-
 pub same_summaries : SameSummaries
 same_summaries word log is k =
     let available = is_something (response (seen log).exchange) in
@@ -63,15 +51,18 @@ same_summaries word log is k =
     let three = bit-le 3 is.questioned in
     let two = bit-le 2 errors in
     let word_is = is.word_is in
-    let word_is_joined : word ≡ bit 7 is.operates + (bit 5 is.happened + (bit 4 available + (bit 3 is.questioned + bit 2 errors))) = omega arith in
-    rw word_is_joined (either_same (top_bit 7 is.operates _ k (omega arith)) (both_same (then_same is.operation (same_summary Operation log)))
-    (either_same (top_bit 5 is.happened _ k (omega arith)) (both_same (then_same is.standard (same_standard_summary log)))
-    (either_same (top_bit 4 available _ k (omega arith))
-    (both_same (equal_same _ _ (ap (λ (acts : List ExchangeAct). is_something (response acts)) (projected log).0)))
-    (either_same (top_bit 3 is.questioned _ k (omega arith))
-    (both_same (then_same is.questionable (same_summary Questionable log)))
-    (then_same (bit_of 2 errors k)
-    (both_same (equal_same _ _ (ap (λ (acts : List QueueAct). is_any (entries acts)) (projected log).1))))))))
+    let same_word : word ≡ bit 7 is.operates + (bit 5 is.happened + (bit 4 available + (bit 3 is.questioned + bit 2 errors))) =
+    omega arith in
+    let exchange = ap (λ (acts : List ExchangeAct). is_something (response acts)) (projected log).0 in
+    let queue = ap (λ (acts : List QueueAct). is_any (entries acts)) (projected log).1 in
+    let operation = both_same (then_same is.operation (same_summary Operation log)) in
+    let standard = both_same (then_same is.standard (same_standard_summary log)) in
+    let questionable = both_same (then_same is.questionable (same_summary Questionable log)) in
+    rw same_word (either_same (top_bit 7 is.operates _ k (omega arith)) operation
+    (either_same (top_bit 5 is.happened _ k (omega arith)) standard
+    (either_same (top_bit 4 available _ k (omega arith)) (both_same (equal_same available _ exchange))
+    (either_same (top_bit 3 is.questioned _ k (omega arith)) questionable
+    (then_same (bit_of 2 errors k) (both_same (equal_same errors _ queue)))))))
 
 -- before all acts no summary bit stands
 pub no_summary : IsSummary 0 (seen [])

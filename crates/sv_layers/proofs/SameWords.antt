@@ -25,23 +25,15 @@ abbrev WordsOf : RegisterName → List RegisterAct → List Act → Type 0
 WordsOf name acts log = Words acts (condition name log) (rise name log) (fall name log) (enable name log)
 
 -- a filter has no bit 15
-rise_masked : (acts : List RegisterAct) → masked (register_words.rise acts) ≡ register_words.rise acts
-rise_masked [] = refl
-rise_masked (Condition word ∷ acts) = rise_masked acts
-rise_masked (SetFilter up down ∷ acts) = mod-mod up (2 ^ 15)
-rise_masked (SetEnable word ∷ acts) = rise_masked acts
-rise_masked (ReadEvent ∷ acts) = rise_masked acts
-rise_masked (register.Preset ∷ acts) = refl
-rise_masked (Clear ∷ acts) = rise_masked acts
-
-fall_masked : (acts : List RegisterAct) → masked (register_words.fall acts) ≡ register_words.fall acts
-fall_masked [] = refl
-fall_masked (Condition word ∷ acts) = fall_masked acts
-fall_masked (SetFilter up down ∷ acts) = mod-mod down (2 ^ 15)
-fall_masked (SetEnable word ∷ acts) = fall_masked acts
-fall_masked (ReadEvent ∷ acts) = fall_masked acts
-fall_masked (register.Preset ∷ acts) = refl
-fall_masked (Clear ∷ acts) = fall_masked acts
+filters_masked : (acts : List RegisterAct) → (masked (register_words.rise acts) ≡ register_words.rise acts)
+    × (masked (register_words.fall acts) ≡ register_words.fall acts)
+filters_masked [] = (refl, refl)
+filters_masked (Condition word ∷ acts) = filters_masked acts
+filters_masked (SetFilter up down ∷ acts) = (mod-mod up (2 ^ 15), mod-mod down (2 ^ 15))
+filters_masked (SetEnable word ∷ acts) = filters_masked acts
+filters_masked (ReadEvent ∷ acts) = filters_masked acts
+filters_masked (register.Preset ∷ acts) = (refl, refl)
+filters_masked (Clear ∷ acts) = filters_masked acts
 
 -- an act of the register that is named, or of the other
 read_words : (b : Bool) (acts : List RegisterAct) (c r f e : ℕ) → Words acts c r f e → Words (if b then ReadEvent ∷ acts else acts) c r f e
@@ -55,12 +47,12 @@ enabled_words false mask acts c r f e h = h
 
 rise_words : (b : Bool) (mask : ℕ) (acts : List RegisterAct) (c r f e : ℕ) → Words acts c r f e
     → Words (if b then SetFilter mask (register_words.fall acts) ∷ acts else acts) c (if b then masked mask else r) f e
-rise_words true mask acts c r f e h = (h.0, refl, fall_masked acts ∙ h.2, h.3)
+rise_words true mask acts c r f e h = (h.0, refl, (filters_masked acts).1 ∙ h.2, h.3)
 rise_words false mask acts c r f e h = h
 
 fall_words : (b : Bool) (mask : ℕ) (acts : List RegisterAct) (c r f e : ℕ) → Words acts c r f e
     → Words (if b then SetFilter (register_words.rise acts) mask ∷ acts else acts) c r (if b then masked mask else f) e
-fall_words true mask acts c r f e h = (h.0, rise_masked acts ∙ h.1, refl, h.3)
+fall_words true mask acts c r f e h = (h.0, (filters_masked acts).0 ∙ h.1, refl, h.3)
 fall_words false mask acts c r f e h = h
 
 -- what a register has behind a condition, and behind what an act does to the register itself

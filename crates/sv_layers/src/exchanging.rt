@@ -90,8 +90,8 @@ impl<A: Allocator> Layers<A> {
         ensures fits { (log : List Act) → StandsFor self.old log
             → result.fits ≡ fits_response (answers (exchange_acts log)) answer.now }
         ensures happens { (log : List Act) → StandsFor self.old log
-            → Happens self.new result.raised (Exchanged (if result.fits then Answered answer.now else
-            AnswersDropped) ∷ log) }
+            → Happens self.new result.raised (Exchanged
+            (if result.fits then Answered answer.now else AnswersDropped) ∷ log) }
         ensures measure { work_of self.new.exchange ≤ work_of self.old.exchange }
         ensures stays_open { is_open self.new.exchange ≡ is_open self.old.exchange }
     {

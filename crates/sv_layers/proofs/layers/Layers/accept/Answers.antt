@@ -6,4 +6,5 @@ use Rattle.sv_layers.proofs.layers.Layers.accept.Goals as goal
 pub returns-clause-happens : goal.returns-clause-happens
 returns-clause-happens g c = λ log h.
     let j = rw (← c.self.view_is) at h.joined in
-    c.settle.ensures.happens log (Exchanged (Accepted c.args.bytes.now c.args.ended)) (record { told = h.told; are = h.are; joined = search rules }) refl
+    c.settle.ensures.happens log (Exchanged (Accepted c.args.bytes.now c.args.ended))
+    (record { told = h.told; are = h.are; joined = search rules }) refl

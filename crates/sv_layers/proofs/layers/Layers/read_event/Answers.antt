@@ -12,6 +12,7 @@ returns-in-Operation-clause-happens g c = rw c.in-Operation.is (λ log h.
 
 pub returns-in-Questionable-clause-happens : goal.returns-in-Questionable-clause-happens
 returns-in-Questionable-clause-happens g c = rw c.in-Questionable.is (λ log h.
-    let k = rw (← c.self-in-Questionable.view_is) at (c.compare.ensures.stands (begun (EventRead Questionable) (seen log)) h.told h.joined) in
+    let k = rw (← c.self-in-Questionable.view_is) at
+    (c.compare.ensures.stands (begun (EventRead Questionable) (seen log)) h.told h.joined) in
     let set = c.read_event-in-Questionable.ensures.stands _ k.questionable in
     c.tell-in-Questionable.ensures.happens log (EventRead Questionable) h.told h.are (search rules))

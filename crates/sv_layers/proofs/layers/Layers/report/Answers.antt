@@ -16,8 +16,8 @@ returns-clause-happens g c = λ log h.
     c.mask_where.ensures ∙ bit_is 3 c.report-overflows.result ∙ ap (bit 3) (c.report-overflows.ensures.answer (seen log).errors j.errors) in
     let class = subst (λ (w : ℕ). Standards c.occur.new.self (Occur w ∷ (seen log).standard)) c.standard_event.ensures
     (c.occur.ensures _ j.standard) in
-    let both = subst (λ (w : ℕ). Standards c.occur-2.new.self (Occur w ∷ Occur (standard_event_of c.args.code) ∷ (seen log).standard)) overflow
-    (c.occur-2.ensures _ class) in
+    let both = subst (λ (w : ℕ). Standards c.occur-2.new.self (Occur w ∷ Occur (standard_event_of c.args.code) ∷ (seen log).standard))
+    overflow (c.occur-2.ensures _ class) in
     c.settle.ensures.happens log (Reported c.args.code) (record {
       told = h.told;
       are = h.are;
