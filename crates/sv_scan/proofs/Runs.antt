@@ -9,11 +9,9 @@ use Rattle.std.proofs.lemmas.List.Sums.{AllPass-from_list_all}
 use Rattle.std.proofs.lemmas.List.Folds.{list_all-append}
 use Rattle.std.specs.List.{list_all}
 use Rattle.std.specs.Prelude.{◌==◌, nat_le, ◌&&◌}
-use Rattle.sv_scan.specs.declared.setting.Setting.TheVariants.{List as SetList}
 use Rattle.sv_scan.specs.declared.setting.Reading.{Reading}
 use Rattle.sv_scan.specs.declared.setting.State.TheVariants.{Idle, Waiting, Scanning}
-use Rattle.sv_errors.specs.Limits.{is_channel}
-use Rattle.sv_scan.specs.Setting.{is_possible}
+use Rattle.sv_errors.specs.Limits.{is_channel, is_channel_list}
 use Rattle.sv_scan.specs.Scan.{channel_at, state_by, is_bounded}
 use Rattle.sv_scan.specs.Counted.{is_scanning}
 use Rattle.sv_scan.specs.Stands.{Run, Contents}
@@ -23,12 +21,12 @@ use Rattle.sv_scan.specs.Kept.{IsValid, IsRun, IsRunOf, run_state}
 size_is : (n : ℕ) → nat_le 1 n ≡ true → nat_le n 32 ≡ true → (1 ≤ n) × (n ≤ 32)
 size_is n some few = grind (arith, nat_tests)
 
-pub size_in : (channels : List ℕ) → is_possible (SetList channels) ≡ true → (1 ≤ length channels) × (length channels ≤ 32)
+pub size_in : (channels : List ℕ) → is_channel_list channels ≡ true → (1 ≤ length channels) × (length channels ≤ 32)
 size_in channels possible =
     let parts = and_parts (nat_le 1 (length channels)) (nat_le (length channels) 32 && list_all is_channel channels) possible in
     size_is (length channels) parts.0 (and_parts (nat_le (length channels) 32) (list_all is_channel channels) parts.1).0
 
-pub channel_in : (channels : List ℕ) (read : ℕ) → is_possible (SetList channels) ≡ true → is_channel (channel_at channels read) ≡ true
+pub channel_in : (channels : List ℕ) (read : ℕ) → is_channel_list channels ≡ true → is_channel (channel_at channels read) ≡ true
 channel_in channels read possible =
     let size = size_in channels possible in
     let parts = and_parts (nat_le 1 (length channels)) (nat_le (length channels) 32 && list_all is_channel channels) possible in

@@ -1,12 +1,12 @@
 -- What is true of all that the scanner holds.
 use Rattle.std.specs.Prelude.{◌≡◌, ℕ, ◌*◌, ◌==◌, ◌≤◌, ℤ, pos, int_le, unsigned_abs, Bool, true, false, List, length, Option, Some, None}
 use Rattle.std.specs.List.{list_all}
-use Rattle.sv_scan.specs.declared.setting.Setting.TheVariants.{List as SetList, Count}
+use Rattle.sv_scan.specs.declared.setting.Setting.TheVariants.{Count}
 use Rattle.sv_scan.specs.declared.setting.Reading.{Reading}
 use Rattle.sv_scan.specs.declared.setting.State.{State}
 use Rattle.sv_scan.specs.declared.setting.State.TheVariants.{Idle}
 use Rattle.sv_scan.specs.declared.settings.Settings.{Settings}
-use Rattle.sv_errors.specs.Limits.{is_channel}
+use Rattle.sv_errors.specs.Limits.{is_channel, is_channel_list}
 use Rattle.sv_scan.specs.Setting.{is_possible}
 use Rattle.sv_scan.specs.Scan.{state_by, is_bounded}
 use Rattle.sv_scan.specs.Stands.{Run, Contents}
@@ -24,7 +24,7 @@ run_complete (Some run) samples = samples == run.scans * length run.channels
 -- A measurement has a list that may be scanned, up to 16 scans, no more triggers than scans, and no more samples than its triggered scans
 -- have.
 pub record IsRun (run : Run) (samples : ℕ) : Type 0 where
-  pub channels : is_possible (SetList run.channels) ≡ true
+  pub channels : is_channel_list run.channels ≡ true
   pub scans : run.scans ≤ 16
   pub triggers : run.triggers ≤ run.scans
   pub read : samples ≤ run.triggers * length run.channels
@@ -38,7 +38,7 @@ IsRunOf (Some run) samples = IsRun run samples
 pub record IsValid (contents : Contents) (capacity : ℕ) : Type 0 where
   pub inputs : length contents.inputs ≡ 32
   pub room : 512 ≤ capacity
-  pub list : is_possible (SetList contents.list) ≡ true
+  pub list : is_channel_list contents.list ≡ true
   pub monitor : is_channel contents.monitor ≡ true
   pub range : int_le (pos 0) contents.range ≡ true
   pub range_bounded : unsigned_abs contents.range ≤ 100000000

@@ -16,7 +16,10 @@ pub(crate) fn put_scan(out: &mut String, scanner: &mut Scanner, text: &str) -> R
             put(out, words.operation)?;
             put(out, words.questionable)
         }
-        _ => put(out, scanner.act(act_of(text)?)),
+        _ => match act_of(text) {
+            Ok(act) => put(out, scanner.act(act)),
+            Err(fault) => Err(fault),
+        },
     }
 }
 
