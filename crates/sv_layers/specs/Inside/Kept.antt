@@ -8,12 +8,13 @@ use Rattle.sv_status.specs.Register.{Latches as RegisterLatches, Summary, Stands
 use Rattle.sv_status.specs.StandardEvent.{Latches as StandardLatches, Summary as StandardSummary, StandsFor as Standards}
 use Rattle.sv_status.specs.declared.status_byte.StatusAct.{StatusAct}
 use Rattle.sv_status.specs.declared.status_byte.StatusAct.TheVariants.{Update, Poll}
-use Rattle.sv_status.specs.StatusByte.{Latches as StatusLatches, IsRaised, StandsFor as Statuses}
+use Rattle.sv_status.specs.StatusByte.{Latches as StatusLatches, IsRaised as IsRaisedAsTold, StandsFor as Statuses}
 use Rattle.sv_scan.specs.Condition.{bit}
 use Rattle.sv_scan.specs.Stands.{Contents as ScanContents, StandsFor as Scans}
 use Rattle.sv_exchange.specs.Exchange.{response, is_something}
 use Rattle.sv_exchange.specs.Contents.{Contents, StandsFor as Exchanges}
 use Rattle.sv_layers.specs.Act.{Act, Polled}
+use Rattle.sv_layers.specs.StatusByte.{IsRaised}
 use Rattle.sv_layers.specs.Inside.Seen.{Seen, begun, seen}
 
 pub record Layered : Type 0 where
@@ -51,7 +52,7 @@ IsStatus (act ∷ log) acts = (word : ℕ) × (before : List StatusAct) × IsSum
 
 -- A request is raised at the newest act, as the status byte sees it.
 abbrev pub RaisedAt : List Act → Type 0
-RaisedAt log = (acts : List StatusAct) × IsStatus log acts × IsRaised acts
+RaisedAt log = (acts : List StatusAct) × IsStatus log acts × IsRaisedAsTold acts
 
 -- What is kept stands for what the layers saw, and for what the status byte was told.
 pub record Joined (layered : Layered) (at : Seen) (told : List StatusAct) : Type 0 where
@@ -80,7 +81,7 @@ pub record Begun (layered : Layered) (act : Act) (log : List Act) : Type 0 where
 -- What is kept stands for the log, and a request was raised at its newest act exactly if this says so.
 pub record Happens (layered : Layered) (raised : Bool) (log : List Act) : Type 0 where
   pub stands : StandsFor layered log
-  pub requests : (raised ≡ true) ↔ RaisedAt log
+  pub requests : (raised ≡ true) ↔ IsRaised log
 
 -- one of the two registers
 abbrev pub register_of : RegisterName → Layered → RegisterLatches

@@ -5,7 +5,8 @@ use Rattle.sv_status.specs.declared.status_byte.StatusAct.TheVariants.{Update}
 use Rattle.sv_status.specs.StatusByte.{StandsFor as Statuses, IsRaised}
 use Rattle.sv_layers.specs.Inside.Seen.{seen}
 use Rattle.sv_layers.specs.Inside.Kept.{IsStatus, own_status}
-use Rattle.sv_layers.proofs.OneStatus.{one_status}
+use Rattle.sv_errors.proofs.Since.{then_same}
+use Rattle.sv_layers.proofs.SameRequests.{told_raised}
 use Rattle.sv_layers.proofs.layers.Layers.tell.Goals as goal
 
 pub returns-clause-happens : goal.returns-clause-happens
@@ -34,8 +35,5 @@ returns-clause-happens g c = λ log act before is h.
           waits = j.waits;
         };
       };
-      requests = (
-        λ e. (told, are, raised.0 e),
-        λ (other, so, up). raised.1 (subst IsRaised (one_status (act ∷ log) other told so are) up),
-      );
+      requests = then_same raised (told_raised (act ∷ log) told are);
     }
