@@ -92,9 +92,13 @@ impl<A: Allocator> Scanner<A> {
             → result ≡ refused_by (setting_fault (kept acts) setting) }
         ensures refused { OnErr result (self.new ≡ self.old) }
     {
-        self.may_set(&setting)?;
-        self.settings.set(setting);
-        Ok(())
+        match self.may_set(&setting) {
+            Ok(()) => {
+                self.settings.set(setting);
+                Ok(())
+            }
+            Err(fault) => Err(fault),
+        }
     }
 
     /// Whether [`Scanner::configure`] would change a setting so.
@@ -127,10 +131,14 @@ impl<A: Allocator> Scanner<A> {
             → result ≡ refused_by (init_fault (kept acts)) }
         ensures refused { OnErr result (self.new ≡ self.old) }
     {
-        self.may_init()?;
-        self.readings.clear();
-        self.run = Some(Run::new(self.settings.list, self.settings.count));
-        Ok(())
+        match self.may_init() {
+            Ok(()) => {
+                self.readings.clear();
+                self.run = Some(Run::new(self.settings.list, self.settings.count));
+                Ok(())
+            }
+            Err(busy) => Err(busy),
+        }
     }
 
     /// Whether [`Scanner::init`] would initiate a measurement.
@@ -194,12 +202,16 @@ impl<A: Allocator> Scanner<A> {
         ensures scanning { OnOk result (run_state self.new.run (length self.new.readings)
             ≡ Scanning) }
     {
-        self.may_trigger(source)?;
-        let Some(run) = &mut self.run else {
-            return Err(Code::TriggerIgnored);
-        };
-        run.trigger();
-        Ok(())
+        match self.may_trigger(source) {
+            Ok(()) => {
+                let Some(run) = &mut self.run else {
+                    return Err(Code::TriggerIgnored);
+                };
+                run.trigger();
+                Ok(())
+            }
+            Err(ignored) => Err(ignored),
+        }
     }
 
     /// Whether a trigger from this source is waited for, so that [`Scanner::trigger`] would begin
