@@ -29,7 +29,8 @@ unless None outcome = outcome
 
 -- what a command asks for in a unit: the spelling of its parameters is looked at, then how many there are, then their values
 abbrev pub asked : CommandId → List ℕ → Result Order Code
-asked command unit = unless (parameters_fault unit) (unless (count_fault (arity_of command) (count unit)) (order_of command (first_parameter unit)))
+asked command unit =
+    unless (parameters_fault unit) (unless (count_fault (arity_of command) (count unit)) (order_of command (first_parameter unit)))
 
 -- The header names a command, or none does.
 abbrev pub IsNamed : List (List ℕ) → List ℕ → Result Order Code → List (List ℕ) → Type 0

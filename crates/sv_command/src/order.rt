@@ -3,7 +3,8 @@
 use sv_scan::{ScanList, Setting};
 use sv_status::RegisterName;
 
-/// What a unit asks for, with values of its own.
+/// What a unit asks for, with values of its own. A mask of a register may have bit 15, which the
+/// register drops.
 #[derive(Debug, Drop)]
 pub enum Order {
     /// `*CLS`: clear events and the error queue (IEEE 488.2, 10.3).
@@ -30,7 +31,7 @@ pub enum Order {
     SetRise(RegisterName, u16),
     /// `STATus:..:NTRansition`: which bits of a register count where they fall.
     SetFall(RegisterName, u16),
-    /// A setting of the scanner is changed.
+    /// A setting of the scanner is changed. A range may be any voltage up to 1,000 V in magnitude.
     Set(Setting),
     /// `INITiate`: begin a measurement.
     Initiate,

@@ -18,6 +18,7 @@ use sv_lexer::{Unit, unit};
 /// [`Code::ProgramMnemonicTooLong`] of the header's spelling; [`Code::UndefinedHeader`];
 /// [`Code::InvalidExpression`] and [`Code::SyntaxError`] of the parameters' spelling;
 /// [`Code::ParameterNotAllowed`], [`Code::MissingParameter`]; then those of the parameter's value.
+/// A range may be any voltage here: whether there is such a range is the scanner's to tell.
 pub fn read_unit<A: Allocator>(
     table: &Table<A>,
     path: &mut Path,

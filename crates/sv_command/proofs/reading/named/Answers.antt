@@ -1,7 +1,10 @@
-use Rattle.std.proofs.Common.{ap, inr, refl}
+use Rattle.std.proofs.Common.{rules, ap, inr, refl}
 use Rattle.std.specs.Prelude.{Err}
 use Rattle.sv_command.proofs.reading.named.Goals as goal
 
 pub returns-in-Err : goal.returns-in-Err
 returns-in-Err g c =
     let none = rw c.header-header.ensures.text at c.in-Err.ensures in inr (none.1, ap Err none.0, refl)
+
+pub returns-in-Ok : goal.returns-in-Ok
+returns-in-Ok g c = search rules depth 3
