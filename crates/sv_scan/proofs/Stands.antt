@@ -1,17 +1,20 @@
 -- The scanner after one more act.
-use Rattle.std.proofs.Common.{◌≡◌, ◌≢◌, ℕ, ◌-◌, ◌<◌, ◌≤◌, ◌==◌, ℤ, pos, Bool, true, List, [], ◌∷◌, ◌++◌, length, get_or, Some, None, inl, inr, replicate, refl, ap, ◌∙◌, sym, subst, arith, if◌then◌else◌}
+use Rattle.std.proofs.Common.{◌≡◌, ◌≢◌, ℕ, ◌-◌, ◌<◌, ◌≤◌, ◌==◌, ℤ, pos, Bool, true, false, List, [], ◌∷◌, ◌++◌, length, get_or, Some, None, inl, inr, replicate, refl, ap, ◌∙◌, sym, subst, arith, if◌then◌else◌}
 use Rattle.std.proofs.lemmas.Bool.{cond_both, cases_lt, eqb-true, eqb-false}
 use Rattle.std.proofs.lemmas.Bool.Decides.{nat_tests}
 use Rattle.std.proofs.lemmas.List.{get_or-set_same, get_or-set_other, get_or-replicate, get_or_past, length-replicate}
-use Rattle.std.specs.Prelude.{slice_index_or, slice_set}
+use Rattle.std.specs.Prelude.{◌&&◌, not, is_none, slice_index_or, slice_set}
+use Rattle.sv_errors.specs.declared.code.Code.{Code}
+use Rattle.sv_errors.specs.declared.code.Code.TheVariants.{DataOutOfRange, SettingsConflict}
+use Rattle.sv_scan.specs.declared.setting.Setting.{Setting}
 use Rattle.sv_scan.specs.declared.setting.Reading.{Reading}
 use Rattle.sv_scan.specs.declared.settings.Settings.{Settings}
 use Rattle.sv_scan.specs.declared.acts.ScanAct.{ScanAct}
-use Rattle.sv_scan.specs.declared.acts.ScanAct.TheVariants.{Input, Sample}
+use Rattle.sv_scan.specs.declared.acts.ScanAct.TheVariants.{Input, Configure, Sample}
 use Rattle.sv_errors.specs.Limits.{is_channel}
-use Rattle.sv_scan.specs.Setting.{scan_list, monitor, range, upper, lower, limits, source, count, input}
-use Rattle.sv_scan.specs.Scan.{before_init, samples, readings, reading, reading_in, channel_at, list_since}
-use Rattle.sv_scan.specs.Counted.{kept, counts}
+use Rattle.sv_scan.specs.Setting.{scan_list, monitor, range, upper, lower, limits, source, count, input, is_possible, is_fixed}
+use Rattle.sv_scan.specs.Scan.{state, before_init, samples, readings, reading, reading_in, channel_at, list_since}
+use Rattle.sv_scan.specs.Counted.{kept, counts, is_idle}
 use Rattle.sv_scan.specs.Stands.{Run, Held, Holds, StandsFor}
 use Rattle.sv_scan.specs.Kept.{held_of}
 use Rattle.sv_scan.proofs.Searches.{length-readings, list_is}
@@ -24,6 +27,27 @@ keeps act acts e = ap (λ (b : Bool). if b then act ∷ kept acts else kept acts
 pub StandsFor-counted : (held : Held) (act : ScanAct) (acts : List ScanAct) → counts (kept acts) act ≡ true → Holds held (act ∷ kept acts)
     → StandsFor held (act ∷ acts)
 StandsFor-counted held act acts e is = subst (Holds held) (sym (keeps act acts e)) is
+
+-- ---- acts that don't
+
+drops : (act : ScanAct) (acts : List ScanAct) → counts (kept acts) act ≡ false → kept (act ∷ acts) ≡ kept acts
+drops act acts e = ap (λ (b : Bool). if b then act ∷ kept acts else kept acts) e
+
+pub StandsFor-dropped : (held : Held) (act : ScanAct) (acts : List ScanAct) → counts (kept acts) act ≡ false → StandsFor held acts
+    → StandsFor held (act ∷ acts)
+StandsFor-dropped held act acts e is = subst (Holds held) (sym (drops act acts e)) is
+
+-- a setting that has to wait for the idle state is refused outside of it, whether or not its value is possible
+is_refused : (possible fixed idle : Bool) (first second : Code) → fixed ≡ true → idle ≡ false
+    → is_none (if not possible then Some first else if fixed && not idle then Some second else None) ≡ false
+is_refused true true false first second waits busy = refl
+is_refused true true true first second waits busy = cc
+is_refused true false idle first second waits busy = cc
+is_refused false fixed idle first second waits busy = refl
+
+pub counts-busy : (log : List ScanAct) (setting : Setting) → is_fixed setting ≡ true → is_idle (state log) ≡ false
+    → counts log (Configure setting) ≡ false
+counts-busy log setting = is_refused (is_possible setting) (is_fixed setting) (is_idle (state log)) DataOutOfRange SettingsConflict
 
 -- ---- the scanner after an act that counts
 
