@@ -52,21 +52,17 @@ short_in : (r : Run) (read : ℕ) → is_scanning (state_by r.triggers read (len
 short_in r read e = eqb-false read (r.triggers * length r.channels)
     (is_short (read == r.scans * length r.channels) (read == r.triggers * length r.channels) e)
 
--- so there is room for one more
-room_in : (r : Run) (read capacity : ℕ) → 512 ≤ capacity → IsRun r read → (read ≡ r.triggers * length r.channels → ⊥) → read < capacity
-room_in r read capacity room run short =
+-- there are at most 512 readings
+few_of : (r : Run) (read : ℕ) → IsRun r read → read ≤ 512
+few_of r read run =
     let size = size_in r.channels run.channels in
     let triggers : r.triggers ≤ 16 = omega (arith, run.scans, run.triggers) in
     let bound : r.triggers * length r.channels ≤ 16 * 32 = mul-le-mul triggers size.1 in
-    omega (arith, run.read, short)
+    omega (arith, run.read)
 
-pub has_room : (contents : Contents) (capacity : ℕ) (r : Run) → contents.run ≡ Some r → IsValid contents capacity
-    → is_scanning (run_state contents.run (length contents.readings)) ≡ true → length contents.readings < capacity
-has_room contents capacity r e kept scanning =
-    let run : IsRun r (length contents.readings) = subst (λ (o : Option Run). IsRunOf o (length contents.readings)) e kept.run in
-    let now : is_scanning (run_state (Some r) (length contents.readings)) ≡ true =
-    subst (λ (o : Option Run). is_scanning (run_state o (length contents.readings)) ≡ true) e scanning in
-    room_in r (length contents.readings) capacity kept.room run (short_in r (length contents.readings) now)
+pub few_in : (run : Option Run) (read : ℕ) → IsRunOf run read → read ≤ 512
+few_in None read e = omega (arith, e)
+few_in (Some r) read run = few_of r read run
 
 -- one reading more
 read_more : (r : Run) (read : ℕ) → IsRun r read → (read ≡ r.triggers * length r.channels → ⊥) → IsRun r (read + 1)
@@ -77,6 +73,19 @@ read_more r read run short = record {
   read = omega (arith, run.read, short);
 }
 
+-- so there is room for one more
+room_in : (r : Run) (read capacity : ℕ) → 512 ≤ capacity → IsRun r read → (read ≡ r.triggers * length r.channels → ⊥) → read < capacity
+room_in r read capacity room run short = omega (arith, room, few_of r (read + 1) (read_more r read run short))
+
+pub has_room : (contents : Contents) (capacity : ℕ) (r : Run) → contents.run ≡ Some r → IsValid contents capacity
+    → is_scanning (run_state contents.run (length contents.readings)) ≡ true → length contents.readings < capacity
+has_room contents capacity r e kept scanning =
+    let run : IsRun r (length contents.readings) = subst (λ (o : Option Run). IsRunOf o (length contents.readings)) e kept.run in
+    let now : is_scanning (run_state (Some r) (length contents.readings)) ≡ true =
+    subst (λ (o : Option Run). is_scanning (run_state o (length contents.readings)) ≡ true) e scanning in
+    room_in r (length contents.readings) capacity kept.room run (short_in r (length contents.readings) now)
+
+-- what is true of a scanner stays true with a reading more
 bounded_more : (readings : List Reading) (x : Reading) → list_all is_bounded readings ≡ true → is_bounded x ≡ true
     → list_all is_bounded (readings ++ x ∷ []) ≡ true
 bounded_more readings x all one =
@@ -105,15 +114,3 @@ IsValid-sample contents capacity r x e valid scanning one =
       run = subst (λ (o : Option Run). IsRunOf o (length (contents.readings ++ x ∷ []))) (sym e) (subst (IsRun r) many more);
       readings = bounded_more contents.readings x valid.readings one;
     }
-
--- there are at most 512 readings
-few_of : (r : Run) (read : ℕ) → IsRun r read → read ≤ 512
-few_of r read run =
-    let size = size_in r.channels run.channels in
-    let triggers : r.triggers ≤ 16 = omega (arith, run.scans, run.triggers) in
-    let bound : r.triggers * length r.channels ≤ 16 * 32 = mul-le-mul triggers size.1 in
-    omega (arith, run.read)
-
-pub few_in : (run : Option Run) (read : ℕ) → IsRunOf run read → read ≤ 512
-few_in None read e = omega (arith, e)
-few_in (Some r) read run = few_of r read run
