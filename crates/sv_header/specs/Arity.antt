@@ -16,7 +16,7 @@ status_arity QuestionablePositiveTransition = One
 status_arity QuestionableNegativeTransition = One
 status_arity command = Nothing
 
--- so does each setting of the measurement; a configuration may take the range that is wanted; all others, queries too, take nothing
+-- so does each setting of the measurement; a configuration may take a channel list; all others, queries too, take nothing
 abbrev pub arity_of : CommandId → Arity
 arity_of RouteScan = One
 arity_of RouteMonitor = One
