@@ -1,0 +1,28 @@
+-- The path in front of the next unit of a message (SCPI-1999, volume 1, 6.2.4): the units before it are read in their order, each behind
+-- the path that the one before leaves.
+use Rattle.std.specs.Prelude.{◌≡◌, ℕ, ◌+◌, List, [], ◌∷◌, Option, Some, None, Result, take, reverse}
+use Rattle.sv_errors.specs.declared.code.Code.{Code}
+use Rattle.sv_exchange.specs.Exchange.{units, message, units_done, current}
+use Rattle.sv_command.specs.declared.order.Order.{Order}
+use Rattle.sv_command.specs.Unit.{IsReadAs}
+use Rattle.sv_layers.specs.declared.change.Awaited.{Awaited}
+use Rattle.sv_layers.specs.Act.{Act, exchange_acts}
+use Rattle.sv_instrument.specs.Held.{held}
+
+-- Units, the last first, leave this path.
+abbrev pub Leaves : List (List ℕ) → List (List ℕ) → Type 0
+Leaves [] path = path ≡ []
+Leaves (unit ∷ before) path =
+    (front : List (List ℕ)) × (outcome : Result Order Code) × Leaves before front × IsReadAs front unit outcome path
+
+abbrev pub one_if_held : Option Awaited → ℕ
+one_if_held None = 0
+one_if_held (Some awaited) = 1
+
+-- how many units of the current message began: those that were done, and one that is held
+abbrev pub begun : List Act → ℕ
+begun log = units_done (current (exchange_acts log)) + one_if_held (held log)
+
+-- The units of the current message that began leave this path.
+abbrev pub IsPath : List Act → List (List ℕ) → Type 0
+IsPath log path = Leaves (reverse (take (begun log) (units (message (exchange_acts log))))) path

@@ -1,0 +1,67 @@
+-- What a query answers (IEEE 488.2, chapter 10; SCPI-1999, volume 2): a text, by the log as it stands before the query takes or clears
+-- anything.
+use Rattle.std.specs.Prelude.{◌≡◌, ◌↔◌, ℕ, ◌<◌, true, false, List, [], ◌∷◌, Option, length, codes, decimal, unwrap_or}
+use Rattle.std.specs.List.{join_by}
+use Rattle.std.specs.Int.{bit_at}
+use Rattle.sv_errors.specs.declared.code.Code.{Code}
+use Rattle.sv_errors.specs.declared.code.Code.TheVariants.{NoError}
+use Rattle.sv_errors.specs.ErrorQueue.{entries, oldest}
+use Rattle.sv_value.specs.Written.{voltage_text}
+use Rattle.sv_value.specs.Printing.{overload_text, channels_text, error_text, switch_text, source_text}
+use Rattle.sv_scan.specs.declared.setting.Reading.{Reading}
+use Rattle.sv_scan.specs.declared.setting.Reading.TheVariants.{Value, Over, Under}
+use Rattle.sv_scan.specs.Setting.{scan_list, monitor, range, upper, lower, limits, source, count}
+use Rattle.sv_scan.specs.Scan.{readings}
+use Rattle.sv_command.specs.declared.order.Question.{Question}
+use Rattle.sv_command.specs.declared.order.Question.TheVariants as question
+use Rattle.sv_layers.specs.Act.{Act, queue_acts}
+use Rattle.sv_layers.specs.Condition.{condition, counted}
+use Rattle.sv_layers.specs.Event.{EventStands, rise, fall, enable}
+use Rattle.sv_layers.specs.Standard.{Stands, enable as standard_enable}
+use Rattle.sv_layers.specs.StatusByte.{MasterBit, service}
+
+-- a word in decimal, whose bits say so
+pub record IsWord (Bit : ℕ → Type 0) (text : List ℕ) : Type 0 where
+  pub word : ℕ
+  pub fits : word < 65536
+  pub text_is : text ≡ decimal word
+  pub bits : (k : ℕ) → (bit_at word k ≡ 1) ↔ Bit k
+
+-- a reading: a voltage, or an overload
+abbrev pub reading_text : Reading → List ℕ
+reading_text (Value microvolts) = voltage_text microvolts
+reading_text Over = overload_text false
+reading_text Under = overload_text true
+
+-- readings, with commas between
+abbrev pub readings_text : List Reading → List ℕ
+readings_text given = join_by reading_text (codes ",") given
+
+-- the oldest entry of the error queue, or that there is none
+abbrev pub oldest_text : Option Code → List ℕ
+oldest_text oldest = error_text (unwrap_or oldest NoError)
+
+abbrev pub Says : Question → List Act → List ℕ → Type 0
+Says question.Identification log text = text ≡ codes "SCANVOLT,SV32,0,1.0"
+Says question.SelfTest log text = text ≡ codes "0"
+Says question.Version log text = text ≡ codes "1999.0"
+Says question.StandardEvents log text = IsWord (λ k. Stands k log) text
+Says question.StandardEnable log text = text ≡ decimal (standard_enable log)
+Says question.ServiceEnable log text = text ≡ decimal (service log)
+Says question.StatusByte log text = IsWord (λ k. MasterBit k log) text
+Says question.Error log text = text ≡ oldest_text (oldest (queue_acts log))
+Says question.ErrorCount log text = text ≡ decimal (length (entries (queue_acts log)))
+Says (question.Events name) log text = IsWord (λ k. EventStands name k log) text
+Says (question.Condition name) log text = text ≡ decimal (condition name log)
+Says (question.Enable name) log text = text ≡ decimal (enable name log)
+Says (question.Rise name) log text = text ≡ decimal (rise name log)
+Says (question.Fall name) log text = text ≡ decimal (fall name log)
+Says question.ScanList log text = text ≡ channels_text (scan_list (counted log))
+Says question.Monitor log text = text ≡ channels_text (monitor (counted log) ∷ [])
+Says question.Range log text = text ≡ voltage_text (range (counted log))
+Says question.UpperLimit log text = text ≡ voltage_text (upper (counted log))
+Says question.LowerLimit log text = text ≡ voltage_text (lower (counted log))
+Says question.Limits log text = text ≡ switch_text (limits (counted log))
+Says question.Source log text = text ≡ source_text (source (counted log))
+Says question.Count log text = text ≡ decimal (count (counted log))
+Says question.Readings log text = text ≡ readings_text (readings (counted log))

@@ -1,0 +1,49 @@
+-- The step of message exchange that is due (IEEE 488.2, 6.1.4 and 6.3): a held unit ends, or the next unit starts, or a message that is
+-- too long is reported, or one that has ended is finished.
+use Rattle.std.specs.Prelude.{◌≡◌, ℕ, true, List, [], ◌∷◌, Option, Some, None, Result, Ok, Err, codes}
+use Rattle.sv_errors.specs.declared.code.Code.{Code}
+use Rattle.sv_errors.specs.declared.code.Code.TheVariants.{InputBufferOverrun, QueryInterrupted}
+use Rattle.sv_scan.specs.Scan.{readings}
+use Rattle.sv_exchange.specs.Exchange.{Overran, Finished, Interrupted, Due, NothingDue, OverrunDue, InterruptDue, UnitDue, FinishDue, due, next_unit}
+use Rattle.sv_command.specs.declared.order.Order.{Order}
+use Rattle.sv_command.specs.Unit.{IsReadAs}
+use Rattle.sv_layers.specs.declared.change.Awaited.{Awaited}
+use Rattle.sv_layers.specs.declared.change.Awaited.TheVariants.{Nothing, One, Readings}
+use Rattle.sv_layers.specs.Act.{Act, Exchanged, Reported, exchange_acts}
+use Rattle.sv_layers.specs.Condition.{counted, is_idle}
+use Rattle.sv_instrument.specs.Held.{held}
+use Rattle.sv_instrument.specs.Path.{IsPath}
+use Rattle.sv_instrument.specs.Said.{readings_text}
+use Rattle.sv_instrument.specs.Performed.{Performs, done, answered}
+
+-- the end of a unit that is held
+abbrev pub ended : Awaited → List Act → List Act
+ended Nothing log = done log
+ended One log = answered (codes "1") (done log)
+ended Readings log = answered (readings_text (readings (counted log))) (done log)
+
+-- A unit does what it asks for, or its fault is reported.
+abbrev pub Does : Result Order Code → List Act → List Act → Type 0
+Does (Err code) log new = new ≡ done (Reported code ∷ log)
+Does (Ok order) log new = Performs order log new
+
+-- A unit starts: it is read behind the path that the units before it leave.
+abbrev pub Starts : List ℕ → List Act → List Act → Type 0
+Starts unit log new = (path behind : List (List ℕ)) × (outcome : Result Order Code) × IsPath log path × IsReadAs path unit outcome behind
+    × Does outcome log new
+
+-- the response is interrupted by a new message
+abbrev pub interrupted : List Act → List Act
+interrupted log = Reported QueryInterrupted ∷ Exchanged Interrupted ∷ log
+
+abbrev pub StepOf : Option Awaited → Due → List Act → List Act → Type 0
+StepOf (Some awaited) next log new = (is_idle log ≡ true) × (new ≡ ended awaited log)
+StepOf None NothingDue log new = ⊥
+StepOf None OverrunDue log new = new ≡ Reported InputBufferOverrun ∷ Exchanged Overran ∷ log
+StepOf None InterruptDue log new = (unit : List ℕ) × (next_unit (exchange_acts log) ≡ Some unit) × Starts unit (interrupted log) new
+StepOf None (UnitDue unit) log new = Starts unit log new
+StepOf None FinishDue log new = new ≡ Exchanged Finished ∷ log
+
+-- The step that is due makes this of a log.
+abbrev pub IsStep : List Act → List Act → Type 0
+IsStep log new = StepOf (held log) (due (exchange_acts log)) log new

@@ -1,0 +1,11 @@
+//! Counting requests for service.
+
+ghost use Rattle.std.specs.Prelude.{◌≡◌};
+ghost use Rattle.sv_scan.specs.Condition.{bit};
+
+/// One where a request is raised.
+pub(crate) fn one(raised: bool) -> u8
+    ensures { result ≡ bit 0 raised }
+{
+    if raised { 1 } else { 0 }
+}

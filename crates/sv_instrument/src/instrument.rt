@@ -1,0 +1,58 @@
+//! The instrument, and what it keeps.
+
+ghost use Rattle.std.specs.Prelude.{[], IfOk};
+ghost use Rattle.sv_instrument.specs.Kept.{StandsFor};
+
+use std::alloc::{AllocError, Allocator, Global};
+use std::marker::Model;
+use sv_header::{Path, Table};
+use sv_layers::{Awaited, Layers};
+
+/// How long the answer of a unit may be, in bytes.
+const LONGEST_ANSWER: usize = 8192;
+
+/// The instrument: what happens to it, and what it answers.
+#[derive(Drop)]
+pub struct Instrument<A: Allocator = Global> {
+    /// Which command a header names.
+    pub(crate) table: Table<A>,
+    /// What stands in front of the header of the next unit.
+    pub(crate) path: Path,
+    /// The layers.
+    pub(crate) layers: Layers<A>,
+    /// What the unit will answer that is held.
+    pub(crate) held: Option<Awaited>,
+    /// The answer of a unit.
+    pub(crate) answer: Vec<u8, A>,
+}
+
+impl<A: Allocator> Model for Instrument<A> {
+    ghost use Rattle.sv_instrument.specs.Kept.{Kept};
+
+    ghost Value = { Kept };
+
+    ghost use Rattle.std.specs.Prelude.{◌≤◌, vec_capacity};
+    ghost use Rattle.sv_instrument.specs.Kept.{IsHeldRight};
+
+    ghost view = { λ a. record { layers = a.layers; held = a.held; path = a.path } };
+
+    ghost invariant = { λ a. (8192 ≤ vec_capacity a.answer) × IsHeldRight a.held a.layers };
+}
+
+impl<A: Allocator + Copy> Instrument<A> {
+    /// The instrument as it is when power comes on. Takes all the memory that it ever uses.
+    ///
+    /// # Errors
+    /// Where memory is refused.
+    pub fn new(alloc: A) -> Result<Instrument<A>, AllocError>
+        ensures { IfOk result (λ instrument. StandsFor instrument []) }
+    {
+        Ok(Instrument {
+            table: Table::new(alloc)?,
+            path: Path::root(),
+            layers: Layers::new(alloc)?,
+            held: None,
+            answer: Vec::with_capacity(alloc, LONGEST_ANSWER)?,
+        })
+    }
+}

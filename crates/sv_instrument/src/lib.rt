@@ -1,0 +1,12 @@
+//! The instrument: every command over all its layers (IEEE 488.2; SCPI-1999; VXI-11). Its
+//! definitions are whole; of its calls a write and a device clear stand yet.
+//!
+//! [`Instrument::new`] takes the memory of all layers and of one unit's answer, and no other call
+//! takes any. Each call that changes something tells how many requests for service it raised.
+#![tactic(auto)]
+
+mod counting;
+mod happenings;
+mod instrument;
+
+pub use instrument::Instrument;
