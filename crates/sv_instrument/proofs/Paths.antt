@@ -1,14 +1,13 @@
 -- Where no unit of the current message began, the path is the root, whatever the message is.
-use Rattle.std.proofs.Common.{◌≡◌, ◌≢◌, ℕ, zero, ◌+◌, Bool, true, false, not, List, [], ◌∷◌, Option, Some, None, length, take, ap, refl, sym, subst, ◌∙◌, IsTrue, arith}
+use Rattle.std.proofs.Common.{◌≡◌, ℕ, Bool, true, false, List, ◌∷◌, Option, Some, None, length, take, ap, refl, sym, subst, ◌∙◌, IsTrue, arith}
 use Rattle.std.specs.Prelude.{reverse}
-use Rattle.sv_exchange.specs.Exchange.{ExchangeAct, Accepted, units, message, units_done, current}
-use Rattle.sv_exchange.specs.Contents.{Contents, StandsFor as Exchanges, is_open, IsUnitDue, next_of}
+use Rattle.sv_exchange.specs.Exchange.{ExchangeAct, Accepted, units_done, current}
+use Rattle.sv_exchange.specs.Contents.{Contents, StandsFor as Exchanges, is_open}
 use Rattle.sv_exchange.proofs.Dues.{at_unit}
 use Rattle.sv_exchange.proofs.Stands.{not_true}
 use Rattle.sv_layers.specs.declared.change.Awaited.{Awaited}
 use Rattle.sv_layers.specs.Act.{Act, Exchanged, exchange_acts}
-use Rattle.sv_layers.specs.Inside.Kept.{Layered, StandsFor as Layers}
-use Rattle.sv_layers.specs.Inside.Seen.{seen}
+use Rattle.sv_layers.specs.Inside.Kept.{Layered}
 use Rattle.sv_layers.proofs.Projected.{projected}
 use Rattle.sv_instrument.specs.Held.{held}
 use Rattle.sv_instrument.specs.Path.{IsPath, Leaves, begun, one_if_held}

@@ -1,6 +1,6 @@
 -- What an order does (IEEE 488.2, chapter 10; SCPI-1999, volume 2): its acts, in their order, and then the unit is done and its answer is
 -- given. An order that the state refuses reports that, and does nothing else.
-use Rattle.std.specs.Prelude.{◌≡◌, ℕ, List, [], ◌∷◌, Option, Some, None, pos, if◌then◌else◌, codes}
+use Rattle.std.specs.Prelude.{◌≡◌, ℕ, List, ◌∷◌, Option, Some, None, pos, if◌then◌else◌}
 use Rattle.sv_errors.specs.declared.code.Code.{Code}
 use Rattle.sv_errors.specs.declared.code.Code.TheVariants.{QueryDeadlocked, DataCorruptOrStale}
 use Rattle.sv_errors.specs.declared.source.Source.TheVariants.{Immediate, Bus}
