@@ -12,7 +12,6 @@
 //! | `parts TEXT` | the parts of a header |
 //! | `unit TEXT` | the header and the parameters of a unit, each with its place and its kind |
 //! | `headers TEXT` | the commands that the headers of a message name, with `;` between two |
-//! | `orders MESSAGE` | what each unit of a message asks for, behind those in front of it |
 //! | `arity HEADER` | how many parameters the command takes that a header names |
 //! | `voltage UNIT`, `boolean UNIT`, `keyword UNIT`, `channels UNIT` | a unit's first parameter |
 //! | `whole LOW HIGH UNIT` | the same, as a whole number |
@@ -29,14 +28,13 @@
 //! | `write KIND VALUE` | a field written |
 //! | `call HEX` | the header of a call |
 //!
-//! The text of `white`, `trim`, `unit` and `orders` may have escapes, as `\n`, `\x7F` and `\\`.
+//! The text of `white`, `trim` and `unit` may have escapes, as `\n`, `\x7F` and `\\`.
 #![tactic(auto)]
 
 mod codes;
 mod fields;
 mod headers;
 mod line;
-mod orders;
 mod parts;
 mod records;
 mod responses;
