@@ -1,2 +1,4 @@
 pub mod Running
 pub mod Paths
+pub mod Units
+pub mod Words

@@ -4,11 +4,12 @@ use Rattle.std.specs.Prelude.{◌↔◌}
 use Rattle.sv_scan.specs.Condition.{bit}
 use Rattle.sv_layers.specs.Act.{Act}
 use Rattle.sv_layers.specs.StatusByte.{IsRaised}
-use Rattle.sv_layers.specs.Inside.Kept.{Happens}
+use Rattle.sv_layers.specs.Inside.Kept.{Layered, Happens, StandsFor as Layers}
 use Rattle.sv_instrument.specs.Held.{held}
 use Rattle.sv_instrument.specs.Path.{IsPath}
 use Rattle.sv_instrument.specs.Raised.{Raise, Raises}
 use Rattle.sv_instrument.specs.Kept.{Kept, Ran}
+use Rattle.sv_instrument.specs.Inside.Acted.{Acted}
 
 -- one act more
 pub raises_more : {start log : List Act} {count more total : ℕ} (act : Act) (raised : Bool) → Raises start log count
@@ -54,9 +55,25 @@ raises_then {start} {middle} {log} {first} {second} {total} before more sum = re
 }
 
 -- one act from a log on
-pub ran_one : (kept : Kept) (act : Act) (log : List Act) (raised : Bool) (count : ℕ) → Happens kept.layers raised (act ∷ log)
-    → kept.held ≡ held (act ∷ log) → IsPath (act ∷ log) kept.path → count ≡ bit 0 raised → Ran kept count log (act ∷ log)
-ran_one kept act log raised count happens is front counts = record {
-  stands = record { layers = happens.stands; held = is; path = front };
+pub acted_one : {layers : Layered} {raised : Bool} {count : ℕ} (act : Act) (log : List Act) → Happens layers raised (act ∷ log)
+    → count ≡ bit 0 raised → Acted layers count log (act ∷ log)
+acted_one {layers} {raised} {count} act log happens counts = record {
+  stands = happens.stands;
   raises = raises_more act raised (raises_none log) happens.requests counts (omega arith);
 }
+
+-- acts behind others
+pub acted_then : {layers : Layered} {start middle new : List Act} {first second total : ℕ} → Raises start middle first
+    → Acted layers second middle new → total ≡ first + second → Acted layers total start new
+acted_then before acted sum = record { stands = acted.stands; raises = raises_then before acted.raises sum }
+
+-- none
+pub acted_none : {layers : Layered} {log : List Act} → Layers layers log → Acted layers 0 log log
+acted_none {layers} {log} s = record { stands = s; raises = raises_none log }
+
+-- one act of the instrument
+pub ran_one : (kept : Kept) (act : Act) (log : List Act) (raised : Bool) (count : ℕ) → Happens kept.layers raised (act ∷ log)
+    → kept.held ≡ held (act ∷ log) → IsPath (act ∷ log) kept.path → count ≡ bit 0 raised → Ran kept count log (act ∷ log)
+ran_one kept act log raised count happens is front counts =
+    let acted = acted_one act log happens counts in
+    record { stands = record { layers = acted.stands; held = is; path = front }; raises = acted.raises }

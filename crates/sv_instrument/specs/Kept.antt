@@ -28,8 +28,3 @@ pub record Ran (kept : Kept) (count : ℕ) (log new : List Act) : Type 0 where
 abbrev pub IsHeldRight : Option Awaited → Layered → Type 0
 IsHeldRight None layers = ⊤
 IsHeldRight (Some awaited) layers = IsUnitDue (next_of layers.exchange)
-
--- The layers stand for the new log, and so many requests for service were raised on the way to it.
-pub record Acted (layers : Layered) (count : ℕ) (log new : List Act) : Type 0 where
-  pub stands : Layers layers new
-  pub raises : Raises log new count

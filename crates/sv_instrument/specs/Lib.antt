@@ -6,3 +6,4 @@ pub mod Raised
 pub mod Path
 pub mod Kept
 pub mod Happened
+pub mod Inside

@@ -5,8 +5,15 @@
 //! takes any. Each call that changes something tells how many requests for service it raised.
 #![tactic(auto)]
 
+mod acting;
+mod answering;
+mod asking;
 mod counting;
 mod happenings;
 mod instrument;
+mod outcome;
+mod performing;
+mod readings;
+mod scanning;
 
 pub use instrument::Instrument;

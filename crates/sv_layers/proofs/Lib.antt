@@ -13,3 +13,5 @@ pub mod NothingAtPoll
 pub mod SameRequests
 pub mod AlwaysTold
 pub mod Either
+pub mod Lent
+pub mod Refusals

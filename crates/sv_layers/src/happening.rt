@@ -1,6 +1,11 @@
 //! What a change does to its own layer, and what follows.
 
-ghost use Rattle.std.specs.Prelude.{◌≡◌, List, ◌∷◌};
+ghost use Rattle.std.specs.Prelude.{◌≡◌, List, ◌∷◌, length, Some, None, OnOk, OnErr, MatchResult};
+ghost use Rattle.sv_scan.specs.declared.acts.ScanAct.TheVariants.{Trigger};
+ghost use Rattle.sv_scan.specs.declared.setting.State.TheVariants.{Scanning};
+ghost use Rattle.sv_scan.specs.Counted.{trigger_fault};
+ghost use Rattle.sv_scan.specs.Kept.{run_state};
+ghost use Rattle.sv_layers.specs.Condition.{counted};
 ghost use Rattle.sv_layers.specs.Act.{Act, Scanned, Reported, EntryTaken, Cleared, OpcAsked, StandardRead, StandardEnabled, EventRead, Enabled, RiseSet, FallSet, ServiceEnabled};
 ghost use Rattle.sv_layers.specs.Act.{Preset as PresetAct};
 ghost use Rattle.sv_layers.specs.Change.{act_of};
@@ -11,7 +16,7 @@ use crate::change::Change;
 use crate::layers::Layers;
 use crate::status::mask_where;
 use std::alloc::Allocator;
-use sv_errors::{Code, Layer};
+use sv_errors::{Code, Layer, Source};
 use sv_scan::ScanAct;
 use sv_status::RegisterName;
 
@@ -52,6 +57,28 @@ impl<A: Allocator> Layers<A> {
         self.waits &= !is_reset(&act);
         self.scanner.act(act);
         self.settle()
+    }
+
+    /// A trigger from this source, where one from there is waited for; it tells whether a request
+    /// for service is raised.
+    ///
+    /// # Errors
+    /// [`Code::TriggerIgnored`] where none is waited for, or one from another source; then nothing
+    /// happens.
+    pub fn trigger(&mut self, source: Source) -> Result<bool, Code>
+        ensures happens { (log : List Act) → StandsFor self.old log
+            → MatchResult result (λ raised. (trigger_fault (counted log) source ≡ None)
+            × Happens self.new raised (Scanned (Trigger source) ∷ log))
+            (λ code. trigger_fault (counted log) source ≡ Some code) }
+        ensures exchange { self.new.exchange ≡ self.old.exchange }
+        ensures scanning { OnOk result (run_state self.new.scanner.run
+            (length self.new.scanner.readings) ≡ Scanning) }
+        ensures refused { OnErr result (self.new ≡ self.old) }
+    {
+        match self.scanner.trigger(source) {
+            Ok(()) => Ok(self.settle()),
+            Err(ignored) => Err(ignored),
+        }
     }
 
     /// An error is reported, with the standard event of its class, and that of an overflow.

@@ -1,7 +1,13 @@
 //! All layers, and what they keep.
 
-ghost use Rattle.std.specs.Prelude.{◌≡◌, [], IfOk};
-ghost use Rattle.sv_layers.specs.Inside.Kept.{StandsFor, register_of};
+ghost use Rattle.std.specs.Prelude.{◌≡◌, List, [], IfOk};
+ghost use Rattle.sv_errors.specs.ErrorQueue.{StandsFor as Queues};
+ghost use Rattle.sv_status.specs.Register.{StandsFor as Registers};
+ghost use Rattle.sv_scan.specs.Stands.{StandsFor as Scans};
+ghost use Rattle.sv_exchange.specs.Contents.{StandsFor as Exchanges};
+ghost use Rattle.sv_layers.specs.Act.{Act, exchange_acts, queue_acts, scan_acts};
+ghost use Rattle.sv_layers.specs.Inside.Seen.{seen, register_acts};
+ghost use Rattle.sv_layers.specs.Inside.Kept.{StandsFor};
 
 use std::alloc::{AllocError, Allocator, Global};
 use std::marker::Model;
@@ -76,53 +82,37 @@ impl<A: Allocator + Copy> Layers<A> {
 impl<A: Allocator> Layers<A> {
     /// Program text and the response.
     pub fn exchange(&self) -> &Exchange<A>
-        ensures { result.now ≡ self.now.exchange }
+        ensures value { result.now ≡ self.now.exchange }
+        ensures stands { (log : List Act) → StandsFor self.now log
+            → Exchanges result.now (exchange_acts log) }
     {
         &self.exchange
     }
 
     /// The errors that were reported.
     pub fn errors(&self) -> &ErrorQueue<A>
-        ensures { result.now ≡ self.now.errors }
+        ensures { (log : List Act) → StandsFor self.now log → Queues result.now (queue_acts log) }
     {
         &self.errors
     }
 
+    /// Inputs, settings, the trigger state and the readings.
+    pub fn scanner(&self) -> &Scanner<A>
+        ensures value { result.now ≡ self.now.scanner }
+        ensures stands { (log : List Act) → StandsFor self.now log
+            → Scans result.now (scan_acts log) }
+    {
+        &self.scanner
+    }
+
     /// One of the two status registers.
-    pub fn register(&self, name: RegisterName) -> &Register
-        ensures { result.now ≡ register_of name self.now }
+    pub(crate) fn register(&self, name: RegisterName) -> &Register
+        ensures { (log : List Act) → StandsFor self.now log
+            → Registers result.now (register_acts name (seen log)) }
     {
         match name {
             RegisterName::Operation => &self.operation,
             RegisterName::Questionable => &self.questionable,
         }
-    }
-
-    /// The standard event status register.
-    pub fn standard(&self) -> &StandardEvent
-        ensures { result.now ≡ self.now.standard }
-    {
-        &self.standard
-    }
-
-    /// The status byte.
-    pub fn status(&self) -> &StatusByte
-        ensures { result.now ≡ self.now.status }
-    {
-        &self.status
-    }
-
-    /// Inputs, settings, the trigger state and the readings.
-    pub fn scanner(&self) -> &Scanner<A>
-        ensures { result.now ≡ self.now.scanner }
-    {
-        &self.scanner
-    }
-
-    /// The service request enable.
-    pub fn service(&self) -> u8
-        ensures { result ≡ self.now.service }
-    {
-        self.service
     }
 }

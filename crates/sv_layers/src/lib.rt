@@ -11,6 +11,7 @@ mod laws;
 mod layers;
 mod polling;
 mod status;
+mod words;
 
 pub use change::{Awaited, Change};
 pub use exchanging::Response;

@@ -31,6 +31,7 @@ impl<A: Allocator> Layers<A> {
         ensures stands { (at : Seen) (told : List StatusAct) → Joined self.old at told
             → Joined self.new (compared at) told }
         ensures exchange { self.new.exchange ≡ self.old.exchange }
+        ensures scanner { self.new.scanner ≡ self.old.scanner }
     {
         let now = self.scanner.conditions();
         self.operation.condition(now.operation);
@@ -58,6 +59,7 @@ impl<A: Allocator> Layers<A> {
             → IsStatus log before → Joined self.old (seen (act ∷ log)) (own_status act before)
             → Happens self.new result (act ∷ log) }
         ensures exchange { self.new.exchange ≡ self.old.exchange }
+        ensures scanner { self.new.scanner ≡ self.old.scanner }
     {
         let bits = self.summary();
         self.status.update(bits, self.service)
@@ -69,6 +71,7 @@ impl<A: Allocator> Layers<A> {
         ensures happens { (log : List Act) (act : Act) → Begun self.old act log
             → is_plain act ≡ true → Happens self.new result (act ∷ log) }
         ensures exchange { self.new.exchange ≡ self.old.exchange }
+        ensures scanner { self.new.scanner ≡ self.old.scanner }
     {
         self.compare();
         self.tell()

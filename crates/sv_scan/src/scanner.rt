@@ -297,23 +297,33 @@ impl<A: Allocator> Scanner<A> {
     }
 
     /// The readings of the last measurement, oldest first: scan by scan, each in the order of its
-    /// list. There are at most 512, and no voltage of them is beyond 1,000 V in magnitude.
+    /// list; as by [`Scanner::readings_so_far`].
     ///
     /// # Errors
     /// [`Code::DataCorruptOrStale`] where they aren't complete, or were aborted.
     pub fn readings(&self) -> Result<&[Reading], Code>
-        ensures answer { (acts : List ScanAct) → StandsFor self.now acts
+        ensures { (acts : List ScanAct) → StandsFor self.now acts
             → MatchResult result (λ found. (completes (kept acts) ≡ true)
             × (found.now ≡ readings_of (kept acts))) (λ code. (completes (kept acts) ≡ false)
             × (code ≡ DataCorruptOrStale)) }
-        ensures few { IfOk result (λ found. length found.now ≤ 512) }
-        ensures bounded { IfOk result (λ found. list_all is_bounded found.now ≡ true) }
     {
         if is_complete(&self.run, self.readings.len()) {
-            Ok(self.readings.as_slice())
+            Ok(self.readings_so_far())
         } else {
             Err(Code::DataCorruptOrStale)
         }
+    }
+
+    /// The readings of the measurement that is under way or was the last, oldest first, whether
+    /// they are complete or not. There are at most 512, and no voltage of them is beyond 1,000 V in
+    /// magnitude.
+    pub fn readings_so_far(&self) -> &[Reading]
+        ensures answer { (acts : List ScanAct) → StandsFor self.now acts
+            → result.now ≡ readings_of (kept acts) }
+        ensures few { length result.now ≤ 512 }
+        ensures bounded { list_all is_bounded result.now ≡ true }
+    {
+        self.readings.as_slice()
     }
 }
 

@@ -7,4 +7,4 @@ returns g c = λ log h.
     let s = rw (← c.self.view_is) at h in
     let right = c.self.invariant.1 in
     let path = accepted_path _ log c.args.bytes.now c.args.ended s right (rw (← c.self.view_is) at c.requires.«open») in
-    ran_one _ _ log _ _ (c.accept.ensures.happens log s.layers) s.held path c.one.ensures
+    ran_one _ _ log _ _ (c.accept.ensures.happens log s.layers) s.held path c.one.ensures.value

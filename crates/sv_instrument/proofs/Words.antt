@@ -1,0 +1,15 @@
+-- Words that are printed.
+use Rattle.std.proofs.Common.{◌≡◌, ℕ, ◌<◌, ◌++◌, List, [], ◌∙◌, ap}
+use Rattle.std.specs.Prelude.{◌↔◌, decimal}
+use Rattle.std.specs.Int.{bit_at}
+use Rattle.sv_instrument.specs.Said.{IsWord}
+
+-- where nothing was, a word as a number of more bits
+pub word_printed : (Bit : ℕ → Type 0) (word wide : ℕ) (before text : List ℕ) → word < 65536 → before ≡ [] → wide ≡ word
+    → text ≡ before ++ decimal wide → ((k : ℕ) → (bit_at word k ≡ 1) ↔ Bit k) → IsWord Bit text
+word_printed Bit word wide before text fits empty same is bits = record {
+  word = word;
+  fits = fits;
+  text_is = is ∙ ap (λ (front : List ℕ). front ++ decimal wide) empty ∙ ap decimal same;
+  bits = bits;
+}

@@ -1,0 +1,19 @@
+use Rattle.sv_layers.specs.Act.{scan_acts}
+use Rattle.sv_layers.proofs.Refusals.{no_fault, the_fault}
+use Rattle.std.proofs.Common.{refl}
+use Rattle.sv_instrument.proofs.Running.{acted_then}
+use Rattle.sv_instrument.proofs.Units.{behaves_unrefused, behaves_refused}
+use Rattle.sv_instrument.proofs.scanning.read.Goals as goal
+
+pub returns-in-Ok-clause-behaves : goal.returns-in-Ok-clause-behaves
+returns-in-Ok-clause-behaves g c = λ log h.
+    let fault = no_fault _ (c.in-Ok.ensures (scan_acts log) (c.scanner.ensures.stands log h)) in
+    let aborted = c.change-aborted.ensures.acts log h in
+    let begun = c.change-begun.ensures.acts _ aborted.stands in
+    let both = acted_then aborted.raises begun refl in
+    behaves_unrefused fault (c.hold.ensures.behaves log _ both.stands both.raises refl)
+
+pub returns-in-Err-clause-behaves : goal.returns-in-Err-clause-behaves
+returns-in-Err-clause-behaves g c = λ log h.
+    let fault = the_fault _ _ (c.in-Err.ensures (scan_acts log) (c.scanner.ensures.stands log h)) in
+    behaves_refused _ fault (c.carry_out.ensures.behaves log h)

@@ -1,0 +1,16 @@
+use Rattle.std.proofs.Common.{List, refl, sym, subst}
+use Rattle.sv_layers.specs.Inside.Kept.{Layered, StandsFor as Stands}
+use Rattle.sv_instrument.proofs.Running.{acted_one}
+use Rattle.sv_instrument.proofs.Units.{behaves_unrefused, behaves_refused}
+use Rattle.sv_instrument.proofs.scanning.trigger.Goals as goal
+
+pub returns-in-Ok-clause-behaves : goal.returns-in-Ok-clause-behaves
+returns-in-Ok-clause-behaves g c = λ log h.
+    let did = c.in-Ok.ensures.happens log h in
+    let first = acted_one _ log did.1 c.one.ensures.value in
+    behaves_unrefused did.0 (c.end.ensures.behaves log _ first.stands first.raises refl)
+
+pub returns-in-Err-clause-behaves : goal.returns-in-Err-clause-behaves
+returns-in-Err-clause-behaves g c = λ log h.
+    let same = subst (λ (layers : Layered). Stands layers log) (sym c.in-Err.ensures.refused) h in
+    behaves_refused _ (c.in-Err.ensures.happens log h) (c.carry_out.ensures.behaves log same)

@@ -1,0 +1,2 @@
+-- What only the proofs inside need.
+pub mod Acted

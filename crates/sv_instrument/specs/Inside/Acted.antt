@@ -1,0 +1,44 @@
+-- What parts of a step make of the layers, and of a log.
+use Rattle.std.specs.Prelude.{◌≡◌, ℕ, ◌+◌, ◌*◌, ◌<◌, List, Option, Some, None}
+use Rattle.sv_exchange.specs.Exchange.{units_done, current, message}
+use Rattle.sv_exchange.specs.Contents.{work_of}
+use Rattle.sv_layers.specs.declared.change.Awaited.{Awaited}
+use Rattle.sv_layers.specs.Act.{Act, exchange_acts}
+use Rattle.sv_layers.specs.Inside.Kept.{Layered, StandsFor as Layers}
+use Rattle.sv_instrument.specs.declared.outcome.Outcome.{Outcome}
+use Rattle.sv_instrument.specs.Held.{held}
+use Rattle.sv_instrument.specs.Path.{begun}
+use Rattle.sv_instrument.specs.Raised.{Raises}
+use Rattle.sv_instrument.specs.Kept.{IsHeldRight}
+
+-- The layers stand for the new log, and so many requests for service were raised on the way to it.
+pub record Acted (layers : Layered) (count : ℕ) (log new : List Act) : Type 0 where
+  pub stands : Layers layers new
+  pub raises : Raises log new count
+
+-- The exchange saw nothing between.
+abbrev pub IsApart : List Act → List Act → Type 0
+IsApart log new = exchange_acts new ≡ exchange_acts log
+
+-- Of the message, which is the same, so many units began as were done before, and one more.
+pub record BeginsOne (log new : List Act) : Type 0 where
+  pub message : message (exchange_acts new) ≡ message (exchange_acts log)
+  pub begun : begun new ≡ units_done (current (exchange_acts log)) + 1
+
+-- A unit made this of a log.
+pub record Behaves (Makes : List Act → Type 0) (layers : Layered) (outcome : Outcome) (log : List Act) : Type 0 where
+  pub new : List Act
+  pub makes : Makes new
+  pub acted : Acted layers outcome.raised log new
+  pub held : outcome.held ≡ held new
+  pub begins : BeginsOne log new
+
+-- one where no unit is held, which starts then
+abbrev pub unheld : Option Awaited → ℕ
+unheld None = 1
+unheld (Some awaited) = 0
+
+-- Less is left to be done, and where a unit is held, it is the one that is due.
+pub record Advances (before after : Layered) (held : Option Awaited) : Type 0 where
+  pub less : 2 * work_of after.exchange + unheld held < 2 * work_of before.exchange + 1
+  pub right : IsHeldRight held after

@@ -1,0 +1,24 @@
+-- A layer that is lent stands for what the log has of it.
+use Rattle.std.proofs.Common.{◌≡◌, List, subst}
+use Rattle.sv_errors.specs.declared.code.Code.{Code}
+use Rattle.sv_errors.specs.declared.error_queue.QueueAct.{QueueAct}
+use Rattle.sv_errors.specs.ErrorQueue.{StandsFor as Queues}
+use Rattle.sv_status.specs.declared.register_name.RegisterName.{RegisterName}
+use Rattle.sv_status.specs.declared.register_name.RegisterName.TheVariants.{Operation, Questionable}
+use Rattle.sv_status.specs.declared.status_byte.StatusAct.{StatusAct}
+use Rattle.sv_scan.specs.declared.acts.ScanAct.{ScanAct}
+use Rattle.sv_scan.specs.Stands.{StandsFor as Scans}
+use Rattle.sv_exchange.specs.Exchange.{ExchangeAct}
+use Rattle.sv_exchange.specs.Contents.{StandsFor as Exchanges}
+use Rattle.sv_layers.specs.Act.{Act, exchange_acts, queue_acts, scan_acts}
+use Rattle.sv_layers.specs.Inside.Kept.{Layered, StandsFor}
+use Rattle.sv_layers.proofs.Projected.{projected}
+
+pub lent_exchange : (layered : Layered) (log : List Act) → StandsFor layered log → Exchanges layered.exchange (exchange_acts log)
+lent_exchange layered log s = subst (λ (acts : List ExchangeAct). Exchanges layered.exchange acts) (projected log).0 s.joined.exchange
+
+pub lent_errors : (layered : Layered) (log : List Act) → StandsFor layered log → Queues layered.errors (queue_acts log)
+lent_errors layered log s = subst (λ (acts : List QueueAct). Queues layered.errors acts) (projected log).1 s.joined.errors
+
+pub lent_scanner : (layered : Layered) (log : List Act) → StandsFor layered log → Scans layered.scanner (scan_acts log)
+lent_scanner layered log s = subst (λ (acts : List ScanAct). Scans layered.scanner acts) (projected log).2 s.joined.scanner

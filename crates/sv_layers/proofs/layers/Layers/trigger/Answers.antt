@@ -1,0 +1,24 @@
+use Rattle.std.proofs.Common.{rules, refl, ap, ◌∙◌, length}
+use Rattle.sv_scan.specs.declared.acts.ScanAct.TheVariants.{Trigger}
+use Rattle.sv_scan.specs.Kept.{run_state}
+use Rattle.sv_scan.specs.Stands.{Contents}
+use Rattle.sv_layers.specs.Act.{Scanned, scan_acts}
+use Rattle.sv_layers.proofs.Lent.{lent_scanner}
+use Rattle.sv_layers.proofs.Refusals.{no_fault, the_fault}
+use Rattle.sv_layers.proofs.layers.Layers.trigger.Goals as goal
+
+pub returns-in-Ok-clause-happens : goal.returns-in-Ok-clause-happens
+returns-in-Ok-clause-happens g c = λ log h.
+    let j = rw (← c.self.view_is) at h.joined in
+    (
+      no_fault _ (c.in-Ok.ensures.answer (scan_acts log) (lent_scanner _ log (rw (← c.self.view_is) at h))),
+      c.settle.ensures.happens log (Scanned (Trigger c.args.source)) (record { told = h.told; are = h.are; joined = search rules }) refl,
+    )
+
+pub returns-in-Ok-clause-scanning : goal.returns-in-Ok-clause-scanning
+returns-in-Ok-clause-scanning g c =
+    ap (λ (held : Contents). run_state held.run (length held.readings)) c.settle.ensures.scanner ∙ c.in-Ok.ensures.scanning
+
+pub returns-in-Err-clause-happens : goal.returns-in-Err-clause-happens
+returns-in-Err-clause-happens g c = λ log h.
+    the_fault _ _ (c.in-Err.ensures.answer (scan_acts log) (lent_scanner _ log (rw (← c.self.view_is) at h)))

@@ -1,0 +1,82 @@
+//! The words that queries ask for.
+
+ghost use Rattle.std.specs.Prelude.{◌≡◌, ◌↔◌, ℕ, List};
+ghost use Rattle.std.specs.Int.{bit_at};
+ghost use Rattle.sv_layers.specs.Act.{Act};
+ghost use Rattle.sv_layers.specs.Condition.{condition as condition_of};
+ghost use Rattle.sv_layers.specs.Event.{EventStands, rise as rise_of, fall as fall_of, enable as enable_of};
+ghost use Rattle.sv_layers.specs.Standard.{Stands, enable as standard_enable_of};
+ghost use Rattle.sv_layers.specs.StatusByte.{MasterBit, service as service_of};
+ghost use Rattle.sv_layers.specs.Inside.Kept.{StandsFor};
+
+use crate::layers::Layers;
+use std::alloc::Allocator;
+use sv_status::RegisterName;
+
+impl<A: Allocator> Layers<A> {
+    /// The standard events, which stay (IEEE 488.2, 11.5.1).
+    pub fn standard_events(&self) -> u8
+        ensures { (log : List Act) → StandsFor self.now log → (k : ℕ)
+            → (bit_at result k ≡ 1) ↔ Stands k log }
+    {
+        self.standard.event()
+    }
+
+    /// Which standard events are enabled (IEEE 488.2, 11.5.1).
+    pub fn standard_enable(&self) -> u8
+        ensures { (log : List Act) → StandsFor self.now log → result ≡ standard_enable_of log }
+    {
+        self.standard.enable()
+    }
+
+    /// The status byte, with the master summary in bit 6 (IEEE 488.2, 11.2.2.2).
+    pub fn status_byte(&self) -> u8
+        ensures { (log : List Act) → StandsFor self.now log → (k : ℕ)
+            → (bit_at result k ≡ 1) ↔ MasterBit k log }
+    {
+        self.status.status()
+    }
+
+    /// The service request enable (IEEE 488.2, 11.3.2).
+    pub fn service(&self) -> u8
+        ensures { (log : List Act) → StandsFor self.now log → result ≡ service_of log }
+    {
+        self.service
+    }
+
+    /// The events of a register, which stay (SCPI-1999, chapter 20).
+    pub fn events(&self, name: RegisterName) -> u16
+        ensures { (log : List Act) → StandsFor self.now log → (k : ℕ)
+            → (bit_at result k ≡ 1) ↔ EventStands name k log }
+    {
+        self.register(name).event()
+    }
+
+    /// The condition of a register (SCPI-1999, chapter 20).
+    pub fn condition(&self, name: RegisterName) -> u16
+        ensures { (log : List Act) → StandsFor self.now log → result ≡ condition_of name log }
+    {
+        self.register(name).condition_word()
+    }
+
+    /// Which events of a register are enabled (SCPI-1999, chapter 20).
+    pub fn enabled(&self, name: RegisterName) -> u16
+        ensures { (log : List Act) → StandsFor self.now log → result ≡ enable_of name log }
+    {
+        self.register(name).enable()
+    }
+
+    /// Which bits of a register count where they rise (SCPI-1999, chapter 20).
+    pub fn rise(&self, name: RegisterName) -> u16
+        ensures { (log : List Act) → StandsFor self.now log → result ≡ rise_of name log }
+    {
+        self.register(name).rise()
+    }
+
+    /// Which bits of a register count where they fall (SCPI-1999, chapter 20).
+    pub fn fall(&self, name: RegisterName) -> u16
+        ensures { (log : List Act) → StandsFor self.now log → result ≡ fall_of name log }
+    {
+        self.register(name).fall()
+    }
+}
