@@ -2,3 +2,4 @@ pub mod Running
 pub mod Paths
 pub mod Units
 pub mod Words
+pub mod Dues

@@ -1,10 +1,12 @@
 -- What a unit makes of the message that it is of.
 use Rattle.std.proofs.Common.{◌≡◌, ℕ, ◌+◌, Bool, true, false, List, ◌∷◌, refl, ap, sym, ◌∙◌, subst, arith}
-use Rattle.std.specs.Prelude.{Option, Some, None, if◌then◌else◌}
+use Rattle.std.specs.Prelude.{Option, Some, None, Result, if◌then◌else◌}
 use Rattle.sv_errors.specs.declared.code.Code.{Code}
 use Rattle.sv_errors.specs.declared.code.Code.TheVariants.{QueryDeadlocked}
 use Rattle.sv_exchange.specs.Exchange.{ExchangeAct, Answered, AnswersDropped, units_done, current, message, answers, fits_response}
+use Rattle.sv_command.specs.declared.order.Order.{Order}
 use Rattle.sv_command.specs.declared.order.Question.{Question}
+use Rattle.sv_command.specs.Unit.{IsReadAs}
 use Rattle.sv_layers.specs.declared.change.Awaited.{Awaited}
 use Rattle.sv_layers.specs.declared.change.Change.{Change}
 use Rattle.sv_layers.specs.declared.change.Change.TheVariants as changes
@@ -16,7 +18,8 @@ use Rattle.sv_instrument.specs.Held.{held}
 use Rattle.sv_instrument.specs.Path.{begun}
 use Rattle.sv_instrument.specs.Performed.{done, answered, unless, configured, taken, Replies}
 use Rattle.sv_instrument.specs.Said.{Says}
-use Rattle.sv_instrument.specs.Inside.Acted.{Acted, IsApart, BeginsOne, Behaves}
+use Rattle.sv_instrument.specs.Step.{Does}
+use Rattle.sv_instrument.specs.Inside.Acted.{Acted, IsApart, BeginsOne, Behaves, Follows}
 
 -- the exchange doesn't see a change
 pub change_apart : (change : Change) (log : List Act) → IsApart log (act_of change ∷ log)
@@ -129,3 +132,16 @@ behaves_replied {layers} {outcome} {fault} asked text log is says b =
       held = b.held;
       begins = b.begins;
     })
+
+-- a unit that was read
+pub behaves_follows : {layers : Layered} {given : Outcome} (unit : List ℕ) (front behind : List (List ℕ)) (outcome : Result Order Code)
+    (log : List Act) → IsReadAs front unit outcome behind → Behaves (Does outcome log) layers given log
+    → Behaves (Follows unit front behind log) layers given log
+behaves_follows unit front behind outcome log read b =
+    record { new = b.new; makes = (outcome, read, b.makes); acted = b.acted; held = b.held; begins = b.begins }
+
+-- an answer that is written out
+pub behaves_same : {layers : Layered} {outcome : Outcome} (log : List Act) (given told : List ℕ) → given ≡ told
+    → Behaves (λ new. new ≡ answered given (done log)) layers outcome log → Behaves (λ new. new ≡ answered told (done log)) layers outcome log
+behaves_same {layers} {outcome} log given told =
+    subst (λ (text : List ℕ). Behaves (λ new. new ≡ answered text (done log)) layers outcome log)

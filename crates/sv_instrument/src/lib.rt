@@ -15,5 +15,6 @@ mod outcome;
 mod performing;
 mod readings;
 mod scanning;
+mod starting;
 
 pub use instrument::Instrument;

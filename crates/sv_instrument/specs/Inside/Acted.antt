@@ -1,7 +1,10 @@
 -- What parts of a step make of the layers, and of a log.
-use Rattle.std.specs.Prelude.{◌≡◌, ℕ, ◌+◌, ◌*◌, ◌<◌, List, Option, Some, None}
+use Rattle.std.specs.Prelude.{◌≡◌, ℕ, ◌+◌, ◌*◌, ◌<◌, List, Option, Some, None, Result}
+use Rattle.sv_errors.specs.declared.code.Code.{Code}
 use Rattle.sv_exchange.specs.Exchange.{units_done, current, message}
 use Rattle.sv_exchange.specs.Contents.{work_of}
+use Rattle.sv_command.specs.declared.order.Order.{Order}
+use Rattle.sv_command.specs.Unit.{IsReadAs}
 use Rattle.sv_layers.specs.declared.change.Awaited.{Awaited}
 use Rattle.sv_layers.specs.Act.{Act, exchange_acts}
 use Rattle.sv_layers.specs.Inside.Kept.{Layered, StandsFor as Layers}
@@ -9,6 +12,7 @@ use Rattle.sv_instrument.specs.declared.outcome.Outcome.{Outcome}
 use Rattle.sv_instrument.specs.Held.{held}
 use Rattle.sv_instrument.specs.Path.{begun}
 use Rattle.sv_instrument.specs.Raised.{Raises}
+use Rattle.sv_instrument.specs.Step.{Does}
 use Rattle.sv_instrument.specs.Kept.{IsHeldRight}
 
 -- The layers stand for the new log, and so many requests for service were raised on the way to it.
@@ -32,6 +36,10 @@ pub record Behaves (Makes : List Act → Type 0) (layers : Layered) (outcome : O
   pub acted : Acted layers outcome.raised log new
   pub held : outcome.held ≡ held new
   pub begins : BeginsOne log new
+
+-- A unit was read behind a path, and left another, and this came of it.
+abbrev pub Follows : List ℕ → List (List ℕ) → List (List ℕ) → List Act → List Act → Type 0
+Follows unit front behind log new = (outcome : Result Order Code) × IsReadAs front unit outcome behind × Does outcome log new
 
 -- one where no unit is held, which starts then
 abbrev pub unheld : Option Awaited → ℕ
