@@ -3,3 +3,4 @@ pub mod Paths
 pub mod Units
 pub mod Words
 pub mod Dues
+pub mod Steps

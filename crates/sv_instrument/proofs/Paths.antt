@@ -1,10 +1,15 @@
--- Where no unit of the current message began, the path is the root, whatever the message is.
-use Rattle.std.proofs.Common.{◌≡◌, ℕ, Bool, true, false, List, ◌∷◌, Option, Some, None, length, take, ap, refl, sym, subst, ◌∙◌, IsTrue, arith}
-use Rattle.std.specs.Prelude.{reverse}
-use Rattle.sv_exchange.specs.Exchange.{ExchangeAct, Accepted, units_done, current}
+-- The path in front of the next unit: the root where no unit of the message began, whatever that is; what a unit leaves that starts; the
+-- same where none does.
+use Rattle.std.proofs.Common.{◌≡◌, ℕ, zero, suc, ◌+◌, Bool, true, false, List, [], ◌∷◌, ◌++◌, Option, Some, None, Result, length, take, ap, refl, sym, subst, ◌∙◌, IsTrue, arith, cond}
+use Rattle.std.proofs.lemmas.List.{reverse-append}
+use Rattle.std.specs.Prelude.{reverse, slice_get}
+use Rattle.sv_errors.specs.declared.code.Code.{Code}
+use Rattle.sv_exchange.specs.Exchange.{ExchangeAct, Accepted, Finished, units_done, current, message, units, next_unit}
 use Rattle.sv_exchange.specs.Contents.{Contents, StandsFor as Exchanges, is_open}
 use Rattle.sv_exchange.proofs.Dues.{at_unit}
 use Rattle.sv_exchange.proofs.Stands.{not_true}
+use Rattle.sv_command.specs.declared.order.Order.{Order}
+use Rattle.sv_command.specs.Unit.{IsReadAs}
 use Rattle.sv_layers.specs.declared.change.Awaited.{Awaited}
 use Rattle.sv_layers.specs.Act.{Act, Exchanged, exchange_acts}
 use Rattle.sv_layers.specs.Inside.Kept.{Layered}
@@ -12,6 +17,7 @@ use Rattle.sv_layers.proofs.Projected.{projected}
 use Rattle.sv_instrument.specs.Held.{held}
 use Rattle.sv_instrument.specs.Path.{IsPath, Leaves, begun, one_if_held}
 use Rattle.sv_instrument.specs.Kept.{Kept, StandsFor, IsHeldRight}
+use Rattle.sv_instrument.specs.Inside.Acted.{BeginsOne}
 
 same_root : (n : ℕ) (us vs : List (List ℕ)) (path : List (List ℕ)) → n ≡ 0 → Leaves (reverse (take n us)) path
     → Leaves (reverse (take n vs)) path
@@ -45,3 +51,47 @@ pub accepted_path : (kept : Kept) (log : List Act) (bytes : List ℕ) (ended : B
     → IsTrue (is_open kept.layers.exchange) → IsPath (Exchanged (Accepted bytes ended) ∷ log) kept.path
 accepted_path kept log bytes ended s right open_now =
     same_root (begun log) _ _ kept.path (none_begun kept log s right open_now) s.path
+
+-- a message that is finished leaves the root
+pub finished_path : (log : List Act) → None ≡ held log → IsPath (Exchanged Finished ∷ log) []
+finished_path log free =
+    let none : begun (Exchanged Finished ∷ log) ≡ 0 = ap (λ (n : ℕ). 0 + n) (ap one_if_held (sym free)) in
+    subst (λ (n : ℕ). Leaves (reverse (take n (units (message (exchange_acts (Exchanged Finished ∷ log)))))) []) (sym none) refl
+
+-- so many units, and one more
+taken_more : (us : List (List ℕ)) (n : ℕ) (unit : List ℕ) → slice_get us n ≡ Some unit → take (suc n) us ≡ take n us ++ unit ∷ []
+taken_more [] n unit is = absurd cc
+taken_more (u ∷ us) zero unit is = cc
+taken_more (u ∷ us) (suc n) unit is = ap (λ (vs : List (List ℕ)). u ∷ vs) (taken_more us n unit is)
+
+one_more : (us : List (List ℕ)) (n : ℕ) (unit : List ℕ) → slice_get us n ≡ Some unit → reverse (take (suc n) us) ≡ unit ∷ reverse (take n us)
+one_more us n unit is = ap (λ (vs : List (List ℕ)). reverse vs) (taken_more us n unit is) ∙ reverse-append (take n us) (unit ∷ [])
+
+of_cond : (b : Bool) (next : Option (List ℕ)) (unit : List ℕ) → cond b next None ≡ Some unit → next ≡ Some unit
+of_cond true next unit is = is
+of_cond false next unit is = absurd cc
+
+-- a unit that starts leaves what it was read with
+pub started_path : (log new : List Act) (unit : List ℕ) (front behind : List (List ℕ)) (outcome : Result Order Code) → None ≡ held log
+    → BeginsOne log new → next_unit (exchange_acts log) ≡ Some unit → IsPath log front → IsReadAs front unit outcome behind
+    → IsPath new behind
+started_path log new unit front behind outcome free begins next before read =
+    let n = units_done (current (exchange_acts log)) in
+    let us = units (message (exchange_acts log)) in
+    let here : slice_get us n ≡ Some unit = of_cond _ _ unit next in
+    let none : begun log ≡ n = ap (λ (k : ℕ). n + k) (ap one_if_held (sym free)) ∙ omega arith in
+    let more : begun new ≡ suc n = begins.begun ∙ omega arith in
+    let are : reverse (take (begun new) (units (message (exchange_acts new)))) ≡ unit ∷ reverse (take n us) =
+    ap (λ (k : ℕ). reverse (take k (units (message (exchange_acts new))))) more
+    ∙ ap (λ (text : List ℕ). reverse (take (suc n) (units text))) begins.message ∙ one_more us n unit here in
+    let all = subst (λ (k : ℕ). Leaves (reverse (take k us)) front) none before in
+    subst (λ (list : List (List ℕ)). Leaves list behind) (sym are) (front, outcome, all, read)
+
+-- a unit that was held leaves what it left when it started
+pub released_path : (log new : List Act) (awaited : Awaited) (path : List (List ℕ)) → Some awaited ≡ held log → BeginsOne log new
+    → IsPath log path → IsPath new path
+released_path log new awaited path is begins before =
+    let n = units_done (current (exchange_acts log)) in
+    let same : begun log ≡ begun new = ap (λ (k : ℕ). n + k) (ap one_if_held (sym is)) ∙ sym begins.begun in
+    let there = subst (λ (text : List ℕ). Leaves (reverse (take (begun log) (units text))) path) (sym begins.message) before in
+    subst (λ (k : ℕ). Leaves (reverse (take k (units (message (exchange_acts new))))) path) same there

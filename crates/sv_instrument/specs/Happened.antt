@@ -1,7 +1,7 @@
 -- What happens to the instrument from outside of program messages.
-use Rattle.std.specs.Prelude.{List, ◌∷◌, Option, Some, None}
+use Rattle.std.specs.Prelude.{◌≡◌, List, ◌∷◌, Option, Some, None}
 use Rattle.sv_errors.specs.declared.code.Code.{Code}
-use Rattle.sv_errors.specs.declared.source.Source.TheVariants.{Bus, External}
+use Rattle.sv_errors.specs.declared.source.Source.TheVariants.{Immediate, Bus, External}
 use Rattle.sv_scan.specs.declared.acts.ScanAct.TheVariants.{Trigger, Sample}
 use Rattle.sv_scan.specs.declared.setting.State.{State}
 use Rattle.sv_scan.specs.declared.setting.State.TheVariants.{Idle, Waiting, Scanning}
@@ -34,3 +34,7 @@ where_scanning Waiting log = log
 
 abbrev pub sampled : List Act → List Act
 sampled log = where_scanning (state (counted log)) log
+
+-- An immediate trigger: it comes as soon as one is waited for.
+abbrev pub IsFired : List Act → List Act → Type 0
+IsFired log new = (trigger_fault (counted log) Immediate ≡ None) × (new ≡ Scanned (Trigger Immediate) ∷ log)

@@ -1,10 +1,10 @@
 -- The step of message exchange that is due (IEEE 488.2, 6.1.4 and 6.3): a held unit ends, or the next unit starts, or a message that is
 -- too long is reported, or one that has ended is finished.
-use Rattle.std.specs.Prelude.{◌≡◌, ℕ, true, List, ◌∷◌, Option, Some, None, Result, Ok, Err, codes}
+use Rattle.std.specs.Prelude.{◌≡◌, ℕ, Bool, true, false, not, ◌&&◌, ◌||◌, List, ◌∷◌, Option, Some, None, Result, Ok, Err, codes}
 use Rattle.sv_errors.specs.declared.code.Code.{Code}
 use Rattle.sv_errors.specs.declared.code.Code.TheVariants.{InputBufferOverrun, QueryInterrupted}
 use Rattle.sv_scan.specs.Scan.{readings}
-use Rattle.sv_exchange.specs.Exchange.{Overran, Finished, Interrupted, Due, NothingDue, OverrunDue, InterruptDue, UnitDue, FinishDue, due, next_unit}
+use Rattle.sv_exchange.specs.Exchange.{Overran, Finished, Interrupted, Due, NothingDue, OverrunDue, InterruptDue, UnitDue, FinishDue, due, next_unit, response, is_something, has_ended}
 use Rattle.sv_command.specs.declared.order.Order.{Order}
 use Rattle.sv_command.specs.Unit.{IsReadAs}
 use Rattle.sv_layers.specs.declared.change.Awaited.{Awaited}
@@ -47,3 +47,12 @@ StepOf None FinishDue log new = new ≡ Exchanged Finished ∷ log
 -- The step that is due makes this of a log.
 abbrev pub IsStep : List Act → List Act → Type 0
 IsStep log new = StepOf (held log) (due (exchange_acts log)) log new
+
+-- whether a unit is held
+abbrev pub is_held : Option Awaited → Bool
+is_held None = false
+is_held (Some awaited) = true
+
+-- whether a read is answered: there is a response, or nothing is under way that could make one
+abbrev pub is_answerable : List Act → Bool
+is_answerable log = is_something (response (exchange_acts log)) || (not (is_held (held log)) && not (has_ended (exchange_acts log)))

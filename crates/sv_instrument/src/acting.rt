@@ -1,6 +1,6 @@
 //! One act after the other.
 
-ghost use Rattle.std.specs.Prelude.{◌≡◌, ◌+◌, ◌≤◌, List, ◌∷◌, IsTrue};
+ghost use Rattle.std.specs.Prelude.{◌≡◌, ◌+◌, ◌≤◌, List, ◌∷◌, None, IsTrue};
 ghost use Rattle.sv_exchange.specs.Exchange.{UnitDone, Answered};
 ghost use Rattle.sv_exchange.specs.Contents.{IsUnitDue, next_of, may_respond, work_of};
 ghost use Rattle.sv_layers.specs.Act.{Act};
@@ -36,6 +36,7 @@ pub(crate) fn end<A: Allocator>(layers: &mut Layers<A>, raised: u8) -> Outcome
         → IsApart start log → Behaves (λ new. new ≡ done_of log) layers.new result start }
     ensures advances { Advances layers.old layers.new result.held }
     ensures few { result.raised ≤ raised + 1 }
+    ensures free { result.held ≡ None }
 {
     let last = one(layers.done());
     Outcome {
@@ -101,6 +102,7 @@ pub(crate) fn reply<A: Allocator>(layers: &mut Layers<A>, raised: u8, text: &[u8
         → Behaves (λ new. new ≡ answered text.now (done_of log)) layers.new result start }
     ensures advances { Advances layers.old layers.new result.held }
     ensures few { result.raised ≤ raised + 3 }
+    ensures free { result.held ≡ None }
 {
     let last = one(layers.done());
     let answer = respond(layers, text);

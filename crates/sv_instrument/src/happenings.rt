@@ -1,36 +1,63 @@
-//! What happens to the instrument from outside: writes and device clear.
+//! What happens to the instrument from outside of messages: inputs, triggers and time.
 
-ghost use Rattle.std.specs.Prelude.{◌≤◌, List, ◌∷◌, length, IsTrue};
-ghost use Rattle.sv_exchange.specs.Exchange.{Accepted};
-ghost use Rattle.sv_exchange.specs.Contents.{is_open};
-ghost use Rattle.sv_layers.specs.Act.{Act, Exchanged, Purged};
+ghost use Rattle.std.specs.Prelude.{List, ◌∷◌};
+ghost use Rattle.sv_scan.specs.declared.acts.ScanAct.TheVariants.{Input};
+ghost use Rattle.sv_layers.specs.Act.{Act, Scanned};
+ghost use Rattle.sv_instrument.specs.Happened.{triggered, awaited_trigger, sampled};
 ghost use Rattle.sv_instrument.specs.Kept.{StandsFor, Ran};
 
+use crate::acting::change;
 use crate::counting::one;
 use crate::instrument::Instrument;
 use std::alloc::Allocator;
-use sv_header::Path;
+use sv_errors::Source;
+use sv_layers::Change;
+use sv_scan::{ScanAct, State};
 
 impl<A: Allocator> Instrument<A> {
-    /// Takes in the bytes of a write, and whether END came with the last of them (VXI-11,
-    /// device_write). A write has to be taken now, of at most 4,096 bytes.
-    pub fn write(&mut self, bytes: &[u8], ended: bool) -> u8
-        requires open { IsTrue (is_open self.old.layers.exchange) }
-        requires short { length bytes.now ≤ 4096 }
+    /// The voltage of a channel's input is this from now on, in microvolts. A channel that isn't 1
+    /// to 32 has no input: nothing changes. It tells how many requests for service were raised, as
+    /// all calls below do.
+    pub fn input(&mut self, channel: u8, microvolts: i64) -> u8
         ensures { (log : List Act) → StandsFor self.old log
-            → Ran self.new result log (Exchanged (Accepted bytes.now ended) ∷ log) }
+            → Ran self.new result log (Scanned (Input channel microvolts) ∷ log) }
     {
-        one(self.layers.accept(bytes, ended))
+        change(&mut self.layers, Change::Scan(ScanAct::Input(channel, microvolts)))
     }
 
-    /// Drops program text, the held unit and the response, and cancels an `*OPC` (VXI-11,
-    /// device_clear; IEEE 488.2, 5.8).
-    pub fn clear(&mut self) -> u8
+    /// A trigger comes in at the trigger input: the next scan begins where an external trigger is
+    /// waited for; else nothing happens.
+    pub fn external(&mut self) -> u8
         ensures { (log : List Act) → StandsFor self.old log
-            → Ran self.new result log (Purged ∷ log) }
+            → Ran self.new result log (awaited_trigger log) }
     {
-        self.held = None;
-        self.path = Path::root();
-        one(self.layers.purge())
+        match self.layers.trigger(Source::External) {
+            Ok(raised) => one(raised),
+            Err(_ignored) => 0,
+        }
+    }
+
+    /// A trigger comes from the controller: the next scan begins where one from there is waited
+    /// for; else that is reported (VXI-11, device_trigger).
+    pub fn trigger(&mut self) -> u8
+        ensures { (log : List Act) → StandsFor self.old log
+            → Ran self.new result log (triggered log) }
+    {
+        match self.layers.trigger(Source::Bus) {
+            Ok(raised) => one(raised),
+            Err(ignored) => change(&mut self.layers, Change::Report(ignored)),
+        }
+    }
+
+    /// A millisecond goes by: in a scan the next channel is read.
+    pub fn tick(&mut self) -> u8
+        ensures { (log : List Act) → StandsFor self.old log
+            → Ran self.new result log (sampled log) }
+    {
+        match self.layers.scanner().state() {
+            State::Scanning => change(&mut self.layers, Change::Scan(ScanAct::Sample)),
+            State::Idle => 0,
+            State::Waiting => 0,
+        }
     }
 }

@@ -11,10 +11,14 @@ mod asking;
 mod counting;
 mod happenings;
 mod instrument;
+mod messages;
 mod outcome;
 mod performing;
+mod polling;
 mod readings;
 mod scanning;
 mod starting;
+mod stepping;
 
 pub use instrument::Instrument;
+pub use polling::Polled;

@@ -1,11 +1,8 @@
 //! The start of a unit, and the end of one that is held.
 
-ghost use Rattle.std.specs.Prelude.{◌≡◌, ◌≤◌, ℕ, List, Some, Result, vec_capacity};
-ghost use Rattle.sv_errors.specs.declared.code.Code.{Code as Fault};
+ghost use Rattle.std.specs.Prelude.{◌≡◌, ◌≤◌, ℕ, List, Some, None, vec_capacity};
 ghost use Rattle.sv_exchange.specs.Exchange.{next_unit};
 ghost use Rattle.sv_exchange.specs.Contents.{IsUnitDue, next_of};
-ghost use Rattle.sv_command.specs.declared.order.Order.{Order as Ordered};
-ghost use Rattle.sv_command.specs.Unit.{IsReadAs};
 ghost use Rattle.sv_layers.specs.Act.{Act, exchange_acts};
 ghost use Rattle.sv_layers.specs.Inside.Kept.{StandsFor as Stands};
 ghost use Rattle.sv_instrument.specs.Step.{Does, ended};
@@ -80,6 +77,7 @@ pub(crate) fn release<A: Allocator>(
     ensures advances { Advances layers.old layers.new result.held }
     ensures few { result.raised ≤ 8 }
     ensures capacity { 8192 ≤ vec_capacity answer.new }
+    ensures free { result.held ≡ None }
 {
     match awaited {
         Awaited::Nothing => end(layers, 0),

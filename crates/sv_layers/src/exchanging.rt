@@ -1,6 +1,6 @@
 //! What happens to program text and the response, and what follows.
 
-ghost use Rattle.std.specs.Prelude.{◌≡◌, ◌+◌, ◌*◌, ◌<◌, ◌≤◌, List, ◌∷◌, length, IsTrue, if◌then◌else◌};
+ghost use Rattle.std.specs.Prelude.{◌≡◌, ◌+◌, ◌*◌, ◌<◌, ◌≤◌, List, ◌∷◌, drop, length, IsTrue, if◌then◌else◌};
 ghost use Rattle.sv_exchange.specs.Exchange.{Accepted, TextDropped, Overran, UnitDone, Answered, AnswersDropped, Finished, Interrupted, ResponseRead, OverrunDue, InterruptDue, FinishDue, answers, fits_response};
 ghost use Rattle.sv_exchange.specs.Contents.{empty, is_open, shown_by, next_of, IsUnitDue, may_respond, work_of};
 ghost use Rattle.sv_layers.specs.Act.{Act, Exchanged, Purged, exchange_acts};
@@ -105,7 +105,9 @@ impl<A: Allocator> Layers<A> {
         requires { count ≤ length (shown_by self.old.exchange) }
         ensures happens { (log : List Act) → StandsFor self.old log
             → Happens self.new result (Exchanged (ResponseRead count) ∷ log) }
-        ensures stays_open { is_open self.new.exchange ≡ is_open self.old.exchange }
+        ensures value { self.new.exchange ≡ record self.old.exchange {
+          output = drop count self.old.exchange.output;
+        } }
     {
         self.exchange.take(count);
         self.settle()

@@ -1,16 +1,15 @@
 //! What a change does to its own layer, and what follows.
 
-ghost use Rattle.std.specs.Prelude.{◌≡◌, List, ◌∷◌, length, Some, None, OnOk, OnErr, MatchResult};
+ghost use Rattle.std.specs.Prelude.{◌≡◌, List, ◌∷◌, Some, None, OnOk, OnErr, MatchResult};
 ghost use Rattle.sv_scan.specs.declared.acts.ScanAct.TheVariants.{Trigger};
-ghost use Rattle.sv_scan.specs.declared.setting.State.TheVariants.{Scanning};
+ghost use Rattle.sv_scan.specs.declared.setting.State.TheVariants.{Waiting, Scanning};
 ghost use Rattle.sv_scan.specs.Counted.{trigger_fault};
-ghost use Rattle.sv_scan.specs.Kept.{run_state};
 ghost use Rattle.sv_layers.specs.Condition.{counted};
 ghost use Rattle.sv_layers.specs.Act.{Act, Scanned, Reported, EntryTaken, Cleared, OpcAsked, StandardRead, StandardEnabled, EventRead, Enabled, RiseSet, FallSet, ServiceEnabled};
 ghost use Rattle.sv_layers.specs.Act.{Preset as PresetAct};
 ghost use Rattle.sv_layers.specs.Change.{act_of};
 ghost use Rattle.sv_layers.specs.Inside.Seen.{resets};
-ghost use Rattle.sv_layers.specs.Inside.Kept.{StandsFor, Happens};
+ghost use Rattle.sv_layers.specs.Inside.Kept.{StandsFor, Happens, state_by};
 
 use crate::change::Change;
 use crate::layers::Layers;
@@ -71,8 +70,8 @@ impl<A: Allocator> Layers<A> {
             × Happens self.new raised (Scanned (Trigger source) ∷ log))
             (λ code. trigger_fault (counted log) source ≡ Some code) }
         ensures exchange { self.new.exchange ≡ self.old.exchange }
-        ensures scanning { OnOk result (run_state self.new.scanner.run
-            (length self.new.scanner.readings) ≡ Scanning) }
+        ensures scanning { OnOk result ((state_by self.old ≡ Waiting)
+            × (state_by self.new ≡ Scanning)) }
         ensures refused { OnErr result (self.new ≡ self.old) }
     {
         match self.scanner.trigger(source) {

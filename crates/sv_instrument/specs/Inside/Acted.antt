@@ -1,7 +1,7 @@
 -- What parts of a step make of the layers, and of a log.
-use Rattle.std.specs.Prelude.{◌≡◌, ℕ, ◌+◌, ◌*◌, ◌<◌, List, Option, Some, None, Result}
+use Rattle.std.specs.Prelude.{◌≡◌, ℕ, ◌+◌, ◌*◌, ◌<◌, List, Option, Some, Result}
 use Rattle.sv_errors.specs.declared.code.Code.{Code}
-use Rattle.sv_exchange.specs.Exchange.{units_done, current, message}
+use Rattle.sv_exchange.specs.Exchange.{units_done, current, message, next_unit}
 use Rattle.sv_exchange.specs.Contents.{work_of}
 use Rattle.sv_command.specs.declared.order.Order.{Order}
 use Rattle.sv_command.specs.Unit.{IsReadAs}
@@ -12,8 +12,8 @@ use Rattle.sv_instrument.specs.declared.outcome.Outcome.{Outcome}
 use Rattle.sv_instrument.specs.Held.{held}
 use Rattle.sv_instrument.specs.Path.{begun}
 use Rattle.sv_instrument.specs.Raised.{Raises}
-use Rattle.sv_instrument.specs.Step.{Does}
-use Rattle.sv_instrument.specs.Kept.{IsHeldRight}
+use Rattle.sv_instrument.specs.Step.{Does, Starts}
+use Rattle.sv_instrument.specs.Kept.{Kept, Ran, unheld, IsHeldRight}
 
 -- The layers stand for the new log, and so many requests for service were raised on the way to it.
 pub record Acted (layers : Layered) (count : ℕ) (log new : List Act) : Type 0 where
@@ -41,12 +41,15 @@ pub record Behaves (Makes : List Act → Type 0) (layers : Layered) (outcome : O
 abbrev pub Follows : List ℕ → List (List ℕ) → List (List ℕ) → List Act → List Act → Type 0
 Follows unit front behind log new = (outcome : Result Order Code) × IsReadAs front unit outcome behind × Does outcome log new
 
--- one where no unit is held, which starts then
-abbrev pub unheld : Option Awaited → ℕ
-unheld None = 1
-unheld (Some awaited) = 0
-
 -- Less is left to be done, and where a unit is held, it is the one that is due.
 pub record Advances (before after : Layered) (held : Option Awaited) : Type 0 where
   pub less : 2 * work_of after.exchange + unheld held < 2 * work_of before.exchange + 1
   pub right : IsHeldRight held after
+
+-- From a log on, the next unit started behind the acts in front of it.
+pub record StartsUnit (log front : List Act) (kept : Kept) (count : ℕ) : Type 0 where
+  pub unit : List ℕ
+  pub new : List Act
+  pub next : next_unit (exchange_acts log) ≡ Some unit
+  pub starts : Starts unit front new
+  pub ran : Ran kept count log new

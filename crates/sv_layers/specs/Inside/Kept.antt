@@ -1,15 +1,15 @@
 -- What the layers keep, and that it stands for a log.
-use Rattle.std.specs.Prelude.{◌≡◌, ◌↔◌, ℕ, ◌+◌, Bool, true, List, [], ◌∷◌}
+use Rattle.std.specs.Prelude.{◌≡◌, ◌↔◌, ℕ, ◌+◌, Bool, true, List, [], ◌∷◌, length}
 use Rattle.sv_errors.specs.declared.code.Code.{Code}
 use Rattle.sv_errors.specs.ErrorQueue.{entries, is_any, StandsFor as Queues}
-use Rattle.sv_status.specs.declared.register_name.RegisterName.{RegisterName}
-use Rattle.sv_status.specs.declared.register_name.RegisterName.TheVariants.{Operation, Questionable}
 use Rattle.sv_status.specs.Register.{Latches as RegisterLatches, Summary, StandsFor as Registers}
 use Rattle.sv_status.specs.StandardEvent.{Latches as StandardLatches, Summary as StandardSummary, StandsFor as Standards}
 use Rattle.sv_status.specs.declared.status_byte.StatusAct.{StatusAct}
 use Rattle.sv_status.specs.declared.status_byte.StatusAct.TheVariants.{Update, Poll}
 use Rattle.sv_status.specs.StatusByte.{Latches as StatusLatches, IsRaised as IsRaisedAsTold, StandsFor as Statuses}
+use Rattle.sv_scan.specs.declared.setting.State.{State}
 use Rattle.sv_scan.specs.Condition.{bit}
+use Rattle.sv_scan.specs.Kept.{run_state}
 use Rattle.sv_scan.specs.Stands.{Contents as ScanContents, StandsFor as Scans}
 use Rattle.sv_exchange.specs.Exchange.{response, is_something}
 use Rattle.sv_exchange.specs.Contents.{Contents, StandsFor as Exchanges}
@@ -83,7 +83,6 @@ pub record Happens (layered : Layered) (raised : Bool) (log : List Act) : Type 0
   pub stands : StandsFor layered log
   pub requests : (raised ≡ true) ↔ IsRaised log
 
--- one of the two registers
-abbrev pub register_of : RegisterName → Layered → RegisterLatches
-register_of Operation layered = layered.operation
-register_of Questionable layered = layered.questionable
+-- the state of the trigger system, by what is kept
+abbrev pub state_by : Layered → State
+state_by layered = run_state layered.scanner.run (length layered.scanner.readings)

@@ -16,8 +16,10 @@ returns-in-Ok-clause-happens g c = λ log h.
     )
 
 pub returns-in-Ok-clause-scanning : goal.returns-in-Ok-clause-scanning
-returns-in-Ok-clause-scanning g c =
-    ap (λ (held : Contents). run_state held.run (length held.readings)) c.settle.ensures.scanner ∙ c.in-Ok.ensures.scanning
+returns-in-Ok-clause-scanning g c = (
+  rw (← c.self.view_is) c.in-Ok.ensures.scanning.0,
+  ap (λ (held : Contents). run_state held.run (length held.readings)) c.settle.ensures.scanner ∙ c.in-Ok.ensures.scanning.1,
+)
 
 pub returns-in-Err-clause-happens : goal.returns-in-Err-clause-happens
 returns-in-Err-clause-happens g c = λ log h.

@@ -1,0 +1,91 @@
+-- A step that was taken is the one that is due, and less is left to be done behind it.
+use Rattle.std.proofs.Common.{◌≡◌, ℕ, ◌+◌, ◌*◌, ◌<◌, ◌≤◌, true, false, List, [], ◌∷◌, length, drop, refl, ap, sym, subst, ◌∙◌, arith}
+use Rattle.std.specs.Prelude.{Option, Some, None}
+use Rattle.sv_scan.specs.declared.setting.State.TheVariants.{Waiting, Scanning}
+use Rattle.sv_exchange.specs.Exchange.{Due, UnitDue, due, next_unit, is_something}
+use Rattle.sv_exchange.specs.Contents.{Contents, IsUnitDue, next_of, shown_by, work_of}
+use Rattle.sv_exchange.proofs.Dues.{at_unit}
+use Rattle.sv_layers.specs.declared.change.Awaited.{Awaited}
+use Rattle.sv_layers.specs.Act.{Act, exchange_acts}
+use Rattle.sv_layers.specs.Condition.{is_idle}
+use Rattle.sv_layers.specs.Inside.Kept.{Layered, state_by}
+use Rattle.sv_instrument.specs.declared.outcome.Outcome.{Outcome}
+use Rattle.sv_instrument.specs.Held.{held}
+use Rattle.sv_instrument.specs.Path.{IsPath}
+use Rattle.sv_instrument.specs.Raised.{Raises}
+use Rattle.sv_instrument.specs.Step.{StepOf, IsStep, Starts, ended}
+use Rattle.sv_instrument.specs.Kept.{Kept, Ran, IsHeldRight, unheld, waits}
+use Rattle.sv_instrument.specs.Inside.Acted.{Acted, Behaves, Follows, StartsUnit}
+use Rattle.sv_instrument.proofs.Running.{raises_then}
+use Rattle.sv_instrument.proofs.Paths.{started_path}
+use Rattle.sv_instrument.proofs.Dues.{unit_is_next}
+
+-- what is kept, by its parts
+pub ran_of : (kept : Kept) (log new : List Act) (count : ℕ) → Acted kept.layers count log new → kept.held ≡ held new → IsPath new kept.path
+    → Ran kept count log new
+ran_of kept log new count acted is path =
+    record { stands = record { layers = acted.stands; held = is; path = path }; raises = acted.raises }
+
+-- the step that is due, by what is held and what is due of the exchange
+pub step_of : (log new : List Act) (kept : Option Awaited) (next : Due) → kept ≡ held log → next ≡ due (exchange_acts log)
+    → StepOf kept next log new → IsStep log new
+step_of log new kept next is next_is step =
+    subst (λ (d : Due). StepOf (held log) d log new) next_is (subst (λ (h : Option Awaited). StepOf h next log new) is step)
+
+same_unit : (next : Option (List ℕ)) (unit text : List ℕ) → next ≡ Some unit → next ≡ Some text → unit ≡ text
+same_unit next unit text is same = cc
+
+-- the unit that is due is the next one
+pub unit_step : (log new : List Act) (unit text : List ℕ) → None ≡ held log → UnitDue text ≡ due (exchange_acts log)
+    → next_unit (exchange_acts log) ≡ Some unit → Starts unit log new → IsStep log new
+unit_step log new unit text free is next starts =
+    step_of log new None (UnitDue text) free is
+    (subst (λ (bytes : List ℕ). Starts bytes log new)
+    (same_unit (next_unit (exchange_acts log)) unit text next (unit_is_next (exchange_acts log) text is)) starts)
+
+-- a unit started behind the acts in front of it
+pub started : (log front : List Act) (unit : List ℕ) (path : List (List ℕ)) (kept : Kept) (outcome : Outcome) (first count : ℕ)
+    → Raises log front first → None ≡ held front → next_unit (exchange_acts front) ≡ Some unit
+    → next_unit (exchange_acts log) ≡ next_unit (exchange_acts front) → IsPath front path
+    → Behaves (Follows unit path kept.path front) kept.layers outcome front → kept.held ≡ outcome.held → count ≡ first + outcome.raised
+    → StartsUnit log front kept count
+started log front unit path kept outcome first count before free next apart here b is sum =
+    let read = b.makes in
+    record {
+      unit = unit;
+      new = b.new;
+      next = apart ∙ next;
+      starts = (path, kept.path, read.0, here, read.1, read.2);
+      ran = record {
+        stands = record {
+          layers = b.acted.stands;
+          held = is ∙ b.held;
+          path = started_path front b.new unit path kept.path read.0 free b.begins next here read.1;
+        };
+        raises = raises_then before b.acted.raises sum;
+      };
+    }
+
+-- a trigger that was waited for leaves less
+pub fired_less : (new old : Layered) (kept : Option Awaited) → new.exchange ≡ old.exchange → state_by old ≡ Waiting
+    → state_by new ≡ Scanning
+    → 2 * (2 * work_of new.exchange + unheld kept) + waits (state_by new) < 2 * (2 * work_of old.exchange + unheld kept) + waits (state_by old)
+fired_less new old kept exchange waiting scanning =
+    let work : work_of new.exchange ≡ work_of old.exchange = ap (λ (c : Contents). work_of c) exchange in
+    let before : waits (state_by old) ≡ 1 = ap waits waiting in
+    let after : waits (state_by new) ≡ 0 = ap waits scanning in
+    omega (arith, work, before, after)
+
+-- where a unit is due there is no response, so reading it changes nothing
+shown_nothing : (bytes : List ℕ) (count : ℕ) → is_something bytes ≡ false → count ≤ length bytes → count ≡ 0
+shown_nothing [] count nothing within = omega (arith, within)
+shown_nothing (b ∷ bytes) count nothing within = absurd cc
+
+pub take_right : (kept : Option Awaited) (old new : Layered) (count : ℕ) → IsHeldRight kept old
+    → count ≤ length (shown_by old.exchange) → new.exchange ≡ record old.exchange { output = drop count old.exchange.output }
+    → IsHeldRight kept new
+take_right None old new count right within value = tt
+take_right (Some awaited) old new count right within value =
+    let none = shown_nothing (shown_by old.exchange) count (at_unit old.exchange right).no_response within in
+    let same : new.exchange ≡ old.exchange = value ∙ ap (λ (n : ℕ). record old.exchange { output = drop n old.exchange.output }) none in
+    subst (λ (contents : Contents). IsUnitDue (next_of contents)) (sym same) right

@@ -1,0 +1,10 @@
+use Rattle.std.proofs.Common.{◌∙◌, sym, refl, arith}
+use Rattle.sv_instrument.proofs.Running.{raises_none}
+use Rattle.sv_instrument.proofs.Steps.{started}
+use Rattle.sv_instrument.proofs.instrument.Instrument.start.Goals as goal
+
+pub returns-clause-ran : goal.returns-clause-ran
+returns-clause-ran g c = λ log h.
+    let s = rw (← c.self.view_is) at h in
+    let unit = c.start-unit.ensures.behaves log s.layers in
+    started log log unit.0 _ _ _ 0 _ (raises_none log) (sym c.requires.free ∙ h.held) unit.1 refl s.path unit.2 refl (omega arith)
