@@ -1,7 +1,7 @@
 -- A unit is due only where it is the next one.
-use Rattle.std.proofs.Common.{◌≡◌, ℕ, ◌==◌, Bool, true, false, not, ◌&&◌, List, refl, sym, arith}
+use Rattle.std.proofs.Common.{◌≡◌, ℕ, ◌==◌, Bool, true, false, not, ◌&&◌, List}
 use Rattle.std.specs.Prelude.{Option, Some, None, if◌then◌else◌}
-use Rattle.sv_exchange.specs.Exchange.{ExchangeAct, current, units_done, has_ended, is_long, has_overrun, next_unit, response, is_something, Due, NothingDue, OverrunDue, InterruptDue, UnitDue, FinishDue, due, due_unit}
+use Rattle.sv_exchange.specs.Exchange.{ExchangeAct, current, units_done, has_ended, is_long, has_overrun, next_unit, response, is_something, OverrunDue, UnitDue, due, due_unit}
 
 found : (long : Bool) (unit : Option (List ℕ)) (interrupts ended : Bool) (text : List ℕ)
     → UnitDue text ≡ (if long then OverrunDue else due_unit unit interrupts ended) → unit ≡ Some text

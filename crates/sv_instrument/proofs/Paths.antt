@@ -78,9 +78,9 @@ pub started_path : (log new : List Act) (unit : List ℕ) (front behind : List (
 started_path log new unit front behind outcome free begins next before read =
     let n = units_done (current (exchange_acts log)) in
     let us = units (message (exchange_acts log)) in
-    let here : slice_get us n ≡ Some unit = of_cond _ _ unit next in
     let none : begun log ≡ n = ap (λ (k : ℕ). n + k) (ap one_if_held (sym free)) ∙ omega arith in
     let more : begun new ≡ suc n = begins.begun ∙ omega arith in
+    let here : slice_get us n ≡ Some unit = of_cond _ _ unit next in
     let are : reverse (take (begun new) (units (message (exchange_acts new)))) ≡ unit ∷ reverse (take n us) =
     ap (λ (k : ℕ). reverse (take k (units (message (exchange_acts new))))) more
     ∙ ap (λ (text : List ℕ). reverse (take (suc n) (units text))) begins.message ∙ one_more us n unit here in

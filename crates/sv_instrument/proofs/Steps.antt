@@ -1,5 +1,5 @@
 -- A step that was taken is the one that is due, and less is left to be done behind it.
-use Rattle.std.proofs.Common.{◌≡◌, ℕ, ◌+◌, ◌*◌, ◌<◌, ◌≤◌, true, false, List, [], ◌∷◌, length, drop, refl, ap, sym, subst, ◌∙◌, arith}
+use Rattle.std.proofs.Common.{◌≡◌, ℕ, ◌+◌, ◌*◌, ◌<◌, ◌≤◌, false, List, [], ◌∷◌, length, drop, ap, sym, subst, ◌∙◌, arith}
 use Rattle.std.specs.Prelude.{Option, Some, None}
 use Rattle.sv_scan.specs.declared.setting.State.TheVariants.{Waiting, Scanning}
 use Rattle.sv_exchange.specs.Exchange.{Due, UnitDue, due, next_unit, is_something}
@@ -7,13 +7,12 @@ use Rattle.sv_exchange.specs.Contents.{Contents, IsUnitDue, next_of, shown_by, w
 use Rattle.sv_exchange.proofs.Dues.{at_unit}
 use Rattle.sv_layers.specs.declared.change.Awaited.{Awaited}
 use Rattle.sv_layers.specs.Act.{Act, exchange_acts}
-use Rattle.sv_layers.specs.Condition.{is_idle}
 use Rattle.sv_layers.specs.Inside.Kept.{Layered, state_by}
 use Rattle.sv_instrument.specs.declared.outcome.Outcome.{Outcome}
 use Rattle.sv_instrument.specs.Held.{held}
 use Rattle.sv_instrument.specs.Path.{IsPath}
 use Rattle.sv_instrument.specs.Raised.{Raises}
-use Rattle.sv_instrument.specs.Step.{StepOf, IsStep, Starts, ended}
+use Rattle.sv_instrument.specs.Step.{StepOf, IsStep, Starts}
 use Rattle.sv_instrument.specs.Kept.{Kept, Ran, IsHeldRight, unheld, waits}
 use Rattle.sv_instrument.specs.Inside.Acted.{Acted, Behaves, Follows, StartsUnit}
 use Rattle.sv_instrument.proofs.Running.{raises_then}

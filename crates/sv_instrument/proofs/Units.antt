@@ -15,7 +15,6 @@ use Rattle.sv_layers.specs.Change.{act_of}
 use Rattle.sv_layers.specs.Inside.Kept.{Layered}
 use Rattle.sv_instrument.specs.declared.outcome.Outcome.{Outcome}
 use Rattle.sv_instrument.specs.Held.{held}
-use Rattle.sv_instrument.specs.Path.{begun}
 use Rattle.sv_instrument.specs.Performed.{done, answered, unless, configured, taken, Replies}
 use Rattle.sv_instrument.specs.Said.{Says}
 use Rattle.sv_instrument.specs.Step.{Does}

@@ -1,5 +1,5 @@
--- What happens to the instrument from outside of program messages.
-use Rattle.std.specs.Prelude.{◌≡◌, List, ◌∷◌, Option, Some, None}
+-- What happens to the instrument from outside of program messages, and triggers that come at once.
+use Rattle.std.specs.Prelude.{◌≡◌, List, [], ◌∷◌, Option, Some, None}
 use Rattle.sv_errors.specs.declared.code.Code.{Code}
 use Rattle.sv_errors.specs.declared.source.Source.TheVariants.{Immediate, Bus, External}
 use Rattle.sv_scan.specs.declared.acts.ScanAct.TheVariants.{Trigger, Sample}
@@ -11,29 +11,29 @@ use Rattle.sv_layers.specs.Act.{Act, Scanned, Reported}
 use Rattle.sv_layers.specs.Condition.{counted}
 
 -- a trigger from the controller: where none is waited for, that is reported (VXI-11, device_trigger)
-abbrev pub or_reported : Option Code → List Act → List Act
-or_reported None log = Scanned (Trigger Bus) ∷ log
-or_reported (Some code) log = Reported code ∷ log
+abbrev pub or_reported : Option Code → Act
+or_reported None = Scanned (Trigger Bus)
+or_reported (Some code) = Reported code
 
-abbrev pub triggered : List Act → List Act
-triggered log = or_reported (trigger_fault (counted log) Bus) log
+abbrev pub trigger_acts : List Act → List Act
+trigger_acts log = or_reported (trigger_fault (counted log) Bus) ∷ []
 
 -- a trigger from the trigger input: where none is waited for, nothing happens
-abbrev pub or_nothing : Option Code → List Act → List Act
-or_nothing None log = Scanned (Trigger External) ∷ log
-or_nothing (Some code) log = log
+abbrev pub or_nothing : Option Code → List Act
+or_nothing None = Scanned (Trigger External) ∷ []
+or_nothing (Some code) = []
 
-abbrev pub awaited_trigger : List Act → List Act
-awaited_trigger log = or_nothing (trigger_fault (counted log) External) log
+abbrev pub external_acts : List Act → List Act
+external_acts log = or_nothing (trigger_fault (counted log) External)
 
 -- a millisecond: in a scan the next channel is read
-abbrev pub where_scanning : State → List Act → List Act
-where_scanning Scanning log = Scanned Sample ∷ log
-where_scanning Idle log = log
-where_scanning Waiting log = log
+abbrev pub where_scanning : State → List Act
+where_scanning Scanning = Scanned Sample ∷ []
+where_scanning Idle = []
+where_scanning Waiting = []
 
-abbrev pub sampled : List Act → List Act
-sampled log = where_scanning (state (counted log)) log
+abbrev pub tick_acts : List Act → List Act
+tick_acts log = where_scanning (state (counted log))
 
 -- An immediate trigger: it comes as soon as one is waited for.
 abbrev pub IsFired : List Act → List Act → Type 0

@@ -12,17 +12,11 @@ use sv_command::Question;
 use sv_errors::Code;
 use sv_layers::Layers;
 use sv_text::append;
-use sv_value::printing::{
-    put_channels, put_error, put_source, put_switch, put_voltage, put_whole,
-};
+use sv_value::printing::{put_channels, put_error, put_source, put_switch, put_voltage, put_whole};
 
 /// Puts the answer of a query, as it is now, in the place of what is there. Readings that can't be
 /// fetched aren't put.
-pub(crate) fn put_answer<A: Allocator>(
-    out: &mut Vec<u8, A>,
-    layers: &Layers<A>,
-    question: Question,
-)
+pub(crate) fn put_answer<A: Allocator>(out: &mut Vec<u8, A>, layers: &Layers<A>, question: Question)
     requires { 8192 ≤ vec_capacity out.old }
     ensures says { (log : List Act) → Stands layers.now log → question_fault question log ≡ None
         → Says question log out.new.items }

@@ -1,9 +1,9 @@
 //! What happens to the instrument from outside of messages: inputs, triggers and time.
 
-ghost use Rattle.std.specs.Prelude.{List, ◌∷◌};
+ghost use Rattle.std.specs.Prelude.{List, ◌∷◌, ◌++◌};
 ghost use Rattle.sv_scan.specs.declared.acts.ScanAct.TheVariants.{Input};
 ghost use Rattle.sv_layers.specs.Act.{Act, Scanned};
-ghost use Rattle.sv_instrument.specs.Happened.{triggered, awaited_trigger, sampled};
+ghost use Rattle.sv_instrument.specs.Happened.{trigger_acts, external_acts, tick_acts};
 ghost use Rattle.sv_instrument.specs.Kept.{StandsFor, Ran};
 
 use crate::acting::change;
@@ -22,14 +22,17 @@ impl<A: Allocator> Instrument<A> {
         ensures { (log : List Act) → StandsFor self.old log
             → Ran self.new result log (Scanned (Input channel microvolts) ∷ log) }
     {
-        change(&mut self.layers, Change::Scan(ScanAct::Input(channel, microvolts)))
+        change(
+            &mut self.layers,
+            Change::Scan(ScanAct::Input(channel, microvolts)),
+        )
     }
 
     /// A trigger comes in at the trigger input: the next scan begins where an external trigger is
     /// waited for; else nothing happens.
     pub fn external(&mut self) -> u8
         ensures { (log : List Act) → StandsFor self.old log
-            → Ran self.new result log (awaited_trigger log) }
+            → Ran self.new result log (external_acts log ++ log) }
     {
         match self.layers.trigger(Source::External) {
             Ok(raised) => one(raised),
@@ -41,7 +44,7 @@ impl<A: Allocator> Instrument<A> {
     /// for; else that is reported (VXI-11, device_trigger).
     pub fn trigger(&mut self) -> u8
         ensures { (log : List Act) → StandsFor self.old log
-            → Ran self.new result log (triggered log) }
+            → Ran self.new result log (trigger_acts log ++ log) }
     {
         match self.layers.trigger(Source::Bus) {
             Ok(raised) => one(raised),
@@ -52,7 +55,7 @@ impl<A: Allocator> Instrument<A> {
     /// A millisecond goes by: in a scan the next channel is read.
     pub fn tick(&mut self) -> u8
         ensures { (log : List Act) → StandsFor self.old log
-            → Ran self.new result log (sampled log) }
+            → Ran self.new result log (tick_acts log ++ log) }
     {
         match self.layers.scanner().state() {
             State::Scanning => change(&mut self.layers, Change::Scan(ScanAct::Sample)),

@@ -1,11 +1,7 @@
 -- A layer that is lent stands for what the log has of it.
-use Rattle.std.proofs.Common.{◌≡◌, List, subst}
-use Rattle.sv_errors.specs.declared.code.Code.{Code}
+use Rattle.std.proofs.Common.{List, subst}
 use Rattle.sv_errors.specs.declared.error_queue.QueueAct.{QueueAct}
 use Rattle.sv_errors.specs.ErrorQueue.{StandsFor as Queues}
-use Rattle.sv_status.specs.declared.register_name.RegisterName.{RegisterName}
-use Rattle.sv_status.specs.declared.register_name.RegisterName.TheVariants.{Operation, Questionable}
-use Rattle.sv_status.specs.declared.status_byte.StatusAct.{StatusAct}
 use Rattle.sv_scan.specs.declared.acts.ScanAct.{ScanAct}
 use Rattle.sv_scan.specs.Stands.{StandsFor as Scans}
 use Rattle.sv_exchange.specs.Exchange.{ExchangeAct}

@@ -1,4 +1,4 @@
-use Rattle.std.proofs.Common.{List, refl, sym, subst}
+use Rattle.std.proofs.Common.{refl, sym, subst}
 use Rattle.sv_layers.specs.Inside.Kept.{Layered, StandsFor as Stands}
 use Rattle.sv_instrument.proofs.Running.{acted_one}
 use Rattle.sv_instrument.proofs.Units.{behaves_unrefused, behaves_refused}

@@ -8,17 +8,17 @@ pub returns-clause-fires : goal.returns-clause-fires
 returns-clause-fires g c = λ log h.
     let s = rw (← c.self.view_is) at h in
     elim c.match-trigger.branch [
-      in-Ok w ↦
-        let did = w.in-Ok.ensures.happens log s.layers in
-        rw w.result-is (_, (did.0, refl), ran_one _ _ log _ _ did.1 s.held s.path w.one.ensures.value)
-    | in-Err w ↦ rw w.result-is (λ new fired. let other = w.in-Err.ensures.happens log s.layers in absurd cc)
+      | in-Ok w ↦
+          let did = w.in-Ok.ensures.happens log s.layers in
+          rw w.result-is (_, (did.0, refl), ran_one _ _ log _ _ did.1 s.held s.path w.one.ensures.value)
+      | in-Err w ↦ rw w.result-is (λ new fired. let other = w.in-Err.ensures.happens log s.layers in absurd cc)
     ]
 
 pub returns-clause-measure : goal.returns-clause-measure
 returns-clause-measure g c =
     elim c.match-trigger.branch [
-      in-Ok w ↦
-        let less = fired_less c.trigger.new.self c.self.inside.layers c.self.inside.held c.trigger.ensures.exchange w.in-Ok.ensures.scanning.0 w.in-Ok.ensures.scanning.1 in
-        rw (w.result-is, ← c.self.view_is) less
-    | in-Err w ↦ rw w.result-is tt
+      | in-Ok w ↦
+          let less = fired_less c.trigger.new.self c.self.inside.layers c.self.inside.held c.trigger.ensures.exchange w.in-Ok.ensures.scanning.0 w.in-Ok.ensures.scanning.1 in
+          rw (w.result-is, ← c.self.view_is) less
+      | in-Err w ↦ rw w.result-is tt
     ]

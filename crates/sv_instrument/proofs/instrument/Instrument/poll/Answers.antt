@@ -1,4 +1,3 @@
-use Rattle.std.proofs.Common.{refl}
 use Rattle.sv_instrument.proofs.Running.{ran_one}
 use Rattle.sv_instrument.proofs.instrument.Instrument.poll.Goals as goal
 

@@ -12,8 +12,7 @@ returns-in-Idle-clause-steps g c = λ log h.
     let s = rw (← c.self.view_is) at h in
     let is = sym c.requires ∙ h.held in
     let idle = sym (ap (λ (state : State). is_idle state) (c.in-Idle.ensures.answer (scan_acts log) (c.scanner.ensures.stands log s.layers))) in
-    let b = c.release-done.ensures.behaves log s.layers in
-    (
+    let b = c.release-done.ensures.behaves log s.layers in (
       b.new,
       step_of log b.new _ (due (exchange_acts log)) is refl (idle, b.makes),
       ran_of _ log b.new _ b.acted (sym c.release-done.ensures.free ∙ b.held) (released_path log b.new _ _ is b.begins s.path),

@@ -1,4 +1,3 @@
-use Rattle.std.proofs.Common.{refl}
 use Rattle.sv_instrument.proofs.Running.{ran_one}
 use Rattle.sv_instrument.proofs.Steps.{take_right}
 use Rattle.sv_instrument.proofs.instrument.Instrument.take.Goals as goal

@@ -9,8 +9,7 @@ use Rattle.sv_layers.proofs.layers.Layers.trigger.Goals as goal
 
 pub returns-in-Ok-clause-happens : goal.returns-in-Ok-clause-happens
 returns-in-Ok-clause-happens g c = λ log h.
-    let j = rw (← c.self.view_is) at h.joined in
-    (
+    let j = rw (← c.self.view_is) at h.joined in (
       no_fault _ (c.in-Ok.ensures.answer (scan_acts log) (lent_scanner _ log (rw (← c.self.view_is) at h))),
       c.settle.ensures.happens log (Scanned (Trigger c.args.source)) (record { told = h.told; are = h.are; joined = search rules }) refl,
     )
