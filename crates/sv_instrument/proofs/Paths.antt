@@ -64,7 +64,8 @@ taken_more [] n unit is = absurd cc
 taken_more (u ∷ us) zero unit is = cc
 taken_more (u ∷ us) (suc n) unit is = ap (λ (vs : List (List ℕ)). u ∷ vs) (taken_more us n unit is)
 
-one_more : (us : List (List ℕ)) (n : ℕ) (unit : List ℕ) → slice_get us n ≡ Some unit → reverse (take (suc n) us) ≡ unit ∷ reverse (take n us)
+one_more : (us : List (List ℕ)) (n : ℕ) (unit : List ℕ) → slice_get us n ≡ Some unit
+    → reverse (take (suc n) us) ≡ unit ∷ reverse (take n us)
 one_more us n unit is = ap (λ (vs : List (List ℕ)). reverse vs) (taken_more us n unit is) ∙ reverse-append (take n us) (unit ∷ [])
 
 of_cond : (b : Bool) (next : Option (List ℕ)) (unit : List ℕ) → cond b next None ≡ Some unit → next ≡ Some unit

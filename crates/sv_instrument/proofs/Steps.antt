@@ -68,7 +68,8 @@ started log front unit path kept outcome first count before free next apart here
 -- a trigger that was waited for leaves less
 pub fired_less : (new old : Layered) (kept : Option Awaited) → new.exchange ≡ old.exchange → state_by old ≡ Waiting
     → state_by new ≡ Scanning
-    → 2 * (2 * work_of new.exchange + unheld kept) + waits (state_by new) < 2 * (2 * work_of old.exchange + unheld kept) + waits (state_by old)
+    → 2 * (2 * work_of new.exchange + unheld kept) + waits (state_by new)
+    < 2 * (2 * work_of old.exchange + unheld kept) + waits (state_by old)
 fired_less new old kept exchange waiting scanning =
     let work : work_of new.exchange ≡ work_of old.exchange = ap (λ (c : Contents). work_of c) exchange in
     let before : waits (state_by old) ≡ 1 = ap waits waiting in

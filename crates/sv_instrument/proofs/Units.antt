@@ -141,6 +141,7 @@ behaves_follows unit front behind outcome log read b =
 
 -- an answer that is written out
 pub behaves_same : {layers : Layered} {outcome : Outcome} (log : List Act) (given told : List ℕ) → given ≡ told
-    → Behaves (λ new. new ≡ answered given (done log)) layers outcome log → Behaves (λ new. new ≡ answered told (done log)) layers outcome log
+    → Behaves (λ new. new ≡ answered given (done log)) layers outcome log
+    → Behaves (λ new. new ≡ answered told (done log)) layers outcome log
 behaves_same {layers} {outcome} log given told =
     subst (λ (text : List ℕ). Behaves (λ new. new ≡ answered text (done log)) layers outcome log)

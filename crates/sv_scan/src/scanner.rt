@@ -199,7 +199,8 @@ impl<A: Allocator> Scanner<A> {
         ensures answer { (acts : List ScanAct) → StandsFor self.old acts
             → result ≡ refused_by (trigger_fault (kept acts) source) }
         ensures refused { OnErr result (self.new ≡ self.old) }
-        ensures scanning { OnOk result ((run_state self.old.run (length self.old.readings) ≡ Waiting)
+        ensures scanning { OnOk result
+            ((run_state self.old.run (length self.old.readings) ≡ Waiting)
             × (run_state self.new.run (length self.new.readings) ≡ Scanning)) }
     {
         match self.may_trigger(source) {

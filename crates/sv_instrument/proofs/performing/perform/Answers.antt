@@ -37,7 +37,8 @@ pub returns-in-Wait-clause-behaves : goal.returns-in-Wait-clause-behaves
 returns-in-Wait-clause-behaves g c = λ log h. rw c.in-Wait.is (c.hold.ensures.behaves log log h (raises_none log) refl)
 
 pub returns-in-WaitAndTell-clause-behaves : goal.returns-in-WaitAndTell-clause-behaves
-returns-in-WaitAndTell-clause-behaves g c = λ log h. rw c.in-WaitAndTell.is (c.hold-in-WaitAndTell.ensures.behaves log log h (raises_none log) refl)
+returns-in-WaitAndTell-clause-behaves g c = λ log h.
+    rw c.in-WaitAndTell.is (c.hold-in-WaitAndTell.ensures.behaves log log h (raises_none log) refl)
 
 pub returns-in-Configure-clause-behaves : goal.returns-in-Configure-clause-behaves
 returns-in-Configure-clause-behaves g c = λ log h.

@@ -18,7 +18,8 @@ pub returns-clause-measure : goal.returns-clause-measure
 returns-clause-measure g c =
     elim c.match-trigger.branch [
       | in-Ok w ↦
-          let less = fired_less c.trigger.new.self c.self.inside.layers c.self.inside.held c.trigger.ensures.exchange w.in-Ok.ensures.scanning.0 w.in-Ok.ensures.scanning.1 in
+          let less = fired_less c.trigger.new.self c.self.inside.layers c.self.inside.held c.trigger.ensures.exchange
+          w.in-Ok.ensures.scanning.0 w.in-Ok.ensures.scanning.1 in
           rw (w.result-is, ← c.self.view_is) less
       | in-Err w ↦ rw w.result-is tt
     ]

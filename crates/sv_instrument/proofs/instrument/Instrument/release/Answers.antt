@@ -11,7 +11,8 @@ pub returns-in-Idle-clause-steps : goal.returns-in-Idle-clause-steps
 returns-in-Idle-clause-steps g c = λ log h.
     let s = rw (← c.self.view_is) at h in
     let is = sym c.requires ∙ h.held in
-    let idle = sym (ap (λ (state : State). is_idle state) (c.in-Idle.ensures.answer (scan_acts log) (c.scanner.ensures.stands log s.layers))) in
+    let state = c.in-Idle.ensures.answer (scan_acts log) (c.scanner.ensures.stands log s.layers) in
+    let idle = sym (ap (λ (state : State). is_idle state) state) in
     let b = c.release-done.ensures.behaves log s.layers in (
       b.new,
       step_of log b.new _ (due (exchange_acts log)) is refl (idle, b.makes),
