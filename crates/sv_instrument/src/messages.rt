@@ -2,7 +2,7 @@
 
 ghost use Rattle.std.specs.Prelude.{◌≡◌, ◌≤◌, not, List, ◌∷◌, length, IsTrue};
 ghost use Rattle.sv_errors.specs.declared.code.Code.TheVariants.{QueryUnterminated};
-ghost use Rattle.sv_exchange.specs.Exchange.{Accepted, TextDropped, ResponseRead, has_ended, response};
+ghost use Rattle.sv_exchange.specs.Exchange.{Accepted, TextDropped, ResponseRead, has_ended, response, is_something};
 ghost use Rattle.sv_exchange.specs.Contents.{is_open, shown_by};
 ghost use Rattle.sv_exchange.specs.ReadGiven.{IsReadOf};
 ghost use Rattle.sv_layers.specs.Act.{Act, Exchanged, Reported, Purged, exchange_acts};
@@ -40,11 +40,20 @@ impl<A: Allocator> Instrument<A> {
         one(self.layers.accept(bytes, ended))
     }
 
+    /// Whether there is a response to read.
+    pub fn readable(&self) -> bool
+        ensures value { result ≡ is_something (shown_by self.now.layers.exchange) }
+        ensures answer { (log : List Act) → StandsFor self.now log
+            → result ≡ is_something (response (exchange_acts log)) }
+    {
+        self.layers.exchange().readable()
+    }
+
     /// Whether a read is answered now: there is a response, or none is to be waited for.
     pub fn can_read(&self) -> bool
         ensures { (log : List Act) → StandsFor self.now log → result ≡ is_answerable log }
     {
-        self.layers.exchange().readable() || self.can_write()
+        self.readable() || self.can_write()
     }
 
     /// The next bytes of the response: at most as many as asked for, and no further than to the

@@ -9,7 +9,7 @@ ghost use Rattle.sv_server.specs.KeptBench.{IsBench};
 use crate::event::Config;
 use std::alloc::{AllocError, Allocator};
 use std::marker::Model;
-use sv_exchange::Exchange;
+use sv_instrument::Instrument;
 use sv_links::Links;
 use sv_vxi::VxiResult;
 
@@ -34,7 +34,7 @@ pub enum Ending {
 #[derive(Drop)]
 pub struct Bench<A: Allocator> {
     pub links: Links<A>,
-    pub exchange: Exchange<A>,
+    pub instrument: Instrument<A>,
     pub config: Config,
     clock: u64,
 }
@@ -48,7 +48,7 @@ impl<A: Allocator> Model for Bench<A> {
 
     ghost view = { λ a. record {
       links = a.links;
-      exchange = a.exchange;
+      instrument = a.instrument;
       config = a.config;
       clock = a.clock;
     } };
@@ -64,7 +64,7 @@ impl<A: Allocator + Copy> Bench<A> {
     {
         Ok(Bench {
             links: Links::new(alloc),
-            exchange: Exchange::new(alloc)?,
+            instrument: Instrument::new(alloc)?,
             config,
             clock: config.clock,
         })
@@ -81,13 +81,14 @@ impl<A: Allocator> Bench<A> {
         self.clock == LAST_CLOCK
     }
 
-    /// A millisecond passes.
+    /// A millisecond passes, and in a scan the next channel is read.
     pub fn tick(&mut self)
         requires { (self.old.clock == 9223372036854775807) ≡ false }
         ensures { (config : Config) (acts : List BenchAct) → IsBench self.old config acts
             → IsBench self.new config (Ticked ∷ acts) }
     {
         self.clock += 1;
+        self.instrument.tick();
     }
 
     /// Destroys the links of a connection.

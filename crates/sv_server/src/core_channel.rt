@@ -162,10 +162,10 @@ impl<A: Allocator> Bench<A> {
         if bytes.len() > MAX_WRITE {
             return Ending::Result(written(ErrorCode::ParameterError, 0));
         }
-        if !self.exchange.open_for_write() {
+        if !self.instrument.can_write() {
             return Ending::Result(written(ErrorCode::IoTimeout, 0));
         }
-        self.exchange.accept(bytes, flags.has_end());
+        self.instrument.write(bytes, flags.has_end());
         Ending::Result(written(ErrorCode::NoError, bytes.len() as u32))
     }
 
@@ -176,14 +176,34 @@ impl<A: Allocator> Bench<A> {
             → EndsAs result self.new config acts (device_read most term acts) }
         ensures short { IsShortEnding result }
     {
-        if self.exchange.readable() {
+        if self.instrument.readable() {
             return Ending::Response { most, term };
         }
-        if !self.exchange.open_for_write() {
-            return Ending::Result(nothing_read(ErrorCode::IoTimeout));
+        if self.instrument.can_write() {
+            self.instrument.unterminated();
         }
-        self.exchange.drop_unfinished();
         Ending::Result(nothing_read(ErrorCode::IoTimeout))
+    }
+
+    /// device_readstb: the status byte, whose request for service ends thereby.
+    fn device_readstb(&mut self) -> Ending
+    {
+        let poll = self.instrument.poll();
+        Ending::Result(VxiResult::Status { error: ErrorCode::NoError, stb: poll.status })
+    }
+
+    /// device_trigger: a trigger from the controller.
+    fn device_trigger(&mut self) -> Ending
+    {
+        self.instrument.trigger();
+        Ending::Result(plain(ErrorCode::NoError))
+    }
+
+    /// device_clear: text, held unit and response are dropped.
+    fn device_clear(&mut self) -> Ending
+    {
+        self.instrument.clear();
+        Ending::Result(plain(ErrorCode::NoError))
     }
 
     /// Does a call that names no link, or one of its connection.
@@ -214,10 +234,10 @@ impl<A: Allocator> Bench<A> {
             Args::DeviceAbort { lid } => self.device_abort(lid_of(lid)),
             Args::DeviceRemote { .. } => Ending::Result(plain(ErrorCode::NoError)),
             Args::DeviceLocal { .. } => Ending::Result(plain(ErrorCode::NoError)),
-            Args::DeviceReadstb { .. }
-            | Args::DeviceTrigger { .. }
-            | Args::DeviceClear { .. }
-            | Args::DeviceLock { .. }
+            Args::DeviceReadstb { .. } => self.device_readstb(),
+            Args::DeviceTrigger { .. } => self.device_trigger(),
+            Args::DeviceClear { .. } => self.device_clear(),
+            Args::DeviceLock { .. }
             | Args::DeviceUnlock { .. }
             | Args::DeviceEnableSrq { .. }
             | Args::DeviceDocmd { .. }

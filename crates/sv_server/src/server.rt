@@ -250,6 +250,21 @@ impl<A: Allocator> Server<A> {
         Ok(Did::Done)
     }
 
+    /// The voltage of a channel's input is another from now on.
+    fn input(&mut self, channel: u8, microvolts: i64) -> Result<Did, Refused>
+    {
+        let did = may_input(channel, microvolts)?;
+        self.bench.instrument.input(channel, microvolts);
+        Ok(did)
+    }
+
+    /// A trigger comes in at the trigger input.
+    fn external(&mut self) -> Result<Did, Refused>
+    {
+        self.bench.instrument.external();
+        Ok(Did::Done)
+    }
+
     /// Takes the next call of a connection and does it.
     fn turn(&mut self, conn: u8) -> Result<Did, Refused>
         ensures acts { (config : Config) (log : List Act) → Represents self.old config log
@@ -308,8 +323,8 @@ impl<A: Allocator> Server<A> {
             Event::Input {
                 channel,
                 microvolts,
-            } => input(channel, microvolts),
-            Event::External => Ok(Did::Done),
+            } => self.input(channel, microvolts),
+            Event::External => self.external(),
             Event::Tick => self.tick(),
         }
     }
@@ -345,8 +360,8 @@ impl<A: Allocator> Server<A> {
     }
 }
 
-/// A live voltage changes, which no answer shows yet.
-fn input(channel: u8, microvolts: i64) -> Result<Did, Refused>
+/// Whether a voltage may be at the input of a channel.
+fn may_input(channel: u8, microvolts: i64) -> Result<Did, Refused>
     ensures { IsInput channel microvolts result }
 {
     if !is_channel(u64::from(channel)) {

@@ -10,32 +10,6 @@ ghost use Rattle.sv_server.specs.Inside.Acting.{ExchangeStep, StepDone, Settled}
 
 use crate::bench::Bench;
 use std::alloc::Allocator;
-use sv_exchange::{Exchange, Next};
-
-/// The answer to `*IDN?` (IEEE 488.2, 10.14).
-const IDENTITY: &[u8] = b"SCANVOLT,SV32,0,1.0";
-
-/// Does the step of message exchange that is due, and tells whether one was.
-fn step<A: Allocator>(exchange: &mut Exchange<A>) -> bool
-    ensures done { (acts : List ExchangeAct) → HoldsExchange exchange.old acts
-        → ExchangeStep result acts exchange.old exchange.new }
-    ensures measure { IsTrue result → work_of exchange.new < work_of exchange.old }
-{
-    match exchange.next_unit() {
-        Next::Nothing => return false,
-        Next::Overrun => exchange.overran(),
-        Next::Interrupt => exchange.drop_response(),
-        Next::Finish => exchange.finish(),
-        Next::Unit(unit) => {
-            let asks = unit.eq_ignore_ascii_case(b"*IDN?");
-            exchange.done();
-            if asks {
-                exchange.respond(IDENTITY);
-            }
-        }
-    }
-    true
-}
 
 impl<A: Allocator> Bench<A> {
     /// Does the step that is due, and tells whether one was.
@@ -44,7 +18,7 @@ impl<A: Allocator> Bench<A> {
             → StepDone result config acts self.old self.new }
         ensures measure { IsTrue result → work_of self.new.exchange < work_of self.old.exchange }
     {
-        step(&mut self.exchange)
+        self.instrument.fire().is_some() || self.instrument.step().is_some()
     }
 
     /// Does the steps that are due, until none is.

@@ -80,7 +80,7 @@ fn answer_response<A: Allocator>(
         (execution_verdict xid (reads (response (exchange_acts before)) most term)) config acts
         before connection.new shared.new }
 {
-    let read = shared.exchange.peek(most, term);
+    let read = shared.instrument.peek(most, term);
     let count = read.bytes.len();
     let given = VxiResult::Read {
         error: ErrorCode::NoError,
@@ -92,5 +92,5 @@ fn answer_response<A: Allocator>(
         bytes: read.bytes,
     };
     connection.answer(xid, &Answer::Result(given));
-    shared.exchange.take(count);
+    shared.instrument.take(count);
 }
