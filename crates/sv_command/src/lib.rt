@@ -5,6 +5,7 @@
 #![tactic(auto)]
 
 mod filling;
+pub mod laws;
 mod order;
 mod reading;
 mod values;

@@ -4,3 +4,4 @@ pub mod Units
 pub mod Words
 pub mod Dues
 pub mod Steps
+pub mod OneStep

@@ -7,3 +7,4 @@ pub mod Path
 pub mod Kept
 pub mod Happened
 pub mod Inside
+pub mod Laws

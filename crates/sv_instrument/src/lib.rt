@@ -12,6 +12,7 @@ mod asking;
 mod counting;
 mod happenings;
 mod instrument;
+pub mod laws;
 mod messages;
 mod outcome;
 mod performing;

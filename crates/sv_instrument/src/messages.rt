@@ -53,7 +53,7 @@ impl<A: Allocator> Instrument<A> {
     pub fn can_read(&self) -> bool
         ensures { (log : List Act) → StandsFor self.now log → result ≡ is_answerable log }
     {
-        self.readable() || self.can_write()
+        self.layers.exchange().readable() || self.can_write()
     }
 
     /// The next bytes of the response: at most as many as asked for, and no further than to the

@@ -15,3 +15,4 @@ pub mod AlwaysTold
 pub mod Either
 pub mod Lent
 pub mod Refusals
+pub mod PolledByte

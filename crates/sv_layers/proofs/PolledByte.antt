@@ -1,0 +1,57 @@
+-- There is one status byte as a poll gives it.
+use Rattle.std.proofs.Common.{◌≡◌, ℕ, ◌+◌, ◌<◌, ◌≤◌, Bool, true, false, List, [], ◌∷◌, refl, sym, ap, ◌∙◌, arith}
+use Rattle.std.specs.Prelude.{◌↔◌}
+use Rattle.std.specs.Int.{bit_at}
+use Rattle.std.proofs.lemmas.Nat.Bits.{bit_at-lt, same_from_bits}
+use Rattle.sv_errors.specs.ErrorQueue.{entries, is_any}
+use Rattle.sv_errors.proofs.Since.{then_same}
+use Rattle.sv_status.specs.declared.status_byte.StatusAct.{StatusAct}
+use Rattle.sv_status.specs.StatusByte.{bits}
+use Rattle.sv_status.proofs.StatusBytes.{with_six, shown_bit, polled_bit}
+use Rattle.sv_scan.specs.Condition.{bit}
+use Rattle.sv_exchange.specs.Exchange.{response, is_something}
+use Rattle.sv_layers.specs.Act.{Act}
+use Rattle.sv_layers.specs.StatusByte.{PolledBit}
+use Rattle.sv_layers.specs.Inside.Seen.{Seen, seen}
+use Rattle.sv_layers.specs.Inside.Kept.{Layered, IsSummary, IsStatus, StandsFor}
+use Rattle.sv_layers.proofs.SameRequests.{same_status}
+
+bit_small : (k : ℕ) (b : Bool) (most : ℕ) → bit k true ≤ most → bit k b ≤ most
+bit_small k true most le = le
+bit_small k false most le = omega arith
+
+-- the summary bits have room in a byte
+summary_small : (word : ℕ) (at : Seen) → IsSummary word at → word < 256
+summary_small word at s =
+    let seven : bit 7 s.operates ≤ 128 = bit_small 7 s.operates 128 (omega arith) in
+    let five : bit 5 s.happened ≤ 32 = bit_small 5 s.happened 32 (omega arith) in
+    let three : bit 3 s.questioned ≤ 8 = bit_small 3 s.questioned 8 (omega arith) in
+    let four : bit 4 (is_something (response at.exchange)) ≤ 16 = bit_small 4 (is_something (response at.exchange)) 16 (omega arith) in
+    let two : bit 2 (is_any (entries at.errors)) ≤ 4 = bit_small 2 (is_any (entries at.errors)) 4 (omega arith) in
+    let is = s.word_is in
+    omega (arith, is, seven, five, four, three, two)
+
+-- so have those that the status byte was told last
+told_small : (log : List Act) (told : List StatusAct) → IsStatus log told → bits told < 256
+told_small [] told is = rw is (omega arith)
+told_small (act ∷ log) told (word, before, summary, earlier, is) = rw is (summary_small word (seen (act ∷ log)) summary)
+
+pub polled_byte : (layered : Layered) (log : List Act) → StandsFor layered log
+    → (word : ℕ) × ((k : ℕ) → (bit_at word k ≡ 1) ↔ PolledBit k log)
+polled_byte layered log s =
+    let small : layered.status.bits < 256 = rw s.joined.status.bits (told_small log s.told s.are) in (
+      with_six layered.status.request layered.status.bits,
+      λ k. then_same (shown_bit layered.status.request layered.status.bits k small)
+          (then_same (polled_bit layered.status s.told k s.joined.status) (same_status log s.told s.are k).0),
+    )
+
+same_bit : (a b k : ℕ) → (bit_at a k ≡ 1) ↔ (bit_at b k ≡ 1) → bit_at a k ≡ bit_at b k
+same_bit a b k same =
+    let first = bit_at-lt a k in
+    let second = bit_at-lt b k in
+    grind (arith, first, second, same.0, same.1)
+
+-- two words whose bits say the same are one
+pub one_word : (P : ℕ → Type 0) (a b : ℕ) → ((k : ℕ) → (bit_at a k ≡ 1) ↔ P k) → ((k : ℕ) → (bit_at b k ≡ 1) ↔ P k) → a ≡ b
+one_word P a b first second =
+    same_from_bits a b (λ k. same_bit a b k ((λ h. (second k).1 ((first k).0 h)), (λ h. (first k).1 ((second k).0 h))))
