@@ -1,6 +1,6 @@
 //! Messages to the instrument, and its responses.
 
-ghost use Rattle.std.specs.Prelude.{◌≡◌, ◌≤◌, not, List, ◌∷◌, length, IsTrue};
+ghost use Rattle.std.specs.Prelude.{◌≡◌, ◌≤◌, ◌||◌, not, List, ◌∷◌, length, IsTrue};
 ghost use Rattle.sv_errors.specs.declared.code.Code.TheVariants.{QueryUnterminated};
 ghost use Rattle.sv_exchange.specs.Exchange.{Accepted, TextDropped, ResponseRead, has_ended, response, is_something};
 ghost use Rattle.sv_exchange.specs.Contents.{is_open, shown_by};
@@ -51,7 +51,9 @@ impl<A: Allocator> Instrument<A> {
 
     /// Whether a read is answered now: there is a response, or none is to be waited for.
     pub fn can_read(&self) -> bool
-        ensures { (log : List Act) → StandsFor self.now log → result ≡ is_answerable log }
+        ensures value { result ≡ (is_something (shown_by self.now.layers.exchange)
+            || is_open self.now.layers.exchange) }
+        ensures answer { (log : List Act) → StandsFor self.now log → result ≡ is_answerable log }
     {
         self.layers.exchange().readable() || self.can_write()
     }

@@ -9,3 +9,4 @@ pub mod Taking
 pub mod Ports
 pub mod Shown
 pub mod Replayed
+pub mod Calls

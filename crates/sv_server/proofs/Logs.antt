@@ -1,7 +1,7 @@
 -- What an event of one connection leaves, from the parts of the server.
-use Rattle.std.proofs.Common.{◌≡◌, ◌≢◌, ℕ, ◌<◌, Bool, false, List, ◌∷◌, ◌++◌, length, get_or, set, refl, sym, ap, subst, ◌∙◌, arith, inl, inr}
+use Rattle.std.proofs.Common.{◌≡◌, ◌≢◌, ℕ, ◌<◌, Bool, true, false, List, [], ◌∷◌, ◌++◌, append_assoc, length, get_or, set, refl, sym, ap, subst, ◌∙◌, arith, inl, inr}
 use Rattle.std.specs.Prelude.{Result, Ok, Err, is_some, not, map}
-use Rattle.std.proofs.lemmas.Bool.{le-ltb, cases_eq}
+use Rattle.std.proofs.lemmas.Bool.{lt-ltb, le-ltb, cases_eq, cases_lt}
 use Rattle.std.proofs.lemmas.List.{get_or-set_same, get_or-set_other}
 use Rattle.sv_links.specs.Links.{closing}
 use Rattle.sv_server.specs.declared.event.Config.{Config}
@@ -10,7 +10,7 @@ use Rattle.sv_server.specs.declared.event.Refused.{Refused}
 use Rattle.sv_server.specs.declared.event.Refused.TheVariants.{NoMemory, ConnInUse, NoConn, NoRoom, NotSent, NoDial, NotRefusable, BadChannel, BadInput, TimeOver}
 use Rattle.sv_server.specs.Event.{Turn}
 use Rattle.sv_server.specs.Inside.Acting.{Acts, Turns}
-use Rattle.sv_server.specs.Act.{Act, ConnAct, BenchAct, PortClosed, Linked, On, Bench, of, bench, link_acts}
+use Rattle.sv_server.specs.Act.{Act, ConnAct, BenchAct, PortClosed, Linked, Ticked, On, Bench, of, bench, link_acts}
 use Rattle.sv_server.specs.Connection.{is_open}
 use Rattle.sv_server.specs.KeptConnection.{Connection, IsConnection}
 use Rattle.sv_server.specs.KeptBench.{IsBench, Bench as KeptBench}
@@ -29,6 +29,20 @@ open_is kept acts b is e = ap is_some (sym is.role) ∙ e
 
 pub shut_is : (c : ℕ) (log : List Act) (b : Bool) → c < 16 → is_open (of c log) ≡ b → is_shut c log ≡ not b
 shut_is c log b lt e = rw (le-ltb 15 c (omega arith), e) refl
+
+not_not : (b : Bool) → b ≡ not (not b)
+not_not true = refl
+not_not false = refl
+
+-- whether a connection is open, of whatever number
+pub open_known : (state : State) (config : Config) (log : List Act) (c : ℕ) (b : Bool) → Represents state config log
+    → is_open (of c log) ≡ b → b ≡ not (is_shut c log)
+open_known state config log c b rep is = elim (cases_lt c 16) [
+  | inl below ↦ rw (shut_is c log b below is) (not_not b)
+  | inr above ↦
+      let shut : is_open (of c log) ≡ false = ap is_open (rep.beyond c above) in
+      rw (lt-ltb 15 c (omega arith)) (sym is ∙ shut)
+]
 
 -- one connection acts, and what all share
 pub acted : (state : State) (config : Config) (log new : List Act) (c : ℕ) (kept : Connection) (shared : KeptBench)
@@ -59,6 +73,29 @@ one_act state config log c old new act rep sixteen lt e goes =
     acted state config log (On c act ∷ log) c new state.bench rep sixteen lt
     (rw of_mine (goes (connection_of state config log c old rep lt e))) rep.shared (λ d ne. of_other c d act log ne)
 
+-- what all connections share acts
+pub shared_acts : (state : State) (config : Config) (log : List Act) (shared : KeptBench) (adds : List BenchAct)
+    → Represents state config log → IsBench shared config (adds ++ bench log)
+    → Represents (record state { bench = shared }) config (map Bench adds ++ log)
+shared_acts state config log shared adds rep all = record {
+  each = λ c other below. rw (of_shared c adds log) (rep.each c other below);
+  beyond = λ c above. of_shared c adds log ∙ rep.beyond c above;
+  shared = rw (bench_shared adds log) all;
+}
+
+-- a millisecond passes, and what it brings
+pub ticked : (state : State) (config : Config) (log : List Act) (shared : KeptBench) (adds : List BenchAct)
+    → Represents state config log → IsBench shared config (adds ++ Ticked ∷ bench log)
+    → Represents (record state { bench = shared }) config ((map Bench adds ++ Bench Ticked ∷ []) ++ log)
+ticked state config log shared adds rep all =
+    let parts : (map Bench adds ++ Bench Ticked ∷ []) ++ log ≡ map Bench adds ++ Bench Ticked ∷ log =
+    append_assoc (map Bench adds) (Bench Ticked ∷ []) log in
+    rw parts record {
+      each = λ c other below. rw (of_shared c adds (Bench Ticked ∷ log)) (rep.each c other below);
+      beyond = λ c above. of_shared c adds (Bench Ticked ∷ log) ∙ rep.beyond c above;
+      shared = rw (bench_shared adds (Bench Ticked ∷ log)) all;
+    }
+
 -- a connection that closes, with its links
 pub closes : (state : State) (config : Config) (log : List Act) (c : ℕ) (old new : Connection) (shared : KeptBench)
     → Represents state config log → length state.connections ≡ 16 → c < 16 → old ≡ get_or state.connections c old
@@ -79,8 +116,11 @@ pub turned : (state : State) (config : Config) (log : List Act) (c : ℕ) (kept 
     → Represents state config log → length state.connections ≡ 16 → c < 16 → is_shut c log ≡ false
     → Turns config c log result kept shared
     → Acts config (Turn c) log result (record { connections = set state.connections c kept; bench = shared })
-turned state config log c kept shared (Ok what) rep sixteen lt open_now (none, does, stands) =
-    (rw open_now none, does, acted state config log _ c kept shared rep sixteen lt stands.0 stands.1 stands.2)
+turned state config log c kept shared (Ok what) rep sixteen lt open_now (none, does, stands) = (
+  rw open_now none,
+  does,
+  λ polled said. let s = stands polled said in acted state config log _ c kept shared rep sixteen lt s.0 s.1 s.2,
+)
 turned state config log c kept shared (Err NoMemory) rep sixteen lt open_now (none, makes) = (rw open_now none, makes)
 turned state config log c kept shared (Err ConnInUse) rep sixteen lt open_now why = rw open_now why
 turned state config log c kept shared (Err NoConn) rep sixteen lt open_now why = rw open_now why

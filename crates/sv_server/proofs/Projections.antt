@@ -3,9 +3,10 @@ use Rattle.std.proofs.Common.{◌≡◌, ◌≢◌, ℕ, true, List, [], ◌∷�
 use Rattle.std.specs.Prelude.{map, nat_lt}
 use Rattle.std.proofs.lemmas.Bool.{ne_eqb}
 use Rattle.sv_links.specs.Links.{LinkAct, made}
-use Rattle.sv_exchange.specs.Exchange.{ExchangeAct}
+use Rattle.sv_layers.specs.Act.{Act as InstrumentAct}
+use Rattle.sv_instrument.specs.Kept.{Kept, StandsFor}
 use Rattle.sv_server.specs.declared.event.Config.{Config}
-use Rattle.sv_server.specs.Act.{Act, ConnAct, BenchAct, CallTaken, Faulted, Linked, Exchanged, On, Bench, of, bench, link_acts, exchange_acts, ticks}
+use Rattle.sv_server.specs.Act.{Act, ConnAct, BenchAct, CallTaken, Faulted, Linked, Happened, On, Bench, of, bench, link_acts, instrument_acts, ticks}
 use Rattle.sv_server.specs.Dispatch.{Verdict, NoCall, Replies}
 use Rattle.sv_server.specs.History.{verdict_acts, makes_link}
 use Rattle.sv_server.specs.KeptConnection.{Connection, IsConnection}
@@ -29,31 +30,42 @@ pub bench_shared : (adds : List BenchAct) (log : List Act) → bench (map Bench 
 bench_shared [] log = refl
 bench_shared (act ∷ adds) log = ap (λ (acts : List BenchAct). act ∷ acts) (bench_shared adds log)
 
--- acts of links, and of message exchange
+-- acts of links, and of the instrument
 pub link_acts-links : (links : List LinkAct) (acts : List BenchAct) → link_acts (map Linked links ++ acts) ≡ links ++ link_acts acts
 link_acts-links [] acts = refl
 link_acts-links (act ∷ links) acts = ap (λ (xs : List LinkAct). act ∷ xs) (link_acts-links links acts)
 
-pub exchange_acts-links : (links : List LinkAct) (acts : List BenchAct) → exchange_acts (map Linked links ++ acts) ≡ exchange_acts acts
-exchange_acts-links [] acts = refl
-exchange_acts-links (act ∷ links) acts = exchange_acts-links links acts
+pub instrument_acts-links : (links : List LinkAct) (acts : List BenchAct) → instrument_acts (map Linked links ++ acts) ≡ instrument_acts acts
+instrument_acts-links [] acts = refl
+instrument_acts-links (act ∷ links) acts = instrument_acts-links links acts
 
 pub ticks-links : (links : List LinkAct) (acts : List BenchAct) → ticks (map Linked links ++ acts) ≡ ticks acts
 ticks-links [] acts = refl
 ticks-links (act ∷ links) acts = ticks-links links acts
 
-pub link_acts-exchange : (steps : List ExchangeAct) (acts : List BenchAct) → link_acts (map Exchanged steps ++ acts) ≡ link_acts acts
-link_acts-exchange [] acts = refl
-link_acts-exchange (act ∷ steps) acts = link_acts-exchange steps acts
+pub link_acts-happened : (adds : List InstrumentAct) (acts : List BenchAct) → link_acts (map Happened adds ++ acts) ≡ link_acts acts
+link_acts-happened [] acts = refl
+link_acts-happened (act ∷ adds) acts = link_acts-happened adds acts
 
-pub exchange_acts-exchange : (steps : List ExchangeAct) (acts : List BenchAct)
-    → exchange_acts (map Exchanged steps ++ acts) ≡ steps ++ exchange_acts acts
-exchange_acts-exchange [] acts = refl
-exchange_acts-exchange (act ∷ steps) acts = ap (λ (xs : List ExchangeAct). act ∷ xs) (exchange_acts-exchange steps acts)
+pub instrument_acts-happened : (adds : List InstrumentAct) (acts : List BenchAct)
+    → instrument_acts (map Happened adds ++ acts) ≡ adds ++ instrument_acts acts
+instrument_acts-happened [] acts = refl
+instrument_acts-happened (act ∷ adds) acts = ap (λ (xs : List InstrumentAct). act ∷ xs) (instrument_acts-happened adds acts)
 
-pub ticks-exchange : (steps : List ExchangeAct) (acts : List BenchAct) → ticks (map Exchanged steps ++ acts) ≡ ticks acts
-ticks-exchange [] acts = refl
-ticks-exchange (act ∷ steps) acts = ticks-exchange steps acts
+pub ticks-happened : (adds : List InstrumentAct) (acts : List BenchAct) → ticks (map Happened adds ++ acts) ≡ ticks acts
+ticks-happened [] acts = refl
+ticks-happened (act ∷ adds) acts = ticks-happened adds acts
+
+-- what happens to the instrument happens to nothing else
+pub bench_happened : (kept : KeptBench) (instrument : Kept) (config : Config) (acts : List BenchAct) (adds : List InstrumentAct)
+    → IsBench kept config acts → StandsFor instrument (adds ++ instrument_acts acts)
+    → IsBench (record kept { instrument = instrument }) config (map Happened adds ++ acts)
+bench_happened kept instrument config acts adds (links, before, set_up, clock) stands = (
+  rw (link_acts-happened adds acts) links,
+  rw (instrument_acts-happened adds acts) stands,
+  set_up,
+  rw (ticks-happened adds acts) clock,
+)
 
 -- ---- the acts of a record that was taken
 

@@ -9,7 +9,9 @@ use Rattle.sv_server.specs.declared.event.Refused.TheVariants.{NoMemory, ConnInU
 use Rattle.sv_server.specs.declared.event.Port.{Port}
 use Rattle.sv_server.specs.declared.event.Port.TheVariants.{Conn, Intr}
 use Rattle.sv_server.specs.Event.{PlainEvent, Took}
-use Rattle.sv_server.specs.Act.{Act, On, BytesTaken, of}
+use Rattle.sv_server.specs.Act.{Act, On, BytesTaken, of, bench}
+use Rattle.sv_server.specs.Polled.{IsPolled}
+use Rattle.sv_server.proofs.Steps.{polled_now, still_settled}
 use Rattle.sv_server.specs.Connection.{is_open, untaken, waiting, waiting_on}
 use Rattle.sv_server.specs.History.{refusal, is_shut}
 use Rattle.sv_server.specs.State.{State, Represents}
@@ -49,25 +51,25 @@ took_free c count config log within o e =
     (le-ltb (length (waiting (of c log))) count (omega arith))
 
 -- so it is done
-makes_none : (c count : ℕ) (config : Config) (log : List Act) (result : Result Did Refused) (new : State)
-    → Acts config (Took (Conn c) count) log result new → result ≢ Err NoMemory
-makes_none c count config log result new acts e = absurd (let z =
-    (subst (λ (r : Result Did Refused). Acts config (Took (Conn c) count) log r new) e acts).1 in cc)
+makes_none : (c count : ℕ) (config : Config) (log : List Act) (polled : ℕ) (result : Result Did Refused) (new : State)
+    → IsPolled polled (bench log) → Acts config (Took (Conn c) count) log result new → result ≢ Err NoMemory
+makes_none c count config log polled result new said acts e = absurd (let z =
+    (subst (λ (r : Result Did Refused). Acts config (Took (Conn c) count) log r new) e acts).1 polled said in cc)
 
-took_done : (c count : ℕ) (config : Config) (log : List Act) (result : Result Did Refused) (new : State)
-    → refusal config (Took (Conn c) count) log ≡ None → Acts config (Took (Conn c) count) log result new
+took_done : (c count : ℕ) (config : Config) (log : List Act) (polled : ℕ) (result : Result Did Refused) (new : State)
+    → IsPolled polled (bench log) → refusal config (Took (Conn c) count) log ≡ None → Acts config (Took (Conn c) count) log result new
     → result ≢ Err NoMemory → Represents new config (On c (BytesTaken count) ∷ log)
-took_done c count config log (Ok what) new none (free_of, done, rep) other = rep
-took_done c count config log (Err NoMemory) new none h other = absurd (other refl)
-took_done c count config log (Err ConnInUse) new none h other = absurd (let z = sym none ∙ h in cc)
-took_done c count config log (Err NoConn) new none h other = absurd (let z = sym none ∙ h in cc)
-took_done c count config log (Err NoRoom) new none h other = absurd (let z = sym none ∙ h in cc)
-took_done c count config log (Err NotSent) new none h other = absurd (let z = sym none ∙ h in cc)
-took_done c count config log (Err NoDial) new none h other = absurd (let z = sym none ∙ h in cc)
-took_done c count config log (Err NotRefusable) new none h other = absurd (let z = sym none ∙ h in cc)
-took_done c count config log (Err BadChannel) new none h other = absurd (let z = sym none ∙ h in cc)
-took_done c count config log (Err BadInput) new none h other = absurd (let z = sym none ∙ h in cc)
-took_done c count config log (Err TimeOver) new none h other = absurd (let z = sym none ∙ h in cc)
+took_done c count config log polled (Ok what) new said none (free_of, done, rep) other = rep polled said
+took_done c count config log polled (Err NoMemory) new said none h other = absurd (other refl)
+took_done c count config log polled (Err ConnInUse) new said none h other = absurd (let z = sym none ∙ h in cc)
+took_done c count config log polled (Err NoConn) new said none h other = absurd (let z = sym none ∙ h in cc)
+took_done c count config log polled (Err NoRoom) new said none h other = absurd (let z = sym none ∙ h in cc)
+took_done c count config log polled (Err NotSent) new said none h other = absurd (let z = sym none ∙ h in cc)
+took_done c count config log polled (Err NoDial) new said none h other = absurd (let z = sym none ∙ h in cc)
+took_done c count config log polled (Err NotRefusable) new said none h other = absurd (let z = sym none ∙ h in cc)
+took_done c count config log polled (Err BadChannel) new said none h other = absurd (let z = sym none ∙ h in cc)
+took_done c count config log polled (Err BadInput) new said none h other = absurd (let z = sym none ∙ h in cc)
+took_done c count config log polled (Err TimeOver) new said none h other = absurd (let z = sym none ∙ h in cc)
 
 -- the history and the log with what was taken
 with_some : (port : Port) (bytes : List ℕ) (history : List PlainEvent) → 0 < length bytes
@@ -92,7 +94,9 @@ stands_taken (Conn c) bytes config history log old new result (is_log, rep, sett
     let o = waits_open c log some_wait in
     let within = waits_within c old config log rep o in
     let none = took_free c (length bytes) config log within o (ap (λ (l : List ℕ). length l) is) in
-    let new_rep = took_done c (length bytes) config log result new none acts (makes_none c (length bytes) config log result new acts) in
+    let (polled, said) = polled_now old.bench config (bench log) rep.shared in
+    let makes = makes_none c (length bytes) config log polled result new said acts in
+    let new_rep = took_done c (length bytes) config log polled result new said none acts makes in
     rw (
       with_some (Conn c) (waiting (of c log)) history some_wait,
       log_with_some c (waiting (of c log)) log some_wait,
@@ -100,13 +104,15 @@ stands_taken (Conn c) bytes config history log old new result (is_log, rep, sett
     ) (
       (
         log,
+        polled,
         (omega (arith, within), omega arith),
         is_log,
         none,
-        (0, (settled, refl)),
+        said,
+        (0, (still_settled c (BytesTaken (length bytes)) config log settled, refl)),
       ),
       new_rep,
-      settled,
+      still_settled c (BytesTaken (length bytes)) config log settled,
     )
 
 -- ---- what is written

@@ -6,17 +6,21 @@ use Rattle.sv_server.specs.declared.event.Did.{Did}
 use Rattle.sv_server.specs.declared.event.Refused.{Refused}
 use Rattle.sv_server.specs.declared.event.Refused.TheVariants.{NoMemory, ConnInUse, NoConn, NoRoom, NotSent, NoDial, NotRefusable, BadChannel, BadInput, TimeOver}
 use Rattle.sv_server.specs.Event.{PlainEvent, IsEvent}
-use Rattle.sv_server.specs.Act.{Act, bench}
-use Rattle.sv_server.specs.Settling.{step_of, SettlesIn, Settles}
+use Rattle.sv_server.specs.Act.{Act, bench, instrument_acts}
+use Rattle.sv_layers.specs.StatusByte.{PolledBit}
+use Rattle.sv_layers.proofs.PolledByte.{one_word}
+use Rattle.sv_server.specs.Polled.{IsPolled}
+use Rattle.sv_server.specs.Settling.{IsSettled, SettlesIn, Settles}
 use Rattle.sv_server.specs.History.{own_acts, Answers}
 use Rattle.sv_server.specs.Laws.{OneLog}
 use Rattle.sv_server.specs.KeptBench.{IsBench, Bench as KeptBench}
 use Rattle.sv_server.specs.State.{State, Represents, StandsFor}
 use Rattle.sv_server.specs.Inside.Acting.{Acts, Settled}
+use Rattle.sv_server.proofs.Steps.{next_once, polled_now}
 
-nothing_due : (n : ℕ) (config : Config) (log new : List Act) → SettlesIn n config log new → step_of config new ≡ []
-nothing_due zero config log new (none, same) = rw same none
-nothing_due (suc n) config log new (some, more) = nothing_due n config _ new more
+nothing_due : (n : ℕ) (config : Config) (log new : List Act) → SettlesIn n config log new → IsSettled config new
+nothing_due zero config log new (none, same) = subst (λ (end : List Act). IsSettled config end) (sym same) none
+nothing_due (suc n) config log new (middle, next, more) = nothing_due n config middle new more
 
 pub stands_after : (config : Config) (history : List PlainEvent) (event : PlainEvent) (old new : State) (did : Did) (shared : KeptBench)
     → StandsFor old config history → IsEvent event
@@ -24,12 +28,14 @@ pub stands_after : (config : Config) (history : List PlainEvent) (event : PlainE
     → ((k : Config) (log : List Act) → IsBench new.bench k (bench log) → Settled k log shared)
     → StandsFor (record new { bench = shared }) config (event ∷ history)
 stands_after config history event old new did shared s is_event acts settles =
-    let (free, done, rep) = acts config s.log s.represents in
-    let middle = own_acts config event s.log ++ s.log in
+    let (free, done, makes) = acts config s.log s.represents in
+    let (polled, said) = polled_now old.bench config (bench s.log) s.represents.shared in
+    let rep = makes polled said in
+    let middle = own_acts config polled event s.log ++ s.log in
     let (last, steps, held, same) = settles config middle rep.shared in
     record {
       log = last;
-      is_log = (s.log, is_event, s.is_log, free, steps);
+      is_log = (s.log, polled, is_event, s.is_log, free, said, steps);
       represents = record {
         each = λ c other lt. rw same (rep.each c other lt);
         beyond = λ c h. same c ∙ rep.beyond c h;
@@ -41,17 +47,21 @@ stands_after config history event old new did shared s is_event acts settles =
 -- the steps that are due lead to one log
 one_end : (n m : ℕ) (config : Config) (log a b : List Act) → SettlesIn n config log a → SettlesIn m config log b → a ≡ b
 one_end zero zero config log a b x y = x.1 ∙ sym y.1
-one_end zero (suc m) config log a b x y = absurd (y.0 x.0)
-one_end (suc n) zero config log a b x y = absurd (x.0 y.0)
-one_end (suc n) (suc m) config log a b x y = one_end n m config (step_of config log ++ log) a b x.1 y.1
+one_end zero (suc m) config log a b x y = absurd (x.0 y.0 y.1)
+one_end (suc n) zero config log a b x y = absurd (y.0 x.0 x.1)
+one_end (suc n) (suc m) config log a b x y =
+    let same = next_once config log x.0 y.0 x.1 y.1 in one_end n m config y.0 a b (rw same at x.2) y.2
 
 -- a history has at most one log
 pub one_log : OneLog
 one_log config [] a b x y = x.1 ∙ sym y.1
 one_log config (event ∷ history) a b x y =
-    let before = one_log config history x.0 y.0 x.2 y.2 in
-    let settled = subst (λ (log : List Act). Settles config (own_acts config event log ++ log) b) (sym before) y.4 in
-    one_end x.4.0 settled.0 config (own_acts config event x.0 ++ x.0) a b x.4.1 settled.1
+    let before = one_log config history x.0 y.0 x.3 y.3 in
+    let said = subst (λ (log : List Act). IsPolled y.1 (bench log)) (sym before) y.5 in
+    let polled = one_word (λ k. PolledBit k (instrument_acts (bench x.0))) y.1 x.1 said x.5 in
+    let there = subst (λ (log : List Act). Settles config (own_acts config y.1 event log ++ log) b) (sym before) y.6 in
+    let settled = subst (λ (word : ℕ). Settles config (own_acts config word event x.0 ++ x.0) b) polled there in
+    one_end x.6.0 settled.0 config (own_acts config x.1 event x.0 ++ x.0) a b x.6.1 settled.1
 
 -- ---- refusals
 

@@ -12,6 +12,7 @@ use Rattle.sv_server.specs.declared.event.Role.{Role}
 use Rattle.sv_server.specs.declared.event.Did.TheVariants.{Done}
 use Rattle.sv_server.specs.declared.event.Refused.TheVariants.{NoMemory}
 use Rattle.sv_server.specs.Act.{Act, CallTaken, of, bench}
+use Rattle.sv_server.specs.Polled.{IsPolled}
 use Rattle.sv_server.specs.Connection.{open_role, next_call, free}
 use Rattle.sv_server.specs.Dispatch.{verdict_of}
 use Rattle.sv_server.specs.KeptConnection.{Connection}
@@ -37,14 +38,16 @@ read_is read bytes most term is = rw (is.bytes, is.request_count, is.character, 
 
 pub turn_done : (config : Config) (c : ℕ) (log : List Act) (role : Role) (call : List ℕ) (connection : Connection) (shared : Bench)
     → open_role (of c log) ≡ Some role → next_call (of c log) ≡ Some call → nat_lt (free (of c log)) 8232 ≡ false
-    → Concludes (verdict_of config c role (call_at call) (bench log)) config (CallTaken call ∷ of c log) (bench log) connection shared
+    → ((polled : ℕ) → IsPolled polled (bench log)
+    → Concludes (verdict_of config polled c role (call_at call) (bench log)) config (CallTaken call ∷ of c log) (bench log) connection shared)
     → Turns config c log (Ok Done) connection shared
 turn_done config c log role call connection shared opened next roomy done =
-    rw (opened, next, roomy) (refl, refl, concluded_stands config c log call _ connection shared done)
+    rw (opened, next, roomy) (refl, refl, λ polled said. concluded_stands config c log call _ connection shared (done polled said))
 
 pub turn_lacks : (config : Config) (c : ℕ) (log : List Act) (role : Role) (call : List ℕ) (connection : Connection) (shared : Bench)
     → open_role (of c log) ≡ Some role → next_call (of c log) ≡ Some call → nat_lt (free (of c log)) 8232 ≡ false
-    → verdict_makes (verdict_of config c role (call_at call) (bench log)) ≡ true
+    → ((polled : ℕ) → IsPolled polled (bench log) → verdict_makes (verdict_of config polled c role (call_at call) (bench log)) ≡ true)
     → Turns config c log (Err NoMemory) connection shared
 turn_lacks config c log role call connection shared opened next roomy makes =
-    rw (opened, next, roomy) (refl, verdict_links c call (verdict_of config c role (call_at call) (bench log)) makes)
+    rw (opened, next, roomy)
+    (refl, λ polled said. verdict_links c call (verdict_of config polled c role (call_at call) (bench log)) (makes polled said))

@@ -3,6 +3,7 @@
 use Rattle.std.specs.Prelude.{ℕ, ◌+◌, ◌==◌, List, [], ◌∷◌, if◌then◌else◌}
 use Rattle.sv_links.specs.Links.{LinkAct}
 use Rattle.sv_exchange.specs.Exchange.{ExchangeAct}
+use Rattle.sv_layers.specs.Act.{Act as InstrumentAct, exchange_acts as exchanged}
 use Rattle.sv_server.specs.declared.event.Role.{Role}
 
 -- of a connection
@@ -18,7 +19,7 @@ pub data ConnAct : Type 0 where
 -- of what all connections share
 pub data BenchAct : Type 0 where
   Linked : (act : LinkAct) → BenchAct
-  Exchanged : (act : ExchangeAct) → BenchAct
+  Happened : (act : InstrumentAct) → BenchAct
   Ticked : BenchAct
 
 pub data Act : Type 0 where
@@ -36,16 +37,20 @@ bench [] = []
 bench (On c act ∷ log) = bench log
 bench (Bench act ∷ log) = act ∷ bench log
 
--- of these the acts of links, those of message exchange, and the milliseconds that passed
+-- of these the acts of links, those of the instrument, and the milliseconds that passed
 abbrev pub link_acts : List BenchAct → List LinkAct
 link_acts [] = []
 link_acts (Linked act ∷ acts) = act ∷ link_acts acts
 link_acts (_ ∷ acts) = link_acts acts
 
+abbrev pub instrument_acts : List BenchAct → List InstrumentAct
+instrument_acts [] = []
+instrument_acts (Happened act ∷ acts) = act ∷ instrument_acts acts
+instrument_acts (_ ∷ acts) = instrument_acts acts
+
+-- what of it happens to messages
 abbrev pub exchange_acts : List BenchAct → List ExchangeAct
-exchange_acts [] = []
-exchange_acts (Exchanged act ∷ acts) = act ∷ exchange_acts acts
-exchange_acts (_ ∷ acts) = exchange_acts acts
+exchange_acts acts = exchanged (instrument_acts acts)
 
 abbrev pub ticks : List BenchAct → ℕ
 ticks [] = 0

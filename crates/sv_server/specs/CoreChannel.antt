@@ -1,8 +1,9 @@
 -- What a call of the core or the abort channel does, once its arguments are read (VXI-11 revision 1.0, section B.6): the link that it names
 -- is looked at first.
-use Rattle.std.specs.Prelude.{ℕ, ◌+◌, ◌%◌, ◌==◌, not, ℤ, pos, negsuc, Bool, false, List, [], ◌∷◌, length, take, Option, Some, None, codes, nat_lt, if◌then◌else◌}
+use Rattle.std.specs.Prelude.{ℕ, ◌+◌, ◌%◌, ◌==◌, not, ℤ, pos, negsuc, Bool, false, List, [], ◌∷◌, length, map, take, Option, Some, None, codes, nat_lt, if◌then◌else◌}
 use Rattle.std.specs.Int.{bit_at}
 use Rattle.std.specs.Str.{bytes_eq}
+use Rattle.sv_errors.specs.declared.code.Code.TheVariants.{QueryUnterminated}
 use Rattle.sv_vxi.specs.declared.error_code.ErrorCode.{ErrorCode}
 use Rattle.sv_vxi.specs.declared.error_code.ErrorCode.TheVariants.{NoError, NotAccessible, InvalidLink, ParameterError, NotSupported, OutOfResources, IoTimeout}
 use Rattle.sv_vxi.specs.Arguments.{Arguments, DeviceAbort, CreateLink, DeviceWrite, DeviceRead, DeviceReadstb, DeviceTrigger, DeviceClear, DeviceRemote, DeviceLocal, DeviceLock, DeviceUnlock, DeviceEnableSrq, DeviceDocmd, DestroyLink, CreateIntrChan, DestroyIntrChan}
@@ -11,7 +12,10 @@ use Rattle.sv_links.specs.Links.{Made, Destroyed, owner, is_of, made, may_make}
 use Rattle.sv_exchange.specs.Exchange.{Accepted, TextDropped, ResponseRead, has_ended, response, is_something}
 use Rattle.sv_exchange.specs.Read.{read_count, ends_at_term}
 use Rattle.sv_server.specs.declared.event.Config.{Config}
-use Rattle.sv_server.specs.Act.{BenchAct, Linked, Exchanged, link_acts, exchange_acts}
+use Rattle.sv_layers.specs.Act.{Exchanged, Reported, Purged, Polled}
+use Rattle.sv_instrument.specs.Step.{is_answerable}
+use Rattle.sv_instrument.specs.Happened.{trigger_acts}
+use Rattle.sv_server.specs.Act.{BenchAct, Linked, Happened, link_acts, instrument_acts, exchange_acts}
 use Rattle.sv_server.specs.Execution.{Execution, only}
 use Rattle.sv_server.specs.AbortChannel.{device_abort}
 
@@ -91,7 +95,7 @@ abbrev pub device_write : ℕ → List ℕ → List BenchAct → Execution
 device_write flags bytes acts =
     if nat_lt 4096 (length bytes) then only (Size ParameterError 0)
     else (if has_ended (exchange_acts acts) then only (Size IoTimeout 0)
-    else record { adds = Exchanged (Accepted bytes (bit_at flags 3 == 1)) ∷ []; result = Size NoError (length bytes) })
+    else record { adds = Happened (Exchanged (Accepted bytes (bit_at flags 3 == 1))) ∷ []; result = Size NoError (length bytes) })
 
 -- the termination character, where the flag for it is set: the low eight bits
 abbrev pub term_of : ℕ → ℕ → Option ℕ
@@ -106,35 +110,50 @@ read_of bytes most term =
 
 abbrev pub reads : List ℕ → ℕ → Option ℕ → Execution
 reads bytes most term =
-    record { adds = Exchanged (ResponseRead (read_count bytes most term)) ∷ []; result = read_of bytes most term }
+    record { adds = Happened (Exchanged (ResponseRead (read_count bytes most term))) ∷ []; result = read_of bytes most term }
 
--- a read gives what stands of the response; without one, where no message waits, the unfinished text is dropped
+-- a read gives what stands of the response; without one, where none can come, the unfinished text is dropped, and that is reported
 abbrev pub device_read : ℕ → Option ℕ → List BenchAct → Execution
 device_read most term acts =
     if is_something (response (exchange_acts acts)) then reads (response (exchange_acts acts)) most term
-    else (if has_ended (exchange_acts acts) then only (no_bytes IoTimeout)
-    else record { adds = Exchanged TextDropped ∷ []; result = no_bytes IoTimeout })
+    else (if not (is_answerable (instrument_acts acts)) then only (no_bytes IoTimeout)
+    else record {
+      adds = Happened (Reported QueryUnterminated) ∷ Happened (Exchanged TextDropped) ∷ [];
+      result = no_bytes IoTimeout;
+    })
 
--- A call by what it is. One whose meaning comes later isn't supported yet; device_docmd never is.
-abbrev pub own_call : Config → ℕ → Arguments → List BenchAct → Execution
-own_call config c (DeviceAbort lid) acts = device_abort (lid_of lid) acts
-own_call config c (CreateLink client_id lock_device lock_timeout device) acts = create_link config c lock_device device acts
-own_call config c (DeviceWrite lid io_timeout lock_timeout flags bytes) acts = device_write flags bytes acts
-own_call config c (DeviceRead lid request_size io_timeout lock_timeout flags term_char) acts =
+-- the status byte is polled
+abbrev pub status_read : ℕ → Execution
+status_read polled = record { adds = Happened Polled ∷ []; result = Status NoError polled }
+
+-- a trigger from the controller
+abbrev pub device_trigger : List BenchAct → Execution
+device_trigger acts = record { adds = map Happened (trigger_acts (instrument_acts acts)); result = Plain NoError }
+
+-- text, held unit and response are dropped
+abbrev pub device_clear : Execution
+device_clear = record { adds = Happened Purged ∷ []; result = Plain NoError }
+
+-- A call by what it is, where a poll of the status byte would give this. One whose meaning comes later isn't supported yet; device_docmd never is.
+abbrev pub own_call : Config → ℕ → ℕ → Arguments → List BenchAct → Execution
+own_call config polled c (DeviceAbort lid) acts = device_abort (lid_of lid) acts
+own_call config polled c (CreateLink client_id lock_device lock_timeout device) acts = create_link config c lock_device device acts
+own_call config polled c (DeviceWrite lid io_timeout lock_timeout flags bytes) acts = device_write flags bytes acts
+own_call config polled c (DeviceRead lid request_size io_timeout lock_timeout flags term_char) acts =
     device_read request_size (term_of flags term_char) acts
-own_call config c (DeviceReadstb lid flags lock_timeout io_timeout) acts = only (Status NotSupported 0)
-own_call config c (DeviceTrigger lid flags lock_timeout io_timeout) acts = only (Plain NotSupported)
-own_call config c (DeviceClear lid flags lock_timeout io_timeout) acts = only (Plain NotSupported)
-own_call config c (DeviceRemote lid flags lock_timeout io_timeout) acts = only (Plain NoError)
-own_call config c (DeviceLocal lid flags lock_timeout io_timeout) acts = only (Plain NoError)
-own_call config c (DeviceLock lid flags lock_timeout) acts = only (Plain NotSupported)
-own_call config c (DeviceUnlock lid) acts = only (Plain NotSupported)
-own_call config c (DeviceEnableSrq lid enable handle) acts = only (Plain NotSupported)
-own_call config c (DeviceDocmd lid flags io_timeout lock_timeout cmd network_order datasize bytes) acts = only (Data NotSupported [])
-own_call config c (DestroyLink lid) acts = destroy_link (lid_of lid)
-own_call config c (CreateIntrChan host_addr host_port prog_num prog_vers prog_family) acts = only (Plain NotSupported)
-own_call config c DestroyIntrChan acts = only (Plain NotSupported)
+own_call config polled c (DeviceReadstb lid flags lock_timeout io_timeout) acts = status_read polled
+own_call config polled c (DeviceTrigger lid flags lock_timeout io_timeout) acts = device_trigger acts
+own_call config polled c (DeviceClear lid flags lock_timeout io_timeout) acts = device_clear
+own_call config polled c (DeviceRemote lid flags lock_timeout io_timeout) acts = only (Plain NoError)
+own_call config polled c (DeviceLocal lid flags lock_timeout io_timeout) acts = only (Plain NoError)
+own_call config polled c (DeviceLock lid flags lock_timeout) acts = only (Plain NotSupported)
+own_call config polled c (DeviceUnlock lid) acts = only (Plain NotSupported)
+own_call config polled c (DeviceEnableSrq lid enable handle) acts = only (Plain NotSupported)
+own_call config polled c (DeviceDocmd lid flags io_timeout lock_timeout cmd network_order datasize bytes) acts = only (Data NotSupported [])
+own_call config polled c (DestroyLink lid) acts = destroy_link (lid_of lid)
+own_call config polled c (CreateIntrChan host_addr host_port prog_num prog_vers prog_family) acts = only (Plain NotSupported)
+own_call config polled c DestroyIntrChan acts = only (Plain NotSupported)
 
-abbrev pub executed : Config → ℕ → Arguments → List BenchAct → Execution
-executed config c arguments acts =
-    if names_another c (link_named arguments) acts then only (failure arguments InvalidLink) else own_call config c arguments acts
+abbrev pub executed : Config → ℕ → ℕ → Arguments → List BenchAct → Execution
+executed config polled c arguments acts =
+    if names_another c (link_named arguments) acts then only (failure arguments InvalidLink) else own_call config polled c arguments acts

@@ -1,4 +1,4 @@
--- What becomes of a record that was taken: its header is looked at, in this order, and then it is a call of the program that its connection
+-- What becomes of a record that was taken, where a poll of the status byte would give this: its header is looked at, in this order, and then it is a call of the program that its connection
 -- serves (RFC 5531, section 9; VXI-11 revision 1.0, section B.6; RFC 1833, section 3).
 use Rattle.std.specs.Prelude.{ℕ, ◌==◌, not, List, [], ◌∷◌, Option, Some, None, Result, Ok, Err, if◌then◌else◌}
 use Rattle.sv_xdr.specs.declared.garbage.Garbage.{Garbage}
@@ -63,23 +63,23 @@ port_verdict xid (Ok port) = Replies [] (reply_record xid Success (Unsigned port
 port_verdict xid (Err garbage) = reply_verdict xid GarbageArgs
 
 -- a call of the core or the abort channel
-abbrev pub device_verdict : Config → ℕ → ℕ → Result Arguments Garbage → List BenchAct → Verdict
-device_verdict config c xid (Ok arguments) acts = execution_verdict xid (executed config c arguments acts)
-device_verdict config c xid (Err garbage) acts = reply_verdict xid GarbageArgs
+abbrev pub device_verdict : Config → ℕ → ℕ → ℕ → Result Arguments Garbage → List BenchAct → Verdict
+device_verdict config polled c xid (Ok arguments) acts = execution_verdict xid (executed config polled c arguments acts)
+device_verdict config polled c xid (Err garbage) acts = reply_verdict xid GarbageArgs
 
 -- a call of one of its program's procedures
-abbrev pub procedure_verdict : Config → ℕ → Role → PlainCall → List BenchAct → Verdict
-procedure_verdict config c Core call acts = device_verdict config c call.xid (arguments_at call.proc call.args) acts
-procedure_verdict config c Abort call acts = device_verdict config c call.xid (arguments_at call.proc call.args) acts
-procedure_verdict config c Portmap call acts = port_verdict call.xid (port_at (ports_of config) call.args)
+abbrev pub procedure_verdict : Config → ℕ → ℕ → Role → PlainCall → List BenchAct → Verdict
+procedure_verdict config polled c Core call acts = device_verdict config polled c call.xid (arguments_at call.proc call.args) acts
+procedure_verdict config polled c Abort call acts = device_verdict config polled c call.xid (arguments_at call.proc call.args) acts
+procedure_verdict config polled c Portmap call acts = port_verdict call.xid (port_at (ports_of config) call.args)
 
 -- unless its header alone decides
-abbrev pub call_verdict : Config → ℕ → Role → PlainCall → Option Reply → List BenchAct → Verdict
-call_verdict config c role call (Some reply) acts = reply_verdict call.xid reply
-call_verdict config c role call None acts = procedure_verdict config c role call acts
+abbrev pub call_verdict : Config → ℕ → ℕ → Role → PlainCall → Option Reply → List BenchAct → Verdict
+call_verdict config polled c role call (Some reply) acts = reply_verdict call.xid reply
+call_verdict config polled c role call None acts = procedure_verdict config polled c role call acts
 
 -- Another version of RPC is denied.
-abbrev pub verdict_of : Config → ℕ → Role → Result PlainCall CallFault → List BenchAct → Verdict
-verdict_of config c role (Ok call) acts = call_verdict config c role call (header_reply role call) acts
-verdict_of config c role (Err (Version xid)) acts = reply_verdict xid Mismatch
-verdict_of config c role (Err BadHeader) acts = NoCall
+abbrev pub verdict_of : Config → ℕ → ℕ → Role → Result PlainCall CallFault → List BenchAct → Verdict
+verdict_of config polled c role (Ok call) acts = call_verdict config polled c role call (header_reply role call) acts
+verdict_of config polled c role (Err (Version xid)) acts = reply_verdict xid Mismatch
+verdict_of config polled c role (Err BadHeader) acts = NoCall

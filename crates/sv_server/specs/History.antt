@@ -3,6 +3,9 @@ use Rattle.std.specs.Prelude.{◌≡◌, ℕ, ◌+◌, ◌||◌, ◌==◌, not, 
 use Rattle.sv_errors.specs.Limits.{is_channel, most_microvolts}
 use Rattle.sv_rpc.specs.Call.{call_at}
 use Rattle.sv_links.specs.Links.{closing, made}
+use Rattle.sv_scan.specs.declared.acts.ScanAct.TheVariants.{Input as InputTo}
+use Rattle.sv_layers.specs.Act.{Scanned}
+use Rattle.sv_instrument.specs.Happened.{external_acts, tick_acts}
 use Rattle.sv_server.specs.declared.event.Role.{Role}
 use Rattle.sv_server.specs.declared.event.Port.TheVariants.{Conn, Intr}
 use Rattle.sv_server.specs.declared.event.Config.{Config}
@@ -11,9 +14,10 @@ use Rattle.sv_server.specs.declared.event.Did.TheVariants.{Done, Idle}
 use Rattle.sv_server.specs.declared.event.Refused.{Refused}
 use Rattle.sv_server.specs.declared.event.Refused.TheVariants.{NoMemory, ConnInUse, NoConn, NoRoom, NotSent, NoDial, NotRefusable, BadChannel, BadInput, TimeOver}
 use Rattle.sv_server.specs.Event.{IsEvent, IsConfig, PlainEvent, Open, Bytes, Turn, Refuse, Took, Close, Dialed, Input, External, Tick}
-use Rattle.sv_server.specs.Act.{Act, ConnAct, BenchAct, Opened, Piece, CallTaken, Faulted, Replied, BytesTaken, PortClosed, Linked, Ticked, On, Bench, of, bench, link_acts, ticks}
+use Rattle.sv_server.specs.Act.{Act, ConnAct, BenchAct, Opened, Piece, CallTaken, Faulted, Replied, BytesTaken, PortClosed, Linked, Happened, Ticked, On, Bench, of, bench, link_acts, instrument_acts, ticks}
 use Rattle.sv_server.specs.Connection.{is_open, open_role, waiting, next_call, is_idle, room, free}
 use Rattle.sv_server.specs.Dispatch.{Verdict, NoCall, Replies, verdict_of}
+use Rattle.sv_server.specs.Polled.{IsPolled}
 use Rattle.sv_server.specs.Settling.{Settles}
 
 -- the acts of a record that was taken, behind its CallTaken
@@ -22,25 +26,25 @@ verdict_acts c NoCall = On c Faulted ∷ []
 verdict_acts c (Replies adds bytes) = On c (Replied bytes) ∷ map Bench adds
 
 -- the acts of a Turn: those of the connection's next call, where there is one to take
-abbrev pub turn_acts : Config → ℕ → Option Role → Option (List ℕ) → List BenchAct → List Act
-turn_acts config c (Some role) (Some call) acts =
-    verdict_acts c (verdict_of config c role (call_at call) acts) ++ On c (CallTaken call) ∷ []
-turn_acts config c _ _ acts = []
+abbrev pub turn_acts : Config → ℕ → ℕ → Option Role → Option (List ℕ) → List BenchAct → List Act
+turn_acts config polled c (Some role) (Some call) acts =
+    verdict_acts c (verdict_of config polled c role (call_at call) acts) ++ On c (CallTaken call) ∷ []
+turn_acts config polled c _ _ acts = []
 
--- The acts that an event adds to the log by itself. Closing a connection destroys its links, by rising number.
-abbrev pub own_acts : Config → PlainEvent → List Act → List Act
-own_acts config (Open c role) log = On c (Opened role) ∷ []
-own_acts config (Bytes c piece) log = On c (Piece piece) ∷ []
-own_acts config (Turn c) log = turn_acts config c (open_role (of c log)) (next_call (of c log)) (bench log)
-own_acts config (Refuse c) log = []
-own_acts config (Took (Conn c) count) log = On c (BytesTaken count) ∷ []
-own_acts config (Took (Intr c) count) log = []
-own_acts config (Close (Conn c)) log = map Bench (map Linked (closing c (link_acts (bench log)))) ++ On c PortClosed ∷ []
-own_acts config (Close (Intr c)) log = []
-own_acts config (Dialed c ok) log = []
-own_acts config (Input channel microvolts) log = []
-own_acts config External log = []
-own_acts config Tick log = Bench Ticked ∷ []
+-- The acts that an event adds to the log by itself, where a poll of the status byte would give this. Closing a connection destroys its links, by rising number.
+abbrev pub own_acts : Config → ℕ → PlainEvent → List Act → List Act
+own_acts config polled (Open c role) log = On c (Opened role) ∷ []
+own_acts config polled (Bytes c piece) log = On c (Piece piece) ∷ []
+own_acts config polled (Turn c) log = turn_acts config polled c (open_role (of c log)) (next_call (of c log)) (bench log)
+own_acts config polled (Refuse c) log = []
+own_acts config polled (Took (Conn c) count) log = On c (BytesTaken count) ∷ []
+own_acts config polled (Took (Intr c) count) log = []
+own_acts config polled (Close (Conn c)) log = map Bench (map Linked (closing c (link_acts (bench log)))) ++ On c PortClosed ∷ []
+own_acts config polled (Close (Intr c)) log = []
+own_acts config polled (Dialed c ok) log = []
+own_acts config polled (Input channel microvolts) log = Bench (Happened (Scanned (InputTo channel microvolts))) ∷ []
+own_acts config polled External log = map Bench (map Happened (external_acts (instrument_acts (bench log))))
+own_acts config polled Tick log = map Bench (map Happened (tick_acts (instrument_acts (bench log)))) ++ Bench Ticked ∷ []
 
 -- whether a number isn't that of an open connection
 abbrev pub is_shut : ℕ → List Act → Bool
@@ -80,8 +84,8 @@ refusal config Tick log = if config.clock + ticks (bench log) == last_clock then
 -- The log of a history: each event's own acts, and then the steps that are due. Each number of a history lies in its range.
 abbrev pub IsLogOf : Config → List PlainEvent → List Act → Type 0
 IsLogOf config [] log = IsConfig config × (log ≡ [])
-IsLogOf config (event ∷ history) log = (before : List Act) × IsEvent event × IsLogOf config history before
-    × (refusal config event before ≡ None) × Settles config (own_acts config event before ++ before) log
+IsLogOf config (event ∷ history) log = (before : List Act) × (polled : ℕ) × IsEvent event × IsLogOf config history before
+    × (refusal config event before ≡ None) × IsPolled polled (bench before) × Settles config (own_acts config polled event before ++ before) log
 
 -- what an event that wasn't refused does: a Turn that finds no call to take is idle
 abbrev pub did : PlainEvent → List Act → Did
@@ -96,7 +100,7 @@ makes_link acts = nat_lt 0 (made (link_acts (bench acts)))
 -- refuses and that makes a link.
 abbrev pub Answers : Config → PlainEvent → List Act → Result Did Refused → Type 0
 Answers config event log (Ok what) = (refusal config event log ≡ None) × (what ≡ did event log)
-Answers config event log (Err NoMemory) = (refusal config event log ≡ None) × (makes_link (own_acts config event log) ≡ true)
+Answers config event log (Err NoMemory) = (refusal config event log ≡ None) × ((polled : ℕ) → IsPolled polled (bench log) → makes_link (own_acts config polled event log) ≡ true)
 Answers config event log (Err refused) = refusal config event log ≡ Some refused
 
 -- the history with the event, unless it was refused

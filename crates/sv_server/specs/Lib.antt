@@ -7,6 +7,7 @@ pub mod AbortChannel
 pub mod CoreChannel
 pub mod PortMapper
 pub mod Dispatch
+pub mod Polled
 pub mod Settling
 pub mod History
 pub mod Asking

@@ -5,7 +5,7 @@ use Rattle.sv_server.specs.Event.{PlainEvent}
 use Rattle.sv_server.specs.Act.{Act, of, bench}
 use Rattle.sv_server.specs.KeptConnection.{Connection, IsConnection}
 use Rattle.sv_server.specs.KeptBench.{Bench, IsBench}
-use Rattle.sv_server.specs.Settling.{step_of}
+use Rattle.sv_server.specs.Settling.{IsSettled}
 use Rattle.sv_server.specs.History.{IsLogOf}
 
 pub record State : Type 0 where
@@ -23,4 +23,4 @@ pub record StandsFor (state : State) (config : Config) (history : List PlainEven
   pub log : List Act
   pub is_log : IsLogOf config history log
   pub represents : Represents state config log
-  pub settled : step_of config log ≡ []
+  pub settled : IsSettled config log

@@ -2,8 +2,11 @@
 
 ghost use Rattle.std.specs.Prelude.{◌≡◌, ◌+◌, ◌<◌, ◌≤◌, List, [], ◌∷◌, ◌++◌, length, map, IfOk, ◌==◌, false};
 ghost use Rattle.sv_links.specs.Links.{closing};
+ghost use Rattle.sv_scan.specs.declared.acts.ScanAct.TheVariants.{Input};
+ghost use Rattle.sv_layers.specs.Act.{Scanned};
+ghost use Rattle.sv_instrument.specs.Happened.{external_acts, tick_acts};
 ghost use Rattle.sv_server.specs.declared.event.Config.{Config};
-ghost use Rattle.sv_server.specs.Act.{BenchAct, Linked, Ticked, link_acts, ticks};
+ghost use Rattle.sv_server.specs.Act.{BenchAct, Linked, Happened, Ticked, link_acts, instrument_acts, ticks};
 ghost use Rattle.sv_server.specs.KeptBench.{IsBench};
 
 use crate::event::Config;
@@ -85,10 +88,28 @@ impl<A: Allocator> Bench<A> {
     pub fn tick(&mut self)
         requires { (self.old.clock == 9223372036854775807) ≡ false }
         ensures { (config : Config) (acts : List BenchAct) → IsBench self.old config acts
-            → IsBench self.new config (Ticked ∷ acts) }
+            → IsBench self.new config
+            (map Happened (tick_acts (instrument_acts acts)) ++ Ticked ∷ acts) }
     {
         self.clock += 1;
         self.instrument.tick();
+    }
+
+    /// The voltage of a channel's input is another from now on.
+    pub fn input(&mut self, channel: u8, microvolts: i64)
+        ensures { (config : Config) (acts : List BenchAct) → IsBench self.old config acts
+            → IsBench self.new config (Happened (Scanned (Input channel microvolts)) ∷ acts) }
+    {
+        self.instrument.input(channel, microvolts);
+    }
+
+    /// A trigger comes in at the trigger input.
+    pub fn external(&mut self)
+        ensures { (config : Config) (acts : List BenchAct) → IsBench self.old config acts
+            → IsBench self.new config
+            (map Happened (external_acts (instrument_acts acts)) ++ acts) }
+    {
+        self.instrument.external();
     }
 
     /// Destroys the links of a connection.

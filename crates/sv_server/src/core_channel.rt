@@ -1,13 +1,13 @@
 //! The calls of the core channel (VXI-11 revision 1.0, section B.6).
 
-ghost use Rattle.std.specs.Prelude.{◌≡◌, pos, List, [], IfOk, OnErr, true};
+ghost use Rattle.std.specs.Prelude.{◌≡◌, ℕ, pos, List, [], IfOk, OnErr, true};
 ghost use Rattle.sv_vxi.specs.Reading.{plain_arguments};
 ghost use Rattle.sv_vxi.specs.Results.{Link, Size, Plain, plain_result, data_of};
 ghost use Rattle.sv_server.specs.declared.event.Config.{Config as Configured};
 ghost use Rattle.sv_server.specs.Act.{BenchAct};
 ghost use Rattle.sv_server.specs.KeptBench.{IsBench};
-ghost use Rattle.sv_server.specs.CoreChannel.{lid_of as lid_for, link_named as link_for, owns, names_another, failure as failed, no_bytes, term_of as term_for, create_link, destroy_link, device_write, device_read, own_call, executed};
-ghost use Rattle.sv_server.specs.Inside.Outcome.{EndsAs, IsShortEnding, makes};
+ghost use Rattle.sv_server.specs.CoreChannel.{lid_of as lid_for, link_named as link_for, owns, names_another, failure as failed, no_bytes, term_of as term_for, create_link, destroy_link, device_write, device_read, status_read, device_trigger, device_clear, own_call, executed};
+ghost use Rattle.sv_server.specs.Inside.Outcome.{IsBenchAt, EndsAs, IsShortEnding, makes};
 
 use crate::bench::{Bench, Ending};
 use std::alloc::{AllocError, Allocator};
@@ -179,21 +179,32 @@ impl<A: Allocator> Bench<A> {
         if self.instrument.readable() {
             return Ending::Response { most, term };
         }
-        if self.instrument.can_write() {
-            self.instrument.unterminated();
+        if !self.instrument.can_read() {
+            return Ending::Result(nothing_read(ErrorCode::IoTimeout));
         }
+        self.instrument.unterminated();
         Ending::Result(nothing_read(ErrorCode::IoTimeout))
     }
 
     /// device_readstb: the status byte, whose request for service ends thereby.
     fn device_readstb(&mut self) -> Ending
+        ensures ends { (config : Configured) (polled : ℕ) (acts : List BenchAct)
+            → IsBenchAt self.old config polled acts
+            → EndsAs result self.new config acts (status_read polled) }
+        ensures short { IsShortEnding result }
     {
         let poll = self.instrument.poll();
-        Ending::Result(VxiResult::Status { error: ErrorCode::NoError, stb: poll.status })
+        Ending::Result(VxiResult::Status {
+            error: ErrorCode::NoError,
+            stb: poll.status,
+        })
     }
 
     /// device_trigger: a trigger from the controller.
     fn device_trigger(&mut self) -> Ending
+        ensures ends { (config : Configured) (acts : List BenchAct) → IsBench self.old config acts
+            → EndsAs result self.new config acts (device_trigger acts) }
+        ensures short { IsShortEnding result }
     {
         self.instrument.trigger();
         Ending::Result(plain(ErrorCode::NoError))
@@ -201,6 +212,9 @@ impl<A: Allocator> Bench<A> {
 
     /// device_clear: text, held unit and response are dropped.
     fn device_clear(&mut self) -> Ending
+        ensures ends { (config : Configured) (acts : List BenchAct) → IsBench self.old config acts
+            → EndsAs result self.new config acts device_clear }
+        ensures short { IsShortEnding result }
     {
         self.instrument.clear();
         Ending::Result(plain(ErrorCode::NoError))
@@ -208,13 +222,15 @@ impl<A: Allocator> Bench<A> {
 
     /// Does a call that names no link, or one of its connection.
     fn own_call(&mut self, conn: u8, args: &Args<'_>) -> Result<Ending, AllocError>
-        ensures ok { (config : Configured) (acts : List BenchAct) → IsBench self.old config acts
+        ensures ok { (config : Configured) (polled : ℕ) (acts : List BenchAct)
+            → IsBenchAt self.old config polled acts
             → IfOk result (λ ending. EndsAs ending self.new config acts
-            (own_call config conn (plain_arguments args.now) acts)) }
+            (own_call config polled conn (plain_arguments args.now) acts)) }
         ensures short { IfOk result (λ ending. IsShortEnding ending) }
         ensures err { OnErr result (self.new ≡ self.old) }
-        ensures lacks { (config : Configured) (acts : List BenchAct) → IsBench self.old config acts
-            → OnErr result (makes (own_call config conn (plain_arguments args.now) acts).adds
+        ensures lacks { (config : Configured) (polled : ℕ) (acts : List BenchAct)
+            → IsBenchAt self.old config polled acts
+            → OnErr result (makes (own_call config polled conn (plain_arguments args.now) acts).adds
             ≡ true) }
     {
         Ok(match *args {
@@ -248,13 +264,15 @@ impl<A: Allocator> Bench<A> {
 
     /// Executes a call whose arguments were read: the link that it names is looked at first.
     pub fn execute(&mut self, conn: u8, args: &Args<'_>) -> Result<Ending, AllocError>
-        ensures ok { (config : Configured) (acts : List BenchAct) → IsBench self.old config acts
+        ensures ok { (config : Configured) (polled : ℕ) (acts : List BenchAct)
+            → IsBenchAt self.old config polled acts
             → IfOk result (λ ending. EndsAs ending self.new config acts
-            (executed config conn (plain_arguments args.now) acts)) }
+            (executed config polled conn (plain_arguments args.now) acts)) }
         ensures short { IfOk result (λ ending. IsShortEnding ending) }
         ensures err { OnErr result (self.new ≡ self.old) }
-        ensures lacks { (config : Configured) (acts : List BenchAct) → IsBench self.old config acts
-            → OnErr result (makes (executed config conn (plain_arguments args.now) acts).adds
+        ensures lacks { (config : Configured) (polled : ℕ) (acts : List BenchAct)
+            → IsBenchAt self.old config polled acts
+            → OnErr result (makes (executed config polled conn (plain_arguments args.now) acts).adds
             ≡ true) }
     {
         if self.names_another(conn, link_named(args)) {

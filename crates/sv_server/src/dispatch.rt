@@ -1,15 +1,14 @@
 //! What becomes of a record that was taken: its header is looked at, and then it is a call of the
 //! program that its connection serves.
 
-ghost use Rattle.std.specs.Prelude.{◌≡◌, ◌==◌, ◌++◌, true, List, Result, IfOk, OnErr, IsSome, None};
+ghost use Rattle.std.specs.Prelude.{◌≡◌, ◌==◌, ◌++◌, ℕ, true, List, Result, IfOk, OnErr, IsSome, None};
 ghost use Rattle.sv_rpc.specs.Call.{plain_call, call_at};
 ghost use Rattle.sv_vxi.specs.Arguments.{core_calls, abort_calls, is_one_of};
 ghost use Rattle.sv_vxi.specs.Reading.{arguments_at};
 ghost use Rattle.sv_server.specs.declared.event.Config.{Config as Configured};
 ghost use Rattle.sv_server.specs.Act.{BenchAct};
-ghost use Rattle.sv_server.specs.KeptBench.{IsBench};
 ghost use Rattle.sv_server.specs.Dispatch.{program_of as program_for, version_of as version_for, procedures_of, header_reply as reply_to, verdict_of, call_verdict as verdict_for, procedure_verdict as verdict_by, device_verdict as device_verdict_for};
-ghost use Rattle.sv_server.specs.Inside.Outcome.{ConsideredAs, IsConcluded, IsShortEnding, IsShortVerdict, verdict_makes};
+ghost use Rattle.sv_server.specs.Inside.Outcome.{IsBenchAt, ConsideredAs, IsConcluded, IsShortEnding, IsShortVerdict, verdict_makes};
 
 use crate::bench::{Bench, Ending};
 use crate::event::Role;
@@ -152,15 +151,17 @@ fn device_verdict<A: Allocator>(
     call: &Call<'_>,
 ) -> Result<Verdict, AllocError>
     requires { is_one_of (core_calls ++ abort_calls) call.now.proc ≡ true }
-    ensures ok { (config : Configured) (acts : List BenchAct) → IsBench shared.old config acts
+    ensures ok { (config : Configured) (polled : ℕ) (acts : List BenchAct)
+        → IsBenchAt shared.old config polled acts
         → IfOk result (λ verdict. ConsideredAs verdict shared.new config acts
-        (device_verdict_for config conn call.now.xid
+        (device_verdict_for config polled conn call.now.xid
         (arguments_at call.now.proc call.now.args.now) acts)) }
     ensures short { IfOk result (λ verdict. IsShortVerdict verdict) }
     ensures err { OnErr result (shared.new ≡ shared.old) }
-    ensures lacks { (config : Configured) (acts : List BenchAct) → IsBench shared.old config acts
+    ensures lacks { (config : Configured) (polled : ℕ) (acts : List BenchAct)
+        → IsBenchAt shared.old config polled acts
         → OnErr result (verdict_makes
-        (device_verdict_for config conn call.now.xid
+        (device_verdict_for config polled conn call.now.xid
         (arguments_at call.now.proc call.now.args.now) acts)
         ≡ true) }
 {
@@ -181,13 +182,15 @@ fn procedure<A: Allocator>(
     call: &Call<'_>,
 ) -> Result<Verdict, AllocError>
     requires { reply_to role (plain_call call.now) ≡ None }
-    ensures ok { (config : Configured) (acts : List BenchAct) → IsBench shared.old config acts
+    ensures ok { (config : Configured) (polled : ℕ) (acts : List BenchAct)
+        → IsBenchAt shared.old config polled acts
         → IfOk result (λ verdict. ConsideredAs verdict shared.new config acts
-        (verdict_by config conn role (plain_call call.now) acts)) }
+        (verdict_by config polled conn role (plain_call call.now) acts)) }
     ensures short { IfOk result (λ verdict. IsShortVerdict verdict) }
     ensures err { OnErr result (shared.new ≡ shared.old) }
-    ensures lacks { (config : Configured) (acts : List BenchAct) → IsBench shared.old config acts
-        → OnErr result (verdict_makes (verdict_by config conn role (plain_call call.now) acts)
+    ensures lacks { (config : Configured) (polled : ℕ) (acts : List BenchAct)
+        → IsBenchAt shared.old config polled acts
+        → OnErr result (verdict_makes (verdict_by config polled conn role (plain_call call.now) acts)
         ≡ true) }
 {
     match role {
@@ -207,15 +210,17 @@ fn call_verdict<A: Allocator>(
     role: Role,
     call: &Call<'_>,
 ) -> Result<Verdict, AllocError>
-    ensures ok { (config : Configured) (acts : List BenchAct) → IsBench shared.old config acts
+    ensures ok { (config : Configured) (polled : ℕ) (acts : List BenchAct)
+        → IsBenchAt shared.old config polled acts
         → IfOk result (λ verdict. ConsideredAs verdict shared.new config acts
-        (verdict_for config conn role (plain_call call.now)
+        (verdict_for config polled conn role (plain_call call.now)
         (reply_to role (plain_call call.now)) acts)) }
     ensures short { IfOk result (λ verdict. IsShortVerdict verdict) }
     ensures err { OnErr result (shared.new ≡ shared.old) }
-    ensures lacks { (config : Configured) (acts : List BenchAct) → IsBench shared.old config acts
+    ensures lacks { (config : Configured) (polled : ℕ) (acts : List BenchAct)
+        → IsBenchAt shared.old config polled acts
         → OnErr result (verdict_makes
-        (verdict_for config conn role (plain_call call.now)
+        (verdict_for config polled conn role (plain_call call.now)
         (reply_to role (plain_call call.now)) acts)
         ≡ true) }
 {
@@ -235,13 +240,15 @@ pub fn consider<A: Allocator>(
     role: Role,
     bytes: &[u8],
 ) -> Result<Verdict, AllocError>
-    ensures ok { (config : Configured) (acts : List BenchAct) → IsBench shared.old config acts
+    ensures ok { (config : Configured) (polled : ℕ) (acts : List BenchAct)
+        → IsBenchAt shared.old config polled acts
         → IfOk result (λ verdict. ConsideredAs verdict shared.new config acts
-        (verdict_of config conn role (call_at bytes.now) acts)) }
+        (verdict_of config polled conn role (call_at bytes.now) acts)) }
     ensures short { IfOk result (λ verdict. IsShortVerdict verdict) }
     ensures err { OnErr result (shared.new ≡ shared.old) }
-    ensures lacks { (config : Configured) (acts : List BenchAct) → IsBench shared.old config acts
-        → OnErr result (verdict_makes (verdict_of config conn role (call_at bytes.now) acts)
+    ensures lacks { (config : Configured) (polled : ℕ) (acts : List BenchAct)
+        → IsBenchAt shared.old config polled acts
+        → OnErr result (verdict_makes (verdict_of config polled conn role (call_at bytes.now) acts)
         ≡ true) }
 {
     match read_call(bytes) {

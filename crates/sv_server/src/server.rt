@@ -2,7 +2,7 @@
 
 ghost use Rattle.std.specs.Prelude.{◌≡◌, ◌<◌, ◌≤◌, ℕ, not, List, [], length, slice_index_or, true, false, if◌then◌else◌, MatchOption, None, is_some, IfOk, OnErr};
 ghost use Rattle.sv_server.specs.declared.event.Config.{Config};
-ghost use Rattle.sv_server.specs.Event.{PlainEvent, Open, Bytes, Turn, Took, Close, Tick, plain, IsEvent};
+ghost use Rattle.sv_server.specs.Event.{PlainEvent, Open, Bytes, Turn, Took, Close, Input, External, Tick, plain, IsEvent};
 ghost use Rattle.sv_server.specs.Act.{Act, of};
 ghost use Rattle.sv_server.specs.Connection.{is_open, waiting_on, room, is_idle, is_faulted};
 ghost use Rattle.sv_server.specs.History.{is_shut, IsLogOf, Answers, history_after};
@@ -252,16 +252,26 @@ impl<A: Allocator> Server<A> {
 
     /// The voltage of a channel's input is another from now on.
     fn input(&mut self, channel: u8, microvolts: i64) -> Result<Did, Refused>
+        ensures acts { (config : Config) (log : List Act) → Represents self.old config log
+            → Acts config (Input channel microvolts) log result self.new }
+        ensures err { OnErr result (self.new ≡ self.old) }
     {
-        let did = may_input(channel, microvolts)?;
-        self.bench.instrument.input(channel, microvolts);
-        Ok(did)
+        match may_input(channel, microvolts) {
+            Ok(did) => {
+                self.bench.input(channel, microvolts);
+                Ok(did)
+            }
+            Err(refused) => Err(refused),
+        }
     }
 
     /// A trigger comes in at the trigger input.
     fn external(&mut self) -> Result<Did, Refused>
+        ensures acts { (config : Config) (log : List Act) → Represents self.old config log
+            → Acts config External log result self.new }
+        ensures err { OnErr result (self.new ≡ self.old) }
     {
-        self.bench.instrument.external();
+        self.bench.external();
         Ok(Did::Done)
     }
 

@@ -1,12 +1,11 @@
 //! The steps that follow an event.
 
 ghost use Rattle.std.specs.Prelude.{◌<◌, List, IsTrue};
-ghost use Rattle.sv_exchange.specs.Exchange.{ExchangeAct};
-ghost use Rattle.sv_exchange.specs.Contents.{StandsFor as HoldsExchange, work_of};
+ghost use Rattle.sv_instrument.specs.Kept.{left_of};
 ghost use Rattle.sv_server.specs.declared.event.Config.{Config};
 ghost use Rattle.sv_server.specs.Act.{Act, BenchAct, bench};
 ghost use Rattle.sv_server.specs.KeptBench.{IsBench};
-ghost use Rattle.sv_server.specs.Inside.Acting.{ExchangeStep, StepDone, Settled};
+ghost use Rattle.sv_server.specs.Inside.Acting.{StepDone, Settled};
 
 use crate::bench::Bench;
 use std::alloc::Allocator;
@@ -16,9 +15,16 @@ impl<A: Allocator> Bench<A> {
     fn step(&mut self) -> bool
         ensures done { (config : Config) (acts : List BenchAct) → IsBench self.old config acts
             → StepDone result config acts self.old self.new }
-        ensures measure { IsTrue result → work_of self.new.exchange < work_of self.old.exchange }
+        ensures measure { IsTrue result
+            → left_of self.new.instrument < left_of self.old.instrument }
     {
-        self.instrument.fire().is_some() || self.instrument.step().is_some()
+        match self.instrument.fire() {
+            Some(_raised) => true,
+            None => match self.instrument.step() {
+                Some(_raised) => true,
+                None => false,
+            },
+        }
     }
 
     /// Does the steps that are due, until none is.

@@ -1,18 +1,18 @@
 -- What a private function that does an event leaves.
-use Rattle.std.specs.Prelude.{◌≡◌, ◌≢◌, ℕ, ℤ, not, true, Bool, false, List, [], ◌∷◌, ◌++◌, Some, None, Result, Ok, Err, if◌then◌else◌}
+use Rattle.std.specs.Prelude.{◌≡◌, ◌≢◌, ℕ, ℤ, not, true, Bool, false, List, ◌∷◌, ◌++◌, map, Some, None, Result, Ok, Err, if◌then◌else◌}
 use Rattle.sv_errors.specs.Limits.{is_channel}
-use Rattle.sv_exchange.specs.Exchange.{ExchangeAct, due}
-use Rattle.sv_exchange.specs.Contents.{Contents, StandsFor as HoldsExchange}
+use Rattle.sv_layers.specs.Act.{Act as InstrumentAct}
 use Rattle.sv_server.specs.declared.event.Config.{Config}
 use Rattle.sv_server.specs.declared.event.Did.{Did}
 use Rattle.sv_server.specs.declared.event.Did.TheVariants.{Done, Idle}
 use Rattle.sv_server.specs.declared.event.Refused.{Refused}
 use Rattle.sv_server.specs.declared.event.Refused.TheVariants.{NoMemory, BadChannel, BadInput}
 use Rattle.sv_server.specs.Event.{PlainEvent}
-use Rattle.sv_server.specs.Act.{Act, ConnAct, BenchAct, Faulted, Replied, of, bench}
+use Rattle.sv_server.specs.Act.{Act, ConnAct, BenchAct, Faulted, Replied, Happened, of, bench, instrument_acts}
 use Rattle.sv_server.specs.Dispatch.{Verdict, NoCall, Replies}
 use Rattle.sv_server.specs.Connection.{open_role, next_call, is_idle}
-use Rattle.sv_server.specs.Settling.{exchange_step, bench_step, Settles}
+use Rattle.sv_server.specs.Polled.{IsPolled}
+use Rattle.sv_server.specs.Settling.{IsDue, Settles}
 use Rattle.sv_server.specs.History.{refusal, turn_refusal, turn_acts, own_acts, did, makes_link, is_beyond}
 use Rattle.sv_server.specs.KeptConnection.{Connection, IsConnection}
 use Rattle.sv_server.specs.KeptBench.{Bench, IsBench}
@@ -21,17 +21,19 @@ use Rattle.sv_server.specs.State.{State, Represents}
 -- An event that isn't refused adds its own acts.
 abbrev pub Acts : Config → PlainEvent → List Act → Result Did Refused → State → Type 0
 Acts config event log (Ok what) new = (refusal config event log ≡ None) × (what ≡ did event log)
-    × Represents new config (own_acts config event log ++ log)
-Acts config event log (Err NoMemory) new = (refusal config event log ≡ None) × (makes_link (own_acts config event log) ≡ true)
+    × ((polled : ℕ) → IsPolled polled (bench log) → Represents new config (own_acts config polled event log ++ log))
+Acts config event log (Err NoMemory) new = (refusal config event log ≡ None)
+    × ((polled : ℕ) → IsPolled polled (bench log) → makes_link (own_acts config polled event log) ≡ true)
 Acts config event log (Err refused) new = refusal config event log ≡ Some refused
 
 -- So does a Turn of an open connection.
 abbrev pub Turns : Config → ℕ → List Act → Result Did Refused → Connection → Bench → Type 0
 Turns config c log (Ok what) connection shared = (turn_refusal (of c log) ≡ None) × (what ≡ (if is_idle (of c log) then Idle else Done))
-    × (let new = turn_acts config c (open_role (of c log)) (next_call (of c log)) (bench log) ++ log in
+    × ((polled : ℕ) → IsPolled polled (bench log)
+    → let new = turn_acts config polled c (open_role (of c log)) (next_call (of c log)) (bench log) ++ log in
     IsConnection connection (of c new) × IsBench shared config (bench new) × ((d : ℕ) → d ≢ c → of d new ≡ of d log))
 Turns config c log (Err NoMemory) connection shared = (turn_refusal (of c log) ≡ None)
-    × (makes_link (turn_acts config c (open_role (of c log)) (next_call (of c log)) (bench log)) ≡ true)
+    × ((polled : ℕ) → IsPolled polled (bench log) → makes_link (turn_acts config polled c (open_role (of c log)) (next_call (of c log)) (bench log)) ≡ true)
 Turns config c log (Err refused) connection shared = turn_refusal (of c log) ≡ Some refused
 
 -- an input that may be
@@ -46,15 +48,11 @@ Concludes NoCall config acts before connection shared = IsConnection connection 
 Concludes (Replies adds bytes) config acts before connection shared =
     IsConnection connection (Replied bytes ∷ acts) × IsBench shared config (adds ++ before)
 
--- The step of message exchange that was due is done, or none was due and nothing changed.
-abbrev pub ExchangeStep : Bool → List ExchangeAct → Contents → Contents → Type 0
-ExchangeStep true acts old new = (exchange_step (due acts) acts ≢ []) × HoldsExchange new (exchange_step (due acts) acts ++ acts)
-ExchangeStep false acts old new = (exchange_step (due acts) acts ≡ []) × (new ≡ old)
-
--- The step that was due is done, or none was due and nothing changed.
+-- The step of the instrument that was due is done, or none was due and nothing changed.
 abbrev pub StepDone : Bool → Config → List BenchAct → Bench → Bench → Type 0
-StepDone true config acts old new = (bench_step config acts ≢ []) × IsBench new config (bench_step config acts ++ acts)
-StepDone false config acts old new = (bench_step config acts ≡ []) × (new ≡ old)
+StepDone true config acts old new = (adds : List InstrumentAct) × IsDue (instrument_acts acts) (adds ++ instrument_acts acts)
+    × IsBench new config (map Happened adds ++ acts)
+StepDone false config acts old new = ((due : List InstrumentAct) → IsDue (instrument_acts acts) due → ⊥) × (new ≡ old)
 
 -- All steps that were due are done, and no connection acts.
 abbrev pub Settled : Config → List Act → Bench → Type 0

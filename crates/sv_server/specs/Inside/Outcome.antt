@@ -21,6 +21,7 @@ use Rattle.sv_server.specs.Execution.{Execution}
 use Rattle.sv_server.specs.CoreChannel.{reads}
 use Rattle.sv_server.specs.Dispatch.{Verdict, NoCall, Replies, execution_verdict}
 use Rattle.sv_server.specs.KeptBench.{Bench, IsBench}
+use Rattle.sv_server.specs.Polled.{IsPolled}
 
 -- the reply of an answer, and the fields behind it
 abbrev pub reply_of : Answer → Reply
@@ -63,6 +64,10 @@ EndsAs (endings.Response most term) shared config acts execution = (execution �
 abbrev pub IsShortEnding : Ending → Type 0
 IsShortEnding (endings.Result outcome) = data_of (plain_result outcome) ≡ []
 IsShortEnding (endings.Response most term) = ⊤
+
+-- The bench keeps what its acts say, and a poll would give this.
+abbrev pub IsBenchAt : Bench → Config → ℕ → List BenchAct → Type 0
+IsBenchAt kept config polled acts = IsBench kept config acts × IsPolled polled acts
 
 -- The record is answered so.
 abbrev pub ConsideredAs : Considered → Bench → Config → List BenchAct → Verdict → Type 0

@@ -7,7 +7,7 @@ use Rattle.sv_server.specs.Event.{PlainEvent}
 use Rattle.sv_server.specs.declared.event.Port.TheVariants.{Conn, Intr}
 use Rattle.sv_server.specs.Act.{Act, On, BytesTaken}
 use Rattle.sv_server.specs.Connection.{waiting_on}
-use Rattle.sv_server.specs.Settling.{step_of}
+use Rattle.sv_server.specs.Settling.{IsSettled}
 use Rattle.sv_server.specs.History.{IsLogOf}
 use Rattle.sv_server.specs.State.{State, Represents}
 use Rattle.sv_server.specs.Print.{ports, port_line, lines_of, with_took, with_tooks}
@@ -15,7 +15,7 @@ use Rattle.sv_server.specs.Written.{IsFront}
 
 -- The server stands for a history by this log.
 abbrev pub StandsBy : State → Config → List PlainEvent → List Act → Type 0
-StandsBy state config history log = IsLogOf config history log × Represents state config log × (step_of config log ≡ [])
+StandsBy state config history log = IsLogOf config history log × Represents state config log × IsSettled config log
 
 -- the log in which the peer took these bytes from a port
 abbrev pub log_with_took : Port → List ℕ → List Act → List Act

@@ -1,4 +1,4 @@
 use Rattle.sv_server.proofs.dispatch.consider.Goals as goal
 
 pub returns-in-Ok-clause-ok : goal.returns-in-Ok-clause-ok
-returns-in-Ok-clause-ok g c = λ config acts is. rw (← c.in-Ok.ensures.exact) (c.call_verdict.ensures.ok config acts is)
+returns-in-Ok-clause-ok g c = λ config polled acts known. rw (← c.in-Ok.ensures.exact) (c.call_verdict.ensures.ok config polled acts known)

@@ -1,13 +1,19 @@
-use Rattle.std.proofs.Common.{refl, sym, subst}
+use Rattle.std.proofs.Common.{rules, refl, sym, subst}
 use Rattle.sv_server.specs.declared.event.Refused.{Refused}
 use Rattle.sv_server.specs.declared.event.Refused.TheVariants.{NotRefusable, NoDial}
 use Rattle.sv_server.specs.declared.event.Event.{Event}
-use Rattle.sv_server.specs.Event.{Refuse, Dialed, plain}
+use Rattle.sv_server.specs.Event.{Refuse, Dialed, Input, plain}
 use Rattle.sv_server.specs.History.{is_shut}
 use Rattle.sv_server.specs.Inside.Acting.{Acts}
 use Rattle.std.specs.Prelude.{Err}
 use Rattle.sv_server.proofs.Standing.{either_refused}
 use Rattle.sv_server.proofs.server.Server.act.Goals as goal
+
+pub returns-in-Input-clause-acts : goal.returns-in-Input-clause-acts
+returns-in-Input-clause-acts g c = λ config log rep.
+    let did : Acts config (Input c.in-Input.channel c.in-Input.microvolts) log c.input.result c.input.new.self =
+    search (rules, c.input.ensures.acts config log rep) in
+    subst (λ (e : Event). Acts config (plain e) log c.input.result c.input.new.self) (sym c.in-Input.is) did
 
 pub returns-in-Refuse-clause-acts : goal.returns-in-Refuse-clause-acts
 returns-in-Refuse-clause-acts g c = λ config log rep.

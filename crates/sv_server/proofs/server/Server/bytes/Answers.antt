@@ -22,6 +22,6 @@ returns-clause-acts g c = λ config log rep.
     let room = c.room.ensures.answer _ is in (
       rw (shut_is c.args.conn log _ (omega arith) opened, le-ltb _ _ (rw room at c.if-room-piece.false)) refl,
       refl,
-      rw c.from-2.ensures (one_act _ config log c.args.conn c.index_mut-connection.result.now c.push.new.self
+      λ polled said. rw c.from-2.ensures (one_act _ config log c.args.conn c.index_mut-connection.result.now c.push.new.self
           (Piece c.args.piece.now) state c.self.invariant (omega arith) at (c.push.ensures (of c.args.conn log))),
     )

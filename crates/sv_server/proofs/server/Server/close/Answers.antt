@@ -14,7 +14,7 @@ returns-clause-acts g c = λ config log rep.
     let links = map Linked (closing c.args.conn (link_acts (bench log))) in (
       rw (shut_is c.args.conn log _ (omega arith) opened) refl,
       refl,
-      rw (c.from-2.ensures, append_assoc (map Bench links) (On c.args.conn PortClosed ∷ []) log)
+      λ polled said. rw (c.from-2.ensures, append_assoc (map Bench links) (On c.args.conn PortClosed ∷ []) log)
           (closes _ config log c.args.conn c.index_mut-connection.result.now c.close.new.self c.close_connection.new.self state
           c.self.invariant (omega arith) at (c.close.ensures (of c.args.conn log)) (c.close_connection.ensures config)),
     )

@@ -1,4 +1,4 @@
-use Rattle.std.proofs.Common.{rules, [], refl}
+use Rattle.std.proofs.Common.{rules, [], refl, inl, inr}
 use Rattle.sv_server.proofs.server.Server.new.Goals as goal
 
 pub returns : goal.returns
@@ -10,5 +10,5 @@ returns g c = record {
     beyond = λ k h. refl;
     shared = c.in_ok-new.ensures;
   };
-  settled = refl;
+  settled = λ new next. elim next.1 [ inl fired ↦ absurd (let none = fired.0 in cc) | inr step ↦ step.1 ];
 }

@@ -12,6 +12,6 @@ returns-clause-acts g c = λ config log rep.
     let shut = open_is c.index_mut-connection.result.now _ _ is (sym c.is_open.ensures ∙ c.if-is_open.false) in (
       rw (le-ltb 15 c.args.conn (omega arith), shut) refl,
       refl,
-      rw c.from-2.ensures (one_act _ config log c.args.conn c.index_mut-connection.result.now c.open.new.self
+      λ polled said. rw c.from-2.ensures (one_act _ config log c.args.conn c.index_mut-connection.result.now c.open.new.self
           (Opened c.args.role) state c.self.invariant (omega arith) at (c.open.ensures (of c.args.conn log))),
     )

@@ -1,5 +1,8 @@
 use Rattle.std.proofs.Common.{sym, refl}
-use Rattle.sv_server.specs.Act.{bench}
+use Rattle.std.specs.Prelude.{map}
+use Rattle.sv_server.specs.Act.{Happened, bench, instrument_acts}
+use Rattle.sv_instrument.specs.Happened.{tick_acts}
+use Rattle.sv_server.proofs.Logs.{ticked}
 use Rattle.sv_server.proofs.server.Server.tick.Goals as goal
 
 pub returns-clause-acts : goal.returns-clause-acts
@@ -7,5 +10,6 @@ returns-clause-acts g c = λ config log rep.
     let state = rw (← c.self.view_is) at rep in (
       rw (sym (c.if-is_at_end.ensures.answer config (bench log) state.shared)) refl,
       refl,
-      record { each = state.each; beyond = state.beyond; shared = c.tick.ensures config (bench log) state.shared },
+      λ polled said. ticked _ config log c.tick.new.self (map Happened (tick_acts (instrument_acts (bench log)))) state
+          (c.tick.ensures config (bench log) state.shared),
     )

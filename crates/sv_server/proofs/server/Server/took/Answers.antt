@@ -18,6 +18,6 @@ returns-clause-acts g c = λ config log rep.
             (omega (arith, ap length bytes)),
       ) refl,
       refl,
-      rw c.from-2.ensures (one_act _ config log c.args.conn c.index_mut-connection.result.now c.took.new.self
+      λ polled said. rw c.from-2.ensures (one_act _ config log c.args.conn c.index_mut-connection.result.now c.took.new.self
           (BytesTaken c.args.count) state c.self.invariant (omega arith) at (c.took.ensures (of c.args.conn log))),
     )

@@ -1,0 +1,56 @@
+-- What the calls of the core channel add, where they are done.
+use Rattle.std.proofs.Common.{◌≡◌, ℕ, ◌==◌, Bool, true, false, List, [], ◌∷◌, ◌++◌, length, nat_lt, refl, sym, ap, subst}
+use Rattle.std.specs.Int.{bit_at}
+use Rattle.std.specs.Prelude.{Option}
+use Rattle.sv_errors.specs.declared.code.Code.TheVariants.{QueryUnterminated}
+use Rattle.sv_vxi.specs.declared.error_code.ErrorCode.TheVariants.{NoError, IoTimeout}
+use Rattle.sv_rpc.specs.declared.reply.Reply.TheVariants.{Success}
+use Rattle.sv_vxi.specs.Results.{Outcome, Size, result_fields}
+use Rattle.sv_exchange.specs.Exchange.{Accepted, TextDropped, has_ended, response, is_something}
+use Rattle.sv_layers.specs.Act.{Exchanged, Reported}
+use Rattle.sv_instrument.specs.Step.{is_answerable}
+use Rattle.sv_instrument.specs.Kept.{Kept, StandsFor}
+use Rattle.sv_server.specs.declared.event.Config.{Config}
+use Rattle.sv_server.specs.Act.{BenchAct, instrument_acts, exchange_acts}
+use Rattle.sv_server.specs.CoreChannel.{device_write, device_read, no_bytes}
+use Rattle.sv_server.specs.Reply.{reply_record}
+use Rattle.sv_server.specs.Execution.{Execution}
+use Rattle.sv_server.specs.Dispatch.{Replies, execution_verdict}
+use Rattle.sv_server.specs.declared.bench.Ending.{Ending}
+use Rattle.sv_server.specs.declared.bench.Ending.TheVariants as endings
+use Rattle.sv_server.specs.declared.dispatch.Verdict.{Verdict as Considered}
+use Rattle.sv_server.specs.Inside.Outcome.{IsConcluded, EndsAs, ConsideredAs}
+use Rattle.sv_server.specs.KeptBench.{IsBench, Bench}
+use Rattle.sv_server.proofs.Projections.{bench_happened}
+
+pub written_ends : (config : Config) (acts : List BenchAct) (kept : Bench) (instrument : Kept) (flags : ℕ) (bytes : List ℕ) (ended : Bool)
+    → IsBench kept config acts → nat_lt 4096 (length bytes) ≡ false → has_ended (exchange_acts acts) ≡ false
+    → ended ≡ (bit_at flags 3 == 1) → StandsFor instrument (Exchanged (Accepted bytes ended) ∷ instrument_acts acts)
+    → ((device_write flags bytes acts).result ≡ Size NoError (length bytes))
+    × IsBench (record kept { instrument = instrument }) config ((device_write flags bytes acts).adds ++ acts)
+written_ends config acts kept instrument flags bytes ended is short unended end stands =
+    let now = subst (λ (b : Bool). StandsFor instrument (Exchanged (Accepted bytes b) ∷ instrument_acts acts)) end stands in
+    rw (short, unended) (refl, bench_happened kept instrument config acts (Exchanged (Accepted bytes (bit_at flags 3 == 1)) ∷ []) is now)
+
+pub unread_ends : (config : Config) (acts : List BenchAct) (kept : Bench) (instrument : Kept) (most : ℕ) (term : Option ℕ)
+    → IsBench kept config acts → is_something (response (exchange_acts acts)) ≡ false → is_answerable (instrument_acts acts) ≡ true
+    → StandsFor instrument (Reported QueryUnterminated ∷ Exchanged TextDropped ∷ instrument_acts acts)
+    → ((device_read most term acts).result ≡ no_bytes IoTimeout)
+    × IsBench (record kept { instrument = instrument }) config ((device_read most term acts).adds ++ acts)
+unread_ends config acts kept instrument most term is nothing none stands =
+    rw (none, nothing)
+    (refl, bench_happened kept instrument config acts (Reported QueryUnterminated ∷ Exchanged TextDropped ∷ []) is stands)
+
+-- a call that ended is answered as its ending says
+pub concluded_as : (xid : ℕ) (ending : Ending) (verdict : Considered) (shared : Bench) (config : Config) (acts : List BenchAct)
+    (execution : Execution) → IsConcluded xid ending verdict → EndsAs ending shared config acts execution
+    → ConsideredAs verdict shared config acts (execution_verdict xid execution)
+concluded_as xid (endings.Result outcome) verdict shared config acts execution is ends =
+    subst (λ (v : Considered). ConsideredAs v shared config acts (execution_verdict xid execution)) (sym is) (
+      execution.adds,
+      ap (λ (o : Outcome). Replies execution.adds (reply_record xid Success (result_fields o))) ends.0,
+      ends.1,
+    )
+concluded_as xid (endings.Response most term) verdict shared config acts execution is ends =
+    subst (λ (v : Considered). ConsideredAs v shared config acts (execution_verdict xid execution)) (sym is)
+    (ap (λ (e : Execution). execution_verdict xid e) ends.0, ends.1)
