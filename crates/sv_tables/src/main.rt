@@ -24,11 +24,13 @@
 //! | `queue ACT`, `register ACT`, `standard ACT`, `status ACT` | what an act is answered with |
 //! | `scan ACT` | the same, of the scanner |
 //! | `records ACT` | what a buffer of records answers |
+//! | `session ACT` | what the whole instrument answers, and how many requests for service it raised, as `+1` |
 //! | `read KIND HEX` | a field read, and how many bytes are left |
 //! | `write KIND VALUE` | a field written |
 //! | `call HEX` | the header of a call |
 //!
-//! The text of `white`, `trim` and `unit` may have escapes, as `\n`, `\x7F` and `\\`.
+//! The text of `white`, `trim`, `unit`, `session tell` and `session say` may have escapes, as `\n`,
+//! `\x7F` and `\\`.
 #![tactic(auto)]
 
 mod codes;
@@ -39,6 +41,7 @@ mod parts;
 mod records;
 mod responses;
 mod scans;
+mod sessions;
 mod status;
 mod texts;
 mod units;

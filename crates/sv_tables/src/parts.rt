@@ -7,6 +7,7 @@ use crate::line::{Fault, cut, value_of};
 use crate::records::put_records;
 use crate::responses::put_response;
 use crate::scans::put_scan;
+use crate::sessions::put_session;
 use crate::status::{put_queue, put_register, put_standard, put_status};
 use crate::texts::{put_cut, put_parts, put_trimmed, put_white};
 use crate::units::put_unit;
@@ -14,6 +15,7 @@ use crate::values::put_value;
 use std::alloc::{AllocError, Global};
 use sv_errors::ErrorQueue;
 use sv_header::Table;
+use sv_instrument::Instrument;
 use sv_rpc::RecordBuf;
 use sv_scan::Scanner;
 use sv_status::{Register, StandardEvent, StatusByte};
@@ -28,6 +30,7 @@ pub(crate) struct Parts {
     status: StatusByte,
     scanner: Scanner,
     records: RecordBuf,
+    instrument: Instrument,
 }
 
 impl Parts {
@@ -41,6 +44,7 @@ impl Parts {
             status: StatusByte::new(),
             scanner: Scanner::new(alloc)?,
             records: RecordBuf::new(alloc)?,
+            instrument: Instrument::new(alloc)?,
         })
     }
 
@@ -78,6 +82,7 @@ impl Parts {
             "status" => put_status(out, &mut self.status, text),
             "scan" => put_scan(out, &mut self.scanner, text),
             "records" => put_records(alloc, out, &mut self.records, text),
+            "session" => put_session(alloc, out, &mut self.instrument, text),
             _ => put_of_text(alloc, out, word, text),
         }
     }
