@@ -1,5 +1,5 @@
 //! Answers the lines of the standard input, each of which asks something of one part of the
-//! instrument, and prints each of them with its answer. Empty lines and those that begin with `#`
+//! instrument or of the whole, and prints each of them with its answer. Empty lines and those that begin with `#`
 //! ask nothing.
 //!
 //! | Line | Answer |
@@ -23,8 +23,8 @@
 //! | `code NUMBER` | the name and the text of an error |
 //! | `queue ACT`, `register ACT`, `standard ACT`, `status ACT` | what an act is answered with |
 //! | `scan ACT` | the same, of the scanner |
+//! | `session ACT` | the same, of the whole instrument, and how many requests it raised, as `+1` |
 //! | `records ACT` | what a buffer of records answers |
-//! | `session ACT` | what the whole instrument answers, and how many requests for service it raised, as `+1` |
 //! | `read KIND HEX` | a field read, and how many bytes are left |
 //! | `write KIND VALUE` | a field written |
 //! | `call HEX` | the header of a call |

@@ -1,4 +1,13 @@
-//! Acts of the whole instrument.
+//! Acts of the whole instrument. Behind each it does all that is due.
+//!
+//! | Act | Answer |
+//! |---|---|
+//! | `tell TEXT`, `say TEXT` | nothing: a write, with END behind it or without; or `waits` |
+//! | `read` | up to 256 bytes of the response; or `waits`, or `unterminated` where there is none |
+//! | `read N` | the same, of up to N bytes, with the reasons why they end there |
+//! | `poll` | the status byte |
+//! | `ticks N` | nothing: so many milliseconds go by |
+//! | `input CHANNEL MICROVOLTS`, `external`, `trigger`, `clear` | nothing |
 
 ghost use Rattle.std.specs.Prelude.{◌<◌, OnSome};
 ghost use Rattle.sv_instrument.specs.Kept.{left_of};
