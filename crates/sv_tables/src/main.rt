@@ -1,6 +1,6 @@
 //! Answers the lines of the standard input, each of which asks something of one part of the
-//! instrument or of the whole, and prints each of them with its answer. Empty lines and those that begin with `#`
-//! ask nothing.
+//! instrument or of the whole, and prints each of them with its answer. Empty lines and those that
+//! begin with `#` ask nothing.
 //!
 //! | Line | Answer |
 //! |---|---|
@@ -12,6 +12,7 @@
 //! | `parts TEXT` | the parts of a header |
 //! | `unit TEXT` | the header and the parameters of a unit, each with its place and its kind |
 //! | `headers TEXT` | the commands that the headers of a message name, with `;` between two |
+//! | `orders MESSAGE` | what each unit of a message asks for, behind those in front of it |
 //! | `arity HEADER` | how many parameters the command takes that a header names |
 //! | `voltage UNIT`, `boolean UNIT`, `keyword UNIT`, `channels UNIT` | a unit's first parameter |
 //! | `whole LOW HIGH UNIT` | the same, as a whole number |
@@ -29,14 +30,15 @@
 //! | `write KIND VALUE` | a field written |
 //! | `call HEX` | the header of a call |
 //!
-//! The text of `white`, `trim`, `unit`, `session tell` and `session say` may have escapes, as `\n`,
-//! `\x7F` and `\\`.
+//! The text of `white`, `trim`, `unit`, `orders`, `session tell` and `session say` may have
+//! escapes, as `\n`, `\x7F` and `\\`.
 #![tactic(auto)]
 
 mod codes;
 mod fields;
 mod headers;
 mod line;
+mod orders;
 mod parts;
 mod records;
 mod responses;

@@ -4,6 +4,7 @@ use crate::codes::put_code;
 use crate::fields::{put_call, put_read, put_written};
 use crate::headers::{put_arity, put_commands};
 use crate::line::{Fault, cut, value_of};
+use crate::orders::put_orders;
 use crate::records::put_records;
 use crate::responses::put_response;
 use crate::scans::put_scan;
@@ -76,6 +77,7 @@ impl Parts {
             }
             "headers" => put_commands(out, &self.commands, text),
             "arity" => put_arity(out, &self.commands, text),
+            "orders" => put_orders(alloc, out, &self.commands, text),
             "queue" => put_queue(out, &mut self.queue, text),
             "register" => put_register(out, &mut self.register, text),
             "standard" => put_standard(out, &mut self.standard, text),
