@@ -1,6 +1,6 @@
 //! Answers the lines of the standard input, each of which asks something of one part of the
-//! instrument, and prints each of them with its answer. Empty lines and those that begin with `#`
-//! ask nothing.
+//! instrument or of the whole, and prints each of them with its answer. Empty lines and those that
+//! begin with `#` ask nothing.
 //!
 //! | Line | Answer |
 //! |---|---|
@@ -12,6 +12,7 @@
 //! | `parts TEXT` | the parts of a header |
 //! | `unit TEXT` | the header and the parameters of a unit, each with its place and its kind |
 //! | `headers TEXT` | the commands that the headers of a message name, with `;` between two |
+//! | `orders MESSAGE` | what each unit of a message asks for, behind those in front of it |
 //! | `arity HEADER` | how many parameters the command takes that a header names |
 //! | `voltage UNIT`, `boolean UNIT`, `keyword UNIT`, `channels UNIT` | a unit's first parameter |
 //! | `whole LOW HIGH UNIT` | the same, as a whole number |
@@ -23,22 +24,26 @@
 //! | `code NUMBER` | the name and the text of an error |
 //! | `queue ACT`, `register ACT`, `standard ACT`, `status ACT` | what an act is answered with |
 //! | `scan ACT` | the same, of the scanner |
+//! | `session ACT` | the same, of the whole instrument, and how many requests it raised, as `+1` |
 //! | `records ACT` | what a buffer of records answers |
 //! | `read KIND HEX` | a field read, and how many bytes are left |
 //! | `write KIND VALUE` | a field written |
 //! | `call HEX` | the header of a call |
 //!
-//! The text of `white`, `trim` and `unit` may have escapes, as `\n`, `\x7F` and `\\`.
+//! The text of `white`, `trim`, `unit`, `orders`, `session tell` and `session say` may have
+//! escapes, as `\n`, `\x7F` and `\\`.
 #![tactic(auto)]
 
 mod codes;
 mod fields;
 mod headers;
 mod line;
+mod orders;
 mod parts;
 mod records;
 mod responses;
 mod scans;
+mod sessions;
 mod status;
 mod texts;
 mod units;

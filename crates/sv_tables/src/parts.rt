@@ -4,9 +4,11 @@ use crate::codes::put_code;
 use crate::fields::{put_call, put_read, put_written};
 use crate::headers::{put_arity, put_commands};
 use crate::line::{Fault, cut, value_of};
+use crate::orders::put_orders;
 use crate::records::put_records;
 use crate::responses::put_response;
 use crate::scans::put_scan;
+use crate::sessions::put_session;
 use crate::status::{put_queue, put_register, put_standard, put_status};
 use crate::texts::{put_cut, put_parts, put_trimmed, put_white};
 use crate::units::put_unit;
@@ -14,6 +16,7 @@ use crate::values::put_value;
 use std::alloc::{AllocError, Global};
 use sv_errors::ErrorQueue;
 use sv_header::Table;
+use sv_instrument::Instrument;
 use sv_rpc::RecordBuf;
 use sv_scan::Scanner;
 use sv_status::{Register, StandardEvent, StatusByte};
@@ -28,6 +31,7 @@ pub(crate) struct Parts {
     status: StatusByte,
     scanner: Scanner,
     records: RecordBuf,
+    instrument: Instrument,
 }
 
 impl Parts {
@@ -41,6 +45,7 @@ impl Parts {
             status: StatusByte::new(),
             scanner: Scanner::new(alloc)?,
             records: RecordBuf::new(alloc)?,
+            instrument: Instrument::new(alloc)?,
         })
     }
 
@@ -72,12 +77,14 @@ impl Parts {
             }
             "headers" => put_commands(out, &self.commands, text),
             "arity" => put_arity(out, &self.commands, text),
+            "orders" => put_orders(alloc, out, &self.commands, text),
             "queue" => put_queue(out, &mut self.queue, text),
             "register" => put_register(out, &mut self.register, text),
             "standard" => put_standard(out, &mut self.standard, text),
             "status" => put_status(out, &mut self.status, text),
             "scan" => put_scan(out, &mut self.scanner, text),
             "records" => put_records(alloc, out, &mut self.records, text),
+            "session" => put_session(alloc, out, &mut self.instrument, text),
             _ => put_of_text(alloc, out, word, text),
         }
     }

@@ -9,7 +9,10 @@ use std::alloc::{AllocError, Global};
 use std::io::BufWriter;
 use std::test::Fail;
 use sv_errors::ErrorQueue;
+use sv_exchange::Exchange;
 use sv_header::Table;
+use sv_instrument::Instrument;
+use sv_layers::Layers;
 use sv_replay::{RunFault, run_replay};
 use sv_rpc::RecordBuf;
 use sv_scan::Scanner;
@@ -37,8 +40,9 @@ fn refusals<'a, T: Drop, F: Fn(&'a Rationed<Global>) -> Result<T, AllocError>>(
     Err(Fail::new("each making was refused an allocation"))
 }
 
-/// The buffers of 16 connections, each with one for what comes and one for what is sent, are the
-/// server's.
+/// The layers are a message exchange, an error queue and a scanner; the instrument has the table of
+/// commands and the answer of a unit beside them. The buffers of 16 connections, each with one for
+/// what comes and one for what is sent, are the server's.
 #[test]
 fn each_part_is_made_once_memory_is_there(rt: HostRuntime) -> Result<(), Fail> {
     let heap = Rationed::new(rt.alloc());
@@ -46,6 +50,9 @@ fn each_part_is_made_once_memory_is_there(rt: HostRuntime) -> Result<(), Fail> {
     assert_eq!(rt; refusals(&heap, |heap| ErrorQueue::new(heap))?, 1);
     assert_eq!(rt; refusals(&heap, |heap| Table::new(heap))?, 1);
     assert_eq!(rt; refusals(&heap, |heap| Scanner::new(heap))?, 1);
+    assert_eq!(rt; refusals(&heap, |heap| Exchange::new(heap))?, 2);
+    assert_eq!(rt; refusals(&heap, |heap| Layers::new(heap))?, 4);
+    assert_eq!(rt; refusals(&heap, |heap| Instrument::new(heap))?, 6);
     assert!(rt; refusals(&heap, |heap| Server::new(heap, CONFIG))? >= 32);
     Ok(())
 }
