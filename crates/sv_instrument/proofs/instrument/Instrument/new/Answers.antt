@@ -1,0 +1,5 @@
+use Rattle.std.proofs.Common.{refl}
+use Rattle.sv_instrument.proofs.instrument.Instrument.new.Goals as goal
+
+pub returns : goal.returns
+returns g c = record { layers = c.in_ok-new-2.ensures; held = refl; path = c.root.ensures }
