@@ -5,8 +5,8 @@ use Rattle.sv_instrument.proofs.instrument.Instrument.peek.Goals as goal
 
 pub returns-clause-value : goal.returns-clause-value
 returns-clause-value g c =
-    rw (← c.self.view_is)
-    (subst (λ (held : Contents). IsReadOf c.peek.result (shown_by held) c.args.most c.args.term) c.exchange.ensures.value c.peek.ensures.value)
+    let gives : Contents → Type 0 = λ held. IsReadOf c.peek.result (shown_by held) c.args.most c.args.term in
+    rw (← c.self.view_is) (subst gives c.exchange.ensures.value c.peek.ensures.value)
 
 pub returns-clause-answer : goal.returns-clause-answer
 returns-clause-answer g c = λ log h.
