@@ -1,4 +1,6 @@
-use Rattle.std.proofs.Common.{refl}
+use Rattle.std.proofs.Common.{refl, ap}
+use Rattle.sv_layers.specs.Inside.Kept.{Layered}
+use Rattle.sv_instrument.specs.Kept.{Kept}
 use Rattle.sv_instrument.proofs.Running.{ran_one}
 use Rattle.sv_instrument.proofs.Steps.{fired_less}
 use Rattle.sv_instrument.proofs.instrument.Instrument.fire.Goals.{in-Ok, in-Err}
@@ -22,4 +24,13 @@ returns-clause-measure g c =
           w.in-Ok.ensures.scanning.0 w.in-Ok.ensures.scanning.1 in
           rw (w.result-is, ← c.self.view_is) less
       | in-Err w ↦ rw w.result-is tt
+    ]
+
+pub returns-clause-idle : goal.returns-clause-idle
+returns-clause-idle g c =
+    let kept = c.self.inside in
+    let with : Layered → Kept = λ layers. record { layers = layers; held = kept.held; path = kept.path } in
+    elim c.match-trigger.branch [
+      in-Ok w ↦ rw w.result-is tt
+    | in-Err w ↦ rw (w.result-is, ← c.self.view_is) (ap with w.in-Err.ensures.refused)
     ]

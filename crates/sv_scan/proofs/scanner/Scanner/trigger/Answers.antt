@@ -19,3 +19,6 @@ returns-in-Err-clause-answer g c = c.in-Err.ensures.answer
 
 pub returns-in-Err-clause-refused : goal.returns-in-Err-clause-refused
 returns-in-Err-clause-refused g c = search rules
+
+pub returns-in-Some-clause-scanning : goal.returns-in-Some-clause-scanning
+returns-in-Some-clause-scanning g c = search rules

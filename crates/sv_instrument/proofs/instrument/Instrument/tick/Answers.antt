@@ -1,0 +1,9 @@
+use Rattle.sv_layers.specs.Act.{scan_acts}
+use Rattle.sv_instrument.proofs.Steps.{ran_of}
+use Rattle.sv_instrument.proofs.instrument.Instrument.tick.Goals as goal
+
+pub returns-in-Scanning : goal.returns-in-Scanning
+returns-in-Scanning g c = λ log h.
+    let s = rw (← c.self.view_is) at h in
+    let is = c.in-Scanning.ensures.answer (scan_acts log) (c.scanner.ensures.stands log s.layers) in
+    rw (← is) (ran_of _ log _ _ (c.change.ensures.acts log s.layers) s.held s.path)
