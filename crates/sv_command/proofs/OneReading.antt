@@ -1,13 +1,12 @@
 -- A unit behind a path asks for one thing, and leaves one path.
-use Rattle.std.proofs.Common.{◌≡◌, ℕ, List, refl, sym, ap, ◌∙◌, inl, inr}
+use Rattle.std.proofs.Common.{◌≡◌, ℕ, List, sym, ap, ◌∙◌, inl, inr}
 use Rattle.std.specs.Prelude.{Result, Err, Some}
 use Rattle.sv_errors.specs.declared.code.Code.{Code}
-use Rattle.sv_lexer.specs.Unit.{unit_fault, header}
+use Rattle.sv_lexer.specs.Unit.{header}
 use Rattle.sv_header.specs.declared.command.CommandId.{CommandId}
-use Rattle.sv_header.specs.Resolve.{kept}
 use Rattle.sv_header.proofs.Clash.{one-pattern}
 use Rattle.sv_command.specs.declared.order.Order.{Order}
-use Rattle.sv_command.specs.Unit.{IsReadAs, IsNamed, asked}
+use Rattle.sv_command.specs.Unit.{IsNamed, asked}
 use Rattle.sv_command.specs.Laws.{OneReading}
 
 named_once : (path : List (List ℕ)) (unit : List ℕ) (a b : Result Order Code) (p q : List (List ℕ)) → IsNamed path unit a p
@@ -23,7 +22,8 @@ same_fault : (a b : Code) → Some a ≡ Some b → a ≡ b
 same_fault a b e = cc
 
 pub one_reading : OneReading
-one_reading path unit a b p q (inl x) (inl y) = (x.2 ∙ ap (λ (code : Code). Err code) (same_fault x.0 y.0 (sym x.1 ∙ y.1)) ∙ sym y.2, x.3 ∙ sym y.3)
+one_reading path unit a b p q (inl x) (inl y) =
+    (x.2 ∙ ap (λ (code : Code). Err code) (same_fault x.0 y.0 (sym x.1 ∙ y.1)) ∙ sym y.2, x.3 ∙ sym y.3)
 one_reading path unit a b p q (inl x) (inr y) = absurd (let e = sym x.1 ∙ y.0 in cc)
 one_reading path unit a b p q (inr x) (inl y) = absurd (let e = sym y.1 ∙ x.0 in cc)
 one_reading path unit a b p q (inr x) (inr y) = named_once path unit a b p q x.1 y.1

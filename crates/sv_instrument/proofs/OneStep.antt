@@ -1,7 +1,6 @@
 -- One step is due at most, and it makes one log: units, paths and answers are each the one that they are.
-use Rattle.std.proofs.Common.{◌≡◌, ℕ, List, [], ◌∷◌, refl, sym, ap, ◌∙◌}
-use Rattle.std.specs.Prelude.{◌↔◌, Option, Some, None, Result, Ok, Err, decimal}
-use Rattle.std.specs.Int.{bit_at}
+use Rattle.std.proofs.Common.{◌≡◌, ℕ, List, [], ◌∷◌, sym, ap, ◌∙◌}
+use Rattle.std.specs.Prelude.{Option, Some, None, Result, Ok, Err, decimal}
 use Rattle.sv_errors.specs.declared.code.Code.{Code}
 use Rattle.sv_exchange.specs.Exchange.{Due, NothingDue, OverrunDue, InterruptDue, UnitDue, FinishDue, due, next_unit}
 use Rattle.sv_command.specs.declared.order.Order.{Order}
@@ -15,8 +14,8 @@ use Rattle.sv_layers.proofs.PolledByte.{one_word}
 use Rattle.sv_instrument.specs.Held.{held}
 use Rattle.sv_instrument.specs.Said.{Says, IsWord}
 use Rattle.sv_instrument.specs.Performed.{Performs, Replies, question_fault, answered, done, taken}
-use Rattle.sv_instrument.specs.Path.{IsPath, Leaves}
-use Rattle.sv_instrument.specs.Step.{IsStep, StepOf, Starts, Does, interrupted}
+use Rattle.sv_instrument.specs.Path.{Leaves}
+use Rattle.sv_instrument.specs.Step.{StepOf, Starts, Does, interrupted}
 use Rattle.sv_instrument.specs.Laws.{OneStep}
 
 -- what two are

@@ -1,5 +1,5 @@
 -- What is so of the steps of the instrument.
-use Rattle.std.specs.Prelude.{◌≡◌, ◌↔◌, ℕ, List}
+use Rattle.std.specs.Prelude.{◌≡◌, List}
 use Rattle.sv_layers.specs.Act.{Act}
 use Rattle.sv_instrument.specs.Step.{IsStep}
 

@@ -35,7 +35,8 @@ pub link_acts-links : (links : List LinkAct) (acts : List BenchAct) → link_act
 link_acts-links [] acts = refl
 link_acts-links (act ∷ links) acts = ap (λ (xs : List LinkAct). act ∷ xs) (link_acts-links links acts)
 
-pub instrument_acts-links : (links : List LinkAct) (acts : List BenchAct) → instrument_acts (map Linked links ++ acts) ≡ instrument_acts acts
+pub instrument_acts-links : (links : List LinkAct) (acts : List BenchAct)
+    → instrument_acts (map Linked links ++ acts) ≡ instrument_acts acts
 instrument_acts-links [] acts = refl
 instrument_acts-links (act ∷ links) acts = instrument_acts-links links acts
 

@@ -1,6 +1,6 @@
 -- The steps that are due, one after the other, settle a log.
-use Rattle.std.proofs.Common.{◌≡◌, ℕ, suc, zero, Bool, true, false, List, [], ◌∷◌, ◌++◌, refl, sym, ap, subst, ◌∙◌, inl, inr}
-use Rattle.std.specs.Prelude.{map, Some, None}
+use Rattle.std.proofs.Common.{◌≡◌, ℕ, suc, zero, true, false, List, ◌∷◌, ◌++◌, refl, sym, ap, subst, ◌∙◌, inl, inr}
+use Rattle.std.specs.Prelude.{map}
 use Rattle.std.proofs.lemmas.List.{append_cancel_right}
 use Rattle.sv_layers.specs.Act.{Act as InstrumentAct}
 use Rattle.sv_layers.proofs.PolledByte.{polled_byte}
@@ -24,12 +24,14 @@ stepped old instrument config acts count new is due ran =
     let adds = ran.raises.acts in (
       adds,
       subst (λ (log : List InstrumentAct). IsDue (instrument_acts acts) log) ran.raises.new_is due,
-      bench_happened old instrument config acts adds is (subst (λ (log : List InstrumentAct). StandsFor instrument log) ran.raises.new_is ran.stands),
+      bench_happened old instrument config acts adds is
+          (subst (λ (log : List InstrumentAct). StandsFor instrument log) ran.raises.new_is ran.stands),
     )
 
 -- where none is due nothing changes
 pub unstepped : (old : KeptBench) (instrument : Kept) (config : Config) (acts : List BenchAct) → instrument ≡ old.instrument
-    → ((new : List InstrumentAct) → IsFired (instrument_acts acts) new → ⊥) → ((new : List InstrumentAct) → IsStep (instrument_acts acts) new → ⊥)
+    → ((new : List InstrumentAct) → IsFired (instrument_acts acts) new → ⊥)
+    → ((new : List InstrumentAct) → IsStep (instrument_acts acts) new → ⊥)
     → StepDone false config acts old (record old { instrument = instrument })
 unstepped old instrument config acts same fires steps = (
   λ new due. elim due [ inl fired ↦ fires new fired | inr step ↦ steps new step.1 ],

@@ -39,7 +39,8 @@ read_is read bytes most term is = rw (is.bytes, is.request_count, is.character, 
 pub turn_done : (config : Config) (c : ℕ) (log : List Act) (role : Role) (call : List ℕ) (connection : Connection) (shared : Bench)
     → open_role (of c log) ≡ Some role → next_call (of c log) ≡ Some call → nat_lt (free (of c log)) 8232 ≡ false
     → ((polled : ℕ) → IsPolled polled (bench log)
-    → Concludes (verdict_of config polled c role (call_at call) (bench log)) config (CallTaken call ∷ of c log) (bench log) connection shared)
+    → Concludes (verdict_of config polled c role (call_at call) (bench log)) config (CallTaken call ∷ of c log) (bench log) connection
+    shared)
     → Turns config c log (Ok Done) connection shared
 turn_done config c log role call connection shared opened next roomy done =
     rw (opened, next, roomy) (refl, refl, λ polled said. concluded_stands config c log call _ connection shared (done polled said))

@@ -134,7 +134,8 @@ device_trigger acts = record { adds = map Happened (trigger_acts (instrument_act
 abbrev pub device_clear : Execution
 device_clear = record { adds = Happened Purged ∷ []; result = Plain NoError }
 
--- A call by what it is, where a poll of the status byte would give this. One whose meaning comes later isn't supported yet; device_docmd never is.
+-- A call by what it is, where a poll of the status byte would give this. One whose meaning comes later isn't supported yet; device_docmd
+-- never is.
 abbrev pub own_call : Config → ℕ → ℕ → Arguments → List BenchAct → Execution
 own_call config polled c (DeviceAbort lid) acts = device_abort (lid_of lid) acts
 own_call config polled c (CreateLink client_id lock_device lock_timeout device) acts = create_link config c lock_device device acts

@@ -31,7 +31,8 @@ turn_acts config polled c (Some role) (Some call) acts =
     verdict_acts c (verdict_of config polled c role (call_at call) acts) ++ On c (CallTaken call) ∷ []
 turn_acts config polled c _ _ acts = []
 
--- The acts that an event adds to the log by itself, where a poll of the status byte would give this. Closing a connection destroys its links, by rising number.
+-- The acts that an event adds to the log by itself, where a poll of the status byte would give this. Closing a connection
+-- destroys its links, by rising number.
 abbrev pub own_acts : Config → ℕ → PlainEvent → List Act → List Act
 own_acts config polled (Open c role) log = On c (Opened role) ∷ []
 own_acts config polled (Bytes c piece) log = On c (Piece piece) ∷ []
@@ -85,7 +86,8 @@ refusal config Tick log = if config.clock + ticks (bench log) == last_clock then
 abbrev pub IsLogOf : Config → List PlainEvent → List Act → Type 0
 IsLogOf config [] log = IsConfig config × (log ≡ [])
 IsLogOf config (event ∷ history) log = (before : List Act) × (polled : ℕ) × IsEvent event × IsLogOf config history before
-    × (refusal config event before ≡ None) × IsPolled polled (bench before) × Settles config (own_acts config polled event before ++ before) log
+    × (refusal config event before ≡ None) × IsPolled polled (bench before)
+    × Settles config (own_acts config polled event before ++ before) log
 
 -- what an event that wasn't refused does: a Turn that finds no call to take is idle
 abbrev pub did : PlainEvent → List Act → Did
@@ -100,7 +102,8 @@ makes_link acts = nat_lt 0 (made (link_acts (bench acts)))
 -- refuses and that makes a link.
 abbrev pub Answers : Config → PlainEvent → List Act → Result Did Refused → Type 0
 Answers config event log (Ok what) = (refusal config event log ≡ None) × (what ≡ did event log)
-Answers config event log (Err NoMemory) = (refusal config event log ≡ None) × ((polled : ℕ) → IsPolled polled (bench log) → makes_link (own_acts config polled event log) ≡ true)
+Answers config event log (Err NoMemory) = (refusal config event log ≡ None)
+    × ((polled : ℕ) → IsPolled polled (bench log) → makes_link (own_acts config polled event log) ≡ true)
 Answers config event log (Err refused) = refusal config event log ≡ Some refused
 
 -- the history with the event, unless it was refused

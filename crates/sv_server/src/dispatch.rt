@@ -190,7 +190,8 @@ fn procedure<A: Allocator>(
     ensures err { OnErr result (shared.new ≡ shared.old) }
     ensures lacks { (config : Configured) (polled : ℕ) (acts : List BenchAct)
         → IsBenchAt shared.old config polled acts
-        → OnErr result (verdict_makes (verdict_by config polled conn role (plain_call call.now) acts)
+        → OnErr result (verdict_makes
+        (verdict_by config polled conn role (plain_call call.now) acts)
         ≡ true) }
 {
     match role {

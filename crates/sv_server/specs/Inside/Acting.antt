@@ -33,7 +33,8 @@ Turns config c log (Ok what) connection shared = (turn_refusal (of c log) ≡ No
     → let new = turn_acts config polled c (open_role (of c log)) (next_call (of c log)) (bench log) ++ log in
     IsConnection connection (of c new) × IsBench shared config (bench new) × ((d : ℕ) → d ≢ c → of d new ≡ of d log))
 Turns config c log (Err NoMemory) connection shared = (turn_refusal (of c log) ≡ None)
-    × ((polled : ℕ) → IsPolled polled (bench log) → makes_link (turn_acts config polled c (open_role (of c log)) (next_call (of c log)) (bench log)) ≡ true)
+    × ((polled : ℕ) → IsPolled polled (bench log)
+    → makes_link (turn_acts config polled c (open_role (of c log)) (next_call (of c log)) (bench log)) ≡ true)
 Turns config c log (Err refused) connection shared = turn_refusal (of c log) ≡ Some refused
 
 -- an input that may be

@@ -2,7 +2,6 @@ use Rattle.std.proofs.Common.{ℕ, [], ◌∷◌, subst}
 use Rattle.sv_rpc.specs.declared.reply.Reply.TheVariants.{Success}
 use Rattle.sv_vxi.specs.Results.{Outcome, result_fields}
 use Rattle.sv_exchange.specs.Exchange.{ResponseRead}
-use Rattle.sv_exchange.specs.Read.{read_count}
 use Rattle.sv_layers.specs.Act.{Exchanged}
 use Rattle.sv_instrument.specs.Kept.{StandsFor}
 use Rattle.sv_server.specs.Act.{Replied, instrument_acts}
@@ -17,7 +16,8 @@ returns g c = λ config acts before is busy old.
     let shared = rw (← c.shared.view_is) at old in
     let log = instrument_acts before in
     let given = c.peek-read.ensures.answer log shared.1 in
-    let stands = subst (λ (n : ℕ). StandsFor c.take.new.self (Exchanged (ResponseRead n) ∷ log)) given.size (c.take.ensures log shared.1).stands in (
+    let stands = subst (λ (n : ℕ). StandsFor c.take.new.self (Exchanged (ResponseRead n) ∷ log)) given.size
+    (c.take.ensures log shared.1).stands in (
       subst (λ (o : Outcome). IsConnection c.answer.new.self (Replied (reply_record c.args.xid Success (result_fields o)) ∷ acts))
           (read_is c.peek-read.result _ c.args.most c.args.term given) (c.answer.ensures acts is busy),
       bench_happened _ _ config before (Exchanged (ResponseRead _) ∷ []) shared stands,

@@ -31,6 +31,6 @@ returns-clause-idle g c =
     let kept = c.self.inside in
     let with : Layered → Kept = λ layers. record { layers = layers; held = kept.held; path = kept.path } in
     elim c.match-trigger.branch [
-      in-Ok w ↦ rw w.result-is tt
-    | in-Err w ↦ rw (w.result-is, ← c.self.view_is) (ap with w.in-Err.ensures.refused)
+      | in-Ok w ↦ rw w.result-is tt
+      | in-Err w ↦ rw (w.result-is, ← c.self.view_is) (ap with w.in-Err.ensures.refused)
     ]

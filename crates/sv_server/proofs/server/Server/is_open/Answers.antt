@@ -1,4 +1,4 @@
-use Rattle.std.proofs.Common.{refl, sym, ap}
+use Rattle.std.proofs.Common.{sym, ap}
 use Rattle.sv_server.proofs.Logs.{open_is, open_known}
 use Rattle.sv_server.specs.Connection.{is_open}
 use Rattle.sv_server.proofs.server.Server.is_open.Goals as goal
