@@ -1,5 +1,6 @@
--- What becomes of a record that was taken, where a poll of the status byte would give this: its header is looked at, in this order, and then
--- it is a call of the program that its connection serves (RFC 5531, section 9; VXI-11 revision 1.0, section B.6; RFC 1833, section 3).
+-- What becomes of a record that was taken, where a poll of the status byte would give this: its header is looked at, in this order, and
+-- then it is a call of the program that its connection serves (RFC 5531, section 9; VXI-11 revision 1.0, section B.6; RFC 1833, section
+-- 3).
 use Rattle.std.specs.Prelude.{ℕ, ◌==◌, not, List, [], ◌∷◌, Option, Some, None, Result, Ok, Err, if◌then◌else◌}
 use Rattle.sv_xdr.specs.declared.garbage.Garbage.{Garbage}
 use Rattle.sv_xdr.specs.Spelling.{Unsigned}
