@@ -20,9 +20,9 @@ check:
 scanvolt:
 	@cd crates/scanvolt && $(RT) run -- replay < ../../examples/identity.replay > /dev/null
 
-# Replays the stored script with the program, built with run-time checks and no proof.
+# Replays a session with the program, built with run-time checks and no proof.
 run:
-	@cd crates/scanvolt && $(RT) try -- replay < ../../examples/identity.replay
+	@cd crates/scanvolt && $(RT) try -- replay < ../../examples/scan.replay
 
 # Proves the program as above and measures it: its speed and memory, and what they are to be.
 bench: scanvolt
