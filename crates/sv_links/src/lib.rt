@@ -5,5 +5,7 @@
 #![tactic(auto)]
 
 mod links;
+mod waiting;
 
 pub use links::{Link, Links};
+pub use waiting::{Entry, Wait, Waiting};

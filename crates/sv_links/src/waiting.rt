@@ -1,0 +1,111 @@
+//! Calls that wait (VXI-11 revision 1.0, section B.4.4).
+
+ghost use Rattle.std.specs.Prelude.{◌≡◌, ◌≤◌, List, [], ◌∷◌, None, IfOk};
+ghost use Rattle.sv_links.specs.Waiting.{WaitAct, Entered, Again, Left, waits as waits_for, IsAble, IsExpired, Names, IsOldest};
+ghost use Rattle.sv_links.specs.Queue.{IsQueue};
+
+use std::alloc::{AllocError, Allocator, Global};
+use std::marker::Model;
+
+/// How many calls may wait: one of each connection.
+const MOST: usize = 16;
+
+/// What a call waits for.
+#[derive(Clone, Copy, Debug, PartialEq, Eq)]
+pub enum Wait {
+    /// That no other link holds the lock.
+    Lock,
+    /// That a write is taken.
+    Input,
+    /// That a read is answered.
+    Response,
+    /// That the interrupt channel's peer was called.
+    Dial,
+}
+
+/// A call that waits.
+#[derive(Clone, Copy, Debug, PartialEq, Eq)]
+pub struct Entry {
+    /// Its connection, 0 to 15.
+    pub conn: u8,
+    /// The link that it names; a create_link names none.
+    pub lid: Option<u32>,
+    /// What it waits for.
+    pub wait: Wait,
+    /// The clock at which it has waited long enough, in milliseconds; none where it waits without end.
+    pub deadline: Option<u64>,
+}
+
+/// The calls that wait, at most one of each of sixteen connections, in the order in which they came.
+#[derive(Drop)]
+pub struct Waiting<A: Allocator = Global> {
+    entries: Vec<Entry, A>,
+}
+
+impl<A: Allocator> Model for Waiting<A> {
+    ghost use Rattle.std.specs.Prelude.{List};
+    ghost use Rattle.sv_links.specs.declared.waiting.Entry.{Entry};
+
+    ghost Value = { List Entry };
+
+    ghost use Rattle.std.specs.Prelude.{◌≤◌, vec_capacity};
+    ghost use Rattle.sv_links.specs.Queue.{IsOnce};
+
+    ghost view = { λ a. a.entries.items };
+
+    ghost invariant = { λ a. IsOnce a.entries.items × (16 ≤ vec_capacity a.entries) };
+}
+
+impl<A: Allocator> Waiting<A> {
+    /// No call waits. Takes the memory of all that may.
+    ///
+    /// # Errors
+    /// Where memory is refused.
+    pub fn new(alloc: A) -> Result<Waiting<A>, AllocError>
+        ensures { IfOk result (λ waiting. IsQueue waiting []) }
+    {
+        Ok(Waiting {
+            entries: Vec::with_capacity(alloc, MOST)?,
+        })
+    }
+
+    /// The call of a connection, 0 to 15, begins to wait, behind all that wait. None of it may wait.
+    pub fn enter(&mut self, entry: Entry)
+        requires within { entry.conn ≤ 15 }
+        requires free { (acts : List WaitAct) → IsQueue self.old acts
+            → waits_for entry.conn acts ≡ None }
+        ensures { (acts : List WaitAct) → IsQueue self.old acts → IsQueue self.new
+            (Entered entry.conn entry.lid entry.wait entry.deadline ∷ acts) }
+    {
+        self.entries.push_reserved(entry);
+    }
+
+    /// For what the call of a connection waits; none where it doesn't.
+    pub fn waits(&self, conn: u8) -> Option<Wait>
+        ensures { (acts : List WaitAct) → IsQueue self.now acts → result ≡ waits_for conn acts }
+    {
+        let entry = self.entries.iter().find(|entry| entry.conn == conn)?;
+        Some(entry.wait)
+    }
+
+    /// The call of a connection waits anew, until another deadline, in its place of the order.
+    /// Where it doesn't wait nothing changes.
+    pub fn again(&mut self, conn: u8, wait: Wait, deadline: Option<u64>)
+        ensures { (acts : List WaitAct) → IsQueue self.old acts → (waits_for conn acts ≡ None → ⊥)
+            → IsQueue self.new (Again conn wait deadline ∷ acts) }
+    {
+        for entry in &mut self.entries {
+            if entry.conn == conn {
+                entry.wait = wait;
+                entry.deadline = deadline;
+            }
+        }
+    }
+
+    /// The call of a connection waits no more.
+    pub fn leave(&mut self, conn: u8)
+        ensures { (acts : List WaitAct) → IsQueue self.old acts → IsQueue self.new (Left conn ∷ acts) }
+    {
+        self.entries.retain(|entry| entry.conn != conn);
+    }
+}
