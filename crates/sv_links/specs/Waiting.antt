@@ -62,7 +62,7 @@ IsAble holder can_write can_read acts c = is_there holder can_write can_read (li
 
 -- The call of a connection waits, and its deadline has come.
 abbrev pub IsExpired : ℕ → List WaitAct → ℕ → Type 0
-IsExpired clock acts c = (wait : Wait) (last : ℕ) × (waits c acts ≡ Some wait) × (deadline c acts ≡ Some last) × (last ≤ clock)
+IsExpired clock acts c = (wait : Wait) × (last : ℕ) × (waits c acts ≡ Some wait) × (deadline c acts ≡ Some last) × (last ≤ clock)
 
 -- The call of a connection waits, and names this link.
 abbrev pub Names : ℕ → List WaitAct → ℕ → Type 0

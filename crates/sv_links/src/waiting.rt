@@ -1,8 +1,8 @@
 //! Calls that wait (VXI-11 revision 1.0, section B.4.4).
 
-ghost use Rattle.std.specs.Prelude.{◌≡◌, ◌≤◌, List, [], ◌∷◌, None, IfOk};
+ghost use Rattle.std.specs.Prelude.{◌≡◌, ◌≤◌, ◌<◌, List, [], ◌∷◌, None, IfOk};
 ghost use Rattle.sv_links.specs.Waiting.{WaitAct, Entered, Again, Left, waits as waits_for, IsAble, IsExpired, Names, IsOldest};
-ghost use Rattle.sv_links.specs.Queue.{IsQueue};
+ghost use Rattle.sv_links.specs.Queue.{IsQueue, IsFree, anew};
 
 use std::alloc::{AllocError, Allocator, Global};
 use std::marker::Model;
@@ -36,6 +36,18 @@ pub struct Entry {
     pub deadline: Option<u64>,
 }
 
+impl Entry {
+    /// Where this is the call of the connection, it waits anew.
+    fn renew(&mut self, conn: u8, wait: Wait, deadline: Option<u64>)
+        ensures { self.new ≡ anew conn wait deadline self.old }
+    {
+        if self.conn == conn {
+            self.wait = wait;
+            self.deadline = deadline;
+        }
+    }
+}
+
 /// The calls that wait, at most one of each of sixteen connections, in the order in which they came.
 #[derive(Drop)]
 pub struct Waiting<A: Allocator = Global> {
@@ -49,11 +61,12 @@ impl<A: Allocator> Model for Waiting<A> {
     ghost Value = { List Entry };
 
     ghost use Rattle.std.specs.Prelude.{◌≤◌, vec_capacity};
-    ghost use Rattle.sv_links.specs.Queue.{IsOnce};
+    ghost use Rattle.sv_links.specs.Queue.{IsOnce, IsBelow};
 
     ghost view = { λ a. a.entries.items };
 
-    ghost invariant = { λ a. IsOnce a.entries.items × (16 ≤ vec_capacity a.entries) };
+    ghost invariant = { λ a. IsOnce a.entries.items × IsBelow 16 a.entries.items
+        × (16 ≤ vec_capacity a.entries) };
 }
 
 impl<A: Allocator> Waiting<A> {
@@ -71,9 +84,8 @@ impl<A: Allocator> Waiting<A> {
 
     /// The call of a connection, 0 to 15, begins to wait, behind all that wait. None of it may wait.
     pub fn enter(&mut self, entry: Entry)
-        requires within { entry.conn ≤ 15 }
-        requires free { (acts : List WaitAct) → IsQueue self.old acts
-            → waits_for entry.conn acts ≡ None }
+        requires within { entry.conn < 16 }
+        requires free { IsFree entry.conn self.old }
         ensures { (acts : List WaitAct) → IsQueue self.old acts → IsQueue self.new
             (Entered entry.conn entry.lid entry.wait entry.deadline ∷ acts) }
     {
@@ -82,7 +94,8 @@ impl<A: Allocator> Waiting<A> {
 
     /// For what the call of a connection waits; none where it doesn't.
     pub fn waits(&self, conn: u8) -> Option<Wait>
-        ensures { (acts : List WaitAct) → IsQueue self.now acts → result ≡ waits_for conn acts }
+        ensures answer { (acts : List WaitAct) → IsQueue self.now acts → result ≡ waits_for conn acts }
+        ensures free { result ≡ None → IsFree conn self.now }
     {
         let entry = self.entries.iter().find(|entry| entry.conn == conn)?;
         Some(entry.wait)
@@ -91,14 +104,12 @@ impl<A: Allocator> Waiting<A> {
     /// The call of a connection waits anew, until another deadline, in its place of the order.
     /// Where it doesn't wait nothing changes.
     pub fn again(&mut self, conn: u8, wait: Wait, deadline: Option<u64>)
-        ensures { (acts : List WaitAct) → IsQueue self.old acts → (waits_for conn acts ≡ None → ⊥)
-            → IsQueue self.new (Again conn wait deadline ∷ acts) }
+        ensures anew { (acts : List WaitAct) → IsQueue self.old acts
+            → (waits_for conn acts ≡ None → ⊥) → IsQueue self.new (Again conn wait deadline ∷ acts) }
+        ensures none { IsFree conn self.old → self.new ≡ self.old }
     {
-        for entry in &mut self.entries {
-            if entry.conn == conn {
-                entry.wait = wait;
-                entry.deadline = deadline;
-            }
+        for entry in self.entries.iter_mut() {
+            entry.renew(conn, wait, deadline);
         }
     }
 
