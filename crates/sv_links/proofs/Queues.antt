@@ -1,14 +1,15 @@
 -- What is kept of the calls that wait, over acts.
 use Rattle.std.proofs.Common.{◌≡◌, ◌≢◌, ℕ, ◌+◌, ◌<◌, ◌≤◌, Bool, true, false, eqb, cond, List, [], ◌∷◌, ◌++◌, length, Option, Some, None, refl, sym, ap, subst, ◌∙◌, arith, inl, inr, eq-eqb, ◌⊎◌, suc, zero}
-use Rattle.std.specs.Prelude.{not, map, filter, find, option_map, is_some}
+use Rattle.std.specs.Prelude.{not, map, filter, find, option_map, is_some, take, drop}
 use Rattle.std.specs.List.{AllByRecursion}
-use Rattle.std.proofs.lemmas.Bool.{ne_eqb, eqb-true, eqb-false, cases_Bool, cond_both, true≢false}
+use Rattle.std.proofs.lemmas.Bool.{ne_eqb, eqb-true, eqb-false, cases_Bool, cond_both, true≢false, false≢true, leb-true, le-leb}
 use Rattle.std.proofs.lemmas.List.Elements.{All-filter, All-push, All-from_recursion, recursion_from_All}
+use Rattle.std.proofs.lemmas.List.{take_all, drop_all, append-nil}
 use Rattle.sv_errors.specs.Since.{newest}
 use Rattle.sv_links.specs.declared.waiting.Entry.{Entry}
 use Rattle.sv_links.specs.declared.waiting.Wait.{Wait}
-use Rattle.sv_links.specs.Waiting.{WaitAct, Entered, Again, Left, waits, deadline, link, arrival, enters, IsOldest}
-use Rattle.sv_links.specs.Queue.{IsQueue, IsFree, IsOnce, IsBelow, IsEntry, IsOrdered, entry_of, anew}
+use Rattle.sv_links.specs.Waiting.{WaitAct, Entered, Again, Left, waits, deadline, link, arrival, enters, IsOldest, IsAble, IsExpired, Names, is_there}
+use Rattle.sv_links.specs.Queue.{IsQueue, IsFree, IsOnce, IsBelow, IsEntry, IsOrdered, entry_of, anew, is_past, is_named}
 
 -- ---- what holds of each
 
@@ -305,3 +306,50 @@ pub IsOldest-find : (acts : List WaitAct) (IsSuch : ℕ → Type 0) (test : Entr
     → ((c : ℕ) → IsSuch c → waits c acts ≡ None → ⊥) → IsQueue xs acts → IsOldest acts IsSuch (option_map (λ x. x.conn) (find test xs))
 IsOldest-find acts IsSuch test xs sound complete does is = first_oldest acts IsSuch test sound complete xs is.each is.ordered
     (λ c such. among_from_find c xs (λ none. does c such (is.all c ∙ ap (option_map (λ x. x.wait)) none)))
+
+there : (holder : Option ℕ) (can_write can_read : Bool) (acts : List WaitAct) (x : Entry) → IsEntry acts x
+    → is_there holder can_write can_read (link x.conn acts) (waits x.conn acts) ≡ is_there holder can_write can_read x.lid (Some x.wait)
+there holder can_write can_read acts x each =
+    ap (λ named. is_there holder can_write can_read named (waits x.conn acts)) each.2 ∙ ap (is_there holder can_write can_read x.lid) each.0
+
+pub oldest_able : (holder : Option ℕ) (can_write can_read : Bool) (acts : List WaitAct) (xs : List Entry) → IsQueue xs acts
+    → IsOldest acts (IsAble holder can_write can_read acts)
+      (option_map (λ x. x.conn) (find (λ x. is_there holder can_write can_read x.lid (Some x.wait)) xs))
+oldest_able holder can_write can_read acts xs is =
+    IsOldest-find acts (IsAble holder can_write can_read acts) (λ x. is_there holder can_write can_read x.lid (Some x.wait)) xs
+    (λ x each e. there holder can_write can_read acts x each ∙ e) (λ x each such. sym (there holder can_write can_read acts x each) ∙ such)
+    (λ c such none. false≢true (rw none at such)) is
+
+past : (clock : ℕ) (o : Option ℕ) → is_past clock o ≡ true → (last : ℕ) × (o ≡ Some last) × (last ≤ clock)
+past clock None e = absurd (false≢true e)
+past clock (Some last) e = (last, refl, leb-true last clock e)
+
+some≢none : (wait : Wait) (o : Option Wait) → o ≡ Some wait → o ≡ None → ⊥
+some≢none wait o some none = true≢false (ap is_some (sym some ∙ none))
+
+pub oldest_expired : (clock : ℕ) (acts : List WaitAct) (xs : List Entry) → IsQueue xs acts
+    → IsOldest acts (IsExpired clock acts) (option_map (λ x. x.conn) (find (λ x. is_past clock x.deadline) xs))
+oldest_expired clock acts xs is = IsOldest-find acts (IsExpired clock acts) (λ x. is_past clock x.deadline) xs
+    (λ x each e. let found = past clock x.deadline e in (x.wait, found.0, each.0, each.1 ∙ found.1, found.2))
+    (λ x each such. rw (sym each.1 ∙ such.3) (le-leb such.1 clock such.4))
+    (λ c such none. some≢none such.0 (waits c acts) such.2 none) is
+
+named : (lid : ℕ) (o : Option ℕ) → is_named lid o ≡ true → o ≡ Some lid
+named lid None e = absurd (false≢true e)
+named lid (Some other) e = ap Some (eqb-true other lid e)
+
+pub oldest_naming : (lid : ℕ) (acts : List WaitAct) (xs : List Entry) → IsQueue xs acts
+    → IsOldest acts (Names lid acts) (option_map (λ x. x.conn) (find (λ x. is_named lid x.lid) xs))
+oldest_naming lid acts xs is = IsOldest-find acts (Names lid acts) (λ x. is_named lid x.lid) xs
+    (λ x each e. (x.wait, each.0, each.2 ∙ named lid x.lid e))
+    (λ x each such. rw (sym each.2 ∙ such.2) (eq-eqb lid lid refl))
+    (λ c such none. some≢none such.0 (waits c acts) such.1 none) is
+
+-- ---- a loop that has written each
+
+pub written : (f : Entry → Entry) (n i : ℕ) (old start items : List Entry) → start ≡ old → length start ≡ n → length items ≡ length start
+    → length start ≤ i → items ≡ map f (take i start) ++ drop i start → take n (items ++ drop (length items) old) ≡ map f old
+written f n i old start items same long kept ends is =
+    let all : items ≡ map f start = is ∙ rw (take_all i start ends, drop_all i start ends) (append-nil (map f start)) in
+    let rest : drop (length items) old ≡ [] = drop_all (length items) old (rw (← same) (omega (arith, kept))) in
+    rw (rest, append-nil items) (take_all n items (omega (arith, kept, long)) ∙ all ∙ ap (map f) same)

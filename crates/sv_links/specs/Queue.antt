@@ -1,5 +1,5 @@
 -- What is kept of the calls that wait.
-use Rattle.std.specs.Prelude.{◌≡◌, ◌≢◌, ℕ, ◌==◌, ◌<◌, List, [], ◌∷◌, Option, Some, option_map, find, if◌then◌else◌, ⊤}
+use Rattle.std.specs.Prelude.{◌≡◌, ◌≢◌, ℕ, ◌==◌, ◌<◌, nat_le, Bool, false, List, [], ◌∷◌, Option, Some, None, option_map, find, if◌then◌else◌, ⊤}
 use Rattle.std.specs.List.{AllByRecursion}
 use Rattle.sv_links.specs.declared.waiting.Entry.{Entry}
 use Rattle.sv_links.specs.declared.waiting.Wait.{Wait}
@@ -42,3 +42,13 @@ pub record IsQueue (entries : List Entry) (acts : List WaitAct) : Type 0 where
 -- an entry, where the call of this connection waits anew
 abbrev pub anew : ℕ → Wait → Option ℕ → Entry → Entry
 anew conn wait deadline entry = if entry.conn == conn then record entry { wait = wait; deadline = deadline } else entry
+
+-- whether a deadline has come
+abbrev pub is_past : ℕ → Option ℕ → Bool
+is_past clock (Some deadline) = nat_le deadline clock
+is_past clock None = false
+
+-- whether this link is named
+abbrev pub is_named : ℕ → Option ℕ → Bool
+is_named lid (Some named) = named == lid
+is_named lid None = false

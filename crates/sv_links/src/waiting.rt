@@ -1,8 +1,8 @@
 //! Calls that wait (VXI-11 revision 1.0, section B.4.4).
 
-ghost use Rattle.std.specs.Prelude.{◌≡◌, ◌≤◌, ◌<◌, List, [], ◌∷◌, None, IfOk};
-ghost use Rattle.sv_links.specs.Waiting.{WaitAct, Entered, Again, Left, waits as waits_for, IsAble, IsExpired, Names, IsOldest};
-ghost use Rattle.sv_links.specs.Queue.{IsQueue, IsFree, anew};
+ghost use Rattle.std.specs.Prelude.{◌≡◌, ◌≤◌, ◌<◌, List, [], ◌∷◌, Some, None, IfOk};
+ghost use Rattle.sv_links.specs.Waiting.{WaitAct, Entered, Again, Left, waits as waits_for, is_locked_out as locked_out, is_there, IsAble, IsExpired, Names, IsOldest};
+ghost use Rattle.sv_links.specs.Queue.{IsQueue, IsFree, anew, is_past, is_named};
 
 use std::alloc::{AllocError, Allocator, Global};
 use std::marker::Model;
@@ -36,7 +36,52 @@ pub struct Entry {
     pub deadline: Option<u64>,
 }
 
+/// Whether another link holds the lock; for a call that names none, whether any does.
+fn is_locked_out(holder: Option<u32>, named: Option<u32>) -> bool
+    ensures { result ≡ locked_out holder named }
+{
+    match holder {
+        Some(holder) => match named {
+            Some(lid) => lid != holder,
+            None => true,
+        },
+        None => false,
+    }
+}
+
 impl Entry {
+    /// Whether what the call waits for is there.
+    fn is_able(&self, holder: Option<u32>, can_write: bool, can_read: bool) -> bool
+        ensures { result ≡ is_there holder can_write can_read self.now.lid (Some self.now.wait) }
+    {
+        match self.wait {
+            Wait::Lock => !is_locked_out(holder, self.lid),
+            Wait::Input => can_write,
+            Wait::Response => can_read,
+            Wait::Dial => false,
+        }
+    }
+
+    /// Whether its deadline has come.
+    fn has_expired(&self, clock: u64) -> bool
+        ensures { result ≡ is_past clock self.now.deadline }
+    {
+        match self.deadline {
+            Some(deadline) => deadline <= clock,
+            None => false,
+        }
+    }
+
+    /// Whether it names this link.
+    fn names(&self, lid: u32) -> bool
+        ensures { result ≡ is_named lid self.now.lid }
+    {
+        match self.lid {
+            Some(named) => named == lid,
+            None => false,
+        }
+    }
+
     /// Where this is the call of the connection, it waits anew.
     fn renew(&mut self, conn: u8, wait: Wait, deadline: Option<u64>)
         ensures { self.new ≡ anew conn wait deadline self.old }
@@ -118,5 +163,35 @@ impl<A: Allocator> Waiting<A> {
         ensures { (acts : List WaitAct) → IsQueue self.old acts → IsQueue self.new (Left conn ∷ acts) }
     {
         self.entries.retain(|entry| entry.conn != conn);
+    }
+
+    /// The connection of the oldest call that can go on, with this holder of the lock, and where a
+    /// write, or a read, would be taken; none where none can.
+    pub fn oldest_able(&self, holder: Option<u32>, can_write: bool, can_read: bool) -> Option<u8>
+        ensures { (acts : List WaitAct) → IsQueue self.now acts
+            → IsOldest acts (IsAble holder can_write can_read acts) result }
+    {
+        let entry = self
+            .entries
+            .iter()
+            .find(|entry| entry.is_able(holder, can_write, can_read))?;
+        Some(entry.conn)
+    }
+
+    /// The connection of the oldest call whose deadline has come at this clock; none where none's has.
+    pub fn expired(&self, clock: u64) -> Option<u8>
+        ensures { (acts : List WaitAct) → IsQueue self.now acts
+            → IsOldest acts (IsExpired clock acts) result }
+    {
+        let entry = self.entries.iter().find(|entry| entry.has_expired(clock))?;
+        Some(entry.conn)
+    }
+
+    /// The connection of the oldest call that names this link; none where none does.
+    pub fn naming(&self, lid: u32) -> Option<u8>
+        ensures { (acts : List WaitAct) → IsQueue self.now acts → IsOldest acts (Names lid acts) result }
+    {
+        let entry = self.entries.iter().find(|entry| entry.names(lid))?;
+        Some(entry.conn)
     }
 }
