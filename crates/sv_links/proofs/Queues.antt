@@ -8,7 +8,7 @@ use Rattle.std.proofs.lemmas.List.{take_all, drop_all, append-nil}
 use Rattle.sv_errors.specs.Since.{newest}
 use Rattle.sv_links.specs.declared.waiting.Entry.{Entry}
 use Rattle.sv_links.specs.declared.waiting.Wait.{Wait}
-use Rattle.sv_links.specs.Waiting.{WaitAct, Entered, Again, Left, waits, deadline, link, arrival, enters, IsOldest, IsAble, IsExpired, Names, is_there}
+use Rattle.sv_links.specs.Waiting.{WaitAct, Entered, Again, Left, waits, link, arrival, enters, IsOldest, IsAble, IsExpired, Names, is_there}
 use Rattle.sv_links.specs.Queue.{IsQueue, IsFree, IsOnce, IsBelow, IsEntry, IsOrdered, entry_of, anew, is_past, is_named}
 
 -- ---- what holds of each
@@ -113,10 +113,10 @@ ordered-entered : (entry : Entry) (acts : List WaitAct) (xs : List Entry) → Is
 ordered-entered entry acts [] free h = (tt, tt)
 ordered-entered entry acts (x ∷ xs) free h = (
   all_push (λ y. arrival x.conn (acts_with entry acts) < arrival y.conn (acts_with entry acts)) xs entry
-    (both (λ y. y.conn ≢ entry.conn) (λ y. arrival x.conn acts < arrival y.conn acts)
+      (both (λ y. y.conn ≢ entry.conn) (λ y. arrival x.conn acts < arrival y.conn acts)
       (λ y. arrival x.conn (acts_with entry acts) < arrival y.conn (acts_with entry acts))
       (λ y apart lt. rw (arrival-entered entry acts x free.0, arrival-entered entry acts y apart) lt) xs free.1 h.0)
-    (newer entry acts x free.0),
+      (newer entry acts x free.0),
   ordered-entered entry acts xs free.1 h.1,
 )
 
@@ -138,8 +138,8 @@ pub IsQueue-entered : (entry : Entry) (acts : List WaitAct) (xs : List Entry) �
     → IsQueue (xs ++ entry ∷ []) (acts_with entry acts)
 IsQueue-entered entry acts xs free is = record {
   each = all_push (IsEntry (acts_with entry acts)) xs entry
-    (both (λ x. x.conn ≢ entry.conn) (IsEntry acts) (IsEntry (acts_with entry acts)) (IsEntry-entered entry acts) xs free is.each)
-    (IsEntry-new entry acts);
+      (both (λ x. x.conn ≢ entry.conn) (IsEntry acts) (IsEntry (acts_with entry acts)) (IsEntry-entered entry acts) xs free is.each)
+      (IsEntry-new entry acts);
   ordered = ordered-entered entry acts xs free is.ordered;
   all = λ c. all-entered entry c acts xs free (is.all c);
 }
@@ -176,8 +176,8 @@ each-anew : (conn : ℕ) (wait : Wait) (last : Option ℕ) (acts : List WaitAct)
 each-anew conn wait last acts [] h = tt
 each-anew conn wait last acts (x ∷ xs) h = (
   cond_both (eqb x.conn conn) (record x { wait = wait; deadline = last }) x (IsEntry (Again conn wait last ∷ acts))
-    (λ e. let same : eqb conn x.conn ≡ true = eq-eqb conn x.conn (sym (eqb-true x.conn conn e)) in (rw same refl, rw same refl, h.0.2))
-    (λ e. let apart : eqb conn x.conn ≡ false = turned x.conn conn e in (rw apart h.0.0, rw apart h.0.1, h.0.2)),
+      (λ e. let same : eqb conn x.conn ≡ true = eq-eqb conn x.conn (sym (eqb-true x.conn conn e)) in (rw same refl, rw same refl, h.0.2))
+      (λ e. let apart : eqb conn x.conn ≡ false = turned x.conn conn e in (rw apart h.0.0, rw apart h.0.1, h.0.2)),
   each-anew conn wait last acts xs h.1,
 )
 
@@ -186,7 +186,7 @@ ordered-anew : (conn : ℕ) (wait : Wait) (last : Option ℕ) (acts : List WaitA
 ordered-anew conn wait last acts [] h = tt
 ordered-anew conn wait last acts (x ∷ xs) h = (
   subst (λ c. AllByRecursion (λ y. arrival c acts < arrival y.conn acts) (map (anew conn wait last) xs)) (sym (conn-anew conn wait last x))
-    (all_anew (λ c. arrival x.conn acts < arrival c acts) conn wait last xs h.0),
+      (all_anew (λ c. arrival x.conn acts < arrival c acts) conn wait last xs h.0),
   ordered-anew conn wait last acts xs h.1,
 )
 
@@ -291,10 +291,13 @@ first_oldest : (acts : List WaitAct) (IsSuch : ℕ → Type 0) (test : Entry →
     → IsOldest acts IsSuch (option_map (λ x. x.conn) (find test xs))
 first_oldest acts IsSuch test sound complete [] each ordered among = λ c such. among c such
 first_oldest acts IsSuch test sound complete (x ∷ xs) each ordered among = elim (cases_Bool (test x)) [
-  | inl e ↦ rw e (sound x each.0 e, λ d such. elim (among d such) [
-    | inl same ↦ rw same (omega arith)
-    | inr k ↦ later acts (arrival x.conn acts) d xs ordered.0 k
-  ])
+  | inl e ↦ rw e (
+    sound x each.0 e,
+    λ d such. elim (among d such) [
+      | inl same ↦ rw same (omega arith)
+      | inr k ↦ later acts (arrival x.conn acts) d xs ordered.0 k
+    ],
+  )
   | inr e ↦ rw e (first_oldest acts IsSuch test sound complete xs each.1 ordered.1 (λ c such. elim (among c such) [
     | inl same ↦ absurd (true≢false (sym (complete x each.0 (rw same such)) ∙ e))
     | inr k ↦ k
@@ -314,7 +317,7 @@ there holder can_write can_read acts x each =
 
 pub oldest_able : (holder : Option ℕ) (can_write can_read : Bool) (acts : List WaitAct) (xs : List Entry) → IsQueue xs acts
     → IsOldest acts (IsAble holder can_write can_read acts)
-      (option_map (λ x. x.conn) (find (λ x. is_there holder can_write can_read x.lid (Some x.wait)) xs))
+    (option_map (λ x. x.conn) (find (λ x. is_there holder can_write can_read x.lid (Some x.wait)) xs))
 oldest_able holder can_write can_read acts xs is =
     IsOldest-find acts (IsAble holder can_write can_read acts) (λ x. is_there holder can_write can_read x.lid (Some x.wait)) xs
     (λ x each e. there holder can_write can_read acts x each ∙ e) (λ x each such. sym (there holder can_write can_read acts x each) ∙ such)

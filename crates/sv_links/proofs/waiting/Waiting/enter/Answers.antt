@@ -11,9 +11,11 @@ push_reserved-requires g c =
 pub invariant_of-self : goal.invariant_of-self
 invariant_of-self g c =
     let free = rw (← c.self.view_is) at c.requires.free in
-    let items = c.self.inside.entries.items in
-    (rw c.push_reserved.ensures.items (once-push c.args.entry items free c.self.invariant.0),
-    rw c.push_reserved.ensures.items (below-push c.args.entry 16 items c.requires.within c.self.invariant.1), search rules)
+    let items = c.self.inside.entries.items in (
+      rw c.push_reserved.ensures.items (once-push c.args.entry items free c.self.invariant.0),
+      rw c.push_reserved.ensures.items (below-push c.args.entry 16 items c.requires.within c.self.invariant.1),
+      search rules,
+    )
 
 pub returns : goal.returns
 returns g c acts is =

@@ -1,5 +1,5 @@
 use Rattle.std.proofs.Common.{rules, tests, eqb, ap, ◌∙◌, sym}
-use Rattle.std.specs.Prelude.{None, Some, option_map}
+use Rattle.std.specs.Prelude.{None, option_map}
 use Rattle.std.proofs.lemmas.Iterator.{YieldsList-from_slice}
 use Rattle.std.proofs.lemmas.Iterator.Search.{find_from_yields_List}
 use Rattle.sv_links.specs.declared.waiting.Entry.{Entry}
