@@ -1,6 +1,6 @@
 //! Calls that wait (VXI-11 revision 1.0, section B.4.4).
 
-ghost use Rattle.std.specs.Prelude.{◌≡◌, ◌≤◌, ◌<◌, List, [], ◌∷◌, Some, None, IfOk};
+ghost use Rattle.std.specs.Prelude.{◌≡◌, ◌<◌, List, [], ◌∷◌, Some, None, IfOk};
 ghost use Rattle.sv_links.specs.Waiting.{WaitAct, Entered, Again, Left, waits as waits_for, is_locked_out as locked_out, is_there, IsAble, IsExpired, Names, IsOldest};
 ghost use Rattle.sv_links.specs.Queue.{IsQueue, IsFree, anew, is_past, is_named};
 
