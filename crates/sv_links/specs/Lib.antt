@@ -1,4 +1,2 @@
 pub mod Links
 pub mod Table
-pub mod Waiting
-pub mod Queue
