@@ -20,7 +20,7 @@ check:
 scanvolt:
 	@cd crates/scanvolt && $(RT) run -- replay < ../../examples/identity.replay > /dev/null
 
-# Replays a session with the program, built with run-time checks and no proof.
+# Replays the example of a scan with the program, built with run-time checks and no proof.
 run:
 	@cd crates/scanvolt && $(RT) try -- replay < ../../examples/scan.replay
 
