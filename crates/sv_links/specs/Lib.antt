@@ -1,2 +1,4 @@
 pub mod Links
 pub mod Table
+pub mod Waiting
+pub mod Queue

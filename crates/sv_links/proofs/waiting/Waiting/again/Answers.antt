@@ -1,0 +1,39 @@
+use Rattle.std.proofs.Common.{rules, arith, ◌∙◌}
+use Rattle.std.proofs.lemmas.List.Edits.{map_over_more}
+use Rattle.sv_links.specs.Queue.{anew}
+use Rattle.sv_links.proofs.Queues.{IsQueue-anew, once-anew, below-anew, anew_none, written}
+use Rattle.sv_links.proofs.waiting.Waiting.again.Goals as goal
+
+pub loop-entry-preserved : goal.loop-entry-preserved
+loop-entry-preserved g c =
+    rw c.renew.ensures (map_over_more (anew c.args.conn c.args.wait c.args.deadline) _ _ c.loop-entry.entry-index _ (search (rules, arith)) c.loop-entry.invariant (search (rules)))
+
+pub invariant_of-self : goal.invariant_of-self
+invariant_of-self g c =
+    let vec = c.self.inside.entries in
+    let lent = c.deref_mut-entry-items.ensures in
+    let f = anew c.args.conn c.args.wait c.args.deadline in
+    let items = written f vec.len c.loop-entry.entry-index vec.items c.deref_mut-entry-items.result.now c.loop-entry.entry-items
+    lent.value lent.len c.loop-entry.auto.entry-items c.loop-entry-test.false c.loop-entry.invariant in (
+      rw items (once-anew c.args.conn c.args.wait c.args.deadline vec.items c.self.invariant.0),
+      rw items (below-anew c.args.conn c.args.wait c.args.deadline 16 vec.items c.self.invariant.1),
+      c.self.invariant.2,
+    )
+
+pub returns-clause-anew : goal.returns-clause-anew
+returns-clause-anew g c acts is does =
+    let vec = c.self.inside.entries in
+    let lent = c.deref_mut-entry-items.ensures in
+    let f = anew c.args.conn c.args.wait c.args.deadline in
+    let items = written f vec.len c.loop-entry.entry-index vec.items c.deref_mut-entry-items.result.now c.loop-entry.entry-items
+    lent.value lent.len c.loop-entry.auto.entry-items c.loop-entry-test.false c.loop-entry.invariant in
+    rw items (IsQueue-anew c.args.conn c.args.wait c.args.deadline acts vec.items does (rw (← c.self.view_is) at is))
+
+pub returns-clause-none : goal.returns-clause-none
+returns-clause-none g c free =
+    let vec = c.self.inside.entries in
+    let lent = c.deref_mut-entry-items.ensures in
+    let f = anew c.args.conn c.args.wait c.args.deadline in
+    let items = written f vec.len c.loop-entry.entry-index vec.items c.deref_mut-entry-items.result.now c.loop-entry.entry-items
+    lent.value lent.len c.loop-entry.auto.entry-items c.loop-entry-test.false c.loop-entry.invariant in
+    items ∙ anew_none c.args.conn c.args.wait c.args.deadline vec.items (rw (← c.self.view_is) at free) ∙ c.self.view_is

@@ -1,0 +1,18 @@
+use Rattle.std.proofs.Common.{rules, eqb, Bool}
+use Rattle.std.specs.Prelude.{not}
+use Rattle.std.proofs.lemmas.Fn.{filter_same}
+use Rattle.sv_links.specs.declared.waiting.Entry.{Entry}
+use Rattle.sv_links.proofs.Queues.{IsQueue-left, once-filter, below-filter}
+use Rattle.sv_links.proofs.waiting.Waiting.leave.Goals as goal
+
+pub invariant_of-self : goal.invariant_of-self
+invariant_of-self g c =
+    let p : Entry → Bool = λ entry. not (eqb entry.conn c.args.conn) in
+    let kept = filter_same _ p _ (λ x b f' k. search rules) _ _ c.retain.ensures.filtered in
+    let items = c.self.inside.entries.items in
+    (rw kept (once-filter p items c.self.invariant.0), rw kept (below-filter p 16 items c.self.invariant.1), search rules)
+
+pub returns : goal.returns
+returns g c acts is =
+    rw (filter_same _ (λ entry. not (eqb entry.conn c.args.conn)) _ (λ x b f' k. search rules) _ _ c.retain.ensures.filtered)
+    (IsQueue-left c.args.conn acts _ (rw c.self.view_is is))

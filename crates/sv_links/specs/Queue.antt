@@ -1,0 +1,54 @@
+-- What is kept of the calls that wait.
+use Rattle.std.specs.Prelude.{◌≡◌, ◌≢◌, ℕ, ◌==◌, ◌<◌, nat_le, Bool, false, List, [], ◌∷◌, Option, Some, None, option_map, find, if◌then◌else◌, ⊤}
+use Rattle.std.specs.List.{AllByRecursion}
+use Rattle.sv_links.specs.declared.waiting.Entry.{Entry}
+use Rattle.sv_links.specs.declared.waiting.Wait.{Wait}
+use Rattle.sv_links.specs.Waiting.{WaitAct, waits, deadline, link, arrival}
+
+-- No call of this connection is kept.
+abbrev pub IsFree : ℕ → List Entry → Type 0
+IsFree conn entries = AllByRecursion (λ entry. entry.conn ≢ conn) entries
+
+-- No connection stands twice.
+abbrev pub IsOnce : List Entry → Type 0
+IsOnce [] = ⊤
+IsOnce (entry ∷ entries) = IsFree entry.conn entries × IsOnce entries
+
+-- Each connection is below this number.
+abbrev pub IsBelow : ℕ → List Entry → Type 0
+IsBelow most entries = AllByRecursion (λ entry. entry.conn < most) entries
+
+-- the entry of a connection
+abbrev pub entry_of : ℕ → List Entry → Option Entry
+entry_of conn entries = find (λ entry. entry.conn == conn) entries
+
+-- It is what the acts say of its connection.
+abbrev pub IsEntry : List WaitAct → Entry → Type 0
+IsEntry acts entry = (waits entry.conn acts ≡ Some entry.wait) × (deadline entry.conn acts ≡ entry.deadline)
+    × (link entry.conn acts ≡ entry.lid)
+
+-- They stand in the order in which they came.
+abbrev pub IsOrdered : List WaitAct → List Entry → Type 0
+IsOrdered acts [] = ⊤
+IsOrdered acts (entry ∷ entries) =
+    AllByRecursion (λ other. arrival entry.conn acts < arrival other.conn acts) entries × IsOrdered acts entries
+
+-- These are kept, and no other call waits.
+pub record IsQueue (entries : List Entry) (acts : List WaitAct) : Type 0 where
+  pub each : AllByRecursion (IsEntry acts) entries
+  pub ordered : IsOrdered acts entries
+  pub all : (conn : ℕ) → waits conn acts ≡ option_map (λ entry. entry.wait) (entry_of conn entries)
+
+-- an entry, where the call of this connection waits anew
+abbrev pub anew : ℕ → Wait → Option ℕ → Entry → Entry
+anew conn wait deadline entry = if entry.conn == conn then record entry { wait = wait; deadline = deadline } else entry
+
+-- whether a deadline has come
+abbrev pub is_past : ℕ → Option ℕ → Bool
+is_past clock (Some deadline) = nat_le deadline clock
+is_past clock None = false
+
+-- whether this link is named
+abbrev pub is_named : ℕ → Option ℕ → Bool
+is_named lid (Some named) = named == lid
+is_named lid None = false

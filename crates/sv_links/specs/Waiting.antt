@@ -1,0 +1,74 @@
+-- Calls that wait (VXI-11 revision 1.0, section B.4.4: locks and timeouts): which, for what, until when, and in which order they came. Acts
+-- are read from the newest.
+use Rattle.std.specs.Prelude.{◌≡◌, ℕ, ◌==◌, ◌≤◌, not, Bool, true, false, List, [], ◌∷◌, length, Option, Some, None, if◌then◌else◌}
+use Rattle.sv_errors.specs.Since.{newest}
+use Rattle.sv_links.specs.declared.waiting.Wait.{Wait}
+use Rattle.sv_links.specs.declared.waiting.Wait.TheVariants.{Lock, Input, Response, Dial}
+
+-- what happens to the call of a connection: it begins to wait, with the link that it names, if any; it waits anew, for something else; it
+-- waits no more. A wait has a deadline, or none
+pub data WaitAct : Type 0 where
+  Entered : (conn : ℕ) (link : Option ℕ) (wait : Wait) (deadline : Option ℕ) → WaitAct
+  Again : (conn : ℕ) (wait : Wait) (deadline : Option ℕ) → WaitAct
+  Left : (conn : ℕ) → WaitAct
+
+-- for what the call of a connection waits, if it waits, and until when
+abbrev pub waits : ℕ → List WaitAct → Option Wait
+waits c [] = None
+waits c (Entered conn link wait deadline ∷ acts) = if conn == c then Some wait else waits c acts
+waits c (Again conn wait deadline ∷ acts) = if conn == c then Some wait else waits c acts
+waits c (Left conn ∷ acts) = if conn == c then None else waits c acts
+
+abbrev pub deadline : ℕ → List WaitAct → Option ℕ
+deadline c [] = None
+deadline c (Entered conn link wait last ∷ acts) = if conn == c then last else deadline c acts
+deadline c (Again conn wait last ∷ acts) = if conn == c then last else deadline c acts
+deadline c (Left conn ∷ acts) = deadline c acts
+
+-- the newest act is the beginning of its wait
+abbrev pub enters : ℕ → List WaitAct → Bool
+enters c (Entered conn link wait deadline ∷ acts) = conn == c
+enters c _ = false
+
+-- when it came: how many acts there were
+abbrev pub arrival : ℕ → List WaitAct → ℕ
+arrival c acts = length (newest (enters c) acts)
+
+-- the link that it names
+abbrev link_of : List WaitAct → Option ℕ
+link_of (Entered conn link wait deadline ∷ acts) = link
+link_of _ = None
+
+abbrev pub link : ℕ → List WaitAct → Option ℕ
+link c acts = link_of (newest (enters c) acts)
+
+-- whether another link holds the lock; for a call that names none, whether any does
+abbrev pub is_locked_out : Option ℕ → Option ℕ → Bool
+is_locked_out (Some holder) (Some lid) = not (lid == holder)
+is_locked_out (Some holder) None = true
+is_locked_out None named = false
+
+-- whether what a call waits for is there, with this holder of the lock, and where a write, or a read, would be taken
+abbrev pub is_there : Option ℕ → Bool → Bool → Option ℕ → Option Wait → Bool
+is_there holder can_write can_read named (Some Lock) = not (is_locked_out holder named)
+is_there holder can_write can_read named (Some Input) = can_write
+is_there holder can_write can_read named (Some Response) = can_read
+is_there holder can_write can_read named (Some Dial) = false
+is_there holder can_write can_read named None = false
+
+-- The call of a connection can go on.
+abbrev pub IsAble : Option ℕ → Bool → Bool → List WaitAct → ℕ → Type 0
+IsAble holder can_write can_read acts c = is_there holder can_write can_read (link c acts) (waits c acts) ≡ true
+
+-- The call of a connection waits, and its deadline has come.
+abbrev pub IsExpired : ℕ → List WaitAct → ℕ → Type 0
+IsExpired clock acts c = (wait : Wait) × (last : ℕ) × (waits c acts ≡ Some wait) × (deadline c acts ≡ Some last) × (last ≤ clock)
+
+-- The call of a connection waits, and names this link.
+abbrev pub Names : ℕ → List WaitAct → ℕ → Type 0
+Names lid acts c = (wait : Wait) × (waits c acts ≡ Some wait) × (link c acts ≡ Some lid)
+
+-- Of the connections that are such, this is the one whose call came first; or there is none.
+abbrev pub IsOldest : List WaitAct → (ℕ → Type 0) → Option ℕ → Type 0
+IsOldest acts IsSuch None = (c : ℕ) → IsSuch c → ⊥
+IsOldest acts IsSuch (Some c) = IsSuch c × ((d : ℕ) → IsSuch d → arrival c acts ≤ arrival d acts)
