@@ -1,9 +1,10 @@
 -- What is kept of the calls that wait.
-use Rattle.std.specs.Prelude.{◌≡◌, ◌≢◌, ℕ, ◌==◌, ◌<◌, nat_le, Bool, false, List, [], ◌∷◌, Option, Some, None, option_map, find, if◌then◌else◌, ⊤}
+use Rattle.std.specs.Prelude.{◌≡◌, ◌≢◌, ℕ, ◌==◌, ◌<◌, nat_le, Bool, false, List, [], ◌∷◌, Option, Some, None, is_none, option_map, find, filter, length, not, ◌&&◌, ◌+◌, if◌then◌else◌, ⊤}
 use Rattle.std.specs.List.{AllByRecursion}
 use Rattle.sv_links.specs.declared.waiting.Entry.{Entry}
 use Rattle.sv_links.specs.declared.waiting.Wait.{Wait}
-use Rattle.sv_links.specs.Waiting.{WaitAct, waits, deadline, link, arrival}
+use Rattle.sv_links.specs.declared.waiting.Wait.TheVariants.{Lock, Input, Response, Dial}
+use Rattle.sv_links.specs.Waiting.{WaitAct, waits, deadline, link, arrival, is_lock}
 
 -- No call of this connection is kept.
 abbrev pub IsFree : ℕ → List Entry → Type 0
@@ -48,7 +49,25 @@ abbrev pub is_past : ℕ → Option ℕ → Bool
 is_past clock (Some deadline) = nat_le deadline clock
 is_past clock None = false
 
--- whether this link is named
-abbrev pub is_named : ℕ → Option ℕ → Bool
-is_named lid (Some named) = named == lid
-is_named lid None = false
+-- whether it is a create_link that waits
+abbrev pub creates : Entry → Bool
+creates entry = is_lock (Some entry.wait) && is_none entry.lid
+
+-- and how many of these are
+abbrev pub creations : List Entry → ℕ
+creations entries = length (filter creates entries)
+
+-- the entries without that of a connection
+abbrev pub without : ℕ → List Entry → List Entry
+without conn entries = filter (λ entry. not (entry.conn == conn)) entries
+
+-- how often a call may still begin to wait or end: one that waits for the lock may wait once more
+abbrev pub rank_of : Wait → ℕ
+rank_of Lock = 2
+rank_of Input = 1
+rank_of Response = 1
+rank_of Dial = 1
+
+abbrev pub rank : List Entry → ℕ
+rank [] = 0
+rank (entry ∷ entries) = rank_of entry.wait + rank entries

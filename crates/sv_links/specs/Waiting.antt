@@ -1,8 +1,9 @@
 -- Calls that wait (VXI-11 revision 1.0, section B.4.4: locks and timeouts): which, for what, until when, and in which order they came. Acts
 -- are read from the newest.
-use Rattle.std.specs.Prelude.{◌≡◌, ℕ, ◌==◌, ◌≤◌, not, Bool, true, false, List, [], ◌∷◌, length, Option, Some, None, if◌then◌else◌}
+use Rattle.std.specs.Prelude.{◌≡◌, ℕ, ◌==◌, ◌≤◌, not, ◌&&◌, Bool, true, false, List, [], ◌∷◌, length, filter, is_none, Option, Some, None, if◌then◌else◌}
 use Rattle.sv_errors.specs.Since.{newest}
 use Rattle.sv_links.specs.declared.waiting.Wait.{Wait}
+use Rattle.sv_links.specs.Links.{is_locked_out}
 use Rattle.sv_links.specs.declared.waiting.Wait.TheVariants.{Lock, Input, Response, Dial}
 
 -- what happens to the call of a connection: it begins to wait, with the link that it names, if any; it waits anew, for something else; it
@@ -42,11 +43,14 @@ link_of _ = None
 abbrev pub link : ℕ → List WaitAct → Option ℕ
 link c acts = link_of (newest (enters c) acts)
 
--- whether another link holds the lock; for a call that names none, whether any does
-abbrev pub is_locked_out : Option ℕ → Option ℕ → Bool
-is_locked_out (Some holder) (Some lid) = not (lid == holder)
-is_locked_out (Some holder) None = true
-is_locked_out None named = false
+-- whether it is the lock that is waited for
+abbrev pub is_lock : Option Wait → Bool
+is_lock (Some Lock) = true
+is_lock _ = false
+
+-- the numbers of connections
+abbrev pub connections : List ℕ
+connections = 0 ∷ 1 ∷ 2 ∷ 3 ∷ 4 ∷ 5 ∷ 6 ∷ 7 ∷ 8 ∷ 9 ∷ 10 ∷ 11 ∷ 12 ∷ 13 ∷ 14 ∷ 15 ∷ []
 
 -- whether what a call waits for is there, with this holder of the lock, and where a write, or a read, would be taken
 abbrev pub is_there : Option ℕ → Bool → Bool → Option ℕ → Option Wait → Bool
@@ -64,9 +68,13 @@ IsAble holder can_write can_read acts c = is_there holder can_write can_read (li
 abbrev pub IsExpired : ℕ → List WaitAct → ℕ → Type 0
 IsExpired clock acts c = (wait : Wait) × (last : ℕ) × (waits c acts ≡ Some wait) × (deadline c acts ≡ Some last) × (last ≤ clock)
 
--- The call of a connection waits, and names this link.
-abbrev pub Names : ℕ → List WaitAct → ℕ → Type 0
-Names lid acts c = (wait : Wait) × (waits c acts ≡ Some wait) × (link c acts ≡ Some lid)
+-- whether a create_link of a connection waits: for the lock, with no link to name
+abbrev pub is_creating : List WaitAct → ℕ → Bool
+is_creating acts c = is_lock (waits c acts) && is_none (link c acts)
+
+-- how many do, of sixteen connections
+abbrev pub creating : List WaitAct → ℕ
+creating acts = length (filter (is_creating acts) connections)
 
 -- Of the connections that are such, this is the one whose call came first; or there is none.
 abbrev pub IsOldest : List WaitAct → (ℕ → Type 0) → Option ℕ → Type 0

@@ -1,16 +1,18 @@
-//! Links: which connection made one, while it lives.
+//! Links: which connection made one, while it lives, and which holds the lock.
 
-ghost use Rattle.std.specs.Prelude.{◌≡◌, ◌+◌, ◌<◌, ◌^◌, ◌&&◌, ℕ, List, [], ◌∷◌, ◌++◌, length, nat_lt, IfOk, OnOk, OnErr, true};
-ghost use Rattle.sv_links.specs.Links.{LinkAct, Made, Destroyed, closing, made, owner, may_make};
-ghost use Rattle.sv_links.specs.Table.{IsTable};
+ghost use Rattle.std.specs.Prelude.{◌≡◌, ◌+◌, ◌<◌, ◌≤◌, ◌^◌, ◌↔◌, not, ℕ, List, [], ◌∷◌, ◌++◌, length, IfOk, OnOk, OnErr, IsOk, Some, Err, true, false};
+ghost use Rattle.sv_links.specs.Links.{LinkAct, Made, Destroyed, Locked, Unlocked, closing, made, live, lids_left, owner, may_make, lowest, holder, is_locked_out, is_this};
+ghost use Rattle.sv_links.specs.Table.{IsTable, count_of};
 
+use slab::Slab;
 use std::alloc::{AllocError, Allocator, Global};
 use std::marker::Model;
+use thiserror::Error;
 
 /// How many links may live.
 const MOST: usize = 32;
 /// The last number of a link.
-const LAST: i32 = i32::MAX;
+const LAST: u32 = i32::MAX as u32;
 
 /// A live link.
 #[derive(Clone, Copy, Debug, PartialEq, Eq)]
@@ -21,11 +23,25 @@ pub struct Link {
     pub conn: u8,
 }
 
-/// The live links, at most 32, and how many were ever made.
+/// Why no link was made.
+#[derive(Clone, Copy, Debug, PartialEq, Eq, Error)]
+pub enum CreateRefused {
+    /// There are 32, or no number is left (VXI-11 error 9).
+    #[error("no further link may be made")]
+    OutOfResources,
+    /// No memory was left.
+    #[error("no memory was left")]
+    NoMemory,
+}
+
+/// The live links, at most 32, how many were ever made, and which holds the lock.
 #[derive(Drop)]
 pub struct Links<A: Allocator = Global> {
     made: u32,
-    links: Vec<Link, A>,
+    links: Slab<Link, A>,
+    holder: Option<u32>,
+    /// For how many links memory was reserved.
+    spare: u8,
 }
 
 impl<A: Allocator> Model for Links<A> {
@@ -33,45 +49,89 @@ impl<A: Allocator> Model for Links<A> {
 
     ghost Value = { Table };
 
-    ghost use Rattle.std.specs.Prelude.{◌≤◌, length};
+    ghost use Rattle.std.specs.Prelude.{◌≤◌};
+    ghost use Rattle.slab.specs.Slab.{slab_len, HasRoomFor};
 
-    ghost view = { λ a. record { made = a.made; links = a.links.items } };
+    ghost view = { λ a. record { made = a.made; slots = a.links.slots; holder = a.holder; spare = a.spare } };
 
-    ghost invariant = { λ a. (a.made ≤ 2147483647) × (length a.links.items ≤ 32) };
+    ghost invariant = { λ a. (a.made ≤ 2147483647) × (slab_len a.links ≤ 32) × HasRoomFor a.links a.spare };
 }
 
 impl<A: Allocator> Links<A> {
-    /// No link was made.
+    /// No link was made, and none is locked.
     pub fn new(alloc: A) -> Links<A>
         ensures { IsTable result [] }
     {
         Links {
             made: 0,
-            links: Vec::new(alloc),
+            links: Slab::new(alloc),
+            holder: None,
+            spare: 0,
         }
     }
 
-    /// Whether a link more may be made: of 32, and of 2,147,483,647 numbers.
-    pub fn may_make(&self) -> bool
-        ensures value { result ≡ (nat_lt
-            (length self.now.links) 32 && nat_lt self.now.made 2147483647) }
-        ensures answer { (acts : List LinkAct) → IsTable self.now acts → result ≡ may_make acts }
+    /// How many links live, at most 32.
+    pub fn count(&self) -> u8
+        ensures value { result ≡ count_of self.now }
+        ensures bounded { result ≤ 32 }
+        ensures answer { (acts : List LinkAct) → IsTable self.now acts
+            → result ≡ length (live acts) }
     {
-        self.links.len() < MOST && self.made < LAST as u32
+        self.links.len() as u8
     }
 
-    /// Makes a link, which `may_make` has to allow, and gives its number: one above the last, the
-    /// first being 1. Without memory nothing changes.
-    pub fn create(&mut self, conn: u8) -> Result<u32, AllocError>
-        requires { (nat_lt (length self.old.links) 32 && nat_lt self.old.made 2147483647) ≡ true }
-        ensures number { IfOk result (λ lid. (lid ≡ self.old.made + 1) × (lid < 2 ^ 31)) }
-        ensures ok { (acts : List LinkAct) → IsTable self.old acts
-            → OnOk result (IsTable self.new (Made (made acts + 1) conn ∷ acts)) }
+    /// Whether a number is left for a link: 2,147,483,647 is the last.
+    pub fn lids_left(&self) -> bool
+        ensures { (acts : List LinkAct) → IsTable self.now acts → result ≡ lids_left acts }
+    {
+        self.made < LAST
+    }
+
+    /// Takes the memory for so many links, unless it is there. They are made later, and then
+    /// `create` finds it.
+    ///
+    /// # Errors
+    /// Where memory is refused; nothing changes then.
+    pub fn reserve(&mut self, count: u8) -> Result<(), AllocError>
+        ensures room { OnOk result (count ≤ self.new.spare) }
+        ensures rest { OnOk result (self.new ≡ record self.old { spare = self.new.spare }) }
+        ensures grows { self.old.spare ≤ self.new.spare }
+        ensures succeeds { count ≤ self.old.spare → IsOk result }
+        ensures stands { (acts : List LinkAct) → IsTable self.old acts → IsTable self.new acts }
         ensures err { OnErr result (self.new ≡ self.old) }
     {
+        if self.spare < count {
+            self.links.reserve(usize::from(count))?;
+            self.spare = count;
+        }
+        Ok(())
+    }
+
+    /// Makes a link, and gives its number: one above the last, the first being 1. Memory may be
+    /// wanting only where none was reserved.
+    ///
+    /// # Errors
+    /// Where there are 32 links or no number is left; else where memory is refused. Nothing changes
+    /// then.
+    pub fn create(&mut self, conn: u8) -> Result<u32, CreateRefused>
+        ensures number { IfOk result (λ lid. lid < 2 ^ 31) }
+        ensures ok { (acts : List LinkAct) → IsTable self.old acts → IfOk result
+            (λ lid. (lid ≡ made acts + 1) × IsTable self.new (Made lid conn ∷ acts)) }
+        ensures spare { OnOk result (self.old.spare ≤ self.new.spare + 1) }
+        ensures refused { (acts : List LinkAct) → IsTable self.old acts
+            → (result ≡ Err CreateRefused.OutOfResources) ↔ (may_make acts ≡ false) }
+        ensures lacks { result ≡ Err CreateRefused.NoMemory → self.old.spare ≡ 0 }
+        ensures err { OnErr result (self.new ≡ self.old) }
+    {
+        if self.links.len() >= MOST || self.made >= LAST {
+            return Err(CreateRefused::OutOfResources);
+        }
         let lid = self.made + 1;
-        self.links.push(Link { lid, conn })?;
+        let Ok(_key) = self.links.insert(Link { lid, conn }) else {
+            return Err(CreateRefused::NoMemory);
+        };
         self.made = lid;
+        self.spare = self.spare.saturating_sub(1);
         Ok(lid)
     }
 
@@ -79,23 +139,87 @@ impl<A: Allocator> Links<A> {
     pub fn owner(&self, lid: u32) -> Option<u8>
         ensures { (acts : List LinkAct) → IsTable self.now acts → result ≡ owner lid acts }
     {
-        let link = self.links.iter().find(|link| link.lid == lid)?;
+        let (_key, link) = self.links.iter().find(|(_key, link)| link.lid == lid)?;
         Some(link.conn)
     }
 
-    /// Destroys a link; one that doesn't live changes nothing.
-    pub fn destroy(&mut self, lid: u32)
-        ensures { (acts : List LinkAct) → IsTable self.old acts
-            → IsTable self.new (Destroyed lid ∷ acts) }
+    /// The least number of a connection's live links; none where it has none.
+    pub fn lowest(&self, conn: u8) -> Option<u32>
+        ensures { (acts : List LinkAct) → IsTable self.now acts → result ≡ lowest conn acts }
     {
-        self.links.retain(|link| link.lid != lid);
+        self.links
+            .iter()
+            .filter(|(_key, link)| link.conn == conn)
+            .map(|(_key, link)| link.lid)
+            .min()
     }
 
-    /// Destroys the links of a connection. Their numbers don't come again.
-    pub fn close_connection(&mut self, conn: u8)
-        ensures { (acts : List LinkAct) → IsTable self.old acts
-            → IsTable self.new (closing conn acts ++ acts) }
+    /// Destroys a link, which frees the lock where it holds it; one that doesn't live changes
+    /// nothing else.
+    pub fn destroy(&mut self, lid: u32)
+        ensures stands { (acts : List LinkAct) → IsTable self.old acts
+            → IsTable self.new (Destroyed lid ∷ acts) }
+        ensures spare { self.new.spare ≡ self.old.spare }
     {
-        self.links.retain(|link| link.conn != conn);
+        self.links.retain(|_key, link| link.lid != lid);
+        if self.holder == Some(lid) {
+            self.holder = None;
+        }
+    }
+
+    /// Destroys the links of a connection, which frees the lock where one of them holds it. Their
+    /// numbers don't come again.
+    pub fn close_connection(&mut self, conn: u8)
+        ensures stands { (acts : List LinkAct) → IsTable self.old acts
+            → IsTable self.new (closing conn acts ++ acts) }
+        ensures spare { self.new.spare ≡ self.old.spare }
+    {
+        if let Some(lid) = self.holder {
+            if self.owner(lid) == Some(conn) {
+                self.holder = None;
+            }
+        }
+        self.links.retain(|_key, link| link.conn != conn);
+    }
+
+    /// The link that holds the lock, where one does.
+    pub fn holder(&self) -> Option<u32>
+        ensures value { result ≡ self.now.holder }
+        ensures answer { (acts : List LinkAct) → IsTable self.now acts → result ≡ holder acts }
+    {
+        self.holder
+    }
+
+    /// Gives a link the lock, also where it holds it already, unless another link does. Tells
+    /// whether it has it then; else nothing changes.
+    pub fn lock(&mut self, lid: u32) -> bool
+        ensures answer { (acts : List LinkAct) → IsTable self.old acts
+            → result ≡ not (is_locked_out (holder acts) (Some lid)) }
+        ensures stands { result ≡ true → (acts : List LinkAct) → IsTable self.old acts
+            → IsTable self.new (Locked lid ∷ acts) }
+        ensures spare { self.new.spare ≡ self.old.spare }
+        ensures refused { result ≡ false → self.new ≡ self.old }
+    {
+        if let Some(holder) = self.holder {
+            return holder == lid;
+        }
+        self.holder = Some(lid);
+        true
+    }
+
+    /// Frees the lock where this link holds it, and tells whether it did; else nothing changes.
+    pub fn unlock(&mut self, lid: u32) -> bool
+        ensures answer { (acts : List LinkAct) → IsTable self.old acts
+            → result ≡ is_this lid (holder acts) }
+        ensures stands { result ≡ true → (acts : List LinkAct) → IsTable self.old acts
+            → IsTable self.new (Unlocked lid ∷ acts) }
+        ensures spare { self.new.spare ≡ self.old.spare }
+        ensures refused { result ≡ false → self.new ≡ self.old }
+    {
+        if self.holder != Some(lid) {
+            return false;
+        }
+        self.holder = None;
+        true
     }
 }

@@ -1,8 +1,9 @@
 //! Calls that wait (VXI-11 revision 1.0, section B.4.4).
 
-ghost use Rattle.std.specs.Prelude.{◌≡◌, ◌<◌, List, [], ◌∷◌, Some, None, IfOk};
-ghost use Rattle.sv_links.specs.Waiting.{WaitAct, Entered, Again, Left, waits as waits_for, is_locked_out as locked_out, is_there, IsAble, IsExpired, Names, IsOldest};
-ghost use Rattle.sv_links.specs.Queue.{IsQueue, IsFree, anew, is_past, is_named};
+ghost use Rattle.std.specs.Prelude.{◌≡◌, ◌<◌, ◌≤◌, ◌++◌, ℕ, List, [], ◌∷◌, ◌+◌, map, option_map, Some, None, true, IfOk, IfSome, MatchOption};
+ghost use Rattle.sv_links.specs.Links.{is_locked_out as locked_out};
+ghost use Rattle.sv_links.specs.Waiting.{WaitAct, Entered, Again, Left, waits as waits_for, is_there, creating, IsAble, IsExpired, IsOldest};
+ghost use Rattle.sv_links.specs.Queue.{IsQueue, IsEntry, anew, without, creates, creations, rank_of, rank, is_past};
 
 use std::alloc::{AllocError, Allocator, Global};
 use std::marker::Model;
@@ -32,12 +33,13 @@ pub struct Entry {
     pub lid: Option<u32>,
     /// What it waits for.
     pub wait: Wait,
-    /// The clock at which it has waited long enough, in milliseconds; none where it waits without end.
+    /// The clock at which it has waited long enough, in milliseconds; none where it waits without
+    /// end.
     pub deadline: Option<u64>,
 }
 
 /// Whether another link holds the lock; for a call that names none, whether any does.
-fn is_locked_out(holder: Option<u32>, named: Option<u32>) -> bool
+pub fn is_locked_out(holder: Option<u32>, named: Option<u32>) -> bool
     ensures { result ≡ locked_out holder named }
 {
     match holder {
@@ -72,13 +74,13 @@ impl Entry {
         }
     }
 
-    /// Whether it names this link.
-    fn names(&self, lid: u32) -> bool
-        ensures { result ≡ is_named lid self.now.lid }
+    /// Whether it is a create_link, which waits for the lock and has no link to name.
+    fn creates(&self) -> bool
+        ensures { result ≡ creates self.now }
     {
-        match self.lid {
-            Some(named) => named == lid,
-            None => false,
+        match self.wait {
+            Wait::Lock => self.lid.is_none(),
+            Wait::Input | Wait::Response | Wait::Dial => false,
         }
     }
 
@@ -93,7 +95,8 @@ impl Entry {
     }
 }
 
-/// The calls that wait, at most one of each of sixteen connections, in the order in which they came.
+/// The calls that wait, at most one of each of sixteen connections, in the order in which they
+/// came.
 #[derive(Drop)]
 pub struct Waiting<A: Allocator = Global> {
     entries: Vec<Entry, A>,
@@ -127,31 +130,53 @@ impl<A: Allocator> Waiting<A> {
         })
     }
 
-    /// The call of a connection, 0 to 15, begins to wait, behind all that wait. None of it may wait.
+    /// The call of a connection, 0 to 15, begins to wait, behind all that wait.
     pub fn enter(&mut self, entry: Entry)
-        requires within { entry.conn < 16 }
-        requires free { IsFree entry.conn self.old }
-        ensures { (acts : List WaitAct) → IsQueue self.old acts → IsQueue self.new
+        requires { entry.conn < 16 }
+        ensures value { self.new ≡ without entry.conn self.old ++ entry ∷ [] }
+        ensures stands { (acts : List WaitAct) → IsQueue self.old acts → IsQueue self.new
             (Entered entry.conn entry.lid entry.wait entry.deadline ∷ acts) }
     {
+        self.leave(entry.conn);
         self.entries.push_reserved(entry);
+    }
+
+    /// The call of a connection that waits.
+    pub fn of(&self, conn: u8) -> Option<Entry>
+        ensures { (acts : List WaitAct) → IsQueue self.now acts
+            → MatchOption result (waits_for conn acts ≡ None)
+            (λ entry. (entry.conn ≡ conn) × IsEntry acts entry) }
+    {
+        let entry = self.entries.iter().find(|entry| entry.conn == conn)?;
+        Some(*entry)
     }
 
     /// For what the call of a connection waits; none where it doesn't.
     pub fn waits(&self, conn: u8) -> Option<Wait>
-        ensures answer { (acts : List WaitAct) → IsQueue self.now acts → result ≡ waits_for conn acts }
-        ensures free { result ≡ None → IsFree conn self.now }
+        ensures { (acts : List WaitAct) → IsQueue self.now acts → result ≡ waits_for conn acts }
     {
-        let entry = self.entries.iter().find(|entry| entry.conn == conn)?;
+        let entry = self.of(conn)?;
         Some(entry.wait)
+    }
+
+    /// How many create_links wait for the lock.
+    pub fn creating(&self) -> u8
+        ensures value { result ≡ creations self.now }
+        ensures bounded { result ≤ 16 }
+        ensures answer { (acts : List WaitAct) → IsQueue self.now acts → result ≡ creating acts }
+    {
+        self.entries.iter().filter(|entry| entry.creates()).count() as u8
     }
 
     /// The call of a connection waits anew, until another deadline, in its place of the order.
     /// Where it doesn't wait nothing changes.
     pub fn again(&mut self, conn: u8, wait: Wait, deadline: Option<u64>)
-        ensures anew { (acts : List WaitAct) → IsQueue self.old acts
+        ensures value { self.new ≡ map (anew conn wait deadline) self.old }
+        ensures stands { (acts : List WaitAct) → IsQueue self.old acts
             → (waits_for conn acts ≡ None → ⊥) → IsQueue self.new (Again conn wait deadline ∷ acts) }
-        ensures none { IsFree conn self.old → self.new ≡ self.old }
+        ensures measure { rank self.new ≤ rank (without conn self.old) + rank_of wait }
+        ensures fewer { (wait ≡ Wait.Lock → ⊥)
+            → creations self.new ≤ creations (without conn self.old) }
     {
         for entry in self.entries.iter_mut() {
             entry.renew(conn, wait, deadline);
@@ -160,38 +185,44 @@ impl<A: Allocator> Waiting<A> {
 
     /// The call of a connection waits no more.
     pub fn leave(&mut self, conn: u8)
-        ensures { (acts : List WaitAct) → IsQueue self.old acts → IsQueue self.new (Left conn ∷ acts) }
+        ensures value { self.new ≡ without conn self.old }
+        ensures stands { (acts : List WaitAct) → IsQueue self.old acts → IsQueue self.new (Left conn ∷ acts) }
     {
         self.entries.retain(|entry| entry.conn != conn);
     }
 
-    /// The connection of the oldest call that can go on, with this holder of the lock, and where a
-    /// write, or a read, would be taken; none where none can.
-    pub fn oldest_able(&self, holder: Option<u32>, can_write: bool, can_read: bool) -> Option<u8>
-        ensures { (acts : List WaitAct) → IsQueue self.now acts
-            → IsOldest acts (IsAble holder can_write can_read acts) result }
+    /// The oldest call that can go on, with this holder of the lock, and where a write, or a read,
+    /// would be taken; none where none can.
+    pub fn oldest_able(&self, holder: Option<u32>, can_write: bool, can_read: bool) -> Option<Entry>
+        ensures answer { (acts : List WaitAct) → IsQueue self.now acts
+            → IsOldest acts (IsAble holder can_write can_read acts)
+            (option_map (λ entry. entry.conn) result) }
+        ensures entry { (acts : List WaitAct) → IsQueue self.now acts
+            → IfSome result (λ entry. IsEntry acts entry) }
+        ensures within { IfSome result (λ entry. entry.conn < 16) }
+        ensures measure { IfSome result (λ entry. rank (without entry.conn self.now)
+            + rank_of entry.wait ≤ rank self.now) }
+        ensures fewer { IfSome result (λ entry. creates entry ≡ true
+            → creations (without entry.conn self.now) + 1 ≤ creations self.now) }
     {
         let entry = self
             .entries
             .iter()
             .find(|entry| entry.is_able(holder, can_write, can_read))?;
-        Some(entry.conn)
+        Some(*entry)
     }
 
-    /// The connection of the oldest call whose deadline has come at this clock; none where none's has.
-    pub fn expired(&self, clock: u64) -> Option<u8>
-        ensures { (acts : List WaitAct) → IsQueue self.now acts
-            → IsOldest acts (IsExpired clock acts) result }
+    /// The oldest call whose deadline has come at this clock; none where none's has.
+    pub fn expired(&self, clock: u64) -> Option<Entry>
+        ensures answer { (acts : List WaitAct) → IsQueue self.now acts
+            → IsOldest acts (IsExpired clock acts) (option_map (λ entry. entry.conn) result) }
+        ensures entry { (acts : List WaitAct) → IsQueue self.now acts
+            → IfSome result (λ entry. IsEntry acts entry) }
+        ensures within { IfSome result (λ entry. entry.conn < 16) }
+        ensures measure { IfSome result (λ entry. rank (without entry.conn self.now)
+            + rank_of entry.wait ≤ rank self.now) }
     {
         let entry = self.entries.iter().find(|entry| entry.has_expired(clock))?;
-        Some(entry.conn)
-    }
-
-    /// The connection of the oldest call that names this link; none where none does.
-    pub fn naming(&self, lid: u32) -> Option<u8>
-        ensures { (acts : List WaitAct) → IsQueue self.now acts → IsOldest acts (Names lid acts) result }
-    {
-        let entry = self.entries.iter().find(|entry| entry.names(lid))?;
-        Some(entry.conn)
+        Some(*entry)
     }
 }
