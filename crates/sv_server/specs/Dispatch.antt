@@ -1,7 +1,7 @@
 -- What becomes of a record that was taken, where a poll of the status byte would give this: its header is looked at, in this order, and
 -- then it is a call of the program that its connection serves (RFC 5531, section 9; VXI-11 revision 1.0, section B.6; RFC 1833, section
 -- 3).
-use Rattle.std.specs.Prelude.{ℕ, ◌==◌, not, List, [], ◌∷◌, Option, Some, None, Result, Ok, Err, if◌then◌else◌}
+use Rattle.std.specs.Prelude.{ℕ, ℤ, ◌==◌, not, List, [], ◌∷◌, Option, Some, None, Result, Ok, Err, if◌then◌else◌}
 use Rattle.sv_xdr.specs.declared.garbage.Garbage.{Garbage}
 use Rattle.sv_xdr.specs.Spelling.{Unsigned}
 use Rattle.sv_rpc.specs.declared.reply.Reply.{Reply}
@@ -10,17 +10,19 @@ use Rattle.sv_rpc.specs.declared.call.CallFault.{CallFault}
 use Rattle.sv_rpc.specs.declared.call.CallFault.TheVariants.{BadHeader, Version}
 use Rattle.sv_rpc.specs.Call.{PlainCall}
 use Rattle.sv_rpc.specs.Ports.{port_at}
-use Rattle.sv_vxi.specs.Arguments.{Arguments, core_calls, abort_calls, is_one_of}
+use Rattle.sv_vxi.specs.Arguments.{Arguments, DeviceAbort, core_calls, abort_calls, is_one_of}
 use Rattle.sv_vxi.specs.Reading.{arguments_at}
 use Rattle.sv_vxi.specs.Results.{result_fields}
 use Rattle.sv_server.specs.declared.event.Role.{Role}
 use Rattle.sv_server.specs.declared.event.Role.TheVariants.{Core, Abort, Portmap}
 use Rattle.sv_server.specs.declared.event.Config.{Config}
-use Rattle.sv_server.specs.Act.{BenchAct}
+use Rattle.sv_server.specs.Act.{BenchAct, Waited}
 use Rattle.sv_server.specs.Reply.{reply_record}
-use Rattle.sv_server.specs.Execution.{Execution}
-use Rattle.sv_server.specs.CoreChannel.{executed}
+use Rattle.sv_server.specs.CoreCall.{lid_of}
+use Rattle.sv_server.specs.Admission.{Begun, Does, Waits, begun}
+use Rattle.sv_server.specs.AbortChannel.{aborted, abort_result}
 use Rattle.sv_server.specs.PortMapper.{ports_of}
+use Rattle.sv_server.specs.Verdict.{Verdict, NoCall, Replies, Stays, reply_verdict, execution_verdict}
 
 -- the program that a connection serves, its version, and its procedures beside 0, which does nothing
 abbrev pub program_of : Role → ℕ
@@ -46,32 +48,34 @@ header_reply role call =
     else (if call.proc == 0 then Some Success
     else (if not (is_one_of (procedures_of role) call.proc) then Some ProcUnavail else None)))
 
--- It is no call, and faults its connection; or it adds these acts to what all connections share, and is answered by these bytes.
-pub data Verdict : Type 0 where
-  NoCall : Verdict
-  Replies : (adds : List BenchAct) (bytes : List ℕ) → Verdict
-
--- it is answered by a reply alone
-abbrev pub reply_verdict : ℕ → Reply → Verdict
-reply_verdict xid reply = Replies [] (reply_record xid reply [])
-
-abbrev pub execution_verdict : ℕ → Execution → Verdict
-execution_verdict xid execution = Replies execution.adds (reply_record xid Success (result_fields execution.result))
-
 -- GETPORT
 abbrev pub port_verdict : ℕ → Result ℕ Garbage → Verdict
-port_verdict xid (Ok port) = Replies [] (reply_record xid Success (Unsigned port ∷ []))
+port_verdict xid (Ok port) = Replies [] None (reply_record xid Success (Unsigned port ∷ []))
 port_verdict xid (Err garbage) = reply_verdict xid GarbageArgs
 
--- a call of the core or the abort channel
-abbrev pub device_verdict : Config → ℕ → ℕ → ℕ → Result Arguments Garbage → List BenchAct → Verdict
-device_verdict config polled c xid (Ok arguments) acts = execution_verdict xid (executed config polled c arguments acts)
-device_verdict config polled c xid (Err garbage) acts = reply_verdict xid GarbageArgs
+-- a call of the core channel
+abbrev pub begun_verdict : ℕ → Begun → Verdict
+begun_verdict xid (Does execution) = execution_verdict xid execution
+begun_verdict xid (Waits act) = Stays (Waited act ∷ [])
+
+abbrev pub core_verdict : Config → ℕ → ℕ → ℕ → Result Arguments Garbage → List BenchAct → Verdict
+core_verdict config polled c xid (Ok arguments) acts = begun_verdict xid (begun config polled c arguments acts)
+core_verdict config polled c xid (Err garbage) acts = reply_verdict xid GarbageArgs
+
+-- a call of the abort channel
+abbrev pub link_aborted : Result Arguments Garbage → Option ℤ
+link_aborted (Ok (DeviceAbort lid)) = Some lid
+link_aborted _ = None
+
+abbrev pub abort_verdict : ℕ → Option ℤ → List BenchAct → Verdict
+abort_verdict xid (Some lid) acts =
+    Replies [] (aborted (lid_of lid) acts) (reply_record xid Success (result_fields (abort_result (lid_of lid) acts)))
+abort_verdict xid None acts = reply_verdict xid GarbageArgs
 
 -- a call of one of its program's procedures
 abbrev pub procedure_verdict : Config → ℕ → ℕ → Role → PlainCall → List BenchAct → Verdict
-procedure_verdict config polled c Core call acts = device_verdict config polled c call.xid (arguments_at call.proc call.args) acts
-procedure_verdict config polled c Abort call acts = device_verdict config polled c call.xid (arguments_at call.proc call.args) acts
+procedure_verdict config polled c Core call acts = core_verdict config polled c call.xid (arguments_at call.proc call.args) acts
+procedure_verdict config polled c Abort call acts = abort_verdict call.xid (link_aborted (arguments_at call.proc call.args)) acts
 procedure_verdict config polled c Portmap call acts = port_verdict call.xid (port_at (ports_of config) call.args)
 
 -- unless its header alone decides

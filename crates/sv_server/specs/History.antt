@@ -2,7 +2,9 @@
 use Rattle.std.specs.Prelude.{◌≡◌, ℕ, ◌+◌, ◌||◌, ◌==◌, not, ℤ, pos, negsuc, Bool, true, List, [], ◌∷◌, ◌++◌, length, map, Option, Some, None, Result, Ok, Err, nat_lt, if◌then◌else◌}
 use Rattle.sv_errors.specs.Limits.{is_channel, most_microvolts}
 use Rattle.sv_rpc.specs.Call.{call_at}
+use Rattle.sv_vxi.specs.declared.error_code.ErrorCode.TheVariants.{Abort}
 use Rattle.sv_links.specs.Links.{closing, made}
+use Rattle.sv_links.specs.Waiting.{Left, creating}
 use Rattle.sv_scan.specs.declared.acts.ScanAct.TheVariants.{Input as InputTo}
 use Rattle.sv_layers.specs.Act.{Scanned}
 use Rattle.sv_instrument.specs.Happened.{external_acts, tick_acts}
@@ -14,33 +16,42 @@ use Rattle.sv_server.specs.declared.event.Did.TheVariants.{Done, Idle}
 use Rattle.sv_server.specs.declared.event.Refused.{Refused}
 use Rattle.sv_server.specs.declared.event.Refused.TheVariants.{NoMemory, ConnInUse, NoConn, NoRoom, NotSent, NoDial, NotRefusable, BadChannel, BadInput, TimeOver}
 use Rattle.sv_server.specs.Event.{IsEvent, IsConfig, PlainEvent, Open, Bytes, Turn, Refuse, Took, Close, Dialed, Input, External, Tick}
-use Rattle.sv_server.specs.Act.{Act, ConnAct, BenchAct, Opened, Piece, CallTaken, Faulted, Replied, BytesTaken, PortClosed, Linked, Happened, Ticked, On, Bench, of, bench, link_acts, instrument_acts, ticks}
-use Rattle.sv_server.specs.Connection.{is_open, open_role, waiting, next_call, is_idle, room, free}
-use Rattle.sv_server.specs.Dispatch.{Verdict, NoCall, Replies, verdict_of}
+use Rattle.sv_server.specs.Act.{Act, ConnAct, Opened, Piece, CallTaken, BytesTaken, PortClosed, Linked, Waited, Happened, Ticked, On, Bench, of, bench, link_acts, wait_acts, instrument_acts, ticks}
+use Rattle.sv_server.specs.Connection.{is_open, open_role, unanswered, waiting, next_call, is_idle, room, free}
+use Rattle.sv_server.specs.CoreCall.{core_call_in}
+use Rattle.sv_server.specs.Verdict.{Verdict, verdict_acts, aborts_of}
+use Rattle.sv_server.specs.Dispatch.{verdict_of}
+use Rattle.sv_server.specs.Resuming.{given_up}
 use Rattle.sv_server.specs.Polled.{IsPolled}
 use Rattle.sv_server.specs.Settling.{Settles}
 
--- the acts of a record that was taken, behind its CallTaken
-abbrev pub verdict_acts : ℕ → Verdict → List Act
-verdict_acts c NoCall = On c Faulted ∷ []
-verdict_acts c (Replies adds bytes) = On c (Replied bytes) ∷ map Bench adds
+-- the acts of a waiting call of this connection that another one's call ends
+abbrev pub abort_acts : Option ℕ → List Act → List Act
+abort_acts (Some c) log = verdict_acts c (given_up Abort c (core_call_in (unanswered (of c log))))
+abort_acts None log = []
+
+-- the acts of a record that was taken
+abbrev pub taken_acts : ℕ → List ℕ → Verdict → List Act → List Act
+taken_acts c call verdict log =
+    let acts = verdict_acts c verdict ++ On c (CallTaken call) ∷ [] in abort_acts (aborts_of verdict) (acts ++ log) ++ acts
 
 -- the acts of a Turn: those of the connection's next call, where there is one to take
-abbrev pub turn_acts : Config → ℕ → ℕ → Option Role → Option (List ℕ) → List BenchAct → List Act
-turn_acts config polled c (Some role) (Some call) acts =
-    verdict_acts c (verdict_of config polled c role (call_at call) acts) ++ On c (CallTaken call) ∷ []
-turn_acts config polled c _ _ acts = []
+abbrev pub turn_acts : Config → ℕ → ℕ → Option Role → Option (List ℕ) → List Act → List Act
+turn_acts config polled c (Some role) (Some call) log =
+    taken_acts c call (verdict_of config polled c role (call_at call) (bench log)) log
+turn_acts config polled c _ _ log = []
 
 -- The acts that an event adds to the log by itself, where a poll of the status byte would give this. Closing a connection
--- destroys its links, by rising number.
+-- ends the wait of its call, and destroys its links, by rising number.
 abbrev pub own_acts : Config → ℕ → PlainEvent → List Act → List Act
 own_acts config polled (Open c role) log = On c (Opened role) ∷ []
 own_acts config polled (Bytes c piece) log = On c (Piece piece) ∷ []
-own_acts config polled (Turn c) log = turn_acts config polled c (open_role (of c log)) (next_call (of c log)) (bench log)
+own_acts config polled (Turn c) log = turn_acts config polled c (open_role (of c log)) (next_call (of c log)) log
 own_acts config polled (Refuse c) log = []
 own_acts config polled (Took (Conn c) count) log = On c (BytesTaken count) ∷ []
 own_acts config polled (Took (Intr c) count) log = []
-own_acts config polled (Close (Conn c)) log = map Bench (map Linked (closing c (link_acts (bench log)))) ++ On c PortClosed ∷ []
+own_acts config polled (Close (Conn c)) log =
+    map Bench (map Linked (closing c (link_acts (bench log))) ++ Waited (Left c) ∷ []) ++ On c PortClosed ∷ []
 own_acts config polled (Close (Intr c)) log = []
 own_acts config polled (Dialed c ok) log = []
 own_acts config polled (Input channel microvolts) log = Bench (Happened (Scanned (InputTo channel microvolts))) ∷ []
@@ -94,16 +105,16 @@ abbrev pub did : PlainEvent → List Act → Did
 did (Turn c) log = if is_idle (of c log) then Idle else Done
 did _ log = Done
 
--- whether acts make a link, the one thing for which memory may be wanting
-abbrev pub makes_link : List Act → Bool
-makes_link acts = nat_lt 0 (made (link_acts (bench acts)))
+-- whether acts make a link, or let a create_link wait: what alone wants memory
+abbrev pub wants_memory : List Act → Bool
+wants_memory acts = nat_lt 0 (made (link_acts (bench acts))) || nat_lt 0 (creating (wait_acts (bench acts)))
 
 -- What a call of the server answers: what the event does, or what refuses it. Memory may be wanting only for an event that nothing else
--- refuses and that makes a link.
+-- refuses, and that makes a link or lets a create_link wait.
 abbrev pub Answers : Config → PlainEvent → List Act → Result Did Refused → Type 0
 Answers config event log (Ok what) = (refusal config event log ≡ None) × (what ≡ did event log)
-Answers config event log (Err NoMemory) = (refusal config event log ≡ None)
-    × ((polled : ℕ) → IsPolled polled (bench log) → makes_link (own_acts config polled event log) ≡ true)
+Answers config event log (Err NoMemory) = (refusal config event log ≡ None) × (polled : ℕ) × IsPolled polled (bench log)
+    × (wants_memory (own_acts config polled event log) ≡ true)
 Answers config event log (Err refused) = refusal config event log ≡ Some refused
 
 -- the history with the event, unless it was refused

@@ -3,10 +3,14 @@ pub mod Act
 pub mod Connection
 pub mod Reply
 pub mod Execution
-pub mod AbortChannel
+pub mod CoreCall
 pub mod CoreChannel
+pub mod Admission
+pub mod AbortChannel
 pub mod PortMapper
+pub mod Verdict
 pub mod Dispatch
+pub mod Resuming
 pub mod Polled
 pub mod Settling
 pub mod History

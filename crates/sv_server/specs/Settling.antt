@@ -1,19 +1,50 @@
 -- What follows an event's own acts: the steps that are due, one after the other, until none is.
-use Rattle.std.specs.Prelude.{◌≡◌, ◌⊎◌, ℕ, zero, suc, List, ◌++◌, map}
+use Rattle.std.specs.Prelude.{◌≡◌, ◌⊎◌, not, ℕ, ◌+◌, zero, suc, Some, List, ◌++◌, map}
+use Rattle.sv_links.specs.declared.waiting.Wait.{Wait}
+use Rattle.sv_links.specs.Links.{holder}
+use Rattle.sv_links.specs.Waiting.{waits, IsAble, IsExpired, IsOldest}
+use Rattle.sv_exchange.specs.Exchange.{has_ended}
 use Rattle.sv_layers.specs.Act.{Act as InstrumentAct}
 use Rattle.sv_instrument.specs.Happened.{IsFired}
-use Rattle.sv_instrument.specs.Step.{IsStep}
+use Rattle.sv_instrument.specs.Step.{IsStep, is_answerable}
 use Rattle.sv_server.specs.declared.event.Config.{Config}
-use Rattle.sv_server.specs.Act.{Act, Happened, Bench, bench, instrument_acts}
+use Rattle.sv_server.specs.Act.{Act, BenchAct, Happened, Bench, of, bench, link_acts, wait_acts, instrument_acts, exchange_acts, ticks}
+use Rattle.sv_server.specs.Connection.{unanswered}
+use Rattle.sv_server.specs.Polled.{IsPolled}
+use Rattle.sv_server.specs.CoreCall.{core_call_in}
+use Rattle.sv_server.specs.Verdict.{verdict_acts}
+use Rattle.sv_server.specs.Resuming.{gone_on, given_up, late}
 
--- What is due of the instrument: a trigger that comes at once, or else a step of message exchange.
-abbrev pub IsDue : List InstrumentAct → List InstrumentAct → Type 0
-IsDue acts new = IsFired acts new ⊎ (((fired : List InstrumentAct) → IsFired acts fired → ⊥) × IsStep acts new)
-
--- The step that is due in a log makes another of it.
-abbrev pub IsNext : Config → List Act → List Act → Type 0
-IsNext config log new = (adds : List InstrumentAct) × IsDue (instrument_acts (bench log)) (adds ++ instrument_acts (bench log))
+-- The instrument does what is due of this kind.
+abbrev pub Happens : (List InstrumentAct → List InstrumentAct → Type 0) → List Act → List Act → Type 0
+Happens IsSuch log new = (adds : List InstrumentAct) × IsSuch (instrument_acts (bench log)) (adds ++ instrument_acts (bench log))
     × (new ≡ map Bench (map Happened adds) ++ log)
+
+-- The call of a connection can go on.
+abbrev pub CanGoOn : List BenchAct → ℕ → Type 0
+CanGoOn acts = IsAble (holder (link_acts acts)) (not (has_ended (exchange_acts acts))) (is_answerable (instrument_acts acts)) (wait_acts acts)
+
+-- The oldest call that can go on does.
+abbrev pub GoesOn : Config → List Act → List Act → Type 0
+GoesOn config log new = (c : ℕ) (wait : Wait) (polled : ℕ) × IsOldest (wait_acts (bench log)) (CanGoOn (bench log)) (Some c)
+    × (waits c (wait_acts (bench log)) ≡ Some wait) × IsPolled polled (bench log)
+    × (new ≡ verdict_acts c (gone_on config polled c wait (core_call_in (unanswered (of c log))) (bench log)) ++ log)
+
+-- The oldest call whose deadline has come is given up.
+abbrev pub GivesUp : Config → List Act → List Act → Type 0
+GivesUp config log new = (c : ℕ) (wait : Wait)
+    × IsOldest (wait_acts (bench log)) (IsExpired (config.clock + ticks (bench log)) (wait_acts (bench log))) (Some c)
+    × (waits c (wait_acts (bench log)) ≡ Some wait)
+    × (new ≡ verdict_acts c (given_up (late wait) c (core_call_in (unanswered (of c log)))) ++ log)
+
+-- The first step is taken, or, where there is none, the second.
+abbrev pub First : (List Act → Type 0) → (List Act → Type 0) → List Act → Type 0
+First IsOne IsOther new = IsOne new ⊎ (((one : List Act) → IsOne one → ⊥) × IsOther new)
+
+-- The step that is due in a log makes another of it: a trigger that comes at once; else a call that waits goes on; else a step of message
+-- exchange; else a call that waits is given up.
+abbrev pub IsNext : Config → List Act → List Act → Type 0
+IsNext config log = First (Happens IsFired log) (First (GoesOn config log) (First (Happens IsStep log) (GivesUp config log)))
 
 -- No step is due in a log.
 abbrev pub IsSettled : Config → List Act → Type 0

@@ -1,8 +1,13 @@
 -- What the server keeps, and what of a log and of a history that stands for.
-use Rattle.std.specs.Prelude.{◌≡◌, ℕ, ◌<◌, ◌≤◌, List, [], slice_index_or}
+use Rattle.std.specs.Prelude.{◌≡◌, ℕ, ◌<◌, ◌≤◌, Bool, true, false, List, [], Option, Some, None, slice_index_or}
 use Rattle.sv_server.specs.declared.event.Config.{Config}
 use Rattle.sv_server.specs.Event.{PlainEvent}
+use Rattle.std.specs.List.{AllByRecursion}
+use Rattle.sv_links.specs.declared.waiting.Entry.{Entry}
+use Rattle.sv_links.specs.Queue.{creates}
 use Rattle.sv_server.specs.Act.{Act, of, bench}
+use Rattle.sv_server.specs.Connection.{unanswered}
+use Rattle.sv_server.specs.CoreCall.{CoreCall, core_call, is_create_link}
 use Rattle.sv_server.specs.KeptConnection.{Connection, IsConnection}
 use Rattle.sv_server.specs.KeptBench.{Bench, IsBench}
 use Rattle.sv_server.specs.Settling.{IsSettled}
@@ -12,11 +17,22 @@ pub record State : Type 0 where
   pub connections : List Connection
   pub bench : Bench
 
+-- whether a call of the core channel is a create_link
+abbrev pub creates_link : Option CoreCall → Bool
+creates_link (Some call) = is_create_link call.arguments
+creates_link None = false
+
+-- A call that waits was taken and isn't answered, and is one that waits for the lock where it makes a link.
+abbrev pub IsTaken : List Act → Entry → Type 0
+IsTaken log entry = (call : List ℕ) × (unanswered (of entry.conn log) ≡ Some call)
+    × (creates_link (core_call call) ≡ true → creates entry ≡ true)
+
 -- The state keeps what the log says, under a configuration.
 pub record Represents (state : State) (config : Config) (log : List Act) : Type 0 where
   pub each : (c : ℕ) (other : Connection) → c < 16 → IsConnection (slice_index_or state.connections c other) (of c log)
   pub beyond : (c : ℕ) → 16 ≤ c → of c log ≡ []
   pub shared : IsBench state.bench config (bench log)
+  pub taken : AllByRecursion (IsTaken log) state.bench.waiting
 
 -- The server stands for a history: it keeps what the history's log says, and nothing is due.
 pub record StandsFor (state : State) (config : Config) (history : List PlainEvent) : Type 0 where

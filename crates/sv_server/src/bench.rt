@@ -1,19 +1,21 @@
-//! What all connections share: links, message exchange and the clock.
+//! What all connections share: links, calls that wait, the instrument and the clock.
 
 ghost use Rattle.std.specs.Prelude.{◌≡◌, ◌+◌, ◌<◌, ◌≤◌, List, [], ◌∷◌, ◌++◌, length, map, IfOk, ◌==◌, false};
 ghost use Rattle.sv_links.specs.Links.{closing};
+ghost use Rattle.sv_links.specs.Waiting.{Left};
+ghost use Rattle.sv_links.specs.Queue.{without};
 ghost use Rattle.sv_scan.specs.declared.acts.ScanAct.TheVariants.{Input};
 ghost use Rattle.sv_layers.specs.Act.{Scanned};
 ghost use Rattle.sv_instrument.specs.Happened.{external_acts, tick_acts};
 ghost use Rattle.sv_server.specs.declared.event.Config.{Config};
-ghost use Rattle.sv_server.specs.Act.{BenchAct, Linked, Happened, Ticked, link_acts, instrument_acts, ticks};
+ghost use Rattle.sv_server.specs.Act.{BenchAct, Linked, Waited, Happened, Ticked, link_acts, instrument_acts, ticks};
 ghost use Rattle.sv_server.specs.KeptBench.{IsBench};
 
 use crate::event::Config;
 use std::alloc::{AllocError, Allocator};
 use std::marker::Model;
 use sv_instrument::Instrument;
-use sv_links::Links;
+use sv_links::{Entry, Links, Waiting};
 use sv_vxi::VxiResult;
 
 /// The last value of the clock, in milliseconds.
@@ -37,6 +39,7 @@ pub enum Ending {
 #[derive(Drop)]
 pub struct Bench<A: Allocator> {
     pub links: Links<A>,
+    pub waiting: Waiting<A>,
     pub instrument: Instrument<A>,
     pub config: Config,
     clock: u64,
@@ -51,6 +54,7 @@ impl<A: Allocator> Model for Bench<A> {
 
     ghost view = { λ a. record {
       links = a.links;
+      waiting = a.waiting;
       instrument = a.instrument;
       config = a.config;
       clock = a.clock;
@@ -60,13 +64,14 @@ impl<A: Allocator> Model for Bench<A> {
 }
 
 impl<A: Allocator + Copy> Bench<A> {
-    /// No link, no text, and the clock at its start.
+    /// No link, no call that waits, no text, and the clock at its start.
     pub fn new(alloc: A, config: Config) -> Result<Bench<A>, AllocError>
         requires { config.clock ≤ 9223372036854775807 }
         ensures { IfOk result (λ shared. IsBench shared config []) }
     {
         Ok(Bench {
             links: Links::new(alloc),
+            waiting: Waiting::new(alloc)?,
             instrument: Instrument::new(alloc)?,
             config,
             clock: config.clock,
@@ -75,6 +80,14 @@ impl<A: Allocator + Copy> Bench<A> {
 }
 
 impl<A: Allocator> Bench<A> {
+    /// The clock, in milliseconds.
+    pub fn clock(&self) -> u64
+        ensures value { result ≡ self.now.clock }
+        ensures bounded { result ≤ 9223372036854775807 }
+    {
+        self.clock
+    }
+
     /// Whether the clock is at its last value.
     pub fn is_at_end(&self) -> bool
         ensures value { result ≡ (self.now.clock == 9223372036854775807) }
@@ -87,9 +100,10 @@ impl<A: Allocator> Bench<A> {
     /// A millisecond passes, and in a scan the next channel is read.
     pub fn tick(&mut self)
         requires { (self.old.clock == 9223372036854775807) ≡ false }
-        ensures { (config : Config) (acts : List BenchAct) → IsBench self.old config acts
+        ensures stands { (config : Config) (acts : List BenchAct) → IsBench self.old config acts
             → IsBench self.new config
             (map Happened (tick_acts (instrument_acts acts)) ++ Ticked ∷ acts) }
+        ensures waiting { self.new.waiting ≡ self.old.waiting }
     {
         self.clock += 1;
         self.instrument.tick();
@@ -97,26 +111,45 @@ impl<A: Allocator> Bench<A> {
 
     /// The voltage of a channel's input is another from now on.
     pub fn input(&mut self, channel: u8, microvolts: i64)
-        ensures { (config : Config) (acts : List BenchAct) → IsBench self.old config acts
+        ensures stands { (config : Config) (acts : List BenchAct) → IsBench self.old config acts
             → IsBench self.new config (Happened (Scanned (Input channel microvolts)) ∷ acts) }
+        ensures waiting { self.new.waiting ≡ self.old.waiting }
     {
         self.instrument.input(channel, microvolts);
     }
 
     /// A trigger comes in at the trigger input.
     pub fn external(&mut self)
-        ensures { (config : Config) (acts : List BenchAct) → IsBench self.old config acts
+        ensures stands { (config : Config) (acts : List BenchAct) → IsBench self.old config acts
             → IsBench self.new config
             (map Happened (external_acts (instrument_acts acts)) ++ acts) }
+        ensures waiting { self.new.waiting ≡ self.old.waiting }
     {
         self.instrument.external();
     }
 
-    /// Destroys the links of a connection.
+    /// Ends the wait of a connection's call, and destroys its links.
     pub fn close_connection(&mut self, conn: u8)
-        ensures { (config : Config) (acts : List BenchAct) → IsBench self.old config acts
-            → IsBench self.new config (map Linked (closing conn (link_acts acts)) ++ acts) }
+        ensures stands { (config : Config) (acts : List BenchAct) → IsBench self.old config acts
+            → IsBench self.new config
+            (map Linked (closing conn (link_acts acts)) ++ Waited (Left conn) ∷ acts) }
+        ensures waiting { self.new.waiting ≡ without conn self.old.waiting }
     {
+        self.waiting.leave(conn);
         self.links.close_connection(conn);
+    }
+
+    /// The oldest call that waits and can go on; none where none can.
+    pub fn oldest_able(&self) -> Option<Entry> {
+        self.waiting.oldest_able(
+            self.links.holder(),
+            self.instrument.can_write(),
+            self.instrument.can_read(),
+        )
+    }
+
+    /// The oldest call that waits and whose deadline has come; none where none's has.
+    pub fn expired(&self) -> Option<Entry> {
+        self.waiting.expired(self.clock)
     }
 }

@@ -3,7 +3,7 @@
 ghost use Rattle.std.specs.Prelude.{◌≡◌, ◌≢◌, ◌+◌, ◌≤◌, ◌||◌, not, ◌&&◌, ℕ, List, [], ◌∷◌, length, IfOk, IsSome, Some, None, true, false, is_some, nat_lt, option_map, if◌then◌else◌};
 ghost use Rattle.sv_rpc.specs.RecordBuf.{StandsFor, room_of, no_records};
 ghost use Rattle.sv_server.specs.Act.{ConnAct, Opened, Piece, CallTaken, Faulted, Replied, BytesTaken, PortClosed};
-ghost use Rattle.sv_server.specs.Connection.{is_open, is_busy, next_call, is_idle, is_faulted, room, free, waiting};
+ghost use Rattle.sv_server.specs.Connection.{is_open, unanswered, is_busy, next_call, is_idle, is_faulted, room, free, waiting};
 ghost use Rattle.sv_server.specs.KeptConnection.{IsConnection};
 ghost use Rattle.sv_server.specs.Inside.Kept.{kept_next};
 ghost use Rattle.sv_server.specs.Inside.Outcome.{answer_bytes, IsShort};
@@ -187,6 +187,20 @@ impl<A: Allocator> Connection<A> {
         ensures { option_map (λ call. call.now) result ≡ kept_next self.now }
     {
         if self.faulted || self.busy {
+            return None;
+        }
+        match self.input.next() {
+            Ok(found) => found,
+            Err(_) => None,
+        }
+    }
+
+    /// The call that was taken and isn't answered, where there is one.
+    pub fn taken(&self) -> Option<&[u8]>
+        ensures { (acts : List ConnAct) → IsConnection self.now acts
+            → option_map (λ call. call.now) result ≡ unanswered acts }
+    {
+        if !self.busy {
             return None;
         }
         match self.input.next() {

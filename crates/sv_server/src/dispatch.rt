@@ -7,10 +7,11 @@ ghost use Rattle.sv_vxi.specs.Arguments.{core_calls, abort_calls, is_one_of};
 ghost use Rattle.sv_vxi.specs.Reading.{arguments_at};
 ghost use Rattle.sv_server.specs.declared.event.Config.{Config as Configured};
 ghost use Rattle.sv_server.specs.Act.{BenchAct};
-ghost use Rattle.sv_server.specs.Dispatch.{program_of as program_for, version_of as version_for, procedures_of, header_reply as reply_to, verdict_of, call_verdict as verdict_for, procedure_verdict as verdict_by, device_verdict as device_verdict_for};
-ghost use Rattle.sv_server.specs.Inside.Outcome.{IsBenchAt, ConsideredAs, IsConcluded, IsShortEnding, IsShortVerdict, verdict_makes};
+ghost use Rattle.sv_server.specs.Dispatch.{program_of as program_for, version_of as version_for, procedures_of, header_reply as reply_to, verdict_of, call_verdict as verdict_for, procedure_verdict as verdict_by};
+ghost use Rattle.sv_server.specs.Inside.Outcome.{IsBenchAt, ConsideredAs, IsConcluded, IsShortEnding, IsShortVerdict, verdict_wants};
 
 use crate::bench::{Bench, Ending};
+use crate::core_call::lid_of;
 use crate::event::Role;
 use crate::port_mapper::port_answer;
 use crate::reply::Answer;
@@ -21,7 +22,7 @@ use sv_vxi::procedure::{
     DEVICE_DOCMD, DEVICE_ENABLE_SRQ, DEVICE_LOCAL, DEVICE_LOCK, DEVICE_READ, DEVICE_READSTB,
     DEVICE_REMOTE, DEVICE_TRIGGER, DEVICE_UNLOCK, DEVICE_WRITE,
 };
-use sv_vxi::read_args;
+use sv_vxi::{Args, read_args};
 
 /// The procedure that does nothing, of every program.
 const NULL: u32 = 0;
@@ -61,7 +62,7 @@ fn has_procedure(role: Role, proc: u32) -> bool
 }
 
 /// Whether it is a call of the core channel.
-fn is_core_call(proc: u32) -> bool
+pub fn is_core_call(proc: u32) -> bool
     ensures { result ≡ is_one_of (procedures_of Role.Core) proc }
 {
     matches!(
@@ -118,6 +119,8 @@ pub enum Verdict {
         xid: u32,
         /// By what.
         answer: Answer<'static>,
+        /// The connection whose waiting call it ends, where it ends one.
+        aborts: Option<u8>,
     },
     /// It is answered with what is to be read of the response.
     Response {
@@ -128,49 +131,100 @@ pub enum Verdict {
         /// The termination character, where it counts.
         term: Option<u8>,
     },
+    /// It waits.
+    Waits,
+}
+
+impl Verdict {
+    /// The connection whose waiting call it ends.
+    pub fn aborts(&self) -> Option<u8> {
+        match *self {
+            Verdict::Answer { aborts, .. } => aborts,
+            Verdict::NoCall | Verdict::Response { .. } | Verdict::Waits => None,
+        }
+    }
+}
+
+/// An answer that ends no other call.
+fn answered(xid: u32, answer: Answer<'static>) -> Verdict {
+    Verdict::Answer {
+        xid,
+        answer,
+        aborts: None,
+    }
 }
 
 /// A call that was executed, as it is answered.
-fn execution_verdict(xid: u32, ending: Ending) -> Verdict
+pub fn execution_verdict(xid: u32, ending: Ending) -> Verdict
     ensures ends { IsConcluded xid ending result }
     ensures short { IsShortEnding ending → IsShortVerdict result }
 {
     match ending {
-        Ending::Result(outcome) => Verdict::Answer {
-            xid,
-            answer: Answer::Result(outcome),
-        },
+        Ending::Result(outcome) => answered(xid, Answer::Result(outcome)),
         Ending::Response { most, term } => Verdict::Response { xid, most, term },
     }
 }
 
-/// Does a call of the core or the abort channel.
-fn device_verdict<A: Allocator>(
+/// A call that was begun, as it is answered, unless it waits.
+pub fn begun_verdict(xid: u32, begun: Option<Ending>) -> Verdict {
+    match begun {
+        Some(ending) => execution_verdict(xid, ending),
+        None => Verdict::Waits,
+    }
+}
+
+/// Begins a call of the core channel.
+fn core_verdict<A: Allocator>(
     shared: &mut Bench<A>,
     conn: u8,
     call: &Call<'_>,
 ) -> Result<Verdict, AllocError>
-    requires { is_one_of (core_calls ++ abort_calls) call.now.proc ≡ true }
-    ensures ok { (config : Configured) (polled : ℕ) (acts : List BenchAct)
-        → IsBenchAt shared.old config polled acts
-        → IfOk result (λ verdict. ConsideredAs verdict shared.new config acts
-        (device_verdict_for config polled conn call.now.xid
-        (arguments_at call.now.proc call.now.args.now) acts)) }
-    ensures short { IfOk result (λ verdict. IsShortVerdict verdict) }
-    ensures err { OnErr result (shared.new ≡ shared.old) }
-    ensures lacks { (config : Configured) (polled : ℕ) (acts : List BenchAct)
-        → IsBenchAt shared.old config polled acts
-        → OnErr result (verdict_makes
-        (device_verdict_for config polled conn call.now.xid
-        (arguments_at call.now.proc call.now.args.now) acts)
-        ≡ true) }
+    requires proc { is_one_of core_calls call.now.proc ≡ true }
+    requires within { conn < 16 }
 {
     match read_args(call.proc, call.args) {
-        Ok(args) => Ok(execution_verdict(call.xid, shared.execute(conn, &args)?)),
-        Err(_) => Ok(Verdict::Answer {
+        Ok(args) => Ok(begun_verdict(call.xid, shared.begin(conn, &args)?)),
+        Err(_) => Ok(answered(call.xid, Answer::Header(Reply::GarbageArgs))),
+    }
+}
+
+/// The link that device_abort names.
+fn link_aborted(args: &Args<'_>) -> Option<i32> {
+    match *args {
+        Args::DeviceAbort { lid } => Some(lid),
+        Args::CreateLink { .. }
+        | Args::DeviceWrite { .. }
+        | Args::DeviceRead { .. }
+        | Args::DeviceReadstb { .. }
+        | Args::DeviceTrigger { .. }
+        | Args::DeviceClear { .. }
+        | Args::DeviceRemote { .. }
+        | Args::DeviceLocal { .. }
+        | Args::DeviceLock { .. }
+        | Args::DeviceUnlock { .. }
+        | Args::DeviceEnableSrq { .. }
+        | Args::DeviceDocmd { .. }
+        | Args::DestroyLink { .. }
+        | Args::CreateIntrChan { .. }
+        | Args::DestroyIntrChan => None,
+    }
+}
+
+/// Does a call of the abort channel.
+fn abort_verdict<A: Allocator>(shared: &Bench<A>, call: &Call<'_>) -> Verdict
+    requires { is_one_of abort_calls call.now.proc ≡ true }
+{
+    let named = match read_args(call.proc, call.args) {
+        Ok(args) => link_aborted(&args),
+        Err(_) => None,
+    };
+    match named {
+        Some(lid) => Verdict::Answer {
             xid: call.xid,
-            answer: Answer::Header(Reply::GarbageArgs),
-        }),
+            answer: Answer::Result(shared.abort_result(lid_of(lid))),
+            aborts: shared.aborted(lid_of(lid)),
+        },
+        None => answered(call.xid, Answer::Header(Reply::GarbageArgs)),
     }
 }
 
@@ -190,17 +244,14 @@ fn procedure<A: Allocator>(
     ensures err { OnErr result (shared.new ≡ shared.old) }
     ensures lacks { (config : Configured) (polled : ℕ) (acts : List BenchAct)
         → IsBenchAt shared.old config polled acts
-        → OnErr result (verdict_makes
+        → OnErr result (verdict_wants
         (verdict_by config polled conn role (plain_call call.now) acts)
         ≡ true) }
 {
     match role {
-        Role::Core => device_verdict(shared, conn, call),
-        Role::Abort => device_verdict(shared, conn, call),
-        Role::Portmap => Ok(Verdict::Answer {
-            xid: call.xid,
-            answer: port_answer(shared.config, call.args),
-        }),
+        Role::Core => core_verdict(shared, conn, call),
+        Role::Abort => Ok(abort_verdict(shared, call)),
+        Role::Portmap => Ok(answered(call.xid, port_answer(shared.config, call.args))),
     }
 }
 
@@ -220,16 +271,13 @@ fn call_verdict<A: Allocator>(
     ensures err { OnErr result (shared.new ≡ shared.old) }
     ensures lacks { (config : Configured) (polled : ℕ) (acts : List BenchAct)
         → IsBenchAt shared.old config polled acts
-        → OnErr result (verdict_makes
+        → OnErr result (verdict_wants
         (verdict_for config polled conn role (plain_call call.now)
         (reply_to role (plain_call call.now)) acts)
         ≡ true) }
 {
     if let Some(reply) = header_reply(role, call) {
-        return Ok(Verdict::Answer {
-            xid: call.xid,
-            answer: Answer::Header(reply),
-        });
+        return Ok(answered(call.xid, Answer::Header(reply)));
     }
     procedure(shared, conn, role, call)
 }
@@ -249,15 +297,12 @@ pub fn consider<A: Allocator>(
     ensures err { OnErr result (shared.new ≡ shared.old) }
     ensures lacks { (config : Configured) (polled : ℕ) (acts : List BenchAct)
         → IsBenchAt shared.old config polled acts
-        → OnErr result (verdict_makes (verdict_of config polled conn role (call_at bytes.now) acts)
+        → OnErr result (verdict_wants (verdict_of config polled conn role (call_at bytes.now) acts)
         ≡ true) }
 {
     match read_call(bytes) {
         Ok(call) => call_verdict(shared, conn, role, &call),
         Err(CallFault::BadHeader) => Ok(Verdict::NoCall),
-        Err(CallFault::Version(xid)) => Ok(Verdict::Answer {
-            xid,
-            answer: Answer::Header(Reply::Mismatch),
-        }),
+        Err(CallFault::Version(xid)) => Ok(answered(xid, Answer::Header(Reply::Mismatch))),
     }
 }

@@ -2,16 +2,20 @@
 #![tactic(auto)]
 
 mod abort_channel;
+mod admission;
 mod bench;
 mod connection;
+mod core_call;
 mod core_channel;
 mod dispatch;
 mod event;
 pub mod laws;
+mod outcomes;
 mod port_mapper;
 mod print;
 mod replay;
 mod reply;
+mod resuming;
 mod server;
 mod settling;
 mod turn;

@@ -14,10 +14,11 @@ ghost use Rattle.sv_server.specs.Inside.Acting.{Acts, IsInput};
 use crate::bench::Bench;
 use crate::connection::Connection;
 use crate::event::{Config, Dial, Did, Event, Port, Refused, Role};
-use crate::turn::turn;
+use crate::turn::{Turned, turn};
 use std::alloc::{AllocError, Allocator, Global};
 use std::marker::Model;
 use sv_errors::{MOST_MICROVOLTS, is_channel};
+use sv_vxi::ErrorCode;
 
 /// How many connections there may be.
 const CONNECTIONS: usize = 16;
@@ -25,8 +26,8 @@ const CONNECTIONS: usize = 16;
 /// One simulated instrument and the connections to it.
 #[derive(Drop)]
 pub struct Server<A: Allocator = Global> {
-    connections: Vec<Connection<A>, A>,
-    bench: Bench<A>,
+    pub(crate) connections: Vec<Connection<A>, A>,
+    pub(crate) bench: Bench<A>,
 }
 
 impl<A: Allocator> Model for Server<A> {
@@ -288,7 +289,14 @@ impl<A: Allocator> Server<A> {
         let Some(role) = connection.role() else {
             return Err(Refused::NoConn);
         };
-        turn(connection, &mut self.bench, conn, role)
+        match turn(connection, &mut self.bench, conn, role)? {
+            Turned::Idle => Ok(Did::Idle),
+            Turned::Done { aborts: None } => Ok(Did::Done),
+            Turned::Done { aborts: Some(other) } => {
+                self.give_up(other, ErrorCode::Abort);
+                Ok(Did::Done)
+            }
+        }
     }
 
     /// Lets bytes of a port go that the peer took.
@@ -353,7 +361,7 @@ impl<A: Allocator> Server<A> {
         ensures err { OnErr result (self.new ≡ self.old) }
     {
         let did = self.act(event)?;
-        self.bench.settle();
+        self.settle();
         Ok(did)
     }
 

@@ -16,10 +16,22 @@ ghost use Rattle.sv_server.specs.Inside.Outcome.{ConsideredAs, IsShortVerdict};
 use crate::bench::Bench;
 use crate::connection::Connection;
 use crate::dispatch::{Verdict, consider};
-use crate::event::{Did, Refused, Role};
+use crate::event::{Refused, Role};
 use crate::reply::Answer;
 use std::alloc::Allocator;
 use sv_vxi::{ErrorCode, Reason, VxiResult};
+
+/// What a Turn of an open connection did.
+#[derive(Clone, Copy)]
+pub enum Turned {
+    /// Nothing: there was no call to take.
+    Idle,
+    /// A call was taken and done, or waits.
+    Done {
+        /// The connection whose waiting call it ends, where it ends one.
+        aborts: Option<u8>,
+    },
+}
 
 /// Takes the next call of an open connection and does it, where there is one, and room for its
 /// reply.
@@ -28,14 +40,14 @@ pub fn turn<A: Allocator>(
     shared: &mut Bench<A>,
     conn: u8,
     role: Role,
-) -> Result<Did, Refused>
+) -> Result<Turned, Refused>
     ensures acts { (config : Config) (log : List Act) → IsConnection connection.old (of conn log)
         → IsBench shared.old config (bench log) → open_role (of conn log) ≡ Some role
         → Turns config conn log result connection.new shared.new }
     ensures err { OnErr result ((connection.new ≡ connection.old) × (shared.new ≡ shared.old)) }
 {
     let Some(call) = connection.next_call() else {
-        return Ok(Did::Idle);
+        return Ok(Turned::Idle);
     };
     if !connection.has_reply_room() {
         return Err(Refused::NoRoom);
@@ -44,12 +56,13 @@ pub fn turn<A: Allocator>(
         return Err(Refused::NoMemory);
     };
     connection.take_call();
+    let aborts = verdict.aborts();
     conclude(verdict, connection, shared);
-    Ok(Did::Done)
+    Ok(Turned::Done { aborts })
 }
 
 /// Ends the record that was taken: by its answer, or as one that is no call.
-fn conclude<A: Allocator>(verdict: Verdict, connection: &mut Connection<A>, shared: &mut Bench<A>)
+pub fn conclude<A: Allocator>(verdict: Verdict, connection: &mut Connection<A>, shared: &mut Bench<A>)
     requires { IsShortVerdict verdict }
     ensures { (config : Config) (acts : List ConnAct) (before : List BenchAct) (said : VerdictData)
         → IsConnection connection.old acts → is_busy acts ≡ true
@@ -58,10 +71,11 @@ fn conclude<A: Allocator>(verdict: Verdict, connection: &mut Connection<A>, shar
 {
     match verdict {
         Verdict::NoCall => connection.fault(),
-        Verdict::Answer { xid, answer } => connection.answer(xid, &answer),
+        Verdict::Answer { xid, answer, .. } => connection.answer(xid, &answer),
         Verdict::Response { xid, most, term } => {
             answer_response(xid, most, term, connection, shared);
         }
+        Verdict::Waits => {}
     }
 }
 

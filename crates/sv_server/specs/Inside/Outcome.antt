@@ -1,12 +1,16 @@
 -- What a call that is executed, or a record that is considered, comes to, as the code says it.
-use Rattle.std.specs.Prelude.{◌≡◌, ℕ, ◌≤◌, List, [], ◌∷◌, ◌++◌, length, map, nat_lt, Bool, false, ⊤}
+use Rattle.std.specs.Prelude.{◌≡◌, ℕ, ◌≤◌, List, [], ◌∷◌, ◌++◌, length, map, nat_lt, Bool, true, false, ◌||◌, Option, Some, None, ⊤}
 use Rattle.std.specs.List.{concat}
 use Rattle.sv_xdr.specs.Spelling.{Unsigned, Field, spelling}
 use Rattle.sv_rpc.specs.Reply.{reply_fields}
 use Rattle.sv_rpc.specs.declared.reply.Reply.{Reply}
 use Rattle.sv_rpc.specs.declared.reply.Reply.TheVariants.{Success}
 use Rattle.sv_vxi.specs.Results.{plain_result, result_fields, data_of}
-use Rattle.sv_links.specs.Links.{made}
+use Rattle.sv_vxi.specs.Arguments.{Arguments, CreateLink}
+use Rattle.sv_links.specs.declared.waiting.Entry.{Entry}
+use Rattle.sv_links.specs.Links.{made, holder, is_locked_out}
+use Rattle.sv_links.specs.Waiting.{WaitAct, creating}
+use Rattle.sv_links.specs.Queue.{creates, without}
 use Rattle.sv_exchange.specs.Exchange.{response}
 use Rattle.sv_server.specs.declared.event.Config.{Config}
 use Rattle.sv_server.specs.declared.reply.Answer.{Answer}
@@ -15,12 +19,15 @@ use Rattle.sv_server.specs.declared.bench.Ending.{Ending}
 use Rattle.sv_server.specs.declared.bench.Ending.TheVariants as endings
 use Rattle.sv_server.specs.declared.dispatch.Verdict.{Verdict as Considered}
 use Rattle.sv_server.specs.declared.dispatch.Verdict.TheVariants as verdicts
-use Rattle.sv_server.specs.Act.{BenchAct, link_acts, exchange_acts}
+use Rattle.sv_server.specs.Act.{BenchAct, Waited, link_acts, wait_acts, exchange_acts}
 use Rattle.sv_server.specs.Reply.{reply_record}
 use Rattle.sv_server.specs.Execution.{Execution}
+use Rattle.sv_server.specs.CoreCall.{core_call}
 use Rattle.sv_server.specs.CoreChannel.{reads}
-use Rattle.sv_server.specs.Dispatch.{Verdict, NoCall, Replies, execution_verdict}
-use Rattle.sv_server.specs.KeptBench.{Bench, IsBench}
+use Rattle.sv_server.specs.Admission.{Begun, Does, Waits}
+use Rattle.sv_server.specs.Verdict.{Verdict, NoCall, Replies, Stays, execution_verdict}
+use Rattle.sv_server.specs.KeptBench.{Bench, IsBench, HasPlace}
+use Rattle.sv_server.specs.State.{creates_link}
 use Rattle.sv_server.specs.Polled.{IsPolled}
 
 -- the reply of an answer, and the fields behind it
@@ -50,9 +57,9 @@ HasAtMost most (answers.Result outcome) = length (data_of (plain_result outcome)
 abbrev pub IsShort : Answer → Type 0
 IsShort answer = HasAtMost 8192 answer
 
--- whether acts make a link
-abbrev pub makes : List BenchAct → Bool
-makes adds = nat_lt 0 (made (link_acts adds))
+-- whether acts make a link, or let a create_link wait
+abbrev pub wants : List BenchAct → Bool
+wants adds = nat_lt 0 (made (link_acts adds)) || nat_lt 0 (creating (wait_acts adds))
 
 -- The call ends so. What it reads of the response is still to be read.
 abbrev pub EndsAs : Ending → Bench → Config → List BenchAct → Execution → Type 0
@@ -69,25 +76,62 @@ IsShortEnding (endings.Response most term) = ⊤
 abbrev pub IsBenchAt : Bench → Config → ℕ → List BenchAct → Type 0
 IsBenchAt kept config polled acts = IsBench kept config acts × IsPolled polled acts
 
+-- Where a call makes a link, there is a place for it, and the lock is free where it asks for it.
+abbrev pub IsGranted : Arguments → Bench → List BenchAct → Type 0
+IsGranted (CreateLink client_id lock_device lock_timeout device) kept acts =
+    HasPlace kept acts × (lock_device ≡ true → is_locked_out (holder (link_acts acts)) None ≡ false)
+IsGranted _ kept acts = ⊤
+
+-- The call is done so; or it waits.
+abbrev pub BegunAs : Option Ending → Bench → Config → List BenchAct → Begun → Type 0
+BegunAs (Some ending) shared config acts begun =
+    (execution : Execution) × (begun ≡ Does execution) × EndsAs ending shared config acts execution
+BegunAs None shared config acts begun = (act : WaitAct) × (begun ≡ Waits act) × IsBench shared config (Waited act ∷ acts)
+
+-- A call that waits stands behind all that wait, and waits for the lock where it makes a link.
+abbrev pub IsBehind : ℕ → Bool → List Entry → List Entry → Type 0
+IsBehind c makes old new =
+    (entry : Entry) × (entry.conn ≡ c) × (new ≡ without c old ++ entry ∷ []) × (makes ≡ true → creates entry ≡ true)
+
+abbrev pub Enters : Option Ending → ℕ → Bool → List Entry → List Entry → Type 0
+Enters (Some ending) c makes old new = new ≡ old
+Enters None c makes old new = IsBehind c makes old new
+
+-- whether what a call comes to wants memory
+abbrev pub begun_wants : Begun → Bool
+begun_wants (Does execution) = wants execution.adds
+begun_wants (Waits act) = wants (Waited act ∷ [])
+
 -- The record is answered so.
 abbrev pub ConsideredAs : Considered → Bench → Config → List BenchAct → Verdict → Type 0
 ConsideredAs verdicts.NoCall shared config acts verdict = (verdict ≡ NoCall) × IsBench shared config acts
-ConsideredAs (verdicts.Answer xid answer) shared config acts verdict = (adds : List BenchAct)
-    × (verdict ≡ Replies adds (answer_bytes xid answer)) × IsBench shared config (adds ++ acts)
+ConsideredAs (verdicts.Answer xid answer aborts) shared config acts verdict = (adds : List BenchAct)
+    × (verdict ≡ Replies adds aborts (answer_bytes xid answer)) × IsBench shared config (adds ++ acts)
 ConsideredAs (verdicts.Response xid most term) shared config acts verdict =
     (verdict ≡ execution_verdict xid (reads (response (exchange_acts acts)) most term)) × IsBench shared config acts
+ConsideredAs verdicts.Waits shared config acts verdict = (adds : List BenchAct) × (verdict ≡ Stays adds)
+    × IsBench shared config (adds ++ acts)
 
 abbrev pub IsShortVerdict : Considered → Type 0
 IsShortVerdict verdicts.NoCall = ⊤
-IsShortVerdict (verdicts.Answer xid answer) = IsShort answer
+IsShortVerdict (verdicts.Answer xid answer aborts) = IsShort answer
 IsShortVerdict (verdicts.Response xid most term) = ⊤
+IsShortVerdict verdicts.Waits = ⊤
 
--- whether what becomes of a record makes a link
-abbrev pub verdict_makes : Verdict → Bool
-verdict_makes NoCall = false
-verdict_makes (Replies adds bytes) = makes adds
+-- Where it isn't answered it waits; else no call begins to wait.
+abbrev pub WaitsAs : Considered → ℕ → List ℕ → List Entry → List Entry → Type 0
+WaitsAs verdicts.NoCall c call old new = new ≡ old
+WaitsAs (verdicts.Answer xid answer aborts) c call old new = new ≡ old
+WaitsAs (verdicts.Response xid most term) c call old new = new ≡ old
+WaitsAs verdicts.Waits c call old new = IsBehind c (creates_link (core_call call)) old new
+
+-- whether what becomes of a record wants memory
+abbrev pub verdict_wants : Verdict → Bool
+verdict_wants NoCall = false
+verdict_wants (Replies adds aborts bytes) = wants adds
+verdict_wants (Stays adds) = wants adds
 
 -- The ending of a call is its answer.
 abbrev pub IsConcluded : ℕ → Ending → Considered → Type 0
-IsConcluded xid (endings.Result outcome) verdict = verdict ≡ verdicts.Answer xid (answers.Result outcome)
+IsConcluded xid (endings.Result outcome) verdict = verdict ≡ verdicts.Answer xid (answers.Result outcome) None
 IsConcluded xid (endings.Response most term) verdict = verdict ≡ verdicts.Response xid most term
