@@ -1,2 +1,12 @@
-pub mod Tables
 pub mod Queues
+pub mod Counted
+mod Found
+mod Creating
+mod Anew
+pub mod OneOldest
+pub mod Locks
+pub mod Slots
+pub mod Tables
+mod Named
+mod Closing
+pub mod Live

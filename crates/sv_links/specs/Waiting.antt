@@ -1,6 +1,6 @@
 -- Calls that wait (VXI-11 revision 1.0, section B.4.4: locks and timeouts): which, for what, until when, and in which order they came. Acts
 -- are read from the newest.
-use Rattle.std.specs.Prelude.{◌≡◌, ℕ, ◌==◌, ◌≤◌, not, ◌&&◌, Bool, true, false, List, [], ◌∷◌, length, filter, is_none, Option, Some, None, if◌then◌else◌}
+use Rattle.std.specs.Prelude.{◌≡◌, ℕ, ◌==◌, ◌≤◌, not, ◌&&◌, Bool, true, false, List, [], ◌∷◌, length, filter, is_none, option_map, Option, Some, None, if◌then◌else◌}
 use Rattle.sv_errors.specs.Since.{newest}
 use Rattle.sv_links.specs.declared.waiting.Wait.{Wait}
 use Rattle.sv_links.specs.Links.{is_locked_out}
@@ -17,7 +17,7 @@ pub data WaitAct : Type 0 where
 abbrev pub waits : ℕ → List WaitAct → Option Wait
 waits c [] = None
 waits c (Entered conn link wait deadline ∷ acts) = if conn == c then Some wait else waits c acts
-waits c (Again conn wait deadline ∷ acts) = if conn == c then Some wait else waits c acts
+waits c (Again conn wait deadline ∷ acts) = if conn == c then option_map (λ before. wait) (waits c acts) else waits c acts
 waits c (Left conn ∷ acts) = if conn == c then None else waits c acts
 
 abbrev pub deadline : ℕ → List WaitAct → Option ℕ

@@ -3,7 +3,7 @@
 ghost use Rattle.std.specs.Prelude.{◌≡◌, ◌<◌, ◌≤◌, ◌++◌, ℕ, List, [], ◌∷◌, ◌+◌, map, option_map, Some, None, true, IfOk, IfSome, MatchOption};
 ghost use Rattle.sv_links.specs.Links.{is_locked_out as locked_out};
 ghost use Rattle.sv_links.specs.Waiting.{WaitAct, Entered, Again, Left, waits as waits_for, is_there, creating, IsAble, IsExpired, IsOldest};
-ghost use Rattle.sv_links.specs.Queue.{IsQueue, IsEntry, anew, without, creates, creations, rank_of, rank, is_past};
+ghost use Rattle.sv_links.specs.Queue.{entry_of, IsQueue, IsEntry, anew, without, creates, creations, rank_of, rank, is_past};
 
 use std::alloc::{AllocError, Allocator, Global};
 use std::marker::Model;
@@ -147,8 +147,10 @@ impl<A: Allocator> Waiting<A> {
             → MatchOption result (waits_for conn acts ≡ None)
             (λ entry. (entry.conn ≡ conn) × IsEntry acts entry) }
     {
-        let entry = self.entries.iter().find(|entry| entry.conn == conn)?;
-        Some(*entry)
+        self.entries
+            .iter()
+            .find(|entry| entry.conn == conn)
+            .copied()
     }
 
     /// For what the call of a connection waits; none where it doesn't.
@@ -173,7 +175,7 @@ impl<A: Allocator> Waiting<A> {
     pub fn again(&mut self, conn: u8, wait: Wait, deadline: Option<u64>)
         ensures value { self.new ≡ map (anew conn wait deadline) self.old }
         ensures stands { (acts : List WaitAct) → IsQueue self.old acts
-            → (waits_for conn acts ≡ None → ⊥) → IsQueue self.new (Again conn wait deadline ∷ acts) }
+            → IsQueue self.new (Again conn wait deadline ∷ acts) }
         ensures measure { rank self.new ≤ rank (without conn self.old) + rank_of wait }
         ensures fewer { (wait ≡ Wait.Lock → ⊥)
             → creations self.new ≤ creations (without conn self.old) }
@@ -199,17 +201,17 @@ impl<A: Allocator> Waiting<A> {
             (option_map (λ entry. entry.conn) result) }
         ensures entry { (acts : List WaitAct) → IsQueue self.now acts
             → IfSome result (λ entry. IsEntry acts entry) }
-        ensures within { IfSome result (λ entry. entry.conn < 16) }
+        ensures within { IfSome result (λ entry. (entry.conn < 16)
+            × (entry_of entry.conn self.now ≡ Some entry)) }
         ensures measure { IfSome result (λ entry. rank (without entry.conn self.now)
             + rank_of entry.wait ≤ rank self.now) }
         ensures fewer { IfSome result (λ entry. creates entry ≡ true
             → creations (without entry.conn self.now) + 1 ≤ creations self.now) }
     {
-        let entry = self
-            .entries
+        self.entries
             .iter()
-            .find(|entry| entry.is_able(holder, can_write, can_read))?;
-        Some(*entry)
+            .find(|entry| entry.is_able(holder, can_write, can_read))
+            .copied()
     }
 
     /// The oldest call whose deadline has come at this clock; none where none's has.
@@ -218,11 +220,14 @@ impl<A: Allocator> Waiting<A> {
             → IsOldest acts (IsExpired clock acts) (option_map (λ entry. entry.conn) result) }
         ensures entry { (acts : List WaitAct) → IsQueue self.now acts
             → IfSome result (λ entry. IsEntry acts entry) }
-        ensures within { IfSome result (λ entry. entry.conn < 16) }
+        ensures within { IfSome result (λ entry. (entry.conn < 16)
+            × (entry_of entry.conn self.now ≡ Some entry)) }
         ensures measure { IfSome result (λ entry. rank (without entry.conn self.now)
             + rank_of entry.wait ≤ rank self.now) }
     {
-        let entry = self.entries.iter().find(|entry| entry.has_expired(clock))?;
-        Some(*entry)
+        self.entries
+            .iter()
+            .find(|entry| entry.has_expired(clock))
+            .copied()
     }
 }

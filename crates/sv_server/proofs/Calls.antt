@@ -1,7 +1,7 @@
 -- What the calls of the core channel add, where they are done.
 use Rattle.std.proofs.Common.{◌≡◌, ℕ, ◌==◌, Bool, true, false, List, [], ◌∷◌, ◌++◌, length, nat_lt, refl, sym, ap, subst}
 use Rattle.std.specs.Int.{bit_at}
-use Rattle.std.specs.Prelude.{Option}
+use Rattle.std.specs.Prelude.{Option, None}
 use Rattle.sv_errors.specs.declared.code.Code.TheVariants.{QueryUnterminated}
 use Rattle.sv_vxi.specs.declared.error_code.ErrorCode.TheVariants.{NoError, IoTimeout}
 use Rattle.sv_rpc.specs.declared.reply.Reply.TheVariants.{Success}
@@ -12,10 +12,11 @@ use Rattle.sv_instrument.specs.Step.{is_answerable}
 use Rattle.sv_instrument.specs.Kept.{Kept, StandsFor}
 use Rattle.sv_server.specs.declared.event.Config.{Config}
 use Rattle.sv_server.specs.Act.{BenchAct, instrument_acts, exchange_acts}
-use Rattle.sv_server.specs.CoreChannel.{device_write, device_read, no_bytes}
+use Rattle.sv_server.specs.CoreCall.{no_bytes}
+use Rattle.sv_server.specs.CoreChannel.{device_write, device_read}
 use Rattle.sv_server.specs.Reply.{reply_record}
 use Rattle.sv_server.specs.Execution.{Execution}
-use Rattle.sv_server.specs.Dispatch.{Replies, execution_verdict}
+use Rattle.sv_server.specs.Verdict.{Replies, execution_verdict}
 use Rattle.sv_server.specs.declared.bench.Ending.{Ending}
 use Rattle.sv_server.specs.declared.bench.Ending.TheVariants as endings
 use Rattle.sv_server.specs.declared.dispatch.Verdict.{Verdict as Considered}
@@ -48,7 +49,7 @@ pub concluded_as : (xid : ℕ) (ending : Ending) (verdict : Considered) (shared 
 concluded_as xid (endings.Result outcome) verdict shared config acts execution is ends =
     subst (λ (v : Considered). ConsideredAs v shared config acts (execution_verdict xid execution)) (sym is) (
       execution.adds,
-      ap (λ (o : Outcome). Replies execution.adds (reply_record xid Success (result_fields o))) ends.0,
+      ap (λ (o : Outcome). Replies execution.adds None (reply_record xid Success (result_fields o))) ends.0,
       ends.1,
     )
 concluded_as xid (endings.Response most term) verdict shared config acts execution is ends =

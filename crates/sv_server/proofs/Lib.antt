@@ -1,6 +1,7 @@
 pub mod Replies
 pub mod Connections
 pub mod Projections
+pub mod Taken
 pub mod Turned
 pub mod Logs
 pub mod Steps

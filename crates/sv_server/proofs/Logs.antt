@@ -1,22 +1,26 @@
 -- What an event of one connection leaves, from the parts of the server.
-use Rattle.std.proofs.Common.{◌≡◌, ◌≢◌, ℕ, ◌<◌, Bool, true, false, List, [], ◌∷◌, ◌++◌, append_assoc, length, get_or, set, refl, sym, ap, subst, ◌∙◌, arith, inl, inr}
-use Rattle.std.specs.Prelude.{Result, Ok, Err, is_some, not, map}
+use Rattle.std.proofs.Common.{◌≡◌, ◌≢◌, ℕ, ◌<◌, Bool, true, false, Some, List, [], ◌∷◌, ◌++◌, append_assoc, length, get_or, set, refl, sym, ap, subst, ◌∙◌, arith, inl, inr}
+use Rattle.std.specs.Prelude.{is_some, not, map}
+use Rattle.std.specs.List.{AllByRecursion}
 use Rattle.std.proofs.lemmas.Bool.{lt-ltb, le-ltb, cases_eq, cases_lt}
-use Rattle.std.proofs.lemmas.List.{get_or-set_same, get_or-set_other}
+use Rattle.std.proofs.lemmas.List.{get_or-set_same, get_or-set_other, map-append}
+use Rattle.sv_links.specs.declared.waiting.Entry.{Entry}
 use Rattle.sv_links.specs.Links.{closing}
+use Rattle.sv_links.specs.Waiting.{Left}
+use Rattle.sv_links.specs.Queue.{without}
 use Rattle.sv_server.specs.declared.event.Config.{Config}
-use Rattle.sv_server.specs.declared.event.Did.{Did}
-use Rattle.sv_server.specs.declared.event.Refused.{Refused}
-use Rattle.sv_server.specs.declared.event.Refused.TheVariants.{NoMemory, ConnInUse, NoConn, NoRoom, NotSent, NoDial, NotRefusable, BadChannel, BadInput, TimeOver}
-use Rattle.sv_server.specs.Event.{Turn}
-use Rattle.sv_server.specs.Inside.Acting.{Acts, Turns}
-use Rattle.sv_server.specs.Act.{Act, ConnAct, BenchAct, PortClosed, Linked, Ticked, On, Bench, of, bench, link_acts}
-use Rattle.sv_server.specs.Connection.{is_open}
+use Rattle.sv_server.specs.Inside.Acting.{Concludes}
+use Rattle.sv_server.specs.Inside.Outcome.{HeldAs}
+use Rattle.sv_server.specs.Act.{Act, ConnAct, BenchAct, CallTaken, Faulted, Replied, PortClosed, Linked, Waited, Ticked, On, Bench, of, bench, link_acts}
+use Rattle.sv_server.specs.Connection.{is_open, is_busy, unanswered}
+use Rattle.sv_server.specs.CoreCall.{core_call}
+use Rattle.sv_server.specs.Verdict.{Verdict, NoCall, Replies, Stays, verdict_acts}
 use Rattle.sv_server.specs.KeptConnection.{Connection, IsConnection}
 use Rattle.sv_server.specs.KeptBench.{IsBench, Bench as KeptBench}
-use Rattle.sv_server.specs.State.{State, Represents}
+use Rattle.sv_server.specs.State.{State, Represents, IsTaken}
 use Rattle.sv_server.specs.History.{is_shut}
-use Rattle.sv_server.proofs.Projections.{of_mine, of_other, of_shared, bench_shared}
+use Rattle.sv_server.proofs.Projections.{of_mine, of_other, of_shared, bench_shared, concluded_stands, resumed_stands}
+use Rattle.sv_server.proofs.Taken.{taken_acted, taken_without, taken_push}
 
 -- the connection of a number
 pub connection_of : (state : State) (config : Config) (log : List Act) (c : ℕ) (kept : Connection) → Represents state config log → c < 16
@@ -48,8 +52,9 @@ open_known state config log c b rep is = elim (cases_lt c 16) [
 pub acted : (state : State) (config : Config) (log new : List Act) (c : ℕ) (kept : Connection) (shared : KeptBench)
     → Represents state config log → length state.connections ≡ 16 → c < 16
     → IsConnection kept (of c new) → IsBench shared config (bench new) → ((d : ℕ) → d ≢ c → of d new ≡ of d log)
+    → AllByRecursion (IsTaken new) shared.waiting
     → Represents (record { connections = set state.connections c kept; bench = shared }) config new
-acted state config log new c kept shared rep sixteen lt mine all others = record {
+acted state config log new c kept shared rep sixteen lt mine all others taken = record {
   each = λ d other below. elim (cases_eq d c) [
     | inl e ↦
         let at : get_or (set state.connections c kept) d other ≡ kept =
@@ -62,72 +67,109 @@ acted state config log new c kept shared rep sixteen lt mine all others = record
   ];
   beyond = λ d h. others d (λ e. absurd (omega arith)) ∙ rep.beyond d h;
   shared = all;
+  taken = taken;
 }
 
 -- one act of a connection
 pub one_act : (state : State) (config : Config) (log : List Act) (c : ℕ) (old new : Connection) (act : ConnAct)
     → Represents state config log → length state.connections ≡ 16 → c < 16 → old ≡ get_or state.connections c old
     → (IsConnection old (of c log) → IsConnection new (act ∷ of c log))
+    → ((call : List ℕ) → unanswered (of c log) ≡ Some call → unanswered (act ∷ of c log) ≡ Some call)
     → Represents (record state { connections = set state.connections c new }) config (On c act ∷ log)
-one_act state config log c old new act rep sixteen lt e goes =
+one_act state config log c old new act rep sixteen lt e goes known =
     acted state config log (On c act ∷ log) c new state.bench rep sixteen lt
     (rw of_mine (goes (connection_of state config log c old rep lt e))) rep.shared (λ d ne. of_other c d act log ne)
+    (taken_acted c log (On c act ∷ log) state.bench.waiting (λ d ne. of_other c d act log ne)
+    (λ call h. ap unanswered (of_mine c act log) ∙ known call h) rep.taken)
+
+-- no call of a connection that is shut waits
+pub none_taken : (kept : Connection) (acts : List ConnAct) (call : List ℕ) → IsConnection kept acts → kept.busy ≡ false
+    → unanswered acts ≡ Some call → ⊥
+none_taken kept acts call is idle known = let z : false ≡ true = sym idle ∙ is.busy ∙ ap is_some known in absurd cc
 
 -- what all connections share acts
 pub shared_acts : (state : State) (config : Config) (log : List Act) (shared : KeptBench) (adds : List BenchAct)
-    → Represents state config log → IsBench shared config (adds ++ bench log)
+    → Represents state config log → IsBench shared config (adds ++ bench log) → shared.waiting ≡ state.bench.waiting
     → Represents (record state { bench = shared }) config (map Bench adds ++ log)
-shared_acts state config log shared adds rep all = record {
+shared_acts state config log shared adds rep all same = record {
   each = λ c other below. rw (of_shared c adds log) (rep.each c other below);
   beyond = λ c above. of_shared c adds log ∙ rep.beyond c above;
   shared = rw (bench_shared adds log) all;
+  taken = rw same (taken_acted 0 log (map Bench adds ++ log) state.bench.waiting (λ d ne. of_shared d adds log)
+      (λ call known. ap unanswered (of_shared 0 adds log) ∙ known) rep.taken);
 }
 
 -- a millisecond passes, and what it brings
 pub ticked : (state : State) (config : Config) (log : List Act) (shared : KeptBench) (adds : List BenchAct)
-    → Represents state config log → IsBench shared config (adds ++ Ticked ∷ bench log)
+    → Represents state config log → IsBench shared config (adds ++ Ticked ∷ bench log) → shared.waiting ≡ state.bench.waiting
     → Represents (record state { bench = shared }) config ((map Bench adds ++ Bench Ticked ∷ []) ++ log)
-ticked state config log shared adds rep all =
-    let parts : (map Bench adds ++ Bench Ticked ∷ []) ++ log ≡ map Bench adds ++ Bench Ticked ∷ log =
-    append_assoc (map Bench adds) (Bench Ticked ∷ []) log in
-    rw parts record {
-      each = λ c other below. rw (of_shared c adds (Bench Ticked ∷ log)) (rep.each c other below);
-      beyond = λ c above. of_shared c adds (Bench Ticked ∷ log) ∙ rep.beyond c above;
-      shared = rw (bench_shared adds (Bench Ticked ∷ log)) all;
-    }
+ticked state config log shared adds rep all same =
+    let parts : (map Bench adds ++ Bench Ticked ∷ []) ++ log ≡ map Bench (adds ++ Ticked ∷ []) ++ log =
+    ap (λ (l : List Act). l ++ log) (map-append adds (Ticked ∷ [])) in
+    rw parts (shared_acts state config log shared (adds ++ Ticked ∷ []) rep
+    (rw (append_assoc adds (Ticked ∷ []) (bench log)) all) same)
 
 -- a connection that closes, with its links
 pub closes : (state : State) (config : Config) (log : List Act) (c : ℕ) (old new : Connection) (shared : KeptBench)
     → Represents state config log → length state.connections ≡ 16 → c < 16 → old ≡ get_or state.connections c old
     → (IsConnection old (of c log) → IsConnection new (PortClosed ∷ of c log))
-    → ((acts : List BenchAct) → IsBench state.bench config acts → IsBench shared config (map Linked (closing c (link_acts acts)) ++ acts))
-    → let links = map Linked (closing c (link_acts (bench log))) in
-    Represents (record { connections = set state.connections c new; bench = shared }) config (map Bench links ++ On c PortClosed ∷ log)
-closes state config log c old new shared rep sixteen lt e goes freed =
+    → ((acts : List BenchAct) → IsBench state.bench config acts
+    → IsBench shared config (map Linked (closing c (link_acts acts)) ++ Waited (Left c) ∷ acts))
+    → shared.waiting ≡ without c state.bench.waiting
+    → let adds = map Linked (closing c (link_acts (bench log))) ++ Waited (Left c) ∷ [] in
+    Represents (record { connections = set state.connections c new; bench = shared }) config (map Bench adds ++ On c PortClosed ∷ log)
+closes state config log c old new shared rep sixteen lt e goes freed left =
     let links = map Linked (closing c (link_acts (bench log))) in
-    acted state config log (map Bench links ++ On c PortClosed ∷ log) c new shared rep sixteen lt
-    (rw (of_shared c links (On c PortClosed ∷ log), of_mine) (goes (connection_of state config log c old rep lt e)))
-    (rw bench_shared (freed (bench log) rep.shared))
-    (λ d ne. of_shared d links (On c PortClosed ∷ log) ∙ of_other c d PortClosed log ne)
+    let adds = links ++ Waited (Left c) ∷ [] in
+    let others = λ (d : ℕ) (ne : d ≢ c). of_shared d adds (On c PortClosed ∷ log) ∙ of_other c d PortClosed log ne in
+    acted state config log (map Bench adds ++ On c PortClosed ∷ log) c new shared rep sixteen lt
+    (rw (of_shared c adds (On c PortClosed ∷ log), of_mine) (goes (connection_of state config log c old rep lt e)))
+    (rw (bench_shared, append_assoc links (Waited (Left c) ∷ []) (bench log)) (freed (bench log) rep.shared))
+    others
+    (rw left (taken_without c log _ state.bench.waiting others rep.taken))
+
+-- what is known of the calls that wait, behind a Turn
+pub held_taken : (c : ℕ) (log : List Act) (call : List ℕ) (verdict : Verdict) (old new : List Entry)
+    → is_busy (of c log) ≡ false → AllByRecursion (IsTaken log) old → HeldAs verdict c (core_call call) old new
+    → AllByRecursion (IsTaken ((verdict_acts c verdict ++ On c (CallTaken call) ∷ []) ++ log)) new
+held_taken c log call NoCall old new idle taken held =
+    rw held (taken_acted c log _ old (λ d ne. of_other c d Faulted (On c (CallTaken call) ∷ log) ne ∙ of_other c d (CallTaken call) log ne)
+    (λ other known. absurd (let z : true ≡ false = sym (ap is_some known) ∙ idle in cc)) taken)
+held_taken c log call (Replies adds aborts bytes) old new idle taken held =
+    let parts : (map Bench adds ++ On c (CallTaken call) ∷ []) ++ log ≡ map Bench adds ++ On c (CallTaken call) ∷ log =
+    append_assoc (map Bench adds) (On c (CallTaken call) ∷ []) log in
+    rw held (taken_acted c log _ old (λ d ne. of_other c d (Replied bytes) _ ne ∙ ap (of d) parts
+    ∙ of_shared d adds (On c (CallTaken call) ∷ log) ∙ of_other c d (CallTaken call) log ne)
+    (λ other known. absurd (let z : true ≡ false = sym (ap is_some known) ∙ idle in cc)) taken)
+held_taken c log call (Stays adds) old new idle taken (entry, mine, is, makes) =
+    let parts : (map Bench adds ++ On c (CallTaken call) ∷ []) ++ log ≡ map Bench adds ++ On c (CallTaken call) ∷ log =
+    append_assoc (map Bench adds) (On c (CallTaken call) ∷ []) log in
+    let here : of c ((map Bench adds ++ On c (CallTaken call) ∷ []) ++ log) ≡ CallTaken call ∷ of c log =
+    ap (of c) parts ∙ of_shared c adds (On c (CallTaken call) ∷ log) ∙ of_mine c (CallTaken call) log in
+    let others = λ (d : ℕ) (ne : d ≢ c). ap (of d) parts ∙ of_shared d adds (On c (CallTaken call) ∷ log)
+    ∙ of_other c d (CallTaken call) log ne in
+    rw is (taken_push _ (without c old) entry (taken_without c log _ old others taken)
+    (call, ap unanswered (ap (λ (d : ℕ). of d ((map Bench adds ++ On c (CallTaken call) ∷ []) ++ log)) mine ∙ here), makes))
 
 -- a Turn of an open connection
-pub turned : (state : State) (config : Config) (log : List Act) (c : ℕ) (kept : Connection) (shared : KeptBench)
-    (result : Result Did Refused)
-    → Represents state config log → length state.connections ≡ 16 → c < 16 → is_shut c log ≡ false
-    → Turns config c log result kept shared
-    → Acts config (Turn c) log result (record { connections = set state.connections c kept; bench = shared })
-turned state config log c kept shared (Ok what) rep sixteen lt open_now (none, does, stands) = (
-  rw open_now none,
-  does,
-  λ polled said. let s = stands polled said in acted state config log _ c kept shared rep sixteen lt s.0 s.1 s.2,
-)
-turned state config log c kept shared (Err NoMemory) rep sixteen lt open_now (none, makes) = (rw open_now none, makes)
-turned state config log c kept shared (Err ConnInUse) rep sixteen lt open_now why = rw open_now why
-turned state config log c kept shared (Err NoConn) rep sixteen lt open_now why = rw open_now why
-turned state config log c kept shared (Err NoRoom) rep sixteen lt open_now why = rw open_now why
-turned state config log c kept shared (Err NotSent) rep sixteen lt open_now why = rw open_now why
-turned state config log c kept shared (Err NoDial) rep sixteen lt open_now why = rw open_now why
-turned state config log c kept shared (Err NotRefusable) rep sixteen lt open_now why = rw open_now why
-turned state config log c kept shared (Err BadChannel) rep sixteen lt open_now why = rw open_now why
-turned state config log c kept shared (Err BadInput) rep sixteen lt open_now why = rw open_now why
-turned state config log c kept shared (Err TimeOver) rep sixteen lt open_now why = rw open_now why
+pub turned : (state : State) (config : Config) (log : List Act) (c : ℕ) (call : List ℕ) (verdict : Verdict) (kept : Connection)
+    (shared : KeptBench)
+    → Represents state config log → length state.connections ≡ 16 → c < 16 → is_busy (of c log) ≡ false
+    → Concludes verdict config (CallTaken call ∷ of c log) (bench log) kept shared
+    → HeldAs verdict c (core_call call) state.bench.waiting shared.waiting
+    → Represents (record { connections = set state.connections c kept; bench = shared }) config
+    ((verdict_acts c verdict ++ On c (CallTaken call) ∷ []) ++ log)
+turned state config log c call verdict kept shared rep sixteen lt idle done held =
+    let s = concluded_stands config c log call verdict kept shared done in
+    acted state config log _ c kept shared rep sixteen lt s.0 s.1 s.2
+    (held_taken c log call verdict state.bench.waiting shared.waiting idle rep.taken held)
+
+-- a call that waited, and was given up or went on
+pub resumed : (state : State) (config : Config) (log : List Act) (c : ℕ) (verdict : Verdict) (kept : Connection) (shared : KeptBench)
+    → Represents state config log → length state.connections ≡ 16 → c < 16
+    → Concludes verdict config (of c log) (bench log) kept shared
+    → AllByRecursion (IsTaken (verdict_acts c verdict ++ log)) shared.waiting
+    → Represents (record { connections = set state.connections c kept; bench = shared }) config (verdict_acts c verdict ++ log)
+resumed state config log c verdict kept shared rep sixteen lt done taken =
+    let s = resumed_stands config c log verdict kept shared done in
+    acted state config log _ c kept shared rep sixteen lt s.0 s.1 s.2 taken

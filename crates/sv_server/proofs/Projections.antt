@@ -1,18 +1,18 @@
 -- The two projections of a log, over acts in front of it.
-use Rattle.std.proofs.Common.{◌≡◌, ◌≢◌, ℕ, true, List, [], ◌∷◌, ◌++◌, refl, sym, ap, ◌∙◌, append_assoc, append-nil, eq-eqb}
-use Rattle.std.specs.Prelude.{map, nat_lt}
+use Rattle.std.proofs.Common.{◌≡◌, ◌≢◌, ℕ, ◌+◌, ◌≤◌, length, true, List, [], ◌∷◌, ◌++◌, refl, sym, ap, ◌∙◌, append_assoc, eq-eqb}
+use Rattle.std.specs.Prelude.{map}
 use Rattle.std.proofs.lemmas.Bool.{ne_eqb}
-use Rattle.sv_links.specs.Links.{LinkAct, made}
+use Rattle.sv_links.specs.Links.{LinkAct, live}
+use Rattle.sv_links.specs.Table.{Table, IsTable}
+use Rattle.sv_links.specs.Queue.{creations}
 use Rattle.sv_layers.specs.Act.{Act as InstrumentAct}
 use Rattle.sv_instrument.specs.Kept.{Kept, StandsFor}
 use Rattle.sv_server.specs.declared.event.Config.{Config}
-use Rattle.sv_server.specs.Act.{Act, ConnAct, BenchAct, CallTaken, Faulted, Linked, Happened, On, Bench, of, bench, link_acts, instrument_acts, ticks}
-use Rattle.sv_server.specs.Dispatch.{Verdict, NoCall, Replies}
-use Rattle.sv_server.specs.History.{verdict_acts, makes_link}
+use Rattle.sv_server.specs.Act.{Act, ConnAct, BenchAct, CallTaken, Faulted, Linked, Happened, On, Bench, of, bench, link_acts, wait_acts, instrument_acts, ticks}
+use Rattle.sv_server.specs.Verdict.{Verdict, NoCall, Replies, Stays, verdict_acts}
 use Rattle.sv_server.specs.KeptConnection.{Connection, IsConnection}
 use Rattle.sv_server.specs.KeptBench.{IsBench, Bench as KeptBench}
 use Rattle.sv_server.specs.Inside.Acting.{Concludes}
-use Rattle.sv_server.specs.Inside.Outcome.{verdict_makes}
 
 -- an act of the connection itself, and of another
 pub of_mine : (c : ℕ) (act : ConnAct) (log : List Act) → of c (On c act ∷ log) ≡ act ∷ of c log
@@ -57,15 +57,41 @@ pub ticks-happened : (adds : List InstrumentAct) (acts : List BenchAct) → tick
 ticks-happened [] acts = refl
 ticks-happened (act ∷ adds) acts = ticks-happened adds acts
 
+pub wait_acts-happened : (adds : List InstrumentAct) (acts : List BenchAct) → wait_acts (map Happened adds ++ acts) ≡ wait_acts acts
+wait_acts-happened [] acts = refl
+wait_acts-happened (act ∷ adds) acts = wait_acts-happened adds acts
+
+pub wait_acts-links : (links : List LinkAct) (acts : List BenchAct) → wait_acts (map Linked links ++ acts) ≡ wait_acts acts
+wait_acts-links [] acts = refl
+wait_acts-links (act ∷ links) acts = wait_acts-links links acts
+
 -- what happens to the instrument happens to nothing else
 pub bench_happened : (kept : KeptBench) (instrument : Kept) (config : Config) (acts : List BenchAct) (adds : List InstrumentAct)
     → IsBench kept config acts → StandsFor instrument (adds ++ instrument_acts acts)
     → IsBench (record kept { instrument = instrument }) config (map Happened adds ++ acts)
-bench_happened kept instrument config acts adds (links, before, set_up, clock) stands = (
+bench_happened kept instrument config acts adds (links, before, set_up, clock, waiting, room, memory) stands = (
   rw (link_acts-happened adds acts) links,
   rw (instrument_acts-happened adds acts) stands,
   set_up,
   rw (ticks-happened adds acts) clock,
+  rw (wait_acts-happened adds acts) waiting,
+  rw (link_acts-happened adds acts) room,
+  memory,
+)
+
+-- what happens to links
+pub bench_linked : (kept : KeptBench) (links : Table) (config : Config) (acts : List BenchAct) (adds : List LinkAct)
+    → IsBench kept config acts → IsTable links (adds ++ link_acts acts)
+    → length (live (adds ++ link_acts acts)) + creations kept.waiting ≤ 32 → creations kept.waiting ≤ links.spare
+    → IsBench (record kept { links = links }) config (map Linked adds ++ acts)
+bench_linked kept links config acts adds (before, instrument, set_up, clock, waiting, room, memory) stands few spare = (
+  rw (link_acts-links adds acts) stands,
+  rw (instrument_acts-links adds acts) instrument,
+  set_up,
+  rw (ticks-links adds acts) clock,
+  rw (wait_acts-links adds acts) waiting,
+  rw (link_acts-links adds acts) few,
+  spare,
 )
 
 -- ---- the acts of a record that was taken
@@ -81,7 +107,7 @@ concluded_stands config c log call NoCall connection shared (mine, all) = (
   all,
   λ d ne. of_other c d Faulted (On c (CallTaken call) ∷ log) ne ∙ of_other c d (CallTaken call) log ne,
 )
-concluded_stands config c log call (Replies adds bytes) connection shared (mine, all) =
+concluded_stands config c log call (Replies adds aborts bytes) connection shared (mine, all) =
     let parts : (map Bench adds ++ On c (CallTaken call) ∷ []) ++ log ≡ map Bench adds ++ On c (CallTaken call) ∷ log =
     append_assoc (map Bench adds) (On c (CallTaken call) ∷ []) log in
     let here : of c (map Bench adds ++ On c (CallTaken call) ∷ log) ≡ CallTaken call ∷ of c log =
@@ -91,11 +117,30 @@ concluded_stands config c log call (Replies adds bytes) connection shared (mine,
       λ d ne. rw (ne_eqb c d (λ e. ne (sym e)), parts)
           (of_shared d adds (On c (CallTaken call) ∷ log) ∙ of_other c d (CallTaken call) log ne),
     )
+concluded_stands config c log call (Stays adds) connection shared (mine, all) =
+    let parts : (map Bench adds ++ On c (CallTaken call) ∷ []) ++ log ≡ map Bench adds ++ On c (CallTaken call) ∷ log =
+    append_assoc (map Bench adds) (On c (CallTaken call) ∷ []) log in
+    let here : of c (map Bench adds ++ On c (CallTaken call) ∷ log) ≡ CallTaken call ∷ of c log =
+    of_shared c adds (On c (CallTaken call) ∷ log) ∙ of_mine c (CallTaken call) log in (
+      rw (parts, here) mine,
+      rw (parts, bench_shared adds (On c (CallTaken call) ∷ log)) all,
+      λ d ne. rw parts (of_shared d adds (On c (CallTaken call) ∷ log) ∙ of_other c d (CallTaken call) log ne),
+    )
 
--- whether they make a link
-pub verdict_links : (c : ℕ) (call : List ℕ) (verdict : Verdict) → verdict_makes verdict ≡ true
-    → makes_link (verdict_acts c verdict ++ On c (CallTaken call) ∷ []) ≡ true
-verdict_links c call NoCall e = absurd cc
-verdict_links c call (Replies adds bytes) e =
-    ap (λ (acts : List BenchAct). nat_lt 0 (made (link_acts acts)))
-    (bench_shared adds (On c (CallTaken call) ∷ []) ∙ append-nil adds) ∙ e
+-- and for those of a call that waited
+pub resumed_stands : (config : Config) (c : ℕ) (log : List Act) (verdict : Verdict) (connection : Connection) (shared : KeptBench)
+    → Concludes verdict config (of c log) (bench log) connection shared
+    → let new = verdict_acts c verdict ++ log in
+    IsConnection connection (of c new) × IsBench shared config (bench new) × ((d : ℕ) → d ≢ c → of d new ≡ of d log)
+resumed_stands config c log NoCall connection shared (mine, all) =
+    (rw (eq-eqb c c refl) mine, all, λ d ne. of_other c d Faulted log ne)
+resumed_stands config c log (Replies adds aborts bytes) connection shared (mine, all) = (
+  rw (eq-eqb c c refl, of_shared c adds log) mine,
+  rw (bench_shared adds log) all,
+  λ d ne. rw (ne_eqb c d (λ e. ne (sym e))) (of_shared d adds log),
+)
+resumed_stands config c log (Stays adds) connection shared (mine, all) = (
+  rw (of_shared c adds log) mine,
+  rw (bench_shared adds log) all,
+  λ d ne. of_shared d adds log,
+)

@@ -15,7 +15,9 @@ use Rattle.sv_instrument.specs.Step.{is_answerable}
 use Rattle.sv_server.specs.declared.event.Config.{Config}
 use Rattle.sv_server.specs.Act.{BenchAct, link_acts, wait_acts, instrument_acts, exchange_acts, ticks}
 use Rattle.sv_server.specs.Execution.{Execution, only}
-use Rattle.sv_server.specs.CoreCall.{named_by, link_named, Patience, lock_patience, is_too_long, failure}
+use Rattle.sv_server.specs.declared.core_call.Patience.{Patience}
+use Rattle.sv_server.specs.declared.admission.Block.{Block}
+use Rattle.sv_server.specs.CoreCall.{named_by, link_named, lock_patience, is_too_long, failure}
 use Rattle.sv_server.specs.CoreChannel.{names_another, make_link, own_call}
 
 -- A call is done, or it begins to wait.
@@ -32,10 +34,6 @@ waits_for config c named wait timeout acts = Waits (Entered c named wait (Some (
 
 -- what a call waits for that needn't wait for the lock, and how long: a write until no ended message waits to be finished, a read until
 -- there is something to answer
-pub record Block : Type 0 where
-  pub wait : Wait
-  pub timeout : ℕ
-
 abbrev pub blocked : Arguments → List BenchAct → Option Block
 blocked (DeviceWrite lid io_timeout lock_timeout flags bytes) acts =
     if has_ended (exchange_acts acts) then Some (record { wait = Input; timeout = io_timeout }) else None
@@ -47,13 +45,18 @@ blocked _ acts = None
 abbrev pub may_make_more : List BenchAct → Bool
 may_make_more acts = nat_lt (length (live (link_acts acts)) + creating (wait_acts acts)) 32 && lids_left (link_acts acts)
 
--- a link is made of the name inst0, while one more may be made; one that asks for the lock waits until no link has it
-abbrev pub create_link : Config → ℕ → Bool → ℕ → List ℕ → List BenchAct → Begun
-create_link config c lock_device lock_timeout device acts =
+-- a link is made; one that asks for the lock waits so long until no link has it
+abbrev pub begin_link : Config → ℕ → Option ℕ → List BenchAct → Begun
+begin_link config c (Some timeout) acts =
+    if is_locked_out (holder (link_acts acts)) None then waits_for config c None Lock timeout acts
+    else Does (make_link config c true acts)
+begin_link config c None acts = Does (make_link config c false acts)
+
+-- it is one of the name inst0, while one more may be made
+abbrev pub create_link : Config → ℕ → Option ℕ → List ℕ → List BenchAct → Begun
+create_link config c timeout device acts =
     if not (bytes_eq device (codes "inst0")) then Does (only (Link NotAccessible (pos 0) 0 0))
-    else (if not (may_make_more acts) then Does (only (Link OutOfResources (pos 0) 0 0))
-    else (if lock_device && is_locked_out (holder (link_acts acts)) None then waits_for config c None Lock lock_timeout acts
-    else Does (make_link config c lock_device acts)))
+    else (if not (may_make_more acts) then Does (only (Link OutOfResources (pos 0) 0 0)) else begin_link config c timeout acts)
 
 -- a call that needn't wait for the lock is done, unless it waits for something else
 abbrev pub unless_blocked : Config → ℕ → ℕ → Arguments → Option Block → List BenchAct → Begun
@@ -62,15 +65,17 @@ unless_blocked config polled c arguments None acts = Does (own_call config polle
 
 abbrev pub behind_lock : Config → ℕ → ℕ → Arguments → List BenchAct → Begun
 behind_lock config polled c (CreateLink client_id lock_device lock_timeout device) acts =
-    create_link config c lock_device lock_timeout device acts
+    create_link config c (if lock_device then Some lock_timeout else None) device acts
 behind_lock config polled c arguments acts = unless_blocked config polled c arguments (blocked arguments acts) acts
 
 -- where another link holds the lock, a call waits for it or fails
+abbrev pub locked_out : Config → ℕ → Arguments → Patience → List BenchAct → Begun
+locked_out config c arguments patience acts = if patience.waits then waits_for config c (named_by arguments) Lock patience.timeout acts
+    else Does (only (failure arguments DeviceLocked))
+
 abbrev pub unless_locked : Config → ℕ → ℕ → Arguments → Option Patience → List BenchAct → Begun
 unless_locked config polled c arguments (Some patience) acts =
-    if is_locked_out (holder (link_acts acts)) (named_by arguments) then
-    (if patience.waits then waits_for config c (named_by arguments) Lock patience.timeout acts
-    else Does (only (failure arguments DeviceLocked)))
+    if is_locked_out (holder (link_acts acts)) (named_by arguments) then locked_out config c arguments patience acts
     else behind_lock config polled c arguments acts
 unless_locked config polled c arguments None acts = behind_lock config polled c arguments acts
 

@@ -7,6 +7,7 @@ use Rattle.sv_rpc.specs.Call.{PlainCall, call_at}
 use Rattle.sv_vxi.specs.declared.error_code.ErrorCode.{ErrorCode}
 use Rattle.sv_vxi.specs.Arguments.{Arguments, DeviceAbort, CreateLink, DeviceWrite, DeviceRead, DeviceReadstb, DeviceTrigger, DeviceClear, DeviceRemote, DeviceLocal, DeviceLock, DeviceUnlock, DeviceEnableSrq, DeviceDocmd, DestroyLink, CreateIntrChan, DestroyIntrChan, core_calls, is_one_of}
 use Rattle.sv_vxi.specs.Reading.{arguments_at}
+use Rattle.sv_server.specs.declared.core_call.Patience.{Patience}
 use Rattle.sv_vxi.specs.Results.{Outcome, Link, Size, Read, Status, Plain, Data}
 
 -- the number of a link, where it may be one
@@ -42,28 +43,24 @@ abbrev pub named_by : Arguments → Option ℕ
 named_by arguments = number_of (link_named arguments)
 
 -- whether a call waits for the lock where another link holds it (section B.4.4), and how long, in milliseconds
-pub record Patience : Type 0 where
-  pub waits : Bool
-  pub timeout : ℕ
-
-abbrev pub patience : ℕ → ℕ → Option Patience
-patience flags timeout = Some (record { waits = bit_at flags 0 == 1; timeout = timeout })
+abbrev pub patience_by : ℕ → ℕ → Option Patience
+patience_by flags timeout = Some (record { waits = bit_at flags 0 == 1; timeout = timeout })
 
 -- of the calls that go on only while no other link holds the lock
 abbrev pub lock_patience : Arguments → Option Patience
 lock_patience (DeviceAbort lid) = None
 lock_patience (CreateLink client_id lock_device lock_timeout device) = None
-lock_patience (DeviceWrite lid io_timeout lock_timeout flags bytes) = patience flags lock_timeout
-lock_patience (DeviceRead lid request_size io_timeout lock_timeout flags term_char) = patience flags lock_timeout
-lock_patience (DeviceReadstb lid flags lock_timeout io_timeout) = patience flags lock_timeout
-lock_patience (DeviceTrigger lid flags lock_timeout io_timeout) = patience flags lock_timeout
-lock_patience (DeviceClear lid flags lock_timeout io_timeout) = patience flags lock_timeout
-lock_patience (DeviceRemote lid flags lock_timeout io_timeout) = patience flags lock_timeout
-lock_patience (DeviceLocal lid flags lock_timeout io_timeout) = patience flags lock_timeout
-lock_patience (DeviceLock lid flags lock_timeout) = patience flags lock_timeout
+lock_patience (DeviceWrite lid io_timeout lock_timeout flags bytes) = patience_by flags lock_timeout
+lock_patience (DeviceRead lid request_size io_timeout lock_timeout flags term_char) = patience_by flags lock_timeout
+lock_patience (DeviceReadstb lid flags lock_timeout io_timeout) = patience_by flags lock_timeout
+lock_patience (DeviceTrigger lid flags lock_timeout io_timeout) = patience_by flags lock_timeout
+lock_patience (DeviceClear lid flags lock_timeout io_timeout) = patience_by flags lock_timeout
+lock_patience (DeviceRemote lid flags lock_timeout io_timeout) = patience_by flags lock_timeout
+lock_patience (DeviceLocal lid flags lock_timeout io_timeout) = patience_by flags lock_timeout
+lock_patience (DeviceLock lid flags lock_timeout) = patience_by flags lock_timeout
 lock_patience (DeviceUnlock lid) = None
 lock_patience (DeviceEnableSrq lid enable handle) = None
-lock_patience (DeviceDocmd lid flags io_timeout lock_timeout cmd network_order datasize bytes) = patience flags lock_timeout
+lock_patience (DeviceDocmd lid flags io_timeout lock_timeout cmd network_order datasize bytes) = patience_by flags lock_timeout
 lock_patience (DestroyLink lid) = None
 lock_patience (CreateIntrChan host_addr host_port prog_num prog_vers prog_family) = None
 lock_patience DestroyIntrChan = None

@@ -4,6 +4,7 @@ use Rattle.sv_rpc.specs.declared.reply.Reply.TheVariants.{Success}
 use Rattle.sv_vxi.specs.declared.error_code.ErrorCode.{ErrorCode}
 use Rattle.sv_vxi.specs.declared.error_code.ErrorCode.TheVariants.{IoTimeout}
 use Rattle.sv_vxi.specs.declared.error_code.ErrorCode.TheVariants.{Locked as DeviceLocked}
+use Rattle.sv_vxi.specs.Arguments.{Arguments}
 use Rattle.sv_vxi.specs.Results.{result_fields}
 use Rattle.sv_links.specs.declared.waiting.Wait.{Wait}
 use Rattle.sv_links.specs.declared.waiting.Wait.TheVariants.{Lock, Input, Response, Dial}
@@ -13,16 +14,17 @@ use Rattle.sv_server.specs.Act.{BenchAct, Waited}
 use Rattle.sv_server.specs.Reply.{reply_record}
 use Rattle.sv_server.specs.CoreCall.{CoreCall, failure}
 use Rattle.sv_server.specs.CoreChannel.{own_call}
-use Rattle.sv_server.specs.Admission.{Block, blocked, deadline_of}
+use Rattle.sv_server.specs.declared.admission.Block.{Block}
+use Rattle.sv_server.specs.Admission.{blocked, deadline_of}
 use Rattle.sv_server.specs.Execution.{Execution}
 use Rattle.sv_server.specs.Verdict.{Verdict, Replies, Stays, execution_verdict}
 
 -- what a call then waits for that waited for the lock; one that waited for something else needn't wait again
-abbrev pub blocked_again : Wait → CoreCall → List BenchAct → Option Block
-blocked_again Lock call acts = blocked call.arguments acts
-blocked_again Input call acts = None
-blocked_again Response call acts = None
-blocked_again Dial call acts = None
+abbrev pub blocked_again : Wait → Arguments → List BenchAct → Option Block
+blocked_again Lock arguments acts = blocked arguments acts
+blocked_again Input arguments acts = None
+blocked_again Response arguments acts = None
+blocked_again Dial arguments acts = None
 
 -- it ends to wait, and then is answered
 abbrev pub leaves : ℕ → ℕ → Execution → Verdict
@@ -36,7 +38,7 @@ goes_on config polled c call None acts = leaves c call.xid (own_call config poll
 -- A call that waited for this goes on: it is done, or waits anew with its place kept, from now on. The link and the lock aren't looked at
 -- again.
 abbrev pub gone_on : Config → ℕ → ℕ → Wait → Option CoreCall → List BenchAct → Verdict
-gone_on config polled c wait (Some call) acts = goes_on config polled c call (blocked_again wait call acts) acts
+gone_on config polled c wait (Some call) acts = goes_on config polled c call (blocked_again wait call.arguments acts) acts
 gone_on config polled c wait None acts = Stays (Waited (Left c) ∷ [])
 
 -- A call is given up, with this error.

@@ -26,13 +26,13 @@ CanGoOn acts = IsAble (holder (link_acts acts)) (not (has_ended (exchange_acts a
 
 -- The oldest call that can go on does.
 abbrev pub GoesOn : Config → List Act → List Act → Type 0
-GoesOn config log new = (c : ℕ) (wait : Wait) (polled : ℕ) × IsOldest (wait_acts (bench log)) (CanGoOn (bench log)) (Some c)
+GoesOn config log new = (c : ℕ) × (wait : Wait) × (polled : ℕ) × IsOldest (wait_acts (bench log)) (CanGoOn (bench log)) (Some c)
     × (waits c (wait_acts (bench log)) ≡ Some wait) × IsPolled polled (bench log)
     × (new ≡ verdict_acts c (gone_on config polled c wait (core_call_in (unanswered (of c log))) (bench log)) ++ log)
 
 -- The oldest call whose deadline has come is given up.
 abbrev pub GivesUp : Config → List Act → List Act → Type 0
-GivesUp config log new = (c : ℕ) (wait : Wait)
+GivesUp config log new = (c : ℕ) × (wait : Wait)
     × IsOldest (wait_acts (bench log)) (IsExpired (config.clock + ticks (bench log)) (wait_acts (bench log))) (Some c)
     × (waits c (wait_acts (bench log)) ≡ Some wait)
     × (new ≡ verdict_acts c (given_up (late wait) c (core_call_in (unanswered (of c log)))) ++ log)

@@ -1,14 +1,16 @@
 //! What all connections share: links, calls that wait, the instrument and the clock.
 
-ghost use Rattle.std.specs.Prelude.{◌≡◌, ◌+◌, ◌<◌, ◌≤◌, List, [], ◌∷◌, ◌++◌, length, map, IfOk, ◌==◌, false};
+ghost use Rattle.std.specs.Prelude.{◌≡◌, ◌+◌, ◌<◌, ◌≤◌, List, [], ◌∷◌, ◌++◌, length, map, option_map, IfOk, IfSome, ◌==◌, true, false};
 ghost use Rattle.sv_links.specs.Links.{closing};
-ghost use Rattle.sv_links.specs.Waiting.{Left};
-ghost use Rattle.sv_links.specs.Queue.{without};
+ghost use Rattle.sv_links.specs.Waiting.{Left, IsExpired, IsOldest};
+ghost use Rattle.sv_links.specs.Queue.{IsEntry, creates, creations, without};
 ghost use Rattle.sv_scan.specs.declared.acts.ScanAct.TheVariants.{Input};
 ghost use Rattle.sv_layers.specs.Act.{Scanned};
 ghost use Rattle.sv_instrument.specs.Happened.{external_acts, tick_acts};
 ghost use Rattle.sv_server.specs.declared.event.Config.{Config};
-ghost use Rattle.sv_server.specs.Act.{BenchAct, Linked, Waited, Happened, Ticked, link_acts, instrument_acts, ticks};
+ghost use Rattle.sv_server.specs.Act.{BenchAct, Linked, Waited, Happened, Ticked, link_acts, wait_acts, instrument_acts, ticks};
+ghost use Rattle.sv_server.specs.Settling.{CanGoOn};
+ghost use Rattle.sv_server.specs.Inside.Kept.{IsKept};
 ghost use Rattle.sv_server.specs.KeptBench.{IsBench};
 
 use crate::event::Config;
@@ -140,7 +142,15 @@ impl<A: Allocator> Bench<A> {
     }
 
     /// The oldest call that waits and can go on; none where none can.
-    pub fn oldest_able(&self) -> Option<Entry> {
+    pub fn oldest_able(&self) -> Option<Entry>
+        ensures answer { (config : Config) (acts : List BenchAct) → IsBench self.now config acts
+            → IsOldest (wait_acts acts) (CanGoOn acts) (option_map (λ entry. entry.conn) result) }
+        ensures entry { (config : Config) (acts : List BenchAct) → IsBench self.now config acts
+            → IfSome result (λ entry. IsEntry (wait_acts acts) entry) }
+        ensures kept { IfSome result (λ entry. IsKept entry self.now.waiting) }
+        ensures fewer { IfSome result (λ entry. creates entry ≡ true
+            → creations (without entry.conn self.now.waiting) < creations self.now.waiting) }
+    {
         self.waiting.oldest_able(
             self.links.holder(),
             self.instrument.can_write(),
@@ -149,7 +159,14 @@ impl<A: Allocator> Bench<A> {
     }
 
     /// The oldest call that waits and whose deadline has come; none where none's has.
-    pub fn expired(&self) -> Option<Entry> {
+    pub fn expired(&self) -> Option<Entry>
+        ensures answer { (config : Config) (acts : List BenchAct) → IsBench self.now config acts
+            → IsOldest (wait_acts acts) (IsExpired (config.clock + ticks acts) (wait_acts acts))
+            (option_map (λ entry. entry.conn) result) }
+        ensures entry { (config : Config) (acts : List BenchAct) → IsBench self.now config acts
+            → IfSome result (λ entry. IsEntry (wait_acts acts) entry) }
+        ensures kept { IfSome result (λ entry. IsKept entry self.now.waiting) }
+    {
         self.waiting.expired(self.clock)
     }
 }

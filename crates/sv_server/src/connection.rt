@@ -35,7 +35,7 @@ impl<A: Allocator> Model for Connection<A> {
 
     ghost Value = { Connection };
 
-    ghost use Rattle.std.specs.Prelude.{◌≡◌, ◌≢◌, ◌+◌, ◌≤◌, true, [], length, vec_capacity};
+    ghost use Rattle.std.specs.Prelude.{◌≡◌, ◌≢◌, ◌+◌, ◌≤◌, true, None, [], length, vec_capacity};
 
     ghost view = { λ a. record {
       role = a.role;
@@ -46,7 +46,8 @@ impl<A: Allocator> Model for Connection<A> {
     } };
 
     ghost invariant = { λ a. (length a.output.items ≤ 16384) × (16384 ≤ vec_capacity a.output)
-        × (a.busy ≡ true → (a.input.records ≢ []) × (length a.output.items + 8232 ≤ 16384)) };
+        × (a.busy ≡ true → (a.role ≢ None) × (a.input.records ≢ [])
+        × (length a.output.items + 8232 ≤ 16384)) };
 }
 
 impl<A: Allocator + Copy> Connection<A> {
@@ -74,7 +75,8 @@ impl<A: Allocator> Connection<A> {
 
     /// Whether it is open.
     pub fn is_open(&self) -> bool
-        ensures { result ≡ is_some self.now.role }
+        ensures value { result ≡ is_some self.now.role }
+        ensures shut { result ≡ false → self.now.busy ≡ false }
     {
         self.role.is_some()
     }
@@ -222,6 +224,7 @@ impl<A: Allocator> Connection<A> {
     pub fn take_call(&mut self)
         requires next { IsSome (kept_next self.old) }
         requires room { length self.old.output + 8232 ≤ 16384 }
+        requires open { self.old.role ≢ None }
         ensures { (acts : List ConnAct) (call : List ℕ) → IsConnection self.old acts
             → next_call acts ≡ Some call → IsConnection self.new (CallTaken call ∷ acts) }
     {

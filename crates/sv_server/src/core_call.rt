@@ -1,9 +1,10 @@
 //! The calls of the core channel (VXI-11 revision 1.0, section B.6), as their arguments say them.
 
-ghost use Rattle.std.specs.Prelude.{◌≡◌};
+ghost use Rattle.std.specs.Prelude.{◌≡◌, option_map};
 ghost use Rattle.sv_vxi.specs.Reading.{plain_arguments};
-ghost use Rattle.sv_server.specs.CoreCall.{lid_of as lid_for, link_named as link_for, named_by as named_for, patience as patience_of, lock_patience as patience_for, is_too_long as too_long};
+ghost use Rattle.sv_server.specs.CoreCall.{lid_of as lid_for, link_named as link_for, named_by as named_for, patience_by as patience_for_flags, lock_patience as patience_for, is_too_long as too_long, core_call as read_as};
 ghost use Rattle.sv_server.specs.CoreChannel.{term_of as term_for};
+ghost use Rattle.sv_server.specs.Inside.Outcome.{plain_core_call};
 
 use crate::dispatch::is_core_call;
 use sv_rpc::read_call;
@@ -11,6 +12,15 @@ use sv_vxi::{Args, Flags, read_args};
 
 /// The most that a write may bring, in bytes.
 pub const MAX_WRITE: usize = 4096;
+
+/// A call of the core channel.
+#[derive(Clone, Copy)]
+pub struct CoreCall<'a> {
+    /// Its transaction.
+    pub xid: u32,
+    /// Its arguments.
+    pub args: Args<'a>,
+}
 
 /// Whether a call waits for the lock where another link holds it.
 #[derive(Clone, Copy)]
@@ -63,8 +73,8 @@ pub fn named_by(args: &Args<'_>) -> Option<u32>
 }
 
 /// What the flags of a call and its timeout say of the lock.
-fn patience(flags: Flags, timeout: u32) -> Option<Patience>
-    ensures { result ≡ patience_of flags.0 timeout }
+fn patience_by(flags: Flags, timeout: u32) -> Option<Patience>
+    ensures { result ≡ patience_for_flags flags.0 timeout }
 {
     Some(Patience {
         waits: flags.has_wait_lock(),
@@ -121,7 +131,7 @@ pub fn lock_patience(args: &Args<'_>) -> Option<Patience>
             flags,
             lock_timeout,
             ..
-        } => patience(flags, lock_timeout),
+        } => patience_by(flags, lock_timeout),
         Args::DeviceAbort { .. }
         | Args::CreateLink { .. }
         | Args::DeviceUnlock { .. }
@@ -168,7 +178,9 @@ pub fn term_of(flags: Flags, term_char: u32) -> Option<u8>
 }
 
 /// A call of the core channel that was taken, with its transaction, where it can be read.
-pub fn core_call(record: &[u8]) -> Option<(u32, Args<'_>)> {
+pub fn core_call(record: &[u8]) -> Option<CoreCall<'_>>
+    ensures { option_map plain_core_call result ≡ read_as record.now }
+{
     let Ok(call) = read_call(record) else {
         return None;
     };
@@ -176,7 +188,10 @@ pub fn core_call(record: &[u8]) -> Option<(u32, Args<'_>)> {
         return None;
     }
     match read_args(call.proc, call.args) {
-        Ok(args) => Some((call.xid, args)),
+        Ok(args) => Some(CoreCall {
+            xid: call.xid,
+            args,
+        }),
         Err(_) => None,
     }
 }

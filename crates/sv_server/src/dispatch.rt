@@ -1,14 +1,16 @@
 //! What becomes of a record that was taken: its header is looked at, and then it is a call of the
 //! program that its connection serves.
 
-ghost use Rattle.std.specs.Prelude.{◌≡◌, ◌==◌, ◌++◌, ℕ, true, List, Result, IfOk, OnErr, IsSome, None};
+ghost use Rattle.std.specs.Prelude.{◌≡◌, ◌<◌, ℕ, true, List, Option, Ok, IfOk, OnErr, None};
 ghost use Rattle.sv_rpc.specs.Call.{plain_call, call_at};
 ghost use Rattle.sv_vxi.specs.Arguments.{core_calls, abort_calls, is_one_of};
-ghost use Rattle.sv_vxi.specs.Reading.{arguments_at};
+ghost use Rattle.sv_vxi.specs.Reading.{plain_arguments, arguments_at};
 ghost use Rattle.sv_server.specs.declared.event.Config.{Config as Configured};
 ghost use Rattle.sv_server.specs.Act.{BenchAct};
-ghost use Rattle.sv_server.specs.Dispatch.{program_of as program_for, version_of as version_for, procedures_of, header_reply as reply_to, verdict_of, call_verdict as verdict_for, procedure_verdict as verdict_by};
-ghost use Rattle.sv_server.specs.Inside.Outcome.{IsBenchAt, ConsideredAs, IsConcluded, IsShortEnding, IsShortVerdict, verdict_wants};
+ghost use Rattle.sv_server.specs.CoreCall.{CoreCall, core_call, core_call_of};
+ghost use Rattle.sv_server.specs.Dispatch.{program_of as program_for, version_of as version_for, procedures_of, header_reply as reply_to, verdict_of, call_verdict as verdict_for, procedure_verdict as verdict_by, core_verdict as core_verdict_for, link_aborted as link_aborted_by, abort_verdict as abort_verdict_for};
+ghost use Rattle.sv_server.specs.KeptBench.{IsBench};
+ghost use Rattle.sv_server.specs.Inside.Outcome.{IsBenchAt, ConsideredAs, WaitsAs, IsConcluded, IsShortEnding, IsShortVerdict, ended_by, verdict_wants};
 
 use crate::bench::{Bench, Ending};
 use crate::core_call::lid_of;
@@ -137,7 +139,9 @@ pub enum Verdict {
 
 impl Verdict {
     /// The connection whose waiting call it ends.
-    pub fn aborts(&self) -> Option<u8> {
+    pub fn aborts(&self) -> Option<u8>
+        ensures { result ≡ ended_by self.now }
+    {
         match *self {
             Verdict::Answer { aborts, .. } => aborts,
             Verdict::NoCall | Verdict::Response { .. } | Verdict::Waits => None,
@@ -146,7 +150,9 @@ impl Verdict {
 }
 
 /// An answer that ends no other call.
-fn answered(xid: u32, answer: Answer<'static>) -> Verdict {
+fn answered(xid: u32, answer: Answer<'static>) -> Verdict
+    ensures { result ≡ Verdict.Answer xid answer None }
+{
     Verdict::Answer {
         xid,
         answer,
@@ -165,14 +171,6 @@ pub fn execution_verdict(xid: u32, ending: Ending) -> Verdict
     }
 }
 
-/// A call that was begun, as it is answered, unless it waits.
-pub fn begun_verdict(xid: u32, begun: Option<Ending>) -> Verdict {
-    match begun {
-        Some(ending) => execution_verdict(xid, ending),
-        None => Verdict::Waits,
-    }
-}
-
 /// Begins a call of the core channel.
 fn core_verdict<A: Allocator>(
     shared: &mut Bench<A>,
@@ -181,15 +179,32 @@ fn core_verdict<A: Allocator>(
 ) -> Result<Verdict, AllocError>
     requires proc { is_one_of core_calls call.now.proc ≡ true }
     requires within { conn < 16 }
+    ensures ok { (config : Configured) (polled : ℕ) (acts : List BenchAct)
+        → IsBenchAt shared.old config polled acts
+        → IfOk result (λ verdict. ConsideredAs verdict shared.new config acts
+        (core_verdict_for config polled conn call.now.xid (arguments_at call.now.proc call.now.args.now) acts)) }
+    ensures short { IfOk result (λ verdict. IsShortVerdict verdict) }
+    ensures waits { IfOk result (λ verdict. WaitsAs verdict conn (core_call_of (Ok (plain_call call.now)))
+        shared.old.waiting shared.new.waiting) }
+    ensures err { OnErr result (shared.new ≡ shared.old) }
+    ensures lacks { (config : Configured) (polled : ℕ) (acts : List BenchAct)
+        → IsBenchAt shared.old config polled acts
+        → OnErr result (verdict_wants (core_verdict_for config polled conn call.now.xid (arguments_at call.now.proc call.now.args.now) acts)
+        ≡ true) }
 {
     match read_args(call.proc, call.args) {
-        Ok(args) => Ok(begun_verdict(call.xid, shared.begin(conn, &args)?)),
+        Ok(args) => match shared.begin(conn, &args)? {
+            Some(ending) => Ok(execution_verdict(call.xid, ending)),
+            None => Ok(Verdict::Waits),
+        },
         Err(_) => Ok(answered(call.xid, Answer::Header(Reply::GarbageArgs))),
     }
 }
 
 /// The link that device_abort names.
-fn link_aborted(args: &Args<'_>) -> Option<i32> {
+fn link_aborted(args: &Args<'_>) -> Option<i32>
+    ensures { result ≡ link_aborted_by (Ok (plain_arguments args.now)) }
+{
     match *args {
         Args::DeviceAbort { lid } => Some(lid),
         Args::CreateLink { .. }
@@ -210,21 +225,35 @@ fn link_aborted(args: &Args<'_>) -> Option<i32> {
     }
 }
 
+/// The link that a call of the abort channel names, where its arguments can be read.
+fn aborted_lid(call: &Call<'_>) -> Option<i32>
+    requires { is_one_of abort_calls call.now.proc ≡ true }
+    ensures { result ≡ link_aborted_by (arguments_at call.now.proc call.now.args.now) }
+{
+    match read_args(call.proc, call.args) {
+        Ok(args) => link_aborted(&args),
+        Err(_) => None,
+    }
+}
+
 /// Does a call of the abort channel.
 fn abort_verdict<A: Allocator>(shared: &Bench<A>, call: &Call<'_>) -> Verdict
     requires { is_one_of abort_calls call.now.proc ≡ true }
+    ensures ok { (config : Configured) (acts : List BenchAct) → IsBench shared.now config acts
+        → ConsideredAs result shared.now config acts (abort_verdict_for call.now.xid
+        (link_aborted_by (arguments_at call.now.proc call.now.args.now)) acts) }
+    ensures short { IsShortVerdict result }
+    ensures waits { (conn : ℕ) (core : Option CoreCall)
+        → WaitsAs result conn core shared.now.waiting shared.now.waiting }
 {
-    let named = match read_args(call.proc, call.args) {
-        Ok(args) => link_aborted(&args),
-        Err(_) => None,
+    let Some(named) = aborted_lid(call) else {
+        return answered(call.xid, Answer::Header(Reply::GarbageArgs));
     };
-    match named {
-        Some(lid) => Verdict::Answer {
-            xid: call.xid,
-            answer: Answer::Result(shared.abort_result(lid_of(lid))),
-            aborts: shared.aborted(lid_of(lid)),
-        },
-        None => answered(call.xid, Answer::Header(Reply::GarbageArgs)),
+    let lid = lid_of(named);
+    Verdict::Answer {
+        xid: call.xid,
+        answer: Answer::Result(shared.abort_result(lid)),
+        aborts: shared.aborted(lid),
     }
 }
 
@@ -235,17 +264,19 @@ fn procedure<A: Allocator>(
     role: Role,
     call: &Call<'_>,
 ) -> Result<Verdict, AllocError>
-    requires { reply_to role (plain_call call.now) ≡ None }
+    requires header { reply_to role (plain_call call.now) ≡ None }
+    requires within { conn < 16 }
     ensures ok { (config : Configured) (polled : ℕ) (acts : List BenchAct)
         → IsBenchAt shared.old config polled acts
         → IfOk result (λ verdict. ConsideredAs verdict shared.new config acts
         (verdict_by config polled conn role (plain_call call.now) acts)) }
     ensures short { IfOk result (λ verdict. IsShortVerdict verdict) }
+    ensures waits { IfOk result (λ verdict. WaitsAs verdict conn (core_call_of (Ok (plain_call call.now)))
+        shared.old.waiting shared.new.waiting) }
     ensures err { OnErr result (shared.new ≡ shared.old) }
     ensures lacks { (config : Configured) (polled : ℕ) (acts : List BenchAct)
         → IsBenchAt shared.old config polled acts
-        → OnErr result (verdict_wants
-        (verdict_by config polled conn role (plain_call call.now) acts)
+        → OnErr result (verdict_wants (verdict_by config polled conn role (plain_call call.now) acts)
         ≡ true) }
 {
     match role {
@@ -262,17 +293,19 @@ fn call_verdict<A: Allocator>(
     role: Role,
     call: &Call<'_>,
 ) -> Result<Verdict, AllocError>
+    requires { conn < 16 }
     ensures ok { (config : Configured) (polled : ℕ) (acts : List BenchAct)
         → IsBenchAt shared.old config polled acts
         → IfOk result (λ verdict. ConsideredAs verdict shared.new config acts
         (verdict_for config polled conn role (plain_call call.now)
         (reply_to role (plain_call call.now)) acts)) }
     ensures short { IfOk result (λ verdict. IsShortVerdict verdict) }
+    ensures waits { IfOk result (λ verdict. WaitsAs verdict conn (core_call_of (Ok (plain_call call.now)))
+        shared.old.waiting shared.new.waiting) }
     ensures err { OnErr result (shared.new ≡ shared.old) }
     ensures lacks { (config : Configured) (polled : ℕ) (acts : List BenchAct)
         → IsBenchAt shared.old config polled acts
-        → OnErr result (verdict_wants
-        (verdict_for config polled conn role (plain_call call.now)
+        → OnErr result (verdict_wants (verdict_for config polled conn role (plain_call call.now)
         (reply_to role (plain_call call.now)) acts)
         ≡ true) }
 {
@@ -289,11 +322,14 @@ pub fn consider<A: Allocator>(
     role: Role,
     bytes: &[u8],
 ) -> Result<Verdict, AllocError>
+    requires { conn < 16 }
     ensures ok { (config : Configured) (polled : ℕ) (acts : List BenchAct)
         → IsBenchAt shared.old config polled acts
         → IfOk result (λ verdict. ConsideredAs verdict shared.new config acts
         (verdict_of config polled conn role (call_at bytes.now) acts)) }
     ensures short { IfOk result (λ verdict. IsShortVerdict verdict) }
+    ensures waits { IfOk result (λ verdict. WaitsAs verdict conn (core_call bytes.now)
+        shared.old.waiting shared.new.waiting) }
     ensures err { OnErr result (shared.new ≡ shared.old) }
     ensures lacks { (config : Configured) (polled : ℕ) (acts : List BenchAct)
         → IsBenchAt shared.old config polled acts

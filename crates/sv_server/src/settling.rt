@@ -1,7 +1,25 @@
 //! The steps that follow an event.
 
+ghost use Rattle.std.specs.Prelude.{◌≡◌, ◌≢◌, ◌<◌, ◌≤◌, ◌++◌, ℕ, List, Some, None, true, false, IsTrue};
+ghost use Rattle.sv_links.specs.Waiting.{waits};
+ghost use Rattle.sv_links.specs.Queue.{IsEntry, creates, creations, without, rank};
+ghost use Rattle.sv_instrument.specs.Happened.{IsFired};
+ghost use Rattle.sv_instrument.specs.Step.{IsStep};
+ghost use Rattle.sv_instrument.specs.Kept.{left_of};
+ghost use Rattle.sv_server.specs.declared.event.Config.{Config};
+ghost use Rattle.sv_server.specs.Act.{Act, of, bench, wait_acts};
+ghost use Rattle.sv_server.specs.Connection.{unanswered};
+ghost use Rattle.sv_server.specs.CoreCall.{core_call_in};
+ghost use Rattle.sv_server.specs.Polled.{IsPolled};
+ghost use Rattle.sv_server.specs.Verdict.{verdict_acts};
+ghost use Rattle.sv_server.specs.Resuming.{gone_on, given_up, late as late_error};
+ghost use Rattle.sv_server.specs.Settling.{CanGoOn, Happens, GoesOn, GivesUp, IsSettled};
+ghost use Rattle.sv_server.specs.State.{Represents};
+ghost use Rattle.sv_server.specs.Inside.Kept.{IsKept};
+ghost use Rattle.sv_server.specs.Inside.Acting.{TakesStep, Steps, GoesTo, Settled};
+
 use crate::core_call::core_call;
-use crate::dispatch::begun_verdict;
+use crate::dispatch::execution_verdict;
 use crate::outcomes::failure;
 use crate::reply::Answer;
 use crate::server::Server;
@@ -22,7 +40,9 @@ enum Stepped {
 }
 
 /// The error of a call that waited too long for this.
-fn late(wait: Wait) -> ErrorCode {
+fn late(wait: Wait) -> ErrorCode
+    ensures { result ≡ late_error wait }
+{
     match wait {
         Wait::Lock => ErrorCode::Locked,
         Wait::Input | Wait::Response | Wait::Dial => ErrorCode::IoTimeout,
@@ -32,50 +52,130 @@ fn late(wait: Wait) -> ErrorCode {
 impl<A: Allocator> Server<A> {
     /// A call that waits goes on: it is done, or it waits anew.
     fn go_on(&mut self, entry: Entry)
-        requires { entry.conn < 16 }
+        requires { IsKept entry self.old.bench.waiting }
+        ensures stands { (config : Config) (polled : ℕ) (log : List Act)
+            → Represents self.old config log → IsPolled polled (bench log)
+            → CanGoOn (bench log) entry.conn → IsEntry (wait_acts (bench log)) entry
+            → (creates entry ≡ true → creations (without entry.conn self.old.bench.waiting)
+            < creations self.old.bench.waiting)
+            → Represents self.new config (verdict_acts entry.conn (gone_on config polled entry.conn
+            entry.wait (core_call_in (unanswered (of entry.conn log))) (bench log)) ++ log) }
+        ensures measure { rank self.new.bench.waiting < rank self.old.bench.waiting }
     {
         let connection = &mut self.connections[usize::from(entry.conn)];
-        let Some((xid, args)) = connection.taken().and_then(core_call) else {
+        let Some(call) = connection.taken().and_then(core_call) else {
             self.bench.waiting.leave(entry.conn);
             return;
         };
-        let resumed = self.bench.resume(entry.conn, entry.wait, &args);
-        conclude(begun_verdict(xid, resumed), connection, &mut self.bench);
+        if let Some(ending) = self.bench.resume(entry.conn, entry.wait, &call.args) {
+            conclude(execution_verdict(call.xid, ending), connection, &mut self.bench);
+        }
     }
 
     /// A call that waits is given up, with this error.
     pub(crate) fn give_up(&mut self, conn: u8, error: ErrorCode)
         requires { conn < 16 }
+        ensures stands { (config : Config) (log : List Act) → Represents self.old config log
+            → (waits conn (wait_acts (bench log)) ≡ None → ⊥)
+            → Represents self.new config (verdict_acts conn
+            (given_up error conn (core_call_in (unanswered (of conn log)))) ++ log) }
+        ensures waiting { self.new.bench.waiting ≡ without conn self.old.bench.waiting }
     {
         self.bench.waiting.leave(conn);
         let connection = &mut self.connections[usize::from(conn)];
-        if let Some((xid, args)) = connection.taken().and_then(core_call) {
-            let result = failure(&args, error);
-            connection.answer(xid, &Answer::Result(result));
+        if let Some(call) = connection.taken().and_then(core_call) {
+            let result = failure(&call.args, error);
+            connection.answer(call.xid, &Answer::Result(result));
+        }
+    }
+
+    /// A trigger that comes at once, where one is due.
+    fn fire(&mut self) -> bool
+        ensures steps { (config : Config) (log : List Act) → Represents self.old config log
+            → TakesStep (λ config. Happens IsFired) result config log self.old self.new }
+        ensures measure { IsTrue result
+            → left_of self.new.bench.instrument < left_of self.old.bench.instrument }
+        ensures waiting { self.new.bench.waiting ≡ self.old.bench.waiting }
+    {
+        self.bench.instrument.fire().is_some()
+    }
+
+    /// A step of message exchange, where one is due.
+    fn exchange(&mut self) -> bool
+        ensures steps { (config : Config) (log : List Act) → Represents self.old config log
+            → TakesStep (λ config. Happens IsStep) result config log self.old self.new }
+        ensures measure { IsTrue result
+            → left_of self.new.bench.instrument < left_of self.old.bench.instrument }
+        ensures waiting { self.new.bench.waiting ≡ self.old.bench.waiting }
+    {
+        self.bench.instrument.step().is_some()
+    }
+
+    /// The oldest call that can go on does, where one can.
+    fn go_on_oldest(&mut self) -> bool
+        ensures steps { (config : Config) (log : List Act) → Represents self.old config log
+            → TakesStep GoesOn result config log self.old self.new }
+        ensures measure { IsTrue result
+            → rank self.new.bench.waiting < rank self.old.bench.waiting }
+    {
+        match self.bench.oldest_able() {
+            Some(entry) => {
+                self.go_on(entry);
+                true
+            }
+            None => false,
+        }
+    }
+
+    /// The oldest call whose deadline has come is given up, where one's has.
+    fn give_up_oldest(&mut self) -> bool
+        ensures steps { (config : Config) (log : List Act) → Represents self.old config log
+            → TakesStep GivesUp result config log self.old self.new }
+        ensures measure { IsTrue result
+            → rank self.new.bench.waiting < rank self.old.bench.waiting }
+    {
+        match self.bench.expired() {
+            Some(entry) => {
+                self.give_up(entry.conn, late(entry.wait));
+                true
+            }
+            None => false,
         }
     }
 
     /// Takes the step that is due.
-    fn step(&mut self) -> Stepped {
-        if self.bench.instrument.fire().is_some() {
+    fn step(&mut self) -> Stepped
+        ensures steps { (config : Config) (log : List Act) → Represents self.old config log
+            → Steps result config log self.new }
+        ensures instrument { result ≡ Stepped.Instrument
+            → left_of self.new.bench.instrument < left_of self.old.bench.instrument }
+        ensures waiting { (result ≡ Stepped.Call → ⊥)
+            → self.new.bench.waiting ≡ self.old.bench.waiting }
+        ensures call { result ≡ Stepped.Call
+            → rank self.new.bench.waiting < rank self.old.bench.waiting }
+    {
+        if self.fire() {
             return Stepped::Instrument;
         }
-        if let Some(entry) = self.bench.oldest_able() {
-            self.go_on(entry);
+        if self.go_on_oldest() {
             return Stepped::Call;
         }
-        if self.bench.instrument.step().is_some() {
+        if self.exchange() {
             return Stepped::Instrument;
         }
-        if let Some(entry) = self.bench.expired() {
-            self.give_up(entry.conn, late(entry.wait));
+        if self.give_up_oldest() {
             return Stepped::Call;
         }
         Stepped::Nothing
     }
 
     /// Takes the steps that are due until a call went on or was given up, and tells whether one did.
-    fn settle_to_call(&mut self) -> bool {
+    fn settle_to_call(&mut self) -> bool
+        ensures goes { (config : Config) (log : List Act) → Represents self.old config log
+            → GoesTo config log (λ mid. result ≡ false → IsSettled config mid) self.new }
+        ensures measure { IsTrue result
+            → rank self.new.bench.waiting < rank self.old.bench.waiting }
+    {
         let mut last = self.step();
         while matches!(last, Stepped::Instrument) {
             last = self.step();
@@ -84,7 +184,10 @@ impl<A: Allocator> Server<A> {
     }
 
     /// Takes the steps that are due, until none is.
-    pub(crate) fn settle(&mut self) {
+    pub(crate) fn settle(&mut self)
+        ensures { (config : Config) (log : List Act) → Represents self.old config log
+            → Settled config log self.new }
+    {
         while self.settle_to_call() {}
     }
 }

@@ -1,15 +1,14 @@
 //! A connection's next call is taken and done.
 
-ghost use Rattle.std.specs.Prelude.{◌≡◌, ℕ, List, Some, OnErr, true};
+ghost use Rattle.std.specs.Prelude.{◌≡◌, ◌<◌, List, Some, OnErr, true};
 ghost use Rattle.sv_server.specs.declared.event.Config.{Config};
 ghost use Rattle.sv_server.specs.Act.{Act, ConnAct, BenchAct, of, bench, exchange_acts};
-ghost use Rattle.sv_server.specs.Connection.{open_role, is_busy};
+ghost use Rattle.sv_server.specs.Connection.{is_busy};
 ghost use Rattle.sv_server.specs.KeptConnection.{IsConnection};
 ghost use Rattle.sv_server.specs.KeptBench.{IsBench};
-ghost use Rattle.sv_server.specs.Dispatch.{Verdict as VerdictData};
+ghost use Rattle.sv_server.specs.Verdict.{Verdict as VerdictData, execution_verdict};
 ghost use Rattle.sv_exchange.specs.Exchange.{response};
 ghost use Rattle.sv_server.specs.CoreChannel.{reads};
-ghost use Rattle.sv_server.specs.Dispatch.{execution_verdict};
 ghost use Rattle.sv_server.specs.Inside.Acting.{Turns, Concludes};
 ghost use Rattle.sv_server.specs.Inside.Outcome.{ConsideredAs, IsShortVerdict};
 
@@ -41,9 +40,11 @@ pub fn turn<A: Allocator>(
     conn: u8,
     role: Role,
 ) -> Result<Turned, Refused>
+    requires within { conn < 16 }
+    requires open { connection.old.role ≡ Some role }
     ensures acts { (config : Config) (log : List Act) → IsConnection connection.old (of conn log)
-        → IsBench shared.old config (bench log) → open_role (of conn log) ≡ Some role
-        → Turns config conn log result connection.new shared.new }
+        → IsBench shared.old config (bench log)
+        → Turns config conn log shared.old.waiting result connection.new shared.new }
     ensures err { OnErr result ((connection.new ≡ connection.old) × (shared.new ≡ shared.old)) }
 {
     let Some(call) = connection.next_call() else {
@@ -64,10 +65,11 @@ pub fn turn<A: Allocator>(
 /// Ends the record that was taken: by its answer, or as one that is no call.
 pub fn conclude<A: Allocator>(verdict: Verdict, connection: &mut Connection<A>, shared: &mut Bench<A>)
     requires { IsShortVerdict verdict }
-    ensures { (config : Config) (acts : List ConnAct) (before : List BenchAct) (said : VerdictData)
+    ensures ends { (config : Config) (acts : List ConnAct) (before : List BenchAct) (said : VerdictData)
         → IsConnection connection.old acts → is_busy acts ≡ true
         → ConsideredAs verdict shared.old config before said
         → Concludes said config acts before connection.new shared.new }
+    ensures waiting { shared.new.waiting ≡ shared.old.waiting }
 {
     match verdict {
         Verdict::NoCall => connection.fault(),
@@ -87,12 +89,13 @@ fn answer_response<A: Allocator>(
     connection: &mut Connection<A>,
     shared: &mut Bench<A>,
 )
-    ensures { (config : Config) (acts : List ConnAct) (before : List BenchAct)
+    ensures ends { (config : Config) (acts : List ConnAct) (before : List BenchAct)
         → IsConnection connection.old acts → is_busy acts ≡ true
         → IsBench shared.old config before
         → Concludes
         (execution_verdict xid (reads (response (exchange_acts before)) most term)) config acts
         before connection.new shared.new }
+    ensures waiting { shared.new.waiting ≡ shared.old.waiting }
 {
     let read = shared.instrument.peek(most, term);
     let count = read.bytes.len();

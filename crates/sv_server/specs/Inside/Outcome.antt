@@ -1,5 +1,5 @@
 -- What a call that is executed, or a record that is considered, comes to, as the code says it.
-use Rattle.std.specs.Prelude.{◌≡◌, ℕ, ◌≤◌, List, [], ◌∷◌, ◌++◌, length, map, nat_lt, Bool, true, false, ◌||◌, Option, Some, None, ⊤}
+use Rattle.std.specs.Prelude.{◌≡◌, ℕ, ◌≤◌, ◌<◌, List, [], ◌∷◌, ◌++◌, length, map, nat_lt, Bool, true, false, ◌||◌, Option, Some, None, ⊤}
 use Rattle.std.specs.List.{concat}
 use Rattle.sv_xdr.specs.Spelling.{Unsigned, Field, spelling}
 use Rattle.sv_rpc.specs.Reply.{reply_fields}
@@ -9,8 +9,12 @@ use Rattle.sv_vxi.specs.Results.{plain_result, result_fields, data_of}
 use Rattle.sv_vxi.specs.Arguments.{Arguments, CreateLink}
 use Rattle.sv_links.specs.declared.waiting.Entry.{Entry}
 use Rattle.sv_links.specs.Links.{made, holder, is_locked_out}
-use Rattle.sv_links.specs.Waiting.{WaitAct, creating}
-use Rattle.sv_links.specs.Queue.{creates, without}
+use Rattle.sv_links.specs.declared.waiting.Wait.{Wait}
+use Rattle.sv_links.specs.Waiting.{WaitAct, Again, Left, creating}
+use Rattle.sv_links.specs.Queue.{creates, creations, without, anew}
+use Rattle.sv_server.specs.declared.admission.Block.{Block}
+use Rattle.sv_server.specs.declared.core_call.CoreCall.{CoreCall as TakenCall}
+use Rattle.sv_vxi.specs.Reading.{plain_arguments}
 use Rattle.sv_exchange.specs.Exchange.{response}
 use Rattle.sv_server.specs.declared.event.Config.{Config}
 use Rattle.sv_server.specs.declared.reply.Answer.{Answer}
@@ -22,9 +26,10 @@ use Rattle.sv_server.specs.declared.dispatch.Verdict.TheVariants as verdicts
 use Rattle.sv_server.specs.Act.{BenchAct, Waited, link_acts, wait_acts, exchange_acts}
 use Rattle.sv_server.specs.Reply.{reply_record}
 use Rattle.sv_server.specs.Execution.{Execution}
-use Rattle.sv_server.specs.CoreCall.{core_call}
-use Rattle.sv_server.specs.CoreChannel.{reads}
-use Rattle.sv_server.specs.Admission.{Begun, Does, Waits}
+use Rattle.sv_server.specs.CoreCall.{CoreCall, is_create_link}
+use Rattle.sv_server.specs.CoreChannel.{reads, own_call}
+use Rattle.sv_server.specs.Admission.{Begun, Does, Waits, deadline_of}
+use Rattle.sv_server.specs.Resuming.{blocked_again}
 use Rattle.sv_server.specs.Verdict.{Verdict, NoCall, Replies, Stays, execution_verdict}
 use Rattle.sv_server.specs.KeptBench.{Bench, IsBench, HasPlace}
 use Rattle.sv_server.specs.State.{creates_link}
@@ -76,6 +81,10 @@ IsShortEnding (endings.Response most term) = ⊤
 abbrev pub IsBenchAt : Bench → Config → ℕ → List BenchAct → Type 0
 IsBenchAt kept config polled acts = IsBench kept config acts × IsPolled polled acts
 
+-- a call of the core channel as plain data
+abbrev pub plain_core_call : TakenCall → CoreCall
+plain_core_call call = record { xid = call.xid; arguments = plain_arguments call.args }
+
 -- Where a call makes a link, there is a place for it, and the lock is free where it asks for it.
 abbrev pub IsGranted : Arguments → Bench → List BenchAct → Type 0
 IsGranted (CreateLink client_id lock_device lock_timeout device) kept acts =
@@ -96,6 +105,30 @@ IsBehind c makes old new =
 abbrev pub Enters : Option Ending → ℕ → Bool → List Entry → List Entry → Type 0
 Enters (Some ending) c makes old new = new ≡ old
 Enters None c makes old new = IsBehind c makes old new
+
+-- Where a call that waits makes a link, its place is there, and the lock is free.
+abbrev pub MayMake : Arguments → ℕ → Bench → List BenchAct → Type 0
+MayMake (CreateLink client_id lock_device lock_timeout device) c kept acts =
+    (creations (without c kept.waiting) < creations kept.waiting) × (is_locked_out (holder (link_acts acts)) None ≡ false)
+MayMake _ c kept acts = ⊤
+
+-- A call that waited is done so.
+abbrev pub LeavesAs : Ending → Bench → Config → ℕ → ℕ → Arguments → List BenchAct → Type 0
+LeavesAs ending shared config polled c arguments acts =
+    EndsAs ending shared config (Waited (Left c) ∷ acts) (own_call config polled c arguments (Waited (Left c) ∷ acts))
+
+-- It is done; or it waits anew.
+abbrev pub ResumedAs : Option Ending → Bench → Config → ℕ → ℕ → Wait → Arguments → List BenchAct → Type 0
+ResumedAs (Some ending) shared config polled c wait arguments acts = (blocked_again wait arguments acts ≡ None)
+    × LeavesAs ending shared config polled c arguments acts
+ResumedAs None shared config polled c wait arguments acts = (block : Block) × (blocked_again wait arguments acts ≡ Some block)
+    × IsBench shared config (Waited (Again c block.wait (Some (deadline_of config block.timeout acts))) ∷ acts)
+
+-- It stands among those that wait no more; or it waits for something else, and makes no link.
+abbrev pub Resumes : Option Ending → ℕ → Arguments → List Entry → List Entry → Type 0
+Resumes (Some ending) c arguments old new = new ≡ without c old
+Resumes None c arguments old new = (wait : Wait) × (deadline : Option ℕ) × (new ≡ map (anew c wait deadline) old)
+    × (is_create_link arguments ≡ false)
 
 -- whether what a call comes to wants memory
 abbrev pub begun_wants : Begun → Bool
@@ -119,11 +152,24 @@ IsShortVerdict (verdicts.Response xid most term) = ⊤
 IsShortVerdict verdicts.Waits = ⊤
 
 -- Where it isn't answered it waits; else no call begins to wait.
-abbrev pub WaitsAs : Considered → ℕ → List ℕ → List Entry → List Entry → Type 0
+abbrev pub WaitsAs : Considered → ℕ → Option CoreCall → List Entry → List Entry → Type 0
 WaitsAs verdicts.NoCall c call old new = new ≡ old
 WaitsAs (verdicts.Answer xid answer aborts) c call old new = new ≡ old
 WaitsAs (verdicts.Response xid most term) c call old new = new ≡ old
-WaitsAs verdicts.Waits c call old new = IsBehind c (creates_link (core_call call)) old new
+WaitsAs verdicts.Waits c call old new = IsBehind c (creates_link call) old new
+
+-- the same of what the definitions say
+abbrev pub HeldAs : Verdict → ℕ → Option CoreCall → List Entry → List Entry → Type 0
+HeldAs NoCall c call old new = new ≡ old
+HeldAs (Replies adds aborts bytes) c call old new = new ≡ old
+HeldAs (Stays adds) c call old new = IsBehind c (creates_link call) old new
+
+-- what a record ends beside its own call
+abbrev pub ended_by : Considered → Option ℕ
+ended_by verdicts.NoCall = None
+ended_by (verdicts.Answer xid answer aborts) = aborts
+ended_by (verdicts.Response xid most term) = None
+ended_by verdicts.Waits = None
 
 -- whether what becomes of a record wants memory
 abbrev pub verdict_wants : Verdict → Bool

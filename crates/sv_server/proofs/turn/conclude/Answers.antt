@@ -1,5 +1,5 @@
 use Rattle.std.proofs.Common.{sym, subst}
-use Rattle.sv_server.specs.Dispatch.{Verdict}
+use Rattle.sv_server.specs.Verdict.{Verdict}
 use Rattle.sv_server.specs.Inside.Acting.{Concludes}
 use Rattle.sv_server.proofs.turn.conclude.Goals as goal
 

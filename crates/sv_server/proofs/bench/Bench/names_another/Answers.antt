@@ -1,6 +1,7 @@
 use Rattle.std.proofs.Common.{rules, ◌≡◌, ap}
 use Rattle.std.specs.Prelude.{not}
-use Rattle.sv_server.specs.CoreChannel.{lid_of, owns}
+use Rattle.sv_server.specs.CoreCall.{lid_of}
+use Rattle.sv_server.specs.CoreChannel.{owns}
 use Rattle.sv_server.proofs.bench.Bench.names_another.Goals as goal
 
 pub returns-in-Some : goal.returns-in-Some

@@ -1,0 +1,57 @@
+-- The call that came first is one.
+use Rattle.std.proofs.Common.{◌≡◌, ℕ, ◌<◌, eqb, List, [], ◌∷◌, length, Option, Some, None, refl, sym, ap, ◌∙◌, arith, inl, inr, suc}
+use Rattle.std.specs.Prelude.{option_map}
+use Rattle.std.specs.List.{AllByRecursion}
+use Rattle.std.proofs.lemmas.Bool.{cases_Bool, eqb-true}
+use Rattle.sv_links.specs.declared.waiting.Entry.{Entry}
+use Rattle.sv_links.specs.Waiting.{WaitAct, Entered, Again, Left, waits, arrival, enters, IsOldest}
+use Rattle.sv_links.specs.Queue.{IsQueue, IsOrdered}
+use Rattle.sv_links.proofs.Queues.{newest-le, Among, among_from_find}
+
+-- two that came at one time are one
+same_arrival : (acts : List WaitAct) (c d : ℕ) → (arrival c acts ≡ 0 → ⊥) → arrival c acts ≡ arrival d acts → c ≡ d
+same_arrival [] c d came same = absurd (came refl)
+same_arrival (Again conn wait last ∷ acts) c d came same = same_arrival acts c d came same
+same_arrival (Left conn ∷ acts) c d came same = same_arrival acts c d came same
+same_arrival (Entered conn link wait last ∷ acts) c d came same = elim (cases_Bool (eqb conn c)) [
+  | inl e ↦ elim (cases_Bool (eqb conn d)) [
+    | inl k ↦ sym (eqb-true conn c e) ∙ eqb-true conn d k
+    | inr k ↦ let same : suc (length acts) ≡ arrival d acts = rw (e, k) at same in
+        absurd (omega (arith, same, newest-le (enters d) acts))
+  ]
+  | inr e ↦ elim (cases_Bool (eqb conn d)) [
+    | inl k ↦ let same : arrival c acts ≡ suc (length acts) = rw (e, k) at same in
+        absurd (omega (arith, same, newest-le (enters c) acts))
+    | inr k ↦ same_arrival acts c d (rw e at came) (rw (e, k) at same)
+  ]
+]
+
+one : (acts : List WaitAct) (IsSuch : ℕ → Type 0) (a b : Option ℕ)
+    → ((c d : ℕ) → IsSuch c → IsSuch d → arrival c acts ≡ arrival d acts → c ≡ d)
+    → IsOldest acts IsSuch a → IsOldest acts IsSuch b → a ≡ b
+one acts IsSuch None None same h k = refl
+one acts IsSuch None (Some d) same h k = absurd (h d k.0)
+one acts IsSuch (Some c) None same h k = absurd (k c h.0)
+one acts IsSuch (Some c) (Some d) same h k = ap Some (same c d h.0 k.0 (omega (arith, h.1 d k.0, k.1 c h.0)))
+
+-- what waits has come
+waits_came : (c : ℕ) (acts : List WaitAct) → (waits c acts ≡ None → ⊥) → arrival c acts ≡ 0 → ⊥
+waits_came c [] does = λ e. does refl
+waits_came c (Entered conn link wait last ∷ acts) does = elim (cases_Bool (eqb conn c)) [
+  | inl e ↦ rw e (λ none. omega (arith, none))
+  | inr e ↦ rw e (waits_came c acts (rw e at does))
+]
+waits_came c (Again conn wait last ∷ acts) does = elim (cases_Bool (eqb conn c)) [
+  | inl e ↦ waits_came c acts (λ none. (rw (e, none) at does) refl)
+  | inr e ↦ waits_came c acts (rw e at does)
+]
+waits_came c (Left conn ∷ acts) does = elim (cases_Bool (eqb conn c)) [
+  | inl e ↦ absurd ((rw e at does) refl)
+  | inr e ↦ waits_came c acts (rw e at does)
+]
+
+-- where each that is such waits
+pub one_oldest : (acts : List WaitAct) (IsSuch : ℕ → Type 0) (a b : Option ℕ) → ((c : ℕ) → IsSuch c → waits c acts ≡ None → ⊥)
+    → IsOldest acts IsSuch a → IsOldest acts IsSuch b → a ≡ b
+one_oldest acts IsSuch a b does h k = one acts IsSuch a b
+    (λ c d x y same. same_arrival acts c d (waits_came c acts (does c x)) same) h k
