@@ -1,4 +1,5 @@
-use Rattle.std.proofs.Common.{refl, arith}
+use Rattle.std.proofs.Common.{refl, arith, sym, ap, subst}
+use Rattle.sv_exchange.specs.Contents.{Contents, IsUnitDue, next_of, work_of}
 use Rattle.sv_instrument.proofs.Running.{raises_none}
 use Rattle.sv_instrument.proofs.Units.{configured_apart}
 use Rattle.sv_instrument.proofs.performing.perform.Goals as goal
@@ -296,3 +297,13 @@ returns-in-Ask-clause-few g c = omega (arith, c.ask.ensures.few)
 
 pub returns-in-Ask-clause-capacity : goal.returns-in-Ask-clause-capacity
 returns-in-Ask-clause-capacity g c = c.ask.ensures.capacity
+
+pub end-requires-clause-due : goal.end-requires-clause-due
+end-requires-clause-due g c =
+    subst (λ (held : Contents). IsUnitDue (next_of held)) (sym c.configure-raised.ensures.exchange) c.requires.due
+
+pub returns-in-Configure-clause-advances : goal.returns-in-Configure-clause-advances
+returns-in-Configure-clause-advances g c = record {
+  less = omega (arith, c.end.ensures.advances.less, ap work_of c.configure-raised.ensures.exchange);
+  right = c.end.ensures.advances.right;
+}
