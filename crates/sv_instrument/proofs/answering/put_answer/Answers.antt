@@ -101,7 +101,8 @@ pub returns-in-StandardEnable-clause-capacity : goal.returns-in-StandardEnable-c
 returns-in-StandardEnable-clause-capacity g c = omega (arith, c.put_whole-in-StandardEnable.ensures.capacity, c.clear.ensures.capacity, c.requires)
 
 pub returns-in-ServiceEnable-clause-capacity : goal.returns-in-ServiceEnable-clause-capacity
-returns-in-ServiceEnable-clause-capacity g c = omega (arith, c.put_whole-in-ServiceEnable.ensures.capacity, c.clear.ensures.capacity, c.requires)
+returns-in-ServiceEnable-clause-capacity g c =
+    omega (arith, c.put_whole-in-ServiceEnable.ensures.capacity, c.clear.ensures.capacity, c.requires)
 
 pub returns-in-StatusByte-clause-capacity : goal.returns-in-StatusByte-clause-capacity
 returns-in-StatusByte-clause-capacity g c = omega (arith, c.put_whole-in-StatusByte.ensures.capacity, c.clear.ensures.capacity, c.requires)
@@ -140,10 +141,12 @@ pub returns-in-Range-clause-capacity : goal.returns-in-Range-clause-capacity
 returns-in-Range-clause-capacity g c = omega (arith, c.put_voltage.ensures.capacity, c.clear.ensures.capacity, c.requires)
 
 pub returns-in-UpperLimit-clause-capacity : goal.returns-in-UpperLimit-clause-capacity
-returns-in-UpperLimit-clause-capacity g c = omega (arith, c.put_voltage-in-UpperLimit.ensures.capacity, c.clear.ensures.capacity, c.requires)
+returns-in-UpperLimit-clause-capacity g c =
+    omega (arith, c.put_voltage-in-UpperLimit.ensures.capacity, c.clear.ensures.capacity, c.requires)
 
 pub returns-in-LowerLimit-clause-capacity : goal.returns-in-LowerLimit-clause-capacity
-returns-in-LowerLimit-clause-capacity g c = omega (arith, c.put_voltage-in-LowerLimit.ensures.capacity, c.clear.ensures.capacity, c.requires)
+returns-in-LowerLimit-clause-capacity g c =
+    omega (arith, c.put_voltage-in-LowerLimit.ensures.capacity, c.clear.ensures.capacity, c.requires)
 
 pub returns-in-Limits-clause-capacity : goal.returns-in-Limits-clause-capacity
 returns-in-Limits-clause-capacity g c = omega (arith, c.put_switch.ensures.capacity, c.clear.ensures.capacity, c.requires)

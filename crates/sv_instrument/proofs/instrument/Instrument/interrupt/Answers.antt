@@ -21,7 +21,8 @@ pub overflow_add-result-2 : goal.overflow_add-result-2
 overflow_add-result-2 g c = omega (arith, c.one-first.ensures.few, c.one-second.ensures.few, c.start-unit.ensures.few)
 
 pub start-unit-requires-clause-due : goal.start-unit-requires-clause-due
-start-unit-requires-clause-due g c = subst (λ (held : Contents). IsUnitDue (next_of held)) (sym c.happen.ensures.exchange) c.interrupt.ensures.next
+start-unit-requires-clause-due g c =
+    subst (λ (held : Contents). IsUnitDue (next_of held)) (sym c.happen.ensures.exchange) c.interrupt.ensures.next
 
 pub start-unit-requires-clause-room : goal.start-unit-requires-clause-room
 start-unit-requires-clause-room g c = c.self.invariant.0
