@@ -13,7 +13,12 @@ returns-clause-behaves g c = λ log h.
 
 pub returns-clause-advances : goal.returns-clause-advances
 returns-clause-advances g c = record {
-  less = omega (arith, c.hold.ensures.advances.less, ap work_of c.configure-configured.ensures.exchange, ap work_of c.change-begun.ensures.exchange);
+  less = omega (
+    arith,
+    c.hold.ensures.advances.less,
+    ap work_of c.configure-configured.ensures.exchange,
+    ap work_of c.change-begun.ensures.exchange,
+  );
   right = c.hold.ensures.advances.right;
 }
 

@@ -21,7 +21,12 @@ returns-in-Err-clause-behaves g c = λ log h.
 
 pub returns-in-Ok-clause-advances : goal.returns-in-Ok-clause-advances
 returns-in-Ok-clause-advances g c = record {
-  less = omega (arith, c.hold.ensures.advances.less, ap work_of c.change-aborted.ensures.exchange, ap work_of c.change-begun.ensures.exchange);
+  less = omega (
+    arith,
+    c.hold.ensures.advances.less,
+    ap work_of c.change-aborted.ensures.exchange,
+    ap work_of c.change-begun.ensures.exchange,
+  );
   right = c.hold.ensures.advances.right;
 }
 

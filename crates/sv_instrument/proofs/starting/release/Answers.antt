@@ -40,7 +40,8 @@ pub put_readings-requires-clause-small : goal.put_readings-requires-clause-small
 put_readings-requires-clause-small g c = c.readings_so_far.ensures.bounded
 
 pub put_readings-requires-clause-room : goal.put_readings-requires-clause-room
-put_readings-requires-clause-room g c = omega (arith, c.readings_so_far.ensures.few, c.clear.ensures.len, c.clear.ensures.capacity, c.requires.room)
+put_readings-requires-clause-room g c =
+    omega (arith, c.readings_so_far.ensures.few, c.clear.ensures.len, c.clear.ensures.capacity, c.requires.room)
 
 pub returns-in-Nothing-clause-advances : goal.returns-in-Nothing-clause-advances
 returns-in-Nothing-clause-advances g c = c.end.ensures.advances
