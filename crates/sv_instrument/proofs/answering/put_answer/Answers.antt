@@ -83,7 +83,8 @@ pub put_source-requires : goal.put_source-requires
 put_source-requires g c = omega (arith, c.clear.ensures.len, c.clear.ensures.capacity, c.requires)
 
 pub put_readings-requires-clause-room : goal.put_readings-requires-clause-room
-put_readings-requires-clause-room g c = omega (arith, c.clear.ensures.len, c.clear.ensures.capacity, c.requires, c.readings_so_far.ensures.few)
+put_readings-requires-clause-room g c =
+    omega (arith, c.clear.ensures.len, c.clear.ensures.capacity, c.requires, c.readings_so_far.ensures.few)
 
 pub returns-in-Identification-clause-capacity : goal.returns-in-Identification-clause-capacity
 returns-in-Identification-clause-capacity g c = omega (arith, c.append.ensures.capacity, c.clear.ensures.capacity, c.requires)
@@ -98,7 +99,8 @@ pub returns-in-StandardEvents-clause-capacity : goal.returns-in-StandardEvents-c
 returns-in-StandardEvents-clause-capacity g c = omega (arith, c.put_whole.ensures.capacity, c.clear.ensures.capacity, c.requires)
 
 pub returns-in-StandardEnable-clause-capacity : goal.returns-in-StandardEnable-clause-capacity
-returns-in-StandardEnable-clause-capacity g c = omega (arith, c.put_whole-in-StandardEnable.ensures.capacity, c.clear.ensures.capacity, c.requires)
+returns-in-StandardEnable-clause-capacity g c =
+    omega (arith, c.put_whole-in-StandardEnable.ensures.capacity, c.clear.ensures.capacity, c.requires)
 
 pub returns-in-ServiceEnable-clause-capacity : goal.returns-in-ServiceEnable-clause-capacity
 returns-in-ServiceEnable-clause-capacity g c =
