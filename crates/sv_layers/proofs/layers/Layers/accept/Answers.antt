@@ -7,4 +7,18 @@ pub returns-clause-happens : goal.returns-clause-happens
 returns-clause-happens g c = λ log h.
     let j = rw (← c.self.view_is) at h.joined in
     c.settle.ensures.happens log (Exchanged (Accepted c.args.bytes.now c.args.ended))
-    (record { told = h.told; are = h.are; joined = search rules }) refl
+    (record {
+      told = h.told;
+      are = h.are;
+      joined = record {
+        exchange = search rules;
+        errors = j.errors;
+        operation = j.operation;
+        questionable = j.questionable;
+        standard = j.standard;
+        status = j.status;
+        scanner = j.scanner;
+        service = j.service;
+        waits = j.waits;
+      };
+    }) refl

@@ -6,4 +6,18 @@ use Rattle.sv_layers.proofs.layers.Layers.drop_unfinished.Goals as goal
 pub returns-clause-happens : goal.returns-clause-happens
 returns-clause-happens g c = λ log h.
     let j = rw (← c.self.view_is) at h.joined in
-    c.settle.ensures.happens log (Exchanged TextDropped) (record { told = h.told; are = h.are; joined = search rules }) refl
+    c.settle.ensures.happens log (Exchanged TextDropped) (record {
+      told = h.told;
+      are = h.are;
+      joined = record {
+        exchange = search rules;
+        errors = j.errors;
+        operation = j.operation;
+        questionable = j.questionable;
+        standard = j.standard;
+        status = j.status;
+        scanner = j.scanner;
+        service = j.service;
+        waits = j.waits;
+      };
+    }) refl

@@ -12,4 +12,18 @@ returns-clause-status g c = λ log h k.
 pub returns-clause-happens : goal.returns-clause-happens
 returns-clause-happens g c = λ log h.
     let j = rw (← c.self.view_is) at h.joined in
-    c.settle-raised.ensures.happens log Polled (record { told = h.told; are = h.are; joined = search rules }) refl
+    c.settle-raised.ensures.happens log Polled (record {
+      told = h.told;
+      are = h.are;
+      joined = record {
+        exchange = j.exchange;
+        errors = j.errors;
+        operation = j.operation;
+        questionable = j.questionable;
+        standard = j.standard;
+        status = search rules;
+        scanner = j.scanner;
+        service = j.service;
+        waits = j.waits;
+      };
+    }) refl

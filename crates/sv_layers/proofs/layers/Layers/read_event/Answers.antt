@@ -1,4 +1,3 @@
-use Rattle.std.proofs.Common.{rules}
 use Rattle.sv_status.specs.declared.register_name.RegisterName.TheVariants.{Operation, Questionable}
 use Rattle.sv_layers.specs.Act.{EventRead}
 use Rattle.sv_layers.specs.Inside.Seen.{begun, seen}
@@ -8,11 +7,31 @@ pub returns-in-Operation-clause-happens : goal.returns-in-Operation-clause-happe
 returns-in-Operation-clause-happens g c = rw c.in-Operation.is (λ log h.
     let k = rw (← c.self.view_is) at (c.compare.ensures.stands (begun (EventRead Operation) (seen log)) h.told h.joined) in
     let set = c.read_event.ensures.stands _ k.operation in
-    c.tell.ensures.happens log (EventRead Operation) h.told h.are (search rules))
+    c.tell.ensures.happens log (EventRead Operation) h.told h.are (record {
+      exchange = k.exchange;
+      errors = k.errors;
+      operation = set;
+      questionable = k.questionable;
+      standard = k.standard;
+      status = k.status;
+      scanner = k.scanner;
+      service = k.service;
+      waits = k.waits;
+    }))
 
 pub returns-in-Questionable-clause-happens : goal.returns-in-Questionable-clause-happens
 returns-in-Questionable-clause-happens g c = rw c.in-Questionable.is (λ log h.
     let k = rw (← c.self-in-Questionable.view_is) at
     (c.compare.ensures.stands (begun (EventRead Questionable) (seen log)) h.told h.joined) in
     let set = c.read_event-in-Questionable.ensures.stands _ k.questionable in
-    c.tell-in-Questionable.ensures.happens log (EventRead Questionable) h.told h.are (search rules))
+    c.tell-in-Questionable.ensures.happens log (EventRead Questionable) h.told h.are (record {
+      exchange = k.exchange;
+      errors = k.errors;
+      operation = k.operation;
+      questionable = set;
+      standard = k.standard;
+      status = k.status;
+      scanner = k.scanner;
+      service = k.service;
+      waits = k.waits;
+    }))

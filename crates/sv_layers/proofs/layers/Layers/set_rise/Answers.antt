@@ -1,4 +1,3 @@
-use Rattle.std.proofs.Common.{rules}
 use Rattle.sv_status.specs.declared.register_name.RegisterName.TheVariants.{Operation, Questionable}
 use Rattle.sv_layers.specs.Act.{RiseSet}
 use Rattle.sv_layers.specs.Inside.Seen.{begun, seen}
@@ -8,11 +7,31 @@ pub returns-in-Operation-clause-happens : goal.returns-in-Operation-clause-happe
 returns-in-Operation-clause-happens g c = rw c.in-Operation.is (λ log h.
     let k = rw (← c.self.view_is) at (c.compare.ensures.stands (begun (RiseSet Operation c.args.mask) (seen log)) h.told h.joined) in
     let set = rw (c.fall-fall.ensures _ k.operation) at (c.set_filter.ensures _ k.operation) in
-    c.tell.ensures.happens log (RiseSet Operation c.args.mask) h.told h.are (search rules))
+    c.tell.ensures.happens log (RiseSet Operation c.args.mask) h.told h.are (record {
+      exchange = k.exchange;
+      errors = k.errors;
+      operation = set;
+      questionable = k.questionable;
+      standard = k.standard;
+      status = k.status;
+      scanner = k.scanner;
+      service = k.service;
+      waits = k.waits;
+    }))
 
 pub returns-in-Questionable-clause-happens : goal.returns-in-Questionable-clause-happens
 returns-in-Questionable-clause-happens g c = rw c.in-Questionable.is (λ log h.
     let k = rw (← c.self-in-Questionable.view_is) at
     (c.compare.ensures.stands (begun (RiseSet Questionable c.args.mask) (seen log)) h.told h.joined) in
     let set = rw (c.fall-fall-in-Questionable.ensures _ k.questionable) at (c.set_filter-in-Questionable.ensures _ k.questionable) in
-    c.tell-in-Questionable.ensures.happens log (RiseSet Questionable c.args.mask) h.told h.are (search rules))
+    c.tell-in-Questionable.ensures.happens log (RiseSet Questionable c.args.mask) h.told h.are (record {
+      exchange = k.exchange;
+      errors = k.errors;
+      operation = k.operation;
+      questionable = set;
+      standard = k.standard;
+      status = k.status;
+      scanner = k.scanner;
+      service = k.service;
+      waits = k.waits;
+    }))

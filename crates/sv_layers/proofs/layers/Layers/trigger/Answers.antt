@@ -11,7 +11,21 @@ pub returns-in-Ok-clause-happens : goal.returns-in-Ok-clause-happens
 returns-in-Ok-clause-happens g c = λ log h.
     let j = rw (← c.self.view_is) at h.joined in (
       no_fault _ (c.in-Ok.ensures.answer (scan_acts log) (lent_scanner _ log (rw (← c.self.view_is) at h))),
-      c.settle.ensures.happens log (Scanned (Trigger c.args.source)) (record { told = h.told; are = h.are; joined = search rules }) refl,
+      c.settle.ensures.happens log (Scanned (Trigger c.args.source)) (record {
+        told = h.told;
+        are = h.are;
+        joined = record {
+          exchange = j.exchange;
+          errors = j.errors;
+          operation = j.operation;
+          questionable = j.questionable;
+          standard = j.standard;
+          status = j.status;
+          scanner = search rules;
+          service = j.service;
+          waits = search rules;
+        };
+      }) refl,
     )
 
 pub returns-in-Ok-clause-scanning : goal.returns-in-Ok-clause-scanning
