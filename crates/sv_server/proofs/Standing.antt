@@ -13,7 +13,6 @@ use Rattle.sv_server.specs.Polled.{IsPolled}
 use Rattle.sv_server.specs.Settling.{IsSettled, SettlesIn, Settles}
 use Rattle.sv_server.specs.History.{own_acts, Answers}
 use Rattle.sv_server.specs.Laws.{OneLog}
-use Rattle.sv_server.specs.KeptBench.{IsBench, Bench as KeptBench}
 use Rattle.sv_server.specs.State.{State, Represents, StandsFor}
 use Rattle.sv_server.specs.Inside.Acting.{Acts, Settled}
 use Rattle.sv_server.proofs.Steps.{next_once, polled_now}
@@ -22,26 +21,20 @@ nothing_due : (n : ℕ) (config : Config) (log new : List Act) → SettlesIn n c
 nothing_due zero config log new (none, same) = subst (λ (end : List Act). IsSettled config end) (sym same) none
 nothing_due (suc n) config log new (middle, next, more) = nothing_due n config middle new more
 
-pub stands_after : (config : Config) (history : List PlainEvent) (event : PlainEvent) (old new : State) (did : Did) (shared : KeptBench)
+pub stands_after : (config : Config) (history : List PlainEvent) (event : PlainEvent) (old mid new : State) (did : Did)
     → StandsFor old config history → IsEvent event
-    → ((k : Config) (log : List Act) → Represents old k log → Acts k event log (Ok did) new)
-    → ((k : Config) (log : List Act) → IsBench new.bench k (bench log) → Settled k log shared)
-    → StandsFor (record new { bench = shared }) config (event ∷ history)
-stands_after config history event old new did shared s is_event acts settles =
+    → ((k : Config) (log : List Act) → Represents old k log → Acts k event log (Ok did) mid)
+    → ((k : Config) (log : List Act) → Represents mid k log → Settled k log new)
+    → StandsFor new config (event ∷ history)
+stands_after config history event old mid new did s is_event acts settles =
     let (free, done, makes) = acts config s.log s.represents in
     let (polled, said) = polled_now old.bench config (bench s.log) s.represents.shared in
-    let rep = makes polled said in
-    let middle = own_acts config polled event s.log ++ s.log in
-    let (last, steps, held, same) = settles config middle rep.shared in
+    let (last, steps, held) = settles config (own_acts config polled event s.log ++ s.log) (makes polled said) in
     record {
       log = last;
       is_log = (s.log, polled, is_event, s.is_log, free, said, steps);
-      represents = record {
-        each = λ c other lt. rw same (rep.each c other lt);
-        beyond = λ c h. same c ∙ rep.beyond c h;
-        shared = held;
-      };
-      settled = nothing_due steps.0 config middle last steps.1;
+      represents = held;
+      settled = nothing_due steps.0 config (own_acts config polled event s.log ++ s.log) last steps.1;
     }
 
 -- the steps that are due lead to one log
@@ -72,19 +65,20 @@ either_refused P true other r e p q = subst P (sym e) (p refl)
 either_refused P false other r e p q = subst P (sym e) (q refl)
 
 -- what a private function leaves says what is answered
-pub answered : (config : Config) (event : PlainEvent) (log : List Act) (r : Result Did Refused) (new : State) → Acts config event log r new
-    → Answers config event log r
-answered config event log (Ok what) new (none, does, rep) = (none, does)
-answered config event log (Err NoMemory) new why = why
-answered config event log (Err ConnInUse) new why = why
-answered config event log (Err NoConn) new why = why
-answered config event log (Err NoRoom) new why = why
-answered config event log (Err NotSent) new why = why
-answered config event log (Err NoDial) new why = why
-answered config event log (Err NotRefusable) new why = why
-answered config event log (Err BadChannel) new why = why
-answered config event log (Err BadInput) new why = why
-answered config event log (Err TimeOver) new why = why
+pub answered : (config : Config) (event : PlainEvent) (log : List Act) (r : Result Did Refused) (old new : State)
+    → Represents old config log → Acts config event log r new → Answers config event log r
+answered config event log (Ok what) old new rep (none, does, more) = (none, does)
+answered config event log (Err NoMemory) old new rep (none, wants) =
+    let (polled, said) = polled_now old.bench config (bench log) rep.shared in (none, polled, said, wants polled said)
+answered config event log (Err ConnInUse) old new rep why = why
+answered config event log (Err NoConn) old new rep why = why
+answered config event log (Err NoRoom) old new rep why = why
+answered config event log (Err NotSent) old new rep why = why
+answered config event log (Err NoDial) old new rep why = why
+answered config event log (Err NotRefusable) old new rep why = why
+answered config event log (Err BadChannel) old new rep why = why
+answered config event log (Err BadInput) old new rep why = why
+answered config event log (Err TimeOver) old new rep why = why
 
 -- an error that is passed on
 pub passed_on : {A E : Type 0} (r : Result A E) (e : E) → IsErr r → IsErrAnd r (λ x. x ≡ e) → r ≡ Err e

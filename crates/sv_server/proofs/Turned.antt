@@ -1,25 +1,20 @@
 -- What a Turn of an open connection leaves.
-use Rattle.std.proofs.Common.{◌≡◌, ℕ, Bool, true, false, List, ◌∷◌, Option, Some, refl}
-use Rattle.std.specs.Prelude.{nat_lt, not, Ok, Err}
+use Rattle.std.proofs.Common.{◌≡◌, ℕ, Bool, true, false, List, Option, refl, ap}
+use Rattle.std.specs.Prelude.{not}
 use Rattle.sv_exchange.specs.declared.read.Read.{Read}
 use Rattle.sv_exchange.specs.ReadGiven.{IsReadOf}
 use Rattle.sv_vxi.specs.declared.error_code.ErrorCode.TheVariants.{NoError}
 use Rattle.sv_vxi.specs.Results.{Read as ReadResult}
-use Rattle.sv_rpc.specs.Call.{call_at}
 use Rattle.sv_server.specs.CoreChannel.{read_of}
 use Rattle.sv_server.specs.declared.event.Config.{Config}
-use Rattle.sv_server.specs.declared.event.Role.{Role}
-use Rattle.sv_server.specs.declared.event.Did.TheVariants.{Done}
-use Rattle.sv_server.specs.declared.event.Refused.TheVariants.{NoMemory}
-use Rattle.sv_server.specs.Act.{Act, CallTaken, of, bench}
-use Rattle.sv_server.specs.Polled.{IsPolled}
-use Rattle.sv_server.specs.Connection.{open_role, next_call, free}
-use Rattle.sv_server.specs.Dispatch.{verdict_of}
-use Rattle.sv_server.specs.KeptConnection.{Connection}
+use Rattle.sv_server.specs.declared.dispatch.Verdict.{Verdict as Considered}
+use Rattle.sv_server.specs.declared.dispatch.Verdict.TheVariants as verdicts
+use Rattle.sv_links.specs.declared.waiting.Entry.{Entry}
+use Rattle.sv_server.specs.Act.{BenchAct}
+use Rattle.sv_server.specs.CoreCall.{CoreCall}
+use Rattle.sv_server.specs.Verdict.{Verdict, aborts_of}
 use Rattle.sv_server.specs.KeptBench.{Bench}
-use Rattle.sv_server.specs.Inside.Acting.{Turns, Concludes}
-use Rattle.sv_server.specs.Inside.Outcome.{verdict_makes}
-use Rattle.sv_server.proofs.Projections.{concluded_stands, verdict_links}
+use Rattle.sv_server.specs.Inside.Outcome.{ConsideredAs, WaitsAs, HeldAs, ended_by}
 
 -- a test the other way round
 pub flipped : (b : Bool) → not b ≡ true → b ≡ false
@@ -36,19 +31,19 @@ pub read_is : (read : Read) (bytes : List ℕ) (most : ℕ) (term : Option ℕ) 
     ≡ read_of bytes most term
 read_is read bytes most term is = rw (is.bytes, is.request_count, is.character, is.end) refl
 
-pub turn_done : (config : Config) (c : ℕ) (log : List Act) (role : Role) (call : List ℕ) (connection : Connection) (shared : Bench)
-    → open_role (of c log) ≡ Some role → next_call (of c log) ≡ Some call → nat_lt (free (of c log)) 8232 ≡ false
-    → ((polled : ℕ) → IsPolled polled (bench log)
-    → Concludes (verdict_of config polled c role (call_at call) (bench log)) config (CallTaken call ∷ of c log) (bench log) connection
-    shared)
-    → Turns config c log (Ok Done) connection shared
-turn_done config c log role call connection shared opened next roomy done =
-    rw (opened, next, roomy) (refl, refl, λ polled said. concluded_stands config c log call _ connection shared (done polled said))
+-- what waits is held as is said
+pub held_as : (considered : Considered) (shared : Bench) (config : Config) (acts : List BenchAct) (verdict : Verdict) (c : ℕ)
+    (call : Option CoreCall) (old new : List Entry)
+    → ConsideredAs considered shared config acts verdict → WaitsAs considered c call old new → HeldAs verdict c call old new
+held_as verdicts.NoCall shared config acts verdict c call old new is so = rw is.0 so
+held_as (verdicts.Answer xid answer aborts) shared config acts verdict c call old new is so = rw is.1 so
+held_as (verdicts.Response xid most term) shared config acts verdict c call old new is so = rw is.0 so
+held_as verdicts.Waits shared config acts verdict c call old new is so = rw is.1 so
 
-pub turn_lacks : (config : Config) (c : ℕ) (log : List Act) (role : Role) (call : List ℕ) (connection : Connection) (shared : Bench)
-    → open_role (of c log) ≡ Some role → next_call (of c log) ≡ Some call → nat_lt (free (of c log)) 8232 ≡ false
-    → ((polled : ℕ) → IsPolled polled (bench log) → verdict_makes (verdict_of config polled c role (call_at call) (bench log)) ≡ true)
-    → Turns config c log (Err NoMemory) connection shared
-turn_lacks config c log role call connection shared opened next roomy makes =
-    rw (opened, next, roomy)
-    (refl, λ polled said. verdict_links c call (verdict_of config polled c role (call_at call) (bench log)) (makes polled said))
+-- what it ends beside
+pub ended_as : (considered : Considered) (shared : Bench) (config : Config) (acts : List BenchAct) (verdict : Verdict)
+    → ConsideredAs considered shared config acts verdict → aborts_of verdict ≡ ended_by considered
+ended_as verdicts.NoCall shared config acts verdict is = ap aborts_of is.0
+ended_as (verdicts.Answer xid answer aborts) shared config acts verdict is = ap aborts_of is.1
+ended_as (verdicts.Response xid most term) shared config acts verdict is = ap aborts_of is.0
+ended_as verdicts.Waits shared config acts verdict is = ap aborts_of is.1

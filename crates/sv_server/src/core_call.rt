@@ -178,10 +178,10 @@ pub fn term_of(flags: Flags, term_char: u32) -> Option<u8>
 }
 
 /// A call of the core channel that was taken, with its transaction, where it can be read.
-pub fn core_call(record: &[u8]) -> Option<CoreCall<'_>>
-    ensures { option_map plain_core_call result ≡ read_as record.now }
+pub fn core_call(bytes: &[u8]) -> Option<CoreCall<'_>>
+    ensures { option_map plain_core_call result ≡ read_as bytes.now }
 {
-    let Ok(call) = read_call(record) else {
+    let Ok(call) = read_call(bytes) else {
         return None;
     };
     if !is_core_call(call.proc) {

@@ -5,6 +5,7 @@ mod abort_channel;
 mod admission;
 mod bench;
 mod connection;
+mod continuing;
 mod core_call;
 mod core_channel;
 mod dispatch;

@@ -18,12 +18,8 @@ ghost use Rattle.sv_server.specs.State.{Represents};
 ghost use Rattle.sv_server.specs.Inside.Kept.{IsKept};
 ghost use Rattle.sv_server.specs.Inside.Acting.{TakesStep, Steps, GoesTo, Settled};
 
-use crate::core_call::core_call;
-use crate::dispatch::execution_verdict;
-use crate::outcomes::failure;
-use crate::reply::Answer;
+use crate::continuing::{give_up, go_on};
 use crate::server::Server;
-use crate::turn::conclude;
 use std::alloc::Allocator;
 use sv_links::{Entry, Wait};
 use sv_vxi::ErrorCode;
@@ -63,13 +59,7 @@ impl<A: Allocator> Server<A> {
         ensures measure { rank self.new.bench.waiting < rank self.old.bench.waiting }
     {
         let connection = &mut self.connections[usize::from(entry.conn)];
-        let Some(call) = connection.taken().and_then(core_call) else {
-            self.bench.waiting.leave(entry.conn);
-            return;
-        };
-        if let Some(ending) = self.bench.resume(entry.conn, entry.wait, &call.args) {
-            conclude(execution_verdict(call.xid, ending), connection, &mut self.bench);
-        }
+        go_on(connection, &mut self.bench, entry);
     }
 
     /// A call that waits is given up, with this error.
@@ -81,12 +71,8 @@ impl<A: Allocator> Server<A> {
             (given_up error conn (core_call_in (unanswered (of conn log)))) ++ log) }
         ensures waiting { self.new.bench.waiting ≡ without conn self.old.bench.waiting }
     {
-        self.bench.waiting.leave(conn);
         let connection = &mut self.connections[usize::from(conn)];
-        if let Some(call) = connection.taken().and_then(core_call) {
-            let result = failure(&call.args, error);
-            connection.answer(call.xid, &Answer::Result(result));
-        }
+        give_up(connection, &mut self.bench, conn, error);
     }
 
     /// A trigger that comes at once, where one is due.

@@ -1,5 +1,5 @@
 -- What a call that is executed, or a record that is considered, comes to, as the code says it.
-use Rattle.std.specs.Prelude.{◌≡◌, ℕ, ◌≤◌, ◌<◌, List, [], ◌∷◌, ◌++◌, length, map, nat_lt, Bool, true, false, ◌||◌, Option, Some, None, ⊤}
+use Rattle.std.specs.Prelude.{◌≡◌, ◌⊎◌, ℕ, ◌≤◌, ◌<◌, List, [], ◌∷◌, ◌++◌, length, map, nat_lt, Bool, true, false, ◌||◌, Option, Some, None, ⊤}
 use Rattle.std.specs.List.{concat}
 use Rattle.sv_xdr.specs.Spelling.{Unsigned, Field, spelling}
 use Rattle.sv_rpc.specs.Reply.{reply_fields}
@@ -10,7 +10,7 @@ use Rattle.sv_vxi.specs.Arguments.{Arguments, CreateLink}
 use Rattle.sv_links.specs.declared.waiting.Entry.{Entry}
 use Rattle.sv_links.specs.Links.{made, holder, is_locked_out}
 use Rattle.sv_links.specs.declared.waiting.Wait.{Wait}
-use Rattle.sv_links.specs.Waiting.{WaitAct, Again, Left, creating}
+use Rattle.sv_links.specs.Waiting.{WaitAct, Again, Left, waits, creating}
 use Rattle.sv_links.specs.Queue.{creates, creations, without, anew}
 use Rattle.sv_server.specs.declared.admission.Block.{Block}
 use Rattle.sv_server.specs.declared.core_call.CoreCall.{CoreCall as TakenCall}
@@ -129,6 +129,17 @@ abbrev pub Resumes : Option Ending → ℕ → Arguments → List Entry → List
 Resumes (Some ending) c arguments old new = new ≡ without c old
 Resumes None c arguments old new = (wait : Wait) × (deadline : Option ℕ) × (new ≡ map (anew c wait deadline) old)
     × (is_create_link arguments ≡ false)
+
+-- A call that waits can go on: what it waits for is there, and where it makes a link, it waits for the lock as such.
+abbrev pub MayGoOn : Entry → Option CoreCall → Bench → List BenchAct → Type 0
+MayGoOn entry call kept acts = (waits entry.conn (wait_acts acts) ≡ None → ⊥)
+    × (creates_link call ≡ true → (creations (without entry.conn kept.waiting) < creations kept.waiting)
+    × (is_locked_out (holder (link_acts acts)) None ≡ false))
+
+-- It waits no more; or it waits for something else, and makes no link.
+abbrev pub WaitsOn : ℕ → Option CoreCall → List Entry → List Entry → Type 0
+WaitsOn c call old new = (new ≡ without c old) ⊎ ((wait : Wait) × (deadline : Option ℕ) × (new ≡ map (anew c wait deadline) old)
+    × (creates_link call ≡ false))
 
 -- whether what a call comes to wants memory
 abbrev pub begun_wants : Begun → Bool
