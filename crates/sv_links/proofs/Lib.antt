@@ -1,2 +1,6 @@
-pub mod Tables
 pub mod Queues
+pub mod Counted
+mod Found
+mod Creating
+mod Anew
+pub mod OneOldest

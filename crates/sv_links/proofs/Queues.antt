@@ -8,12 +8,12 @@ use Rattle.std.proofs.lemmas.List.{take_all, drop_all, append-nil}
 use Rattle.sv_errors.specs.Since.{newest}
 use Rattle.sv_links.specs.declared.waiting.Entry.{Entry}
 use Rattle.sv_links.specs.declared.waiting.Wait.{Wait}
-use Rattle.sv_links.specs.Waiting.{WaitAct, Entered, Again, Left, waits, link, arrival, enters, IsOldest, IsAble, IsExpired, Names, is_there}
-use Rattle.sv_links.specs.Queue.{IsQueue, IsFree, IsOnce, IsBelow, IsEntry, IsOrdered, entry_of, anew, is_past, is_named}
+use Rattle.sv_links.specs.Waiting.{WaitAct, Entered, Again, Left, waits, link, arrival, enters, IsOldest, IsAble, IsExpired, is_there}
+use Rattle.sv_links.specs.Queue.{IsQueue, IsFree, IsOnce, IsBelow, IsEntry, IsOrdered, entry_of, anew, is_past, without}
 
 -- ---- what holds of each
 
-all_filter : (P : Entry → Type 0) (p : Entry → Bool) (xs : List Entry) → AllByRecursion P xs → AllByRecursion P (filter p xs)
+pub all_filter : (P : Entry → Type 0) (p : Entry → Bool) (xs : List Entry) → AllByRecursion P xs → AllByRecursion P (filter p xs)
 all_filter P p xs h = recursion_from_All P _ (All-filter p P xs (All-from_recursion P xs h))
 
 all_push : (P : Entry → Type 0) (xs : List Entry) (x : Entry) → AllByRecursion P xs → P x → AllByRecursion P (xs ++ x ∷ [])
@@ -56,6 +56,17 @@ ordered-left conn acts (x ∷ xs) h =
     (λ _. (all_filter (λ y. arrival x.conn acts < arrival y.conn acts) (other_than conn) xs h.0, ordered-left conn acts xs h.1))
     (λ _. ordered-left conn acts xs h.1)
 
+pub free-without : (conn : ℕ) (xs : List Entry) → IsFree conn (without conn xs)
+free-without conn [] = tt
+free-without conn (x ∷ xs) = cond_both (other_than conn x) (x ∷ without conn xs) (without conn xs) (IsFree conn)
+    (λ e. (λ same. true≢false (sym e ∙ rw (eq-eqb x.conn conn same) refl), free-without conn xs)) (λ _. free-without conn xs)
+
+ordered-filter : (p : Entry → Bool) (acts : List WaitAct) (xs : List Entry) → IsOrdered acts xs → IsOrdered acts (filter p xs)
+ordered-filter p acts [] h = tt
+ordered-filter p acts (x ∷ xs) h = cond_both (p x) (x ∷ filter p xs) (filter p xs) (IsOrdered acts)
+    (λ _. (all_filter (λ y. arrival x.conn acts < arrival y.conn acts) p xs h.0, ordered-filter p acts xs h.1))
+    (λ _. ordered-filter p acts xs h.1)
+
 find-left : (conn c : ℕ) (xs : List Entry) → entry_of c (filter (other_than conn) xs) ≡ cond (eqb conn c) None (entry_of c xs)
 find-left conn c [] = elim (cases_Bool (eqb conn c)) [ inl e ↦ rw e refl | inr e ↦ rw e refl ]
 find-left conn c (x ∷ xs) = elim (cases_Bool (eqb x.conn conn)) [
@@ -83,7 +94,7 @@ IsQueue-left conn acts xs is = record {
 
 -- ---- an entry more
 
-newest-le : (p : List WaitAct → Bool) (acts : List WaitAct) → length (newest p acts) ≤ length acts
+pub newest-le : (p : List WaitAct → Bool) (acts : List WaitAct) → length (newest p acts) ≤ length acts
 newest-le p [] = omega arith
 newest-le p (act ∷ acts) = cond_both (p (act ∷ acts)) (act ∷ acts) (newest p acts) (λ found. length found ≤ suc (length acts))
     (λ _. omega arith) (λ _. omega (arith, newest-le p acts))
@@ -128,20 +139,23 @@ find-entered entry c (x ∷ xs) free = elim (cases_Bool (eqb x.conn c)) [
   | inr k ↦ rw k (find-entered entry c xs free.1)
 ]
 
-all-entered : (entry : Entry) (c : ℕ) (acts : List WaitAct) (xs : List Entry) → IsFree entry.conn xs
+all-entered : (entry : Entry) (c : ℕ) (acts : List WaitAct) (xs : List Entry)
     → waits c acts ≡ option_map (λ x. x.wait) (entry_of c xs)
-    → waits c (acts_with entry acts) ≡ option_map (λ x. x.wait) (entry_of c (xs ++ entry ∷ []))
-all-entered entry c acts xs free h =
-    rw (find-entered entry c xs free) (elim (cases_Bool (eqb entry.conn c)) [ inl e ↦ rw e refl | inr e ↦ rw e h ])
+    → waits c (acts_with entry acts) ≡ option_map (λ x. x.wait) (entry_of c (without entry.conn xs ++ entry ∷ []))
+all-entered entry c acts xs h =
+    rw (find-entered entry c (without entry.conn xs) (free-without entry.conn xs), find-left entry.conn c xs)
+    (elim (cases_Bool (eqb entry.conn c)) [ inl e ↦ rw e refl | inr e ↦ rw e h ])
 
-pub IsQueue-entered : (entry : Entry) (acts : List WaitAct) (xs : List Entry) → IsFree entry.conn xs → IsQueue xs acts
-    → IsQueue (xs ++ entry ∷ []) (acts_with entry acts)
-IsQueue-entered entry acts xs free is = record {
-  each = all_push (IsEntry (acts_with entry acts)) xs entry
-      (both (λ x. x.conn ≢ entry.conn) (IsEntry acts) (IsEntry (acts_with entry acts)) (IsEntry-entered entry acts) xs free is.each)
-      (IsEntry-new entry acts);
-  ordered = ordered-entered entry acts xs free is.ordered;
-  all = λ c. all-entered entry c acts xs free (is.all c);
+-- an entry more, behind those of other connections
+pub IsQueue-entered : (entry : Entry) (acts : List WaitAct) (xs : List Entry) → IsQueue xs acts
+    → IsQueue (without entry.conn xs ++ entry ∷ []) (acts_with entry acts)
+IsQueue-entered entry acts xs is = record {
+  each = all_push (IsEntry (acts_with entry acts)) (without entry.conn xs) entry
+      (both (λ x. x.conn ≢ entry.conn) (IsEntry acts) (IsEntry (acts_with entry acts)) (IsEntry-entered entry acts) (without entry.conn xs)
+      (free-without entry.conn xs) (all_filter (IsEntry acts) (other_than entry.conn) xs is.each)) (IsEntry-new entry acts);
+  ordered = ordered-entered entry acts (without entry.conn xs) (free-without entry.conn xs)
+      (ordered-filter (other_than entry.conn) acts xs is.ordered);
+  all = λ c. all-entered entry c acts xs (is.all c);
 }
 
 pub once-push : (entry : Entry) (xs : List Entry) → IsFree entry.conn xs → IsOnce xs → IsOnce (xs ++ entry ∷ [])
@@ -237,7 +251,7 @@ anew_none conn wait last (x ∷ xs) h = rw (ne_eqb x.conn conn h.0, anew_none co
 
 -- ---- at most so many stand once
 
-kept_free : (n : ℕ) (xs : List Entry) → IsFree n xs → filter (other_than n) xs ≡ xs
+pub kept_free : (n : ℕ) (xs : List Entry) → IsFree n xs → filter (other_than n) xs ≡ xs
 kept_free n [] h = refl
 kept_free n (x ∷ xs) h = rw (ne_eqb x.conn n h.0, kept_free n xs h.1) refl
 
@@ -248,7 +262,7 @@ one_less n (x ∷ xs) h = elim (cases_Bool (eqb x.conn n)) [
   | inr e ↦ rw e (omega (arith, one_less n xs h.1))
 ]
 
-below_less : (n : ℕ) (xs : List Entry) → IsBelow (suc n) xs → IsBelow n (filter (other_than n) xs)
+pub below_less : (n : ℕ) (xs : List Entry) → IsBelow (suc n) xs → IsBelow n (filter (other_than n) xs)
 below_less n [] h = tt
 below_less n (x ∷ xs) h = elim (cases_Bool (eqb x.conn n)) [
   | inl e ↦ rw e (below_less n xs h.1)
@@ -269,11 +283,11 @@ has_room entry n xs free lt once below =
 
 -- ---- the first that is such is the oldest
 
-abbrev Among : ℕ → List Entry → Type 0
+abbrev pub Among : ℕ → List Entry → Type 0
 Among c [] = ⊥
 Among c (x ∷ xs) = (x.conn ≡ c) ⊎ Among c xs
 
-among_from_find : (c : ℕ) (xs : List Entry) → (entry_of c xs ≡ None → ⊥) → Among c xs
+pub among_from_find : (c : ℕ) (xs : List Entry) → (entry_of c xs ≡ None → ⊥) → Among c xs
 among_from_find c [] h = absurd (h refl)
 among_from_find c (x ∷ xs) h = elim (cases_Bool (eqb x.conn c)) [
   | inl e ↦ inl (eqb-true x.conn c e)
@@ -336,17 +350,6 @@ oldest_expired clock acts xs is = IsOldest-find acts (IsExpired clock acts) (λ 
     (λ x each e. let found = past clock x.deadline e in (x.wait, found.0, each.0, each.1 ∙ found.1, found.2))
     (λ x each such. rw (sym each.1 ∙ such.3) (le-leb such.1 clock such.4))
     (λ c such none. some≢none such.0 (waits c acts) such.2 none) is
-
-named : (lid : ℕ) (o : Option ℕ) → is_named lid o ≡ true → o ≡ Some lid
-named lid None e = absurd (false≢true e)
-named lid (Some other) e = ap Some (eqb-true other lid e)
-
-pub oldest_naming : (lid : ℕ) (acts : List WaitAct) (xs : List Entry) → IsQueue xs acts
-    → IsOldest acts (Names lid acts) (option_map (λ x. x.conn) (find (λ x. is_named lid x.lid) xs))
-oldest_naming lid acts xs is = IsOldest-find acts (Names lid acts) (λ x. is_named lid x.lid) xs
-    (λ x each e. (x.wait, each.0, each.2 ∙ named lid x.lid e))
-    (λ x each such. rw (sym each.2 ∙ such.2) (eq-eqb lid lid refl))
-    (λ c such none. some≢none such.0 (waits c acts) such.1 none) is
 
 -- ---- a loop that has written each
 

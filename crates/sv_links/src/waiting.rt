@@ -147,8 +147,10 @@ impl<A: Allocator> Waiting<A> {
             → MatchOption result (waits_for conn acts ≡ None)
             (λ entry. (entry.conn ≡ conn) × IsEntry acts entry) }
     {
-        let entry = self.entries.iter().find(|entry| entry.conn == conn)?;
-        Some(*entry)
+        self.entries
+            .iter()
+            .find(|entry| entry.conn == conn)
+            .copied()
     }
 
     /// For what the call of a connection waits; none where it doesn't.
@@ -205,11 +207,10 @@ impl<A: Allocator> Waiting<A> {
         ensures fewer { IfSome result (λ entry. creates entry ≡ true
             → creations (without entry.conn self.now) + 1 ≤ creations self.now) }
     {
-        let entry = self
-            .entries
+        self.entries
             .iter()
-            .find(|entry| entry.is_able(holder, can_write, can_read))?;
-        Some(*entry)
+            .find(|entry| entry.is_able(holder, can_write, can_read))
+            .copied()
     }
 
     /// The oldest call whose deadline has come at this clock; none where none's has.
@@ -222,7 +223,9 @@ impl<A: Allocator> Waiting<A> {
         ensures measure { IfSome result (λ entry. rank (without entry.conn self.now)
             + rank_of entry.wait ≤ rank self.now) }
     {
-        let entry = self.entries.iter().find(|entry| entry.has_expired(clock))?;
-        Some(*entry)
+        self.entries
+            .iter()
+            .find(|entry| entry.has_expired(clock))
+            .copied()
     }
 }

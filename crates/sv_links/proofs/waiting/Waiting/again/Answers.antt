@@ -1,7 +1,9 @@
-use Rattle.std.proofs.Common.{rules, arith, ◌∙◌}
+use Rattle.std.proofs.Common.{rules, arith, ◌∙◌, ◌≡◌}
+use Rattle.std.specs.Prelude.{map, vec_items}
 use Rattle.std.proofs.lemmas.List.Edits.{map_over_more}
 use Rattle.sv_links.specs.Queue.{anew}
-use Rattle.sv_links.proofs.Queues.{IsQueue-anew, once-anew, below-anew, anew_none, written}
+use Rattle.sv_links.proofs.Queues.{IsQueue-anew, once-anew, below-anew, written}
+use Rattle.sv_links.proofs.Anew.{rank-anew, creations-anew}
 use Rattle.sv_links.proofs.waiting.Waiting.again.Goals as goal
 
 pub loop-entry-preserved : goal.loop-entry-preserved
@@ -20,8 +22,16 @@ invariant_of-self g c =
       c.self.invariant.2,
     )
 
-pub returns-clause-anew : goal.returns-clause-anew
-returns-clause-anew g c acts is does =
+pub returns-clause-value : goal.returns-clause-value
+returns-clause-value g c =
+    let vec = c.self.inside.entries in
+    let lent = c.deref_mut-entry-items.ensures in
+    let f = anew c.args.conn c.args.wait c.args.deadline in
+    rw (← c.self.view_is) (written f vec.len c.loop-entry.entry-index vec.items c.deref_mut-entry-items.result.now c.loop-entry.entry-items
+    lent.value lent.len c.loop-entry.auto.entry-items c.loop-entry-test.false c.loop-entry.invariant)
+
+pub returns-clause-stands : goal.returns-clause-stands
+returns-clause-stands g c acts is does =
     let vec = c.self.inside.entries in
     let lent = c.deref_mut-entry-items.ensures in
     let f = anew c.args.conn c.args.wait c.args.deadline in
@@ -29,11 +39,20 @@ returns-clause-anew g c acts is does =
     lent.value lent.len c.loop-entry.auto.entry-items c.loop-entry-test.false c.loop-entry.invariant in
     rw items (IsQueue-anew c.args.conn c.args.wait c.args.deadline acts vec.items does (rw (← c.self.view_is) at is))
 
-pub returns-clause-none : goal.returns-clause-none
-returns-clause-none g c free =
+pub returns-clause-measure : goal.returns-clause-measure
+returns-clause-measure g c =
     let vec = c.self.inside.entries in
     let lent = c.deref_mut-entry-items.ensures in
     let f = anew c.args.conn c.args.wait c.args.deadline in
     let items = written f vec.len c.loop-entry.entry-index vec.items c.deref_mut-entry-items.result.now c.loop-entry.entry-items
     lent.value lent.len c.loop-entry.auto.entry-items c.loop-entry-test.false c.loop-entry.invariant in
-    items ∙ anew_none c.args.conn c.args.wait c.args.deadline vec.items (rw (← c.self.view_is) at free) ∙ c.self.view_is
+    rw (items, ← c.self.view_is) (rank-anew c.args.conn c.args.wait c.args.deadline vec.items c.self.invariant.0)
+
+pub returns-clause-fewer : goal.returns-clause-fewer
+returns-clause-fewer g c other =
+    let vec = c.self.inside.entries in
+    let lent = c.deref_mut-entry-items.ensures in
+    let f = anew c.args.conn c.args.wait c.args.deadline in
+    let items = written f vec.len c.loop-entry.entry-index vec.items c.deref_mut-entry-items.result.now c.loop-entry.entry-items
+    lent.value lent.len c.loop-entry.auto.entry-items c.loop-entry-test.false c.loop-entry.invariant in
+    rw (items, ← c.self.view_is) (creations-anew c.args.conn c.args.wait c.args.deadline vec.items other)

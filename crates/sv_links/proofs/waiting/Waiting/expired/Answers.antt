@@ -1,23 +1,33 @@
-use Rattle.std.proofs.Common.{rules, tests, ap, ◌∙◌, subst, sym}
-use Rattle.std.specs.Prelude.{None, Some, option_map}
+use Rattle.std.proofs.Common.{rules, tests, ap, ◌∙◌, subst, sym, Option, Some}
+use Rattle.std.specs.Prelude.{option_map, find, IfSome, ◌≡◌, ◌<◌}
 use Rattle.std.proofs.lemmas.Iterator.{YieldsList-from_slice}
 use Rattle.std.proofs.lemmas.Iterator.Search.{find_from_yields_List}
 use Rattle.sv_links.specs.declared.waiting.Entry.{Entry}
-use Rattle.sv_links.specs.Waiting.{IsOldest, IsExpired}
-use Rattle.sv_links.specs.Queue.{is_past}
+use Rattle.sv_links.specs.Waiting.{is_there}
+use Rattle.sv_links.specs.Queue.{IsEntry, IsBelow, is_past}
 use Rattle.sv_links.proofs.Queues.{oldest_expired}
+use Rattle.sv_links.proofs.Found.{found-each, found-rank}
 use Rattle.sv_links.proofs.waiting.Waiting.expired.Goals as goal
+use Rattle.sv_links.proofs.waiting.Waiting.expired.Given as given
 
-pub returns-in_err-entry : goal.returns-in_err-entry
-returns-in_err-entry g c acts is =
-    rw (c.from_residual.ensures ∙ ap (option_map (λ (entry : Entry). entry.conn))
-    (find_from_yields_List {all = c.self.inside.entries.items} (λ entry. is_past c.args.clock entry.deadline) _ _ None c.in_err-entry.ensures.ran
-    (YieldsList-from_slice _ cc) (λ x b q k. search (rules, tests))))
-    (oldest_expired c.args.clock acts c.self.inside.entries.items (rw (← c.self.view_is) at is))
+result_is : (g : given.Over) (c : goal.After-copied g)
+    → c.copied.result ≡ find (λ (entry : Entry). is_past c.args.clock entry.deadline) c.self.inside.entries.items
+result_is g c = c.copied.ensures
+    ∙ find_from_yields_List {all = c.self.inside.entries.items} (λ entry. is_past c.args.clock entry.deadline) _ _ c.find.result c.find.ensures.ran
+    (YieldsList-from_slice _ cc) (λ x b q k. search (rules, tests))
 
-pub returns : goal.returns
-returns g c acts is =
-    subst (IsOldest acts (IsExpired c.args.clock acts)) (sym (ap (option_map (λ (entry : Entry). entry.conn))
-    (find_from_yields_List {all = c.self.inside.entries.items} (λ entry. is_past c.args.clock entry.deadline) c.find.new.self _ (Some c.in_ok-entry.entry)
-    c.in_ok-entry.ensures.ran (YieldsList-from_slice _ cc) (λ x b q k. search (rules, tests)))))
-    (oldest_expired c.args.clock acts c.self.inside.entries.items (rw (← c.self.view_is) at is))
+pub returns-clause-answer : goal.returns-clause-answer
+returns-clause-answer g c acts is =
+    rw (result_is g c) (oldest_expired c.args.clock acts c.self.inside.entries.items (rw (← c.self.view_is) at is))
+
+pub returns-clause-entry : goal.returns-clause-entry
+returns-clause-entry g c acts is =
+    let old = rw (← c.self.view_is) at is in
+    rw (result_is g c) (found-each (IsEntry acts) (λ (entry : Entry). is_past c.args.clock entry.deadline) c.self.inside.entries.items old.each)
+
+pub returns-clause-within : goal.returns-clause-within
+returns-clause-within g c =
+    rw (result_is g c) (found-each (λ entry. entry.conn < 16) (λ (entry : Entry). is_past c.args.clock entry.deadline) c.self.inside.entries.items c.self.invariant.1)
+
+pub returns-clause-measure : goal.returns-clause-measure
+returns-clause-measure g c = rw (result_is g c, ← c.self.view_is) (found-rank (λ (entry : Entry). is_past c.args.clock entry.deadline) c.self.inside.entries.items)

@@ -12,7 +12,11 @@ invariant_of-self g c =
     let items = c.self.inside.entries.items in
     (rw kept (once-filter p items c.self.invariant.0), rw kept (below-filter p 16 items c.self.invariant.1), search rules)
 
-pub returns : goal.returns
-returns g c acts is =
+pub returns-clause-value : goal.returns-clause-value
+returns-clause-value g c =
+    rw (← c.self.view_is) (filter_same _ (λ entry. not (eqb entry.conn c.args.conn)) _ (λ x b f' k. search rules) _ _ c.retain.ensures.filtered)
+
+pub returns-clause-stands : goal.returns-clause-stands
+returns-clause-stands g c acts is =
     rw (filter_same _ (λ entry. not (eqb entry.conn c.args.conn)) _ (λ x b f' k. search rules) _ _ c.retain.ensures.filtered)
     (IsQueue-left c.args.conn acts _ (rw c.self.view_is is))

@@ -1,0 +1,86 @@
+-- The first call of a test among those that wait.
+use Rattle.std.proofs.Common.{◌≡◌, ℕ, ◌+◌, ◌<◌, ◌≤◌, Bool, true, false, cond, eqb, List, [], ◌∷◌, length, Option, Some, None, refl, sym, ap, ◌∙◌, arith, inl, inr, eq-eqb}
+use Rattle.std.specs.Prelude.{not, filter, find, option_map, IfSome, MatchOption, is_some}
+use Rattle.std.specs.List.{AllByRecursion}
+use Rattle.std.proofs.lemmas.Bool.{cases_Bool, eqb-true, true≢false}
+use Rattle.sv_links.specs.declared.waiting.Entry.{Entry}
+use Rattle.sv_links.specs.Waiting.{WaitAct, waits}
+use Rattle.sv_links.specs.Queue.{IsQueue, IsEntry, IsBelow, creates, creations, without, entry_of, rank, rank_of}
+use Rattle.sv_links.proofs.Counted.{creations-without}
+
+-- it passes the test, and what holds of each holds of it
+found : (P : Entry → Type 0) (test : Entry → Bool) (xs : List Entry) → AllByRecursion P xs
+    → IfSome (find test xs) (λ x. (test x ≡ true) × P x)
+found P test [] h = tt
+found P test (x ∷ xs) h = elim (cases_Bool (test x)) [ inl e ↦ rw e (e, h.0) | inr e ↦ rw e (found P test xs h.1) ]
+
+weaker : (P Q : Entry → Type 0) → ((x : Entry) → P x → Q x) → (o : Option Entry) → IfSome o P → IfSome o Q
+weaker P Q f None h = tt
+weaker P Q f (Some x) h = f x h
+
+pub found-each : (P : Entry → Type 0) (test : Entry → Bool) (xs : List Entry) → AllByRecursion P xs → IfSome (find test xs) P
+found-each P test xs h = weaker (λ x. (test x ≡ true) × P x) P (λ x k. k.1) (find test xs) (found P test xs h)
+
+-- the call of a connection
+entry_for : (conn : ℕ) (acts : List WaitAct) (o : Option Entry) → waits conn acts ≡ option_map (λ x. x.wait) o
+    → IfSome o (λ x. (eqb x.conn conn ≡ true) × IsEntry acts x)
+    → MatchOption o (waits conn acts ≡ None) (λ x. (x.conn ≡ conn) × IsEntry acts x)
+entry_for conn acts None all h = all
+entry_for conn acts (Some x) all h = (eqb-true x.conn conn h.0, h.1)
+
+pub entry_waits : (conn : ℕ) (acts : List WaitAct) (xs : List Entry) → IsQueue xs acts
+    → MatchOption (entry_of conn xs) (waits conn acts ≡ None) (λ x. (x.conn ≡ conn) × IsEntry acts x)
+entry_waits conn acts xs is =
+    entry_for conn acts (entry_of conn xs) (is.all conn) (found (IsEntry acts) (λ x. eqb x.conn conn) xs is.each)
+
+-- ---- what its leaving takes
+
+pub rank-without : (c : ℕ) (xs : List Entry) → rank (without c xs) ≤ rank xs
+rank-without c [] = omega arith
+rank-without c (x ∷ xs) = elim (cases_Bool (eqb x.conn c)) [
+  | inl e ↦ rw e (omega (arith, rank-without c xs))
+  | inr e ↦ rw e (omega (arith, rank-without c xs))
+]
+
+rank-cons : (c : ℕ) (x : Entry) (xs : List Entry) → rank (without c (x ∷ xs)) ≤ rank_of x.wait + rank (without c xs)
+rank-cons c x xs = elim (cases_Bool (eqb x.conn c)) [ inl e ↦ rw e (omega arith) | inr e ↦ rw e (omega arith) ]
+
+rank-itself : (x : Entry) (xs : List Entry) → rank (without x.conn (x ∷ xs)) ≤ rank xs
+rank-itself x xs = rw (eq-eqb x.conn x.conn refl) (rank-without x.conn xs)
+
+pub found-rank : (test : Entry → Bool) (xs : List Entry) → IfSome (find test xs) (λ x. rank (without x.conn xs) + rank_of x.wait ≤ rank xs)
+found-rank test [] = tt
+found-rank test (x ∷ xs) = elim (cases_Bool (test x)) [
+  | inl e ↦ rw e (omega (arith, rank-itself x xs))
+  | inr e ↦ rw e (weaker (λ y. rank (without y.conn xs) + rank_of y.wait ≤ rank xs)
+      (λ y. rank (without y.conn (x ∷ xs)) + rank_of y.wait ≤ rank (x ∷ xs))
+      (λ y h. omega (arith, h, rank-cons y.conn x xs)) (find test xs) (found-rank test xs))
+]
+
+head : (p : Entry → Bool) (x : Entry) (xs : List Entry) → length (filter p (x ∷ xs)) ≡ length (filter p (x ∷ [])) + length (filter p xs)
+head p x xs = elim (cases_Bool (p x)) [ inl e ↦ rw e (omega arith) | inr e ↦ rw e (omega arith) ]
+
+creations-head : (x : Entry) (xs : List Entry) → creations (x ∷ xs) ≡ creations (x ∷ []) + creations xs
+creations-head x xs = head creates x xs
+
+creations-cons : (c : ℕ) (x : Entry) (xs : List Entry) → creations (without c (x ∷ xs)) ≤ creations (x ∷ []) + creations (without c xs)
+creations-cons c x xs = elim (cases_Bool (eqb x.conn c)) [
+  | inl e ↦ rw e (omega arith)
+  | inr e ↦ rw e (omega (arith, creations-head x (without c xs)))
+]
+
+creations-one : (p : Entry → Bool) (x : Entry) → p x ≡ true → length (filter p (x ∷ [])) ≡ 1
+creations-one p x e = rw e refl
+
+creations-itself : (x : Entry) (xs : List Entry) → creates x ≡ true → creations (without x.conn (x ∷ xs)) + 1 ≤ creations (x ∷ xs)
+creations-itself x xs e = rw (creations-head x xs, creations-one creates x e, eq-eqb x.conn x.conn refl) (omega (arith, creations-without x.conn xs))
+
+pub found-creations : (test : Entry → Bool) (xs : List Entry)
+    → IfSome (find test xs) (λ x. creates x ≡ true → creations (without x.conn xs) + 1 ≤ creations xs)
+found-creations test [] = tt
+found-creations test (x ∷ xs) = elim (cases_Bool (test x)) [
+  | inl e ↦ rw e (creations-itself x xs)
+  | inr e ↦ rw e (weaker (λ y. creates y ≡ true → creations (without y.conn xs) + 1 ≤ creations xs)
+      (λ y. creates y ≡ true → creations (without y.conn (x ∷ xs)) + 1 ≤ creations (x ∷ xs))
+      (λ y h k. omega (arith, h k, creations-cons y.conn x xs, creations-head x xs)) (find test xs) (found-creations test xs))
+]
