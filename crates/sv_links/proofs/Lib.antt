@@ -4,3 +4,8 @@ mod Found
 mod Creating
 mod Anew
 pub mod OneOldest
+pub mod Locks
+pub mod Slots
+pub mod Tables
+mod Named
+mod Closing

@@ -1,5 +1,5 @@
 -- The call that came first is one.
-use Rattle.std.proofs.Common.{◌≡◌, ℕ, ◌+◌, ◌<◌, ◌≤◌, Bool, true, false, eqb, List, [], ◌∷◌, length, Option, Some, None, refl, sym, ap, ◌∙◌, arith, inl, inr}
+use Rattle.std.proofs.Common.{◌≡◌, ℕ, ◌+◌, ◌<◌, ◌≤◌, Bool, true, false, eqb, List, [], ◌∷◌, length, Option, Some, None, refl, sym, ap, ◌∙◌, arith, inl, inr, suc}
 use Rattle.std.specs.Prelude.{option_map}
 use Rattle.std.specs.List.{AllByRecursion}
 use Rattle.std.proofs.lemmas.Bool.{cases_Bool, eqb-true}
@@ -17,11 +17,11 @@ same_arrival (Left conn ∷ acts) c d came same = same_arrival acts c d came sam
 same_arrival (Entered conn link wait last ∷ acts) c d came same = elim (cases_Bool (eqb conn c)) [
   | inl e ↦ elim (cases_Bool (eqb conn d)) [
     | inl k ↦ sym (eqb-true conn c e) ∙ eqb-true conn d k
-    | inr k ↦ let same : length acts + 1 ≡ arrival d acts = rw (e, k) at same in
+    | inr k ↦ let same : suc (length acts) ≡ arrival d acts = rw (e, k) at same in
       absurd (omega (arith, same, newest-le (enters d) acts))
   ]
   | inr e ↦ elim (cases_Bool (eqb conn d)) [
-    | inl k ↦ let same : arrival c acts ≡ length acts + 1 = rw (e, k) at same in
+    | inl k ↦ let same : arrival c acts ≡ suc (length acts) = rw (e, k) at same in
       absurd (omega (arith, same, newest-le (enters c) acts))
     | inr k ↦ same_arrival acts c d (rw e at came) (rw (e, k) at same)
   ]

@@ -1,5 +1,5 @@
 -- What the table of links keeps of the acts.
-use Rattle.std.specs.Prelude.{◌≡◌, ℕ, ◌<◌, ◌≤◌, Bool, List, [], ◌∷◌, length, is_some, count_by, Option, Some, None, find, slice_index_or, ◌==◌, ⊤}
+use Rattle.std.specs.Prelude.{◌≡◌, ℕ, ◌<◌, ◌≤◌, List, [], ◌∷◌, ◌++◌, is_some, count_by, Option, Some, None, ⊤}
 use Rattle.std.specs.List.{AllByRecursion}
 use Rattle.sv_links.specs.declared.links.Link.{Link}
 use Rattle.sv_links.specs.Links.{LinkAct, made, live, is_locked, is_this}
@@ -16,13 +16,12 @@ pub record Table : Type 0 where
 abbrev pub count_of : Table → ℕ
 count_of table = count_by is_some table.slots
 
--- the link at a key
-abbrev pub link_at : Table → ℕ → Option Link
-link_at table key = slice_index_or table.slots key None
-
--- the live link of a number
-abbrev pub named : ℕ → List Link → Option Link
-named lid links = find (λ link. link.lid == lid) links
+-- These slots hold these links, each once: the link of the first one taken out of them, the other slots hold the rest.
+abbrev pub IsKept : List (Option Link) → List Link → Type 0
+IsKept [] links = links ≡ []
+IsKept (None ∷ slots) links = IsKept slots links
+IsKept (Some link ∷ slots) links =
+    (before : List Link) × (after : List Link) × (links ≡ before ++ link ∷ after) × IsKept slots (before ++ after)
 
 -- Their numbers rise, up to this one.
 abbrev pub IsRising : List Link → ℕ → Type 0
@@ -32,8 +31,6 @@ IsRising (link ∷ links) last = (link.lid ≤ last) × AllByRecursion (λ other
 -- The table keeps what the acts say of links: each live link at one key, and nothing else.
 pub record IsTable (table : Table) (acts : List LinkAct) : Type 0 where
   pub made : table.made ≡ made acts
-  pub count : count_of table ≡ length (live acts)
-  pub found : (key : ℕ) (link : Link) → link_at table key ≡ Some link → named link.lid (live acts) ≡ Some link
-  pub kept : (lid : ℕ) (link : Link) → named lid (live acts) ≡ Some link → (key : ℕ) × (link_at table key ≡ Some link)
+  pub kept : IsKept table.slots (live acts)
   pub rising : IsRising (live acts) table.made
   pub lock : (lid : ℕ) → is_locked lid acts ≡ is_this lid table.holder

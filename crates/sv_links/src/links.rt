@@ -127,9 +127,10 @@ impl<A: Allocator> Links<A> {
             return Err(CreateRefused::OutOfResources);
         }
         let lid = self.made + 1;
-        let Ok(_key) = self.links.insert(Link { lid, conn }) else {
+        if self.links.reserve(1).is_err() {
             return Err(CreateRefused::NoMemory);
-        };
+        }
+        self.links.insert_reserved(Link { lid, conn });
         self.made = lid;
         self.spare = self.spare.saturating_sub(1);
         Ok(lid)

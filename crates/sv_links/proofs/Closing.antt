@@ -1,0 +1,83 @@
+-- The acts of closing a connection.
+use Rattle.std.proofs.Common.{◌≡◌, ◌≢◌, ℕ, ◌+◌, ◌<◌, ◌≤◌, Bool, true, false, eqb, cond, List, [], ◌∷◌, ◌++◌, Option, Some, None, refl, sym, ap, subst, ◌∙◌, arith, inl, inr, eq-eqb}
+use Rattle.std.specs.Prelude.{not, map, filter, find, length, option_map, ◌&&◌, ◌||◌}
+use Rattle.std.specs.List.{AllByRecursion, list_any}
+use Rattle.std.proofs.lemmas.Bool.{ne_eqb, cases_Bool, eqb-true, eqb-false}
+use mathlib.Core.List.{reverse_aux, reverse_aux-eq}
+use Rattle.sv_links.specs.declared.links.Link.{Link}
+use Rattle.sv_links.specs.Links.{LinkAct, Destroyed, made, live, owner, is_of, closing, is_locked, is_this}
+use Rattle.sv_links.specs.Table.{Table, IsTable, IsRising}
+use Rattle.sv_links.proofs.Slots.{keep, kept-filter}
+use Rattle.sv_links.proofs.Tables.{Below, above-filter, rising-filter, other_than}
+
+-- the acts, and before them the destroying of these links
+abbrev gone : List Link → List LinkAct → List LinkAct
+gone ys acts = reverse_aux (map Destroyed (map (λ link. link.lid) ys)) acts
+
+-- links without those of the first list
+abbrev without : List Link → List Link → List Link
+without [] xs = xs
+without (y ∷ ys) xs = without ys (filter (other_than y.lid) xs)
+
+made-gone : (ys : List Link) (acts : List LinkAct) → made (gone ys acts) ≡ made acts
+made-gone [] acts = refl
+made-gone (y ∷ ys) acts = made-gone ys (Destroyed y.lid ∷ acts)
+
+live-gone : (ys : List Link) (acts : List LinkAct) → live (gone ys acts) ≡ without ys (live acts)
+live-gone [] acts = refl
+live-gone (y ∷ ys) acts = live-gone ys (Destroyed y.lid ∷ acts)
+
+-- a link with a number below theirs stays, and they stay without it
+stays : (x : Link) (ys xs : List Link) → AllByRecursion (Below x) ys → without ys (x ∷ xs) ≡ x ∷ without ys xs
+stays x [] xs h = refl
+stays x (y ∷ ys) xs h = rw (ne_eqb x.lid y.lid (λ e. absurd (omega (arith, h.0, e)))) (stays x ys _ h.1)
+
+stay : (x : Link) (ys : List Link) → AllByRecursion (Below x) ys → filter (other_than x.lid) ys ≡ ys
+stay x [] h = refl
+stay x (y ∷ ys) h = rw (ne_eqb y.lid x.lid (λ e. absurd (omega (arith, h.0, e))), stay x ys h.1) refl
+
+-- those that don't pass a test
+others : (p : Link → Bool) (xs : List Link) (n : ℕ) → IsRising xs n → without (filter p xs) xs ≡ filter (λ x. not (p x)) xs
+others p [] n r = refl
+others p (x ∷ xs) n r = elim (cases_Bool (p x)) [
+  | inl e ↦ rw (e, without, eq-eqb x.lid x.lid refl, stay x xs r.1) (others p xs n r.2)
+  | inr e ↦ rw (e, stays x (filter p xs) xs (above-filter p x xs r.1), others p xs n r.2) refl
+]
+
+-- whether a number is one of theirs
+abbrev has : ℕ → List Link → Bool
+has lid ys = list_any (λ link. eqb link.lid lid) ys
+
+locked-step : (a b c : Bool) → (not b && (not a && c)) ≡ (not (a || b) && c)
+locked-step true true c = refl
+locked-step true false c = refl
+locked-step false true c = refl
+locked-step false false c = refl
+
+locked-gone : (lid : ℕ) (ys : List Link) (acts : List LinkAct) → is_locked lid (gone ys acts) ≡ (not (has lid ys) && is_locked lid acts)
+locked-gone lid [] acts = refl
+locked-gone lid (y ∷ ys) acts = locked-gone lid ys (Destroyed y.lid ∷ acts)
+    ∙ locked-step (eqb y.lid lid) (has lid ys) (is_locked lid acts)
+
+-- ---- whose link a number is
+
+none-above : (x : Link) (xs : List Link) → AllByRecursion (Below x) xs → has x.lid xs ≡ false
+none-above x [] h = refl
+none-above x (y ∷ xs) h = rw (ne_eqb y.lid x.lid (λ e. absurd (omega (arith, h.0, e)))) (none-above x xs h.1)
+
+abbrev of_conn : ℕ → Link → Bool
+of_conn conn link = eqb link.conn conn
+
+has-owner : (conn lid : ℕ) (xs : List Link) (n : ℕ) → IsRising xs n
+    → has lid (filter (of_conn conn) xs) ≡ is_of conn (option_map (λ link. link.conn) (find (λ link. eqb link.lid lid) xs))
+has-owner conn lid [] n r = refl
+has-owner conn lid (x ∷ xs) n r = elim (cases_Bool (eqb x.lid lid)) [
+  | inl e ↦ elim (cases_Bool (eqb x.conn conn)) [
+    | inl k ↦ rw (e, k, e) (sym k)
+    | inr k ↦ rw (e, k) (rw (← eqb-true x.lid lid e) (none-above x (filter (of_conn conn) xs) (above-filter (of_conn conn) x xs r.1)) ∙ sym k)
+  ]
+  | inr e ↦ elim (cases_Bool (eqb x.conn conn)) [
+    | inl k ↦ rw (e, k, e) (has-owner conn lid xs n r.2)
+    | inr k ↦ rw (e, k) (has-owner conn lid xs n r.2)
+  ]
+]

@@ -1,0 +1,136 @@
+-- The live links of a number or a connection, found among the slots.
+use Rattle.std.proofs.Common.{◌≡◌, ◌≢◌, ℕ, ◌+◌, ◌<◌, ◌≤◌, Bool, true, false, eqb, cond, List, [], ◌∷◌, ◌++◌, Option, Some, None, refl, sym, ap, subst, ◌∙◌, arith, inl, inr, eq-eqb}
+use Rattle.std.specs.Prelude.{not, map, filter, find, option_map, min, fold}
+use Rattle.std.specs.List.{AllByRecursion, reduce}
+use Rattle.std.proofs.lemmas.Bool.{ne_eqb, cases_Bool, eqb-true}
+use Rattle.slab.specs.Slab.{entries_from}
+use Rattle.sv_links.specs.declared.links.Link.{Link}
+use Rattle.sv_links.specs.Table.{IsKept, IsRising}
+use Rattle.sv_links.proofs.Slots.{keep, kept-filter}
+use Rattle.sv_links.proofs.Tables.{Below, rising-filter}
+
+-- the links of the slots
+abbrev links_in : List (Option Link) → List Link
+links_in [] = []
+links_in (None ∷ slots) = links_in slots
+links_in (Some link ∷ slots) = link ∷ links_in slots
+
+links-keep : (p : Link → Bool) (slots : List (Option Link)) → links_in (map (keep p) slots) ≡ filter p (links_in slots)
+links-keep p [] = refl
+links-keep p (None ∷ slots) = links-keep p slots
+links-keep p (Some x ∷ slots) = elim (cases_Bool (p x)) [
+  | inl e ↦ rw e (ap (λ (xs : List Link). x ∷ xs) (links-keep p slots))
+  | inr e ↦ rw e (links-keep p slots)
+]
+
+-- ---- what an iterator over the slab finds
+
+find-entries : {Y : Type 0} (test : Link → Bool) (f : Link → Y) (key : ℕ) (slots : List (Option Link))
+    → option_map (λ entry. f entry.1) (find (λ entry. test entry.1) (entries_from key slots)) ≡ option_map f (find test (links_in slots))
+find-entries test f key [] = refl
+find-entries test f key (None ∷ slots) = find-entries test f (key + 1) slots
+find-entries test f key (Some x ∷ slots) = elim (cases_Bool (test x)) [
+  | inl e ↦ rw e refl
+  | inr e ↦ rw e (find-entries test f (key + 1) slots)
+]
+
+filter-entries : (test : Link → Bool) (key : ℕ) (slots : List (Option Link))
+    → map (λ entry. entry.1.lid) (filter (λ entry. test entry.1) (entries_from key slots)) ≡ map (λ link. link.lid) (filter test (links_in slots))
+filter-entries test key [] = refl
+filter-entries test key (None ∷ slots) = filter-entries test (key + 1) slots
+filter-entries test key (Some x ∷ slots) = elim (cases_Bool (test x)) [
+  | inl e ↦ rw e (ap (λ (ns : List ℕ). x.lid ∷ ns) (filter-entries test (key + 1) slots))
+  | inr e ↦ rw e (filter-entries test (key + 1) slots)
+]
+
+-- ---- a link taken out of those that rise
+
+all_between : (P : Link → Type 0) (xs : List Link) (x : Link) (ys : List Link) → AllByRecursion P (xs ++ x ∷ ys) → AllByRecursion P (xs ++ ys)
+all_between P [] x ys h = h.1
+all_between P (z ∷ xs) x ys h = (h.0, all_between P xs x ys h.1)
+
+all_at : (P : Link → Type 0) (xs : List Link) (x : Link) (ys : List Link) → AllByRecursion P (xs ++ x ∷ ys) → P x
+all_at P [] x ys h = h.0
+all_at P (z ∷ xs) x ys h = all_at P xs x ys h.1
+
+rising-between : (xs : List Link) (x : Link) (ys : List Link) (n : ℕ) → IsRising (xs ++ x ∷ ys) n → IsRising (xs ++ ys) n
+rising-between [] x ys n h = h.2
+rising-between (z ∷ xs) x ys n h = (h.0, all_between (Below z) xs x ys h.1, rising-between xs x ys n h.2)
+
+find-passed : (test : Link → Bool) (xs : List Link) (x : Link) (ys : List Link) → test x ≡ false → find test (xs ++ x ∷ ys) ≡ find test (xs ++ ys)
+find-passed test [] x ys e = rw e refl
+find-passed test (z ∷ xs) x ys e = elim (cases_Bool (test z)) [
+  | inl k ↦ rw k refl
+  | inr k ↦ rw k (find-passed test xs x ys e)
+]
+
+find-there : (lid : ℕ) (xs : List Link) (x : Link) (ys : List Link) (n : ℕ) → IsRising (xs ++ x ∷ ys) n → eqb x.lid lid ≡ true
+    → find (λ link. eqb link.lid lid) (xs ++ x ∷ ys) ≡ Some x
+find-there lid [] x ys n h e = rw e refl
+find-there lid (z ∷ xs) x ys n h e =
+    let below : z.lid < x.lid = all_at (Below z) xs x ys h.1 in
+    let same : x.lid ≡ lid = eqb-true x.lid lid e in
+    rw (ne_eqb z.lid lid (λ k. absurd (omega (arith, k, below, same)))) (find-there lid xs x ys n h.2 e)
+
+pub find-kept : (lid : ℕ) (slots : List (Option Link)) (links : List Link) (n : ℕ) → IsKept slots links → IsRising links n
+    → find (λ link. eqb link.lid lid) (links_in slots) ≡ find (λ link. eqb link.lid lid) links
+find-kept lid [] links n h rise = rw h refl
+find-kept lid (None ∷ slots) links n h rise = find-kept lid slots links n h rise
+find-kept lid (Some x ∷ slots) links n h rise =
+    let rise : IsRising (h.0 ++ x ∷ h.1) n = rw (← h.2) rise in
+    rw h.2 (elim (cases_Bool (eqb x.lid lid)) [
+      | inl e ↦ rw e (sym (find-there lid h.0 x h.1 n rise e))
+      | inr e ↦ rw e (find-kept lid slots (h.0 ++ h.1) n h.3 (rising-between h.0 x h.1 n rise)
+          ∙ sym (find-passed (λ link. eqb link.lid lid) h.0 x h.1 e))
+    ])
+
+pub owner_found : (lid key : ℕ) (slots : List (Option Link)) (links : List Link) (n : ℕ) → IsKept slots links → IsRising links n
+    → option_map (λ entry. entry.1.conn) (find (λ entry. eqb entry.1.lid lid) (entries_from key slots))
+    ≡ option_map (λ link. link.conn) (find (λ link. eqb link.lid lid) links)
+owner_found lid key slots links n h rise = find-entries (λ link. eqb link.lid lid) (λ link. link.conn) key slots
+    ∙ ap (option_map (λ (link : Link). link.conn)) (find-kept lid slots links n h rise)
+
+-- ---- the least number
+
+abbrev lids : List Link → List ℕ
+lids links = map (λ link. link.lid) links
+
+abbrev least_with : ℕ → Option ℕ → ℕ
+least_with a None = a
+least_with a (Some b) = min a b
+
+fold-min : (a b : ℕ) (ns : List ℕ) → fold min (min a b) ns ≡ min a (fold min b ns)
+fold-min a b [] = refl
+fold-min a b (n ∷ ns) = ap (λ (m : ℕ). fold min m ns) (grind (arith)) ∙ fold-min a (min b n) ns
+
+least-cons : (a : ℕ) (ns : List ℕ) → reduce min (a ∷ ns) ≡ Some (least_with a (reduce min ns))
+least-cons a [] = refl
+least-cons a (n ∷ ns) = ap Some (fold-min a n ns)
+
+first_above : (x : Link) (ys : List Link) → AllByRecursion (Below x) ys → least_with x.lid (find (λ lid. true) (lids ys)) ≡ x.lid
+first_above x [] h = refl
+first_above x (y ∷ ys) h = grind (arith, h.0)
+
+first_least : (xs : List Link) (x : Link) (ys : List Link) (n : ℕ) → IsRising (xs ++ x ∷ ys) n
+    → find (λ lid. true) (lids (xs ++ x ∷ ys)) ≡ Some (least_with x.lid (find (λ lid. true) (lids (xs ++ ys))))
+first_least [] x ys n h = ap Some (sym (first_above x ys h.1))
+first_least (z ∷ xs) x ys n h =
+    let below : z.lid < x.lid = all_at (Below z) xs x ys h.1 in
+    ap Some (grind (arith, below))
+
+least_kept : (slots : List (Option Link)) (links : List Link) (n : ℕ) → IsKept slots links → IsRising links n
+    → reduce min (lids (links_in slots)) ≡ find (λ lid. true) (lids links)
+least_kept [] links n h rise = rw h refl
+least_kept (None ∷ slots) links n h rise = least_kept slots links n h rise
+least_kept (Some x ∷ slots) links n h rise =
+    let rise : IsRising (h.0 ++ x ∷ h.1) n = rw (← h.2) rise in
+    rw h.2 (least-cons x.lid (lids (links_in slots))
+    ∙ ap (λ (o : Option ℕ). Some (least_with x.lid o)) (least_kept slots (h.0 ++ h.1) n h.3 (rising-between h.0 x h.1 n rise))
+    ∙ sym (first_least h.0 x h.1 n rise))
+
+pub least_found : (test : Link → Bool) (key : ℕ) (slots : List (Option Link)) (links : List Link) (n : ℕ) → IsKept slots links → IsRising links n
+    → reduce min (map (λ entry. entry.1.lid) (filter (λ entry. test entry.1) (entries_from key slots)))
+    ≡ find (λ lid. true) (map (λ link. link.lid) (filter test links))
+least_found test key slots links n h rise =
+    ap (reduce min) (filter-entries test key slots ∙ sym (ap lids (links-keep test slots)))
+    ∙ least_kept (map (keep test) slots) (filter test links) n (kept-filter test slots links h) (rising-filter test links n rise)

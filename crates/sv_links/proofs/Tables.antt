@@ -1,0 +1,106 @@
+-- The table of links, over acts.
+use Rattle.std.proofs.Common.{◌≡◌, ◌≢◌, ℕ, ◌+◌, ◌<◌, ◌≤◌, Bool, true, false, eqb, cond, List, [], ◌∷◌, ◌++◌, Option, Some, None, Result, Ok, Err, refl, sym, ap, ◌∙◌, arith, inl, inr, eq-eqb}
+use Rattle.std.specs.Prelude.{not, map, filter, length, slice_index_or, nat_lt, ◌&&◌}
+use Rattle.std.specs.List.{AllByRecursion}
+use Rattle.std.specs.Option.{option_eq}
+use Rattle.std.proofs.lemmas.Bool.{ne_eqb, cases_Bool, cond_both, eqb-true, eqb-false, false≢true, true≢false, le-ltb, lt-ltb}
+use Rattle.std.proofs.lemmas.List.Elements.{All-filter, All-push, All-from_recursion, recursion_from_All}
+use Rattle.sv_links.specs.declared.links.Link.{Link}
+use Rattle.sv_links.specs.declared.links.CreateRefused.{CreateRefused}
+use Rattle.sv_links.specs.declared.links.CreateRefused.TheVariants.{OutOfResources, NoMemory}
+use Rattle.sv_links.specs.Links.{LinkAct, Made, Destroyed, made, live, may_make}
+use Rattle.sv_links.specs.Table.{Table, IsTable, IsRising, count_of}
+use Rattle.sv_links.proofs.Slots.{keep, kept-filter, kept-put, kept-count}
+use Rattle.sv_links.proofs.Locks.{freed, lock-destroyed}
+
+-- links made before others
+abbrev pub Below : Link → Link → Type 0
+Below x y = x.lid < y.lid
+
+pub above-filter : (p : Link → Bool) (x : Link) (ys : List Link) → AllByRecursion (Below x) ys → AllByRecursion (Below x) (filter p ys)
+above-filter p x ys h = recursion_from_All (Below x) _ (All-filter p (Below x) ys (All-from_recursion (Below x) ys h))
+
+pub rising-filter : (p : Link → Bool) (xs : List Link) (n : ℕ) → IsRising xs n → IsRising (filter p xs) n
+rising-filter p [] n r = tt
+rising-filter p (x ∷ xs) n r = cond_both (p x) (x ∷ filter p xs) (filter p xs) (λ ys. IsRising ys n)
+    (λ _. (r.0, above-filter p x xs r.1, rising-filter p xs n r.2)) (λ _. rising-filter p xs n r.2)
+
+pub rising-push : (xs : List Link) (n c : ℕ) → IsRising xs n → IsRising (xs ++ record { lid = n + 1; conn = c } ∷ []) (n + 1)
+rising-push [] n c r = (omega arith, tt, tt)
+rising-push (x ∷ xs) n c r = (
+  omega (arith, r.0),
+  recursion_from_All (Below x) _ (All-push (Below x) xs _ (All-from_recursion (Below x) xs r.1) (omega (arith, r.0))),
+  rising-push xs n c r.2,
+)
+
+abbrev pub other_than : ℕ → Link → Bool
+other_than lid link = not (eqb link.lid lid)
+
+-- the table without a link
+pub IsTable-destroyed : (table : Table) (lid : ℕ) (acts : List LinkAct) (slots : List (Option Link)) (holder : Option ℕ)
+    → slots ≡ map (keep (other_than lid)) table.slots → holder ≡ freed lid table.holder → IsTable table acts
+    → IsTable (record table { slots = slots; holder = holder }) (Destroyed lid ∷ acts)
+IsTable-destroyed table lid acts slots holder kept held is = record {
+  made = is.made;
+  kept = rw kept (kept-filter (other_than lid) table.slots (live acts) is.kept);
+  rising = rising-filter (other_than lid) (live acts) table.made is.rising;
+  lock = rw held (lock-destroyed lid table.holder acts is.lock);
+}
+
+pub freed-held : (lid : ℕ) (o : Option ℕ) (r : Bool) → r ≡ option_eq eqb o (Some lid) → r ≡ true → None ≡ freed lid o
+freed-held lid None r told e = refl
+freed-held lid (Some m) r told e = rw (sym told ∙ e) refl
+
+pub freed-other : (lid : ℕ) (o : Option ℕ) (r : Bool) → r ≡ option_eq eqb o (Some lid) → r ≡ false → o ≡ freed lid o
+freed-other lid None r told e = refl
+freed-other lid (Some m) r told e = rw (sym told ∙ e) refl
+
+-- the table with a link more
+pub IsTable-made : (table : Table) (conn : ℕ) (acts : List LinkAct) (slots : List (Option Link)) (key spare : ℕ)
+    → slice_index_or table.slots key None ≡ None → slice_index_or slots key None ≡ Some (record { lid = table.made + 1; conn = conn })
+    → ((other : ℕ) → other ≢ key → slice_index_or slots other None ≡ slice_index_or table.slots other None) → IsTable table acts
+    → IsTable (record table { made = table.made + 1; slots = slots; spare = spare }) (Made (table.made + 1) conn ∷ acts)
+IsTable-made table conn acts slots key spare free put others is = record {
+  made = ap (λ (n : ℕ). n + 1) is.made;
+  kept = kept-put table.slots slots key (record { lid = table.made + 1; conn = conn }) (live acts) free put others is.kept;
+  rising = rising-push (live acts) table.made conn is.rising;
+  lock = is.lock;
+}
+
+-- ---- how many
+
+pub count_is : (table : Table) (acts : List LinkAct) → IsTable table acts → count_of table ≡ length (live acts)
+count_is table acts is = kept-count table.slots (live acts) is.kept
+
+pub may_is : (table : Table) (acts : List LinkAct) → IsTable table acts
+    → may_make acts ≡ (nat_lt (count_of table) 32 && nat_lt table.made 2147483647)
+may_is table acts is = rw (count_is table acts is, is.made) refl
+
+full : (n m : ℕ) → 32 ≤ n → (nat_lt n 32 && nat_lt m 2147483647) ≡ false
+full n m h = rw (le-ltb n 32 h) refl
+
+used : (b : Bool) (m : ℕ) → 2147483647 ≤ m → (b && nat_lt m 2147483647) ≡ false
+used true m h = rw (le-ltb m 2147483647 h) refl
+used false m h = refl
+
+pub is_full : (table : Table) (acts : List LinkAct) → IsTable table acts → 32 ≤ count_of table → may_make acts ≡ false
+is_full table acts is h = may_is table acts is ∙ full (count_of table) table.made h
+
+pub is_used : (table : Table) (acts : List LinkAct) → IsTable table acts → 2147483647 ≤ table.made → may_make acts ≡ false
+is_used table acts is h = may_is table acts is ∙ used (nat_lt (count_of table) 32) table.made h
+
+pub has_place : (table : Table) (acts : List LinkAct) → IsTable table acts → count_of table < 32 → table.made < 2147483647
+    → may_make acts ≡ true
+has_place table acts is h k = may_is table acts is ∙ rw (lt-ltb (count_of table) 32 h, lt-ltb table.made 2147483647 k) refl
+
+-- the errors differ
+abbrev is_shortage : Result ℕ CreateRefused → Bool
+is_shortage (Err OutOfResources) = true
+is_shortage (Err NoMemory) = false
+is_shortage (Ok lid) = false
+
+pub memory≢resources : ◌≡◌ {A = Result ℕ CreateRefused} (Err NoMemory) (Err OutOfResources) → ⊥
+memory≢resources e = false≢true (ap is_shortage e)
+
+pub made≢resources : (lid : ℕ) → ◌≡◌ {A = Result ℕ CreateRefused} (Ok lid) (Err OutOfResources) → ⊥
+made≢resources lid e = false≢true (ap is_shortage e)

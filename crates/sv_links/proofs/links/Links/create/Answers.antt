@@ -1,0 +1,40 @@
+use Rattle.std.proofs.Common.{rules, arith, ◌∙◌, sym, ap, refl, ℕ, ◌+◌, List, Option, None}
+use Rattle.std.specs.Prelude.{slice_index_or}
+use Rattle.slab.specs.Slab.{Slab}
+use Rattle.sv_links.specs.declared.links.Link.{Link}
+use Rattle.std.proofs.lemmas.Bool.{false≢true}
+use Rattle.sv_links.proofs.Tables.{IsTable-made, is_full, is_used, has_place, memory≢resources, made≢resources}
+use Rattle.sv_links.proofs.links.Links.create.Goals as goal
+use Rattle.sv_links.proofs.links.Links.create.Goals.{then-len-ge-MOST-via-then-len-ge-MOST, then-len-ge-MOST-via-else-len-ge-MOST+then-self-ge-LAST}
+
+pub returns-then-len-ge-MOST-clause-refused : goal.returns-then-len-ge-MOST-clause-refused
+returns-then-len-ge-MOST-clause-refused g c acts is =
+    let old = rw (← c.self.view_is) at is in
+    elim c.then-len-ge-MOST.branch [
+      | then-len-ge-MOST-via-then-len-ge-MOST w ↦ (λ _. is_full _ acts old (omega (arith, w.if-len-ge-MOST.true, c.len.ensures)), λ _. refl)
+      | then-len-ge-MOST-via-else-len-ge-MOST+then-self-ge-LAST w ↦ (λ _. is_used _ acts old w.if-self-ge-LAST.true, λ _. refl)
+    ]
+
+pub returns-then-is_err-clause-refused : goal.returns-then-is_err-clause-refused
+returns-then-is_err-clause-refused g c acts is =
+    let old = rw (← c.self.view_is) at is in
+    let can = has_place _ acts old (omega (arith, c.if-len-ge-MOST.false, c.len.ensures)) c.if-self-ge-LAST.false in
+    (λ e. absurd (memory≢resources e), λ k. absurd (false≢true (sym k ∙ can)))
+
+pub returns-clause-ok : goal.returns-clause-ok
+returns-clause-ok g c acts is =
+    let old = rw (← c.self.view_is) at is in
+    let put = c.insert_reserved.ensures.updates in
+    let same = ap (λ (slab : Slab Link). slab.slots) c.reserve.ensures.rest_kept in
+    let free = sym (ap (λ (slots : List (Option Link)). slice_index_or slots c.insert_reserved.result None) same) ∙ c.insert_reserved.ensures.was_vacant in
+    (
+      ap (λ (n : ℕ). n + 1) old.made,
+      IsTable-made _ c.args.conn acts c.insert_reserved.new.self.slots c.insert_reserved.result c.saturating_sub-self-inside.result free put.changed
+          (λ other apart. put.others other apart ∙ ap (λ (slots : List (Option Link)). slice_index_or slots other None) same) old,
+    )
+
+pub returns-clause-refused : goal.returns-clause-refused
+returns-clause-refused g c acts is =
+    let old = rw (← c.self.view_is) at is in
+    let can = has_place _ acts old (omega (arith, c.if-len-ge-MOST.false, c.len.ensures)) c.if-self-ge-LAST.false in
+    (λ e. absurd (made≢resources _ e), λ k. absurd (false≢true (sym k ∙ can)))
