@@ -2,6 +2,7 @@
 use Rattle.std.proofs.Common.{◌≡◌, ◌≢◌, ℕ, ◌+◌, ◌<◌, ◌≤◌, Bool, true, false, eqb, cond, List, [], ◌∷◌, ◌++◌, Option, Some, None, refl, sym, ap, subst, ◌∙◌, arith, inl, inr, eq-eqb}
 use Rattle.std.specs.Prelude.{not, map, filter, find, length, option_map, ◌&&◌, ◌||◌}
 use Rattle.std.specs.List.{AllByRecursion, list_any}
+use Rattle.std.specs.Option.{option_eq}
 use Rattle.std.proofs.lemmas.Bool.{ne_eqb, cases_Bool, eqb-true, eqb-false}
 use mathlib.Core.List.{reverse_aux, reverse_aux-eq}
 use Rattle.sv_links.specs.declared.links.Link.{Link}
@@ -11,7 +12,7 @@ use Rattle.sv_links.proofs.Slots.{keep, kept-filter}
 use Rattle.sv_links.proofs.Tables.{Below, above-filter, rising-filter, other_than}
 
 -- the acts, and before them the destroying of these links
-abbrev gone : List Link → List LinkAct → List LinkAct
+abbrev pub gone : List Link → List LinkAct → List LinkAct
 gone ys acts = reverse_aux (map Destroyed (map (λ link. link.lid) ys)) acts
 
 -- links without those of the first list
@@ -65,7 +66,7 @@ none-above : (x : Link) (xs : List Link) → AllByRecursion (Below x) xs → has
 none-above x [] h = refl
 none-above x (y ∷ xs) h = rw (ne_eqb y.lid x.lid (λ e. absurd (omega (arith, h.0, e)))) (none-above x xs h.1)
 
-abbrev of_conn : ℕ → Link → Bool
+abbrev pub of_conn : ℕ → Link → Bool
 of_conn conn link = eqb link.conn conn
 
 has-owner : (conn lid : ℕ) (xs : List Link) (n : ℕ) → IsRising xs n
@@ -73,11 +74,76 @@ has-owner : (conn lid : ℕ) (xs : List Link) (n : ℕ) → IsRising xs n
 has-owner conn lid [] n r = refl
 has-owner conn lid (x ∷ xs) n r = elim (cases_Bool (eqb x.lid lid)) [
   | inl e ↦ elim (cases_Bool (eqb x.conn conn)) [
-    | inl k ↦ rw (e, k, e) (sym k)
-    | inr k ↦ rw (e, k) (rw (← eqb-true x.lid lid e) (none-above x (filter (of_conn conn) xs) (above-filter (of_conn conn) x xs r.1)) ∙ sym k)
+    | inl k ↦ rw (e, k, e) refl
+    | inr k ↦ rw (e, k) (rw (← eqb-true x.lid lid e) (none-above x (filter (of_conn conn) xs) (above-filter (of_conn conn) x xs r.1)))
   ]
   | inr e ↦ elim (cases_Bool (eqb x.conn conn)) [
     | inl k ↦ rw (e, k, e) (has-owner conn lid xs n r.2)
     | inr k ↦ rw (e, k) (has-owner conn lid xs n r.2)
   ]
 ]
+
+-- ---- the table
+
+-- the link that still holds the lock, once a connection is closed
+abbrev pub holder_left : ℕ → List LinkAct → Option ℕ → Option ℕ
+holder_left conn acts None = None
+holder_left conn acts (Some lid) = cond (is_of conn (owner lid acts)) None (Some lid)
+
+decided : (b : Bool) (m : ℕ) → (not b && eqb m m) ≡ is_this m (cond b None (Some m))
+decided true m = refl
+decided false m = refl
+
+apart : (a b : Bool) (m lid : ℕ) → eqb m lid ≡ false → (not a && false) ≡ is_this lid (cond b None (Some m))
+apart true true m lid e = refl
+apart true false m lid e = sym e
+apart false true m lid e = refl
+apart false false m lid e = sym e
+
+lock-left : (conn lid : ℕ) (acts : List LinkAct) (o : Option ℕ) (n : ℕ) → IsRising (live acts) n
+    → (not (has lid (filter (of_conn conn) (live acts))) && is_this lid o) ≡ is_this lid (holder_left conn acts o)
+lock-left conn lid acts None n r = elim (cases_Bool (has lid (filter (of_conn conn) (live acts)))) [ inl e ↦ rw e refl | inr e ↦ rw e refl ]
+lock-left conn lid acts (Some m) n r = elim (cases_Bool (eqb m lid)) [
+  | inl e ↦
+    let same : m ≡ lid = eqb-true m lid e in
+    let own : has m (filter (of_conn conn) (live acts)) ≡ is_of conn (owner m acts) = has-owner conn m (live acts) n r in
+    rw (← same, own) (decided (is_of conn (owner m acts)) m)
+  | inr e ↦ rw e (apart (has lid (filter (of_conn conn) (live acts))) (is_of conn (owner m acts)) m lid e)
+]
+
+-- the table without the links of a connection
+pub IsTable-closed : (table : Table) (conn : ℕ) (acts : List LinkAct) (slots : List (Option Link)) (holder : Option ℕ)
+    → slots ≡ map (keep (λ link. not (eqb link.conn conn))) table.slots → holder ≡ holder_left conn acts table.holder
+    → IsTable table acts → IsTable (record table { slots = slots; holder = holder }) (closing conn acts ++ acts)
+IsTable-closed table conn acts slots holder kept held is =
+    let ys = filter (of_conn conn) (live acts) in
+    let stay : live (gone ys acts) ≡ filter (λ link. not (eqb link.conn conn)) (live acts)
+      = live-gone ys acts ∙ others (of_conn conn) (live acts) table.made is.rising in
+    rw (← reverse_aux-eq) (record {
+      made = is.made ∙ sym (made-gone ys acts);
+      kept = rw (kept, stay) (kept-filter (λ link. not (eqb link.conn conn)) table.slots (live acts) is.kept);
+      rising = rw stay (rising-filter (λ link. not (eqb link.conn conn)) (live acts) table.made is.rising);
+      lock = λ lid. locked-gone lid ys acts ∙ ap (λ (b : Bool). not (has lid ys) && b) (is.lock lid)
+          ∙ lock-left conn lid acts table.holder table.made is.rising ∙ ap (is_this lid) (sym held);
+    })
+
+-- ---- what the code asks of the holder
+
+same_owner : (conn : ℕ) (o : Option ℕ) → option_eq eqb o (Some conn) ≡ is_of conn o
+same_owner conn None = refl
+same_owner conn (Some m) = refl
+
+pub left_then : (conn lid : ℕ) (acts : List LinkAct) (holder o : Option ℕ) (r : Bool) → holder ≡ Some lid → o ≡ owner lid acts
+    → r ≡ option_eq eqb o (Some conn) → r ≡ true → None ≡ holder_left conn acts holder
+left_then conn lid acts holder o r held own told e =
+    let is : is_of conn (owner lid acts) ≡ true = ap (is_of conn) (sym own) ∙ sym (same_owner conn o) ∙ sym told ∙ e in
+    rw (held, is) refl
+
+pub left_else : (conn lid : ℕ) (acts : List LinkAct) (holder o : Option ℕ) (r : Bool) → holder ≡ Some lid → o ≡ owner lid acts
+    → r ≡ option_eq eqb o (Some conn) → r ≡ false → holder ≡ holder_left conn acts holder
+left_else conn lid acts holder o r held own told e =
+    let is : is_of conn (owner lid acts) ≡ false = ap (is_of conn) (sym own) ∙ sym (same_owner conn o) ∙ sym told ∙ e in
+    rw (held, is) refl
+
+pub left_none : (conn : ℕ) (acts : List LinkAct) (holder : Option ℕ) → holder ≡ None → holder ≡ holder_left conn acts holder
+left_none conn acts holder none = rw none refl

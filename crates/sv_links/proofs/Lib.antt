@@ -9,3 +9,4 @@ pub mod Slots
 pub mod Tables
 mod Named
 mod Closing
+pub mod Live
