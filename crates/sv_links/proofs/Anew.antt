@@ -1,6 +1,6 @@
 -- What a call that waits anew leaves to be done.
-use Rattle.std.proofs.Common.{◌≡◌, ◌≢◌, ℕ, ◌+◌, ◌≤◌, Bool, true, false, eqb, List, [], ◌∷◌, length, Option, Some, refl, arith, inl, inr}
-use Rattle.std.specs.Prelude.{not, filter, map, ◌&&◌}
+use Rattle.std.proofs.Common.{◌≡◌, ℕ, ◌+◌, ◌≤◌, Bool, true, false, eqb, List, [], ◌∷◌, length, Option, Some, refl, arith, inl, inr}
+use Rattle.std.specs.Prelude.{not, filter, map}
 use Rattle.std.proofs.lemmas.Bool.{cases_Bool, eqb-true, true≢false, false≢true}
 use Rattle.sv_links.specs.declared.waiting.Entry.{Entry}
 use Rattle.sv_links.specs.declared.waiting.Wait.{Wait}
@@ -14,8 +14,8 @@ pub rank-anew : (conn : ℕ) (wait : Wait) (last : Option ℕ) (xs : List Entry)
 rank-anew conn wait last [] once = omega arith
 rank-anew conn wait last (x ∷ xs) once = elim (cases_Bool (eqb x.conn conn)) [
   | inl e ↦
-    let free : IsFree conn xs = rw (← eqb-true x.conn conn e) once.0 in
-    rw (e, anew_none conn wait last xs free, kept_free conn xs free) (omega arith)
+      let free : IsFree conn xs = rw (← eqb-true x.conn conn e) once.0 in
+      rw (e, anew_none conn wait last xs free, kept_free conn xs free) (omega arith)
   | inr e ↦ rw e (omega (arith, rank-anew conn wait last xs once.1))
 ]
 

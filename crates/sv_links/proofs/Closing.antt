@@ -1,9 +1,9 @@
 -- The acts of closing a connection.
-use Rattle.std.proofs.Common.{◌≡◌, ◌≢◌, ℕ, ◌+◌, ◌<◌, ◌≤◌, Bool, true, false, eqb, cond, List, [], ◌∷◌, ◌++◌, Option, Some, None, refl, sym, ap, subst, ◌∙◌, arith, inl, inr, eq-eqb}
-use Rattle.std.specs.Prelude.{not, map, filter, find, length, option_map, ◌&&◌, ◌||◌}
+use Rattle.std.proofs.Common.{◌≡◌, ℕ, Bool, true, false, eqb, cond, List, [], ◌∷◌, ◌++◌, Option, Some, None, refl, sym, ap, ◌∙◌, arith, inl, inr, eq-eqb}
+use Rattle.std.specs.Prelude.{not, map, filter, find, option_map, ◌&&◌, ◌||◌}
 use Rattle.std.specs.List.{AllByRecursion, list_any}
 use Rattle.std.specs.Option.{option_eq}
-use Rattle.std.proofs.lemmas.Bool.{ne_eqb, cases_Bool, eqb-true, eqb-false}
+use Rattle.std.proofs.lemmas.Bool.{ne_eqb, cases_Bool, eqb-true}
 use mathlib.Core.List.{reverse_aux, reverse_aux-eq}
 use Rattle.sv_links.specs.declared.links.Link.{Link}
 use Rattle.sv_links.specs.Links.{LinkAct, Destroyed, made, live, owner, is_of, closing, is_locked, is_this}
@@ -105,9 +105,9 @@ lock-left : (conn lid : ℕ) (acts : List LinkAct) (o : Option ℕ) (n : ℕ) �
 lock-left conn lid acts None n r = elim (cases_Bool (has lid (filter (of_conn conn) (live acts)))) [ inl e ↦ rw e refl | inr e ↦ rw e refl ]
 lock-left conn lid acts (Some m) n r = elim (cases_Bool (eqb m lid)) [
   | inl e ↦
-    let same : m ≡ lid = eqb-true m lid e in
-    let own : has m (filter (of_conn conn) (live acts)) ≡ is_of conn (owner m acts) = has-owner conn m (live acts) n r in
-    rw (← same, own) (decided (is_of conn (owner m acts)) m)
+      let same : m ≡ lid = eqb-true m lid e in
+      let own : has m (filter (of_conn conn) (live acts)) ≡ is_of conn (owner m acts) = has-owner conn m (live acts) n r in
+      rw (← same, own) (decided (is_of conn (owner m acts)) m)
   | inr e ↦ rw e (apart (has lid (filter (of_conn conn) (live acts))) (is_of conn (owner m acts)) m lid e)
 ]
 
@@ -118,7 +118,7 @@ pub IsTable-closed : (table : Table) (conn : ℕ) (acts : List LinkAct) (slots :
 IsTable-closed table conn acts slots holder kept held is =
     let ys = filter (of_conn conn) (live acts) in
     let stay : live (gone ys acts) ≡ filter (λ link. not (eqb link.conn conn)) (live acts)
-      = live-gone ys acts ∙ others (of_conn conn) (live acts) table.made is.rising in
+    = live-gone ys acts ∙ others (of_conn conn) (live acts) table.made is.rising in
     rw (← reverse_aux-eq) (record {
       made = is.made ∙ sym (made-gone ys acts);
       kept = rw (kept, stay) (kept-filter (λ link. not (eqb link.conn conn)) table.slots (live acts) is.kept);

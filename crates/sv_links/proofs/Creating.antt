@@ -1,8 +1,8 @@
 -- The create_links that wait, counted over entries and over connections.
-use Rattle.std.proofs.Common.{◌≡◌, ◌≢◌, ℕ, ◌+◌, ◌<◌, ◌≤◌, Bool, true, false, cond, eqb, List, [], ◌∷◌, ◌++◌, length, Option, Some, None, refl, sym, ap, ◌∙◌, arith, inl, inr, eq-eqb, ◌⊎◌, suc, zero}
+use Rattle.std.proofs.Common.{◌≡◌, ◌≢◌, ℕ, ◌+◌, ◌<◌, Bool, true, false, eqb, List, [], ◌∷◌, ◌++◌, length, Option, Some, None, refl, sym, ap, ◌∙◌, arith, inl, inr, eq-eqb, suc, zero}
 use Rattle.std.specs.Prelude.{not, filter, is_some, is_none, option_map, ◌&&◌}
 use Rattle.std.specs.List.{AllByRecursion}
-use Rattle.std.proofs.lemmas.Bool.{cases_Bool, eqb-true, eqb-false, ne_eqb, true≢false}
+use Rattle.std.proofs.lemmas.Bool.{cases_Bool, eqb-true, ne_eqb, true≢false}
 use Rattle.sv_links.specs.declared.waiting.Entry.{Entry}
 use Rattle.sv_links.specs.declared.waiting.Wait.{Wait}
 use Rattle.sv_links.specs.Waiting.{WaitAct, waits, link, is_lock, is_creating, creating}
@@ -46,8 +46,8 @@ taken p n (x ∷ xs) once (inl same) h =
     rw (eq-eqb x.conn n same, h.0 same, kept_free n xs free) (omega arith)
 taken p n (x ∷ xs) once (inr k) h = elim (cases_Bool (eqb x.conn n)) [
   | inl e ↦ let same = eqb-true x.conn n e in
-    let free : IsFree n xs = rw (← same) once.0 in
-    rw (e, h.0 same, kept_free n xs free) (omega arith)
+      let free : IsFree n xs = rw (← same) once.0 in
+      rw (e, h.0 same, kept_free n xs free) (omega arith)
   | inr e ↦ elim (cases_Bool (p x)) [
     | inl t ↦ rw (e, t) (omega (arith, taken p n xs once.1 k h.1))
     | inr t ↦ rw (e, t) (taken p n xs once.1 k h.1)
@@ -74,19 +74,19 @@ tally p test zero [] once below same among = refl
 tally p test zero (x ∷ xs) once below same among = absurd (omega (arith, below.0))
 tally p test (suc n) xs once below same among =
     let rest = tally p test n (without n xs) (once-filter (λ x. not (eqb x.conn n)) xs once) (below_less n xs below)
-      (all_filter (λ x. p x ≡ test x.conn) (λ x. not (eqb x.conn n)) xs same)
-      (λ c lt k. among-without c n xs (omega (arith, lt)) (among c (omega (arith, lt)) k)) in
+    (all_filter (λ x. p x ≡ test x.conn) (λ x. not (eqb x.conn n)) xs same)
+    (λ c lt k. among-without c n xs (omega (arith, lt)) (among c (omega (arith, lt)) k)) in
     let end = pushed test (upto n) n in
     elim (cases_Bool (test n)) [
-  | inl e ↦
-    let one = taken p n xs once (among n (omega arith) e)
-      (all_to (λ x. p x ≡ test x.conn) (λ x. x.conn ≡ n → p x ≡ true) (λ x k m. k ∙ ap test m ∙ e) xs same) in
-    omega (arith, one, rest, end, ap (λ (b : Bool). one_if b) e)
-  | inr e ↦
-    let none = passed p n xs
-      (all_to (λ x. p x ≡ test x.conn) (λ x. x.conn ≡ n → p x ≡ false) (λ x k m. k ∙ ap test m ∙ e) xs same) in
-    omega (arith, none, rest, end, ap (λ (b : Bool). one_if b) e)
-]
+      | inl e ↦
+          let one = taken p n xs once (among n (omega arith) e)
+          (all_to (λ x. p x ≡ test x.conn) (λ x. x.conn ≡ n → p x ≡ true) (λ x k m. k ∙ ap test m ∙ e) xs same) in
+          omega (arith, one, rest, end, ap (λ (b : Bool). one_if b) e)
+      | inr e ↦
+          let none = passed p n xs
+          (all_to (λ x. p x ≡ test x.conn) (λ x. x.conn ≡ n → p x ≡ false) (λ x k m. k ∙ ap test m ∙ e) xs same) in
+          omega (arith, none, rest, end, ap (λ (b : Bool). one_if b) e)
+    ]
 
 same_creates : (acts : List WaitAct) (x : Entry) → IsEntry acts x → creates x ≡ is_creating acts x.conn
 same_creates acts x h = rw (h.0, h.2) refl

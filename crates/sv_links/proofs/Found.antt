@@ -1,11 +1,11 @@
 -- The first call of a test among those that wait.
-use Rattle.std.proofs.Common.{◌≡◌, ℕ, ◌+◌, ◌<◌, ◌≤◌, Bool, true, false, cond, eqb, List, [], ◌∷◌, length, Option, Some, None, refl, sym, ap, ◌∙◌, arith, inl, inr, eq-eqb}
-use Rattle.std.specs.Prelude.{not, filter, find, option_map, IfSome, MatchOption, is_some}
+use Rattle.std.proofs.Common.{◌≡◌, ℕ, ◌+◌, ◌≤◌, Bool, true, eqb, List, [], ◌∷◌, length, Option, Some, None, refl, arith, inl, inr, eq-eqb}
+use Rattle.std.specs.Prelude.{filter, find, option_map, IfSome, MatchOption}
 use Rattle.std.specs.List.{AllByRecursion}
-use Rattle.std.proofs.lemmas.Bool.{cases_Bool, eqb-true, true≢false}
+use Rattle.std.proofs.lemmas.Bool.{cases_Bool, eqb-true}
 use Rattle.sv_links.specs.declared.waiting.Entry.{Entry}
 use Rattle.sv_links.specs.Waiting.{WaitAct, waits}
-use Rattle.sv_links.specs.Queue.{IsQueue, IsEntry, IsBelow, creates, creations, without, entry_of, rank, rank_of}
+use Rattle.sv_links.specs.Queue.{IsQueue, IsEntry, creates, creations, without, entry_of, rank, rank_of}
 use Rattle.sv_links.proofs.Counted.{creations-without}
 
 -- it passes the test, and what holds of each holds of it

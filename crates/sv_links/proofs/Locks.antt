@@ -1,6 +1,6 @@
 -- The link that holds the lock.
 use Rattle.std.proofs.Common.{◌≡◌, ℕ, Bool, true, false, eqb, cond, List, [], ◌∷◌, Option, Some, None, refl, sym, ap, ◌∙◌, inl, inr, eq-eqb, ◌⊎◌}
-use Rattle.std.specs.Prelude.{not, find, ◌&&◌, ◌||◌}
+use Rattle.std.specs.Prelude.{not, find, ◌&&◌}
 use Rattle.std.specs.Option.{option_eq}
 use Rattle.std.proofs.lemmas.Bool.{cases_Bool, eqb-true, eqb-false, ne_eqb, true≢false, false≢true}
 use Rattle.sv_links.specs.Links.{LinkAct, Made, Destroyed, Locked, Unlocked, locked, is_locked, holder, is_this, is_locked_out}

@@ -1,11 +1,11 @@
 -- The slots of a table, and the links that they hold.
-use Rattle.std.proofs.Common.{◌≡◌, ◌≢◌, ℕ, ◌+◌, ◌<◌, ◌≤◌, Bool, true, false, cond, List, [], ◌∷◌, ◌++◌, length, Option, Some, None, refl, sym, ap, subst, ◌∙◌, arith, inl, inr, suc, zero}
-use Rattle.std.specs.Prelude.{not, map, filter, find, is_some, count_by, slice_index_or, option_map, if◌then◌else◌}
+use Rattle.std.proofs.Common.{◌≡◌, ◌≢◌, ℕ, ◌+◌, ◌≤◌, Bool, true, false, cond, List, [], ◌∷◌, ◌++◌, length, Option, Some, None, refl, sym, ap, subst, ◌∙◌, arith, inl, inr, suc, zero}
+use Rattle.std.specs.Prelude.{map, filter, is_some, count_by, slice_index_or, if◌then◌else◌}
 use Rattle.std.proofs.lemmas.Bool.{cases_Bool, true≢false}
 use Rattle.std.proofs.lemmas.List.{append-nil, append_assoc}
 use Rattle.std.proofs.lemmas.List.Sums.{sum_by-cons}
 use Rattle.std.specs.Borrow.{MutBor}
-use Rattle.slab.specs.Slab.{RetainsFrom, CalledAt}
+use Rattle.slab.specs.Slab.{RetainsFrom}
 use Rattle.sv_links.specs.declared.links.Link.{Link}
 use Rattle.sv_links.specs.Table.{IsKept}
 
@@ -105,10 +105,13 @@ kept-put (None ∷ old) (slot ∷ new) (suc key) x links free put others h =
     subst (λ slot. IsKept (slot ∷ new) (links ++ x ∷ [])) (sym (others 0 (λ e. absurd (omega (arith, e)))))
     (kept-put old new key x links free put (λ other apart. others (suc other) (apart_suc other key apart)) h)
 kept-put (Some y ∷ old) (slot ∷ new) (suc key) x links free put others h =
-    subst (λ slot. IsKept (slot ∷ new) (links ++ x ∷ [])) (sym (others 0 (λ e. absurd (omega (arith, e)))))
-    (h.0, h.1 ++ x ∷ [], ap (λ (xs : List Link). xs ++ x ∷ []) h.2 ∙ append_assoc h.0 (y ∷ h.1) (x ∷ []),
-    subst (IsKept new) (append_assoc h.0 h.1 (x ∷ []))
-    (kept-put old new key x (h.0 ++ h.1) free put (λ other apart. others (suc other) (apart_suc other key apart)) h.3))
+    subst (λ slot. IsKept (slot ∷ new) (links ++ x ∷ [])) (sym (others 0 (λ e. absurd (omega (arith, e))))) (
+      h.0,
+      h.1 ++ x ∷ [],
+      ap (λ (xs : List Link). xs ++ x ∷ []) h.2 ∙ append_assoc h.0 (y ∷ h.1) (x ∷ []),
+      subst (IsKept new) (append_assoc h.0 h.1 (x ∷ []))
+          (kept-put old new key x (h.0 ++ h.1) free put (λ other apart. others (suc other) (apart_suc other key apart)) h.3),
+    )
 
 -- ---- the slab's retain
 
@@ -128,4 +131,4 @@ module _ {F : Type 0} (step : F → ℕ → MutBor Link → Bool → MutBor Link
       let slot = slot-kept p h.0 x h.1 (same.1 ∙ ap p call.shows) (sym call.leaves ∙ same.2 ∙ call.shows) in
       let rest = subst (λ (next : F). RetainsFrom step next (key + 1) old h.4) same.0 h.6 in
       h.5 ∙ ap (λ (xs : List (Option Link)). (if h.0 then Some h.1 else None) ∷ xs) (retained (key + 1) old h.4 rest)
-          ∙ ap (λ (slot : Option Link). slot ∷ map (keep p) old) slot
+      ∙ ap (λ (slot : Option Link). slot ∷ map (keep p) old) slot

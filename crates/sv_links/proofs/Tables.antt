@@ -1,14 +1,14 @@
 -- The table of links, over acts.
-use Rattle.std.proofs.Common.{◌≡◌, ◌≢◌, ℕ, ◌+◌, ◌<◌, ◌≤◌, Bool, true, false, eqb, cond, List, [], ◌∷◌, ◌++◌, Option, Some, None, Result, Ok, Err, refl, sym, ap, ◌∙◌, arith, inl, inr, eq-eqb}
+use Rattle.std.proofs.Common.{◌≡◌, ◌≢◌, ℕ, ◌+◌, ◌<◌, ◌≤◌, Bool, true, false, eqb, List, [], ◌∷◌, ◌++◌, Option, Some, None, Result, Ok, Err, refl, sym, ap, ◌∙◌, arith}
 use Rattle.std.specs.Prelude.{not, map, filter, length, slice_index_or, nat_lt, ◌&&◌}
 use Rattle.std.specs.List.{AllByRecursion}
 use Rattle.std.specs.Option.{option_eq}
-use Rattle.std.proofs.lemmas.Bool.{ne_eqb, cases_Bool, cond_both, eqb-true, eqb-false, false≢true, true≢false, le-ltb, lt-ltb}
+use Rattle.std.proofs.lemmas.Bool.{cond_both, false≢true, le-ltb, lt-ltb}
 use Rattle.std.proofs.lemmas.List.Elements.{All-filter, All-push, All-from_recursion, recursion_from_All}
 use Rattle.sv_links.specs.declared.links.Link.{Link}
 use Rattle.sv_links.specs.declared.links.CreateRefused.{CreateRefused}
 use Rattle.sv_links.specs.declared.links.CreateRefused.TheVariants.{OutOfResources, NoMemory}
-use Rattle.sv_links.specs.Links.{LinkAct, Made, Destroyed, made, live, may_make}
+use Rattle.sv_links.specs.Links.{LinkAct, Made, Destroyed, live, may_make}
 use Rattle.sv_links.specs.Table.{Table, IsTable, IsRising, count_of}
 use Rattle.sv_links.proofs.Slots.{keep, kept-filter, kept-put, kept-count}
 use Rattle.sv_links.proofs.Locks.{freed, lock-destroyed}

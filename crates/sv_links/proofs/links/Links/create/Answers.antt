@@ -1,4 +1,4 @@
-use Rattle.std.proofs.Common.{rules, arith, ◌∙◌, sym, ap, refl, ℕ, ◌+◌, List, Option, None}
+use Rattle.std.proofs.Common.{arith, ◌∙◌, sym, ap, refl, ℕ, ◌+◌, List, Option, None}
 use Rattle.std.specs.Prelude.{slice_index_or}
 use Rattle.slab.specs.Slab.{Slab}
 use Rattle.sv_links.specs.declared.links.Link.{Link}
@@ -26,8 +26,7 @@ returns-clause-ok g c acts is =
     let old = rw (← c.self.view_is) at is in
     let put = c.insert_reserved.ensures.updates in
     let same = ap (λ (slab : Slab Link). slab.slots) c.reserve.ensures.rest_kept in
-    let free = sym (ap (λ (slots : List (Option Link)). slice_index_or slots c.insert_reserved.result None) same) ∙ c.insert_reserved.ensures.was_vacant in
-    (
+    let free = sym (ap (λ (slots : List (Option Link)). slice_index_or slots c.insert_reserved.result None) same) ∙ c.insert_reserved.ensures.was_vacant in (
       ap (λ (n : ℕ). n + 1) old.made,
       IsTable-made _ c.args.conn acts c.insert_reserved.new.self.slots c.insert_reserved.result c.saturating_sub-self-inside.result free put.changed
           (λ other apart. put.others other apart ∙ ap (λ (slots : List (Option Link)). slice_index_or slots other None) same) old,

@@ -1,5 +1,4 @@
-use Rattle.std.proofs.Common.{rules, tests, arith, eqb, Bool, ◌≡◌}
-use Rattle.std.specs.Prelude.{not}
+use Rattle.std.proofs.Common.{rules, tests, arith}
 use Rattle.sv_links.proofs.Slots.{retained, no_more}
 use Rattle.sv_links.proofs.Tables.{other_than, IsTable-destroyed, freed-held, freed-other}
 use Rattle.sv_links.proofs.links.Links.destroy.Goals as goal

@@ -1,5 +1,4 @@
-use Rattle.std.proofs.Common.{rules, arith, ◌∙◌, ◌≡◌}
-use Rattle.std.specs.Prelude.{map, vec_items}
+use Rattle.std.proofs.Common.{rules, arith}
 use Rattle.std.proofs.lemmas.List.Edits.{map_over_more}
 use Rattle.sv_links.specs.Queue.{anew}
 use Rattle.sv_links.proofs.Queues.{IsQueue-anew, once-anew, below-anew, written}

@@ -1,10 +1,9 @@
-use Rattle.std.proofs.Common.{rules, tests, ap, ◌∙◌, subst, sym, Option, Some}
-use Rattle.std.specs.Prelude.{option_map, find, IfSome, ◌≡◌, ◌<◌}
+use Rattle.std.proofs.Common.{rules, tests, ◌∙◌}
+use Rattle.std.specs.Prelude.{find, ◌≡◌, ◌<◌}
 use Rattle.std.proofs.lemmas.Iterator.{YieldsList-from_slice}
 use Rattle.std.proofs.lemmas.Iterator.Search.{find_from_yields_List}
 use Rattle.sv_links.specs.declared.waiting.Entry.{Entry}
-use Rattle.sv_links.specs.Waiting.{is_there}
-use Rattle.sv_links.specs.Queue.{IsEntry, IsBelow, is_past}
+use Rattle.sv_links.specs.Queue.{IsEntry, is_past}
 use Rattle.sv_links.proofs.Queues.{oldest_expired}
 use Rattle.sv_links.proofs.Found.{found-each, found-rank}
 use Rattle.sv_links.proofs.waiting.Waiting.expired.Goals as goal

@@ -1,4 +1,4 @@
-use Rattle.std.proofs.Common.{rules, tests, eqb, ap, ◌∙◌, sym}
+use Rattle.std.proofs.Common.{rules, tests, eqb, ◌∙◌}
 use Rattle.std.proofs.lemmas.Iterator.{YieldsList-from_slice}
 use Rattle.std.proofs.lemmas.Iterator.Search.{find_from_yields_List}
 use Rattle.sv_links.proofs.Found.{entry_waits}

@@ -1,10 +1,10 @@
-use Rattle.std.proofs.Common.{rules, tests, ap, ◌∙◌, subst, sym, Option, Some}
-use Rattle.std.specs.Prelude.{option_map, find, IfSome, ◌≡◌, ◌<◌}
+use Rattle.std.proofs.Common.{rules, tests, ◌∙◌, Some}
+use Rattle.std.specs.Prelude.{find, ◌≡◌, ◌<◌}
 use Rattle.std.proofs.lemmas.Iterator.{YieldsList-from_slice}
 use Rattle.std.proofs.lemmas.Iterator.Search.{find_from_yields_List}
 use Rattle.sv_links.specs.declared.waiting.Entry.{Entry}
 use Rattle.sv_links.specs.Waiting.{is_there}
-use Rattle.sv_links.specs.Queue.{IsEntry, IsBelow, is_past}
+use Rattle.sv_links.specs.Queue.{IsEntry}
 use Rattle.sv_links.proofs.Queues.{oldest_able}
 use Rattle.sv_links.proofs.Found.{found-each, found-rank, found-creations}
 use Rattle.sv_links.proofs.waiting.Waiting.oldest_able.Goals as goal
