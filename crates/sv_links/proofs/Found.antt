@@ -73,7 +73,8 @@ creations-one : (p : Entry → Bool) (x : Entry) → p x ≡ true → length (fi
 creations-one p x e = rw e refl
 
 creations-itself : (x : Entry) (xs : List Entry) → creates x ≡ true → creations (without x.conn (x ∷ xs)) + 1 ≤ creations (x ∷ xs)
-creations-itself x xs e = rw (creations-head x xs, creations-one creates x e, eq-eqb x.conn x.conn refl) (omega (arith, creations-without x.conn xs))
+creations-itself x xs e =
+    rw (creations-head x xs, creations-one creates x e, eq-eqb x.conn x.conn refl) (omega (arith, creations-without x.conn xs))
 
 pub found-creations : (test : Entry → Bool) (xs : List Entry)
     → IfSome (find test xs) (λ x. creates x ≡ true → creations (without x.conn xs) + 1 ≤ creations xs)

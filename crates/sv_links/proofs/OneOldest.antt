@@ -39,7 +39,8 @@ pub one_oldest_came : (acts : List WaitAct) (IsSuch : ℕ → Type 0) (a b : Opt
     → IsOldest acts IsSuch a → IsOldest acts IsSuch b → a ≡ b
 one_oldest_came acts IsSuch a b came h k = one acts IsSuch a b (λ c d x y same. same_arrival acts c d (came c x) same) h k
 
-after : (acts : List WaitAct) (n d : ℕ) (xs : List Entry) → AllByRecursion (λ x. n < arrival x.conn acts) xs → Among d xs → n < arrival d acts
+after : (acts : List WaitAct) (n d : ℕ) (xs : List Entry) → AllByRecursion (λ x. n < arrival x.conn acts) xs → Among d xs
+    → n < arrival d acts
 after acts n d [] h k = absurd k
 after acts n d (x ∷ xs) h (inl e) = rw (← e) h.0
 after acts n d (x ∷ xs) h (inr k) = after acts n d xs h.1 k

@@ -175,7 +175,8 @@ impl<A: Allocator> Waiting<A> {
     pub fn again(&mut self, conn: u8, wait: Wait, deadline: Option<u64>)
         ensures value { self.new ≡ map (anew conn wait deadline) self.old }
         ensures stands { (acts : List WaitAct) → IsQueue self.old acts
-            → (waits_for conn acts ≡ None → ⊥) → IsQueue self.new (Again conn wait deadline ∷ acts) }
+            → (waits_for conn acts ≡ None → ⊥)
+            → IsQueue self.new (Again conn wait deadline ∷ acts) }
         ensures measure { rank self.new ≤ rank (without conn self.old) + rank_of wait }
         ensures fewer { (wait ≡ Wait.Lock → ⊥)
             → creations self.new ≤ creations (without conn self.old) }
@@ -188,7 +189,8 @@ impl<A: Allocator> Waiting<A> {
     /// The call of a connection waits no more.
     pub fn leave(&mut self, conn: u8)
         ensures value { self.new ≡ without conn self.old }
-        ensures stands { (acts : List WaitAct) → IsQueue self.old acts → IsQueue self.new (Left conn ∷ acts) }
+        ensures stands { (acts : List WaitAct) → IsQueue self.old acts
+            → IsQueue self.new (Left conn ∷ acts) }
     {
         self.entries.retain(|entry| entry.conn != conn);
     }
