@@ -20,7 +20,10 @@ result_is g c = c.copied.ensures
 
 pub returns-clause-answer : goal.returns-clause-answer
 returns-clause-answer g c acts is =
-    rw (result_is g c) (oldest_expired c.args.clock acts c.self.inside.entries.items (rw (← c.self.view_is) at is))
+    rw (c.copied.ensures
+    ∙ find_from_yields_List {all = c.self.inside.entries.items} (passes c.args.clock) _ _ c.find.result c.find.ensures.ran
+    (YieldsList-from_slice _ cc) (λ x b q k. search (rules, tests)))
+    (oldest_expired c.args.clock acts c.self.inside.entries.items (rw (← c.self.view_is) at is))
 
 pub returns-clause-entry : goal.returns-clause-entry
 returns-clause-entry g c acts is =

@@ -22,7 +22,10 @@ result_is g c = c.copied.ensures
 
 pub returns-clause-answer : goal.returns-clause-answer
 returns-clause-answer g c acts is =
-    rw (result_is g c)
+    rw (c.copied.ensures
+    ∙ find_from_yields_List {all = c.self.inside.entries.items} (passes c.args.holder c.args.can_write c.args.can_read) _ _
+    c.find.result c.find.ensures.ran
+    (YieldsList-from_slice _ cc) (λ x b q k. search (rules, tests)))
     (oldest_able c.args.holder c.args.can_write c.args.can_read acts c.self.inside.entries.items (rw (← c.self.view_is) at is))
 
 pub returns-clause-entry : goal.returns-clause-entry
