@@ -98,4 +98,5 @@ not_lock (Some wait) b e none = true≢false (ap is_some none)
 pub creations-all : (acts : List WaitAct) (xs : List Entry) → IsOnce xs → IsBelow 16 xs → IsQueue xs acts → creations xs ≡ creating acts
 creations-all acts xs once below is = tally creates (is_creating acts) 16 xs once below
     (all_to (IsEntry acts) (λ x. creates x ≡ is_creating acts x.conn) (same_creates acts) xs is.each)
-    (λ c lt e. among_from_find c xs (λ none. not_lock (waits c acts) (is_none (link c acts)) e (is.all c ∙ ap (λ o. option_map (λ (x : Entry). x.wait) o) none)))
+    (λ c lt e. among_from_find c xs (λ none. not_lock (waits c acts) (is_none (link c acts)) e
+    (is.all c ∙ ap (λ o. option_map (λ (x : Entry). x.wait) o) none)))

@@ -5,7 +5,7 @@ use Rattle.std.specs.List.{AllByRecursion}
 use Rattle.std.proofs.lemmas.Bool.{cases_Bool, eqb-true, ne_eqb}
 use Rattle.sv_links.specs.declared.waiting.Entry.{Entry}
 use Rattle.sv_links.specs.Waiting.{WaitAct, waits}
-use Rattle.sv_links.specs.Queue.{IsQueue, IsEntry, IsFree, IsOnce, IsBelow, creates, creations, without, entry_of, rank, rank_of}
+use Rattle.sv_links.specs.Queue.{IsQueue, IsEntry, IsOnce, IsBelow, creates, creations, without, entry_of, rank, rank_of}
 use Rattle.sv_links.proofs.Counted.{creations-without}
 
 -- it passes the test, and what holds of each holds of it
@@ -22,10 +22,6 @@ pub found-each : (P : Entry → Type 0) (test : Entry → Bool) (xs : List Entry
 found-each P test xs h = weaker (λ x. (test x ≡ true) × P x) P (λ x k. k.1) (find test xs) (found P test xs h)
 
 -- it is the one of its connection
-some_first : (test : Entry → Bool) (x : Entry) (xs : List Entry) → IsFree x.conn xs
-    → IfSome (find test xs) (λ y. y.conn ≢ x.conn)
-some_first test x xs free = found-each (λ y. y.conn ≢ x.conn) test xs free
-
 both_found : (P Q : Entry → Type 0) (o : Option Entry) → IfSome o P → IfSome o Q → IfSome o (λ x. P x × Q x)
 both_found P Q None h k = tt
 both_found P Q (Some x) h k = (h, k)
@@ -36,8 +32,8 @@ found-entry test (x ∷ xs) once = elim (cases_Bool (test x)) [
   | inl e ↦ rw e (rw (eq-eqb x.conn x.conn refl) refl)
   | inr e ↦ rw e (weaker (λ y. (y.conn ≢ x.conn) × (entry_of y.conn xs ≡ Some y)) (λ y. entry_of y.conn (x ∷ xs) ≡ Some y)
       (λ y h. rw (ne_eqb x.conn y.conn (λ same. h.0 (sym same))) h.1) (find test xs)
-      (both_found (λ y. y.conn ≢ x.conn) (λ y. entry_of y.conn xs ≡ Some y) (find test xs) (some_first test x xs once.0)
-      (found-entry test xs once.1)))
+      (both_found (λ y. y.conn ≢ x.conn) (λ y. entry_of y.conn xs ≡ Some y) (find test xs)
+      (found-each (λ y. y.conn ≢ x.conn) test xs once.0) (found-entry test xs once.1)))
 ]
 
 pub found-within : (test : Entry → Bool) (n : ℕ) (xs : List Entry) → IsBelow n xs → IsOnce xs
@@ -97,7 +93,8 @@ creations-one : (p : Entry → Bool) (x : Entry) → p x ≡ true → length (fi
 creations-one p x e = rw e refl
 
 creations-itself : (x : Entry) (xs : List Entry) → creates x ≡ true → creations (without x.conn (x ∷ xs)) + 1 ≤ creations (x ∷ xs)
-creations-itself x xs e = rw (creations-head x xs, creations-one creates x e, eq-eqb x.conn x.conn refl) (omega (arith, creations-without x.conn xs))
+creations-itself x xs e =
+    rw (creations-head x xs, creations-one creates x e, eq-eqb x.conn x.conn refl) (omega (arith, creations-without x.conn xs))
 
 pub found-creations : (test : Entry → Bool) (xs : List Entry)
     → IfSome (find test xs) (λ x. creates x ≡ true → creations (without x.conn xs) + 1 ≤ creations xs)

@@ -60,13 +60,16 @@ may_lock m lid = swap m lid ∙ sym (not-not (eqb lid m))
 
 -- ---- the lock after an act
 
-pub lock-free : (lid : ℕ) (acts : List LinkAct) → ((n : ℕ) → is_locked n acts ≡ false) → (n : ℕ) → is_locked n (Locked lid ∷ acts) ≡ is_this n (Some lid)
+pub lock-free : (lid : ℕ) (acts : List LinkAct) → ((n : ℕ) → is_locked n acts ≡ false)
+    → (n : ℕ) → is_locked n (Locked lid ∷ acts) ≡ is_this n (Some lid)
 lock-free lid acts h n = elim (cases_Bool (eqb lid n)) [ inl e ↦ rw e refl | inr e ↦ rw e (h n) ]
 
-pub lock-again : (lid : ℕ) (acts : List LinkAct) → ((n : ℕ) → is_locked n acts ≡ eqb lid n) → (n : ℕ) → is_locked n (Locked lid ∷ acts) ≡ is_this n (Some lid)
+pub lock-again : (lid : ℕ) (acts : List LinkAct) → ((n : ℕ) → is_locked n acts ≡ eqb lid n)
+    → (n : ℕ) → is_locked n (Locked lid ∷ acts) ≡ is_this n (Some lid)
 lock-again lid acts h n = elim (cases_Bool (eqb lid n)) [ inl e ↦ rw e refl | inr e ↦ rw e (h n ∙ e) ]
 
-pub lock-unlocked : (lid : ℕ) (acts : List LinkAct) → ((n : ℕ) → is_locked n acts ≡ eqb lid n) → (n : ℕ) → is_locked n (Unlocked lid ∷ acts) ≡ false
+pub lock-unlocked : (lid : ℕ) (acts : List LinkAct) → ((n : ℕ) → is_locked n acts ≡ eqb lid n)
+    → (n : ℕ) → is_locked n (Unlocked lid ∷ acts) ≡ false
 lock-unlocked lid acts h n = elim (cases_Bool (eqb lid n)) [ inl e ↦ rw e refl | inr e ↦ rw e (h n ∙ e) ]
 
 -- the link that holds the lock, where one is destroyed

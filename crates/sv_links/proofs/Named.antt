@@ -35,7 +35,8 @@ find-entries test f key (Some x ∷ slots) = elim (cases_Bool (test x)) [
 ]
 
 filter-entries : (test : Link → Bool) (key : ℕ) (slots : List (Option Link))
-    → map (λ entry. entry.1.lid) (filter (λ entry. test entry.1) (entries_from key slots)) ≡ map (λ link. link.lid) (filter test (links_in slots))
+    → map (λ entry. entry.1.lid) (filter (λ entry. test entry.1) (entries_from key slots))
+    ≡ map (λ link. link.lid) (filter test (links_in slots))
 filter-entries test key [] = refl
 filter-entries test key (None ∷ slots) = filter-entries test (key + 1) slots
 filter-entries test key (Some x ∷ slots) = elim (cases_Bool (test x)) [
@@ -45,7 +46,8 @@ filter-entries test key (Some x ∷ slots) = elim (cases_Bool (test x)) [
 
 -- ---- a link taken out of those that rise
 
-all_between : (P : Link → Type 0) (xs : List Link) (x : Link) (ys : List Link) → AllByRecursion P (xs ++ x ∷ ys) → AllByRecursion P (xs ++ ys)
+all_between : (P : Link → Type 0) (xs : List Link) (x : Link) (ys : List Link)
+    → AllByRecursion P (xs ++ x ∷ ys) → AllByRecursion P (xs ++ ys)
 all_between P [] x ys h = h.1
 all_between P (z ∷ xs) x ys h = (h.0, all_between P xs x ys h.1)
 
@@ -57,7 +59,8 @@ rising-between : (xs : List Link) (x : Link) (ys : List Link) (n : ℕ) → IsRi
 rising-between [] x ys n h = h.2
 rising-between (z ∷ xs) x ys n h = (h.0, all_between (Below z) xs x ys h.1, rising-between xs x ys n h.2)
 
-find-passed : (test : Link → Bool) (xs : List Link) (x : Link) (ys : List Link) → test x ≡ false → find test (xs ++ x ∷ ys) ≡ find test (xs ++ ys)
+find-passed : (test : Link → Bool) (xs : List Link) (x : Link) (ys : List Link) → test x ≡ false
+    → find test (xs ++ x ∷ ys) ≡ find test (xs ++ ys)
 find-passed test [] x ys e = rw e refl
 find-passed test (z ∷ xs) x ys e = elim (cases_Bool (test z)) [
   | inl k ↦ rw k refl
@@ -128,7 +131,8 @@ least_kept (Some x ∷ slots) links n h rise =
     ∙ ap (λ (o : Option ℕ). Some (least_with x.lid o)) (least_kept slots (h.0 ++ h.1) n h.3 (rising-between h.0 x h.1 n rise))
     ∙ sym (first_least h.0 x h.1 n rise))
 
-pub least_found : (test : Link → Bool) (key : ℕ) (slots : List (Option Link)) (links : List Link) (n : ℕ) → IsKept slots links → IsRising links n
+pub least_found : (test : Link → Bool) (key : ℕ) (slots : List (Option Link)) (links : List Link) (n : ℕ)
+    → IsKept slots links → IsRising links n
     → reduce min (map (λ entry. entry.1.lid) (filter (λ entry. test entry.1) (entries_from key slots)))
     ≡ find (λ lid. true) (map (λ link. link.lid) (filter test links))
 least_found test key slots links n h rise =

@@ -102,7 +102,8 @@ newest-le p (act ∷ acts) = cond_both (p (act ∷ acts)) (act ∷ acts) (newest
 abbrev acts_with : Entry → List WaitAct → List WaitAct
 acts_with entry acts = Entered entry.conn entry.lid entry.wait entry.deadline ∷ acts
 
-IsEntry-entered : (entry : Entry) (acts : List WaitAct) (x : Entry) → x.conn ≢ entry.conn → IsEntry acts x → IsEntry (acts_with entry acts) x
+IsEntry-entered : (entry : Entry) (acts : List WaitAct) (x : Entry) → x.conn ≢ entry.conn → IsEntry acts x
+    → IsEntry (acts_with entry acts) x
 IsEntry-entered entry acts x apart h = rw (ne_eqb entry.conn x.conn (λ e. apart (sym e))) h
 
 IsEntry-new : (entry : Entry) (acts : List WaitAct) → IsEntry (acts_with entry acts) entry
@@ -182,7 +183,8 @@ once-anew conn wait last [] h = tt
 once-anew conn wait last (x ∷ xs) h =
     (rw (conn-anew conn wait last x) (all_anew (λ c. c ≢ x.conn) conn wait last xs h.0), once-anew conn wait last xs h.1)
 
-pub below-anew : (conn : ℕ) (wait : Wait) (last : Option ℕ) (n : ℕ) (xs : List Entry) → IsBelow n xs → IsBelow n (map (anew conn wait last) xs)
+pub below-anew : (conn : ℕ) (wait : Wait) (last : Option ℕ) (n : ℕ) (xs : List Entry) → IsBelow n xs
+    → IsBelow n (map (anew conn wait last) xs)
 below-anew conn wait last n xs h = all_anew (λ c. c < n) conn wait last xs h
 
 each-anew : (conn : ℕ) (wait : Wait) (last : Option ℕ) (acts : List WaitAct) (xs : List Entry) → AllByRecursion (IsEntry acts) xs
@@ -207,7 +209,8 @@ ordered-anew conn wait last acts (x ∷ xs) h = (
 
 find-anew : (conn : ℕ) (wait : Wait) (last : Option ℕ) (c : ℕ) (xs : List Entry)
     → option_map (λ x. x.wait) (entry_of c (map (anew conn wait last) xs))
-    ≡ cond (eqb conn c) (option_map (λ (x : Wait). wait) (option_map (λ x. x.wait) (entry_of c xs))) (option_map (λ x. x.wait) (entry_of c xs))
+    ≡ cond (eqb conn c) (option_map (λ (x : Wait). wait) (option_map (λ x. x.wait) (entry_of c xs)))
+    (option_map (λ x. x.wait) (entry_of c xs))
 find-anew conn wait last c [] = elim (cases_Bool (eqb conn c)) [ inl e ↦ rw e refl | inr e ↦ rw e refl ]
 find-anew conn wait last c (x ∷ xs) = elim (cases_Bool (eqb x.conn c)) [
   | inl k ↦ elim (cases_Bool (eqb x.conn conn)) [
@@ -292,7 +295,8 @@ among_from_find c (x ∷ xs) h = elim (cases_Bool (eqb x.conn c)) [
   | inr e ↦ inr (among_from_find c xs (rw e at h))
 ]
 
-later : (acts : List WaitAct) (n c : ℕ) (xs : List Entry) → AllByRecursion (λ x. n < arrival x.conn acts) xs → Among c xs → n ≤ arrival c acts
+later : (acts : List WaitAct) (n c : ℕ) (xs : List Entry) → AllByRecursion (λ x. n < arrival x.conn acts) xs → Among c xs
+    → n ≤ arrival c acts
 later acts n c [] h k = absurd k
 later acts n c (x ∷ xs) h (inl e) = rw (← e) (omega (arith, h.0))
 later acts n c (x ∷ xs) h (inr k) = later acts n c xs h.1 k

@@ -71,7 +71,8 @@ some≢none : (x : Link) → Some x ≡ None → ⊥
 some≢none x e = true≢false (ap is_some e)
 
 -- slots with the same at each key hold the same
-same_slots : (old new : List (Option Link)) (links : List Link) → ((key : ℕ) → at new key ≡ at old key) → IsKept old links → IsKept new links
+same_slots : (old new : List (Option Link)) (links : List Link) → ((key : ℕ) → at new key ≡ at old key)
+    → IsKept old links → IsKept new links
 same_slots [] [] links same h = h
 same_slots [] (None ∷ new) links same h = same_slots [] new links (λ key. same (suc key)) h
 same_slots [] (Some y ∷ new) links same h = absurd (some≢none y (same 0))

@@ -2,8 +2,8 @@
 //! wait.
 //!
 //! [`Links`] gives a link its number, finds the connection that made it, and keeps the lock.
-//! [`Waiting`] keeps the calls that wait, in the order in which they came, and finds the oldest that
-//! can go on, or that has waited long enough. Only [`Links::create`], [`Links::reserve`] and
+//! [`Waiting`] keeps the calls that wait, in the order in which they came, and finds the oldest
+//! that can go on, or that has waited long enough. Only [`Links::create`], [`Links::reserve`] and
 //! [`Waiting::new`] take memory.
 #![tactic(auto)]
 

@@ -52,9 +52,15 @@ impl<A: Allocator> Model for Links<A> {
     ghost use Rattle.std.specs.Prelude.{◌≤◌};
     ghost use Rattle.slab.specs.Slab.{slab_len, HasRoomFor};
 
-    ghost view = { λ a. record { made = a.made; slots = a.links.slots; holder = a.holder; spare = a.spare } };
+    ghost view = { λ a. record {
+      made = a.made;
+      slots = a.links.slots;
+      holder = a.holder;
+      spare = a.spare;
+    } };
 
-    ghost invariant = { λ a. (a.made ≤ 2147483647) × (slab_len a.links ≤ 32) × HasRoomFor a.links a.spare };
+    ghost invariant = { λ a. (a.made ≤ 2147483647) × (slab_len a.links ≤ 32)
+        × HasRoomFor a.links a.spare };
 }
 
 impl<A: Allocator> Links<A> {

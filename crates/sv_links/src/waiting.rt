@@ -188,7 +188,8 @@ impl<A: Allocator> Waiting<A> {
     /// The call of a connection waits no more.
     pub fn leave(&mut self, conn: u8)
         ensures value { self.new ≡ without conn self.old }
-        ensures stands { (acts : List WaitAct) → IsQueue self.old acts → IsQueue self.new (Left conn ∷ acts) }
+        ensures stands { (acts : List WaitAct) → IsQueue self.old acts
+            → IsQueue self.new (Left conn ∷ acts) }
     {
         self.entries.retain(|entry| entry.conn != conn);
     }

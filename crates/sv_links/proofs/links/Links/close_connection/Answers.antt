@@ -10,7 +10,8 @@ pub invariant_of-self : goal.invariant_of-self
 invariant_of-self g c =
     let slots = retained _ _ (λ (link : Link). not (eqb link.conn c.args.conn)) (λ key shown b left next k. search (rules, tests)) 0
     c.match-self.self-inside.links.slots c.retain.new.self.slots c.retain.ensures.retained in
-    let fewer = no_more (λ (link : Link). not (eqb link.conn c.args.conn)) c.match-self.self-inside.links.slots c.retain.new.self.slots slots in
+    let fewer = no_more (λ (link : Link). not (eqb link.conn c.args.conn)) c.match-self.self-inside.links.slots
+    c.retain.new.self.slots slots in
     let capacity = c.retain.ensures.capacity in
     elim c.match-self.branch [
       | in-Some+then-eq w ↦ (
@@ -42,11 +43,13 @@ returns-clause-stands g c acts is =
       | in-Some+then-eq w ↦
           let slots = rw w.self-inside-is at slots in
           rw w.self-inside-is (IsTable-closed _ c.args.conn acts c.retain.new.self.slots None slots
-          (left_then c.args.conn w.in-Some.lid acts c.self.inside.holder w.owner.result w.eq.result w.in-Some.is (w.owner.ensures acts is) w.eq.ensures w.if-eq.true) old)
+          (left_then c.args.conn w.in-Some.lid acts c.self.inside.holder w.owner.result w.eq.result w.in-Some.is
+          (w.owner.ensures acts is) w.eq.ensures w.if-eq.true) old)
       | in-Some+else-eq w ↦
           let slots = rw w.self-inside-is at slots in
           rw w.self-inside-is (IsTable-closed _ c.args.conn acts c.retain.new.self.slots c.self.inside.holder slots
-          (left_else c.args.conn w.in-Some.lid acts c.self.inside.holder w.owner.result w.eq.result w.in-Some.is (w.owner.ensures acts is) w.eq.ensures w.if-eq.false) old)
+          (left_else c.args.conn w.in-Some.lid acts c.self.inside.holder w.owner.result w.eq.result w.in-Some.is
+          (w.owner.ensures acts is) w.eq.ensures w.if-eq.false) old)
       | in_default w ↦
           let slots = rw w.self-inside-is at slots in
           rw w.self-inside-is (IsTable-closed _ c.args.conn acts c.retain.new.self.slots c.self.inside.holder slots

@@ -26,9 +26,11 @@ returns-clause-ok g c acts is =
     let old = rw (← c.self.view_is) at is in
     let put = c.insert_reserved.ensures.updates in
     let same = ap (λ (slab : Slab Link). slab.slots) c.reserve.ensures.rest_kept in
-    let free = sym (ap (λ (slots : List (Option Link)). slice_index_or slots c.insert_reserved.result None) same) ∙ c.insert_reserved.ensures.was_vacant in (
+    let free = sym (ap (λ (slots : List (Option Link)). slice_index_or slots c.insert_reserved.result None) same)
+    ∙ c.insert_reserved.ensures.was_vacant in (
       ap (λ (n : ℕ). n + 1) old.made,
-      IsTable-made _ c.args.conn acts c.insert_reserved.new.self.slots c.insert_reserved.result c.saturating_sub-self-inside.result free put.changed
+      IsTable-made _ c.args.conn acts c.insert_reserved.new.self.slots c.insert_reserved.result
+          c.saturating_sub-self-inside.result free put.changed
           (λ other apart. put.others other apart ∙ ap (λ (slots : List (Option Link)). slice_index_or slots other None) same) old,
     )
 

@@ -13,12 +13,14 @@ returns-in-Some-clause-answer g c acts is =
 
 pub returns-in-Some-clause-stands : goal.returns-in-Some-clause-stands
 returns-in-Some-clause-stands g c e acts is =
-    let held = sym (ap (λ (table : Table). table.holder) c.self.view_is) ∙ c.in-Some.is ∙ ap Some (eqb-true c.in-Some.holder c.args.lid e) in
+    let held = sym (ap (λ (table : Table). table.holder) c.self.view_is) ∙ c.in-Some.is
+    ∙ ap Some (eqb-true c.in-Some.holder c.args.lid e) in
     IsTable-locked_again c.args.self.now c.args.lid acts held is
 
 pub returns-clause-answer : goal.returns-clause-answer
 returns-clause-answer g c acts is =
-    let held : holder acts ≡ None = holder_is c.args.self.now acts is ∙ sym (ap (λ (table : Table). table.holder) c.self.view_is) ∙ c.in_default.is in
+    let held : holder acts ≡ None = holder_is c.args.self.now acts is
+    ∙ sym (ap (λ (table : Table). table.holder) c.self.view_is) ∙ c.in_default.is in
     rw held refl
 
 pub returns-clause-stands : goal.returns-clause-stands

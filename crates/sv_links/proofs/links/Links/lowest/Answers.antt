@@ -13,7 +13,9 @@ returns g c acts is =
     let least = min_from_yields_List c.map.result c.min.result c.min.ensures.ran
     (YieldsList-from_map _ (λ (entry : ℕ × Link). entry.1.lid)
     (YieldsList-at c.map.ensures.source (YieldsList-from_filter _ (λ (entry : ℕ × Link). eqb entry.1.conn c.args.conn)
-    (YieldsList-at c.filter.ensures.source (YieldsList-from_first (λ item. (item.0, item.1.now)) (λ rest. rest) (entries_from 0 c.self.inside.links.slots) c.iter.ensures.rest))
+    (YieldsList-at c.filter.ensures.source (YieldsList-from_first (λ item. (item.0, item.1.now)) (λ rest. rest)
+    (entries_from 0 c.self.inside.links.slots) c.iter.ensures.rest))
     c.filter.ensures.closure (λ x r q k. search (rules, tests))))
     c.map.ensures.closure (λ x r q k. search rules)) in
-    sym (option_map_id c.min.result) ∙ least ∙ least_found (λ (link : Link). eqb link.conn c.args.conn) 0 c.self.inside.links.slots _ _ old.kept old.rising
+    sym (option_map_id c.min.result) ∙ least
+    ∙ least_found (λ (link : Link). eqb link.conn c.args.conn) 0 c.self.inside.links.slots _ _ old.kept old.rising

@@ -16,4 +16,5 @@ returns-clause-answer g c acts is =
 
 pub returns-clause-stands : goal.returns-clause-stands
 returns-clause-stands g c e acts is =
-    IsTable-unlocked _ c.args.lid acts (this_holds c.args.lid c.self.inside.holder c.ne.result c.ne.ensures c.if-ne.false) (rw c.self.view_is is)
+    IsTable-unlocked _ c.args.lid acts (this_holds c.args.lid c.self.inside.holder c.ne.result c.ne.ensures c.if-ne.false)
+    (rw c.self.view_is is)

@@ -7,7 +7,8 @@ use Rattle.sv_links.proofs.waiting.Waiting.again.Goals as goal
 
 pub loop-entry-preserved : goal.loop-entry-preserved
 loop-entry-preserved g c =
-    rw c.renew.ensures (map_over_more (anew c.args.conn c.args.wait c.args.deadline) _ _ c.loop-entry.entry-index _ (search (rules, arith)) c.loop-entry.invariant (search (rules)))
+    rw c.renew.ensures (map_over_more (anew c.args.conn c.args.wait c.args.deadline) _ _ c.loop-entry.entry-index _
+    (search (rules, arith)) c.loop-entry.invariant (search (rules)))
 
 pub invariant_of-self : goal.invariant_of-self
 invariant_of-self g c =

@@ -11,7 +11,9 @@ use Rattle.sv_links.proofs.waiting.Waiting.creating.Given as given
 counted : (g : given.Over) (c : goal.After-count g) → c.count.result ≡ creations c.self.inside.entries.items
 counted g c =
     count_from_yields_List c.filter.result _ c.count.ensures.ran
-    (YieldsList-from_filter _ creates (YieldsList-at c.filter.ensures.source (YieldsList-from_slice c.self.inside.entries.items cc)) c.filter.ensures.closure (λ x r q k. search (rules, tests)))
+    (YieldsList-from_filter _ creates (YieldsList-at c.filter.ensures.source
+    (YieldsList-from_slice c.self.inside.entries.items cc)) c.filter.ensures.closure
+    (λ x r q k. search (rules, tests)))
 
 few : (g : given.Over) (c : goal.After-count g) → c.count.result ≤ 16
 few g c =

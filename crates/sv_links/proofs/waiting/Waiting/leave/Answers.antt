@@ -14,7 +14,8 @@ invariant_of-self g c =
 
 pub returns-clause-value : goal.returns-clause-value
 returns-clause-value g c =
-    rw (← c.self.view_is) (filter_same _ (λ entry. not (eqb entry.conn c.args.conn)) _ (λ x b f' k. search rules) _ _ c.retain.ensures.filtered)
+    rw (← c.self.view_is)
+    (filter_same _ (λ entry. not (eqb entry.conn c.args.conn)) _ (λ x b f' k. search rules) _ _ c.retain.ensures.filtered)
 
 pub returns-clause-stands : goal.returns-clause-stands
 returns-clause-stands g c acts is =

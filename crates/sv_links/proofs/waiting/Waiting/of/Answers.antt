@@ -6,5 +6,7 @@ use Rattle.sv_links.proofs.waiting.Waiting.of.Goals as goal
 
 pub returns : goal.returns
 returns g c acts is =
-    rw (c.copied.ensures ∙ find_from_yields_List {all = c.self.inside.entries.items} (λ entry. eqb entry.conn c.args.conn) _ _ c.find.result c.find.ensures.ran (YieldsList-from_slice _ cc)
+    rw (c.copied.ensures
+    ∙ find_from_yields_List {all = c.self.inside.entries.items} (λ entry. eqb entry.conn c.args.conn) _ _ c.find.result c.find.ensures.ran
+    (YieldsList-from_slice _ cc)
     (λ x b q k. search (rules, tests))) (entry_waits c.args.conn acts c.self.inside.entries.items (rw (← c.self.view_is) at is))

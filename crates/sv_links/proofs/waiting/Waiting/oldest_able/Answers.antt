@@ -1,4 +1,4 @@
-use Rattle.std.proofs.Common.{rules, tests, ◌∙◌, Some}
+use Rattle.std.proofs.Common.{Bool, Option, ℕ, rules, tests, ◌∙◌, Some}
 use Rattle.std.specs.Prelude.{find, ◌≡◌, ◌<◌}
 use Rattle.std.proofs.lemmas.Iterator.{YieldsList-from_slice}
 use Rattle.std.proofs.lemmas.Iterator.Search.{find_from_yields_List}
@@ -10,28 +10,41 @@ use Rattle.sv_links.proofs.Found.{found-each, found-within, found-rank, found-cr
 use Rattle.sv_links.proofs.waiting.Waiting.oldest_able.Goals as goal
 use Rattle.sv_links.proofs.waiting.Waiting.oldest_able.Given as given
 
+abbrev passes : Option ℕ → Bool → Bool → Entry → Bool
+passes holder can_write can_read entry = is_there holder can_write can_read entry.lid (Some entry.wait)
+
 result_is : (g : given.Over) (c : goal.After-copied g)
-    → c.copied.result ≡ find (λ (entry : Entry). is_there c.args.holder c.args.can_write c.args.can_read entry.lid (Some entry.wait)) c.self.inside.entries.items
+    → c.copied.result ≡ find (passes c.args.holder c.args.can_write c.args.can_read) c.self.inside.entries.items
 result_is g c = c.copied.ensures
-    ∙ find_from_yields_List {all = c.self.inside.entries.items} (λ entry. is_there c.args.holder c.args.can_write c.args.can_read entry.lid (Some entry.wait)) _ _ c.find.result c.find.ensures.ran
+    ∙ find_from_yields_List {all = c.self.inside.entries.items} (passes c.args.holder c.args.can_write c.args.can_read) _ _
+    c.find.result c.find.ensures.ran
     (YieldsList-from_slice _ cc) (λ x b q k. search (rules, tests))
 
 pub returns-clause-answer : goal.returns-clause-answer
 returns-clause-answer g c acts is =
-    rw (result_is g c) (oldest_able c.args.holder c.args.can_write c.args.can_read acts c.self.inside.entries.items (rw (← c.self.view_is) at is))
+    rw (c.copied.ensures
+    ∙ find_from_yields_List {all = c.self.inside.entries.items} (passes c.args.holder c.args.can_write c.args.can_read) _ _
+    c.find.result c.find.ensures.ran
+    (YieldsList-from_slice _ cc) (λ x b q k. search (rules, tests)))
+    (oldest_able c.args.holder c.args.can_write c.args.can_read acts c.self.inside.entries.items (rw (← c.self.view_is) at is))
 
 pub returns-clause-entry : goal.returns-clause-entry
 returns-clause-entry g c acts is =
     let old = rw (← c.self.view_is) at is in
-    rw (result_is g c) (found-each (IsEntry acts) (λ (entry : Entry). is_there c.args.holder c.args.can_write c.args.can_read entry.lid (Some entry.wait)) c.self.inside.entries.items old.each)
+    rw (result_is g c)
+    (found-each (IsEntry acts) (passes c.args.holder c.args.can_write c.args.can_read) c.self.inside.entries.items old.each)
 
 pub returns-clause-within : goal.returns-clause-within
 returns-clause-within g c =
-    rw (result_is g c, ← c.self.view_is) (found-within (λ (entry : Entry). is_there c.args.holder c.args.can_write c.args.can_read entry.lid (Some entry.wait)) 16 c.self.inside.entries.items
-    c.self.invariant.1 c.self.invariant.0)
+    rw (result_is g c, ← c.self.view_is) (found-within (passes c.args.holder c.args.can_write c.args.can_read) 16 c.self.inside.entries.items c.self.invariant.1
+    c.self.invariant.0)
 
 pub returns-clause-measure : goal.returns-clause-measure
-returns-clause-measure g c = rw (result_is g c, ← c.self.view_is) (found-rank (λ (entry : Entry). is_there c.args.holder c.args.can_write c.args.can_read entry.lid (Some entry.wait)) c.self.inside.entries.items)
+returns-clause-measure g c =
+    rw (result_is g c, ← c.self.view_is)
+    (found-rank (passes c.args.holder c.args.can_write c.args.can_read) c.self.inside.entries.items)
 
 pub returns-clause-fewer : goal.returns-clause-fewer
-returns-clause-fewer g c = rw (result_is g c, ← c.self.view_is) (found-creations (λ (entry : Entry). is_there c.args.holder c.args.can_write c.args.can_read entry.lid (Some entry.wait)) c.self.inside.entries.items)
+returns-clause-fewer g c =
+    rw (result_is g c, ← c.self.view_is)
+    (found-creations (passes c.args.holder c.args.can_write c.args.can_read) c.self.inside.entries.items)
