@@ -1,5 +1,5 @@
 -- What the calls of the core channel add, where they are done.
-use Rattle.std.proofs.Common.{◌≡◌, ℕ, ◌==◌, Bool, true, false, List, [], ◌∷◌, ◌++◌, length, nat_lt, refl, sym, ap, subst}
+use Rattle.std.proofs.Common.{◌≡◌, ℕ, ◌==◌, Bool, true, false, List, [], ◌∷◌, ◌++◌, length, nat_lt, append_assoc, refl, sym, ap, subst}
 use Rattle.std.specs.Int.{bit_at}
 use Rattle.std.specs.Prelude.{Option, None}
 use Rattle.sv_errors.specs.declared.code.Code.TheVariants.{QueryUnterminated}
@@ -22,6 +22,11 @@ use Rattle.sv_server.specs.declared.bench.Ending.TheVariants as endings
 use Rattle.sv_server.specs.declared.dispatch.Verdict.{Verdict as Considered}
 use Rattle.sv_server.specs.Inside.Outcome.{IsConcluded, EndsAs, ConsideredAs}
 use Rattle.sv_server.specs.KeptBench.{IsBench, Bench}
+use Rattle.sv_links.specs.Waiting.{Left}
+use Rattle.sv_server.specs.Act.{ConnAct, Waited}
+use Rattle.sv_server.specs.Resuming.{leaves}
+use Rattle.sv_server.specs.KeptConnection.{Connection}
+use Rattle.sv_server.specs.Inside.Acting.{Concludes}
 use Rattle.sv_server.proofs.Projections.{bench_happened}
 
 pub written_ends : (config : Config) (acts : List BenchAct) (kept : Bench) (instrument : Kept) (flags : ℕ) (bytes : List ℕ) (ended : Bool)
@@ -55,3 +60,11 @@ concluded_as xid (endings.Result outcome) verdict shared config acts execution i
 concluded_as xid (endings.Response most term) verdict shared config acts execution is ends =
     subst (λ (v : Considered). ConsideredAs v shared config acts (execution_verdict xid execution)) (sym is)
     (ap (λ (e : Execution). execution_verdict xid e) ends.0, ends.1)
+
+-- a call that waited and is done
+pub left_concludes : (config : Config) (c xid : ℕ) (acts : List ConnAct) (before : List BenchAct) (execution : Execution)
+    (connection : Connection) (shared : Bench)
+    → Concludes (execution_verdict xid execution) config acts (Waited (Left c) ∷ before) connection shared
+    → Concludes (leaves c xid execution) config acts before connection shared
+left_concludes config c xid acts before execution connection shared (mine, all) =
+    (mine, rw (append_assoc execution.adds (Waited (Left c) ∷ []) before) all)

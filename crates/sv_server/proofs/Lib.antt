@@ -2,6 +2,12 @@ pub mod Replies
 pub mod Connections
 pub mod Projections
 pub mod Taken
+pub mod Benches
+pub mod Granted
+pub mod Aborting
+pub mod Going
+pub mod Settled
+pub mod Turning
 pub mod Turned
 pub mod Logs
 pub mod Steps

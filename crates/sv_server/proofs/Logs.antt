@@ -105,7 +105,7 @@ pub ticked : (state : State) (config : Config) (log : List Act) (shared : KeptBe
     → Represents (record state { bench = shared }) config ((map Bench adds ++ Bench Ticked ∷ []) ++ log)
 ticked state config log shared adds rep all same =
     let parts : (map Bench adds ++ Bench Ticked ∷ []) ++ log ≡ map Bench (adds ++ Ticked ∷ []) ++ log =
-    ap (λ (l : List Act). l ++ log) (map-append adds (Ticked ∷ [])) in
+    ap (λ (l : List Act). l ++ log) (sym (map-append Bench adds (Ticked ∷ []))) in
     rw parts (shared_acts state config log shared (adds ++ Ticked ∷ []) rep
     (rw (append_assoc adds (Ticked ∷ []) (bench log)) all) same)
 
@@ -126,30 +126,45 @@ closes state config log c old new shared rep sixteen lt e goes freed left =
     (rw (of_shared c adds (On c PortClosed ∷ log), of_mine) (goes (connection_of state config log c old rep lt e)))
     (rw (bench_shared, append_assoc links (Waited (Left c) ∷ []) (bench log)) (freed (bench log) rep.shared))
     others
-    (rw left (taken_without c log _ state.bench.waiting others rep.taken))
+    (rw left (taken_without c log (map Bench adds ++ On c PortClosed ∷ log) state.bench.waiting others rep.taken))
+
+-- what a call that was taken leaves of the acts of connections
+of_parts : (adds : List BenchAct) (c : ℕ) (call : List ℕ) (log : List Act)
+    → (map Bench adds ++ On c (CallTaken call) ∷ []) ++ log ≡ map Bench adds ++ On c (CallTaken call) ∷ log
+of_parts adds c call log = append_assoc (map Bench adds) (On c (CallTaken call) ∷ []) log
+
+of_taken : (c d : ℕ) (adds : List BenchAct) (call : List ℕ) (log : List Act) → d ≢ c
+    → of d ((map Bench adds ++ On c (CallTaken call) ∷ []) ++ log) ≡ of d log
+of_taken c d adds call log ne = ap (of d) (of_parts adds c call log) ∙ of_shared d adds (On c (CallTaken call) ∷ log)
+    ∙ of_other c d (CallTaken call) log ne
+
+of_itself : (c : ℕ) (adds : List BenchAct) (call : List ℕ) (log : List Act)
+    → of c ((map Bench adds ++ On c (CallTaken call) ∷ []) ++ log) ≡ CallTaken call ∷ of c log
+of_itself c adds call log = ap (of c) (of_parts adds c call log) ∙ of_shared c adds (On c (CallTaken call) ∷ log)
+    ∙ of_mine c (CallTaken call) log
+
+busy_idle : (acts : List ConnAct) (call : List ℕ) → unanswered acts ≡ Some call → is_busy acts ≡ false → ⊥
+busy_idle acts call known idle = let z : true ≡ false = sym (ap is_some known) ∙ idle in cc
 
 -- what is known of the calls that wait, behind a Turn
 pub held_taken : (c : ℕ) (log : List Act) (call : List ℕ) (verdict : Verdict) (old new : List Entry)
     → is_busy (of c log) ≡ false → AllByRecursion (IsTaken log) old → HeldAs verdict c (core_call call) old new
     → AllByRecursion (IsTaken ((verdict_acts c verdict ++ On c (CallTaken call) ∷ []) ++ log)) new
 held_taken c log call NoCall old new idle taken held =
-    rw held (taken_acted c log _ old (λ d ne. of_other c d Faulted (On c (CallTaken call) ∷ log) ne ∙ of_other c d (CallTaken call) log ne)
-    (λ other known. absurd (let z : true ≡ false = sym (ap is_some known) ∙ idle in cc)) taken)
+    let after : List Act = On c Faulted ∷ On c (CallTaken call) ∷ log in
+    rw held (taken_acted c log after old
+    (λ d ne. of_other c d Faulted (On c (CallTaken call) ∷ log) ne ∙ of_other c d (CallTaken call) log ne)
+    (λ other known. absurd {0} (busy_idle (of c log) other known idle)) taken)
 held_taken c log call (Replies adds aborts bytes) old new idle taken held =
-    let parts : (map Bench adds ++ On c (CallTaken call) ∷ []) ++ log ≡ map Bench adds ++ On c (CallTaken call) ∷ log =
-    append_assoc (map Bench adds) (On c (CallTaken call) ∷ []) log in
-    rw held (taken_acted c log _ old (λ d ne. of_other c d (Replied bytes) _ ne ∙ ap (of d) parts
-    ∙ of_shared d adds (On c (CallTaken call) ∷ log) ∙ of_other c d (CallTaken call) log ne)
-    (λ other known. absurd (let z : true ≡ false = sym (ap is_some known) ∙ idle in cc)) taken)
+    let before : List Act = (map Bench adds ++ On c (CallTaken call) ∷ []) ++ log in
+    rw held (taken_acted c log (On c (Replied bytes) ∷ before) old
+    (λ d ne. of_other c d (Replied bytes) before ne ∙ of_taken c d adds call log ne)
+    (λ other known. absurd {0} (busy_idle (of c log) other known idle)) taken)
 held_taken c log call (Stays adds) old new idle taken (entry, mine, is, makes) =
-    let parts : (map Bench adds ++ On c (CallTaken call) ∷ []) ++ log ≡ map Bench adds ++ On c (CallTaken call) ∷ log =
-    append_assoc (map Bench adds) (On c (CallTaken call) ∷ []) log in
-    let here : of c ((map Bench adds ++ On c (CallTaken call) ∷ []) ++ log) ≡ CallTaken call ∷ of c log =
-    ap (of c) parts ∙ of_shared c adds (On c (CallTaken call) ∷ log) ∙ of_mine c (CallTaken call) log in
-    let others = λ (d : ℕ) (ne : d ≢ c). ap (of d) parts ∙ of_shared d adds (On c (CallTaken call) ∷ log)
-    ∙ of_other c d (CallTaken call) log ne in
-    rw is (taken_push _ (without c old) entry (taken_without c log _ old others taken)
-    (call, ap unanswered (ap (λ (d : ℕ). of d ((map Bench adds ++ On c (CallTaken call) ∷ []) ++ log)) mine ∙ here), makes))
+    let after : List Act = (map Bench adds ++ On c (CallTaken call) ∷ []) ++ log in
+    let here : of c after ≡ CallTaken call ∷ of c log = of_itself c adds call log in
+    rw is (taken_push after (without c old) entry (taken_without c log after old (λ d ne. of_taken c d adds call log ne) taken)
+    (call, ap unanswered (ap (λ (d : ℕ). of d after) mine ∙ here), makes))
 
 -- a Turn of an open connection
 pub turned : (state : State) (config : Config) (log : List Act) (c : ℕ) (call : List ℕ) (verdict : Verdict) (kept : Connection)

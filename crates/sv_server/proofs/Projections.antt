@@ -69,14 +69,13 @@ wait_acts-links (act ∷ links) acts = wait_acts-links links acts
 pub bench_happened : (kept : KeptBench) (instrument : Kept) (config : Config) (acts : List BenchAct) (adds : List InstrumentAct)
     → IsBench kept config acts → StandsFor instrument (adds ++ instrument_acts acts)
     → IsBench (record kept { instrument = instrument }) config (map Happened adds ++ acts)
-bench_happened kept instrument config acts adds (links, before, set_up, clock, waiting, room, memory) stands = (
+bench_happened kept instrument config acts adds (links, before, set_up, clock, waiting, reserved) stands = (
   rw (link_acts-happened adds acts) links,
   rw (instrument_acts-happened adds acts) stands,
   set_up,
   rw (ticks-happened adds acts) clock,
   rw (wait_acts-happened adds acts) waiting,
-  rw (link_acts-happened adds acts) room,
-  memory,
+  (rw (link_acts-happened adds acts) reserved.0, reserved.1),
 )
 
 -- what happens to links
@@ -84,14 +83,13 @@ pub bench_linked : (kept : KeptBench) (links : Table) (config : Config) (acts : 
     → IsBench kept config acts → IsTable links (adds ++ link_acts acts)
     → length (live (adds ++ link_acts acts)) + creations kept.waiting ≤ 32 → creations kept.waiting ≤ links.spare
     → IsBench (record kept { links = links }) config (map Linked adds ++ acts)
-bench_linked kept links config acts adds (before, instrument, set_up, clock, waiting, room, memory) stands few spare = (
+bench_linked kept links config acts adds (before, instrument, set_up, clock, waiting, reserved) stands few spare = (
   rw (link_acts-links adds acts) stands,
   rw (instrument_acts-links adds acts) instrument,
   set_up,
   rw (ticks-links adds acts) clock,
   rw (wait_acts-links adds acts) waiting,
-  rw (link_acts-links adds acts) few,
-  spare,
+  (rw (link_acts-links adds acts) few, spare),
 )
 
 -- ---- the acts of a record that was taken

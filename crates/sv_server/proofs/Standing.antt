@@ -1,5 +1,5 @@
 -- An event that was done, and the steps that are due after it, leave what stands for the longer history; and a history has one log.
-use Rattle.std.proofs.Common.{◌≡◌, ℕ, zero, suc, Bool, true, false, cond, refl, ap, List, [], ◌∷◌, ◌++◌, sym, ◌∙◌, subst}
+use Rattle.std.proofs.Common.{◌≡◌, ℕ, zero, suc, Bool, true, false, cond, refl, ap, List, [], ◌∷◌, ◌++◌, None, Some, inl, inr, sym, ◌∙◌, subst}
 use Rattle.std.specs.Prelude.{Result, Ok, Err, IsErr, IsErrAnd}
 use Rattle.sv_server.specs.declared.event.Config.{Config}
 use Rattle.sv_server.specs.declared.event.Did.{Did}
@@ -36,6 +36,13 @@ stands_after config history event old mid new did s is_event acts settles =
       represents = held;
       settled = nothing_due steps.0 config (own_acts config polled event s.log ++ s.log) last steps.1;
     }
+
+-- where nothing was recorded nothing is due
+pub none_due : (config : Config) → IsSettled config []
+none_due config new (inl fires) = absurd (let none = fires.1.0 in cc)
+none_due config new (inr (none, inl goes)) = absurd (let z : None ≡ Some goes.1 = goes.4 in cc)
+none_due config new (inr (none, inr (still, inl step))) = step.1
+none_due config new (inr (none, inr (still, inr (idle, gives)))) = absurd (let z : None ≡ Some gives.1 = gives.3 in cc)
 
 -- the steps that are due lead to one log
 one_end : (n m : ℕ) (config : Config) (log a b : List Act) → SettlesIn n config log a → SettlesIn m config log b → a ≡ b

@@ -25,7 +25,7 @@ use Rattle.sv_server.specs.KeptBench.{IsBench, Bench as KeptBench}
 -- what a poll would give
 pub polled_now : (kept : KeptBench) (config : Config) (acts : List BenchAct) → IsBench kept config acts
     → (polled : ℕ) × IsPolled polled acts
-polled_now kept config acts (links, stands, more) = polled_byte kept.instrument.layers (instrument_acts acts) stands.layers
+polled_now kept config acts (links, stands, set_up, clock, waiting, reserved) = polled_byte kept.instrument.layers (instrument_acts acts) stands.layers
 
 -- ---- one step is due at most
 
@@ -97,39 +97,51 @@ pub next_once : (config : Config) (log a b : List Act) → IsNext config log a �
 next_once config log = first_once _ _ (happens_once IsFired fires_once log)
     (first_once _ _ (goes_once config log) (first_once _ _ (happens_once IsStep one_step log) (gives_once config log)))
 
+-- none is due where there is none of either kind
+first_none : (A B : List Act → Type 0) → ((x : List Act) → A x → ⊥) → ((x : List Act) → B x → ⊥) → (x : List Act) → First A B x → ⊥
+first_none A B one other x (inl a) = one x a
+first_none A B one other x (inr b) = other x b.1
+
+pub none_next : {A B C D : List Act → Type 0} → ((x : List Act) → A x → ⊥) → ((x : List Act) → B x → ⊥) → ((x : List Act) → C x → ⊥)
+    → ((x : List Act) → D x → ⊥) → (x : List Act) → First A (First B (First C D)) x → ⊥
+none_next {A} {B} {C} {D} a b c d = first_none A (First B (First C D)) a (first_none B (First C D) b (first_none C D c d))
+
 -- ---- an act of a connection makes none due
 
 happens_back : (IsSuch : List InstrumentAct → List InstrumentAct → Type 0) (log other new : List Act) → bench other ≡ bench log
     → Happens IsSuch other new → (there : List Act) × Happens IsSuch log there
 happens_back IsSuch log other new same (adds, such, is) = (
   map Bench (map Happened adds) ++ log,
-  adds,
-  subst (λ (acts : List BenchAct). IsSuch (instrument_acts acts) (adds ++ instrument_acts acts)) same such,
-  refl,
+  (adds, subst (λ (acts : List BenchAct). IsSuch (instrument_acts acts) (adds ++ instrument_acts acts)) same such, refl),
 )
 
 goes_back : (config : Config) (log other new : List Act) → bench other ≡ bench log → GoesOn config other new
     → (there : List Act) × GoesOn config log there
 goes_back config log other new same (c, wait, polled, oldest, for, said, is) = (
   went_on config log polled c wait,
-  c,
-  wait,
-  polled,
-  subst (λ (acts : List BenchAct). IsOldest (wait_acts acts) (CanGoOn acts) (Some c)) same oldest,
-  subst (λ (acts : List BenchAct). waits c (wait_acts acts) ≡ Some wait) same for,
-  subst (λ (acts : List BenchAct). IsPolled polled acts) same said,
-  refl,
+  (
+    c,
+    wait,
+    polled,
+    subst (λ (acts : List BenchAct). IsOldest (wait_acts acts) (CanGoOn acts) (Some c)) same oldest,
+    subst (λ (acts : List BenchAct). waits c (wait_acts acts) ≡ Some wait) same for,
+    subst (λ (acts : List BenchAct). IsPolled polled acts) same said,
+    refl,
+  ),
 )
 
 gives_back : (config : Config) (log other new : List Act) → bench other ≡ bench log → GivesUp config other new
     → (there : List Act) × GivesUp config log there
 gives_back config log other new same (c, wait, oldest, for, is) = (
   gave_up log c wait,
-  c,
-  wait,
-  subst (λ (acts : List BenchAct). IsOldest (wait_acts acts) (IsExpired (config.clock + ticks acts) (wait_acts acts)) (Some c)) same oldest,
-  subst (λ (acts : List BenchAct). waits c (wait_acts acts) ≡ Some wait) same for,
-  refl,
+  (
+    c,
+    wait,
+    subst (λ (acts : List BenchAct). IsOldest (wait_acts acts) (IsExpired (config.clock + ticks acts) (wait_acts acts)) (Some c))
+        same oldest,
+    subst (λ (acts : List BenchAct). waits c (wait_acts acts) ≡ Some wait) same for,
+    refl,
+  ),
 )
 
 -- of two kinds of steps that are there where they are there of another log

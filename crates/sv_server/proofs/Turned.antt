@@ -1,5 +1,5 @@
 -- What a Turn of an open connection leaves.
-use Rattle.std.proofs.Common.{◌≡◌, ℕ, Bool, true, false, List, Option, refl, ap}
+use Rattle.std.proofs.Common.{◌≡◌, ℕ, Bool, true, false, List, Option, Some, None, cond, nat_lt, refl, ap}
 use Rattle.std.specs.Prelude.{not}
 use Rattle.sv_exchange.specs.declared.read.Read.{Read}
 use Rattle.sv_exchange.specs.ReadGiven.{IsReadOf}
@@ -10,7 +10,10 @@ use Rattle.sv_server.specs.declared.event.Config.{Config}
 use Rattle.sv_server.specs.declared.dispatch.Verdict.{Verdict as Considered}
 use Rattle.sv_server.specs.declared.dispatch.Verdict.TheVariants as verdicts
 use Rattle.sv_links.specs.declared.waiting.Entry.{Entry}
-use Rattle.sv_server.specs.Act.{BenchAct}
+use Rattle.sv_server.specs.Act.{BenchAct, ConnAct}
+use Rattle.sv_server.specs.Connection.{free, is_idle}
+use Rattle.sv_server.specs.declared.event.Refused.TheVariants.{NoRoom}
+use Rattle.sv_server.specs.History.{turn_refusal}
 use Rattle.sv_server.specs.CoreCall.{CoreCall}
 use Rattle.sv_server.specs.Verdict.{Verdict, aborts_of}
 use Rattle.sv_server.specs.KeptBench.{Bench}
@@ -31,6 +34,10 @@ pub read_is : (read : Read) (bytes : List ℕ) (most : ℕ) (term : Option ℕ) 
     ≡ read_of bytes most term
 read_is read bytes most term is = rw (is.bytes, is.request_count, is.character, is.end) refl
 
+if_none : (idle short : Bool) → short ≡ false → cond idle None (cond short (Some NoRoom) None) ≡ None
+if_none true short e = refl
+if_none false short e = rw e refl
+
 -- what waits is held as is said
 pub held_as : (considered : Considered) (shared : Bench) (config : Config) (acts : List BenchAct) (verdict : Verdict) (c : ℕ)
     (call : Option CoreCall) (old new : List Entry)
@@ -47,3 +54,7 @@ ended_as verdicts.NoCall shared config acts verdict is = ap aborts_of is.0
 ended_as (verdicts.Answer xid answer aborts) shared config acts verdict is = ap aborts_of is.1
 ended_as (verdicts.Response xid most term) shared config acts verdict is = ap aborts_of is.0
 ended_as verdicts.Waits shared config acts verdict is = ap aborts_of is.1
+
+-- a Turn that finds room is not refused
+pub refusal_none : (acts : List ConnAct) → nat_lt (free acts) 8232 ≡ false → turn_refusal acts ≡ None
+refusal_none acts roomy = if_none (is_idle acts) (nat_lt (free acts) 8232) roomy

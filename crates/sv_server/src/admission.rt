@@ -34,6 +34,13 @@ pub struct Block {
     pub timeout: u32,
 }
 
+/// How long a create_link waits for the lock, where it asks for it.
+fn patience_of(lock_device: bool, timeout: u32) -> Option<u32>
+    ensures { result ≡ (if lock_device then Some timeout else None) }
+{
+    if lock_device { Some(timeout) } else { None }
+}
+
 impl<A: Allocator> Bench<A> {
     /// What a call waits for that needn't wait for the lock: a write until no ended message waits to
     /// be finished, a read until there is something to answer.
@@ -41,6 +48,8 @@ impl<A: Allocator> Bench<A> {
         ensures answer { (config : Configured) (acts : List BenchAct) → IsBench self.now config acts
             → result ≡ blocked_by (plain_arguments args.now) acts }
         ensures measure { IfSome result (λ block. rank_of block.wait ≡ 1) }
+        ensures other { IfSome result (λ block.
+            is_create_link (plain_arguments args.now) ≡ false) }
     {
         match *args {
             Args::DeviceWrite { io_timeout, .. } => self.blocked_write(io_timeout),
@@ -171,10 +180,10 @@ impl<A: Allocator> Bench<A> {
         ensures waits { Enters result conn true self.old.waiting self.new.waiting }
     {
         let Some(timeout) = timeout else {
-            return Some(self.make_link(conn, false));
+            return Some(self.make_free(conn));
         };
         if !is_locked_out(self.links.holder(), None) {
-            return Some(self.make_link(conn, true));
+            return Some(self.make_locked(conn));
         }
         let block = Block {
             wait: Wait::Lock,
@@ -225,7 +234,7 @@ impl<A: Allocator> Bench<A> {
                 lock_timeout,
                 device,
                 ..
-            } => self.create_link(conn, if lock_device { Some(lock_timeout) } else { None }, device),
+            } => self.create_link(conn, patience_of(lock_device, lock_timeout), device),
             Args::DeviceAbort { .. }
             | Args::DeviceWrite { .. }
             | Args::DeviceRead { .. }

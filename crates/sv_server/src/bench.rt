@@ -1,16 +1,19 @@
 //! What all connections share: links, calls that wait, the instrument and the clock.
 
-ghost use Rattle.std.specs.Prelude.{◌≡◌, ◌+◌, ◌<◌, ◌≤◌, List, [], ◌∷◌, ◌++◌, length, map, option_map, IfOk, IfSome, ◌==◌, true, false};
+ghost use Rattle.std.specs.Prelude.{◌≡◌, ◌+◌, ◌<◌, ◌≤◌, List, [], ◌∷◌, ◌++◌, length, map, option_map, IfOk, IfSome, IsTrue, ◌==◌, true, false};
 ghost use Rattle.sv_links.specs.Links.{closing};
 ghost use Rattle.sv_links.specs.Waiting.{Left, IsExpired, IsOldest};
 ghost use Rattle.sv_links.specs.Queue.{IsEntry, creates, creations, without};
 ghost use Rattle.sv_scan.specs.declared.acts.ScanAct.TheVariants.{Input};
 ghost use Rattle.sv_layers.specs.Act.{Scanned};
-ghost use Rattle.sv_instrument.specs.Happened.{external_acts, tick_acts};
+ghost use Rattle.sv_instrument.specs.Happened.{IsFired, external_acts, tick_acts};
+ghost use Rattle.sv_instrument.specs.Step.{IsStep};
+ghost use Rattle.sv_instrument.specs.Kept.{left_of};
 ghost use Rattle.sv_server.specs.declared.event.Config.{Config};
 ghost use Rattle.sv_server.specs.Act.{BenchAct, Linked, Waited, Happened, Ticked, link_acts, wait_acts, instrument_acts, ticks};
 ghost use Rattle.sv_server.specs.Settling.{CanGoOn};
 ghost use Rattle.sv_server.specs.Inside.Kept.{IsKept};
+ghost use Rattle.sv_server.specs.Inside.Acting.{InstrumentSteps};
 ghost use Rattle.sv_server.specs.KeptBench.{IsBench};
 
 use crate::event::Config;
@@ -69,7 +72,8 @@ impl<A: Allocator + Copy> Bench<A> {
     /// No link, no call that waits, no text, and the clock at its start.
     pub fn new(alloc: A, config: Config) -> Result<Bench<A>, AllocError>
         requires { config.clock ≤ 9223372036854775807 }
-        ensures { IfOk result (λ shared. IsBench shared config []) }
+        ensures stands { IfOk result (λ shared. IsBench shared config []) }
+        ensures waiting { IfOk result (λ shared. shared.waiting ≡ []) }
     {
         Ok(Bench {
             links: Links::new(alloc),
@@ -168,5 +172,29 @@ impl<A: Allocator> Bench<A> {
         ensures kept { IfSome result (λ entry. IsKept entry self.now.waiting) }
     {
         self.waiting.expired(self.clock)
+    }
+
+    /// A trigger that comes at once, where one is due; tells whether one was.
+    pub fn fire(&mut self) -> bool
+        ensures steps { (config : Config) (acts : List BenchAct) → IsBench self.old config acts
+            → InstrumentSteps IsFired result config acts self.old self.new }
+        ensures idle { result ≡ false → self.new ≡ self.old }
+        ensures measure { IsTrue result
+            → left_of self.new.instrument < left_of self.old.instrument }
+        ensures waiting { self.new.waiting ≡ self.old.waiting }
+    {
+        self.instrument.fire().is_some()
+    }
+
+    /// A step of message exchange, where one is due; tells whether one was.
+    pub fn exchange(&mut self) -> bool
+        ensures steps { (config : Config) (acts : List BenchAct) → IsBench self.old config acts
+            → InstrumentSteps IsStep result config acts self.old self.new }
+        ensures idle { result ≡ false → self.new ≡ self.old }
+        ensures measure { IsTrue result
+            → left_of self.new.instrument < left_of self.old.instrument }
+        ensures waiting { self.new.waiting ≡ self.old.waiting }
+    {
+        self.instrument.step().is_some()
     }
 }

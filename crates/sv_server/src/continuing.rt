@@ -11,8 +11,8 @@ ghost use Rattle.sv_server.specs.Resuming.{gone_on, given_up};
 ghost use Rattle.sv_server.specs.KeptConnection.{IsConnection};
 ghost use Rattle.sv_server.specs.KeptBench.{IsBench};
 ghost use Rattle.sv_server.specs.Inside.Kept.{IsKept};
-ghost use Rattle.sv_server.specs.Inside.Outcome.{IsBenchAt, WaitsOn, MayGoOn};
-ghost use Rattle.sv_server.specs.Inside.Acting.{Concludes};
+ghost use Rattle.sv_server.specs.Inside.Outcome.{IsBenchAt, MayGoOn};
+ghost use Rattle.sv_server.specs.Inside.Acting.{Concludes, GoneOn};
 
 use crate::bench::Bench;
 use crate::connection::Connection;
@@ -32,11 +32,9 @@ pub fn go_on<A: Allocator>(connection: &mut Connection<A>, shared: &mut Bench<A>
         (before : List BenchAct) → IsConnection connection.old acts → is_busy acts ≡ true
         → IsBenchAt shared.old config polled before
         → MayGoOn entry (core_call_in (unanswered acts)) shared.old before
-        → Concludes (gone_on config polled entry.conn entry.wait
-        (core_call_in (unanswered acts)) before) config acts before connection.new shared.new }
-    ensures waits { (acts : List ConnAct) → IsConnection connection.old acts
-        → WaitsOn entry.conn (core_call_in (unanswered acts)) shared.old.waiting
-        shared.new.waiting }
+        → GoneOn (gone_on config polled entry.conn entry.wait (core_call_in (unanswered acts)) before)
+        entry.conn (core_call_in (unanswered acts)) config acts before shared.old.waiting
+        connection.new shared.new }
     ensures measure { rank shared.new.waiting < rank shared.old.waiting }
 {
     let Some(taken) = connection.taken() else {

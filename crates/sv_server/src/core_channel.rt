@@ -1,7 +1,9 @@
 //! What each call of the core channel does, once it needn't wait (VXI-11 revision 1.0, section B.6).
 
-ghost use Rattle.std.specs.Prelude.{◌≡◌, ℕ, List, Some, None, true, false};
+ghost use Rattle.std.specs.Prelude.{◌≡◌, ◌<◌, ◌^◌, ℕ, pos, List, [], None, true, false};
 ghost use Rattle.sv_vxi.specs.Reading.{plain_arguments};
+ghost use Rattle.sv_vxi.specs.declared.error_code.ErrorCode.TheVariants.{NoError};
+ghost use Rattle.sv_vxi.specs.Results.{Link, plain_result, data_of};
 ghost use Rattle.sv_server.specs.declared.event.Config.{Config as Configured};
 ghost use Rattle.sv_links.specs.Links.{holder, is_locked_out};
 ghost use Rattle.sv_server.specs.Act.{BenchAct, link_acts};
@@ -38,8 +40,51 @@ impl<A: Allocator> Bench<A> {
         }
     }
 
-    /// Makes a link, with the lock where it asks for it. There are a place and memory for it.
-    pub fn make_link(&mut self, conn: u8, lock_device: bool) -> Ending
+    /// A link that was made, as it is told.
+    fn told_link(&self, lid: u32) -> VxiResult<'static>
+        requires { lid < 2 ^ 31 }
+        ensures told { plain_result result ≡ Link NoError (pos lid) self.now.config.abort 4096 }
+        ensures short { data_of (plain_result result) ≡ [] }
+    {
+        VxiResult::Link {
+            error: ErrorCode::NoError,
+            lid: lid as i32,
+            abort_port: self.config.abort,
+            max_recv_size: MAX_WRITE as u32,
+        }
+    }
+
+    /// Makes a link. There are a place and memory for it.
+    pub fn make_free(&mut self, conn: u8) -> Ending
+        ensures ends { (config : Configured) (acts : List BenchAct) → IsBench self.old config acts
+            → HasPlace self.old acts
+            → EndsAs result self.new config acts (make_link config conn false acts) }
+        ensures short { IsShortEnding result }
+        ensures waiting { self.new.waiting ≡ self.old.waiting }
+    {
+        let Ok(lid) = self.links.create(conn) else {
+            return Ending::Result(no_link(ErrorCode::OutOfResources));
+        };
+        Ending::Result(self.told_link(lid))
+    }
+
+    /// Makes a link that has the lock, which no link has. There are a place and memory for it.
+    pub fn make_locked(&mut self, conn: u8) -> Ending
+        ensures ends { (config : Configured) (acts : List BenchAct) → IsBench self.old config acts
+            → HasPlace self.old acts → is_locked_out (holder (link_acts acts)) None ≡ false
+            → EndsAs result self.new config acts (make_link config conn true acts) }
+        ensures short { IsShortEnding result }
+        ensures waiting { self.new.waiting ≡ self.old.waiting }
+    {
+        let Ok(lid) = self.links.create(conn) else {
+            return Ending::Result(no_link(ErrorCode::OutOfResources));
+        };
+        let _ = self.links.lock(lid);
+        Ending::Result(self.told_link(lid))
+    }
+
+    /// Makes a link, with the lock where it asks for it.
+    fn make_link(&mut self, conn: u8, lock_device: bool) -> Ending
         ensures ends { (config : Configured) (acts : List BenchAct) → IsBench self.old config acts
             → HasPlace self.old acts
             → (lock_device ≡ true → is_locked_out (holder (link_acts acts)) None ≡ false)
@@ -47,18 +92,10 @@ impl<A: Allocator> Bench<A> {
         ensures short { IsShortEnding result }
         ensures waiting { self.new.waiting ≡ self.old.waiting }
     {
-        let Ok(lid) = self.links.create(conn) else {
-            return Ending::Result(no_link(ErrorCode::OutOfResources));
-        };
         if lock_device {
-            self.links.lock(lid);
+            return self.make_locked(conn);
         }
-        Ending::Result(VxiResult::Link {
-            error: ErrorCode::NoError,
-            lid: lid as i32,
-            abort_port: self.config.abort,
-            max_recv_size: MAX_WRITE as u32,
-        })
+        self.make_free(conn)
     }
 
     /// destroy_link.

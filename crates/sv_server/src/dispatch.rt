@@ -151,7 +151,7 @@ impl Verdict {
 
 /// An answer that ends no other call.
 fn answered(xid: u32, answer: Answer<'static>) -> Verdict
-    ensures { result ≡ Verdict.Answer xid answer None }
+    ensures { result ≡ Verdict.Answer xid answer.entry None }
 {
     Verdict::Answer {
         xid,

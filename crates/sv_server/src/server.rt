@@ -1,11 +1,12 @@
 //! The server: connections, links and the instrument behind them.
 
-ghost use Rattle.std.specs.Prelude.{◌≡◌, ◌<◌, ◌≤◌, ℕ, not, List, [], length, slice_index_or, true, false, if◌then◌else◌, MatchOption, None, is_some, IfOk, OnErr};
+ghost use Rattle.std.specs.Prelude.{◌≡◌, ◌<◌, ◌≤◌, ◌++◌, ℕ, not, List, [], length, slice_index_or, true, false, if◌then◌else◌, MatchOption, Some, None, is_some, IfOk, OnErr};
 ghost use Rattle.sv_server.specs.declared.event.Config.{Config};
 ghost use Rattle.sv_server.specs.Event.{PlainEvent, Open, Bytes, Turn, Took, Close, Input, External, Tick, plain, IsEvent};
-ghost use Rattle.sv_server.specs.Act.{Act, of};
+ghost use Rattle.sv_links.specs.Waiting.{waits};
+ghost use Rattle.sv_server.specs.Act.{Act, of, bench, wait_acts};
 ghost use Rattle.sv_server.specs.Connection.{is_open, waiting_on, room, is_idle, is_faulted};
-ghost use Rattle.sv_server.specs.History.{is_shut, IsLogOf, Answers, history_after};
+ghost use Rattle.sv_server.specs.History.{is_shut, abort_acts, IsLogOf, Answers, history_after};
 ghost use Rattle.sv_server.specs.Asking.{Answered};
 ghost use Rattle.sv_server.specs.KeptConnection.{Connection as KeptConnection, IsConnection};
 ghost use Rattle.sv_server.specs.State.{Represents, StandsFor};
@@ -293,9 +294,20 @@ impl<A: Allocator> Server<A> {
             Turned::Idle => Ok(Did::Idle),
             Turned::Done { aborts: None } => Ok(Did::Done),
             Turned::Done { aborts: Some(other) } => {
-                self.give_up(other, ErrorCode::Abort);
+                self.abort(other);
                 Ok(Did::Done)
             }
+        }
+    }
+
+    /// Ends the call of a connection, which waits, by device_abort.
+    fn abort(&mut self, conn: u8)
+        ensures { (config : Config) (log : List Act) → Represents self.old config log
+            → (waits conn (wait_acts (bench log)) ≡ None → ⊥)
+            → Represents self.new config (abort_acts (Some conn) log ++ log) }
+    {
+        if usize::from(conn) < CONNECTIONS {
+            self.give_up(conn, ErrorCode::Abort);
         }
     }
 

@@ -79,28 +79,31 @@ impl<A: Allocator> Server<A> {
     fn fire(&mut self) -> bool
         ensures steps { (config : Config) (log : List Act) → Represents self.old config log
             → TakesStep (λ config. Happens IsFired) result config log self.old self.new }
+        ensures idle { result ≡ false → self.new ≡ self.old }
         ensures measure { IsTrue result
             → left_of self.new.bench.instrument < left_of self.old.bench.instrument }
         ensures waiting { self.new.bench.waiting ≡ self.old.bench.waiting }
     {
-        self.bench.instrument.fire().is_some()
+        self.bench.fire()
     }
 
     /// A step of message exchange, where one is due.
     fn exchange(&mut self) -> bool
         ensures steps { (config : Config) (log : List Act) → Represents self.old config log
             → TakesStep (λ config. Happens IsStep) result config log self.old self.new }
+        ensures idle { result ≡ false → self.new ≡ self.old }
         ensures measure { IsTrue result
             → left_of self.new.bench.instrument < left_of self.old.bench.instrument }
         ensures waiting { self.new.bench.waiting ≡ self.old.bench.waiting }
     {
-        self.bench.instrument.step().is_some()
+        self.bench.exchange()
     }
 
     /// The oldest call that can go on does, where one can.
     fn go_on_oldest(&mut self) -> bool
         ensures steps { (config : Config) (log : List Act) → Represents self.old config log
             → TakesStep GoesOn result config log self.old self.new }
+        ensures idle { result ≡ false → self.new ≡ self.old }
         ensures measure { IsTrue result
             → rank self.new.bench.waiting < rank self.old.bench.waiting }
     {
@@ -117,6 +120,7 @@ impl<A: Allocator> Server<A> {
     fn give_up_oldest(&mut self) -> bool
         ensures steps { (config : Config) (log : List Act) → Represents self.old config log
             → TakesStep GivesUp result config log self.old self.new }
+        ensures idle { result ≡ false → self.new ≡ self.old }
         ensures measure { IsTrue result
             → rank self.new.bench.waiting < rank self.old.bench.waiting }
     {
@@ -162,11 +166,13 @@ impl<A: Allocator> Server<A> {
         ensures measure { IsTrue result
             → rank self.new.bench.waiting < rank self.old.bench.waiting }
     {
-        let mut last = self.step();
-        while matches!(last, Stepped::Instrument) {
-            last = self.step();
+        loop {
+            match self.step() {
+                Stepped::Instrument => {}
+                Stepped::Call => return true,
+                Stepped::Nothing => return false,
+            }
         }
-        matches!(last, Stepped::Call)
     }
 
     /// Takes the steps that are due, until none is.

@@ -14,8 +14,9 @@ use Rattle.sv_server.specs.declared.turn.Turned.TheVariants.{Idle, Done}
 use Rattle.sv_server.specs.declared.settling.Stepped.{Stepped}
 use Rattle.sv_server.specs.declared.settling.Stepped.TheVariants.{Nothing, Instrument, Call}
 use Rattle.sv_server.specs.Event.{PlainEvent}
-use Rattle.sv_server.specs.Act.{Act, ConnAct, BenchAct, CallTaken, Faulted, Replied, of, bench}
-use Rattle.sv_server.specs.CoreCall.{core_call}
+use Rattle.sv_layers.specs.Act.{Act as InstrumentAct}
+use Rattle.sv_server.specs.Act.{Act, ConnAct, BenchAct, CallTaken, Faulted, Replied, Happened, of, bench, instrument_acts}
+use Rattle.sv_server.specs.CoreCall.{CoreCall, core_call}
 use Rattle.sv_server.specs.Verdict.{Verdict, NoCall, Replies, Stays, aborts_of}
 use Rattle.sv_server.specs.Dispatch.{verdict_of}
 use Rattle.sv_server.specs.Connection.{open_role, next_call, is_idle}
@@ -25,7 +26,7 @@ use Rattle.sv_server.specs.History.{refusal, turn_refusal, own_acts, did, wants_
 use Rattle.sv_server.specs.KeptConnection.{Connection, IsConnection}
 use Rattle.sv_server.specs.KeptBench.{Bench, IsBench}
 use Rattle.sv_server.specs.State.{State, Represents}
-use Rattle.sv_server.specs.Inside.Outcome.{HeldAs, verdict_wants}
+use Rattle.sv_server.specs.Inside.Outcome.{HeldAs, WaitsOn, verdict_wants}
 
 -- An event that isn't refused adds its own acts.
 abbrev pub Acts : Config → PlainEvent → List Act → Result Did Refused → State → Type 0
@@ -41,6 +42,11 @@ Concludes NoCall config acts before connection shared = IsConnection connection 
 Concludes (Replies adds aborts bytes) config acts before connection shared =
     IsConnection connection (Replied bytes ∷ acts) × IsBench shared config (adds ++ before)
 Concludes (Stays adds) config acts before connection shared = IsConnection connection acts × IsBench shared config (adds ++ before)
+
+-- A call that waited went on so.
+abbrev pub GoneOn : Verdict → ℕ → Option CoreCall → Config → List ConnAct → List BenchAct → List Entry → Connection → Bench → Type 0
+GoneOn verdict c call config acts before old connection shared =
+    Concludes verdict config acts before connection shared × WaitsOn verdict c call old shared.waiting
 
 -- A Turn of an open connection takes its next call, where there is one.
 abbrev pub TakesCall : Config → ℕ → List Act → List ℕ → (Verdict → Type 0) → Type 0
@@ -68,6 +74,13 @@ IsInput channel microvolts (Err refused) = Some refused
 abbrev pub TakesStep : (Config → List Act → List Act → Type 0) → Bool → Config → List Act → State → State → Type 0
 TakesStep IsStep true config log old new = (next : List Act) × IsStep config log next × Represents new config next
 TakesStep IsStep false config log old new = ((next : List Act) → IsStep config log next → ⊥) × (new ≡ old)
+
+-- The same of the instrument alone.
+abbrev pub InstrumentSteps : (List InstrumentAct → List InstrumentAct → Type 0) → Bool → Config → List BenchAct → Bench → Bench → Type 0
+InstrumentSteps IsSuch true config acts old new = (adds : List InstrumentAct)
+    × IsSuch (instrument_acts acts) (adds ++ instrument_acts acts) × IsBench new config (map Happened adds ++ acts)
+InstrumentSteps IsSuch false config acts old new =
+    ((next : List InstrumentAct) → IsSuch (instrument_acts acts) next → ⊥) × (new ≡ old)
 
 -- The step that is due is taken, or none is.
 abbrev pub Steps : Stepped → Config → List Act → State → Type 0

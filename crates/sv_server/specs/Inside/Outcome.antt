@@ -1,5 +1,5 @@
 -- What a call that is executed, or a record that is considered, comes to, as the code says it.
-use Rattle.std.specs.Prelude.{◌≡◌, ◌⊎◌, ℕ, ◌≤◌, ◌<◌, List, [], ◌∷◌, ◌++◌, length, map, nat_lt, Bool, true, false, ◌||◌, Option, Some, None, ⊤}
+use Rattle.std.specs.Prelude.{◌≡◌, ◌⊎◌, ℕ, ◌≤◌, ◌<◌, List, [], ◌∷◌, ◌++◌, length, map, nat_lt, Bool, true, false, Option, Some, None, ⊤}
 use Rattle.std.specs.List.{concat}
 use Rattle.sv_xdr.specs.Spelling.{Unsigned, Field, spelling}
 use Rattle.sv_rpc.specs.Reply.{reply_fields}
@@ -62,9 +62,13 @@ HasAtMost most (answers.Result outcome) = length (data_of (plain_result outcome)
 abbrev pub IsShort : Answer → Type 0
 IsShort answer = HasAtMost 8192 answer
 
--- whether acts make a link, or let a create_link wait
-abbrev pub wants : List BenchAct → Bool
-wants adds = nat_lt 0 (made (link_acts adds)) || nat_lt 0 (creating (wait_acts adds))
+-- whether acts make a link
+abbrev pub makes : List BenchAct → Bool
+makes adds = nat_lt 0 (made (link_acts adds))
+
+-- whether acts let a create_link wait
+abbrev pub lets_wait : List BenchAct → Bool
+lets_wait adds = nat_lt 0 (creating (wait_acts adds))
 
 -- The call ends so. What it reads of the response is still to be read.
 abbrev pub EndsAs : Ending → Bench → Config → List BenchAct → Execution → Type 0
@@ -136,15 +140,17 @@ MayGoOn entry call kept acts = (waits entry.conn (wait_acts acts) ≡ None → �
     × (creates_link call ≡ true → (creations (without entry.conn kept.waiting) < creations kept.waiting)
     × (is_locked_out (holder (link_acts acts)) None ≡ false))
 
--- It waits no more; or it waits for something else, and makes no link.
-abbrev pub WaitsOn : ℕ → Option CoreCall → List Entry → List Entry → Type 0
-WaitsOn c call old new = (new ≡ without c old) ⊎ ((wait : Wait) × (deadline : Option ℕ) × (new ≡ map (anew c wait deadline) old)
-    × (creates_link call ≡ false))
+-- It waits no more; or, where it isn't answered, it waits for something else, and makes no link.
+abbrev pub WaitsOn : Verdict → ℕ → Option CoreCall → List Entry → List Entry → Type 0
+WaitsOn NoCall c call old new = new ≡ without c old
+WaitsOn (Replies adds aborts bytes) c call old new = new ≡ without c old
+WaitsOn (Stays adds) c call old new = (new ≡ without c old)
+    ⊎ ((wait : Wait) × (deadline : Option ℕ) × (new ≡ map (anew c wait deadline) old) × (creates_link call ≡ false))
 
 -- whether what a call comes to wants memory
 abbrev pub begun_wants : Begun → Bool
-begun_wants (Does execution) = wants execution.adds
-begun_wants (Waits act) = wants (Waited act ∷ [])
+begun_wants (Does execution) = makes execution.adds
+begun_wants (Waits act) = lets_wait (Waited act ∷ [])
 
 -- The record is answered so.
 abbrev pub ConsideredAs : Considered → Bench → Config → List BenchAct → Verdict → Type 0
@@ -185,8 +191,8 @@ ended_by verdicts.Waits = None
 -- whether what becomes of a record wants memory
 abbrev pub verdict_wants : Verdict → Bool
 verdict_wants NoCall = false
-verdict_wants (Replies adds aborts bytes) = wants adds
-verdict_wants (Stays adds) = wants adds
+verdict_wants (Replies adds aborts bytes) = makes adds
+verdict_wants (Stays adds) = lets_wait adds
 
 -- The ending of a call is its answer.
 abbrev pub IsConcluded : ℕ → Ending → Considered → Type 0

@@ -11,8 +11,8 @@ use Rattle.sv_server.proofs.Turned.{read_is}
 use Rattle.sv_server.proofs.Projections.{bench_happened}
 use Rattle.sv_server.proofs.turn.answer_response.Goals as goal
 
-pub returns : goal.returns
-returns g c = λ config acts before is busy old.
+pub returns-clause-ends : goal.returns-clause-ends
+returns-clause-ends g c = λ config acts before is busy old.
     let shared = rw (← c.shared.view_is) at old in
     let log = instrument_acts before in
     let given = c.peek-read.ensures.answer log shared.1 in

@@ -1,11 +1,12 @@
-use Rattle.sv_links.specs.Links.{closing}
-use Rattle.sv_server.specs.Act.{link_acts}
-use Rattle.sv_server.proofs.Projections.{link_acts-links, instrument_acts-links, ticks-links}
+use Rattle.std.proofs.Common.{◌∷◌}
+use Rattle.sv_links.specs.Waiting.{Left}
+use Rattle.sv_server.specs.Act.{Waited, link_acts, wait_acts}
+use Rattle.sv_server.proofs.Benches.{bench_left, bench_closed}
 use Rattle.sv_server.proofs.bench.Bench.close_connection.Goals as goal
 
-pub returns : goal.returns
-returns g c = λ config acts old.
+pub returns-clause-stands : goal.returns-clause-stands
+returns-clause-stands g c = λ config acts old.
     let is = rw (← c.self.view_is) at old in
-    let gone = closing c.args.conn (link_acts acts) in
-    rw (link_acts-links gone acts, instrument_acts-links gone acts, ticks-links gone acts)
-    (c.close_connection.ensures (link_acts acts) is.0, is.1, is.2, is.3)
+    let left = bench_left _ c.leave.new.self config acts c.args.conn is (c.leave.ensures.stands (wait_acts acts) is.4) c.leave.ensures.value in
+    bench_closed _ c.close_connection.new.self config (Waited (Left c.args.conn) ∷ acts) c.args.conn left
+    (c.close_connection.ensures.stands (link_acts acts) is.0) c.close_connection.ensures.spare

@@ -3,7 +3,7 @@ use Rattle.sv_server.specs.Act.{instrument_acts}
 use Rattle.sv_server.proofs.Projections.{bench_happened}
 use Rattle.sv_server.proofs.bench.Bench.external.Goals as goal
 
-pub returns : goal.returns
-returns g c = λ config acts old.
+pub returns-clause-stands : goal.returns-clause-stands
+returns-clause-stands g c = λ config acts old.
     let is = rw (← c.self.view_is) at old in
     bench_happened _ _ config acts (external_acts (instrument_acts acts)) is (c.external.ensures (instrument_acts acts) is.1).stands

@@ -5,15 +5,16 @@ use Rattle.sv_server.specs.KeptBench.{Bench}
 use Rattle.sv_server.proofs.Projections.{bench_happened}
 use Rattle.sv_server.proofs.bench.Bench.tick.Goals as goal
 
-pub returns : goal.returns
-returns g c = λ config acts old.
+pub returns-clause-stands : goal.returns-clause-stands
+returns-clause-stands g c = λ config acts old.
     let is = rw (← c.self.view_is) at old in
     let later : Bench = record {
       links = c.self.inside.links;
+      waiting = c.self.inside.waiting;
       instrument = c.self.inside.instrument;
       config = c.self.inside.config;
       clock = c.self.inside.clock + 1;
     } in
     let clock : later.clock ≡ config.clock + (ticks acts + 1) = let before = is.3 in omega (arith, before) in
-    bench_happened later _ config (Ticked ∷ acts) (tick_acts (instrument_acts acts)) (is.0, is.1, is.2, clock)
+    bench_happened later _ config (Ticked ∷ acts) (tick_acts (instrument_acts acts)) (is.0, is.1, is.2, clock, is.4, is.5)
     (c.tick.ensures (instrument_acts acts) is.1).stands

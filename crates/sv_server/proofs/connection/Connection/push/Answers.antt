@@ -7,7 +7,8 @@ pub invariant_of-self : goal.invariant_of-self
 invariant_of-self g c = (
   c.self.invariant.0,
   c.self.invariant.1,
-  λ busy. (some_stay _ c.push.ensures.keeps.0 _ c.push.ensures.keeps.1 (c.self.invariant.2 busy).0, (c.self.invariant.2 busy).1),
+  λ busy. let kept = c.self.invariant.2 busy in
+      (kept.0, some_stay _ c.push.ensures.keeps.0 _ c.push.ensures.keeps.1 kept.1, kept.2),
 )
 
 pub returns : goal.returns
@@ -21,5 +22,5 @@ returns g c = λ acts old.
       faulted = is.faulted;
       busy = is.busy;
       call = λ busy. ap (λ (rs : List (List ℕ)). slice_get rs 0) c.push.ensures.keeps.1
-          ∙ first_stays _ c.push.ensures.keeps.0 (c.self.invariant.2 busy).0 ∙ is.call busy;
+          ∙ first_stays _ c.push.ensures.keeps.0 (c.self.invariant.2 busy).1 ∙ is.call busy;
     }

@@ -13,18 +13,18 @@ returns-in_err-did-clause-answers g c = λ config history s. (
   s.is_log,
   subst (λ (r : Result Did Refused). Answers config (plain c.args.event) s.log r)
       (sym (passed_on c.from_residual.result c.in_err-did.field-0.0 c.from_residual.ensures.0 c.from_residual.ensures.1))
-      (answered config (plain c.args.event) s.log (Err c.in_err-did.field-0.0) c.act.new.self
+      (answered config (plain c.args.event) s.log (Err c.in_err-did.field-0.0) c.args.self.now c.act.new.self s.represents
       (c.in_err-did.ensures.acts config s.log s.represents)),
 )
 
 pub returns-clause-answers : goal.returns-clause-answers
 returns-clause-answers g c = λ config history s.
-    (s.log, s.is_log, answered config _ s.log (Ok c.in_ok-did.did) _ (c.in_ok-did.ensures.acts config s.log s.represents))
+    (s.log, s.is_log, answered config _ s.log (Ok c.in_ok-did.did) c.args.self.now _ s.represents
+    (c.in_ok-did.ensures.acts config s.log s.represents))
 
 pub returns-clause-stands : goal.returns-clause-stands
 returns-clause-stands g c = λ config history s.
-    stands_after config history _ c.args.self.now _ c.in_ok-did.did c.settle.new.self s c.act.ensures.within
-    (rw (← c.self.view_is) at c.in_ok-did.ensures.acts) c.settle.ensures
+    stands_after config history _ c.args.self.now _ _ c.in_ok-did.did s c.act.ensures.within c.in_ok-did.ensures.acts c.settle.ensures
 
 pub returns-in_err-did-clause-stands : goal.returns-in_err-did-clause-stands
 returns-in_err-did-clause-stands g c = search rules

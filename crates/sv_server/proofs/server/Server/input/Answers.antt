@@ -12,6 +12,6 @@ returns-in-Ok-clause-acts g c = λ config log rep.
     let state = rw (← c.self.view_is) at rep in
     let known = c.in-Ok.ensures in
     let all : IsBench c.input.new.self config (Happened (Scanned (Input c.args.channel c.args.microvolts)) ∷ bench log) =
-    search (rules, c.input.ensures config (bench log) state.shared) in
+    search (rules, c.input.ensures.stands config (bench log) state.shared) in
     let near : is_beyond c.args.microvolts ≡ false = search (rules, known.2) in
-    (rw (known.1, near) refl, known.0, λ polled said. shared_acts _ config log c.input.new.self (_ ∷ []) state all)
+    (rw (known.1, near) refl, known.0, λ polled said. shared_acts _ config log c.input.new.self (_ ∷ []) state all c.input.ensures.waiting)

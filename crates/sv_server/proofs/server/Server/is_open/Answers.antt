@@ -6,7 +6,7 @@ use Rattle.sv_server.proofs.server.Server.is_open.Goals as goal
 pub returns-in-Some : goal.returns-in-Some
 returns-in-Some g c = λ config log rep.
     open_known _ config log c.args.conn c.is_open.result rep
-    (open_is _ _ c.is_open.result (c.in-Some.ensures config log rep) (sym c.is_open.ensures))
+    (open_is _ _ c.is_open.result (c.in-Some.ensures config log rep) (sym c.is_open.ensures.value))
 
 pub returns-in-None : goal.returns-in-None
 returns-in-None g c = λ config log rep.

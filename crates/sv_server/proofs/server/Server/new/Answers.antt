@@ -1,4 +1,5 @@
-use Rattle.std.proofs.Common.{rules, [], refl, inl, inr}
+use Rattle.std.proofs.Common.{rules, [], refl}
+use Rattle.sv_server.proofs.Standing.{none_due}
 use Rattle.sv_server.proofs.server.Server.new.Goals as goal
 
 pub returns : goal.returns
@@ -8,7 +9,8 @@ returns g c = record {
   represents = record {
     each = λ k other lt. c.in_ok-connections.ensures.1 k other lt;
     beyond = λ k h. refl;
-    shared = c.in_ok-new.ensures;
+    shared = c.in_ok-new.ensures.stands;
+    taken = rw c.in_ok-new.ensures.waiting tt;
   };
-  settled = λ new next. elim next.1 [ inl fired ↦ absurd (let none = fired.0 in cc) | inr step ↦ step.1 ];
+  settled = none_due c.args.config;
 }

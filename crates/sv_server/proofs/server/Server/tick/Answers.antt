@@ -11,5 +11,5 @@ returns-clause-acts g c = λ config log rep.
       rw (sym (c.if-is_at_end.ensures.answer config (bench log) state.shared)) refl,
       refl,
       λ polled said. ticked _ config log c.tick.new.self (map Happened (tick_acts (instrument_acts (bench log)))) state
-          (c.tick.ensures config (bench log) state.shared),
+          (c.tick.ensures.stands config (bench log) state.shared) c.tick.ensures.waiting,
     )

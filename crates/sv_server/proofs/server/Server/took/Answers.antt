@@ -10,7 +10,7 @@ returns-clause-acts g c = λ config log rep.
     let at = rw c.from-2.ensures at c.index_mut-connection.ensures.value in
     let state = rw (← c.self.view_is) at rep in
     let is = connection_of _ config log c.args.conn c.index_mut-connection.result.now state (omega arith) at in
-    let opened = open_is c.index_mut-connection.result.now _ _ is (sym c.is_open.ensures ∙ c.if-not-is_open.false) in
+    let opened = open_is c.index_mut-connection.result.now _ _ is (sym c.is_open.ensures.value ∙ c.if-not-is_open.false) in
     let bytes = c.waiting.ensures.answer _ is in (
       rw (
         shut_is c.args.conn log _ (omega arith) opened,
@@ -19,5 +19,5 @@ returns-clause-acts g c = λ config log rep.
       ) refl,
       refl,
       λ polled said. rw c.from-2.ensures (one_act _ config log c.args.conn c.index_mut-connection.result.now c.took.new.self
-          (BytesTaken c.args.count) state c.self.invariant (omega arith) at (c.took.ensures (of c.args.conn log))),
+          (BytesTaken c.args.count) state c.self.invariant (omega arith) at (c.took.ensures (of c.args.conn log)) (λ call known. known)),
     )

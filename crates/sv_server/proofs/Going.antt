@@ -1,0 +1,179 @@
+-- A call that waits goes on, or is given up, and what stands for that.
+use Rattle.std.proofs.Common.{◌≡◌, ◌≢◌, ℕ, ◌<◌, ◌≤◌, Bool, true, false, eqb, List, [], ◌∷◌, ◌++◌, length, get_or, set, Option, Some, None, refl, sym, ap, subst, ◌∙◌, inl, inr, append_assoc, arith}
+use Rattle.std.specs.Prelude.{is_some, is_none, not, ◌&&◌, option_map, map, IfNone}
+use Rattle.std.specs.List.{AllByRecursion}
+use Rattle.std.proofs.lemmas.Bool.{cases_Bool, eqb-true}
+use Rattle.sv_vxi.specs.declared.error_code.ErrorCode.{ErrorCode}
+use Rattle.sv_links.specs.declared.waiting.Entry.{Entry}
+use Rattle.sv_links.specs.declared.waiting.Wait.{Wait}
+use Rattle.sv_links.specs.declared.waiting.Wait.TheVariants.{Lock, Input, Response, Dial}
+use Rattle.sv_links.specs.Links.{is_locked_out, holder}
+use Rattle.sv_links.specs.Waiting.{WaitAct, waits, link, is_there, is_lock}
+use Rattle.sv_links.specs.Queue.{IsQueue, IsEntry, entry_of, creates, creations, without}
+use Rattle.sv_instrument.specs.Kept.{Kept, StandsFor, Takes}
+use Rattle.sv_layers.specs.Act.{Act as InstrumentAct}
+use Rattle.sv_server.specs.declared.event.Config.{Config}
+use Rattle.sv_server.specs.Act.{Act, ConnAct, BenchAct, Happened, Bench, of, bench, link_acts, wait_acts, instrument_acts}
+use Rattle.sv_server.specs.Connection.{unanswered, is_busy}
+use Rattle.sv_server.specs.CoreCall.{CoreCall, core_call, core_call_in}
+use Rattle.sv_server.specs.Verdict.{Verdict, NoCall, Replies, Stays, verdict_acts}
+use Rattle.sv_server.specs.Resuming.{given_up}
+use Rattle.sv_server.specs.Settling.{CanGoOn, Happens}
+use Rattle.sv_server.specs.KeptConnection.{Connection, IsConnection}
+use Rattle.sv_server.specs.KeptBench.{Bench as KeptBench, IsBench}
+use Rattle.sv_server.specs.State.{State, Represents, IsTaken, creates_link}
+use Rattle.sv_server.specs.Inside.Acting.{Concludes, GoneOn, TakesStep, InstrumentSteps}
+use Rattle.sv_server.specs.Inside.Outcome.{MayGoOn, WaitsOn}
+use Rattle.sv_server.proofs.Projections.{of_shared, bench_shared, bench_happened, resumed_stands}
+use Rattle.sv_server.proofs.Taken.{taken_without, taken_anew, taken_one}
+use Rattle.sv_server.proofs.Logs.{acted, shared_acts}
+
+-- ---- the call of a connection that waits
+
+entry_conn : (c : ℕ) (xs : List Entry) (entry : Entry) → entry_of c xs ≡ Some entry → entry.conn ≡ c
+entry_conn c [] entry e = absurd cc
+entry_conn c (x ∷ xs) entry e = elim (cases_Bool (eqb x.conn c)) [
+  | inl at ↦ let same : Some x ≡ Some entry = rw at at e in ap conn_of (sym same) ∙ eqb-true x.conn c at
+  | inr at ↦ entry_conn c xs entry (rw at at e)
+]
+  where
+    conn_of : Option Entry → ℕ
+    conn_of (Some x) = x.conn
+    conn_of None = 0
+
+entry_there : (c : ℕ) (acts : List WaitAct) (found : Option Entry) → waits c acts ≡ option_map (λ entry. entry.wait) found
+    → (waits c acts ≡ None → ⊥) → (entry : Entry) × (found ≡ Some entry)
+entry_there c acts None all does = absurd (does all)
+entry_there c acts (Some entry) all does = (entry, refl)
+
+pub taken_of : (state : State) (config : Config) (log : List Act) (c : ℕ) → Represents state config log
+    → (waits c (wait_acts (bench log)) ≡ None → ⊥) → (call : List ℕ) × (unanswered (of c log) ≡ Some call)
+taken_of state config log c rep does =
+    let (entry, found) = entry_there c (wait_acts (bench log)) (entry_of c state.bench.waiting) (rep.shared.4.all c) does in
+    let (call, known, makes) = taken_one (IsTaken log) c state.bench.waiting entry rep.taken found in
+    (call, subst (λ (d : ℕ). unanswered (of d log) ≡ Some call) (entry_conn c state.bench.waiting entry found) known)
+
+-- it is on a connection that there may be
+pub within_of : (state : State) (config : Config) (log : List Act) (c : ℕ) → Represents state config log
+    → (waits c (wait_acts (bench log)) ≡ None → ⊥) → 16 ≤ c → ⊥
+within_of state config log c rep does above =
+    let (call, known) = taken_of state config log c rep does in
+    let none : unanswered (of c log) ≡ None = ap unanswered (rep.beyond c above) in
+    let z : Some call ≡ None = sym known ∙ none in cc
+
+-- ---- it is given up
+
+pub gave_up_stands : (state : State) (config : Config) (log : List Act) (c : ℕ) (verdict : Verdict) (kept : Connection) (shared : KeptBench)
+    → Represents state config log → length state.connections ≡ 16 → c < 16
+    → Concludes verdict config (of c log) (bench log) kept shared → shared.waiting ≡ without c state.bench.waiting
+    → Represents (record { connections = set state.connections c kept; bench = shared }) config (verdict_acts c verdict ++ log)
+gave_up_stands state config log c verdict kept shared rep sixteen lt done left =
+    let s = resumed_stands config c log verdict kept shared done in
+    acted state config log (verdict_acts c verdict ++ log) c kept shared rep sixteen lt s.0 s.1 s.2
+    (rw left (taken_without c log (verdict_acts c verdict ++ log) state.bench.waiting s.2 rep.taken))
+
+-- ---- it goes on
+
+went_taken : (c : ℕ) (log : List Act) (call : List ℕ) (verdict : Verdict) (old new : List Entry)
+    → unanswered (of c log) ≡ Some call → ((d : ℕ) → d ≢ c → of d (verdict_acts c verdict ++ log) ≡ of d log)
+    → WaitsOn verdict c (core_call call) old new → AllByRecursion (IsTaken log) old
+    → AllByRecursion (IsTaken (verdict_acts c verdict ++ log)) new
+went_taken c log call NoCall old new known others left taken =
+    rw left (taken_without c log (verdict_acts c NoCall ++ log) old others taken)
+went_taken c log call (Replies adds aborts bytes) old new known others left taken =
+    rw left (taken_without c log (verdict_acts c (Replies adds aborts bytes) ++ log) old others taken)
+went_taken c log call (Stays adds) old new known others (inl left) taken =
+    rw left (taken_without c log (map Bench adds ++ log) old others taken)
+went_taken c log call (Stays adds) old new known others (inr (wait, deadline, is, other)) taken =
+    rw is (taken_anew c wait deadline log (map Bench adds ++ log) old (λ d. of_shared d adds log)
+    (λ its e. let same : call ≡ its = one_call call its (sym known ∙ e) in
+        ap (λ (l : List ℕ). creates_link (core_call l)) (sym same) ∙ other) taken)
+  where
+    one_call : (a b : List ℕ) → Some a ≡ Some b → a ≡ b
+    one_call a b e = cc
+
+pub went_on_stands : (state : State) (config : Config) (log : List Act) (c : ℕ) (call : List ℕ) (verdict : Verdict) (kept : Connection)
+    (shared : KeptBench)
+    → Represents state config log → length state.connections ≡ 16 → c < 16 → unanswered (of c log) ≡ Some call
+    → GoneOn verdict c (core_call call) config (of c log) (bench log) state.bench.waiting kept shared
+    → Represents (record { connections = set state.connections c kept; bench = shared }) config (verdict_acts c verdict ++ log)
+went_on_stands state config log c call verdict kept shared rep sixteen lt known (done, waits) =
+    let s = resumed_stands config c log verdict kept shared done in
+    acted state config log (verdict_acts c verdict ++ log) c kept shared rep sixteen lt s.0 s.1 s.2
+    (went_taken c log call verdict state.bench.waiting shared.waiting known s.2 waits rep.taken)
+
+-- a create_link that can go on finds the lock free
+free_for : (locked : Option ℕ) (can_write can_read : Bool) (wait : Wait) (lid : Option ℕ)
+    → is_there locked can_write can_read lid (Some wait) ≡ true → wait ≡ Lock → lid ≡ None → is_locked_out locked None ≡ false
+free_for None can_write can_read wait lid there w l = refl
+free_for (Some other) can_write can_read Lock None there w l = absurd cc
+free_for (Some other) can_write can_read Lock (Some lid) there w l = absurd cc
+free_for (Some other) can_write can_read Input lid there w l = absurd cc
+free_for (Some other) can_write can_read Response lid there w l = absurd cc
+free_for (Some other) can_write can_read Dial lid there w l = absurd cc
+
+there_as : (locked : Option ℕ) (can_write can_read : Bool) (wait : Wait) (lid named : Option ℕ) (waited : Option Wait)
+    → waited ≡ Some wait → named ≡ lid → is_there locked can_write can_read named waited ≡ true
+    → is_there locked can_write can_read lid (Some wait) ≡ true
+there_as locked can_write can_read wait lid named waited w l there =
+    subst (λ (o : Option ℕ). is_there locked can_write can_read o (Some wait) ≡ true) l
+    (subst (λ (o : Option Wait). is_there locked can_write can_read named o ≡ true) w there)
+
+creates_for : (wait : Wait) (lid : Option ℕ) → (is_lock (Some wait) && is_none lid) ≡ true → (wait ≡ Lock) × (lid ≡ None)
+creates_for Lock None e = (refl, refl)
+creates_for Lock (Some lid) e = absurd cc
+creates_for Input lid e = absurd cc
+creates_for Response lid e = absurd cc
+creates_for Dial lid e = absurd cc
+
+pub may_go_on : (kept : KeptBench) (entry : Entry) (log : List Act) (call : List ℕ)
+    → CanGoOn (bench log) entry.conn → IsEntry (wait_acts (bench log)) entry
+    → (creates entry ≡ true → creations (without entry.conn kept.waiting) < creations kept.waiting)
+    → (creates_link (core_call call) ≡ true → creates entry ≡ true)
+    → MayGoOn entry (core_call call) kept (bench log)
+may_go_on kept entry log call able is fewer makes = (
+  λ none. let z : Some entry.wait ≡ None = sym is.0 ∙ none in cc,
+  λ creates_it.
+      let so = makes creates_it in
+      let (w, l) = creates_for entry.wait entry.lid so in (
+        fewer so,
+        free_for (holder (link_acts (bench log))) _ _ entry.wait entry.lid
+            (there_as (holder (link_acts (bench log))) _ _ entry.wait entry.lid _ _ is.0 is.2 able) w l,
+      ),
+)
+
+-- ---- the instrument does what is due
+
+happens_none : (IsSuch : List InstrumentAct → List InstrumentAct → Type 0) (log : List Act)
+    → ((new : List InstrumentAct) → IsSuch (instrument_acts (bench log)) new → ⊥) → (new : List Act) → Happens IsSuch log new → ⊥
+happens_none IsSuch log none new (adds, such, is) = none (adds ++ instrument_acts (bench log)) such
+
+pub happens_step : (IsSuch : List InstrumentAct → List InstrumentAct → Type 0) (state : State) (shared : KeptBench) (config : Config)
+    (log : List Act) (done : Bool)
+    → Represents state config log → InstrumentSteps IsSuch done config (bench log) state.bench shared
+    → shared.waiting ≡ state.bench.waiting
+    → TakesStep (λ k. Happens IsSuch) done config log state (record state { bench = shared })
+happens_step IsSuch state shared config log false rep (none, same) kept =
+    (happens_none IsSuch log none, ap (λ (b : KeptBench). record state { bench = b }) same)
+happens_step IsSuch state shared config log true rep (adds, such, held) kept =
+    (map Bench (map Happened adds) ++ log, (adds, such, refl), shared_acts state config log shared (map Happened adds) rep held kept)
+
+-- of the bench alone
+pub instrument_steps : (IsSuch : List InstrumentAct → List InstrumentAct → Type 0) (kept : KeptBench) (instrument : Kept)
+    (config : Config) (acts : List BenchAct) (raised : Option ℕ)
+    → IsBench kept config acts → Takes IsSuch instrument raised (instrument_acts acts) → IfNone raised (instrument ≡ kept.instrument)
+    → InstrumentSteps IsSuch (is_some raised) config acts kept (record kept { instrument = instrument })
+instrument_steps IsSuch kept instrument config acts None is none same =
+    (none, ap (λ (k : Kept). record kept { instrument = k }) same)
+instrument_steps IsSuch kept instrument config acts (Some count) is (new, such, ran) same =
+    let adds = ran.raises.acts in (
+      adds,
+      subst (λ (l : List InstrumentAct). IsSuch (instrument_acts acts) l) ran.raises.new_is such,
+      bench_happened kept instrument config acts adds is
+          (subst (λ (l : List InstrumentAct). StandsFor instrument l) ran.raises.new_is ran.stands),
+    )
+
+pub idle_as : (kept : KeptBench) (instrument : Kept) (raised : Option ℕ) → IfNone raised (instrument ≡ kept.instrument)
+    → is_some raised ≡ false → (record kept { instrument = instrument }) ≡ kept
+idle_as kept instrument None same e = ap (λ (k : Kept). record kept { instrument = k }) same
+idle_as kept instrument (Some count) same e = absurd cc

@@ -1,0 +1,12 @@
+use Rattle.std.proofs.Common.{Some}
+use Rattle.sv_server.specs.Act.{wait_acts}
+use Rattle.sv_server.proofs.Benches.{bench_entered}
+use Rattle.sv_server.proofs.bench.Bench.wait.Goals as goal
+
+pub returns-clause-stands : goal.returns-clause-stands
+returns-clause-stands g c = λ config acts old place.
+    let is = rw (← c.self.view_is) at old in
+    rw (← (c.deadline.ensures config acts old))
+    (bench_entered _ c.enter.new.self config acts
+    (record { conn = c.args.conn; lid = c.args.lid; wait = c.args.block.wait; deadline = Some c.deadline.result }) is
+    (c.enter.ensures.stands (wait_acts acts) is.4) c.enter.ensures.value (rw (← c.self.view_is) at place))

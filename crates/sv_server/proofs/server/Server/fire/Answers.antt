@@ -1,0 +1,10 @@
+use Rattle.sv_instrument.specs.Happened.{IsFired}
+use Rattle.sv_server.specs.Act.{bench}
+use Rattle.sv_server.proofs.Going.{happens_step}
+use Rattle.sv_server.proofs.server.Server.fire.Goals as goal
+
+pub returns-clause-steps : goal.returns-clause-steps
+returns-clause-steps g c = λ config log rep.
+    let state = rw (← c.self.view_is) at rep in
+    rw (← c.self.view_is) (happens_step IsFired _ c.fire.new.self config log c.fire.result state
+    (c.fire.ensures.steps config (bench log) state.shared) c.fire.ensures.waiting)

@@ -1,0 +1,32 @@
+use Rattle.std.proofs.Common.{refl, sym, ap, ◌∙◌, ◌≡◌, ◌++◌, Some, None}
+use Rattle.sv_vxi.specs.declared.error_code.ErrorCode.{ErrorCode}
+use Rattle.sv_server.specs.Act.{of, bench}
+use Rattle.sv_server.specs.Connection.{unanswered}
+use Rattle.sv_server.specs.CoreCall.{core_call_in}
+use Rattle.sv_server.specs.Verdict.{verdict_acts}
+use Rattle.sv_server.specs.Resuming.{given_up}
+use Rattle.sv_server.proofs.server.Server.give_up_oldest.Goals as goal
+
+pub returns-in-Some-clause-steps : goal.returns-in-Some-clause-steps
+returns-in-Some-clause-steps g c = λ config log rep.
+    let state = rw (← c.self.view_is) at rep in
+    let entry = c.in-Some.entry in
+    let oldest = c.in-Some.ensures.answer config (bench log) state.shared in
+    let is = c.in-Some.ensures.entry config (bench log) state.shared in (
+      _,
+      (
+        entry.conn,
+        entry.wait,
+        oldest,
+        is.0,
+        ap (λ (e : ErrorCode). verdict_acts entry.conn (given_up e entry.conn (core_call_in (unanswered (of entry.conn log)))) ++ log)
+            c.late.ensures,
+      ),
+      c.give_up.ensures.stands config log rep (λ none. let z : Some entry.wait ≡ None = sym is.0 ∙ none in cc),
+    )
+
+pub returns-in-None-clause-steps : goal.returns-in-None-clause-steps
+returns-in-None-clause-steps g c = λ config log rep.
+    let state = rw (← c.self.view_is) at rep in
+    let none = c.in-None.ensures.answer config (bench log) state.shared in
+    (λ next step. none step.0 step.2.0, refl)
