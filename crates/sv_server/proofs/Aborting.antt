@@ -9,7 +9,7 @@ use Rattle.sv_rpc.specs.Call.{PlainCall}
 use Rattle.sv_rpc.specs.Ports.{port_at}
 use Rattle.sv_rpc.specs.declared.reply.Reply.TheVariants.{Success}
 use Rattle.sv_vxi.specs.Arguments.{Arguments}
-use Rattle.sv_vxi.specs.Results.{result_fields}
+use Rattle.sv_vxi.specs.Results.{Outcome, result_fields}
 use Rattle.sv_server.specs.Reply.{reply_record}
 use Rattle.sv_vxi.specs.Reading.{arguments_at}
 use Rattle.sv_links.specs.Links.{is_this}
@@ -92,3 +92,9 @@ pub record_aborts : (config : Config) (polled c : ℕ) (role : Role) (read : Res
 record_aborts config polled c role (Ok call) acts d e = call_aborts config polled c role call (header_reply role call) acts d e
 record_aborts config polled c role (Err (Version xid)) acts d e = absurd (let z : None ≡ Some d = e in cc)
 record_aborts config polled c role (Err BadHeader) acts d e = absurd (let z : None ≡ Some d = e in cc)
+
+-- what the abort channel answers, and whose call it ends
+pub aborts_as : (xid : ℕ) (lid : Option ℕ) (named : ℤ) (acts : List BenchAct) (aborts : Option ℕ) (outcome : Outcome) → lid ≡ lid_of named
+    → aborts ≡ aborted lid acts → outcome ≡ abort_result lid acts
+    → abort_verdict xid (Some named) acts ≡ Replies [] aborts (reply_record xid Success (result_fields outcome))
+aborts_as xid lid named acts aborts outcome same a o = rw (a, o, same) refl

@@ -1,21 +1,22 @@
 -- What is known of a call by its arguments.
-use Rattle.std.proofs.Common.{◌≡◌, ℕ, ◌<◌, ◌≤◌, Bool, true, false, cond, List, ◌∷◌, Option, Some, None, refl, sym, ap, subst, ◌∙◌, arith}
-use Rattle.std.specs.Prelude.{not, is_none, is_some, ◌&&◌, ℤ, pos, negsuc}
+use Rattle.std.proofs.Common.{◌≡◌, ℕ, ◌<◌, ◌≤◌, Bool, true, false, cond, zero, suc, nat_lt, List, [], ◌∷◌, Option, Some, None, refl, sym, ap, subst, ◌∙◌, arith}
+use Rattle.std.specs.Prelude.{not, is_none, is_some, Result, Ok, Err, OnErr, ◌&&◌, ℤ, pos, negsuc}
 use Rattle.sv_vxi.specs.Arguments.{Arguments, DeviceAbort, CreateLink, DeviceWrite, DeviceRead, DeviceReadstb, DeviceTrigger, DeviceClear, DeviceRemote, DeviceLocal, DeviceLock, DeviceUnlock, DeviceEnableSrq, DeviceDocmd, DestroyLink, CreateIntrChan, DestroyIntrChan}
 use Rattle.sv_links.specs.declared.waiting.Entry.{Entry}
 use Rattle.sv_links.specs.declared.waiting.Wait.{Wait}
 use Rattle.sv_links.specs.declared.waiting.Wait.TheVariants.{Lock, Input, Response, Dial}
-use Rattle.sv_links.specs.Links.{is_locked_out, holder, is_this}
-use Rattle.sv_links.specs.Waiting.{Left, is_lock, waits, link}
+use Rattle.sv_links.specs.Links.{is_locked_out, holder, is_this, lids_left}
+use Rattle.sv_links.specs.Waiting.{Entered, Left, is_lock, waits, link, creating}
 use Rattle.sv_links.specs.Queue.{rank_of, creations, without, IsEntry}
 use Rattle.sv_server.specs.declared.event.Config.{Config}
 use Rattle.sv_server.specs.declared.core_call.Patience.{Patience}
 use Rattle.sv_server.specs.Act.{BenchAct, Waited, link_acts, wait_acts}
 use Rattle.sv_server.specs.CoreCall.{lid_of, number_of, named_by, link_named, lock_patience, is_too_long, is_create_link}
-use Rattle.sv_server.specs.CoreChannel.{owns, names_another}
+use Rattle.sv_server.specs.CoreChannel.{owns, names_another, make_link}
+use Rattle.sv_server.specs.Admission.{Begun, deadline_of, begin_link, blocked, unless_blocked, behind_lock}
 use Rattle.sv_server.specs.AbortChannel.{waits_with}
 use Rattle.sv_server.specs.KeptBench.{Bench, IsBench}
-use Rattle.sv_server.specs.Inside.Outcome.{IsGranted, MayMake}
+use Rattle.sv_server.specs.Inside.Outcome.{IsGranted, MayMake, makes, begun_wants}
 
 -- a call that makes no link wants nothing
 pub granted_other : (arguments : Arguments) (kept : Bench) (acts : List BenchAct) → is_create_link arguments ≡ false
@@ -171,3 +172,69 @@ waits_told c lid entry acts same is =
     subst (λ (d : ℕ). is_this lid entry.lid ≡ (is_some (waits d (wait_acts acts)) && is_this lid (link d (wait_acts acts)))) same
     (ap (λ (l : Option ℕ). is_this lid l) (sym is.2)
     ∙ ap (λ (w : Option Wait). is_some w && is_this lid (link entry.conn (wait_acts acts))) (sym is.0))
+
+-- a create_link that waits is one
+one_creates : (c : ℕ) (d : Option ℕ) → c < 16 → nat_lt 0 (creating (Entered c None Lock d ∷ [])) ≡ true
+one_creates 0 d lt = refl
+one_creates 1 d lt = refl
+one_creates 2 d lt = refl
+one_creates 3 d lt = refl
+one_creates 4 d lt = refl
+one_creates 5 d lt = refl
+one_creates 6 d lt = refl
+one_creates 7 d lt = refl
+one_creates 8 d lt = refl
+one_creates 9 d lt = refl
+one_creates 10 d lt = refl
+one_creates 11 d lt = refl
+one_creates 12 d lt = refl
+one_creates 13 d lt = refl
+one_creates 14 d lt = refl
+one_creates 15 d lt = refl
+one_creates (suc (suc (suc (suc (suc (suc (suc (suc (suc (suc (suc (suc (suc (suc (suc (suc n)))))))))))))))) d lt = absurd (omega (arith, lt))
+
+made_wants : (config : Config) (c : ℕ) (lock_device : Bool) (acts : List BenchAct) → lids_left (link_acts acts) ≡ true
+    → makes (make_link config c lock_device acts).adds ≡ true
+made_wants config c true acts left = rw left refl
+made_wants config c false acts left = rw left refl
+
+if_wants : (b : Bool) (x y : Begun) → begun_wants x ≡ true → begun_wants y ≡ true → begun_wants (cond b x y) ≡ true
+if_wants true x y e f = e
+if_wants false x y e f = f
+
+-- a link that may be made wants memory
+pub begin_wants : (config : Config) (c : ℕ) (timeout : Option ℕ) (acts : List BenchAct) → c < 16 → lids_left (link_acts acts) ≡ true
+    → begun_wants (begin_link config c timeout acts) ≡ true
+begin_wants config c (Some timeout) acts lt left =
+    if_wants (is_locked_out (holder (link_acts acts)) None) _ _ (one_creates c (Some (deadline_of config timeout acts)) lt)
+    (made_wants config c true acts left)
+begin_wants config c None acts lt left = made_wants config c false acts left
+
+pub both_true : (a b : Bool) → (a && b) ≡ true → (a ≡ true) × (b ≡ true)
+both_true true true e = (refl, refl)
+both_true true false e = absurd cc
+both_true false b e = absurd cc
+
+pub on_err : {A E : Type 0} (r : Result A E) (P : Type 0) → P → OnErr r P
+on_err (Ok a) P p = tt
+on_err (Err e) P p = p
+
+-- what makes no link needn't wait for the lock so
+pub behind_other : (config : Config) (polled c : ℕ) (arguments : Arguments) (acts : List BenchAct) → is_create_link arguments ≡ false
+    → unless_blocked config polled c arguments (blocked arguments acts) acts ≡ behind_lock config polled c arguments acts
+behind_other config polled c (DeviceAbort lid) acts e = refl
+behind_other config polled c (CreateLink client_id lock_device lock_timeout device) acts e = absurd cc
+behind_other config polled c (DeviceWrite lid io_timeout lock_timeout flags bytes) acts e = refl
+behind_other config polled c (DeviceRead lid request_size io_timeout lock_timeout flags term_char) acts e = refl
+behind_other config polled c (DeviceReadstb lid flags lock_timeout io_timeout) acts e = refl
+behind_other config polled c (DeviceTrigger lid flags lock_timeout io_timeout) acts e = refl
+behind_other config polled c (DeviceClear lid flags lock_timeout io_timeout) acts e = refl
+behind_other config polled c (DeviceRemote lid flags lock_timeout io_timeout) acts e = refl
+behind_other config polled c (DeviceLocal lid flags lock_timeout io_timeout) acts e = refl
+behind_other config polled c (DeviceLock lid flags lock_timeout) acts e = refl
+behind_other config polled c (DeviceUnlock lid) acts e = refl
+behind_other config polled c (DeviceEnableSrq lid enable handle) acts e = refl
+behind_other config polled c (DeviceDocmd lid flags io_timeout lock_timeout cmd network_order datasize bytes) acts e = refl
+behind_other config polled c (DestroyLink lid) acts e = refl
+behind_other config polled c (CreateIntrChan host_addr host_port prog_num prog_vers prog_family) acts e = refl
+behind_other config polled c DestroyIntrChan acts e = refl

@@ -1,5 +1,5 @@
 -- Steps one after the other, until a call went on or was given up, and until none is due.
-use Rattle.std.proofs.Common.{◌≡◌, List, refl}
+use Rattle.std.proofs.Common.{◌≡◌, false, List, refl}
 use Rattle.std.specs.Prelude.{⊤}
 use Rattle.sv_server.specs.declared.event.Config.{Config}
 use Rattle.sv_server.specs.Act.{Act}
@@ -41,15 +41,15 @@ any_called first mid now IsSo always gone step config log rep =
 -- none is due
 pub any_ended : (first mid now : State) → AnyGone first mid
     → ((config : Config) (log : List Act) → Represents mid config log → IsSettled config log × Represents now config log)
-    → (config : Config) (log : List Act) → Represents first config log → GoesTo config log (λ end. IsSettled config end) now
+    → (config : Config) (log : List Act) → Represents first config log → GoesTo config log (λ end. false ≡ false → IsSettled config end) now
 any_ended first mid now gone none config log rep =
     let (middle, reached, so, held) = gone config log rep in
-    let (still, stands) = none config middle held in (middle, reached, still, stands)
+    let (still, stands) = none config middle held in (middle, reached, (λ e. still), stands)
 
 pub any_settled : (first mid now : State) → AnyGone first mid
-    → ((config : Config) (log : List Act) → Represents mid config log → GoesTo config log (λ end. IsSettled config end) now)
+    → ((config : Config) (log : List Act) → Represents mid config log → GoesTo config log (λ end. false ≡ false → IsSettled config end) now)
     → (config : Config) (log : List Act) → Represents first config log → Settled config log now
 any_settled first mid now gone other config log rep =
     let (middle, reached, so, held) = gone config log rep in
     let (end, goes, none, stands) = other config middle held in
-    (end, goes_settled config log end (goes_then config log middle end reached goes) none, stands)
+    (end, goes_settled config log end (goes_then config log middle end reached goes) (none refl), stands)

@@ -1,7 +1,7 @@
 //! The abort channel (VXI-11 revision 1.0, section B.6).
 
-ghost use Rattle.std.specs.Prelude.{◌≡◌, List, Some};
-ghost use Rattle.sv_vxi.specs.Results.{plain_result};
+ghost use Rattle.std.specs.Prelude.{◌≡◌, List, [], Some};
+ghost use Rattle.sv_vxi.specs.Results.{plain_result, data_of};
 ghost use Rattle.sv_links.specs.Links.{is_this as is_this_link};
 ghost use Rattle.sv_server.specs.declared.event.Config.{Config};
 ghost use Rattle.sv_server.specs.Act.{BenchAct};
@@ -70,8 +70,9 @@ impl<A: Allocator> Bench<A> {
 
     /// The result of device_abort.
     pub fn abort_result(&self, lid: Option<u32>) -> VxiResult<'static>
-        ensures { (config : Config) (acts : List BenchAct) → IsBench self.now config acts
+        ensures answer { (config : Config) (acts : List BenchAct) → IsBench self.now config acts
             → plain_result result ≡ result_of lid acts }
+        ensures short { data_of (plain_result result) ≡ [] }
     {
         if self.owner_of(lid).is_some() {
             plain(ErrorCode::NoError)

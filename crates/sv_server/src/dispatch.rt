@@ -1,16 +1,19 @@
 //! What becomes of a record that was taken: its header is looked at, and then it is a call of the
 //! program that its connection serves.
 
-ghost use Rattle.std.specs.Prelude.{◌≡◌, ◌<◌, ℕ, true, List, Option, Ok, IfOk, OnErr, None};
+ghost use Rattle.std.specs.Prelude.{◌≡◌, ◌<◌, ℕ, true, List, Option, Ok, IfOk, IfSome, OnErr, None};
 ghost use Rattle.sv_rpc.specs.Call.{plain_call, call_at};
 ghost use Rattle.sv_vxi.specs.Arguments.{core_calls, abort_calls, is_one_of};
 ghost use Rattle.sv_vxi.specs.Reading.{plain_arguments, arguments_at};
 ghost use Rattle.sv_server.specs.declared.event.Config.{Config as Configured};
 ghost use Rattle.sv_server.specs.Act.{BenchAct};
 ghost use Rattle.sv_server.specs.CoreCall.{CoreCall, core_call, core_call_of};
-ghost use Rattle.sv_server.specs.Dispatch.{program_of as program_for, version_of as version_for, procedures_of, header_reply as reply_to, verdict_of, call_verdict as verdict_for, procedure_verdict as verdict_by, core_verdict as core_verdict_for, link_aborted as link_aborted_by, abort_verdict as abort_verdict_for};
-ghost use Rattle.sv_server.specs.KeptBench.{IsBench};
-ghost use Rattle.sv_server.specs.Inside.Outcome.{IsBenchAt, ConsideredAs, WaitsAs, IsConcluded, IsShortEnding, IsShortVerdict, ended_by, verdict_wants};
+ghost use Rattle.sv_server.specs.Dispatch.{program_of as program_for, version_of as version_for, procedures_of, header_reply as reply_to, verdict_of, call_verdict as verdict_for, procedure_verdict as verdict_by, core_verdict as core_verdict_for, begun_verdict as begun_verdict_for, link_aborted as link_aborted_by, abort_verdict as abort_verdict_for};
+ghost use Rattle.sv_links.specs.declared.waiting.Entry.{Entry};
+ghost use Rattle.sv_server.specs.Admission.{Begun};
+ghost use Rattle.sv_server.specs.State.{creates_link};
+ghost use Rattle.sv_server.specs.KeptBench.{Bench as KeptBench, IsBench};
+ghost use Rattle.sv_server.specs.Inside.Outcome.{IsBenchAt, BegunAs, Enters, ConsideredAs, WaitsAs, IsConcluded, IsShortEnding, IsShortVerdict, ended_by, verdict_wants};
 
 use crate::bench::{Bench, Ending};
 use crate::core_call::lid_of;
@@ -171,6 +174,21 @@ pub fn execution_verdict(xid: u32, ending: Ending) -> Verdict
     }
 }
 
+/// A call that was begun, as it is answered, unless it waits.
+fn begun_verdict(xid: u32, begun: Option<Ending>) -> Verdict
+    ensures ok { (shared : KeptBench) (config : Configured) (acts : List BenchAct) (what : Begun)
+        → BegunAs begun shared config acts what
+        → ConsideredAs result shared config acts (begun_verdict_for xid what) }
+    ensures short { IfSome begun (λ ending. IsShortEnding ending) → IsShortVerdict result }
+    ensures waits { (conn : ℕ) (call : Option CoreCall) (old new : List Entry)
+        → Enters begun conn (creates_link call) old new → WaitsAs result conn call old new }
+{
+    match begun {
+        Some(ending) => execution_verdict(xid, ending),
+        None => Verdict::Waits,
+    }
+}
+
 /// Begins a call of the core channel.
 fn core_verdict<A: Allocator>(
     shared: &mut Bench<A>,
@@ -193,10 +211,7 @@ fn core_verdict<A: Allocator>(
         ≡ true) }
 {
     match read_args(call.proc, call.args) {
-        Ok(args) => match shared.begin(conn, &args)? {
-            Some(ending) => Ok(execution_verdict(call.xid, ending)),
-            None => Ok(Verdict::Waits),
-        },
+        Ok(args) => Ok(begun_verdict(call.xid, shared.begin(conn, &args)?)),
         Err(_) => Ok(answered(call.xid, Answer::Header(Reply::GarbageArgs))),
     }
 }

@@ -290,13 +290,16 @@ impl<A: Allocator> Server<A> {
         let Some(role) = connection.role() else {
             return Err(Refused::NoConn);
         };
-        match turn(connection, &mut self.bench, conn, role)? {
-            Turned::Idle => Ok(Did::Idle),
-            Turned::Done { aborts: None } => Ok(Did::Done),
-            Turned::Done { aborts: Some(other) } => {
+        match turn(connection, &mut self.bench, conn, role) {
+            Ok(Turned::Idle) => Ok(Did::Idle),
+            Ok(Turned::Done { aborts: None }) => Ok(Did::Done),
+            Ok(Turned::Done {
+                aborts: Some(other),
+            }) => {
                 self.abort(other);
                 Ok(Did::Done)
             }
+            Err(refused) => Err(refused),
         }
     }
 

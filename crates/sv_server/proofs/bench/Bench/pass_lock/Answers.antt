@@ -17,3 +17,7 @@ returns-in-Some-clause-resumes g c = λ config polled acts known waits may.
 pub returns-in-Some-clause-waiting : goal.returns-in-Some-clause-waiting
 returns-in-Some-clause-waiting g c =
     (c.in-Some.block.wait, Some c.deadline.result, rw (← c.self.view_is) c.again.ensures.value, c.in-Some.ensures.other)
+
+pub returns-clause-resumes : goal.returns-clause-resumes
+returns-clause-resumes g c = λ config polled acts known waits may.
+    (sym (c.in_default.ensures.answer config acts known.0), c.leave.ensures.ends config polled acts known may)
