@@ -175,22 +175,22 @@ waits_told c lid entry acts same is =
 
 -- a create_link that waits is one
 one_creates : (c : ℕ) (d : Option ℕ) → c < 16 → nat_lt 0 (creating (Entered c None Lock d ∷ [])) ≡ true
-one_creates 0 d lt = refl
-one_creates 1 d lt = refl
-one_creates 2 d lt = refl
-one_creates 3 d lt = refl
-one_creates 4 d lt = refl
-one_creates 5 d lt = refl
-one_creates 6 d lt = refl
-one_creates 7 d lt = refl
-one_creates 8 d lt = refl
-one_creates 9 d lt = refl
-one_creates 10 d lt = refl
-one_creates 11 d lt = refl
-one_creates 12 d lt = refl
-one_creates 13 d lt = refl
-one_creates 14 d lt = refl
-one_creates 15 d lt = refl
+one_creates zero d lt = refl
+one_creates (suc zero) d lt = refl
+one_creates (suc (suc zero)) d lt = refl
+one_creates (suc (suc (suc zero))) d lt = refl
+one_creates (suc (suc (suc (suc zero)))) d lt = refl
+one_creates (suc (suc (suc (suc (suc zero))))) d lt = refl
+one_creates (suc (suc (suc (suc (suc (suc zero)))))) d lt = refl
+one_creates (suc (suc (suc (suc (suc (suc (suc zero))))))) d lt = refl
+one_creates (suc (suc (suc (suc (suc (suc (suc (suc zero)))))))) d lt = refl
+one_creates (suc (suc (suc (suc (suc (suc (suc (suc (suc zero))))))))) d lt = refl
+one_creates (suc (suc (suc (suc (suc (suc (suc (suc (suc (suc zero)))))))))) d lt = refl
+one_creates (suc (suc (suc (suc (suc (suc (suc (suc (suc (suc (suc zero))))))))))) d lt = refl
+one_creates (suc (suc (suc (suc (suc (suc (suc (suc (suc (suc (suc (suc zero)))))))))))) d lt = refl
+one_creates (suc (suc (suc (suc (suc (suc (suc (suc (suc (suc (suc (suc (suc zero))))))))))))) d lt = refl
+one_creates (suc (suc (suc (suc (suc (suc (suc (suc (suc (suc (suc (suc (suc (suc zero)))))))))))))) d lt = refl
+one_creates (suc (suc (suc (suc (suc (suc (suc (suc (suc (suc (suc (suc (suc (suc (suc zero))))))))))))))) d lt = refl
 one_creates (suc (suc (suc (suc (suc (suc (suc (suc (suc (suc (suc (suc (suc (suc (suc (suc n)))))))))))))))) d lt = absurd (omega (arith, lt))
 
 made_wants : (config : Config) (c : ℕ) (lock_device : Bool) (acts : List BenchAct) → lids_left (link_acts acts) ≡ true

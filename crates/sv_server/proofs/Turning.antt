@@ -110,41 +110,28 @@ idle_of false false found call e = refl
 not_busy : (c : ℕ) (log : List Act) (call : List ℕ) → next_call (of c log) ≡ Some call → is_busy (of c log) ≡ false
 not_busy c log call e = idle_of _ (is_busy (of c log)) _ call e
 
-pub turn_done : (state : State) (config : Config) (log : List Act) (c : ℕ) (kept : Connection) (shared : KeptBench)
-    → Represents state config log → length state.connections ≡ 16 → c < 16 → is_shut c log ≡ false
-    → Turns config c log state.bench.waiting (Ok (Done None)) kept shared
-    → Acts config (Turn c) log (Ok DidSo) (record { connections = set state.connections c kept; bench = shared })
-turn_done state config log c kept shared rep sixteen lt open_now (none, idle, call, (role, opened, next, so)) = (
-  rw open_now none,
-  rw idle refl,
-  λ polled said.
-      let (aborts, done, held) = so polled said in
-      rw (opened, next, aborts) (turned state config log c call (verdict_of config polled c role (call_at call) (bench log)) kept shared rep
-      sixteen lt (not_busy c log call next) done held),
-)
-
--- and ends the call of another connection
+-- where it ends the call of another connection, nothing else is done
 aborted_bench : (c d : ℕ) (call bytes : List ℕ) (verdict : Verdict) (log : List Act) → verdict ≡ Replies [] (Some d) bytes
     → bench ((verdict_acts c verdict ++ On c (CallTaken call) ∷ []) ++ log) ≡ bench log
 aborted_bench c d call bytes verdict log e = rw e refl
 
-pub turn_aborts : (state new : State) (config : Config) (log : List Act) (c d : ℕ) (kept : Connection) (shared : KeptBench)
+pub turn_done : (state new : State) (config : Config) (log : List Act) (c : ℕ) (aborts : Option ℕ) (kept : Connection) (shared : KeptBench)
     → Represents state config log → length state.connections ≡ 16 → c < 16 → is_shut c log ≡ false
-    → Turns config c log state.bench.waiting (Ok (Done (Some d))) kept shared
+    → Turns config c log state.bench.waiting (Ok (Done aborts)) kept shared
     → ((k : Config) (mid : List Act) → Represents (record { connections = set state.connections c kept; bench = shared }) k mid
-    → (waits d (wait_acts (bench mid)) ≡ None → ⊥) → Represents new k (abort_acts (Some d) mid ++ mid))
+    → ((d : ℕ) → aborts ≡ Some d → waits d (wait_acts (bench mid)) ≡ None → ⊥) → Represents new k (abort_acts aborts mid ++ mid))
     → Acts config (Turn c) log (Ok DidSo) new
-turn_aborts state new config log c d kept shared rep sixteen lt open_now (none, idle, call, (role, opened, next, so)) ends = (
+turn_done state new config log c aborts kept shared rep sixteen lt open_now (none, idle, call, (role, opened, next, so)) ends = (
   rw open_now none,
   rw idle refl,
   λ polled said.
       let verdict = verdict_of config polled c role (call_at call) (bench log) in
       let acts = verdict_acts c verdict ++ On c (CallTaken call) ∷ [] in
-      let (aborts, done, held) = so polled said in
-      let (bytes, is, does) = record_aborts config polled c role (call_at call) (bench log) d aborts in
+      let (is, done, held) = so polled said in
       let mid = turned state config log c call verdict kept shared rep sixteen lt (not_busy c log call next) done held in
-      let same = aborted_bench c d call bytes verdict log is in
-      let all = ends config (acts ++ log) mid (subst (λ (b : List BenchAct). waits d (wait_acts b) ≡ None → ⊥) (sym same) does) in
-      rw (opened, next, aborts) (subst (λ (l : List Act). Represents new config l)
-      (sym (append_assoc (abort_acts (Some d) (acts ++ log)) acts log)) all),
+      let waiting = λ (d : ℕ) (e : aborts ≡ Some d).
+          let (bytes, same, does) = record_aborts config polled c role (call_at call) (bench log) d (is ∙ e) in
+          subst (λ (b : List BenchAct). waits d (wait_acts b) ≡ None → ⊥) (sym (aborted_bench c d call bytes verdict log same)) does in
+      let all = ends config (acts ++ log) mid waiting in
+      rw (opened, next, is) (subst (λ (l : List Act). Represents new config l) (sym (append_assoc (abort_acts aborts (acts ++ log)) acts log)) all),
 )

@@ -22,7 +22,7 @@ abbrev pub creates_link : Option CoreCall → Bool
 creates_link (Some call) = is_create_link call.arguments
 creates_link None = false
 
--- A call that waits was taken and isn't answered, and is one that waits for the lock where it makes a link.
+-- A call that waits was taken and isn't answered; a create_link waits for the lock.
 abbrev pub IsTaken : List Act → Entry → Type 0
 IsTaken log entry = (call : List ℕ) × (unanswered (of entry.conn log) ≡ Some call)
     × (creates_link (core_call call) ≡ true → creates entry ≡ true)

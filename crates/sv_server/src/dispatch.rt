@@ -354,6 +354,10 @@ pub fn consider<A: Allocator>(
     match read_call(bytes) {
         Ok(call) => call_verdict(shared, conn, role, &call),
         Err(CallFault::BadHeader) => Ok(Verdict::NoCall),
-        Err(CallFault::Version(xid)) => Ok(answered(xid, Answer::Header(Reply::Mismatch))),
+        Err(CallFault::Version(xid)) => Ok(Verdict::Answer {
+            xid,
+            answer: Answer::Header(Reply::Mismatch),
+            aborts: None,
+        }),
     }
 }

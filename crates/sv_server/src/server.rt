@@ -292,19 +292,28 @@ impl<A: Allocator> Server<A> {
         };
         match turn(connection, &mut self.bench, conn, role) {
             Ok(Turned::Idle) => Ok(Did::Idle),
-            Ok(Turned::Done { aborts: None }) => Ok(Did::Done),
-            Ok(Turned::Done {
-                aborts: Some(other),
-            }) => {
-                self.abort(other);
+            Ok(Turned::Done { aborts }) => {
+                self.abort(aborts);
                 Ok(Did::Done)
             }
             Err(refused) => Err(refused),
         }
     }
 
+    /// Ends the call of a connection, which waits, by device_abort; of none where there is none.
+    fn abort(&mut self, aborts: Option<u8>)
+        ensures { (config : Config) (log : List Act) → Represents self.old config log
+            → ((conn : ℕ) → aborts ≡ Some conn → waits conn (wait_acts (bench log)) ≡ None → ⊥)
+            → Represents self.new config (abort_acts aborts log ++ log) }
+    {
+        match aborts {
+            Some(conn) => self.abort_call(conn),
+            None => {}
+        }
+    }
+
     /// Ends the call of a connection, which waits, by device_abort.
-    fn abort(&mut self, conn: u8)
+    fn abort_call(&mut self, conn: u8)
         ensures { (config : Config) (log : List Act) → Represents self.old config log
             → (waits conn (wait_acts (bench log)) ≡ None → ⊥)
             → Represents self.new config (abort_acts (Some conn) log ++ log) }
@@ -364,7 +373,7 @@ impl<A: Allocator> Server<A> {
 
     /// Does an event, or refuses it; a refused event changes nothing. Of the refusals that hold,
     /// the first in the order of checks is given. `NoMemory` comes only at a Turn whose call makes
-    /// a link, which may be tried again.
+    /// a link, or lets one wait for the lock, which may be tried again.
     pub fn apply(&mut self, event: Event<'_>) -> Result<Did, Refused>
         ensures answers { (config : Config) (history : List PlainEvent)
             → StandsFor self.old config history

@@ -1,4 +1,4 @@
-use Rattle.std.proofs.Common.{◌≡◌, ◌∙◌, sym, ap, subst, Some, None, refl}
+use Rattle.std.proofs.Common.{◌≡◌, ◌∙◌, ◌∷◌, sym, ap, subst, Some, None, refl}
 use Rattle.sv_rpc.specs.declared.reply.Reply.TheVariants.{Success}
 use Rattle.sv_vxi.specs.Results.{Outcome, result_fields}
 use Rattle.sv_server.specs.Act.{Replied, wait_acts}
@@ -23,6 +23,6 @@ returns-clause-concludes g c = λ config acts before is busy old.
     let known = ap core_call_in (sym (c.in-Some.ensures acts is)) ∙ sym c.in-Some-core_call.ensures in
     rw known (
       subst (λ (o : Outcome). IsConnection c.answer.new.self (Replied (reply_record c.in-Some-core_call.call.xid Success (result_fields o)) ∷ acts))
-          c.failure.ensures.result_is (c.answer.ensures acts is busy),
+          c.failure-result.ensures.result_is (c.answer.ensures acts is busy),
       bench_left _ c.leave.new.self config before c.args.conn shared (c.leave.ensures.stands (wait_acts before) shared.4) c.leave.ensures.value,
     )

@@ -1,8 +1,4 @@
-use Rattle.std.proofs.Common.{[], refl}
 use Rattle.sv_server.proofs.dispatch.consider.Goals as goal
 
 pub returns-in-Ok-clause-ok : goal.returns-in-Ok-clause-ok
 returns-in-Ok-clause-ok g c = λ config polled acts known. rw (← c.in-Ok.ensures.exact) (c.call_verdict.ensures.ok config polled acts known)
-
-pub returns-in-Err-Version-clause-ok : goal.returns-in-Err-Version-clause-ok
-returns-in-Err-Version-clause-ok g c = λ config polled acts known. rw (← c.in-Err-Version.ensures.exact, c.answered.ensures) ([], refl, known.0)

@@ -1,4 +1,7 @@
-use Rattle.std.proofs.Common.{rules, ◌≡◌, ◌∙◌, true, false, refl, sym, arith}
+use Rattle.std.proofs.Common.{rules, ◌≡◌, ◌∙◌, ◌+◌, ◌<◌, length, nat_lt, true, false, refl, sym, arith}
+use Rattle.sv_links.specs.Links.{live, lids_left}
+use Rattle.sv_links.specs.Waiting.{creating}
+use Rattle.sv_links.specs.Queue.{creations}
 use Rattle.std.specs.Prelude.{codes}
 use Rattle.std.specs.Str.{bytes_eq}
 use Rattle.std.proofs.lemmas.Bool.{ltb-true}
@@ -23,15 +26,18 @@ pub returns-in_err-reserve-clause-lacks : goal.returns-in_err-reserve-clause-lac
 returns-in_err-reserve-clause-lacks g c = λ config polled acts known.
     let named : bytes_eq c.args.device.now (codes "inst0") ≡ true = search (rules, c.as_slice.ensures, c.ne.ensures, c.if-ne.false) in
     let may : may_make_more acts ≡ true = sym (c.may_make_more.ensures config acts known.0) ∙ c.if-not-may_make_more.false in
-    on_err c.from_residual.result _ (rw (named, may) (begin_wants config c.args.conn c.args.timeout acts c.requires (both_true _ _ may).1))
+    on_err c.from_residual.result _ (rw (named, may) (begin_wants config c.args.conn c.args.timeout acts c.requires
+    (both_true (nat_lt (length (live (link_acts acts)) + creating (wait_acts acts)) 32) (lids_left (link_acts acts)) may).1))
 
 pub returns-clause-ok : goal.returns-clause-ok
 returns-clause-ok g c = λ config polled acts known.
     let is = rw (← c.self.view_is) at known.0 in
     let named : bytes_eq c.args.device.now (codes "inst0") ≡ true = search (rules, c.as_slice.ensures, c.ne.ensures, c.if-ne.false) in
     let may : may_make_more acts ≡ true = sym (c.may_make_more.ensures config acts known.0) ∙ c.if-not-may_make_more.false in
-    let few = ltb-true _ _ (both_true _ _ may).0 in
-    let count = sym (c.creating.ensures.answer (wait_acts acts) is.4) ∙ c.creating.ensures.value in
+    let many = length (live (link_acts acts)) + creating (wait_acts acts) in
+    let few : many < 32 = ltb-true many 32 (both_true (nat_lt many 32) (lids_left (link_acts acts)) may).0 in
+    let count : creating (wait_acts acts) ≡ creations c.self.inside.waiting =
+    sym (c.creating.ensures.answer (wait_acts acts) is.4) ∙ c.creating.ensures.value in
     let more = bench_more _ c.reserve.new.self config acts is (c.reserve.ensures.stands (link_acts acts) is.0) c.reserve.ensures.grows in
     rw (named, may) (c.begin_link.ensures.ok config acts more
     (omega (arith, few, count), omega (arith, c.in_ok-reserve.ensures.room, c.creating.ensures.value)))

@@ -1,6 +1,6 @@
-use Rattle.std.proofs.Common.{arith}
-use Rattle.sv_server.proofs.Going.{within_of}
+use Rattle.std.proofs.Common.{refl}
 use Rattle.sv_server.proofs.server.Server.abort.Goals as goal
 
-pub returns-else-from-lt-CONNECTIONS : goal.returns-else-from-lt-CONNECTIONS
-returns-else-from-lt-CONNECTIONS g c = λ config log rep does. absurd {0} (within_of _ config log c.args.conn rep does (omega arith))
+pub returns-in-Some : goal.returns-in-Some
+returns-in-Some g c = λ config log rep does.
+    rw c.in-Some.is (c.abort_call.ensures config log rep (does c.in-Some.conn c.in-Some.is))
