@@ -1,5 +1,5 @@
 -- A record that ends the call of another connection does nothing else, and that call waits.
-use Rattle.std.proofs.Common.{◌≡◌, ℕ, Bool, true, false, cond, List, [], ◌∷◌, Option, Some, None, refl, sym, ap, ◌∙◌}
+use Rattle.std.proofs.Common.{◌≡◌, ℕ, Bool, true, false, cond, List, [], Option, Some, None, refl, sym, ap, ◌∙◌}
 use Rattle.std.specs.Prelude.{ℤ, is_some, ◌&&◌, Result, Ok, Err}
 use Rattle.sv_xdr.specs.declared.garbage.Garbage.{Garbage}
 use Rattle.sv_rpc.specs.declared.reply.Reply.{Reply}
@@ -22,7 +22,7 @@ use Rattle.sv_server.specs.CoreCall.{lid_of}
 use Rattle.sv_server.specs.Admission.{Begun, Does, Waits, begun}
 use Rattle.sv_server.specs.AbortChannel.{owner_of, waits_with, where_waiting, aborted, abort_result}
 use Rattle.sv_server.specs.PortMapper.{ports_of}
-use Rattle.sv_server.specs.Verdict.{Verdict, NoCall, Replies, Stays, aborts_of}
+use Rattle.sv_server.specs.Verdict.{Verdict, Replies, aborts_of}
 use Rattle.sv_server.specs.Dispatch.{begun_verdict, core_verdict, link_aborted, abort_verdict, port_verdict, procedure_verdict, call_verdict, header_reply, verdict_of}
 
 -- it is a mere reply, and the other call waits

@@ -1,30 +1,28 @@
 -- A call that waits goes on, or is given up, and what stands for that.
-use Rattle.std.proofs.Common.{◌≡◌, ◌≢◌, ℕ, ◌<◌, ◌≤◌, Bool, true, false, eqb, List, [], ◌∷◌, ◌++◌, length, get_or, set, Option, Some, None, refl, sym, ap, subst, ◌∙◌, inl, inr, append_assoc, arith}
-use Rattle.std.specs.Prelude.{is_some, is_none, not, ◌&&◌, option_map, map, IfNone}
+use Rattle.std.proofs.Common.{◌≡◌, ◌≢◌, ℕ, ◌<◌, ◌≤◌, Bool, true, false, eqb, List, [], ◌∷◌, ◌++◌, length, set, Option, Some, None, refl, sym, ap, subst, ◌∙◌, inl, inr}
+use Rattle.std.specs.Prelude.{is_some, is_none, ◌&&◌, option_map, map, IfNone}
 use Rattle.std.specs.List.{AllByRecursion}
 use Rattle.std.proofs.lemmas.Bool.{cases_Bool, eqb-true}
-use Rattle.sv_vxi.specs.declared.error_code.ErrorCode.{ErrorCode}
 use Rattle.sv_links.specs.declared.waiting.Entry.{Entry}
 use Rattle.sv_links.specs.declared.waiting.Wait.{Wait}
 use Rattle.sv_links.specs.declared.waiting.Wait.TheVariants.{Lock, Input, Response, Dial}
 use Rattle.sv_links.specs.Links.{is_locked_out, holder}
-use Rattle.sv_links.specs.Waiting.{WaitAct, waits, link, is_there, is_lock}
-use Rattle.sv_links.specs.Queue.{IsQueue, IsEntry, entry_of, creates, creations, without}
+use Rattle.sv_links.specs.Waiting.{WaitAct, waits, is_there, is_lock}
+use Rattle.sv_links.specs.Queue.{IsEntry, entry_of, creates, creations, without}
 use Rattle.sv_instrument.specs.Kept.{Kept, StandsFor, Takes}
 use Rattle.sv_layers.specs.Act.{Act as InstrumentAct}
 use Rattle.sv_server.specs.declared.event.Config.{Config}
-use Rattle.sv_server.specs.Act.{Act, ConnAct, BenchAct, Happened, Bench, of, bench, link_acts, wait_acts, instrument_acts}
-use Rattle.sv_server.specs.Connection.{unanswered, is_busy}
-use Rattle.sv_server.specs.CoreCall.{CoreCall, core_call, core_call_in}
+use Rattle.sv_server.specs.Act.{Act, BenchAct, Happened, Bench, of, bench, link_acts, wait_acts, instrument_acts}
+use Rattle.sv_server.specs.Connection.{unanswered}
+use Rattle.sv_server.specs.CoreCall.{core_call}
 use Rattle.sv_server.specs.Verdict.{Verdict, NoCall, Replies, Stays, verdict_acts}
-use Rattle.sv_server.specs.Resuming.{given_up}
 use Rattle.sv_server.specs.Settling.{CanGoOn, Happens}
-use Rattle.sv_server.specs.KeptConnection.{Connection, IsConnection}
+use Rattle.sv_server.specs.KeptConnection.{Connection}
 use Rattle.sv_server.specs.KeptBench.{Bench as KeptBench, IsBench}
 use Rattle.sv_server.specs.State.{State, Represents, IsTaken, creates_link}
 use Rattle.sv_server.specs.Inside.Acting.{Concludes, GoneOn, TakesStep, InstrumentSteps}
 use Rattle.sv_server.specs.Inside.Outcome.{MayGoOn, WaitsOn}
-use Rattle.sv_server.proofs.Projections.{of_shared, bench_shared, bench_happened, resumed_stands}
+use Rattle.sv_server.proofs.Projections.{of_shared, bench_happened, resumed_stands}
 use Rattle.sv_server.proofs.Taken.{taken_without, taken_anew, taken_one}
 use Rattle.sv_server.proofs.Logs.{acted, shared_acts}
 
@@ -87,7 +85,7 @@ went_taken c log call (Stays adds) old new known others (inl left) taken =
 went_taken c log call (Stays adds) old new known others (inr (wait, deadline, is, other)) taken =
     rw is (taken_anew c wait deadline log (map Bench adds ++ log) old (λ d. of_shared d adds log)
     (λ its e. let same : call ≡ its = one_call call its (sym known ∙ e) in
-        ap (λ (l : List ℕ). creates_link (core_call l)) (sym same) ∙ other) taken)
+    ap (λ (l : List ℕ). creates_link (core_call l)) (sym same) ∙ other) taken)
   where
     one_call : (a b : List ℕ) → Some a ≡ Some b → a ≡ b
     one_call a b e = cc

@@ -1,5 +1,5 @@
 -- What is known of a call by its arguments.
-use Rattle.std.proofs.Common.{◌≡◌, ℕ, ◌<◌, ◌≤◌, Bool, true, false, cond, zero, suc, nat_lt, List, [], ◌∷◌, Option, Some, None, refl, sym, ap, subst, ◌∙◌, arith}
+use Rattle.std.proofs.Common.{◌≡◌, ℕ, ◌<◌, Bool, true, false, cond, zero, suc, nat_lt, List, [], ◌∷◌, Option, Some, None, refl, sym, ap, subst, ◌∙◌, arith}
 use Rattle.std.specs.Prelude.{not, is_none, is_some, Result, Ok, Err, OnErr, ◌&&◌, ℤ, pos, negsuc}
 use Rattle.sv_vxi.specs.Arguments.{Arguments, DeviceAbort, CreateLink, DeviceWrite, DeviceRead, DeviceReadstb, DeviceTrigger, DeviceClear, DeviceRemote, DeviceLocal, DeviceLock, DeviceUnlock, DeviceEnableSrq, DeviceDocmd, DestroyLink, CreateIntrChan, DestroyIntrChan}
 use Rattle.sv_links.specs.declared.waiting.Entry.{Entry}
@@ -11,7 +11,7 @@ use Rattle.sv_links.specs.Queue.{rank_of, creations, without, IsEntry}
 use Rattle.sv_server.specs.declared.event.Config.{Config}
 use Rattle.sv_server.specs.declared.core_call.Patience.{Patience}
 use Rattle.sv_server.specs.Act.{BenchAct, Waited, link_acts, wait_acts}
-use Rattle.sv_server.specs.CoreCall.{lid_of, number_of, named_by, link_named, lock_patience, is_too_long, is_create_link}
+use Rattle.sv_server.specs.CoreCall.{lid_of, named_by, link_named, lock_patience, is_too_long, is_create_link}
 use Rattle.sv_server.specs.CoreChannel.{owns, names_another, make_link}
 use Rattle.sv_server.specs.Admission.{Begun, deadline_of, begin_link, blocked, unless_blocked, behind_lock}
 use Rattle.sv_server.specs.AbortChannel.{waits_with}

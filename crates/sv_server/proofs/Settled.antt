@@ -5,7 +5,7 @@ use Rattle.sv_server.specs.declared.event.Config.{Config}
 use Rattle.sv_server.specs.Act.{Act}
 use Rattle.sv_server.specs.Settling.{IsSettled, IsNext}
 use Rattle.sv_server.specs.State.{State, Represents}
-use Rattle.sv_server.specs.Inside.Acting.{Reaches, GoesTo, Settled}
+use Rattle.sv_server.specs.Inside.Acting.{GoesTo, Settled}
 use Rattle.sv_server.proofs.Steps.{goes_none, goes_more, goes_then, goes_settled}
 
 -- what some steps made of any log

@@ -1,6 +1,6 @@
 -- What a Turn leaves of the server.
-use Rattle.std.proofs.Common.{◌≡◌, ◌≢◌, ℕ, ◌<◌, Bool, true, false, cond, List, [], ◌∷◌, ◌++◌, length, set, nat_lt, append_assoc, append-nil, Option, Some, None, refl, sym, ap, subst, ◌∙◌}
-use Rattle.std.specs.Prelude.{◌||◌, is_none, map, Result, Ok, Err}
+use Rattle.std.proofs.Common.{◌≡◌, ℕ, ◌<◌, Bool, true, false, cond, List, [], ◌∷◌, ◌++◌, length, set, nat_lt, append_assoc, append-nil, Option, Some, None, refl, sym, ap, subst, ◌∙◌}
+use Rattle.std.specs.Prelude.{◌||◌, is_none, map, Ok, Err}
 use Rattle.sv_rpc.specs.Call.{call_at}
 use Rattle.sv_vxi.specs.declared.error_code.ErrorCode.{ErrorCode}
 use Rattle.sv_links.specs.declared.waiting.Entry.{Entry}
@@ -16,7 +16,7 @@ use Rattle.sv_server.specs.Event.{Turn}
 use Rattle.sv_server.specs.Act.{Act, BenchAct, CallTaken, On, Bench, of, bench, link_acts, wait_acts}
 use Rattle.sv_server.specs.Connection.{is_busy, next_call, unanswered}
 use Rattle.sv_server.specs.CoreCall.{CoreCall, core_call_in}
-use Rattle.sv_server.specs.Verdict.{Verdict, NoCall, Replies, Stays, verdict_acts, aborts_of}
+use Rattle.sv_server.specs.Verdict.{Verdict, NoCall, Replies, Stays, verdict_acts}
 use Rattle.sv_server.specs.Resuming.{given_up}
 use Rattle.sv_server.specs.Dispatch.{verdict_of}
 use Rattle.sv_server.specs.History.{is_shut, abort_acts, taken_acts, turn_acts, wants_memory}
@@ -27,8 +27,7 @@ use Rattle.sv_server.specs.Inside.Acting.{Acts, Turns}
 use Rattle.sv_server.specs.Inside.Outcome.{verdict_wants}
 use Rattle.sv_server.proofs.Projections.{bench_shared}
 use Rattle.sv_server.proofs.Logs.{acted, turned}
-use Rattle.sv_server.proofs.Taken.{taken_acted}
-use Rattle.sv_server.proofs.Aborting.{Aborts, record_aborts}
+use Rattle.sv_server.proofs.Aborting.{record_aborts}
 
 -- ---- a Turn that is refused
 
@@ -130,8 +129,8 @@ turn_done state new config log c aborts kept shared rep sixteen lt open_now (non
       let (is, done, held) = so polled said in
       let mid = turned state config log c call verdict kept shared rep sixteen lt (not_busy c log call next) done held in
       let waiting = λ (d : ℕ) (e : aborts ≡ Some d).
-          let (bytes, same, does) = record_aborts config polled c role (call_at call) (bench log) d (is ∙ e) in
-          subst (λ (b : List BenchAct). waits d (wait_acts b) ≡ None → ⊥) (sym (aborted_bench c d call bytes verdict log same)) does in
+      let (bytes, same, does) = record_aborts config polled c role (call_at call) (bench log) d (is ∙ e) in
+      subst (λ (b : List BenchAct). waits d (wait_acts b) ≡ None → ⊥) (sym (aborted_bench c d call bytes verdict log same)) does in
       let all = ends config (acts ++ log) mid waiting in
       rw (opened, next, is) (subst (λ (l : List Act). Represents new config l) (sym (append_assoc (abort_acts aborts (acts ++ log)) acts log)) all),
 )

@@ -1,10 +1,10 @@
 -- What stands in front of a call of the core channel (VXI-11 revision 1.0, sections B.4.4 and B.6): its link, the lock, and what it waits
 -- for.
-use Rattle.std.specs.Prelude.{ℕ, ◌+◌, not, pos, Bool, true, false, List, length, Option, Some, None, codes, nat_lt, is_some, ◌&&◌, if◌then◌else◌}
+use Rattle.std.specs.Prelude.{ℕ, ◌+◌, not, pos, Bool, true, false, List, length, Option, Some, None, codes, nat_lt, ◌&&◌, if◌then◌else◌}
 use Rattle.std.specs.Str.{bytes_eq}
 use Rattle.sv_vxi.specs.declared.error_code.ErrorCode.TheVariants.{NotAccessible, InvalidLink, OutOfResources}
 use Rattle.sv_vxi.specs.declared.error_code.ErrorCode.TheVariants.{Locked as DeviceLocked}
-use Rattle.sv_vxi.specs.Arguments.{Arguments, DeviceAbort, CreateLink, DeviceWrite, DeviceRead, DeviceReadstb, DeviceTrigger, DeviceClear, DeviceRemote, DeviceLocal, DeviceLock, DeviceUnlock, DeviceEnableSrq, DeviceDocmd, DestroyLink, CreateIntrChan, DestroyIntrChan}
+use Rattle.sv_vxi.specs.Arguments.{Arguments, CreateLink, DeviceWrite, DeviceRead}
 use Rattle.sv_vxi.specs.Results.{Link}
 use Rattle.sv_links.specs.declared.waiting.Wait.{Wait}
 use Rattle.sv_links.specs.declared.waiting.Wait.TheVariants.{Lock, Input, Response}

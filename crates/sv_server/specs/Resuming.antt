@@ -1,5 +1,5 @@
 -- What becomes of a call that waited: it goes on, or it is given up.
-use Rattle.std.specs.Prelude.{ℕ, List, [], ◌∷◌, ◌++◌, Option, Some, None, if◌then◌else◌}
+use Rattle.std.specs.Prelude.{ℕ, List, [], ◌∷◌, ◌++◌, Option, Some, None}
 use Rattle.sv_rpc.specs.declared.reply.Reply.TheVariants.{Success}
 use Rattle.sv_vxi.specs.declared.error_code.ErrorCode.{ErrorCode}
 use Rattle.sv_vxi.specs.declared.error_code.ErrorCode.TheVariants.{IoTimeout}
@@ -8,7 +8,7 @@ use Rattle.sv_vxi.specs.Arguments.{Arguments}
 use Rattle.sv_vxi.specs.Results.{result_fields}
 use Rattle.sv_links.specs.declared.waiting.Wait.{Wait}
 use Rattle.sv_links.specs.declared.waiting.Wait.TheVariants.{Lock, Input, Response, Dial}
-use Rattle.sv_links.specs.Waiting.{WaitAct, Again, Left}
+use Rattle.sv_links.specs.Waiting.{Again, Left}
 use Rattle.sv_server.specs.declared.event.Config.{Config}
 use Rattle.sv_server.specs.Act.{BenchAct, Waited}
 use Rattle.sv_server.specs.Reply.{reply_record}

@@ -1,5 +1,5 @@
 -- What becomes of a record that was taken, or of a call that waited.
-use Rattle.std.specs.Prelude.{ℕ, List, [], ◌∷◌, map, ◌++◌, Option, Some, None}
+use Rattle.std.specs.Prelude.{ℕ, List, [], ◌∷◌, map, Option, None}
 use Rattle.sv_rpc.specs.declared.reply.Reply.{Reply}
 use Rattle.sv_rpc.specs.declared.reply.Reply.TheVariants.{Success}
 use Rattle.sv_vxi.specs.Results.{result_fields}

@@ -52,7 +52,11 @@ impl<A: Allocator> Bench<A> {
             → result ≡ where_waiting_with (Some conn) lid acts }
     {
         match lid {
-            Some(lid) => if self.waits_with(conn, lid) { Some(conn) } else { None },
+            Some(lid) => if self.waits_with(conn, lid) {
+                Some(conn)
+            } else {
+                None
+            },
             None => None,
         }
     }

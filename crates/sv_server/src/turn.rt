@@ -63,7 +63,11 @@ pub fn turn<A: Allocator>(
 }
 
 /// Ends the record that was taken: by its answer, or as one that is no call.
-pub fn conclude<A: Allocator>(verdict: Verdict, connection: &mut Connection<A>, shared: &mut Bench<A>)
+pub fn conclude<A: Allocator>(
+    verdict: Verdict,
+    connection: &mut Connection<A>,
+    shared: &mut Bench<A>,
+)
     requires { IsShortVerdict verdict }
     ensures ends { (config : Config) (acts : List ConnAct) (before : List BenchAct) (said : VerdictData)
         → IsConnection connection.old acts → is_busy acts ≡ true

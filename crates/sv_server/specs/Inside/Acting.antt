@@ -1,5 +1,5 @@
 -- What a private function that does an event leaves.
-use Rattle.std.specs.Prelude.{◌≡◌, ◌≢◌, ℕ, ℤ, not, true, Bool, false, List, ◌∷◌, ◌++◌, map, Some, None, Result, Ok, Err, if◌then◌else◌, Option}
+use Rattle.std.specs.Prelude.{◌≡◌, ℕ, ℤ, not, true, Bool, false, List, ◌∷◌, ◌++◌, map, Some, None, Result, Ok, Err, if◌then◌else◌, Option}
 use Rattle.sv_errors.specs.Limits.{is_channel}
 use Rattle.sv_rpc.specs.Call.{call_at}
 use Rattle.sv_links.specs.declared.waiting.Entry.{Entry}

@@ -1,4 +1,4 @@
-use Rattle.std.proofs.Common.{◌≡◌, ◌∙◌, ◌∷◌, sym, ap, subst, Some, None, refl}
+use Rattle.std.proofs.Common.{◌≡◌, ◌∙◌, ◌∷◌, sym, ap, subst, None}
 use Rattle.sv_rpc.specs.declared.reply.Reply.TheVariants.{Success}
 use Rattle.sv_vxi.specs.Results.{Outcome, result_fields}
 use Rattle.sv_server.specs.Act.{Replied, wait_acts}
@@ -14,8 +14,11 @@ pub returns-in_default-core_call-clause-concludes :
 returns-in_default-core_call-clause-concludes g c = λ config acts before is busy old.
     let shared = rw (← c.shared.view_is) at old in
     let known : core_call_in (unanswered acts) ≡ None = ap core_call_in (sym (c.in-Some.ensures acts is)) ∙ sym c.in_default-core_call.ensures in
-    rw known (is, bench_left _ c.leave.new.self config before c.args.conn shared (c.leave.ensures.stands (wait_acts before) shared.4)
-    c.leave.ensures.value)
+    rw known (
+      is,
+      bench_left _ c.leave.new.self config before c.args.conn shared (c.leave.ensures.stands (wait_acts before) shared.4)
+          c.leave.ensures.value,
+    )
 
 pub returns-clause-concludes : goal.returns-clause-concludes
 returns-clause-concludes g c = λ config acts before is busy old.

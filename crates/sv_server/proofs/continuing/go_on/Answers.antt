@@ -1,4 +1,4 @@
-use Rattle.std.proofs.Common.{◌≡◌, ◌∙◌, ◌∷◌, sym, ap, Some, None, refl, inl, inr}
+use Rattle.std.proofs.Common.{◌≡◌, ◌∙◌, ◌∷◌, sym, ap, None, inl, inr}
 use Rattle.sv_vxi.specs.Reading.{plain_arguments}
 use Rattle.sv_links.specs.Waiting.{Left}
 use Rattle.sv_server.specs.Act.{Waited, wait_acts}
@@ -16,8 +16,11 @@ returns-in_default-core_call-clause-concludes g c = λ config polled acts before
     let shared = rw (← c.shared.view_is) at at.0 in
     let known : core_call_in (unanswered acts) ≡ None = ap core_call_in (sym (c.in-Some.ensures acts is)) ∙ sym c.in_default-core_call.ensures in
     rw known (
-      (is, bench_left _ c.leave-in_default-core_call.new.self config before c.args.entry.conn shared
-          (c.leave-in_default-core_call.ensures.stands (wait_acts before) shared.4) c.leave-in_default-core_call.ensures.value),
+      (
+        is,
+        bench_left _ c.leave-in_default-core_call.new.self config before c.args.entry.conn shared
+            (c.leave-in_default-core_call.ensures.stands (wait_acts before) shared.4) c.leave-in_default-core_call.ensures.value,
+      ),
       inl (rw (← c.shared.view_is) c.leave-in_default-core_call.ensures.value),
     )
 

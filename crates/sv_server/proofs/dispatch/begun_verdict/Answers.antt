@@ -1,8 +1,6 @@
-use Rattle.std.proofs.Common.{◌∷◌, [], ap, sym, subst}
+use Rattle.std.proofs.Common.{◌∷◌, [], ap}
 use Rattle.sv_server.specs.Act.{Waited}
-use Rattle.sv_server.specs.Admission.{Begun}
 use Rattle.sv_server.specs.Dispatch.{begun_verdict}
-use Rattle.sv_server.specs.Inside.Outcome.{ConsideredAs}
 use Rattle.sv_server.proofs.Calls.{concluded_as}
 use Rattle.sv_server.proofs.dispatch.begun_verdict.Goals as goal
 

@@ -31,10 +31,10 @@ returns-clause-acts g c = λ config log mine all.
         sym mine.role ∙ c.requires.open,
         next,
         λ polled said. let considered = c.in-Ok.ensures.ok config polled (bench log) (all, said) in (
-            ended_as _ _ config (bench log) _ considered ∙ sym c.aborts-aborts.ensures,
-            c.conclude.ensures.ends config _ _ _ (c.take_call.ensures _ _ mine next) refl considered,
-            rw c.conclude.ensures.waiting (held_as _ _ config (bench log) _ c.args.conn _ _ _ considered c.in-Ok.ensures.waits),
-          ),
+          ended_as _ _ config (bench log) _ considered ∙ sym c.aborts-aborts.ensures,
+          c.conclude.ensures.ends config _ _ _ (c.take_call.ensures _ _ mine next) refl considered,
+          rw c.conclude.ensures.waiting (held_as _ _ config (bench log) _ c.args.conn _ _ _ considered c.in-Ok.ensures.waits),
+        ),
       ),
     )
 

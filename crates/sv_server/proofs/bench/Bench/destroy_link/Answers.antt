@@ -6,5 +6,8 @@ use Rattle.sv_server.proofs.bench.Bench.destroy_link.Goals as goal
 pub returns-clause-ends : goal.returns-clause-ends
 returns-clause-ends g c = λ config acts old.
     let is = rw (← c.self.view_is) at old in
-    rw c.in-Some.is (sym c.plain-2.ensures, bench_destroyed _ c.destroy.new.self config acts c.in-Some.lid is
-    (c.destroy.ensures.stands (link_acts acts) is.0) c.destroy.ensures.spare)
+    rw c.in-Some.is (
+      sym c.plain-2.ensures,
+      bench_destroyed _ c.destroy.new.self config acts c.in-Some.lid is
+          (c.destroy.ensures.stands (link_acts acts) is.0) c.destroy.ensures.spare,
+    )

@@ -1,7 +1,6 @@
 use Rattle.std.proofs.Common.{refl, sym, ◌≡◌, false, true, ap, ◌∙◌}
-use Rattle.std.specs.Prelude.{is_none, ◌&&◌}
+use Rattle.std.specs.Prelude.{is_none}
 use Rattle.sv_vxi.specs.Reading.{plain_arguments}
-use Rattle.sv_server.specs.CoreCall.{named_by}
 use Rattle.sv_server.proofs.Turned.{flipped, unflipped}
 use Rattle.sv_server.proofs.Granted.{named_known}
 use Rattle.sv_server.proofs.bench.Bench.locked_out.Goals as goal

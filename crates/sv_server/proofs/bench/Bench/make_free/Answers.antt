@@ -1,7 +1,3 @@
-use Rattle.std.proofs.Common.{◌≡◌}
-use Rattle.std.specs.Prelude.{Result, Ok, Err, ℕ}
-use Rattle.sv_links.specs.declared.links.CreateRefused.{CreateRefused}
-use Rattle.sv_links.specs.declared.links.CreateRefused.TheVariants.{OutOfResources}
 use Rattle.sv_server.specs.Act.{link_acts}
 use Rattle.sv_server.proofs.Benches.{lids_there, made_ends, not_refused}
 use Rattle.sv_server.proofs.bench.Bench.make_free.Goals as goal

@@ -1,4 +1,4 @@
-use Rattle.std.proofs.Common.{◌≡◌, ◌∙◌, ap, ◌∷◌}
+use Rattle.std.proofs.Common.{◌∙◌, ap, ◌∷◌}
 use Rattle.std.specs.Prelude.{not}
 use Rattle.sv_links.specs.Links.{Made, holder}
 use Rattle.sv_server.specs.Act.{link_acts}

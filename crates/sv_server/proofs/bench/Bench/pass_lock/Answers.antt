@@ -1,4 +1,4 @@
-use Rattle.std.proofs.Common.{sym, refl, Some}
+use Rattle.std.proofs.Common.{sym, Some}
 use Rattle.sv_server.specs.Act.{wait_acts}
 use Rattle.sv_server.proofs.Benches.{bench_again}
 use Rattle.sv_server.proofs.Granted.{rank_other}

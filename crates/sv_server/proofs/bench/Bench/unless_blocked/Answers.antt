@@ -1,4 +1,4 @@
-use Rattle.std.proofs.Common.{refl, sym}
+use Rattle.std.proofs.Common.{refl}
 use Rattle.std.specs.Prelude.{is_none}
 use Rattle.sv_vxi.specs.Reading.{plain_arguments}
 use Rattle.sv_server.proofs.Granted.{granted_other, not_lock}

@@ -1,4 +1,3 @@
-use Rattle.std.proofs.Common.{refl}
 use Rattle.sv_server.proofs.server.Server.abort.Goals as goal
 
 pub returns-in-Some : goal.returns-in-Some

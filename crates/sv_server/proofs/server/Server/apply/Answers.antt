@@ -18,9 +18,12 @@ returns-in_err-did-clause-answers g c = λ config history s. (
 )
 
 pub returns-clause-answers : goal.returns-clause-answers
-returns-clause-answers g c = λ config history s.
-    (s.log, s.is_log, answered config _ s.log (Ok c.in_ok-did.did) c.args.self.now _ s.represents
-    (c.in_ok-did.ensures.acts config s.log s.represents))
+returns-clause-answers g c = λ config history s. (
+  s.log,
+  s.is_log,
+  answered config _ s.log (Ok c.in_ok-did.did) c.args.self.now _ s.represents
+      (c.in_ok-did.ensures.acts config s.log s.represents),
+)
 
 pub returns-clause-stands : goal.returns-clause-stands
 returns-clause-stands g c = λ config history s.

@@ -5,6 +5,9 @@ use Rattle.sv_server.proofs.server.Server.external.Goals as goal
 
 pub returns-clause-acts : goal.returns-clause-acts
 returns-clause-acts g c = λ config log rep.
-    let state = rw (← c.self.view_is) at rep in
-    (refl, refl, λ polled said. shared_acts _ config log c.external.new.self _ state
-    (c.external.ensures.stands config (bench log) state.shared) c.external.ensures.waiting)
+    let state = rw (← c.self.view_is) at rep in (
+      refl,
+      refl,
+      λ polled said. shared_acts _ config log c.external.new.self _ state
+          (c.external.ensures.stands config (bench log) state.shared) c.external.ensures.waiting,
+    )

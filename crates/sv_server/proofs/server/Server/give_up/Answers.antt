@@ -1,4 +1,4 @@
-use Rattle.std.proofs.Common.{ap, sym, arith}
+use Rattle.std.proofs.Common.{ap}
 use Rattle.std.specs.Prelude.{is_some}
 use Rattle.sv_server.specs.Act.{of, bench}
 use Rattle.sv_server.proofs.Logs.{connection_of}

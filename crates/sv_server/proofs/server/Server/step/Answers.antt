@@ -1,4 +1,4 @@
-use Rattle.std.proofs.Common.{◌≡◌, ◌∙◌, refl, sym, ap, subst, inl, inr}
+use Rattle.std.proofs.Common.{◌∙◌, refl, sym, ap, subst, inl, inr}
 use Rattle.sv_server.specs.State.{State, Represents}
 use Rattle.sv_server.proofs.Steps.{none_next}
 use Rattle.sv_server.proofs.server.Server.step.Goals as goal
