@@ -141,7 +141,8 @@ lids_there acts may = left_there (nat_lt (length (live acts)) 32) (lids_left act
 pub told_as : (config : Config) (kept : Bench) (told : Outcome) (lid n : ℕ) → kept.config ≡ config → lid ≡ n
     → told ≡ Link NoError (pos lid) kept.config.abort 4096 → Link NoError (pos n) config.abort 4096 ≡ told
 told_as config kept told lid n set_up number is =
-    ap (λ (k : ℕ). Link NoError (pos k) config.abort 4096) (sym number) ∙ ap (λ (k : Config). Link NoError (pos lid) k.abort 4096) (sym set_up)
+    ap (λ (k : ℕ). Link NoError (pos k) config.abort 4096) (sym number) ∙ ap (λ (k : Config). Link NoError (pos lid) k.abort 4096)
+    (sym set_up)
     ∙ sym is
 
 pub made_ends : (kept : Bench) (links : Table) (config : Config) (acts : List BenchAct) (c lid : ℕ) (told : Outcome)

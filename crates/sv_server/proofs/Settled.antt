@@ -16,7 +16,8 @@ pub any_none : (first : State) → AnyGone first first
 any_none first = λ config log rep. (log, goes_none config log, tt, rep)
 
 pub any_step : (first mid now : State) → AnyGone first mid
-    → ((config : Config) (log : List Act) → Represents mid config log → (next : List Act) × IsNext config log next × Represents now config next)
+    → ((config : Config)
+    (log : List Act) → Represents mid config log → (next : List Act) × IsNext config log next × Represents now config next)
     → AnyGone first now
 any_step first mid now gone step = λ config log rep.
     let (middle, reached, so, held) = gone config log rep in
@@ -33,7 +34,8 @@ any_more first mid now IsSo gone other = λ config log rep.
 -- a step, and then whatever is said of nothing
 pub any_called : (first mid now : State) (IsSo : Config → List Act → Type 0) → ((config : Config) (log : List Act) → IsSo config log)
     → AnyGone first mid
-    → ((config : Config) (log : List Act) → Represents mid config log → (next : List Act) × IsNext config log next × Represents now config next)
+    → ((config : Config)
+    (log : List Act) → Represents mid config log → (next : List Act) × IsNext config log next × Represents now config next)
     → (config : Config) (log : List Act) → Represents first config log → GoesTo config log (IsSo config) now
 any_called first mid now IsSo always gone step config log rep =
     let (next, goes, so, stands) = any_step first mid now gone step config log rep in (next, goes, always config next, stands)

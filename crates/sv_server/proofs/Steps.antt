@@ -25,7 +25,8 @@ use Rattle.sv_server.specs.KeptBench.{IsBench, Bench as KeptBench}
 -- what a poll would give
 pub polled_now : (kept : KeptBench) (config : Config) (acts : List BenchAct) → IsBench kept config acts
     → (polled : ℕ) × IsPolled polled acts
-polled_now kept config acts (links, stands, set_up, clock, waiting, reserved) = polled_byte kept.instrument.layers (instrument_acts acts) stands.layers
+polled_now kept config acts (links, stands, set_up, clock, waiting, reserved) = polled_byte kept.instrument.layers
+    (instrument_acts acts) stands.layers
 
 -- ---- one step is due at most
 

@@ -57,7 +57,8 @@ taken_wants : (c : ℕ) (call : List ℕ) (verdict : Verdict) (log : List Act) �
     → wants_memory (taken_acts c call verdict log) ≡ true
 taken_wants c call NoCall log e = absurd cc
 taken_wants c call (Replies adds aborts bytes) log e =
-    or_left _ _ (ap (nat_lt 0) (made_aborting aborts _ _ ∙ ap (λ (acts : List BenchAct). made (link_acts acts)) (taken_bench adds c call)) ∙ e)
+    or_left _ _ (ap (nat_lt 0)
+    (made_aborting aborts _ _ ∙ ap (λ (acts : List BenchAct). made (link_acts acts)) (taken_bench adds c call)) ∙ e)
 taken_wants c call (Stays adds) log e =
     or_right _ _ (ap (λ (acts : List BenchAct). nat_lt 0 (creating (wait_acts acts))) (taken_bench adds c call) ∙ e)
 
@@ -132,5 +133,6 @@ turn_done state new config log c aborts kept shared rep sixteen lt open_now (non
       let (bytes, same, does) = record_aborts config polled c role (call_at call) (bench log) d (is ∙ e) in
       subst (λ (b : List BenchAct). waits d (wait_acts b) ≡ None → ⊥) (sym (aborted_bench c d call bytes verdict log same)) does in
       let all = ends config (acts ++ log) mid waiting in
-      rw (opened, next, is) (subst (λ (l : List Act). Represents new config l) (sym (append_assoc (abort_acts aborts (acts ++ log)) acts log)) all),
+      rw (opened, next, is)
+      (subst (λ (l : List Act). Represents new config l) (sym (append_assoc (abort_acts aborts (acts ++ log)) acts log)) all),
 )

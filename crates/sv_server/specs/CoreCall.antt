@@ -48,8 +48,6 @@ patience_by flags timeout = Some (record { waits = bit_at flags 0 == 1; timeout 
 
 -- of the calls that go on only while no other link holds the lock
 abbrev pub lock_patience : Arguments → Option Patience
-lock_patience (DeviceAbort lid) = None
-lock_patience (CreateLink client_id lock_device lock_timeout device) = None
 lock_patience (DeviceWrite lid io_timeout lock_timeout flags bytes) = patience_by flags lock_timeout
 lock_patience (DeviceRead lid request_size io_timeout lock_timeout flags term_char) = patience_by flags lock_timeout
 lock_patience (DeviceReadstb lid flags lock_timeout io_timeout) = patience_by flags lock_timeout
@@ -58,12 +56,8 @@ lock_patience (DeviceClear lid flags lock_timeout io_timeout) = patience_by flag
 lock_patience (DeviceRemote lid flags lock_timeout io_timeout) = patience_by flags lock_timeout
 lock_patience (DeviceLocal lid flags lock_timeout io_timeout) = patience_by flags lock_timeout
 lock_patience (DeviceLock lid flags lock_timeout) = patience_by flags lock_timeout
-lock_patience (DeviceUnlock lid) = None
-lock_patience (DeviceEnableSrq lid enable handle) = None
 lock_patience (DeviceDocmd lid flags io_timeout lock_timeout cmd network_order datasize bytes) = patience_by flags lock_timeout
-lock_patience (DestroyLink lid) = None
-lock_patience (CreateIntrChan host_addr host_port prog_num prog_vers prog_family) = None
-lock_patience DestroyIntrChan = None
+lock_patience _ = None
 
 -- whether a write brings more than may be
 abbrev pub is_too_long : Arguments → Bool

@@ -36,7 +36,7 @@ goes_on config polled c call (Some block) acts =
 goes_on config polled c call None acts = leaves c call.xid (own_call config polled c call.arguments (Waited (Left c) ∷ acts))
 
 -- A call that waited for this goes on: it is done, or waits anew with its place kept, from now on. The link and the lock aren't looked at
--- again.
+-- again. Whatever else waited, which nothing does, waits no more.
 abbrev pub gone_on : Config → ℕ → ℕ → Wait → Option CoreCall → List BenchAct → Verdict
 gone_on config polled c wait (Some call) acts = goes_on config polled c call (blocked_again wait call.arguments acts) acts
 gone_on config polled c wait None acts = Stays (Waited (Left c) ∷ [])

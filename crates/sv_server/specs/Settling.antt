@@ -22,7 +22,8 @@ Happens IsSuch log new = (adds : List InstrumentAct) × IsSuch (instrument_acts 
 
 -- The call of a connection can go on.
 abbrev pub CanGoOn : List BenchAct → ℕ → Type 0
-CanGoOn acts = IsAble (holder (link_acts acts)) (not (has_ended (exchange_acts acts))) (is_answerable (instrument_acts acts)) (wait_acts acts)
+CanGoOn acts = IsAble (holder (link_acts acts)) (not (has_ended (exchange_acts acts))) (is_answerable (instrument_acts acts))
+    (wait_acts acts)
 
 -- The oldest call that can go on does.
 abbrev pub GoesOn : Config → List Act → List Act → Type 0

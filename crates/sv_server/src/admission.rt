@@ -1,4 +1,4 @@
-//! What stands in front of a call of the core channel (VXI-11 revision 1.0, sections B.4.4 and B.6):
+//! What stands in front of a call of the core channel (VXI-11 revision 1.0, B.4.4 and B.6):
 //! its link, the lock, and what it waits for.
 
 ghost use Rattle.std.specs.Prelude.{◌≡◌, ◌+◌, ◌<◌, ◌&&◌, ℕ, List, ◌∷◌, Some, None, is_none, if◌then◌else◌, IfOk, IfSome, OnErr, true, false, Bool};
@@ -42,7 +42,7 @@ fn patience_of(lock_device: bool, timeout: u32) -> Option<u32>
 }
 
 impl<A: Allocator> Bench<A> {
-    /// What a call waits for that needn't wait for the lock: a write until no ended message waits to
+    /// What a call waits for behind the lock: a write until no ended message waits to
     /// be finished, a read until there is something to answer.
     pub fn blocked(&self, args: &Args<'_>) -> Option<Block>
         ensures answer { (config : Configured) (acts : List BenchAct) → IsBench self.now config acts
@@ -139,7 +139,7 @@ impl<A: Allocator> Bench<A> {
         });
     }
 
-    /// create_link: a link of the name inst0, while one more may be made; one that asks for the lock
+    /// create_link: a link of the name inst0, while one more may be; one that asks for the lock
     /// waits so long until no link has it.
     fn create_link(
         &mut self,
@@ -153,7 +153,8 @@ impl<A: Allocator> Bench<A> {
             → IfOk result (λ begun. BegunAs begun self.new config acts
             (created_link config conn timeout device.now acts)) }
         ensures short { IfOk result (λ begun. IfSome begun (λ ending. IsShortEnding ending)) }
-        ensures waits { IfOk result (λ begun. Enters begun conn true self.old.waiting self.new.waiting) }
+        ensures waits { IfOk result
+            (λ begun. Enters begun conn true self.old.waiting self.new.waiting) }
         ensures err { OnErr result (self.new ≡ self.old) }
         ensures lacks { (config : Configured) (polled : ℕ) (acts : List BenchAct)
             → IsBenchAt self.old config polled acts
@@ -220,7 +221,8 @@ impl<A: Allocator> Bench<A> {
             → IfOk result (λ begun. BegunAs begun self.new config acts
             (done_behind_lock config polled conn (plain_arguments args.now) acts)) }
         ensures short { IfOk result (λ begun. IfSome begun (λ ending. IsShortEnding ending)) }
-        ensures waits { IfOk result (λ begun. Enters begun conn (is_create_link (plain_arguments args.now))
+        ensures waits { IfOk result
+            (λ begun. Enters begun conn (is_create_link (plain_arguments args.now))
             self.old.waiting self.new.waiting) }
         ensures err { OnErr result (self.new ≡ self.old) }
         ensures lacks { (config : Configured) (polled : ℕ) (acts : List BenchAct)
@@ -289,7 +291,8 @@ impl<A: Allocator> Bench<A> {
             → IsBenchAt self.old config polled acts
             → names_another conn (link_for (plain_arguments args.now)) acts ≡ false
             → IfOk result (λ begun. BegunAs begun self.new config acts
-            (done_unless_locked config polled conn (plain_arguments args.now) (Some patience) acts)) }
+            (done_unless_locked config polled conn (plain_arguments args.now)
+            (Some patience) acts)) }
         ensures short { IfOk result (λ begun. IfSome begun (λ ending. IsShortEnding ending)) }
         ensures waits { IfOk result (λ begun. Enters begun conn
             (is_create_link (plain_arguments args.now)) self.old.waiting self.new.waiting) }
@@ -298,7 +301,8 @@ impl<A: Allocator> Bench<A> {
             → IsBenchAt self.old config polled acts
             → names_another conn (link_for (plain_arguments args.now)) acts ≡ false
             → OnErr result (begun_wants
-            (done_unless_locked config polled conn (plain_arguments args.now) (Some patience) acts) ≡ true) }
+            (done_unless_locked config polled conn (plain_arguments args.now)
+            (Some patience) acts) ≡ true) }
     {
         if is_locked_out(self.links.holder(), named_by(args)) {
             return Ok(self.locked_out(conn, args, patience));
@@ -313,7 +317,8 @@ impl<A: Allocator> Bench<A> {
             → IsBenchAt self.old config polled acts
             → names_another conn (link_for (plain_arguments args.now)) acts ≡ false
             → IfOk result (λ begun. BegunAs begun self.new config acts
-            (done_unless_locked config polled conn (plain_arguments args.now) (patience_for (plain_arguments args.now)) acts)) }
+            (done_unless_locked config polled conn (plain_arguments args.now)
+            (patience_for (plain_arguments args.now)) acts)) }
         ensures short { IfOk result (λ begun. IfSome begun (λ ending. IsShortEnding ending)) }
         ensures waits { IfOk result (λ begun. Enters begun conn
             (is_create_link (plain_arguments args.now)) self.old.waiting self.new.waiting) }
@@ -322,7 +327,8 @@ impl<A: Allocator> Bench<A> {
             → IsBenchAt self.old config polled acts
             → names_another conn (link_for (plain_arguments args.now)) acts ≡ false
             → OnErr result (begun_wants
-            (done_unless_locked config polled conn (plain_arguments args.now) (patience_for (plain_arguments args.now)) acts) ≡ true) }
+            (done_unless_locked config polled conn (plain_arguments args.now)
+            (patience_for (plain_arguments args.now)) acts) ≡ true) }
     {
         match lock_patience(args) {
             Some(patience) => self.if_free(conn, args, patience),

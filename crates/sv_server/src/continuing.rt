@@ -32,7 +32,8 @@ pub fn go_on<A: Allocator>(connection: &mut Connection<A>, shared: &mut Bench<A>
         (before : List BenchAct) → IsConnection connection.old acts → is_busy acts ≡ true
         → IsBenchAt shared.old config polled before
         → MayGoOn entry (core_call_in (unanswered acts)) shared.old before
-        → GoneOn (gone_on config polled entry.conn entry.wait (core_call_in (unanswered acts)) before)
+        → GoneOn (gone_on config polled entry.conn entry.wait
+        (core_call_in (unanswered acts)) before)
         entry.conn (core_call_in (unanswered acts)) config acts before shared.old.waiting
         connection.new shared.new }
     ensures measure { rank shared.new.waiting < rank shared.old.waiting }

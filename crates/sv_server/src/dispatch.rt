@@ -200,14 +200,18 @@ fn core_verdict<A: Allocator>(
     ensures ok { (config : Configured) (polled : ℕ) (acts : List BenchAct)
         → IsBenchAt shared.old config polled acts
         → IfOk result (λ verdict. ConsideredAs verdict shared.new config acts
-        (core_verdict_for config polled conn call.now.xid (arguments_at call.now.proc call.now.args.now) acts)) }
+        (core_verdict_for config polled conn call.now.xid
+        (arguments_at call.now.proc call.now.args.now) acts)) }
     ensures short { IfOk result (λ verdict. IsShortVerdict verdict) }
-    ensures waits { IfOk result (λ verdict. WaitsAs verdict conn (core_call_of (Ok (plain_call call.now)))
+    ensures waits { IfOk result
+        (λ verdict. WaitsAs verdict conn (core_call_of (Ok (plain_call call.now)))
         shared.old.waiting shared.new.waiting) }
     ensures err { OnErr result (shared.new ≡ shared.old) }
     ensures lacks { (config : Configured) (polled : ℕ) (acts : List BenchAct)
         → IsBenchAt shared.old config polled acts
-        → OnErr result (verdict_wants (core_verdict_for config polled conn call.now.xid (arguments_at call.now.proc call.now.args.now) acts)
+        → OnErr result (verdict_wants
+        (core_verdict_for config polled conn call.now.xid
+        (arguments_at call.now.proc call.now.args.now) acts)
         ≡ true) }
 {
     match read_args(call.proc, call.args) {
@@ -286,12 +290,14 @@ fn procedure<A: Allocator>(
         → IfOk result (λ verdict. ConsideredAs verdict shared.new config acts
         (verdict_by config polled conn role (plain_call call.now) acts)) }
     ensures short { IfOk result (λ verdict. IsShortVerdict verdict) }
-    ensures waits { IfOk result (λ verdict. WaitsAs verdict conn (core_call_of (Ok (plain_call call.now)))
+    ensures waits { IfOk result
+        (λ verdict. WaitsAs verdict conn (core_call_of (Ok (plain_call call.now)))
         shared.old.waiting shared.new.waiting) }
     ensures err { OnErr result (shared.new ≡ shared.old) }
     ensures lacks { (config : Configured) (polled : ℕ) (acts : List BenchAct)
         → IsBenchAt shared.old config polled acts
-        → OnErr result (verdict_wants (verdict_by config polled conn role (plain_call call.now) acts)
+        → OnErr result (verdict_wants
+        (verdict_by config polled conn role (plain_call call.now) acts)
         ≡ true) }
 {
     match role {
@@ -315,7 +321,8 @@ fn call_verdict<A: Allocator>(
         (verdict_for config polled conn role (plain_call call.now)
         (reply_to role (plain_call call.now)) acts)) }
     ensures short { IfOk result (λ verdict. IsShortVerdict verdict) }
-    ensures waits { IfOk result (λ verdict. WaitsAs verdict conn (core_call_of (Ok (plain_call call.now)))
+    ensures waits { IfOk result
+        (λ verdict. WaitsAs verdict conn (core_call_of (Ok (plain_call call.now)))
         shared.old.waiting shared.new.waiting) }
     ensures err { OnErr result (shared.new ≡ shared.old) }
     ensures lacks { (config : Configured) (polled : ℕ) (acts : List BenchAct)

@@ -15,8 +15,9 @@ use sv_links::Wait;
 use sv_vxi::Args;
 
 impl<A: Allocator> Bench<A> {
-    /// A call that waited for this is done; or, where it waited for the lock and what it wants isn't
-    /// there, it waits anew, with its place kept, from now on. Where it waits nothing is told.
+    /// A call that waited for this is done; or, where it waited for the lock and what it wants
+    /// isn't there, it waits anew, with its place kept, from now on. Where it waits nothing is
+    /// told.
     pub fn resume(&mut self, conn: u8, wait: Wait, args: &Args<'_>) -> Option<Ending>
         requires { rank (without conn self.old.waiting) + rank_of wait ≤ rank self.old.waiting }
         ensures resumes { (config : Configured) (polled : ℕ) (acts : List BenchAct)
@@ -40,7 +41,8 @@ impl<A: Allocator> Bench<A> {
         ensures resumes { (config : Configured) (polled : ℕ) (acts : List BenchAct)
             → IsBenchAt self.old config polled acts → (waits conn (wait_acts acts) ≡ None → ⊥)
             → MayMake (plain_arguments args.now) conn self.old acts
-            → ResumedAs result self.new config polled conn Wait.Lock (plain_arguments args.now) acts }
+            → ResumedAs result self.new config polled conn Wait.Lock
+            (plain_arguments args.now) acts }
         ensures short { IfSome result (λ ending. IsShortEnding ending) }
         ensures waiting { Resumes result conn (plain_arguments args.now)
             self.old.waiting self.new.waiting }

@@ -159,7 +159,7 @@ impl<A: Allocator> Server<A> {
         Stepped::Nothing
     }
 
-    /// Takes the steps that are due until a call went on or was given up, and tells whether one did.
+    /// Takes the steps that are due until a call went on or was given up; tells whether one did.
     fn settle_to_call(&mut self) -> bool
         ensures goes { (config : Config) (log : List Act) → Represents self.old config log
             → GoesTo config log (λ mid. result ≡ false → IsSettled config mid) self.new }

@@ -69,7 +69,8 @@ pub fn conclude<A: Allocator>(
     shared: &mut Bench<A>,
 )
     requires { IsShortVerdict verdict }
-    ensures ends { (config : Config) (acts : List ConnAct) (before : List BenchAct) (said : VerdictData)
+    ensures ends { (config : Config) (acts : List ConnAct) (before : List BenchAct)
+        (said : VerdictData)
         → IsConnection connection.old acts → is_busy acts ≡ true
         → ConsideredAs verdict shared.old config before said
         → Concludes said config acts before connection.new shared.new }

@@ -13,7 +13,8 @@ pub returns-in_default-core_call-clause-concludes :
     goal.returns-in_default-core_call-clause-concludes
 returns-in_default-core_call-clause-concludes g c = λ config acts before is busy old.
     let shared = rw (← c.shared.view_is) at old in
-    let known : core_call_in (unanswered acts) ≡ None = ap core_call_in (sym (c.in-Some.ensures acts is)) ∙ sym c.in_default-core_call.ensures in
+    let known : core_call_in (unanswered acts) ≡ None = ap core_call_in
+    (sym (c.in-Some.ensures acts is)) ∙ sym c.in_default-core_call.ensures in
     rw known (
       is,
       bench_left _ c.leave.new.self config before c.args.conn shared (c.leave.ensures.stands (wait_acts before) shared.4)
@@ -25,7 +26,9 @@ returns-clause-concludes g c = λ config acts before is busy old.
     let shared = rw (← c.shared.view_is) at old in
     let known = ap core_call_in (sym (c.in-Some.ensures acts is)) ∙ sym c.in-Some-core_call.ensures in
     rw known (
-      subst (λ (o : Outcome). IsConnection c.answer.new.self (Replied (reply_record c.in-Some-core_call.call.xid Success (result_fields o)) ∷ acts))
+      subst (λ (o : Outcome). IsConnection c.answer.new.self
+          (Replied (reply_record c.in-Some-core_call.call.xid Success (result_fields o)) ∷ acts))
           c.failure-result.ensures.result_is (c.answer.ensures acts is busy),
-      bench_left _ c.leave.new.self config before c.args.conn shared (c.leave.ensures.stands (wait_acts before) shared.4) c.leave.ensures.value,
+      bench_left _ c.leave.new.self config before c.args.conn shared
+          (c.leave.ensures.stands (wait_acts before) shared.4) c.leave.ensures.value,
     )

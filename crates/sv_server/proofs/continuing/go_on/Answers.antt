@@ -14,7 +14,8 @@ pub returns-in_default-core_call-clause-concludes :
     goal.returns-in_default-core_call-clause-concludes
 returns-in_default-core_call-clause-concludes g c = λ config polled acts before is busy at may.
     let shared = rw (← c.shared.view_is) at at.0 in
-    let known : core_call_in (unanswered acts) ≡ None = ap core_call_in (sym (c.in-Some.ensures acts is)) ∙ sym c.in_default-core_call.ensures in
+    let known : core_call_in (unanswered acts) ≡ None = ap core_call_in
+    (sym (c.in-Some.ensures acts is)) ∙ sym c.in_default-core_call.ensures in
     rw known (
       (
         is,

@@ -36,7 +36,8 @@ returns-clause-entry g c acts is =
 
 pub returns-clause-within : goal.returns-clause-within
 returns-clause-within g c =
-    rw (result_is g c, ← c.self.view_is) (found-within (passes c.args.holder c.args.can_write c.args.can_read) 16 c.self.inside.entries.items c.self.invariant.1
+    rw (result_is g c, ← c.self.view_is)
+    (found-within (passes c.args.holder c.args.can_write c.args.can_read) 16 c.self.inside.entries.items c.self.invariant.1
     c.self.invariant.0)
 
 pub returns-clause-measure : goal.returns-clause-measure

@@ -20,7 +20,8 @@ returns-in-DeviceAbort g c =
     record {
       ok = λ config polled acts known.
           subst (λ (b : Begun). BegunAs c.unless_blocked.result c.unless_blocked.new.self config acts b)
-          (behind_other config polled c.args.conn (plain_arguments c.args.args.now) acts other) (c.unless_blocked.ensures.ok config polled acts known);
+          (behind_other config polled c.args.conn (plain_arguments c.args.args.now) acts other)
+          (c.unless_blocked.ensures.ok config polled acts known);
       short = c.unless_blocked.ensures.short;
       waits = c.unless_blocked.ensures.waits;
       err = tt;

@@ -7,6 +7,7 @@ use Rattle.sv_server.proofs.bench.Bench.close_connection.Goals as goal
 pub returns-clause-stands : goal.returns-clause-stands
 returns-clause-stands g c = λ config acts old.
     let is = rw (← c.self.view_is) at old in
-    let left = bench_left _ c.leave.new.self config acts c.args.conn is (c.leave.ensures.stands (wait_acts acts) is.4) c.leave.ensures.value in
+    let left = bench_left _ c.leave.new.self config acts c.args.conn is
+    (c.leave.ensures.stands (wait_acts acts) is.4) c.leave.ensures.value in
     bench_closed _ c.close_connection.new.self config (Waited (Left c.args.conn) ∷ acts) c.args.conn left
     (c.close_connection.ensures.stands (link_acts acts) is.0) c.close_connection.ensures.spare

@@ -11,5 +11,6 @@ returns-clause-stands g c = λ config log rep does.
     let state = rw (← c.self.view_is) at rep in
     let is = connection_of _ config log c.args.conn c.index_mut-connection.result.now state c.requires at in
     let (call, known) = taken_of _ config log c.args.conn state does in
-    rw c.from.ensures (gave_up_stands _ config log c.args.conn _ c.give_up.new.connection c.give_up.new.shared state c.self.invariant c.requires
+    rw c.from.ensures (gave_up_stands _ config log c.args.conn _ c.give_up.new.connection c.give_up.new.shared state c.self.invariant
+    c.requires
     (c.give_up.ensures.concludes config (of c.args.conn log) (bench log) is (ap is_some known) state.shared) c.give_up.ensures.waiting)

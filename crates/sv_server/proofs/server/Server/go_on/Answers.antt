@@ -17,5 +17,6 @@ returns-clause-stands g c = λ config polled log rep said able is_entry fewer.
     let may = may_go_on c.self.inside.bench entry log call able is_entry (rw (← c.self.view_is) at fewer) makes in
     let gone = c.go_on.ensures.concludes config polled (of entry.conn log) (bench log) is (ap is_some known) (state.shared, said)
     (rw known may) in
-    rw (c.from.ensures, known) (went_on_stands _ config log entry.conn call _ c.go_on.new.connection c.go_on.new.shared state c.self.invariant
+    rw (c.from.ensures, known)
+    (went_on_stands _ config log entry.conn call _ c.go_on.new.connection c.go_on.new.shared state c.self.invariant
     c.requires.0 known (rw known at gone))

@@ -10,7 +10,8 @@ loop-preserved g c = (
 )
 
 pub returns-in-Call-clause-goes : goal.returns-in-Call-clause-goes
-returns-in-Call-clause-goes g c = any_called _ _ c.step.new.self (λ config mid. true ≡ false → IsSettled config mid) (λ config log e. absurd cc)
+returns-in-Call-clause-goes g c = any_called _ _ c.step.new.self (λ config mid. true ≡ false → IsSettled config mid)
+    (λ config log e. absurd cc)
     c.loop.invariant.0 c.in-Call.ensures.steps
 
 pub returns-in-Nothing-clause-goes : goal.returns-in-Nothing-clause-goes

@@ -36,7 +36,8 @@ returns-then-give_up_oldest-clause-steps g c = λ config log rep.
     let (still, alike) = c.if-go_on_oldest.ensures.steps config log first in
     let second = subst (λ (s : State). Represents s config log) (sym alike) first in
     let (idle, equal) = c.if-exchange.ensures.steps config log second in
-    let (next, gives, held) = c.if-give_up_oldest.ensures.steps config log (subst (λ (s : State). Represents s config log) (sym equal) second) in
+    let (next, gives, held) = c.if-give_up_oldest.ensures.steps config log
+    (subst (λ (s : State). Represents s config log) (sym equal) second) in
     (next, inr (none, inr (still, inr (idle, gives))), held)
 
 pub returns-then-give_up_oldest-clause-call : goal.returns-then-give_up_oldest-clause-call
@@ -59,4 +60,5 @@ returns-clause-steps g c = λ config log rep.
 
 pub returns-clause-waiting : goal.returns-clause-waiting
 returns-clause-waiting g c = λ e. ap (λ (s : State). s.bench.waiting)
-    (c.if-give_up_oldest.ensures.idle refl ∙ c.if-exchange.ensures.idle refl ∙ c.if-go_on_oldest.ensures.idle refl ∙ c.if-fire.ensures.idle refl)
+    (c.if-give_up_oldest.ensures.idle refl ∙ c.if-exchange.ensures.idle refl ∙ c.if-go_on_oldest.ensures.idle refl
+    ∙ c.if-fire.ensures.idle refl)

@@ -21,7 +21,8 @@ returns-in-Ok-Idle-clause-acts g c = λ config log rep.
     let is = connection_of _ config log c.args.conn c.index_mut-connection.result.now state (omega arith) at in
     let role = sym is.role ∙ sym c.role.ensures ∙ c.in-Some.is in
     let shut = shut_is c.args.conn log _ (omega arith) (ap is_some role) in
-    rw c.from-2.ensures (turn_idle _ config log c.args.conn c.turn.new.connection c.turn.new.shared state c.self.invariant (omega arith) shut
+    rw c.from-2.ensures (turn_idle _ config log c.args.conn c.turn.new.connection c.turn.new.shared state c.self.invariant
+    (omega arith) shut
     (rw c.in-Ok-Idle.field-0-is at (c.in-Ok-Idle.ensures.acts config log is state.shared)))
 
 pub returns-in-Ok-Done-clause-acts : goal.returns-in-Ok-Done-clause-acts
