@@ -10,3 +10,10 @@ pub mod Tables
 mod Named
 mod Closing
 pub mod Live
+mod Left
+mod Requests
+mod Going
+mod Sent
+mod Calling
+mod Asking
+mod Acts

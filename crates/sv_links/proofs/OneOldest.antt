@@ -1,12 +1,8 @@
 -- The call that came first is one.
-use Rattle.std.proofs.Common.{◌≡◌, ℕ, ◌<◌, eqb, List, [], ◌∷◌, length, Option, Some, None, refl, sym, ap, ◌∙◌, arith, inl, inr, suc}
-use Rattle.std.specs.Prelude.{option_map}
-use Rattle.std.specs.List.{AllByRecursion}
+use Rattle.std.proofs.Common.{◌≡◌, ℕ, eqb, List, [], ◌∷◌, length, Option, Some, None, refl, sym, ap, ◌∙◌, arith, inl, inr, suc}
 use Rattle.std.proofs.lemmas.Bool.{cases_Bool, eqb-true}
-use Rattle.sv_links.specs.declared.waiting.Entry.{Entry}
 use Rattle.sv_links.specs.Waiting.{WaitAct, Entered, Again, Left, waits, arrival, enters, IsOldest}
-use Rattle.sv_links.specs.Queue.{IsQueue, IsOrdered}
-use Rattle.sv_links.proofs.Queues.{newest-le, Among, among_from_find}
+use Rattle.sv_links.proofs.Queues.{newest-le}
 
 -- two that came at one time are one
 same_arrival : (acts : List WaitAct) (c d : ℕ) → (arrival c acts ≡ 0 → ⊥) → arrival c acts ≡ arrival d acts → c ≡ d

@@ -1,14 +1,21 @@
-//! Links (VXI-11 revision 1.0): who owns one while it lives, which holds the lock, and which calls
-//! wait.
+//! Links (VXI-11 revision 1.0): who owns one while it lives, which holds the lock, which calls
+//! wait, and what is sent on interrupt channels.
 //!
 //! [`Links`] gives a link its number, finds the connection that made it, and keeps the lock.
 //! [`Waiting`] keeps the calls that wait, in the order in which they came, and finds the oldest
-//! that can go on, or that has waited long enough. Only [`Links::create`], [`Links::reserve`] and
-//! [`Waiting::new`] take memory.
+//! that can go on, or that has waited long enough. [`Intr`] keeps the links that ask for service
+//! requests, and the calls that wait on interrupt channels. Only [`Links::create`],
+//! [`Links::reserve`], [`Waiting::new`], [`Intr::new`] and [`Intr::prepare`] take memory.
 #![tactic(auto)]
 
+mod channel;
+mod enabled;
+mod intr;
 mod links;
+mod request;
 mod waiting;
 
+pub use intr::Intr;
 pub use links::{CreateRefused, Link, Links};
+pub use request::Peer;
 pub use waiting::{Entry, Wait, Waiting, is_locked_out};

@@ -11,11 +11,13 @@ pub mod laws;
 mod ports;
 mod record_buf;
 mod reply;
+mod sending;
 
 pub use call::{Call, CallFault, read_call};
 pub use ports::{Ports, getport};
 pub use record_buf::{RecordBuf, RpcFault};
 pub use reply::{Reply, write_call, write_reply};
+pub use sending::put_record;
 pub use sv_xdr::Garbage;
 
 /// No memory was left.

@@ -9,9 +9,8 @@ use Rattle.sv_vxi.specs.Results.{Outcome, Size, result_fields}
 use Rattle.sv_exchange.specs.Exchange.{Accepted, TextDropped, has_ended, response, is_something}
 use Rattle.sv_layers.specs.Act.{Exchanged, Reported}
 use Rattle.sv_instrument.specs.Step.{is_answerable}
-use Rattle.sv_instrument.specs.Kept.{Kept, StandsFor}
 use Rattle.sv_server.specs.declared.event.Config.{Config}
-use Rattle.sv_server.specs.Act.{BenchAct, instrument_acts, exchange_acts}
+use Rattle.sv_server.specs.Act.{BenchAct, Happened, instrument_acts, exchange_acts}
 use Rattle.sv_server.specs.CoreCall.{no_bytes}
 use Rattle.sv_server.specs.CoreChannel.{device_write, device_read}
 use Rattle.sv_server.specs.Reply.{reply_record}
@@ -27,25 +26,20 @@ use Rattle.sv_server.specs.Act.{ConnAct, Waited}
 use Rattle.sv_server.specs.Resuming.{leaves}
 use Rattle.sv_server.specs.KeptConnection.{Connection}
 use Rattle.sv_server.specs.Inside.Acting.{Concludes}
-use Rattle.sv_server.proofs.Projections.{bench_happened}
 
-pub written_ends : (config : Config) (acts : List BenchAct) (kept : Bench) (instrument : Kept) (flags : ℕ) (bytes : List ℕ) (ended : Bool)
-    → IsBench kept config acts → nat_lt 4096 (length bytes) ≡ false → has_ended (exchange_acts acts) ≡ false
-    → ended ≡ (bit_at flags 3 == 1) → StandsFor instrument (Exchanged (Accepted bytes ended) ∷ instrument_acts acts)
+pub written_ends : (config : Config) (acts : List BenchAct) (new : Bench) (flags : ℕ) (bytes : List ℕ) (ended : Bool)
+    → nat_lt 4096 (length bytes) ≡ false → has_ended (exchange_acts acts) ≡ false → ended ≡ (bit_at flags 3 == 1)
+    → IsBench new config (Happened (Exchanged (Accepted bytes ended)) ∷ acts)
     → ((device_write flags bytes acts).result ≡ Size NoError (length bytes))
-    × IsBench (record kept { instrument = instrument }) config ((device_write flags bytes acts).adds ++ acts)
-written_ends config acts kept instrument flags bytes ended is short unended end stands =
-    let now = subst (λ (b : Bool). StandsFor instrument (Exchanged (Accepted bytes b) ∷ instrument_acts acts)) end stands in
-    rw (short, unended) (refl, bench_happened kept instrument config acts (Exchanged (Accepted bytes (bit_at flags 3 == 1)) ∷ []) is now)
+    × IsBench new config ((device_write flags bytes acts).adds ++ acts)
+written_ends config acts new flags bytes ended short unended end stands = rw (short, unended)
+    (refl, subst (λ (b : Bool). IsBench new config (Happened (Exchanged (Accepted bytes b)) ∷ acts)) end stands)
 
-pub unread_ends : (config : Config) (acts : List BenchAct) (kept : Bench) (instrument : Kept) (most : ℕ) (term : Option ℕ)
-    → IsBench kept config acts → is_something (response (exchange_acts acts)) ≡ false → is_answerable (instrument_acts acts) ≡ true
-    → StandsFor instrument (Reported QueryUnterminated ∷ Exchanged TextDropped ∷ instrument_acts acts)
-    → ((device_read most term acts).result ≡ no_bytes IoTimeout)
-    × IsBench (record kept { instrument = instrument }) config ((device_read most term acts).adds ++ acts)
-unread_ends config acts kept instrument most term is nothing none stands =
-    rw (none, nothing)
-    (refl, bench_happened kept instrument config acts (Reported QueryUnterminated ∷ Exchanged TextDropped ∷ []) is stands)
+pub unread_ends : (config : Config) (acts : List BenchAct) (new : Bench) (most : ℕ) (term : Option ℕ)
+    → is_something (response (exchange_acts acts)) ≡ false → is_answerable (instrument_acts acts) ≡ true
+    → IsBench new config (Happened (Reported QueryUnterminated) ∷ Happened (Exchanged TextDropped) ∷ acts)
+    → ((device_read most term acts).result ≡ no_bytes IoTimeout) × IsBench new config ((device_read most term acts).adds ++ acts)
+unread_ends config acts new most term nothing none stands = rw (none, nothing) (refl, stands)
 
 -- a call that ended is answered as its ending says
 pub concluded_as : (xid : ℕ) (ending : Ending) (verdict : Considered) (shared : Bench) (config : Config) (acts : List BenchAct)

@@ -1,6 +1,6 @@
 -- A call that waits goes on, or is given up, and what stands for that.
 use Rattle.std.proofs.Common.{◌≡◌, ◌≢◌, ℕ, ◌<◌, ◌≤◌, Bool, true, false, eqb, List, [], ◌∷◌, ◌++◌, length, set, Option, Some, None, refl, sym, ap, subst, ◌∙◌, inl, inr}
-use Rattle.std.specs.Prelude.{is_some, is_none, ◌&&◌, option_map, map, IfNone}
+use Rattle.std.specs.Prelude.{is_none, ◌&&◌, option_map, map}
 use Rattle.std.specs.List.{AllByRecursion}
 use Rattle.std.proofs.lemmas.Bool.{cases_Bool, eqb-true}
 use Rattle.sv_links.specs.declared.waiting.Entry.{Entry}
@@ -9,20 +9,19 @@ use Rattle.sv_links.specs.declared.waiting.Wait.TheVariants.{Lock, Input, Respon
 use Rattle.sv_links.specs.Links.{is_locked_out, holder}
 use Rattle.sv_links.specs.Waiting.{WaitAct, waits, is_there, is_lock}
 use Rattle.sv_links.specs.Queue.{IsEntry, entry_of, creates, creations, without}
-use Rattle.sv_instrument.specs.Kept.{Kept, StandsFor, Takes}
 use Rattle.sv_layers.specs.Act.{Act as InstrumentAct}
 use Rattle.sv_server.specs.declared.event.Config.{Config}
-use Rattle.sv_server.specs.Act.{Act, BenchAct, Happened, Bench, of, bench, link_acts, wait_acts, instrument_acts}
+use Rattle.sv_server.specs.Act.{Act, Happened, Bench, of, bench, link_acts, wait_acts, instrument_acts}
 use Rattle.sv_server.specs.Connection.{unanswered}
 use Rattle.sv_server.specs.CoreCall.{core_call}
 use Rattle.sv_server.specs.Verdict.{Verdict, NoCall, Replies, Stays, verdict_acts}
 use Rattle.sv_server.specs.Settling.{CanGoOn, Happens}
 use Rattle.sv_server.specs.KeptConnection.{Connection}
-use Rattle.sv_server.specs.KeptBench.{Bench as KeptBench, IsBench}
+use Rattle.sv_server.specs.KeptBench.{Bench as KeptBench}
 use Rattle.sv_server.specs.State.{State, Represents, IsTaken, creates_link}
 use Rattle.sv_server.specs.Inside.Acting.{Concludes, GoneOn, TakesStep, InstrumentSteps}
 use Rattle.sv_server.specs.Inside.Outcome.{MayGoOn, WaitsOn}
-use Rattle.sv_server.proofs.Projections.{of_shared, bench_happened, resumed_stands}
+use Rattle.sv_server.proofs.Projections.{of_shared, resumed_stands}
 use Rattle.sv_server.proofs.Taken.{taken_without, taken_anew, taken_one}
 use Rattle.sv_server.proofs.Logs.{acted, shared_acts}
 
@@ -155,23 +154,3 @@ happens_step IsSuch state shared config log false rep (none, same) kept =
     (happens_none IsSuch log none, ap (λ (b : KeptBench). record state { bench = b }) same)
 happens_step IsSuch state shared config log true rep (adds, such, held) kept =
     (map Bench (map Happened adds) ++ log, (adds, such, refl), shared_acts state config log shared (map Happened adds) rep held kept)
-
--- of the bench alone
-pub instrument_steps : (IsSuch : List InstrumentAct → List InstrumentAct → Type 0) (kept : KeptBench) (instrument : Kept)
-    (config : Config) (acts : List BenchAct) (raised : Option ℕ)
-    → IsBench kept config acts → Takes IsSuch instrument raised (instrument_acts acts) → IfNone raised (instrument ≡ kept.instrument)
-    → InstrumentSteps IsSuch (is_some raised) config acts kept (record kept { instrument = instrument })
-instrument_steps IsSuch kept instrument config acts None is none same =
-    (none, ap (λ (k : Kept). record kept { instrument = k }) same)
-instrument_steps IsSuch kept instrument config acts (Some count) is (new, such, ran) same =
-    let adds = ran.raises.acts in (
-      adds,
-      subst (λ (l : List InstrumentAct). IsSuch (instrument_acts acts) l) ran.raises.new_is such,
-      bench_happened kept instrument config acts adds is
-          (subst (λ (l : List InstrumentAct). StandsFor instrument l) ran.raises.new_is ran.stands),
-    )
-
-pub idle_as : (kept : KeptBench) (instrument : Kept) (raised : Option ℕ) → IfNone raised (instrument ≡ kept.instrument)
-    → is_some raised ≡ false → (record kept { instrument = instrument }) ≡ kept
-idle_as kept instrument None same e = ap (λ (k : Kept). record kept { instrument = k }) same
-idle_as kept instrument (Some count) same e = absurd cc

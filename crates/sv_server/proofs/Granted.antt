@@ -1,6 +1,6 @@
 -- What is known of a call by its arguments.
 use Rattle.std.proofs.Common.{◌≡◌, ℕ, ◌<◌, Bool, true, false, cond, zero, suc, nat_lt, List, [], ◌∷◌, Option, Some, None, refl, sym, ap, subst, ◌∙◌, arith}
-use Rattle.std.specs.Prelude.{not, is_none, is_some, Result, Ok, Err, OnErr, ◌&&◌, ℤ, pos, negsuc}
+use Rattle.std.specs.Prelude.{◌||◌, not, is_none, is_some, Result, Ok, Err, OnErr, ◌&&◌, ℤ, pos, negsuc}
 use Rattle.sv_vxi.specs.Arguments.{Arguments, DeviceAbort, CreateLink, DeviceWrite, DeviceRead, DeviceReadstb, DeviceTrigger, DeviceClear, DeviceRemote, DeviceLocal, DeviceLock, DeviceUnlock, DeviceEnableSrq, DeviceDocmd, DestroyLink, CreateIntrChan, DestroyIntrChan}
 use Rattle.sv_links.specs.declared.waiting.Entry.{Entry}
 use Rattle.sv_links.specs.declared.waiting.Wait.{Wait}
@@ -13,7 +13,9 @@ use Rattle.sv_server.specs.declared.core_call.Patience.{Patience}
 use Rattle.sv_server.specs.Act.{BenchAct, Waited, link_acts, wait_acts}
 use Rattle.sv_server.specs.CoreCall.{lid_of, named_by, link_named, lock_patience, is_too_long, is_create_link}
 use Rattle.sv_server.specs.CoreChannel.{owns, names_another, make_link}
-use Rattle.sv_server.specs.Admission.{Begun, deadline_of, begin_link, blocked, unless_blocked, behind_lock}
+use Rattle.sv_server.specs.Interrupts.{dialing, channel_fault}
+use Rattle.sv_server.specs.Refusing.{takes_memory}
+use Rattle.sv_server.specs.Admission.{Begun, deadline_of, begin_link, begin_channel, blocked, unless_blocked, behind_lock}
 use Rattle.sv_server.specs.AbortChannel.{waits_with}
 use Rattle.sv_server.specs.KeptBench.{Bench, IsBench}
 use Rattle.sv_server.specs.Inside.Outcome.{IsGranted, MayMake, makes, begun_wants}
@@ -173,25 +175,26 @@ waits_told c lid entry acts same is =
     (ap (λ (l : Option ℕ). is_this lid l) (sym is.2)
     ∙ ap (λ (w : Option Wait). is_some w && is_this lid (link entry.conn (wait_acts acts))) (sym is.0))
 
--- a create_link that waits is one
-one_creates : (c : ℕ) (d : Option ℕ) → c < 16 → nat_lt 0 (creating (Entered c None Lock d ∷ [])) ≡ true
-one_creates zero d lt = refl
-one_creates (suc zero) d lt = refl
-one_creates (suc (suc zero)) d lt = refl
-one_creates (suc (suc (suc zero))) d lt = refl
-one_creates (suc (suc (suc (suc zero)))) d lt = refl
-one_creates (suc (suc (suc (suc (suc zero))))) d lt = refl
-one_creates (suc (suc (suc (suc (suc (suc zero)))))) d lt = refl
-one_creates (suc (suc (suc (suc (suc (suc (suc zero))))))) d lt = refl
-one_creates (suc (suc (suc (suc (suc (suc (suc (suc zero)))))))) d lt = refl
-one_creates (suc (suc (suc (suc (suc (suc (suc (suc (suc zero))))))))) d lt = refl
-one_creates (suc (suc (suc (suc (suc (suc (suc (suc (suc (suc zero)))))))))) d lt = refl
-one_creates (suc (suc (suc (suc (suc (suc (suc (suc (suc (suc (suc zero))))))))))) d lt = refl
-one_creates (suc (suc (suc (suc (suc (suc (suc (suc (suc (suc (suc (suc zero)))))))))))) d lt = refl
-one_creates (suc (suc (suc (suc (suc (suc (suc (suc (suc (suc (suc (suc (suc zero))))))))))))) d lt = refl
-one_creates (suc (suc (suc (suc (suc (suc (suc (suc (suc (suc (suc (suc (suc (suc zero)))))))))))))) d lt = refl
-one_creates (suc (suc (suc (suc (suc (suc (suc (suc (suc (suc (suc (suc (suc (suc (suc zero))))))))))))))) d lt = refl
-one_creates (suc (suc (suc (suc (suc (suc (suc (suc (suc (suc (suc (suc (suc (suc (suc (suc n)))))))))))))))) d lt = absurd
+-- a create_link that waits is one, and so is a create_intr_chan
+one_waits : (c : ℕ) (d : Option ℕ) → c < 16
+    → (nat_lt 0 (creating (Entered c None Lock d ∷ [])) ≡ true) × (nat_lt 0 (dialing (Entered c None Dial d ∷ [])) ≡ true)
+one_waits zero d lt = (refl, refl)
+one_waits (suc zero) d lt = (refl, refl)
+one_waits (suc (suc zero)) d lt = (refl, refl)
+one_waits (suc (suc (suc zero))) d lt = (refl, refl)
+one_waits (suc (suc (suc (suc zero)))) d lt = (refl, refl)
+one_waits (suc (suc (suc (suc (suc zero))))) d lt = (refl, refl)
+one_waits (suc (suc (suc (suc (suc (suc zero)))))) d lt = (refl, refl)
+one_waits (suc (suc (suc (suc (suc (suc (suc zero))))))) d lt = (refl, refl)
+one_waits (suc (suc (suc (suc (suc (suc (suc (suc zero)))))))) d lt = (refl, refl)
+one_waits (suc (suc (suc (suc (suc (suc (suc (suc (suc zero))))))))) d lt = (refl, refl)
+one_waits (suc (suc (suc (suc (suc (suc (suc (suc (suc (suc zero)))))))))) d lt = (refl, refl)
+one_waits (suc (suc (suc (suc (suc (suc (suc (suc (suc (suc (suc zero))))))))))) d lt = (refl, refl)
+one_waits (suc (suc (suc (suc (suc (suc (suc (suc (suc (suc (suc (suc zero)))))))))))) d lt = (refl, refl)
+one_waits (suc (suc (suc (suc (suc (suc (suc (suc (suc (suc (suc (suc (suc zero))))))))))))) d lt = (refl, refl)
+one_waits (suc (suc (suc (suc (suc (suc (suc (suc (suc (suc (suc (suc (suc (suc zero)))))))))))))) d lt = (refl, refl)
+one_waits (suc (suc (suc (suc (suc (suc (suc (suc (suc (suc (suc (suc (suc (suc (suc zero))))))))))))))) d lt = (refl, refl)
+one_waits (suc (suc (suc (suc (suc (suc (suc (suc (suc (suc (suc (suc (suc (suc (suc (suc n)))))))))))))))) d lt = absurd
     (omega (arith, lt))
 
 made_wants : (config : Config) (c : ℕ) (lock_device : Bool) (acts : List BenchAct) → lids_left (link_acts acts) ≡ true
@@ -203,11 +206,26 @@ if_wants : (b : Bool) (x y : Begun) → begun_wants x ≡ true → begun_wants y
 if_wants true x y e f = e
 if_wants false x y e f = f
 
+either : (a b : Bool) → b ≡ true → (a || b) ≡ true
+either true b e = refl
+either false b e = e
+
+-- an interrupt channel that may be opened wants memory
+pub channel_wants : (c : ℕ) → c < 16 → begun_wants (begin_channel c None) ≡ true
+channel_wants c lt = either (nat_lt 0 (creating (Entered c None Dial None ∷ []))) (nat_lt 0 (dialing (Entered c None Dial None ∷ [])))
+    (one_waits c None lt).1
+
+-- where nothing is in its way none is open
+pub no_channel : (there : Bool) (host_addr host_port prog_family : ℕ) → channel_fault there host_addr host_port prog_family ≡ None
+    → there ≡ false
+no_channel true host_addr host_port prog_family e = absurd cc
+no_channel false host_addr host_port prog_family e = refl
+
 -- a link that may be made wants memory
 pub begin_wants : (config : Config) (c : ℕ) (timeout : Option ℕ) (acts : List BenchAct) → c < 16 → lids_left (link_acts acts) ≡ true
     → begun_wants (begin_link config c timeout acts) ≡ true
 begin_wants config c (Some timeout) acts lt left =
-    if_wants (is_locked_out (holder (link_acts acts)) None) _ _ (one_creates c (Some (deadline_of config timeout acts)) lt)
+    if_wants (is_locked_out (holder (link_acts acts)) None) _ _ (rw (one_waits c (Some (deadline_of config timeout acts)) lt).0 refl)
     (made_wants config c true acts left)
 begin_wants config c None acts lt left = made_wants config c false acts left
 
@@ -221,7 +239,7 @@ on_err (Ok a) P p = tt
 on_err (Err e) P p = p
 
 -- what makes no link needn't wait for the lock so
-pub behind_other : (config : Config) (polled c : ℕ) (arguments : Arguments) (acts : List BenchAct) → is_create_link arguments ≡ false
+pub behind_other : (config : Config) (polled c : ℕ) (arguments : Arguments) (acts : List BenchAct) → takes_memory arguments ≡ false
     → unless_blocked config polled c arguments (blocked arguments acts) acts ≡ behind_lock config polled c arguments acts
 behind_other config polled c (DeviceAbort lid) acts e = refl
 behind_other config polled c (CreateLink client_id lock_device lock_timeout device) acts e = absurd cc
@@ -237,5 +255,5 @@ behind_other config polled c (DeviceUnlock lid) acts e = refl
 behind_other config polled c (DeviceEnableSrq lid enable handle) acts e = refl
 behind_other config polled c (DeviceDocmd lid flags io_timeout lock_timeout cmd network_order datasize bytes) acts e = refl
 behind_other config polled c (DestroyLink lid) acts e = refl
-behind_other config polled c (CreateIntrChan host_addr host_port prog_num prog_vers prog_family) acts e = refl
+behind_other config polled c (CreateIntrChan host_addr host_port prog_num prog_vers prog_family) acts e = absurd cc
 behind_other config polled c DestroyIntrChan acts e = refl

@@ -1,8 +1,12 @@
 pub mod Replies
 pub mod Connections
 pub mod Projections
+pub mod Telling
+pub mod Owned
+pub mod Raising
 pub mod Taken
 pub mod Benches
+pub mod Channeled
 pub mod Granted
 pub mod Aborting
 pub mod Going
@@ -12,6 +16,8 @@ pub mod Turned
 pub mod Logs
 pub mod Steps
 pub mod Standing
+pub mod Channels
+pub mod Refusals
 pub mod Taking
 pub mod Ports
 pub mod Shown

@@ -7,11 +7,12 @@ use Rattle.std.proofs.lemmas.List.{get_or-set_same, get_or-set_other, map-append
 use Rattle.sv_links.specs.declared.waiting.Entry.{Entry}
 use Rattle.sv_links.specs.Links.{closing}
 use Rattle.sv_links.specs.Waiting.{Left}
+use Rattle.sv_links.specs.Channels.{ChannelClosed}
 use Rattle.sv_links.specs.Queue.{without}
 use Rattle.sv_server.specs.declared.event.Config.{Config}
 use Rattle.sv_server.specs.Inside.Acting.{Concludes}
 use Rattle.sv_server.specs.Inside.Outcome.{HeldAs}
-use Rattle.sv_server.specs.Act.{Act, ConnAct, BenchAct, CallTaken, Faulted, Replied, PortClosed, Linked, Waited, Ticked, On, Bench, of, bench, link_acts}
+use Rattle.sv_server.specs.Act.{Act, ConnAct, BenchAct, CallTaken, Faulted, Replied, PortClosed, Linked, Waited, Channel, Ticked, On, Bench, of, bench, link_acts}
 use Rattle.sv_server.specs.Connection.{is_open, is_busy, unanswered}
 use Rattle.sv_server.specs.CoreCall.{core_call}
 use Rattle.sv_server.specs.Verdict.{Verdict, NoCall, Replies, Stays, verdict_acts}
@@ -114,17 +115,19 @@ pub closes : (state : State) (config : Config) (log : List Act) (c : ℕ) (old n
     → Represents state config log → length state.connections ≡ 16 → c < 16 → old ≡ get_or state.connections c old
     → (IsConnection old (of c log) → IsConnection new (PortClosed ∷ of c log))
     → ((acts : List BenchAct) → IsBench state.bench config acts
-    → IsBench shared config (map Linked (closing c (link_acts acts)) ++ Waited (Left c) ∷ acts))
+    → IsBench shared config (Channel (ChannelClosed c) ∷ map Linked (closing c (link_acts acts)) ++ Waited (Left c) ∷ acts))
     → shared.waiting ≡ without c state.bench.waiting
-    → let adds = map Linked (closing c (link_acts (bench log))) ++ Waited (Left c) ∷ [] in
+    → let adds = Channel (ChannelClosed c) ∷ map Linked (closing c (link_acts (bench log))) ++ Waited (Left c) ∷ [] in
     Represents (record { connections = set state.connections c new; bench = shared }) config (map Bench adds ++ On c PortClosed ∷ log)
 closes state config log c old new shared rep sixteen lt e goes freed left =
     let links = map Linked (closing c (link_acts (bench log))) in
-    let adds = links ++ Waited (Left c) ∷ [] in
+    let adds = Channel (ChannelClosed c) ∷ links ++ Waited (Left c) ∷ [] in
     let others = λ (d : ℕ) (ne : d ≢ c). of_shared d adds (On c PortClosed ∷ log) ∙ of_other c d PortClosed log ne in
     acted state config log (map Bench adds ++ On c PortClosed ∷ log) c new shared rep sixteen lt
     (rw (of_shared c adds (On c PortClosed ∷ log), of_mine) (goes (connection_of state config log c old rep lt e)))
-    (rw (bench_shared, append_assoc links (Waited (Left c) ∷ []) (bench log)) (freed (bench log) rep.shared))
+    (subst (λ (acts : List BenchAct). IsBench shared config acts)
+    (sym (bench_shared adds (On c PortClosed ∷ log)
+    ∙ append_assoc (Channel (ChannelClosed c) ∷ links) (Waited (Left c) ∷ []) (bench log))) (freed (bench log) rep.shared))
     others
     (rw left (taken_without c log (map Bench adds ++ On c PortClosed ∷ log) state.bench.waiting others rep.taken))
 
@@ -143,7 +146,7 @@ of_itself : (c : ℕ) (adds : List BenchAct) (call : List ℕ) (log : List Act)
 of_itself c adds call log = ap (of c) (of_parts adds c call log) ∙ of_shared c adds (On c (CallTaken call) ∷ log)
     ∙ of_mine c (CallTaken call) log
 
-busy_idle : (acts : List ConnAct) (call : List ℕ) → unanswered acts ≡ Some call → is_busy acts ≡ false → ⊥
+pub busy_idle : (acts : List ConnAct) (call : List ℕ) → unanswered acts ≡ Some call → is_busy acts ≡ false → ⊥
 busy_idle acts call known idle = let z : true ≡ false = sym (ap is_some known) ∙ idle in cc
 
 -- what is known of the calls that wait, behind a Turn

@@ -5,13 +5,14 @@ use Rattle.std.proofs.lemmas.Bool.{ne_eqb}
 use Rattle.sv_links.specs.Links.{LinkAct, live}
 use Rattle.sv_links.specs.Table.{Table, IsTable}
 use Rattle.sv_links.specs.Queue.{creations}
+use Rattle.sv_links.specs.KeptChannels.{Channels, IsReady}
 use Rattle.sv_layers.specs.Act.{Act as InstrumentAct}
 use Rattle.sv_instrument.specs.Kept.{Kept, StandsFor}
 use Rattle.sv_server.specs.declared.event.Config.{Config}
 use Rattle.sv_server.specs.Act.{Act, ConnAct, BenchAct, CallTaken, Faulted, Linked, Happened, On, Bench, of, bench, link_acts, wait_acts, instrument_acts, ticks}
 use Rattle.sv_server.specs.Verdict.{Verdict, NoCall, Replies, Stays, verdict_acts}
 use Rattle.sv_server.specs.KeptConnection.{Connection, IsConnection}
-use Rattle.sv_server.specs.KeptBench.{IsBench, Bench as KeptBench}
+use Rattle.sv_server.specs.KeptBench.{IsBench, HasDone, AreTold, Bench as KeptBench}
 use Rattle.sv_server.specs.Inside.Acting.{Concludes}
 
 -- an act of the connection itself, and of another
@@ -66,30 +67,27 @@ wait_acts-links [] acts = refl
 wait_acts-links (act ∷ links) acts = wait_acts-links links acts
 
 -- what happens to the instrument happens to nothing else
-pub bench_happened : (kept : KeptBench) (instrument : Kept) (config : Config) (acts : List BenchAct) (adds : List InstrumentAct)
+pub bench_done : (kept : KeptBench) (instrument : Kept) (config : Config) (acts : List BenchAct) (adds : List InstrumentAct)
     → IsBench kept config acts → StandsFor instrument (adds ++ instrument_acts acts)
-    → IsBench (record kept { instrument = instrument }) config (map Happened adds ++ acts)
-bench_happened kept instrument config acts adds (links, before, set_up, clock, waiting, reserved) stands = (
-  rw (link_acts-happened adds acts) links,
-  rw (instrument_acts-happened adds acts) stands,
-  set_up,
-  rw (ticks-happened adds acts) clock,
-  rw (wait_acts-happened adds acts) waiting,
-  (rw (link_acts-happened adds acts) reserved.0, reserved.1),
-)
+    → HasDone adds (record kept { instrument = instrument }) config acts
+bench_done kept instrument config acts adds (links, before, set_up, clock, waiting, reserved, told, ready) stands =
+    (links, stands, set_up, clock, waiting, reserved, told, ready)
 
--- what happens to links
-pub bench_linked : (kept : KeptBench) (links : Table) (config : Config) (acts : List BenchAct) (adds : List LinkAct)
+-- what happens to links, and with them to those that ask for service requests
+pub bench_linked : (kept : KeptBench) (links : Table) (intr : Channels) (config : Config) (acts : List BenchAct) (adds : List LinkAct)
     → IsBench kept config acts → IsTable links (adds ++ link_acts acts)
     → length (live (adds ++ link_acts acts)) + creations kept.waiting ≤ 32 → creations kept.waiting ≤ links.spare
-    → IsBench (record kept { links = links }) config (map Linked adds ++ acts)
-bench_linked kept links config acts adds (before, instrument, set_up, clock, waiting, reserved) stands few spare = (
+    → AreTold intr (map Linked adds ++ acts) → ((c : ℕ) → IsReady kept.intr c → IsReady intr c)
+    → IsBench (record kept { links = links; intr = intr }) config (map Linked adds ++ acts)
+bench_linked kept links intr config acts adds is stands few spare told still = (
   rw (link_acts-links adds acts) stands,
-  rw (instrument_acts-links adds acts) instrument,
-  set_up,
-  rw (ticks-links adds acts) clock,
-  rw (wait_acts-links adds acts) waiting,
+  rw (instrument_acts-links adds acts) is.1,
+  is.2,
+  rw (ticks-links adds acts) is.3,
+  rw (wait_acts-links adds acts) is.4,
   (rw (link_acts-links adds acts) few, spare),
+  told,
+  rw (wait_acts-links adds acts) (λ c dials. still c (is.7 c dials)),
 )
 
 -- ---- the acts of a record that was taken

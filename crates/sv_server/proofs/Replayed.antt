@@ -10,13 +10,15 @@ use Rattle.sv_server.specs.declared.print.WriteFault.{WriteFault}
 use Rattle.sv_server.specs.declared.replay.ReplayFault.{ReplayFault}
 use Rattle.sv_server.specs.declared.replay.ReplayFault.TheVariants.{NoMemory, Write}
 use Rattle.sv_server.specs.Event.{PlainEvent}
-use Rattle.sv_server.specs.Act.{Act}
+use Rattle.sv_links.specs.Channels.{ChannelAct}
+use Rattle.sv_server.specs.Act.{Act, bench}
 use Rattle.sv_server.specs.History.{IsLogOf, Answers, history_after}
 use Rattle.sv_server.specs.State.{State, StandsFor}
 use Rattle.sv_server.specs.Written.{Takes}
 use Rattle.sv_server.specs.Print.{ports, ports_after, with_tooks, head_of, refusal_line, is_no_memory}
 use Rattle.sv_server.specs.Replay.{Writes, Replays}
 use Rattle.sv_server.specs.Inside.Showing.{StandsBy, ShowsAll}
+use Rattle.sv_server.proofs.Steps.{told_now}
 use Rattle.sv_server.proofs.Taking.{appends_then}
 
 -- what became of the writing is what is told
@@ -34,42 +36,56 @@ Left config history event fault new first last = (text : List ℕ) × (after : L
     × StandsFor new config after × Appends first last text
 
 -- the lines that were written, behind a refusal's line
-writes_all : (did : Result Did Refused) (log : List Act) (history : List PlainEvent) (r : Result ⊤ WriteFault)
+writes_all : (did : Result Did Refused) (told : List ChannelAct) (log : List Act) (history : List PlainEvent) (r : Result ⊤ WriteFault)
     (fault : Result ⊤ ReplayFault)
     (config : Config) (new : State) (head text : List ℕ)
-    → did ≢ Err refused.NoMemory → ports_after did ≡ ports → head ≡ head_of did → Told r fault → ShowsAll config history log r new text
-    → (after : List PlainEvent) × (now : List Act) × Writes did log history fault (head ++ text) after × StandsBy new config after now
-writes_all did log history (Ok all) fault config new head text some shown is told (lines, now, stands) =
-    (with_tooks ports log history, now, rw (told, is, lines, shown) (some, refl, refl), stands)
-writes_all did log history (Err e) fault config new head text some shown is told (first, others, part, split, front, lines, now, stands) = (
-  with_tooks first log history,
-  now,
-  rw told (inr (
-    first,
-    others,
-    part,
-    shown ∙ split,
-    front,
-    ap (λ (l : List ℕ). l ++ text) is ∙ ap (λ (l : List ℕ). head_of did ++ l) lines,
-    refl,
-  )),
-  stands,
-)
+    → did ≢ Err refused.NoMemory → ports_after did ≡ ports → head ≡ head_of did → Told r fault → ShowsAll config history told log r new text
+    → (after : List PlainEvent) × (so : List ChannelAct) × (now : List Act) × Writes did told log history fault (head ++ text) after
+    × StandsBy new config after so now
+writes_all did told log history (Ok all) fault config new head text some shown is came (lines, so, now, stands) =
+    (with_tooks told ports log history, so, now, rw (came, is, lines, shown) (some, refl, refl), stands)
+writes_all did told log history (Err e) fault config new head text some shown is came
+    (first, others, part, split, front, lines, so, now, stands) = (
+      with_tooks told first log history,
+      so,
+      now,
+      rw came (inr (
+        first,
+        others,
+        part,
+        shown ∙ split,
+        front,
+        ap (λ (l : List ℕ). l ++ text) is ∙ ap (λ (l : List ℕ). head_of did ++ l) lines,
+        refl,
+      )),
+      stands,
+    )
 
 pub replay_shown : (config : Config) (history : List PlainEvent) (event : PlainEvent) (did : Result Did Refused) (mid new : State)
     (head : List ℕ) (first put last : Option (List ℕ)) (r : Result ⊤ WriteFault)
     (fault : Result ⊤ ReplayFault) → did ≢ Err refused.NoMemory → ports_after did ≡ ports → head ≡ head_of did → Told r fault
     → AnswersNow config history event did
     → StandsFor mid config (history_after event did history) → Appends first put head
-    → ((h : List PlainEvent) (log : List Act) → StandsBy mid config h log
-    → (text : List ℕ) × Appends put last text × ShowsAll config h log r new text) → Left config history event fault new first last
-replay_shown config history event did mid new head first put last r fault some shown is told answers s begun shows =
-    let (text, more, all) = shows (history_after event did history) s.log (s.is_log, s.represents, s.settled) in
-    let (after, now, writes, stands) = writes_all did s.log
-    (history_after event did history) r fault config new head text some shown is told all in (
+    → ((h : List PlainEvent) (told : List ChannelAct) (log : List Act) → StandsBy mid config h told log
+    → (text : List ℕ) × Appends put last text × ShowsAll config h told log r new text) → Left config history event fault new first last
+replay_shown config history event did mid new head first put last r fault some shown is came answers s begun shows =
+    let (told, tells) = told_now mid.bench config (bench s.log) s.represents.shared in
+    let (text, more, all) = shows (history_after event did history) told s.log (s.is_log, s.represents, s.settled, tells) in
+    let (after, so, now, writes, stands) = writes_all did told s.log
+    (history_after event did history) r fault config new head text some shown is came all in (
       head ++ text,
       after,
-      record { before = answers.0; is_before = answers.1; did = did; answers = answers.2; log = s.log; is_log = s.is_log; writes = writes },
+      record {
+        before = answers.0;
+        is_before = answers.1;
+        did = did;
+        answers = answers.2;
+        log = s.log;
+        is_log = s.is_log;
+        told = told;
+        tells = tells;
+        writes = writes;
+      },
       record { log = now; is_log = stands.0; represents = stands.1; settled = stands.2 },
       appends_then first put last head text begun more,
     )
@@ -79,7 +95,7 @@ pub replay_stopped : (config : Config) (history : List PlainEvent) (event : Plai
     (first last : Option (List ℕ)) (e : WriteFault) (fault : Result ⊤ ReplayFault)
     → fault ≡ Err Write → AnswersNow config history event (Err refusal) → StandsFor mid config history
     → Takes first last (Err e) (refusal_line refusal) → Left config history event fault mid first last
-replay_stopped config history event refusal mid first last e fault told answers s (part, front, begun) = (
+replay_stopped config history event refusal mid first last e fault came answers s (part, front, begun) = (
   part,
   history,
   record {
@@ -89,7 +105,9 @@ replay_stopped config history event refusal mid first last e fault told answers 
     answers = answers.2;
     log = s.log;
     is_log = s.is_log;
-    writes = rw told (inl (front, refl));
+    told = (told_now mid.bench config (bench s.log) s.represents.shared).0;
+    tells = (told_now mid.bench config (bench s.log) s.represents.shared).1;
+    writes = rw came (inl (front, refl));
   },
   s,
   begun,
@@ -110,8 +128,9 @@ replay_no_memory config history event refusal mid first last is answered s took 
         did = Err refused.NoMemory;
         answers = answers.2;
         log = s.log;
-        is_log =
-            s.is_log;
+        is_log = s.is_log;
+        told = (told_now mid.bench config (bench s.log) s.represents.shared).0;
+        tells = (told_now mid.bench config (bench s.log) s.represents.shared).1;
         writes = (refl, sym (append-nil (refusal_line refused.NoMemory)), refl);
       },
       s,

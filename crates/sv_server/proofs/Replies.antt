@@ -1,13 +1,14 @@
 -- A reply has room in the text that it is written into.
-use Rattle.std.proofs.Common.{◌≡◌, ℕ, ◌+◌, ◌*◌, ◌≤◌, List, [], ◌∷◌, ◌++◌, length, take, Result, Ok, Err, refl, sym, ap, ◌∙◌, arith}
+use Rattle.std.proofs.Common.{◌≡◌, ℕ, ◌+◌, ◌*◌, ◌≤◌, List, [], ◌∷◌, ◌++◌, length, Result, refl, sym, ap, ◌∙◌, arith}
 use Rattle.std.specs.Prelude.{map, replicate}
 use Rattle.std.specs.List.{concat}
-use Rattle.std.proofs.lemmas.List.{length-append, length-take-le, length-replicate, append-nil}
+use Rattle.std.proofs.lemmas.List.{length-append, length-replicate, append-nil}
 use Rattle.std.proofs.lemmas.List.Folds.{concat-append}
 use Rattle.sv_xdr.specs.declared.fault.XdrFault.{XdrFault}
 use Rattle.sv_xdr.specs.declared.writer.Writer.{Writer}
 use Rattle.sv_xdr.specs.Spelling.{Field, Unsigned, Opaque, spelling, pad_len}
-use Rattle.sv_xdr.specs.Writer.{text_of, rest_of, Appends, WritesEach}
+use Rattle.sv_xdr.specs.Writer.{text_of, rest_of, WritesEach}
+use Rattle.sv_xdr.proofs.Whole.{room_left, whole_is_written}
 use Rattle.sv_rpc.specs.declared.reply.Reply.{Reply}
 use Rattle.sv_rpc.specs.declared.reply.Reply.TheVariants.{Success, Mismatch, ProgUnavail, ProgMismatch, ProcUnavail, GarbageArgs}
 use Rattle.sv_rpc.specs.Reply.{reply_fields}
@@ -15,25 +16,6 @@ use Rattle.sv_server.specs.declared.reply.Answer.{Answer}
 use Rattle.sv_server.specs.declared.reply.Answer.TheVariants as answers
 use Rattle.sv_server.specs.Inside.Outcome.{HasAtMost, answer_text}
 use Rattle.sv_vxi.specs.Results.{Outcome, plain_result, Link, Size, Read, Status, Plain, Data, result_fields, data_of}
-
--- bytes that were written leave so much less room
-room_left : (bytes : List ℕ) (old new : Writer) → Appends bytes old new → length bytes + length (rest_of new) ≡ length (rest_of old)
-room_left bytes old new a =
-    let front : length (take (length bytes) (rest_of old)) ≡ length bytes = length-take-le (length bytes) (rest_of old) a.fits in
-    omega (arith, ap length a.rest, length-append (take (length bytes) (rest_of old)) (rest_of new))
-
--- pieces that have room together are all written
-pub whole_is_written : (pieces : List (List ℕ)) (r : Result Unit XdrFault) (old new : Writer) → WritesEach pieces r old new
-    → length (concat pieces) ≤ length (rest_of old)
-    → Appends (concat pieces) old new
-whole_is_written pieces (Ok done) old new w room = w
-whole_is_written pieces (Err fault) old new w room =
-    let front = w.1 in
-    let behind = w.2 in
-    let piece = w.3 in
-    let parts : concat pieces ≡ concat front ++ (piece ++ concat behind) = ap concat w.4 ∙ concat-append front (piece ∷ behind) in
-    let left = room_left (concat front) old new w.5 in
-    absurd (omega (arith, ap length parts, length-append (concat front) (piece ++ concat behind), length-append piece (concat behind), w.6))
 
 -- the header of a reply is at most eight words
 pub reply_is_short : (xid : ℕ) (reply : Reply) → length (concat (map spelling (reply_fields xid reply))) ≤ 32

@@ -12,7 +12,9 @@ use Rattle.sv_instrument.specs.Happened.{IsFired}
 use Rattle.sv_instrument.specs.Step.{IsStep}
 use Rattle.sv_instrument.proofs.OneStep.{one_step}
 use Rattle.sv_server.specs.declared.event.Config.{Config}
-use Rattle.sv_server.specs.Act.{Act, ConnAct, BenchAct, Happened, On, Bench, of, bench, wait_acts, instrument_acts, ticks}
+use Rattle.sv_server.specs.Act.{Act, ConnAct, BenchAct, Channel, Happened, On, Bench, of, bench, wait_acts, instrument_acts, ticks}
+use Rattle.sv_links.specs.Channels.{ChannelAct}
+use Rattle.sv_server.specs.Requests.{Tells}
 use Rattle.sv_server.specs.Polled.{IsPolled}
 use Rattle.sv_server.specs.Settling.{First, Happens, CanGoOn, GoesOn, GivesUp, IsNext, IsSettled, SettlesIn}
 use Rattle.sv_server.specs.Connection.{unanswered}
@@ -25,8 +27,12 @@ use Rattle.sv_server.specs.KeptBench.{IsBench, Bench as KeptBench}
 -- what a poll would give
 pub polled_now : (kept : KeptBench) (config : Config) (acts : List BenchAct) → IsBench kept config acts
     → (polled : ℕ) × IsPolled polled acts
-polled_now kept config acts (links, stands, set_up, clock, waiting, reserved) = polled_byte kept.instrument.layers
-    (instrument_acts acts) stands.layers
+polled_now kept config acts is = polled_byte kept.instrument.layers (instrument_acts acts) is.1.layers
+
+-- what is told to interrupt channels
+pub told_now : (kept : KeptBench) (config : Config) (acts : List BenchAct) → IsBench kept config acts
+    → (told : List ChannelAct) × Tells acts told
+told_now kept config acts is = (is.6.0, is.6.1)
 
 -- ---- one step is due at most
 
@@ -164,6 +170,37 @@ next_back config log other same = first_back _ _ _ _ (λ new. happens_back IsFir
 pub still_settled : (c : ℕ) (act : ConnAct) (config : Config) (log : List Act) → IsSettled config log → IsSettled config (On c act ∷ log)
 still_settled c act config log none = λ new next.
     let there = next_back config log (On c act ∷ log) refl new next in none there.0 there.1
+
+-- nor does an act of an interrupt channel
+channel_happens : (act : ChannelAct) (IsSuch : List InstrumentAct → List InstrumentAct → Type 0) (log new : List Act)
+    → Happens IsSuch (Bench (Channel act) ∷ log) new → (there : List Act) × Happens IsSuch log there
+channel_happens act IsSuch log new (adds, such, is) = (map Bench (map Happened adds) ++ log, (adds, such, refl))
+
+happens_channel : (act : ChannelAct) (IsSuch : List InstrumentAct → List InstrumentAct → Type 0) (log new : List Act)
+    → Happens IsSuch log new → (there : List Act) × Happens IsSuch (Bench (Channel act) ∷ log) there
+happens_channel act IsSuch log new (adds, such, is) = (map Bench (map Happened adds) ++ Bench (Channel act) ∷ log, (adds, such, refl))
+
+channel_goes : (act : ChannelAct) (config : Config) (log new : List Act) → GoesOn config (Bench (Channel act) ∷ log) new
+    → (there : List Act) × GoesOn config log there
+channel_goes act config log new (c, wait, polled, oldest, for, said, is) =
+    (went_on config log polled c wait, (c, wait, polled, oldest, for, said, refl))
+
+goes_channel : (act : ChannelAct) (config : Config) (log new : List Act) → GoesOn config log new
+    → (there : List Act) × GoesOn config (Bench (Channel act) ∷ log) there
+goes_channel act config log new (c, wait, polled, oldest, for, said, is) =
+    (went_on config (Bench (Channel act) ∷ log) polled c wait, (c, wait, polled, oldest, for, said, refl))
+
+channel_gives : (act : ChannelAct) (config : Config) (log new : List Act) → GivesUp config (Bench (Channel act) ∷ log) new
+    → (there : List Act) × GivesUp config log there
+channel_gives act config log new (c, wait, oldest, for, is) = (gave_up log c wait, (c, wait, oldest, for, refl))
+
+pub channel_settled : (act : ChannelAct) (config : Config) (log : List Act) → IsSettled config log
+    → IsSettled config (Bench (Channel act) ∷ log)
+channel_settled act config log none = λ new next.
+    let there = first_back _ _ _ _ (λ new. channel_happens act IsFired log new) (λ new. happens_channel act IsFired log new)
+    (first_back _ _ _ _ (λ new. channel_goes act config log new) (λ new. goes_channel act config log new)
+    (first_back _ _ _ _ (λ new. channel_happens act IsStep log new) (λ new. happens_channel act IsStep log new)
+    (λ new. channel_gives act config log new))) new next in none there.0 there.1
 
 -- ---- some steps, and then others
 

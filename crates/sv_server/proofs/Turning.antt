@@ -5,7 +5,7 @@ use Rattle.sv_rpc.specs.Call.{call_at}
 use Rattle.sv_vxi.specs.declared.error_code.ErrorCode.{ErrorCode}
 use Rattle.sv_links.specs.declared.waiting.Entry.{Entry}
 use Rattle.sv_links.specs.Links.{made}
-use Rattle.sv_links.specs.Waiting.{waits, creating}
+use Rattle.sv_links.specs.Waiting.{waits}
 use Rattle.sv_server.specs.declared.event.Config.{Config}
 use Rattle.sv_server.specs.declared.event.Role.{Role}
 use Rattle.sv_server.specs.declared.event.Did.TheVariants.{Done as DidSo, Idle as DidNothing}
@@ -24,7 +24,7 @@ use Rattle.sv_server.specs.KeptConnection.{Connection}
 use Rattle.sv_server.specs.KeptBench.{Bench as KeptBench}
 use Rattle.sv_server.specs.State.{State, Represents}
 use Rattle.sv_server.specs.Inside.Acting.{Acts, Turns}
-use Rattle.sv_server.specs.Inside.Outcome.{verdict_wants}
+use Rattle.sv_server.specs.Inside.Outcome.{verdict_wants, lets_wait}
 use Rattle.sv_server.proofs.Projections.{bench_shared}
 use Rattle.sv_server.proofs.Logs.{acted, turned}
 use Rattle.sv_server.proofs.Aborting.{record_aborts}
@@ -60,24 +60,24 @@ taken_wants c call (Replies adds aborts bytes) log e =
     or_left _ _ (ap (nat_lt 0)
     (made_aborting aborts _ _ ∙ ap (λ (acts : List BenchAct). made (link_acts acts)) (taken_bench adds c call)) ∙ e)
 taken_wants c call (Stays adds) log e =
-    or_right _ _ (ap (λ (acts : List BenchAct). nat_lt 0 (creating (wait_acts acts))) (taken_bench adds c call) ∙ e)
+    or_right _ _ (ap lets_wait (taken_bench adds c call) ∙ e)
 
 pub turn_refused : (config : Config) (c : ℕ) (log : List Act) (old : List Entry) (r : Refused) (kept : Connection) (shared : KeptBench)
     (new : State) → is_shut c log ≡ false → Turns config c log old (Err r) kept shared → Acts config (Turn c) log (Err r) new
 turn_refused config c log old NoMemory kept shared new open_now (none, call, (role, opened, next, wants)) = (
-  rw open_now none,
+  λ told tells. rw open_now none,
   λ polled said. rw (opened, next)
       (taken_wants c call (verdict_of config polled c role (call_at call) (bench log)) log (wants polled said)),
 )
-turn_refused config c log old ConnInUse kept shared new open_now why = rw open_now why
-turn_refused config c log old NoConn kept shared new open_now why = rw open_now why
-turn_refused config c log old NoRoom kept shared new open_now why = rw open_now why
-turn_refused config c log old NotSent kept shared new open_now why = rw open_now why
-turn_refused config c log old NoDial kept shared new open_now why = rw open_now why
-turn_refused config c log old NotRefusable kept shared new open_now why = rw open_now why
-turn_refused config c log old BadChannel kept shared new open_now why = rw open_now why
-turn_refused config c log old BadInput kept shared new open_now why = rw open_now why
-turn_refused config c log old TimeOver kept shared new open_now why = rw open_now why
+turn_refused config c log old ConnInUse kept shared new open_now why = λ told tells. rw open_now why
+turn_refused config c log old NoConn kept shared new open_now why = λ told tells. rw open_now why
+turn_refused config c log old NoRoom kept shared new open_now why = λ told tells. rw open_now why
+turn_refused config c log old NotSent kept shared new open_now why = λ told tells. rw open_now why
+turn_refused config c log old NoDial kept shared new open_now why = λ told tells. rw open_now why
+turn_refused config c log old NotRefusable kept shared new open_now why = λ told tells. rw open_now why
+turn_refused config c log old BadChannel kept shared new open_now why = λ told tells. rw open_now why
+turn_refused config c log old BadInput kept shared new open_now why = λ told tells. rw open_now why
+turn_refused config c log old TimeOver kept shared new open_now why = λ told tells. rw open_now why
 
 -- ---- a Turn that finds no call
 
@@ -94,7 +94,7 @@ pub turn_idle : (state : State) (config : Config) (log : List Act) (c : ℕ) (ke
     → Turns config c log state.bench.waiting (Ok Idle) kept shared
     → Acts config (Turn c) log (Ok DidNothing) (record { connections = set state.connections c kept; bench = shared })
 turn_idle state config log c kept shared rep sixteen lt open_now (none, idle, mine, all, same) = (
-  rw open_now none,
+  λ told tells. rw open_now none,
   rw idle refl,
   λ polled said. rw (none_next (next_call (of c log)) idle, turn_none)
       (acted state config log log c kept shared rep sixteen lt mine all (λ d ne. refl) (rw same rep.taken)),
@@ -107,7 +107,7 @@ idle_of true b found call e = absurd cc
 idle_of false true found call e = absurd cc
 idle_of false false found call e = refl
 
-not_busy : (c : ℕ) (log : List Act) (call : List ℕ) → next_call (of c log) ≡ Some call → is_busy (of c log) ≡ false
+pub not_busy : (c : ℕ) (log : List Act) (call : List ℕ) → next_call (of c log) ≡ Some call → is_busy (of c log) ≡ false
 not_busy c log call e = idle_of _ (is_busy (of c log)) _ call e
 
 -- where it ends the call of another connection, nothing else is done
@@ -122,7 +122,7 @@ pub turn_done : (state new : State) (config : Config) (log : List Act) (c : ℕ)
     → ((d : ℕ) → aborts ≡ Some d → waits d (wait_acts (bench mid)) ≡ None → ⊥) → Represents new k (abort_acts aborts mid ++ mid))
     → Acts config (Turn c) log (Ok DidSo) new
 turn_done state new config log c aborts kept shared rep sixteen lt open_now (none, idle, call, (role, opened, next, so)) ends = (
-  rw open_now none,
+  λ told tells. rw open_now none,
   rw idle refl,
   λ polled said.
       let verdict = verdict_of config polled c role (call_at call) (bench log) in

@@ -1,8 +1,10 @@
 -- What is recorded of each event, act by act. A log is a list of acts, the newest first. Each act is one of a connection's, or one of what
--- all connections share: links, calls that wait, the instrument and the clock.
+-- all connections share: links, calls that wait,
+-- interrupt channels, the instrument and the clock.
 use Rattle.std.specs.Prelude.{ℕ, ◌+◌, ◌==◌, List, [], ◌∷◌, if◌then◌else◌}
 use Rattle.sv_links.specs.Links.{LinkAct}
 use Rattle.sv_links.specs.Waiting.{WaitAct}
+use Rattle.sv_links.specs.Channels.{ChannelAct}
 use Rattle.sv_exchange.specs.Exchange.{ExchangeAct}
 use Rattle.sv_layers.specs.Act.{Act as InstrumentAct, exchange_acts as exchanged}
 use Rattle.sv_server.specs.declared.event.Role.{Role}
@@ -21,6 +23,7 @@ pub data ConnAct : Type 0 where
 pub data BenchAct : Type 0 where
   Linked : (act : LinkAct) → BenchAct
   Waited : (act : WaitAct) → BenchAct
+  Channel : (act : ChannelAct) → BenchAct
   Happened : (act : InstrumentAct) → BenchAct
   Ticked : BenchAct
 
@@ -39,7 +42,8 @@ bench [] = []
 bench (On c act ∷ log) = bench log
 bench (Bench act ∷ log) = act ∷ bench log
 
--- of these the acts of links, those of calls that wait, those of the instrument, and the milliseconds that passed
+-- of these the acts of links, those of calls that wait, those of interrupt channels, those of the instrument, and the milliseconds that
+-- passed
 abbrev pub link_acts : List BenchAct → List LinkAct
 link_acts [] = []
 link_acts (Linked act ∷ acts) = act ∷ link_acts acts
@@ -49,6 +53,11 @@ abbrev pub wait_acts : List BenchAct → List WaitAct
 wait_acts [] = []
 wait_acts (Waited act ∷ acts) = act ∷ wait_acts acts
 wait_acts (_ ∷ acts) = wait_acts acts
+
+abbrev pub channel_acts : List BenchAct → List ChannelAct
+channel_acts [] = []
+channel_acts (Channel act ∷ acts) = act ∷ channel_acts acts
+channel_acts (_ ∷ acts) = channel_acts acts
 
 abbrev pub instrument_acts : List BenchAct → List InstrumentAct
 instrument_acts [] = []

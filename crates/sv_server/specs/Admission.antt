@@ -2,12 +2,13 @@
 -- for.
 use Rattle.std.specs.Prelude.{ℕ, ◌+◌, not, pos, Bool, true, false, List, length, Option, Some, None, codes, nat_lt, ◌&&◌, if◌then◌else◌}
 use Rattle.std.specs.Str.{bytes_eq}
+use Rattle.sv_vxi.specs.declared.error_code.ErrorCode.{ErrorCode}
 use Rattle.sv_vxi.specs.declared.error_code.ErrorCode.TheVariants.{NotAccessible, InvalidLink, OutOfResources}
 use Rattle.sv_vxi.specs.declared.error_code.ErrorCode.TheVariants.{Locked as DeviceLocked}
-use Rattle.sv_vxi.specs.Arguments.{Arguments, CreateLink, DeviceWrite, DeviceRead}
-use Rattle.sv_vxi.specs.Results.{Link}
+use Rattle.sv_vxi.specs.Arguments.{Arguments, CreateLink, DeviceWrite, DeviceRead, CreateIntrChan}
+use Rattle.sv_vxi.specs.Results.{Link, Plain}
 use Rattle.sv_links.specs.declared.waiting.Wait.{Wait}
-use Rattle.sv_links.specs.declared.waiting.Wait.TheVariants.{Lock, Input, Response}
+use Rattle.sv_links.specs.declared.waiting.Wait.TheVariants.{Lock, Input, Response, Dial}
 use Rattle.sv_links.specs.Links.{live, lids_left, holder, is_locked_out}
 use Rattle.sv_links.specs.Waiting.{WaitAct, Entered, creating}
 use Rattle.sv_exchange.specs.Exchange.{has_ended}
@@ -18,6 +19,7 @@ use Rattle.sv_server.specs.Execution.{Execution, only}
 use Rattle.sv_server.specs.declared.core_call.Patience.{Patience}
 use Rattle.sv_server.specs.declared.admission.Block.{Block}
 use Rattle.sv_server.specs.CoreCall.{named_by, link_named, lock_patience, is_too_long, failure}
+use Rattle.sv_server.specs.Interrupts.{has_channel, channel_fault}
 use Rattle.sv_server.specs.CoreChannel.{names_another, make_link, own_call}
 
 -- A call is done, or it begins to wait.
@@ -58,6 +60,11 @@ create_link config c timeout device acts =
     if not (bytes_eq device (codes "inst0")) then Does (only (Link NotAccessible (pos 0) 0 0))
     else (if not (may_make_more acts) then Does (only (Link OutOfResources (pos 0) 0 0)) else begin_link config c timeout acts)
 
+-- an interrupt channel is opened once its peer was called, for which the call waits without a deadline
+abbrev pub begin_channel : ℕ → Option ErrorCode → Begun
+begin_channel c (Some error) = Does (only (Plain error))
+begin_channel c None = Waits (Entered c None Dial None)
+
 -- a call that needn't wait for the lock is done, unless it waits for something else
 abbrev pub unless_blocked : Config → ℕ → ℕ → Arguments → Option Block → List BenchAct → Begun
 unless_blocked config polled c arguments (Some block) acts = waits_for config c (named_by arguments) block.wait block.timeout acts
@@ -66,6 +73,8 @@ unless_blocked config polled c arguments None acts = Does (own_call config polle
 abbrev pub behind_lock : Config → ℕ → ℕ → Arguments → List BenchAct → Begun
 behind_lock config polled c (CreateLink client_id lock_device lock_timeout device) acts =
     create_link config c (if lock_device then Some lock_timeout else None) device acts
+behind_lock config polled c (CreateIntrChan host_addr host_port prog_num prog_vers prog_family) acts =
+    begin_channel c (channel_fault (has_channel c acts) host_addr host_port prog_family)
 behind_lock config polled c arguments acts = unless_blocked config polled c arguments (blocked arguments acts) acts
 
 -- where another link holds the lock, a call waits for it or fails

@@ -4,6 +4,7 @@ use Rattle.std.specs.Prelude.{ℕ, ◌+◌, ◌-◌, ◌==◌, ◌&&◌, ◌||�
 use Rattle.sv_rpc.specs.Record.{Tail, Header, Data, TooLong}
 use Rattle.sv_rpc.specs.RecordBuf.{used_by}
 use Rattle.sv_rpc.specs.Stream.{records_of, tail_of}
+use Rattle.sv_links.specs.Channels.{ChannelAct, waiting as channel_waiting}
 use Rattle.sv_server.specs.declared.event.Role.{Role}
 use Rattle.sv_server.specs.declared.event.Port.{Port}
 use Rattle.sv_server.specs.declared.event.Port.TheVariants.{Conn, Intr}
@@ -80,10 +81,10 @@ untaken acts = drop (given acts) (sent acts)
 abbrev pub waiting : List ConnAct → List ℕ
 waiting acts = if is_open acts then untaken acts else []
 
--- the bytes that wait on a port; none on an interrupt channel while there are none
-abbrev pub waiting_on : Port → List Act → List ℕ
-waiting_on (Conn c) log = waiting (of c log)
-waiting_on (Intr c) log = []
+-- the bytes that wait on a port, where this was told to interrupt channels
+abbrev pub waiting_on : List ChannelAct → Port → List Act → List ℕ
+waiting_on told (Conn c) log = waiting (of c log)
+waiting_on told (Intr c) log = channel_waiting c told
 
 -- The call to take next: the first record that didn't come to its end, unless it was taken already, or a record was no call.
 abbrev pub next_call : List ConnAct → Option (List ℕ)

@@ -17,6 +17,7 @@ use Rattle.sv_instrument.specs.Happened.{trigger_acts}
 use Rattle.sv_server.specs.Act.{BenchAct, Linked, Happened, link_acts, instrument_acts, exchange_acts}
 use Rattle.sv_server.specs.Execution.{Execution, only}
 use Rattle.sv_server.specs.CoreCall.{lid_of, no_bytes}
+use Rattle.sv_server.specs.Interrupts.{device_enable_srq, destroy_channel}
 
 -- a link belongs to the connection that made it, while it lives
 abbrev pub owns : ℕ → Option ℕ → List BenchAct → Bool
@@ -100,8 +101,8 @@ device_trigger acts = record { adds = map Happened (trigger_acts (instrument_act
 abbrev pub device_clear : Execution
 device_clear = record { adds = Happened Purged ∷ []; result = Plain NoError }
 
--- A call by what it is, once it needn't wait, where a poll of the status byte would give this. One whose meaning comes later isn't
--- supported yet; device_docmd never is.
+-- A call by what it is, once it needn't wait, where a poll of the status byte would give this. device_docmd isn't supported; nor, here, are
+-- device_abort, which is none of this channel, and create_intr_chan, which waits until its peer was called (Interrupts).
 abbrev pub own_call : Config → ℕ → ℕ → Arguments → List BenchAct → Execution
 own_call config polled c (DeviceAbort lid) acts = only (Plain NotSupported)
 own_call config polled c (CreateLink client_id lock_device lock_timeout device) acts = make_link config c lock_device acts
@@ -115,8 +116,9 @@ own_call config polled c (DeviceRemote lid flags lock_timeout io_timeout) acts =
 own_call config polled c (DeviceLocal lid flags lock_timeout io_timeout) acts = only (Plain NoError)
 own_call config polled c (DeviceLock lid flags lock_timeout) acts = device_lock (lid_of lid) acts
 own_call config polled c (DeviceUnlock lid) acts = device_unlock (lid_of lid) acts
-own_call config polled c (DeviceEnableSrq lid enable handle) acts = only (Plain NotSupported)
+own_call config polled c (DeviceEnableSrq lid enable handle) acts =
+    device_enable_srq c (owns c (lid_of lid) acts) enable (lid_of lid) handle
 own_call config polled c (DeviceDocmd lid flags io_timeout lock_timeout cmd network_order datasize bytes) acts = only (Data NotSupported [])
 own_call config polled c (DestroyLink lid) acts = destroy_link (lid_of lid)
 own_call config polled c (CreateIntrChan host_addr host_port prog_num prog_vers prog_family) acts = only (Plain NotSupported)
-own_call config polled c DestroyIntrChan acts = only (Plain NotSupported)
+own_call config polled c DestroyIntrChan acts = destroy_channel c acts

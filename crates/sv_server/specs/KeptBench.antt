@@ -1,16 +1,25 @@
 -- What the server keeps of what all connections share, and what of its acts that stands for.
-use Rattle.std.specs.Prelude.{◌≡◌, ℕ, ◌+◌, ◌<◌, ◌≤◌, List, length}
+use Rattle.std.specs.Prelude.{◌≡◌, ℕ, ◌+◌, ◌<◌, ◌≤◌, true, List, [], ◌++◌, length, Some}
+use Rattle.std.specs.List.{AllByRecursion}
 use Rattle.sv_links.specs.declared.waiting.Entry.{Entry}
-use Rattle.sv_links.specs.Links.{live}
+use Rattle.sv_links.specs.declared.enabled.Enabled.{Enabled}
+use Rattle.sv_links.specs.Links.{LinkAct, live, owner}
 use Rattle.sv_links.specs.Table.{Table, IsTable}
+use Rattle.sv_links.specs.Waiting.{WaitAct}
 use Rattle.sv_links.specs.Queue.{IsQueue, creations}
+use Rattle.sv_links.specs.Channels.{ChannelAct}
+use Rattle.sv_links.specs.KeptChannels.{Channels, AreChannels, IsReady}
 use Rattle.sv_instrument.specs.Kept.{Kept, StandsFor}
 use Rattle.sv_server.specs.declared.event.Config.{Config}
+use Rattle.sv_layers.specs.Act.{Act as InstrumentAct}
 use Rattle.sv_server.specs.Act.{BenchAct, link_acts, wait_acts, instrument_acts, ticks}
+use Rattle.sv_server.specs.Requests.{Tells}
+use Rattle.sv_server.specs.Interrupts.{is_dialing}
 
 pub record Bench : Type 0 where
   pub links : Table
   pub waiting : List Entry
+  pub intr : Channels
   pub instrument : Kept
   pub config : Config
   pub clock : ℕ
@@ -23,7 +32,25 @@ IsReserved kept acts = (length (live (link_acts acts)) + creations kept.waiting 
 abbrev pub HasPlace : Bench → List BenchAct → Type 0
 HasPlace kept acts = (length (live (link_acts acts)) + creations kept.waiting < 32) × (creations kept.waiting < kept.links.spare)
 
--- The bench keeps what its acts say, under a configuration.
-abbrev pub IsBench : Bench → Config → List BenchAct → Type 0
-IsBench kept config acts = IsTable kept.links (link_acts acts) × StandsFor kept.instrument (instrument_acts acts)
+-- Each link that asks for service requests lives, on the connection that it is of.
+abbrev pub AreOwned : List Enabled → List LinkAct → Type 0
+AreOwned links acts = AllByRecursion (λ link. owner link.lid acts ≡ Some link.conn) links
+
+-- The interrupt channels keep what they were told.
+abbrev pub AreTold : Channels → List BenchAct → Type 0
+AreTold kept acts = (told : List ChannelAct) × Tells acts told × AreChannels kept told × AreOwned kept.enabled (link_acts acts)
+
+-- One that a create_intr_chan waits for can be opened.
+abbrev pub AreReady : Channels → List WaitAct → Type 0
+AreReady kept acts = (c : ℕ) → is_dialing c acts ≡ true → IsReady kept c
+
+-- The bench keeps what its acts say, under a configuration; and the instrument has done these more, with which requests may have been
+-- raised that weren't told yet.
+abbrev pub HasDone : List InstrumentAct → Bench → Config → List BenchAct → Type 0
+HasDone adds kept config acts = IsTable kept.links (link_acts acts) × StandsFor kept.instrument (adds ++ instrument_acts acts)
     × (kept.config ≡ config) × (kept.clock ≡ config.clock + ticks acts) × IsQueue kept.waiting (wait_acts acts) × IsReserved kept acts
+    × AreTold kept.intr acts × AreReady kept.intr (wait_acts acts)
+
+-- The bench keeps what its acts say.
+abbrev pub IsBench : Bench → Config → List BenchAct → Type 0
+IsBench kept config acts = HasDone [] kept config acts

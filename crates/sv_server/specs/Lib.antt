@@ -4,12 +4,15 @@ pub mod Connection
 pub mod Reply
 pub mod Execution
 pub mod CoreCall
+pub mod Requests
+pub mod Interrupts
 pub mod CoreChannel
 pub mod Admission
 pub mod AbortChannel
 pub mod PortMapper
 pub mod Verdict
 pub mod Dispatch
+pub mod Refusing
 pub mod Resuming
 pub mod Polled
 pub mod Settling

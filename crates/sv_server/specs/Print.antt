@@ -1,6 +1,7 @@
 -- What a replay prints: the refusal of an event, and the lines of what waits.
 use Rattle.std.specs.Prelude.{ℕ, zero, suc, ◌-◌, Bool, true, false, List, [], ◌∷◌, ◌++◌, map, length, codes, decimal, nat_lt, Result, Ok, Err, if◌then◌else◌}
 use Rattle.hex.specs.Hex.{encode_lower}
+use Rattle.sv_links.specs.Channels.{ChannelAct}
 use Rattle.sv_server.specs.declared.event.Port.{Port}
 use Rattle.sv_server.specs.declared.event.Port.TheVariants.{Conn, Intr}
 use Rattle.sv_server.specs.declared.event.Did.{Did}
@@ -48,10 +49,10 @@ port_of n = if nat_lt n 16 then Conn n else Intr (n - 16)
 abbrev pub ports : List Port
 ports = map port_of (below 32)
 
--- the lines of ports, by a log
-abbrev pub lines_of : List Port → List Act → List ℕ
-lines_of [] log = []
-lines_of (port ∷ others) log = port_line port (waiting_on port log) ++ lines_of others log
+-- the lines of ports, by a log that told this to interrupt channels
+abbrev pub lines_of : List ChannelAct → List Port → List Act → List ℕ
+lines_of told [] log = []
+lines_of told (port ∷ others) log = port_line port (waiting_on told port log) ++ lines_of told others log
 
 -- the history in which the peer took these bytes from a port; where there are none, nothing happened
 abbrev pub with_took : Port → List ℕ → List PlainEvent → List PlainEvent
@@ -59,9 +60,9 @@ with_took port [] history = history
 with_took port (byte ∷ bytes) history = Took port (length (byte ∷ bytes)) ∷ history
 
 -- the history in which the peer took all that waits at ports by a log, from one port after the other
-abbrev pub with_tooks : List Port → List Act → List PlainEvent → List PlainEvent
-with_tooks [] log history = history
-with_tooks (port ∷ others) log history = with_tooks others log (with_took port (waiting_on port log) history)
+abbrev pub with_tooks : List ChannelAct → List Port → List Act → List PlainEvent → List PlainEvent
+with_tooks told [] log history = history
+with_tooks told (port ∷ others) log history = with_tooks told others log (with_took port (waiting_on told port log) history)
 
 -- the line of a refusal
 abbrev pub head_of : Result Did Refused → List ℕ
@@ -78,5 +79,5 @@ ports_after (Ok did) = ports
 ports_after (Err refusal) = if is_no_memory refusal then [] else ports
 
 -- the print of an event, by what it answered and by the log that it left
-abbrev pub print_of : Result Did Refused → List Act → List ℕ
-print_of did log = head_of did ++ lines_of (ports_after did) log
+abbrev pub print_of : Result Did Refused → List ChannelAct → List Act → List ℕ
+print_of did told log = head_of did ++ lines_of told (ports_after did) log

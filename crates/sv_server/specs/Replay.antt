@@ -8,7 +8,9 @@ use Rattle.sv_server.specs.declared.event.Refused.TheVariants as refused
 use Rattle.sv_server.specs.declared.replay.ReplayFault.{ReplayFault}
 use Rattle.sv_server.specs.declared.replay.ReplayFault.TheVariants.{NoMemory, Write}
 use Rattle.sv_server.specs.Event.{PlainEvent}
-use Rattle.sv_server.specs.Act.{Act}
+use Rattle.sv_links.specs.Channels.{ChannelAct}
+use Rattle.sv_server.specs.Act.{Act, bench}
+use Rattle.sv_server.specs.Requests.{Tells}
 use Rattle.sv_server.specs.History.{IsLogOf, Answers, history_after}
 use Rattle.sv_server.specs.Print.{head_of, ports_after, lines_of, with_tooks, print_of}
 use Rattle.sv_server.specs.Written.{IsFront}
@@ -16,13 +18,15 @@ use Rattle.sv_server.specs.Written.{IsFront}
 -- The print was written, and then the peer took all that it shows; where memory was refused the print is that alone. Where the writer
 -- failed, it failed in the refusal's line; or the lines of some first ports were written, and the peer took what they show, and of the
 -- others' lines a front was written.
-abbrev pub Writes : Result Did Refused → List Act → List PlainEvent → Result ⊤ ReplayFault → List ℕ → List PlainEvent → Type 0
-Writes did log history (Ok all) text after = (did ≢ Err refused.NoMemory) × (text ≡ print_of did log)
-    × (after ≡ with_tooks (ports_after did) log history)
-Writes did log history (Err NoMemory) text after = (did ≡ Err refused.NoMemory) × (text ≡ print_of did log) × (after ≡ history)
-Writes did log history (Err Write) text after = (IsFront text (head_of did) × (after ≡ history))
-    ⊎ ((shown others : List Port) × (part : List ℕ) × (ports_after did ≡ shown ++ others) × IsFront part (lines_of others log)
-    × (text ≡ head_of did ++ (lines_of shown log ++ part)) × (after ≡ with_tooks shown log history))
+abbrev pub Writes : Result Did Refused → List ChannelAct → List Act → List PlainEvent → Result ⊤ ReplayFault → List ℕ → List PlainEvent
+    → Type 0
+Writes did told log history (Ok all) text after = (did ≢ Err refused.NoMemory) × (text ≡ print_of did told log)
+    × (after ≡ with_tooks told (ports_after did) log history)
+Writes did told log history (Err NoMemory) text after =
+    (did ≡ Err refused.NoMemory) × (text ≡ print_of did told log) × (after ≡ history)
+Writes did told log history (Err Write) text after = (IsFront text (head_of did) × (after ≡ history))
+    ⊎ ((shown others : List Port) × (part : List ℕ) × (ports_after did ≡ shown ++ others) × IsFront part (lines_of told others log)
+    × (text ≡ head_of did ++ (lines_of told shown log ++ part)) × (after ≡ with_tooks told shown log history))
 
 -- The event is done or refused, as the history says, and then its print is written, by the log of the history that this leaves.
 pub record Replays (config : Config) (history : List PlainEvent) (event : PlainEvent) (result : Result ⊤ ReplayFault) (text : List ℕ)
@@ -33,4 +37,6 @@ pub record Replays (config : Config) (history : List PlainEvent) (event : PlainE
   pub answers : Answers config event before did
   pub log : List Act
   pub is_log : IsLogOf config (history_after event did history) log
-  pub writes : Writes did log (history_after event did history) result text after
+  pub told : List ChannelAct
+  pub tells : Tells (bench log) told
+  pub writes : Writes did told log (history_after event did history) result text after

@@ -11,6 +11,7 @@ ghost use Rattle.sv_server.specs.declared.event.Config.{Config as Configured};
 ghost use Rattle.sv_server.specs.Act.{BenchAct, Waited, instrument_acts, exchange_acts};
 ghost use Rattle.sv_server.specs.KeptBench.{IsBench, HasPlace};
 ghost use Rattle.sv_server.specs.CoreCall.{is_create_link, link_named as link_for, lock_patience as patience_for};
+ghost use Rattle.sv_server.specs.Interrupts.{is_dial};
 ghost use Rattle.sv_server.specs.CoreChannel.{names_another};
 ghost use Rattle.sv_server.specs.Admission.{Begun, deadline_of, blocked as blocked_by, may_make_more as may_make, begin_link as begun_link, create_link as created_link, unless_blocked as done_unless_blocked, behind_lock as done_behind_lock, locked_out as begun_locked_out, unless_locked as done_unless_locked, begun as begun_by};
 ghost use Rattle.sv_server.specs.Inside.Outcome.{IsBenchAt, BegunAs, Enters, IsBehind, IsShortEnding, begun_wants};
@@ -48,6 +49,7 @@ impl<A: Allocator> Bench<A> {
         ensures answer { (config : Configured) (acts : List BenchAct) → IsBench self.now config acts
             → result ≡ blocked_by (plain_arguments args.now) acts }
         ensures measure { IfSome result (λ block. rank_of block.wait ≡ 1) }
+        ensures plain { IfSome result (λ block. is_dial (Some block.wait) ≡ false) }
         ensures other { IfSome result (λ block.
             is_create_link (plain_arguments args.now) ≡ false) }
     {
@@ -77,6 +79,7 @@ impl<A: Allocator> Bench<A> {
             → result ≡ (if has_ended (exchange_acts acts)
             then Some (record { wait = Wait.Input; timeout = timeout }) else None) }
         ensures measure { IfSome result (λ block. rank_of block.wait ≡ 1) }
+        ensures plain { IfSome result (λ block. is_dial (Some block.wait) ≡ false) }
     {
         if self.instrument.can_write() {
             return None;
@@ -93,6 +96,7 @@ impl<A: Allocator> Bench<A> {
             → result ≡ (if is_answerable (instrument_acts acts)
             then None else Some (record { wait = Wait.Response; timeout = timeout })) }
         ensures measure { IfSome result (λ block. rank_of block.wait ≡ 1) }
+        ensures plain { IfSome result (λ block. is_dial (Some block.wait) ≡ false) }
     {
         if self.instrument.can_read() {
             return None;
@@ -119,9 +123,10 @@ impl<A: Allocator> Bench<A> {
         self.links.count() + self.waiting.creating() < MOST_LINKS && self.links.lids_left()
     }
 
-    /// A call begins to wait.
+    /// A call begins to wait, for something else than its peer.
     fn wait(&mut self, conn: u8, lid: Option<u32>, block: Block)
-        requires { conn < 16 }
+        requires within { conn < 16 }
+        requires plain { is_dial (Some block.wait) ≡ false }
         ensures stands { (config : Configured) (acts : List BenchAct) → IsBench self.old config acts
             → ((is_lock (Some block.wait) && is_none lid) ≡ true → HasPlace self.old acts)
             → IsBench self.new config (Waited (Entered conn lid block.wait
@@ -237,6 +242,12 @@ impl<A: Allocator> Bench<A> {
                 device,
                 ..
             } => self.create_link(conn, patience_of(lock_device, lock_timeout), device),
+            Args::CreateIntrChan {
+                host_addr,
+                host_port,
+                prog_family,
+                ..
+            } => self.create_channel(conn, host_addr, host_port, prog_family),
             Args::DeviceAbort { .. }
             | Args::DeviceWrite { .. }
             | Args::DeviceRead { .. }
@@ -250,7 +261,6 @@ impl<A: Allocator> Bench<A> {
             | Args::DeviceEnableSrq { .. }
             | Args::DeviceDocmd { .. }
             | Args::DestroyLink { .. }
-            | Args::CreateIntrChan { .. }
             | Args::DestroyIntrChan => Ok(self.unless_blocked(conn, args)),
         }
     }

@@ -1,6 +1,6 @@
 //! What all connections share: links, calls that wait, the instrument and the clock.
 
-ghost use Rattle.std.specs.Prelude.{◌≡◌, ◌+◌, ◌<◌, ◌≤◌, List, [], ◌∷◌, ◌++◌, length, map, option_map, IfOk, IfSome, IsTrue, ◌==◌, true, false};
+ghost use Rattle.std.specs.Prelude.{◌≡◌, ◌+◌, ◌<◌, ◌≤◌, ℕ, List, [], ◌∷◌, ◌++◌, length, map, option_map, Some, None, is_some, IfOk, IfSome, IsTrue, ◌==◌, true, false};
 ghost use Rattle.sv_links.specs.Links.{closing};
 ghost use Rattle.sv_links.specs.Waiting.{Left, IsExpired, IsOldest};
 ghost use Rattle.sv_links.specs.Queue.{IsEntry, creates, creations, without};
@@ -10,17 +10,20 @@ ghost use Rattle.sv_instrument.specs.Happened.{IsFired, external_acts, tick_acts
 ghost use Rattle.sv_instrument.specs.Step.{IsStep};
 ghost use Rattle.sv_instrument.specs.Kept.{left_of};
 ghost use Rattle.sv_server.specs.declared.event.Config.{Config};
-ghost use Rattle.sv_server.specs.Act.{BenchAct, Linked, Waited, Happened, Ticked, link_acts, wait_acts, instrument_acts, ticks};
+ghost use Rattle.sv_links.specs.Channels.{ChannelClosed};
+ghost use Rattle.sv_server.specs.Act.{BenchAct, Linked, Waited, Channel, Happened, Ticked, link_acts, wait_acts, instrument_acts, ticks};
 ghost use Rattle.sv_server.specs.Settling.{CanGoOn};
 ghost use Rattle.sv_server.specs.Inside.Kept.{IsKept};
 ghost use Rattle.sv_server.specs.Inside.Acting.{InstrumentSteps};
-ghost use Rattle.sv_server.specs.KeptBench.{IsBench};
+ghost use Rattle.sv_layers.specs.Act.{Act as InstrumentAct};
+ghost use Rattle.sv_instrument.specs.Raised.{Raise};
+ghost use Rattle.sv_server.specs.KeptBench.{IsBench, HasDone};
 
 use crate::event::Config;
 use std::alloc::{AllocError, Allocator};
 use std::marker::Model;
 use sv_instrument::Instrument;
-use sv_links::{Entry, Links, Waiting};
+use sv_links::{Entry, Intr, Links, Waiting};
 use sv_vxi::VxiResult;
 
 /// The last value of the clock, in milliseconds.
@@ -45,6 +48,7 @@ pub enum Ending {
 pub struct Bench<A: Allocator> {
     pub links: Links<A>,
     pub waiting: Waiting<A>,
+    pub intr: Intr<A>,
     pub instrument: Instrument<A>,
     pub config: Config,
     clock: u64,
@@ -60,6 +64,7 @@ impl<A: Allocator> Model for Bench<A> {
     ghost view = { λ a. record {
       links = a.links;
       waiting = a.waiting;
+      intr = a.intr;
       instrument = a.instrument;
       config = a.config;
       clock = a.clock;
@@ -69,7 +74,7 @@ impl<A: Allocator> Model for Bench<A> {
 }
 
 impl<A: Allocator + Copy> Bench<A> {
-    /// No link, no call that waits, no text, and the clock at its start.
+    /// No link, no call that waits, no interrupt channel, no text, and the clock at its start.
     pub fn new(alloc: A, config: Config) -> Result<Bench<A>, AllocError>
         requires { config.clock ≤ 9223372036854775807 }
         ensures stands { IfOk result (λ shared. IsBench shared config []) }
@@ -78,6 +83,7 @@ impl<A: Allocator + Copy> Bench<A> {
         Ok(Bench {
             links: Links::new(alloc),
             waiting: Waiting::new(alloc)?,
+            intr: Intr::new(alloc)?,
             instrument: Instrument::new(alloc)?,
             config,
             clock: config.clock,
@@ -112,7 +118,8 @@ impl<A: Allocator> Bench<A> {
         ensures waiting { self.new.waiting ≡ self.old.waiting }
     {
         self.clock += 1;
-        self.instrument.tick();
+        let raised = self.instrument.tick();
+        self.raise(raised);
     }
 
     /// The voltage of a channel's input is another from now on.
@@ -121,7 +128,8 @@ impl<A: Allocator> Bench<A> {
             → IsBench self.new config (Happened (Scanned (Input channel microvolts)) ∷ acts) }
         ensures waiting { self.new.waiting ≡ self.old.waiting }
     {
-        self.instrument.input(channel, microvolts);
+        let raised = self.instrument.input(channel, microvolts);
+        self.raise(raised);
     }
 
     /// A trigger comes in at the trigger input.
@@ -131,18 +139,24 @@ impl<A: Allocator> Bench<A> {
             (map Happened (external_acts (instrument_acts acts)) ++ acts) }
         ensures waiting { self.new.waiting ≡ self.old.waiting }
     {
-        self.instrument.external();
+        let raised = self.instrument.external();
+        self.raise(raised);
     }
 
-    /// Ends the wait of a connection's call, and destroys its links.
+    /// Ends the wait of a connection's call, destroys its links, and closes its interrupt channel.
     pub fn close_connection(&mut self, conn: u8)
+        requires { conn < 16 }
         ensures stands { (config : Config) (acts : List BenchAct) → IsBench self.old config acts
             → IsBench self.new config
-            (map Linked (closing conn (link_acts acts)) ++ Waited (Left conn) ∷ acts) }
+            (Channel (ChannelClosed conn) ∷ map Linked (closing conn (link_acts acts))
+            ++ Waited (Left conn) ∷ acts) }
         ensures waiting { self.new.waiting ≡ without conn self.old.waiting }
     {
         self.waiting.leave(conn);
+        self.intr.disable_connection(conn);
         self.links.close_connection(conn);
+        self.intr.cancel(conn);
+        self.close_channel(conn);
     }
 
     /// The oldest call that waits and can go on; none where none can.
@@ -174,6 +188,39 @@ impl<A: Allocator> Bench<A> {
         self.waiting.expired(self.clock)
     }
 
+    /// So many requests for service were raised by what the instrument did.
+    pub fn raise(&mut self, raised: u8)
+        ensures stands { (config : Config) (acts : List BenchAct) (adds : List InstrumentAct)
+            → HasDone adds self.old config acts → Raise adds (instrument_acts acts) raised
+            → IsBench self.new config (map Happened adds ++ acts) }
+        ensures waiting { self.new.waiting ≡ self.old.waiting }
+        ensures instrument { self.new.instrument ≡ self.old.instrument }
+    {
+        for _ in 0..raised {
+            self.intr.raise();
+        }
+    }
+
+    /// The same, where the instrument did something; tells whether it did.
+    fn raise_where(&mut self, raised: Option<u8>) -> bool
+        ensures some { (count : ℕ) → raised ≡ Some count → (config : Config)
+            (acts : List BenchAct) (adds : List InstrumentAct)
+            → HasDone adds self.old config acts → Raise adds (instrument_acts acts) count
+            → IsBench self.new config (map Happened adds ++ acts) }
+        ensures none { raised ≡ None → self.new ≡ self.old }
+        ensures answer { result ≡ is_some raised }
+        ensures waiting { self.new.waiting ≡ self.old.waiting }
+        ensures instrument { self.new.instrument ≡ self.old.instrument }
+    {
+        match raised {
+            Some(count) => {
+                self.raise(count);
+                true
+            }
+            None => false,
+        }
+    }
+
     /// A trigger that comes at once, where one is due; tells whether one was.
     pub fn fire(&mut self) -> bool
         ensures steps { (config : Config) (acts : List BenchAct) → IsBench self.old config acts
@@ -183,7 +230,8 @@ impl<A: Allocator> Bench<A> {
             → left_of self.new.instrument < left_of self.old.instrument }
         ensures waiting { self.new.waiting ≡ self.old.waiting }
     {
-        self.instrument.fire().is_some()
+        let fired = self.instrument.fire();
+        self.raise_where(fired)
     }
 
     /// A step of message exchange, where one is due; tells whether one was.
@@ -195,6 +243,7 @@ impl<A: Allocator> Bench<A> {
             → left_of self.new.instrument < left_of self.old.instrument }
         ensures waiting { self.new.waiting ≡ self.old.waiting }
     {
-        self.instrument.step().is_some()
+        let stepped = self.instrument.step();
+        self.raise_where(stepped)
     }
 }

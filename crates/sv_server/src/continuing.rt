@@ -7,6 +7,7 @@ ghost use Rattle.sv_server.specs.declared.event.Config.{Config};
 ghost use Rattle.sv_server.specs.Act.{ConnAct, BenchAct, wait_acts};
 ghost use Rattle.sv_server.specs.Connection.{unanswered, is_busy};
 ghost use Rattle.sv_server.specs.CoreCall.{core_call_in};
+ghost use Rattle.sv_server.specs.Interrupts.{is_dialing, dialed_verdict};
 ghost use Rattle.sv_server.specs.Resuming.{gone_on, given_up};
 ghost use Rattle.sv_server.specs.KeptConnection.{IsConnection};
 ghost use Rattle.sv_server.specs.KeptBench.{IsBench};
@@ -51,6 +52,35 @@ pub fn go_on<A: Allocator>(connection: &mut Connection<A>, shared: &mut Bench<A>
         Some(ending) => conclude(execution_verdict(xid, ending), connection, shared),
         None => {}
     }
+}
+
+/// The peer of an interrupt channel was called for whose answer a call waits: the channel is open,
+/// or can't be.
+pub fn dialed<A: Allocator>(
+    connection: &mut Connection<A>,
+    shared: &mut Bench<A>,
+    conn: u8,
+    ok: bool,
+)
+    requires { conn < 16 }
+    ensures concludes { (config : Config) (acts : List ConnAct) (before : List BenchAct)
+        → IsConnection connection.old acts → is_busy acts ≡ true
+        → IsBench shared.old config before → is_dialing conn (wait_acts before) ≡ true
+        → Concludes (dialed_verdict conn ok (core_call_in (unanswered acts))) config acts before
+        connection.new shared.new }
+    ensures waiting { shared.new.waiting ≡ without conn shared.old.waiting }
+{
+    let Some(taken) = connection.taken() else {
+        shared.give_up_channel(conn);
+        return;
+    };
+    let Some(call) = core_call(taken) else {
+        shared.give_up_channel(conn);
+        return;
+    };
+    let xid = call.xid;
+    let ending = shared.end_dial(conn, ok, &call.args);
+    conclude(execution_verdict(xid, ending), connection, shared);
 }
 
 /// A call that waits is given up, with this error.

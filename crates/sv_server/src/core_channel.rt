@@ -19,7 +19,7 @@ use sv_vxi::{Args, ErrorCode, Flags, VxiResult};
 
 impl<A: Allocator> Bench<A> {
     /// Whether a link is one of this connection.
-    fn owns(&self, conn: u8, lid: Option<u32>) -> bool
+    pub fn owns(&self, conn: u8, lid: Option<u32>) -> bool
         ensures { (config : Configured) (acts : List BenchAct) → IsBench self.now config acts
             → result ≡ owns conn lid acts }
     {
@@ -109,6 +109,7 @@ impl<A: Allocator> Bench<A> {
             return Ending::Result(plain(ErrorCode::InvalidLink));
         };
         self.links.destroy(lid);
+        self.intr.disable(lid);
         Ending::Result(plain(ErrorCode::NoError))
     }
 
@@ -122,11 +123,10 @@ impl<A: Allocator> Bench<A> {
         let Some(lid) = lid else {
             return Ending::Result(plain(ErrorCode::InvalidLink));
         };
-        if self.links.lock(lid) {
-            Ending::Result(plain(ErrorCode::NoError))
-        } else {
-            Ending::Result(plain(ErrorCode::Locked))
+        if !self.links.lock(lid) {
+            return Ending::Result(plain(ErrorCode::Locked));
         }
+        Ending::Result(plain(ErrorCode::NoError))
     }
 
     /// device_unlock: the lock is free, where the link had it.
@@ -139,11 +139,10 @@ impl<A: Allocator> Bench<A> {
         let Some(lid) = lid else {
             return Ending::Result(plain(ErrorCode::InvalidLink));
         };
-        if self.links.unlock(lid) {
-            Ending::Result(plain(ErrorCode::NoError))
-        } else {
-            Ending::Result(plain(ErrorCode::NoLock))
+        if !self.links.unlock(lid) {
+            return Ending::Result(plain(ErrorCode::NoLock));
         }
+        Ending::Result(plain(ErrorCode::NoError))
     }
 
     /// device_write: the bytes are accepted, and END ends their message.
@@ -159,7 +158,8 @@ impl<A: Allocator> Bench<A> {
         if !self.instrument.can_write() {
             return Ending::Result(written(ErrorCode::IoTimeout, 0));
         }
-        self.instrument.write(bytes, flags.has_end());
+        let raised = self.instrument.write(bytes, flags.has_end());
+        self.raise(raised);
         Ending::Result(written(ErrorCode::NoError, bytes.len() as u32))
     }
 
@@ -177,7 +177,8 @@ impl<A: Allocator> Bench<A> {
         if !self.instrument.can_read() {
             return Ending::Result(nothing_read(ErrorCode::IoTimeout));
         }
-        self.instrument.unterminated();
+        let raised = self.instrument.unterminated();
+        self.raise(raised);
         Ending::Result(nothing_read(ErrorCode::IoTimeout))
     }
 
@@ -190,6 +191,7 @@ impl<A: Allocator> Bench<A> {
         ensures waiting { self.new.waiting ≡ self.old.waiting }
     {
         let poll = self.instrument.poll();
+        self.raise(poll.raised);
         Ending::Result(VxiResult::Status {
             error: ErrorCode::NoError,
             stb: poll.status,
@@ -203,7 +205,8 @@ impl<A: Allocator> Bench<A> {
         ensures short { IsShortEnding result }
         ensures waiting { self.new.waiting ≡ self.old.waiting }
     {
-        self.instrument.trigger();
+        let raised = self.instrument.trigger();
+        self.raise(raised);
         Ending::Result(plain(ErrorCode::NoError))
     }
 
@@ -214,12 +217,14 @@ impl<A: Allocator> Bench<A> {
         ensures short { IsShortEnding result }
         ensures waiting { self.new.waiting ≡ self.old.waiting }
     {
-        self.instrument.clear();
+        let raised = self.instrument.clear();
+        self.raise(raised);
         Ending::Result(plain(ErrorCode::NoError))
     }
 
     /// Does a call that needn't wait.
     pub fn own_call(&mut self, conn: u8, args: &Args<'_>) -> Ending
+        requires { conn < 16 }
         ensures ends { (config : Configured) (polled : ℕ) (acts : List BenchAct)
             → IsBenchAt self.old config polled acts
             → IsGranted (plain_arguments args.now) self.old acts
@@ -245,11 +250,15 @@ impl<A: Allocator> Bench<A> {
             Args::DeviceClear { .. } => self.device_clear(),
             Args::DeviceLock { lid, .. } => self.device_lock(lid_of(lid)),
             Args::DeviceUnlock { lid } => self.device_unlock(lid_of(lid)),
-            Args::DeviceAbort { .. }
-            | Args::DeviceEnableSrq { .. }
-            | Args::DeviceDocmd { .. }
-            | Args::CreateIntrChan { .. }
-            | Args::DestroyIntrChan => Ending::Result(failure(args, ErrorCode::NotSupported)),
+            Args::DeviceEnableSrq {
+                lid,
+                enable,
+                handle,
+            } => self.device_enable_srq(conn, lid_of(lid), enable, handle),
+            Args::DestroyIntrChan => self.destroy_channel(conn),
+            Args::DeviceAbort { .. } | Args::DeviceDocmd { .. } | Args::CreateIntrChan { .. } => {
+                Ending::Result(failure(args, ErrorCode::NotSupported))
+            }
         }
     }
 }

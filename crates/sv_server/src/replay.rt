@@ -5,6 +5,7 @@ ghost use Rattle.std.specs.Io.KnownBytes.{Appends};
 ghost use Rattle.sv_server.specs.declared.event.Config.{Config};
 ghost use Rattle.sv_server.specs.declared.event.Did.{Did};
 ghost use Rattle.sv_server.specs.Event.{PlainEvent, plain};
+ghost use Rattle.sv_links.specs.Channels.{ChannelAct};
 ghost use Rattle.sv_server.specs.Act.{Act};
 ghost use Rattle.sv_server.specs.State.{StandsFor};
 ghost use Rattle.sv_server.specs.Print.{port_of, is_no_memory};
@@ -70,10 +71,10 @@ impl<A: Allocator> Server<A> {
 
     /// Writes the lines of all ports, and takes what they show.
     fn show_all<W: Write>(&mut self, writer: &mut W) -> Result<(), WriteFault>
-        ensures { (config : Config) (history : List PlainEvent) (log : List Act)
-            → StandsBy self.old config history log
+        ensures { (config : Config) (history : List PlainEvent) (told : List ChannelAct)
+            (log : List Act) → StandsBy self.old config history told log
             → (text : List ℕ) × Appends (W.contents writer.old) (W.contents writer.new) text
-            × ShowsAll config history log result self.new text }
+            × ShowsAll config history told log result self.new text }
     {
         for number in 0..32 {
             self.show(port_of(number), writer)?;
@@ -83,10 +84,10 @@ impl<A: Allocator> Server<A> {
 
     /// Writes the line of a port, and takes what it shows.
     fn show<W: Write>(&mut self, port: Port, writer: &mut W) -> Result<(), WriteFault>
-        ensures { (config : Config) (history : List PlainEvent) (log : List Act)
-            → StandsBy self.old config history log
+        ensures { (config : Config) (history : List PlainEvent) (told : List ChannelAct)
+            (log : List Act) → StandsBy self.old config history told log
             → (text : List ℕ) × Appends (W.contents writer.old) (W.contents writer.new) text
-            × ShowsPort port config history log result self.new text }
+            × ShowsPort port config history told log result self.new text }
     {
         let bytes = self.outgoing(port);
         let count = bytes.len() as u32;

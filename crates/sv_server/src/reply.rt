@@ -1,13 +1,11 @@
 //! Replies as they are sent.
 
-ghost use Rattle.std.specs.Prelude.{◌≡◌, ◌+◌, ◌<◌, ◌≤◌, ◌^◌, ◌++◌, [], true, length, vec_len, vec_capacity};
-ghost use Rattle.sv_rpc.specs.Record.{fragment};
+ghost use Rattle.std.specs.Prelude.{◌≡◌, ◌+◌, ◌≤◌, ◌++◌, [], true, length, vec_len, vec_capacity};
 ghost use Rattle.sv_xdr.specs.Writer.{text_of, rest_of};
 ghost use Rattle.sv_server.specs.Inside.Outcome.{answer_text, answer_bytes, HasAtMost, IsShort};
 
 use std::alloc::Allocator;
-use sv_rpc::{Reply, write_reply};
-use sv_text::append;
+use sv_rpc::{Reply, put_record, write_reply};
 use sv_vxi::{VxiResult, write_result};
 use sv_xdr::Writer;
 
@@ -101,17 +99,4 @@ fn write_answer(writer: &mut Writer<'_>, xid: u32, answer: &Answer<'_>)
             let _ = write_result(writer, &outcome);
         }
     }
-}
-
-/// Puts a record of one fragment behind the outgoing bytes.
-fn put_record<A: Allocator>(out: &mut Vec<u8, A>, text: &[u8])
-    requires fits { vec_len out.old + 4 + length text.now ≤ vec_capacity out.old }
-    requires short { length text.now < 2 ^ 31 }
-    ensures sent { out.new.items ≡ out.old.items ++ fragment true text.now }
-    ensures capacity { vec_capacity out.old ≤ vec_capacity out.new }
-    ensures bounded { vec_len out.new ≡ vec_len out.old + 4 + length text.now }
-{
-    let header = text.len() as u32 + (1 << 31);
-    append(out, &header.to_be_bytes());
-    append(out, text);
 }

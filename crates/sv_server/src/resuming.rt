@@ -19,7 +19,9 @@ impl<A: Allocator> Bench<A> {
     /// isn't there, it waits anew, with its place kept, from now on. Where it waits nothing is
     /// told.
     pub fn resume(&mut self, conn: u8, wait: Wait, args: &Args<'_>) -> Option<Ending>
-        requires { rank (without conn self.old.waiting) + rank_of wait ≤ rank self.old.waiting }
+        requires within { conn < 16 }
+        requires measure { rank (without conn self.old.waiting) + rank_of wait
+            ≤ rank self.old.waiting }
         ensures resumes { (config : Configured) (polled : ℕ) (acts : List BenchAct)
             → IsBenchAt self.old config polled acts → (waits conn (wait_acts acts) ≡ None → ⊥)
             → MayMake (plain_arguments args.now) conn self.old acts
@@ -37,7 +39,8 @@ impl<A: Allocator> Bench<A> {
 
     /// A call that waited for the lock.
     fn pass_lock(&mut self, conn: u8, args: &Args<'_>) -> Option<Ending>
-        requires { rank (without conn self.old.waiting) + 2 ≤ rank self.old.waiting }
+        requires within { conn < 16 }
+        requires measure { rank (without conn self.old.waiting) + 2 ≤ rank self.old.waiting }
         ensures resumes { (config : Configured) (polled : ℕ) (acts : List BenchAct)
             → IsBenchAt self.old config polled acts → (waits conn (wait_acts acts) ≡ None → ⊥)
             → MayMake (plain_arguments args.now) conn self.old acts
@@ -58,6 +61,7 @@ impl<A: Allocator> Bench<A> {
 
     /// A call ends to wait, and is done.
     fn leave(&mut self, conn: u8, args: &Args<'_>) -> Ending
+        requires { conn < 16 }
         ensures ends { (config : Configured) (polled : ℕ) (acts : List BenchAct)
             → IsBenchAt self.old config polled acts
             → MayMake (plain_arguments args.now) conn self.old acts

@@ -1,20 +1,23 @@
 //! The server: connections, links and the instrument behind them.
 
-ghost use Rattle.std.specs.Prelude.{◌≡◌, ◌<◌, ◌≤◌, ◌++◌, ℕ, not, List, [], length, slice_index_or, true, false, if◌then◌else◌, MatchOption, Some, None, is_some, IfOk, OnErr};
+ghost use Rattle.std.specs.Prelude.{◌≡◌, ◌<◌, ◌≤◌, ◌++◌, ℕ, not, List, [], length, slice_index_or, true, false, if◌then◌else◌, MatchOption, Some, None, IfOk, OnErr};
 ghost use Rattle.sv_server.specs.declared.event.Config.{Config};
-ghost use Rattle.sv_server.specs.Event.{PlainEvent, Open, Bytes, Turn, Took, Close, Input, External, Tick, plain, IsEvent};
+ghost use Rattle.sv_links.specs.Channels.{ChannelAct};
+ghost use Rattle.sv_server.specs.Event.{PlainEvent, Open, Bytes, Turn, Refuse, Took, Close, Input, External, Tick, plain, IsEvent};
 ghost use Rattle.sv_links.specs.Waiting.{waits};
 ghost use Rattle.sv_server.specs.Act.{Act, of, bench, wait_acts};
 ghost use Rattle.sv_server.specs.Connection.{is_open, waiting_on, room, is_idle, is_faulted};
-ghost use Rattle.sv_server.specs.History.{is_shut, abort_acts, IsLogOf, Answers, history_after};
-ghost use Rattle.sv_server.specs.Asking.{Answered};
+ghost use Rattle.sv_server.specs.History.{abort_acts, IsLogOf, Answers, history_after};
+ghost use Rattle.sv_server.specs.Requests.{Tells};
+ghost use Rattle.sv_server.specs.Asking.{Answered, WaitOn};
 ghost use Rattle.sv_server.specs.KeptConnection.{Connection as KeptConnection, IsConnection};
 ghost use Rattle.sv_server.specs.State.{Represents, StandsFor};
 ghost use Rattle.sv_server.specs.Inside.Acting.{Acts, IsInput};
 
 use crate::bench::Bench;
 use crate::connection::Connection;
-use crate::event::{Config, Dial, Did, Event, Port, Refused, Role};
+use crate::event::{Config, Did, Event, Port, Refused, Role};
+use crate::refusing::refuse;
 use crate::turn::{Turned, turn};
 use std::alloc::{AllocError, Allocator, Global};
 use std::marker::Model;
@@ -22,7 +25,7 @@ use sv_errors::{MOST_MICROVOLTS, is_channel};
 use sv_vxi::ErrorCode;
 
 /// How many connections there may be.
-const CONNECTIONS: usize = 16;
+pub(crate) const CONNECTIONS: usize = 16;
 
 /// One simulated instrument and the connections to it.
 #[derive(Drop)]
@@ -75,8 +78,7 @@ impl<A: Allocator> Server<A> {
     /// isn't open.
     pub fn waiting(&self, port: Port) -> &[u8]
         ensures waiting { (config : Config) (history : List PlainEvent)
-            → StandsFor self.now config history
-            → Answered (waiting_on port) config history result.now }
+            → StandsFor self.now config history → WaitOn port config history result.now }
         ensures bounded { length result.now ≤ 16384 }
     {
         self.outgoing(port)
@@ -84,8 +86,9 @@ impl<A: Allocator> Server<A> {
 
     /// The bytes that wait on a port.
     pub(crate) fn outgoing(&self, port: Port) -> &[u8]
-        ensures exact { (config : Config) (log : List Act) → Represents self.now config log
-            → result.now ≡ waiting_on port log }
+        ensures exact { (config : Config) (log : List Act) (told : List ChannelAct)
+            → Represents self.now config log → Tells (bench log) told
+            → result.now ≡ waiting_on told port log }
         ensures bounded { length result.now ≤ 16384 }
     {
         match port {
@@ -93,7 +96,7 @@ impl<A: Allocator> Server<A> {
                 Some(connection) => connection.waiting(),
                 None => &[],
             },
-            Port::Intr(_) => &[],
+            Port::Intr(conn) => self.sent(conn),
         }
     }
 
@@ -131,26 +134,8 @@ impl<A: Allocator> Server<A> {
         }
     }
 
-    /// Where an interrupt channel of the connection is to be opened; none yet.
-    pub fn dial(&self, _conn: u8) -> Option<Dial>
-        ensures { result ≡ None }
-    {
-        None
-    }
-
-    /// Whether the connection of this number is open.
-    fn is_open(&self, conn: u8) -> bool
-        ensures { (config : Config) (log : List Act) → Represents self.now config log
-            → result ≡ not (is_shut conn log) }
-    {
-        match self.connection(conn) {
-            Some(connection) => connection.is_open(),
-            None => false,
-        }
-    }
-
     /// The connection of this number; none above 15, of which nothing is ever recorded.
-    fn connection(&self, conn: u8) -> Option<&Connection<A>>
+    pub(crate) fn connection(&self, conn: u8) -> Option<&Connection<A>>
         ensures { (config : Config) (log : List Act) → Represents self.now config log
             → MatchOption result (of conn log ≡ [])
             (λ connection. IsConnection connection.now (of conn log)) }
@@ -221,7 +206,8 @@ impl<A: Allocator> Server<A> {
         Ok(Did::Done)
     }
 
-    /// Closes a connection: its links are destroyed, and what waits goes.
+    /// Closes a connection: its links are destroyed, its interrupt channel is closed, and what
+    /// waits goes.
     fn close(&mut self, conn: u8) -> Result<Did, Refused>
         ensures acts { (config : Config) (log : List Act) → Represents self.old config log
             → Acts config (Close (Port.Conn conn)) log result self.new }
@@ -300,6 +286,25 @@ impl<A: Allocator> Server<A> {
         }
     }
 
+    /// Takes the next call of a connection, and answers that resources are wanting.
+    fn refuse(&mut self, conn: u8) -> Result<Did, Refused>
+        ensures acts { (config : Config) (log : List Act) → Represents self.old config log
+            → Acts config (Refuse conn) log result self.new }
+        ensures err { OnErr result (self.new ≡ self.old) }
+    {
+        if usize::from(conn) >= CONNECTIONS {
+            return Err(Refused::NoConn);
+        }
+        let connection = &mut self.connections[usize::from(conn)];
+        let Some(role) = connection.role() else {
+            return Err(Refused::NoConn);
+        };
+        match refuse(connection, role) {
+            Ok(()) => Ok(Did::Done),
+            Err(refused) => Err(refused),
+        }
+    }
+
     /// Ends the call of a connection, which waits, by device_abort; of none where there is none.
     fn abort(&mut self, aborts: Option<u8>)
         ensures { (config : Config) (log : List Act) → Represents self.old config log
@@ -331,7 +336,7 @@ impl<A: Allocator> Server<A> {
     {
         match port {
             Port::Conn(conn) => self.took(conn, count),
-            Port::Intr(_) => Err(Refused::NoConn),
+            Port::Intr(conn) => self.channel_took(conn, count),
         }
     }
 
@@ -343,7 +348,7 @@ impl<A: Allocator> Server<A> {
     {
         match port {
             Port::Conn(conn) => self.close(conn),
-            Port::Intr(_) => Err(Refused::NoConn),
+            Port::Intr(conn) => self.close_channel(conn),
         }
     }
 
@@ -358,10 +363,10 @@ impl<A: Allocator> Server<A> {
             Event::Open { conn, role } => self.open(conn, role),
             Event::Bytes { conn, piece } => self.bytes(conn, piece),
             Event::Turn { conn } => self.turn(conn),
-            Event::Refuse { conn } => Err(self.refuse(conn, Refused::NotRefusable)),
+            Event::Refuse { conn } => self.refuse(conn),
             Event::Took { port, count } => self.port_took(port, count),
             Event::Close { port } => self.close_port(port),
-            Event::Dialed { conn, ok: _ } => Err(self.refuse(conn, Refused::NoDial)),
+            Event::Dialed { conn, ok } => self.dialed(conn, ok),
             Event::Input {
                 channel,
                 microvolts,
@@ -373,7 +378,7 @@ impl<A: Allocator> Server<A> {
 
     /// Does an event, or refuses it; a refused event changes nothing. Of the refusals that hold,
     /// the first in the order of checks is given. `NoMemory` comes only at a Turn whose call makes
-    /// a link, or lets one wait for the lock, which may be tried again.
+    /// a link or an interrupt channel, which may be tried again.
     pub fn apply(&mut self, event: Event<'_>) -> Result<Did, Refused>
         ensures answers { (config : Config) (history : List PlainEvent)
             → StandsFor self.old config history
@@ -387,18 +392,6 @@ impl<A: Allocator> Server<A> {
         let did = self.act(event)?;
         self.settle();
         Ok(did)
-    }
-
-    /// The refusal of an event that is never done yet: by the connection's number, or else this.
-    fn refuse(&self, conn: u8, refusal: Refused) -> Refused
-        ensures { (config : Config) (log : List Act) → Represents self.now config log
-            → result ≡ (if is_shut conn log then Refused.NoConn else refusal) }
-    {
-        if self.is_open(conn) {
-            refusal
-        } else {
-            Refused::NoConn
-        }
     }
 }
 

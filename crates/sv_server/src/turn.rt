@@ -114,5 +114,6 @@ fn answer_response<A: Allocator>(
         bytes: read.bytes,
     };
     connection.answer(xid, &Answer::Result(given));
-    shared.instrument.take(count);
+    let raised = shared.instrument.take(count);
+    shared.raise(raised);
 }

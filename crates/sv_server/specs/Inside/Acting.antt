@@ -1,5 +1,5 @@
 -- What a private function that does an event leaves.
-use Rattle.std.specs.Prelude.{◌≡◌, ℕ, ℤ, not, true, Bool, false, List, ◌∷◌, ◌++◌, map, Some, None, Result, Ok, Err, if◌then◌else◌, Option}
+use Rattle.std.specs.Prelude.{◌≡◌, ℕ, ℤ, not, true, Bool, false, List, ◌∷◌, ◌++◌, map, Some, None, Result, Ok, Err, if◌then◌else◌, Option, ⊤}
 use Rattle.sv_errors.specs.Limits.{is_channel}
 use Rattle.sv_rpc.specs.Call.{call_at}
 use Rattle.sv_links.specs.declared.waiting.Entry.{Entry}
@@ -13,7 +13,9 @@ use Rattle.sv_server.specs.declared.turn.Turned.{Turned}
 use Rattle.sv_server.specs.declared.turn.Turned.TheVariants.{Idle, Done}
 use Rattle.sv_server.specs.declared.settling.Stepped.{Stepped}
 use Rattle.sv_server.specs.declared.settling.Stepped.TheVariants.{Nothing, Instrument, Call}
+use Rattle.sv_links.specs.Channels.{ChannelAct}
 use Rattle.sv_server.specs.Event.{PlainEvent}
+use Rattle.sv_server.specs.Requests.{Tells}
 use Rattle.sv_layers.specs.Act.{Act as InstrumentAct}
 use Rattle.sv_server.specs.Act.{Act, ConnAct, BenchAct, CallTaken, Faulted, Replied, Happened, of, bench, instrument_acts}
 use Rattle.sv_server.specs.CoreCall.{CoreCall, core_call}
@@ -22,19 +24,24 @@ use Rattle.sv_server.specs.Dispatch.{verdict_of}
 use Rattle.sv_server.specs.Connection.{open_role, next_call, is_idle}
 use Rattle.sv_server.specs.Polled.{IsPolled}
 use Rattle.sv_server.specs.Settling.{IsNext, IsSettled, SettlesIn, Settles}
-use Rattle.sv_server.specs.History.{refusal, turn_refusal, own_acts, did, wants_memory, is_beyond}
+use Rattle.sv_server.specs.Refusing.{refusable, refused_reply}
+use Rattle.sv_server.specs.History.{refusal, turn_refusal, refuse_refusal, own_acts, did, wants_memory, is_beyond}
 use Rattle.sv_server.specs.KeptConnection.{Connection, IsConnection}
 use Rattle.sv_server.specs.KeptBench.{Bench, IsBench}
 use Rattle.sv_server.specs.State.{State, Represents}
 use Rattle.sv_server.specs.Inside.Outcome.{HeldAs, WaitsOn, verdict_wants}
 
+-- This is what refuses an event.
+abbrev pub IsRefusal : Config → PlainEvent → List Act → Option Refused → Type 0
+IsRefusal config event log what = (told : List ChannelAct) → Tells (bench log) told → refusal config told event log ≡ what
+
 -- An event that isn't refused adds its own acts.
 abbrev pub Acts : Config → PlainEvent → List Act → Result Did Refused → State → Type 0
-Acts config event log (Ok what) new = (refusal config event log ≡ None) × (what ≡ did event log)
+Acts config event log (Ok what) new = IsRefusal config event log None × (what ≡ did event log)
     × ((polled : ℕ) → IsPolled polled (bench log) → Represents new config (own_acts config polled event log ++ log))
-Acts config event log (Err NoMemory) new = (refusal config event log ≡ None)
+Acts config event log (Err NoMemory) new = IsRefusal config event log None
     × ((polled : ℕ) → IsPolled polled (bench log) → wants_memory (own_acts config polled event log) ≡ true)
-Acts config event log (Err refused) new = refusal config event log ≡ Some refused
+Acts config event log (Err refused) new = IsRefusal config event log (Some refused)
 
 -- The call that was taken is ended as was said, or waits.
 abbrev pub Concludes : Verdict → Config → List ConnAct → List BenchAct → Connection → Bench → Type 0
@@ -63,6 +70,13 @@ Turns config c log old (Ok (Done aborts)) connection shared = (turn_refusal (of 
 Turns config c log old (Err NoMemory) connection shared = (turn_refusal (of c log) ≡ None)
     × (call : List ℕ) × TakesCall config c log call (λ verdict. verdict_wants verdict ≡ true)
 Turns config c log old (Err refused) connection shared = turn_refusal (of c log) ≡ Some refused
+
+-- A Refuse of an open connection takes and answers its next call, or is refused.
+abbrev pub Refuses : List ConnAct → Result ⊤ Refused → Connection → Type 0
+Refuses acts (Ok done) connection = (refuse_refusal acts ≡ None) × (bytes : List ℕ) × (call : CoreCall)
+    × (next_call acts ≡ Some bytes) × (refusable acts ≡ Some call)
+    × IsConnection connection (Replied (refused_reply call) ∷ CallTaken bytes ∷ acts)
+Refuses acts (Err refused) connection = refuse_refusal acts ≡ Some refused
 
 -- an input that may be
 abbrev pub IsInput : ℕ → ℤ → Result Did Refused → Type 0

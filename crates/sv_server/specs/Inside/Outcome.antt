@@ -1,5 +1,5 @@
 -- What a call that is executed, or a record that is considered, comes to, as the code says it.
-use Rattle.std.specs.Prelude.{◌≡◌, ◌⊎◌, ℕ, ◌≤◌, ◌<◌, List, [], ◌∷◌, ◌++◌, length, map, nat_lt, Bool, true, false, Option, Some, None, ⊤}
+use Rattle.std.specs.Prelude.{◌≡◌, ◌⊎◌, ◌||◌, ℕ, ◌≤◌, ◌<◌, List, [], ◌∷◌, ◌++◌, length, map, nat_lt, Bool, true, false, Option, Some, None, ⊤}
 use Rattle.std.specs.List.{concat}
 use Rattle.sv_xdr.specs.Spelling.{Unsigned, Field, spelling}
 use Rattle.sv_rpc.specs.Reply.{reply_fields}
@@ -29,6 +29,7 @@ use Rattle.sv_server.specs.Execution.{Execution}
 use Rattle.sv_server.specs.CoreCall.{CoreCall, is_create_link}
 use Rattle.sv_server.specs.CoreChannel.{reads, own_call}
 use Rattle.sv_server.specs.Admission.{Begun, Does, Waits, deadline_of}
+use Rattle.sv_server.specs.Interrupts.{dialing}
 use Rattle.sv_server.specs.Resuming.{blocked_again}
 use Rattle.sv_server.specs.Verdict.{Verdict, NoCall, Replies, Stays, execution_verdict}
 use Rattle.sv_server.specs.KeptBench.{Bench, IsBench, HasPlace}
@@ -66,9 +67,9 @@ IsShort answer = HasAtMost 8192 answer
 abbrev pub makes : List BenchAct → Bool
 makes adds = nat_lt 0 (made (link_acts adds))
 
--- whether acts let a create_link wait
+-- whether acts let a create_link or a create_intr_chan wait
 abbrev pub lets_wait : List BenchAct → Bool
-lets_wait adds = nat_lt 0 (creating (wait_acts adds))
+lets_wait adds = nat_lt 0 (creating (wait_acts adds)) || nat_lt 0 (dialing (wait_acts adds))
 
 -- The call ends so. What it reads of the response is still to be read.
 abbrev pub EndsAs : Ending → Bench → Config → List BenchAct → Execution → Type 0

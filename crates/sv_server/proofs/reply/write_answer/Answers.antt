@@ -5,10 +5,11 @@ use Rattle.std.proofs.lemmas.List.{append-nil}
 use Rattle.sv_xdr.specs.Spelling.{Field, Unsigned, spelling}
 use Rattle.sv_xdr.specs.Writer.{text_of}
 use Rattle.sv_xdr.proofs.Appended.{each_last}
+use Rattle.sv_xdr.proofs.Whole.{whole_is_written}
 use Rattle.sv_vxi.specs.Results.{plain_result, result_fields}
 use Rattle.sv_rpc.specs.Reply.{reply_fields}
 use Rattle.sv_server.specs.Inside.Outcome.{IsShort}
-use Rattle.sv_server.proofs.Replies.{Written, HasRoom, whole_is_written, both_are_written}
+use Rattle.sv_server.proofs.Replies.{Written, HasRoom, both_are_written}
 use Rattle.sv_server.proofs.reply.write_answer.Goals as goal
 
 pub returns-in-Header-clause-written : goal.returns-in-Header-clause-written

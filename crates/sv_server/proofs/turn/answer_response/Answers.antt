@@ -3,12 +3,12 @@ use Rattle.sv_rpc.specs.declared.reply.Reply.TheVariants.{Success}
 use Rattle.sv_vxi.specs.Results.{Outcome, result_fields}
 use Rattle.sv_exchange.specs.Exchange.{ResponseRead}
 use Rattle.sv_layers.specs.Act.{Exchanged}
-use Rattle.sv_instrument.specs.Kept.{StandsFor}
+use Rattle.sv_instrument.specs.Kept.{Ran}
 use Rattle.sv_server.specs.Act.{Replied, instrument_acts}
 use Rattle.sv_server.specs.Reply.{reply_record}
 use Rattle.sv_server.specs.KeptConnection.{IsConnection}
 use Rattle.sv_server.proofs.Turned.{read_is}
-use Rattle.sv_server.proofs.Projections.{bench_happened}
+use Rattle.sv_server.proofs.Raising.{bench_ran}
 use Rattle.sv_server.proofs.turn.answer_response.Goals as goal
 
 pub returns-clause-ends : goal.returns-clause-ends
@@ -16,9 +16,10 @@ returns-clause-ends g c = λ config acts before is busy old.
     let shared = rw (← c.shared.view_is) at old in
     let log = instrument_acts before in
     let given = c.peek-read.ensures.answer log shared.1 in
-    let stands = subst (λ (n : ℕ). StandsFor c.take.new.self (Exchanged (ResponseRead n) ∷ log)) given.size
-    (c.take.ensures log shared.1).stands in (
+    let ran = subst (λ (n : ℕ). Ran c.take-raised.new.self c.take-raised.result log (Exchanged (ResponseRead n) ∷ log)) given.size
+    (c.take-raised.ensures log shared.1) in (
       subst (λ (o : Outcome). IsConnection c.answer.new.self (Replied (reply_record c.args.xid Success (result_fields o)) ∷ acts))
           (read_is c.peek-read.result _ c.args.most c.args.term given) (c.answer.ensures acts is busy),
-      bench_happened _ _ config before (Exchanged (ResponseRead _) ∷ []) shared stands,
+      bench_ran _ c.take-raised.new.self _ config before (Exchanged (ResponseRead _) ∷ []) c.take-raised.result shared ran
+          c.raise.ensures.stands,
     )

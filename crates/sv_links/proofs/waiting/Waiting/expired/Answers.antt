@@ -1,5 +1,5 @@
 use Rattle.std.proofs.Common.{Bool, ℕ, rules, tests, ◌∙◌}
-use Rattle.std.specs.Prelude.{find, ◌≡◌, ◌<◌}
+use Rattle.std.specs.Prelude.{find, ◌≡◌}
 use Rattle.std.proofs.lemmas.Iterator.{YieldsList-from_slice}
 use Rattle.std.proofs.lemmas.Iterator.Search.{find_from_yields_List}
 use Rattle.sv_links.specs.declared.waiting.Entry.{Entry}

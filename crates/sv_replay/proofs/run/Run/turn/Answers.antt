@@ -1,5 +1,6 @@
-use Rattle.std.proofs.Common.{◌+◌, take, drop, refl, sym, ap, ◌∙◌}
+use Rattle.std.proofs.Common.{◌+◌, take, drop, refl, sym, ap, subst, ◌∙◌}
 use Rattle.sv_replay.specs.Text.{Held}
+use Rattle.sv_replay.specs.Stage.{IsStage}
 use Rattle.sv_replay.proofs.Going.{go_line, go_line_stop}
 use Rattle.sv_replay.proofs.run.Run.turn.Goals as goal
 
@@ -18,3 +19,8 @@ returns-in_ok-do_line-in-Some-clause-goes g c =
     (sym c.in-Some.ensures.value) (c.front-line.ensures ∙ ap (λ (h : Held). take c.in-Some.len h.text) c.in-Some.ensures.same)
     (ap (λ (h : Held). h.text) c.drop_front.ensures
     ∙ ap (λ (h : Held). drop (c.in-Some.len + 1) h.text) c.in-Some.ensures.same) refl c.in_ok-do_line-in-Some.ensures
+
+pub returns-in-None-clause-goes : goal.returns-in-None-clause-goes
+returns-in-None-clause-goes g c = λ read text is.
+    c.read_on.ensures.goes read text
+    (subst (λ (h : Held). IsStage c.args.self.now.server h.text c.args.self.now.lines read text) (sym c.in-None.ensures.same) is)

@@ -1,6 +1,6 @@
 use Rattle.std.proofs.Common.{rules, ◌≡◌, false, subst}
 use Rattle.sv_vxi.specs.Reading.{plain_arguments}
-use Rattle.sv_server.specs.CoreCall.{is_create_link}
+use Rattle.sv_server.specs.Refusing.{takes_memory}
 use Rattle.sv_server.specs.Admission.{Begun}
 use Rattle.sv_server.specs.Inside.Outcome.{BegunAs}
 use Rattle.sv_server.proofs.Granted.{behind_other}
@@ -16,7 +16,7 @@ returns-in-CreateLink-clause-lacks g c = λ config polled acts known.
 
 pub returns-in-DeviceAbort : goal.returns-in-DeviceAbort
 returns-in-DeviceAbort g c =
-    let other : is_create_link (plain_arguments c.args.args.now) ≡ false = search (rules, c.in-DeviceAbort.is) in
+    let other : takes_memory (plain_arguments c.args.args.now) ≡ false = search (rules, c.in-DeviceAbort.is) in
     record {
       ok = λ config polled acts known.
           subst (λ (b : Begun). BegunAs c.unless_blocked.result c.unless_blocked.new.self config acts b)
@@ -27,3 +27,11 @@ returns-in-DeviceAbort g c =
       err = tt;
       lacks = λ config polled acts known. tt;
     }
+
+pub returns-in-CreateIntrChan-clause-ok : goal.returns-in-CreateIntrChan-clause-ok
+returns-in-CreateIntrChan-clause-ok g c = λ config polled acts known.
+    rw c.in-CreateIntrChan.is (c.create_channel.ensures.ok config acts known.0)
+
+pub returns-in-CreateIntrChan-clause-lacks : goal.returns-in-CreateIntrChan-clause-lacks
+returns-in-CreateIntrChan-clause-lacks g c = λ config polled acts known.
+    rw c.in-CreateIntrChan.is (c.create_channel.ensures.lacks config acts known.0)

@@ -8,6 +8,6 @@ returns-clause-ends g c = λ config acts old.
     let is = rw (← c.self.view_is) at old in
     rw c.in-Some.is (
       sym c.plain-2.ensures,
-      bench_destroyed _ c.destroy.new.self config acts c.in-Some.lid is
-          (c.destroy.ensures.stands (link_acts acts) is.0) c.destroy.ensures.spare,
+      bench_destroyed _ c.destroy.new.self c.disable.new.self config acts c.in-Some.lid is
+          (c.destroy.ensures.stands (link_acts acts) is.0) c.destroy.ensures.spare c.disable.ensures.stands c.disable.ensures.ready,
     )

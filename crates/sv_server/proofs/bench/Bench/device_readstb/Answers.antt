@@ -5,7 +5,7 @@ use Rattle.sv_layers.specs.Act.{Polled}
 use Rattle.sv_layers.specs.StatusByte.{PolledBit}
 use Rattle.sv_layers.proofs.PolledByte.{one_word}
 use Rattle.sv_server.specs.Act.{instrument_acts}
-use Rattle.sv_server.proofs.Projections.{bench_happened}
+use Rattle.sv_server.proofs.Raising.{bench_ran}
 use Rattle.sv_server.proofs.bench.Bench.device_readstb.Goals as goal
 
 pub returns-clause-ends : goal.returns-clause-ends
@@ -14,5 +14,6 @@ returns-clause-ends g c = λ config polled acts known.
     let log = instrument_acts acts in
     let same = one_word (λ k. PolledBit k log) polled c.poll-poll.result.status known.1 (c.poll-poll.ensures.status log is.1) in (
       ap (λ (byte : ℕ). Status NoError byte) same,
-      bench_happened _ _ config acts (Polled ∷ []) is (c.poll-poll.ensures.ran log is.1).stands,
+      bench_ran _ c.poll-poll.new.self _ config acts (Polled ∷ []) c.poll-poll.result.raised is (c.poll-poll.ensures.ran log is.1)
+          c.raise.ensures.stands,
     )

@@ -1,15 +1,16 @@
 use Rattle.std.proofs.Common.{rules, [], ◌∷◌}
+use Rattle.sv_server.specs.Act.{instrument_acts}
+use Rattle.sv_server.proofs.Raising.{bench_ran}
 use Rattle.sv_scan.specs.declared.acts.ScanAct.TheVariants.{Input}
 use Rattle.sv_layers.specs.Act.{Scanned}
-use Rattle.sv_instrument.specs.Kept.{StandsFor}
-use Rattle.sv_server.specs.Act.{instrument_acts}
-use Rattle.sv_server.proofs.Projections.{bench_happened}
+use Rattle.sv_instrument.specs.Kept.{Ran}
 use Rattle.sv_server.proofs.bench.Bench.input.Goals as goal
 
 pub returns-clause-stands : goal.returns-clause-stands
 returns-clause-stands g c = λ config acts old.
     let is = rw (← c.self.view_is) at old in
-    let ran = c.input.ensures (instrument_acts acts) is.1 in
-    let stands : StandsFor c.input.new.self (Scanned (Input c.args.channel c.args.microvolts) ∷ instrument_acts acts) =
-    search (rules, ran.stands) in
-    bench_happened _ _ config acts (Scanned (Input c.args.channel c.args.microvolts) ∷ []) is stands
+    let log = instrument_acts acts in
+    let ran : Ran c.input-raised.new.self c.input-raised.result log (Scanned (Input c.args.channel c.args.microvolts) ∷ log) =
+    search (rules, c.input-raised.ensures log is.1) in
+    bench_ran _ c.input-raised.new.self _ config acts (Scanned (Input c.args.channel c.args.microvolts) ∷ []) c.input-raised.result is ran
+    c.raise.ensures.stands

@@ -12,7 +12,7 @@ returns-in-Some-clause-resumes g c = λ config polled acts known waits may.
       rw (← (c.deadline.ensures config acts known.0))
           (bench_again _ c.again.new.self config acts c.args.conn c.in-Some.block.wait (Some c.deadline.result) is
           (c.again.ensures.stands (wait_acts acts) is.4)
-          (c.again.ensures.fewer (rank_other c.in-Some.block.wait c.in-Some.ensures.measure))),
+          (c.again.ensures.fewer (rank_other c.in-Some.block.wait c.in-Some.ensures.measure)) c.in-Some.ensures.plain),
     )
 
 pub returns-in-Some-clause-waiting : goal.returns-in-Some-clause-waiting

@@ -2,7 +2,7 @@ use Rattle.std.proofs.Common.{◌+◌, ◌∷◌, ◌≡◌, arith}
 use Rattle.sv_instrument.specs.Happened.{tick_acts}
 use Rattle.sv_server.specs.Act.{Ticked, instrument_acts, ticks}
 use Rattle.sv_server.specs.KeptBench.{Bench}
-use Rattle.sv_server.proofs.Projections.{bench_happened}
+use Rattle.sv_server.proofs.Raising.{ran_raised}
 use Rattle.sv_server.proofs.bench.Bench.tick.Goals as goal
 
 pub returns-clause-stands : goal.returns-clause-stands
@@ -11,10 +11,13 @@ returns-clause-stands g c = λ config acts old.
     let later : Bench = record {
       links = c.self.inside.links;
       waiting = c.self.inside.waiting;
+      intr = c.self.inside.intr;
       instrument = c.self.inside.instrument;
       config = c.self.inside.config;
       clock = c.self.inside.clock + 1;
     } in
     let clock : later.clock ≡ config.clock + (ticks acts + 1) = let before = is.3 in omega (arith, before) in
-    bench_happened later _ config (Ticked ∷ acts) (tick_acts (instrument_acts acts)) (is.0, is.1, is.2, clock, is.4, is.5)
-    (c.tick.ensures (instrument_acts acts) is.1).stands
+    let ran = c.tick-raised.ensures (instrument_acts acts) is.1 in
+    c.raise.ensures.stands config (Ticked ∷ acts) (tick_acts (instrument_acts acts))
+    (is.0, ran.stands, is.2, clock, is.4, is.5, is.6, is.7)
+    (ran_raised c.tick-raised.new.self c.tick-raised.result (instrument_acts acts) (tick_acts (instrument_acts acts)) ran)

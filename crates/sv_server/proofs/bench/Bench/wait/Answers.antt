@@ -9,4 +9,4 @@ returns-clause-stands g c = λ config acts old place.
     rw (← (c.deadline.ensures config acts old))
     (bench_entered _ c.enter.new.self config acts
     (record { conn = c.args.conn; lid = c.args.lid; wait = c.args.block.wait; deadline = Some c.deadline.result }) is
-    (c.enter.ensures.stands (wait_acts acts) is.4) c.enter.ensures.value (rw (← c.self.view_is) at place))
+    (c.enter.ensures.stands (wait_acts acts) is.4) c.enter.ensures.value (rw (← c.self.view_is) at place) c.requires.plain)

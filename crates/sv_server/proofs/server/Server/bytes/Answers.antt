@@ -11,7 +11,7 @@ returns-then-room-piece-clause-acts g c = λ config log rep.
     let is = connection_of _ config log c.args.conn c.index_mut-connection.result.now state (omega arith) at in
     let opened = open_is c.index_mut-connection.result.now _ _ is (sym c.is_open.ensures.value ∙ c.if-not-is_open.false) in
     let room = c.room.ensures.answer _ is in
-    rw (shut_is c.args.conn log _ (omega arith) opened, lt-ltb _ _ (rw room at c.if-room-piece.true)) refl
+    λ told tells. rw (shut_is c.args.conn log _ (omega arith) opened, lt-ltb _ _ (rw room at c.if-room-piece.true)) refl
 
 pub returns-clause-acts : goal.returns-clause-acts
 returns-clause-acts g c = λ config log rep.
@@ -20,7 +20,7 @@ returns-clause-acts g c = λ config log rep.
     let is = connection_of _ config log c.args.conn c.index_mut-connection.result.now state (omega arith) at in
     let opened = open_is c.index_mut-connection.result.now _ _ is (sym c.is_open.ensures.value ∙ c.if-not-is_open.false) in
     let room = c.room.ensures.answer _ is in (
-      rw (shut_is c.args.conn log _ (omega arith) opened, le-ltb _ _ (rw room at c.if-room-piece.false)) refl,
+      λ told tells. rw (shut_is c.args.conn log _ (omega arith) opened, le-ltb _ _ (rw room at c.if-room-piece.false)) refl,
       refl,
       λ polled said. rw c.from-2.ensures (one_act _ config log c.args.conn c.index_mut-connection.result.now c.push.new.self
           (Piece c.args.piece.now) state c.self.invariant (omega arith) at (c.push.ensures (of c.args.conn log)) (λ call known. known)),

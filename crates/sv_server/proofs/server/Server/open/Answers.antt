@@ -10,7 +10,7 @@ returns-clause-acts g c = λ config log rep.
     let state = rw (← c.self.view_is) at rep in
     let is = connection_of _ config log c.args.conn c.index_mut-connection.result.now state (omega arith) at in
     let shut = open_is c.index_mut-connection.result.now _ _ is (sym c.is_open.ensures.value ∙ c.if-is_open.false) in (
-      rw (le-ltb 15 c.args.conn (omega arith), shut) refl,
+      λ told tells. rw (le-ltb 15 c.args.conn (omega arith), shut) refl,
       refl,
       λ polled said. rw c.from-2.ensures (one_act _ config log c.args.conn c.index_mut-connection.result.now c.open.new.self
           (Opened c.args.role) state c.self.invariant (omega arith) at (c.open.ensures (of c.args.conn log))

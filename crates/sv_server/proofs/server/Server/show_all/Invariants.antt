@@ -2,6 +2,7 @@ use Rattle.std.proofs.Common.{ℕ, List}
 use Rattle.std.specs.Io.KnownBytes.{Appends}
 use Rattle.sv_server.specs.declared.event.Config.{Config}
 use Rattle.sv_server.specs.Event.{PlainEvent}
+use Rattle.sv_links.specs.Channels.{ChannelAct}
 use Rattle.sv_server.specs.Act.{Act}
 use Rattle.sv_server.specs.Inside.Showing.{StandsBy}
 use Rattle.sv_server.proofs.Ports.{SoFar}
@@ -9,6 +10,7 @@ use Rattle.sv_server.proofs.server.Server.show_all.Given as goal
 
 -- the lines of the ports below the number were written
 abbrev pub invariant-loop-number : goal.invariant-loop-number
-invariant-loop-number g l = (config : Config) (history : List PlainEvent) (log : List Act) → StandsBy l.fn.self config history log
+invariant-loop-number g l = (config : Config) (history : List PlainEvent) (told : List ChannelAct) (log : List Act)
+    → StandsBy l.fn.self config history told log
     → (text : List ℕ) × Appends (g.W.Write.contents l.fn.writer) (g.W.Write.contents l.writer) text
-    × SoFar config history log l.number l.self text
+    × SoFar config history told log l.number l.self text

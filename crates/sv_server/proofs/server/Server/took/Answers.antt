@@ -12,7 +12,7 @@ returns-clause-acts g c = λ config log rep.
     let is = connection_of _ config log c.args.conn c.index_mut-connection.result.now state (omega arith) at in
     let opened = open_is c.index_mut-connection.result.now _ _ is (sym c.is_open.ensures.value ∙ c.if-not-is_open.false) in
     let bytes = c.waiting.ensures.answer _ is in (
-      rw (
+      λ told tells. rw (
         shut_is c.args.conn log _ (omega arith) opened,
         le-ltb (length (waiting (of c.args.conn log))) c.args.count
             (omega (arith, ap length bytes)),

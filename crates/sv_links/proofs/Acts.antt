@@ -1,0 +1,69 @@
+-- What is kept of channels, over acts.
+use Rattle.std.proofs.Common.{◌≡◌, ◌≢◌, ℕ, ◌<◌, List, [], ◌∷◌, ◌++◌, length, Option, Some, None, refl, sym, ap, subst, ◌∙◌, inl, inr}
+use Rattle.std.specs.Prelude.{map, slice_index_or, slice_set}
+use Rattle.std.proofs.lemmas.Bool.{cases_eq}
+use Rattle.std.proofs.lemmas.List.{get_or-set_same, get_or-set_other}
+use Rattle.sv_links.specs.declared.enabled.Enabled.{Enabled}
+use Rattle.sv_links.specs.declared.request.Peer.{Peer}
+use Rattle.sv_links.specs.Channels.{ChannelAct, SrqEnabled, SrqDisabled, Requested, below, above, enabled, peer, taken, calls, called, called_by, handles_of}
+use Rattle.sv_links.specs.KeptChannels.{Channel, Channels, AreChannels, disabled, IsChannel, IsChannelFor, IsQueued, opened_for}
+use Rattle.sv_links.proofs.Asking.{other_links}
+
+-- a link asks no more
+pub AreChannels-disabled : (kept : Channels) (links : List Enabled) (lid : ℕ) (acts : List ChannelAct)
+    → links ≡ other_links lid kept.enabled → AreChannels kept acts
+    → AreChannels (record kept { enabled = links }) (SrqDisabled lid ∷ acts)
+AreChannels-disabled kept links lid acts same is = record {
+  enabled = same ∙ ap (other_links lid) is.enabled;
+  each = is.each;
+  beyond = is.beyond;
+}
+
+-- nor do these
+pub AreChannels-without : (kept : Channels) (lids : List ℕ) (acts : List ChannelAct) → AreChannels kept acts
+    → AreChannels (record kept { enabled = disabled lids kept.enabled }) (map SrqDisabled lids ++ acts)
+AreChannels-without kept [] acts is = is
+AreChannels-without kept (lid ∷ lids) acts is =
+    AreChannels-disabled (record kept { enabled = disabled lids kept.enabled }) (disabled (lid ∷ lids) kept.enabled) lid
+    (map SrqDisabled lids ++ acts) refl (AreChannels-without kept lids acts is)
+
+-- a link asks
+pub AreChannels-enabled : (kept : Channels) (links : List Enabled) (link : Enabled) (acts : List ChannelAct)
+    → links ≡ below link.lid kept.enabled ++ link ∷ above link.lid kept.enabled → AreChannels kept acts
+    → AreChannels (record kept { enabled = links }) (SrqEnabled link.lid link.conn link.handle ∷ acts)
+AreChannels-enabled kept links link acts same is = record {
+  enabled = same ∙ ap (λ (xs : List Enabled). below link.lid xs ++ link ∷ above link.lid xs) is.enabled;
+  each = is.each;
+  beyond = is.beyond;
+}
+
+channel-requested : (what : Option Peer) (old new : Channel) (count : ℕ) (handles calls : List (List ℕ)) → opened_for old.stage ≡ what
+    → ((count : ℕ) (calls : List (List ℕ)) (peer : Peer) → opened_for old.stage ≡ Some peer → IsQueued old count calls
+    → IsQueued new count (called peer count handles calls))
+    → IsChannelFor what old count calls → IsChannelFor what new count (called_by what count handles calls)
+channel-requested None old new count handles calls opened sends is = tt
+channel-requested (Some what) old new count handles calls opened sends is = sends count calls what opened is
+
+-- a channel that was sent its calls, as a request is raised
+pub IsChannel-requested : (c : ℕ) (old new : Channel) (links : List Enabled) (acts : List ChannelAct) → links ≡ enabled acts
+    → new.stage ≡ old.stage
+    → ((count : ℕ) (calls : List (List ℕ)) (peer : Peer) → opened_for old.stage ≡ Some peer → IsQueued old count calls
+    → IsQueued new count (called peer count (handles_of c links) calls))
+    → IsChannel old c acts → IsChannel new c (Requested ∷ acts)
+IsChannel-requested c old new links acts same stage sends is = (
+  ap opened_for stage ∙ is.0,
+  subst (λ (links : List Enabled).
+      IsChannelFor (peer c acts) new (taken c acts) (called_by (peer c acts) (taken c acts) (handles_of c links) (calls c acts))) same
+      (channel-requested (peer c acts) old new (taken c acts) (handles_of c links) (calls c acts) is.0 sends is.1),
+)
+
+-- ---- a channel that is written
+
+pub at_set : (P : Channel → Type 0) (kept : List Channel) (i c : ℕ) (new other : Channel) → i < length kept → (c ≡ i → P new)
+    → (c ≢ i → P (slice_index_or kept c other)) → P (slice_index_or (slice_set kept i new) c other)
+at_set P kept i c new other within here there = elim (cases_eq c i) [
+  | inl e ↦
+      let place = ap (λ (c : ℕ). slice_index_or (slice_set kept i new) c other) e in
+      subst P (sym (place ∙ get_or-set_same kept i new other within)) (here e)
+  | inr e ↦ subst P (sym (get_or-set_other kept i c new other e)) (there e)
+]

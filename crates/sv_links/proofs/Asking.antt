@@ -1,0 +1,124 @@
+-- The links that ask for service requests, by rising number.
+use Rattle.std.proofs.Common.{◌≡◌, ◌≢◌, ℕ, ◌<◌, ◌≤◌, Bool, eqb, ltb, List, [], ◌∷◌, ◌++◌, length, take, drop, refl, sym, ap, ◌∙◌, arith, inl, inr}
+use Rattle.std.specs.Prelude.{not, filter}
+use Rattle.std.specs.List.{AllByRecursion, insert}
+use Rattle.std.proofs.lemmas.Bool.{cases_Bool, cond_both, eqb-true, eqb-false, ltb-true, ltb-false, lt-ltb, le-ltb}
+use Rattle.std.proofs.lemmas.List.Elements.{All-filter, All-from_recursion, recursion_from_All}
+use Rattle.sv_links.specs.declared.enabled.Enabled.{Enabled}
+use Rattle.sv_links.specs.Channels.{below, above}
+use Rattle.sv_links.specs.KeptChannels.{IsSorted}
+
+-- the links without this one
+abbrev pub other_links : ℕ → List Enabled → List Enabled
+other_links lid = filter (λ other. not (eqb other.lid lid))
+
+all_filter : (P : Enabled → Type 0) (p : Enabled → Bool) (xs : List Enabled) → AllByRecursion P xs → AllByRecursion P (filter p xs)
+all_filter P p xs h = recursion_from_All P _ (All-filter p P xs (All-from_recursion P xs h))
+
+pub sorted-filter : (p : Enabled → Bool) (xs : List Enabled) → IsSorted xs → IsSorted (filter p xs)
+sorted-filter p [] h = tt
+sorted-filter p (x ∷ xs) h = cond_both (p x) (x ∷ filter p xs) (filter p xs) IsSorted
+    (λ _. (all_filter (λ y. x.lid < y.lid) p xs h.0, sorted-filter p xs h.1)) (λ _. sorted-filter p xs h.1)
+
+-- ---- the place of a number
+
+-- none of those behind a link that isn't below is
+none_below : (lid n : ℕ) (xs : List Enabled) → lid ≤ n → AllByRecursion (λ x. n < x.lid) xs → below lid xs ≡ []
+none_below lid n [] le h = refl
+none_below lid n (x ∷ xs) le h = rw (le-ltb x.lid lid (omega (arith, h.0))) (none_below lid n xs le h.1)
+
+all_above : (lid n : ℕ) (xs : List Enabled) → lid ≤ n → AllByRecursion (λ x. n < x.lid) xs → above lid xs ≡ xs
+all_above lid n [] le h = refl
+all_above lid n (x ∷ xs) le h =
+    rw (lt-ltb lid x.lid (omega (arith, h.0))) (ap (λ (ys : List Enabled). x ∷ ys) (all_above lid n xs le h.1))
+
+-- those below a number stand in front of its place, those above it behind
+abbrev Parts : ℕ → List Enabled → Type 0
+Parts lid xs = (take (length (below lid xs)) xs ≡ below lid xs) × (drop (length (below lid xs)) xs ≡ above lid xs)
+
+parts : (lid : ℕ) (xs : List Enabled) → IsSorted xs → AllByRecursion (λ x. x.lid ≢ lid) xs → Parts lid xs
+parts lid [] h free = (refl, refl)
+parts lid (x ∷ xs) h free = elim (cases_Bool (ltb x.lid lid)) [
+  | inl e ↦
+      let lt = ltb-true x.lid lid e in
+      let rest = parts lid xs h.1 free.1 in
+      rw (e, le-ltb lid x.lid (omega arith)) (ap (λ (ys : List Enabled). x ∷ ys) rest.0, rest.1)
+  | inr e ↦
+      let le : lid ≤ x.lid = ltb-false x.lid lid e in
+      let apart = free.0 in
+      rw (e, none_below lid x.lid xs le h.0, lt-ltb lid x.lid (omega arith))
+      (refl, ap (λ (ys : List Enabled). x ∷ ys) (sym (all_above lid x.lid xs le h.0)))
+]
+
+pub free-other : (lid : ℕ) (xs : List Enabled) → AllByRecursion (λ x. x.lid ≢ lid) (other_links lid xs)
+free-other lid [] = tt
+free-other lid (x ∷ xs) = elim (cases_Bool (eqb x.lid lid)) [
+  | inl e ↦ rw e (free-other lid xs)
+  | inr e ↦ rw e (eqb-false x.lid lid e, free-other lid xs)
+]
+
+pub below-other : (lid : ℕ) (xs : List Enabled) → below lid (other_links lid xs) ≡ below lid xs
+below-other lid [] = refl
+below-other lid (x ∷ xs) = elim (cases_Bool (eqb x.lid lid)) [
+  | inl e ↦ let same = eqb-true x.lid lid e in rw (e, le-ltb x.lid lid (omega arith)) (below-other lid xs)
+  | inr e ↦ elim (cases_Bool (ltb x.lid lid)) [
+    | inl k ↦ rw (e, k) (ap (λ (ys : List Enabled). x ∷ ys) (below-other lid xs))
+    | inr k ↦ rw (e, k) (below-other lid xs)
+  ]
+]
+
+pub above-other : (lid : ℕ) (xs : List Enabled) → above lid (other_links lid xs) ≡ above lid xs
+above-other lid [] = refl
+above-other lid (x ∷ xs) = elim (cases_Bool (eqb x.lid lid)) [
+  | inl e ↦ let same = eqb-true x.lid lid e in rw (e, le-ltb lid x.lid (omega arith)) (above-other lid xs)
+  | inr e ↦ elim (cases_Bool (ltb lid x.lid)) [
+    | inl k ↦ rw (e, k) (ap (λ (ys : List Enabled). x ∷ ys) (above-other lid xs))
+    | inr k ↦ rw (e, k) (above-other lid xs)
+  ]
+]
+
+-- a link that is inserted at its place stands between those below and those above
+pub inserted : (lid : ℕ) (xs : List Enabled) (link : Enabled) → IsSorted (other_links lid xs)
+    → insert (other_links lid xs) (length (below lid (other_links lid xs))) link ≡ below lid xs ++ link ∷ above lid xs
+inserted lid xs link h =
+    let others = other_links lid xs in
+    let both = parts lid others h (free-other lid xs) in
+    ap (λ (ys : List Enabled). ys ++ link ∷ drop (length (below lid others)) others) (both.0 ∙ below-other lid xs)
+    ∙ ap (λ (ys : List Enabled). below lid xs ++ link ∷ ys) (both.1 ∙ above-other lid xs)
+
+-- ---- they stay sorted
+
+above-all : (lid : ℕ) (xs : List Enabled) → AllByRecursion (λ x. lid < x.lid) (above lid xs)
+above-all lid [] = tt
+above-all lid (x ∷ xs) = elim (cases_Bool (ltb lid x.lid)) [
+  | inl e ↦ rw e (ltb-true lid x.lid e, above-all lid xs)
+  | inr e ↦ rw e (above-all lid xs)
+]
+
+all_joined : (P : Enabled → Type 0) (xs ys : List Enabled) (y : Enabled) → AllByRecursion P xs → P y → AllByRecursion P ys
+    → AllByRecursion P (xs ++ y ∷ ys)
+all_joined P [] ys y h here k = (here, k)
+all_joined P (x ∷ xs) ys y h here k = (h.0, all_joined P xs ys y h.1 here k)
+
+pub sorted-put : (link : Enabled) (xs : List Enabled) → IsSorted xs → IsSorted (below link.lid xs ++ link ∷ above link.lid xs)
+sorted-put link [] h = (tt, tt)
+sorted-put link (x ∷ xs) h = elim (cases_Bool (ltb x.lid link.lid)) [
+  | inl e ↦
+      let lt = ltb-true x.lid link.lid e in
+      rw (e, le-ltb link.lid x.lid (omega arith)) (
+        all_joined (λ y. x.lid < y.lid) (below link.lid xs) (above link.lid xs) link
+            (all_filter (λ y. x.lid < y.lid) (λ y. ltb y.lid link.lid) xs h.0) lt
+            (all_filter (λ y. x.lid < y.lid) (λ y. ltb link.lid y.lid) xs h.0),
+        sorted-put link xs h.1,
+      )
+  | inr e ↦
+      let le : link.lid ≤ x.lid = ltb-false x.lid link.lid e in
+      rw (e, none_below link.lid x.lid xs le h.0)
+      (above-all link.lid (x ∷ xs), sorted-filter (λ y. ltb link.lid y.lid) (x ∷ xs) h)
+]
+
+-- where a link is inserted at its place, they stay sorted
+pub sorted-inserted : (lid : ℕ) (xs : List Enabled) (link : Enabled) → link.lid ≡ lid → IsSorted (other_links lid xs)
+    → IsSorted (insert (other_links lid xs) (length (below lid (other_links lid xs))) link)
+sorted-inserted lid xs link same h = rw (inserted lid xs link h, ← below-other lid xs, ← above-other lid xs, ← same)
+    (sorted-put link (other_links link.lid xs) (rw (← same) at h))

@@ -1,0 +1,105 @@
+-- What is left of calls, of their sizes and of their bytes.
+use Rattle.std.proofs.Common.{◌≡◌, ℕ, zero, suc, ◌+◌, ◌-◌, ◌*◌, ◌<◌, ◌≤◌, ltb, List, [], ◌∷◌, ◌++◌, length, drop, refl, sym, ap, ◌∙◌, arith, inl, inr}
+use Rattle.std.specs.Prelude.{map, sum}
+use Rattle.std.specs.List.{concat, AllByRecursion}
+use Rattle.std.proofs.lemmas.Bool.{cases_Bool, ltb-true, ltb-false, lt-ltb, le-ltb}
+use Rattle.std.proofs.lemmas.List.{length-append, length-drop, drop_at, drop-drop, drop-append-le}
+use Rattle.std.proofs.lemmas.List.Sums.{sum_by-cons}
+use Rattle.sv_links.specs.Channels.{left_of}
+use Rattle.sv_links.specs.KeptChannels.{left_in}
+
+-- the sizes of what is left of calls are what is left of their sizes
+pub left-sizes : (count : ℕ) (calls : List (List ℕ)) → map length (left_of count calls) ≡ left_in count (map length calls)
+left-sizes count [] = refl
+left-sizes count (call ∷ calls) = elim (cases_Bool (ltb count (length call))) [
+  | inl e ↦ rw e (ap (λ (n : ℕ). n ∷ map length calls) (length-drop count call))
+  | inr e ↦ rw e (left-sizes (count - length call) calls)
+]
+
+drop-past : (count : ℕ) (xs ys : List ℕ) → length xs ≤ count → drop count (xs ++ ys) ≡ drop (count - length xs) ys
+drop-past count xs ys h =
+    let both : length xs + (count - length xs) ≡ count = omega arith in
+    ap (λ (n : ℕ). drop n (xs ++ ys)) (sym both) ∙ sym (drop-drop (count - length xs) (length xs) (xs ++ ys))
+    ∙ ap (drop (count - length xs)) (drop_at xs ys (length xs) refl)
+
+-- the bytes of what is left of calls are what is left of their bytes
+pub left-bytes : (count : ℕ) (calls : List (List ℕ)) → concat (left_of count calls) ≡ drop count (concat calls)
+left-bytes zero [] = refl
+left-bytes (suc count) [] = refl
+left-bytes count (call ∷ calls) = elim (cases_Bool (ltb count (length call))) [
+  | inl e ↦ let lt = ltb-true count (length call) e in rw e (sym (drop-append-le count call (concat calls) (omega arith)))
+  | inr e ↦
+      let le = ltb-false count (length call) e in
+      rw e (left-bytes (count - length call) calls ∙ sym (drop-past count call (concat calls) le))
+]
+
+-- what is left, and of that what is left
+pub left-left : (m n : ℕ) (calls : List (List ℕ)) → left_of n (left_of m calls) ≡ left_of (m + n) calls
+left-left m n [] = refl
+left-left m n (call ∷ calls) = elim (cases_Bool (ltb m (length call))) [
+  | inl e ↦
+      let lt = ltb-true m (length call) e in
+      let size = length-drop m call in
+      elim (cases_Bool (ltb (m + n) (length call))) [
+        | inl k ↦
+            let more = ltb-true (m + n) (length call) k in
+            rw (e, k, lt-ltb n (length (drop m call)) (omega arith)) (ap (λ (call : List ℕ). call ∷ calls) (drop-drop n m call))
+        | inr k ↦
+            let all = ltb-false (m + n) (length call) k in
+            let rest : n - length (drop m call) ≡ m + n - length call = omega arith in
+            rw (e, k, le-ltb n (length (drop m call)) (omega arith)) (ap (λ (n : ℕ). left_of n calls) rest)
+      ]
+  | inr e ↦
+      let le = ltb-false m (length call) e in
+      let rest : m - length call + n ≡ m + n - length call = omega arith in
+      rw (e, le-ltb (m + n) (length call) (omega arith))
+      (left-left (m - length call) n calls ∙ ap (λ (n : ℕ). left_of n calls) rest)
+]
+
+-- a call that is sent behind others is left, where no more than those were taken
+pub left-push : (count : ℕ) (calls : List (List ℕ)) (call : List ℕ) → 0 < length call → count ≤ length (concat calls)
+    → left_of count (calls ++ call ∷ []) ≡ left_of count calls ++ call ∷ []
+left-push count [] call some h = rw (lt-ltb count (length call) (omega arith)) (
+    let none : count ≡ 0 = omega arith in rw none refl
+    )
+left-push count (first ∷ calls) call some h = elim (cases_Bool (ltb count (length first))) [
+  | inl e ↦ rw e refl
+  | inr e ↦
+      let le = ltb-false count (length first) e in
+      rw e (left-push (count - length first) calls call some (omega (arith, length-append first (concat calls), le)))
+]
+
+-- ---- sizes
+
+sum-cons : (n : ℕ) (ns : List ℕ) → sum (n ∷ ns) ≡ n + sum ns
+sum-cons n ns = sum_by-cons (λ (x : ℕ). x) n ns
+
+-- what was taken, and what is left, are all
+pub sum-left : (count : ℕ) (sizes : List ℕ) → count ≤ sum sizes → count + sum (left_in count sizes) ≡ sum sizes
+sum-left count [] h = omega arith
+sum-left count (size ∷ sizes) h = elim (cases_Bool (ltb count size)) [
+  | inl e ↦ let lt = ltb-true count size e in rw e (omega (arith, sum-cons (size - count) sizes, sum-cons size sizes))
+  | inr e ↦
+      let le = ltb-false count size e in
+      rw e (omega (arith, sum-left (count - size) sizes (omega (arith, sum-cons size sizes)), sum-cons size sizes))
+]
+
+pub all-left : (most count : ℕ) (sizes : List ℕ) → AllByRecursion (λ size. size ≤ most) sizes
+    → AllByRecursion (λ size. size ≤ most) (left_in count sizes)
+all-left most count [] h = tt
+all-left most count (size ∷ sizes) h = elim (cases_Bool (ltb count size)) [
+  | inl e ↦ rw e (omega (arith, h.0), h.1)
+  | inr e ↦ rw e (all-left most (count - size) sizes h.1)
+]
+
+pub length-left : (count : ℕ) (sizes : List ℕ) → length (left_in count sizes) ≤ length sizes
+length-left count [] = omega arith
+length-left count (size ∷ sizes) = elim (cases_Bool (ltb count size)) [
+  | inl e ↦ rw e (omega arith)
+  | inr e ↦ rw e (omega (arith, length-left (count - size) sizes))
+]
+
+-- so many sizes, none above 88, are at most so much
+pub sum-bounded : (sizes : List ℕ) → AllByRecursion (λ size. size ≤ 88) sizes → sum sizes ≤ 88 * length sizes
+sum-bounded [] h = omega arith
+sum-bounded (size ∷ sizes) h = omega (arith, sum-cons size sizes, h.0, sum-bounded sizes h.1)

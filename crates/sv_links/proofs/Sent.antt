@@ -1,0 +1,93 @@
+-- What is kept of a channel's calls, where a call is sent or bytes are taken.
+use Rattle.std.proofs.Common.{◌≡◌, ℕ, ◌+◌, ◌<◌, ◌≤◌, Bool, true, false, List, [], ◌∷◌, ◌++◌, length, drop, refl, sym, ap, subst, ◌∙◌, arith}
+use Rattle.std.specs.Prelude.{map, nat_lt, ◌&&◌, if◌then◌else◌}
+use Rattle.std.specs.List.{concat}
+use Rattle.std.proofs.lemmas.Bool.{lt-ltb, le-ltb}
+use Rattle.std.proofs.lemmas.List.{append-nil, length-append, length-drop, length-map, length_push, map_push}
+use Rattle.std.proofs.lemmas.List.Folds.{concat-append}
+use Rattle.sv_links.specs.declared.channel.Stage.{Stage}
+use Rattle.sv_links.specs.declared.channel.Stage.TheVariants.{Closed, Open}
+use Rattle.sv_links.specs.declared.request.Peer.{Peer}
+use Rattle.sv_links.specs.Request.{request}
+use Rattle.sv_links.specs.Channels.{left_of, may_call}
+use Rattle.sv_links.specs.KeptChannels.{Channel, IsQueued, left_in}
+use Rattle.sv_links.proofs.Left.{left-sizes, left-bytes, left-left, left-push}
+use Rattle.sv_links.proofs.Requests.{request_is_some}
+
+-- bytes are taken
+pub IsQueued-taken : (old new : Channel) (before count : ℕ) (calls : List (List ℕ)) → new.made ≡ old.made
+    → new.sizes ≡ left_in count old.sizes → new.bytes ≡ drop count old.bytes → count ≤ length old.bytes
+    → IsQueued old before calls → IsQueued new (before + count) calls
+IsQueued-taken old new before count calls made sizes bytes within is = (
+  made ∙ is.0,
+  sizes ∙ ap (left_in count) is.1 ∙ sym (left-sizes count (left_of before calls)) ∙ ap (map length) (left-left before count calls),
+  bytes ∙ ap (drop count) is.2 ∙ sym (left-bytes count (left_of before calls)) ∙ ap concat (left-left before count calls),
+  omega (arith, within, ap length is.2, ap length (left-bytes before calls), length-drop before (concat calls), is.3),
+)
+
+concat_push : (calls : List (List ℕ)) (call : List ℕ) → concat (calls ++ call ∷ []) ≡ concat calls ++ call
+concat_push calls call = concat-append calls (call ∷ []) ∙ ap (λ (t : List ℕ). concat calls ++ t) (append-nil call)
+
+-- a call is sent
+pub IsQueued-called : (old new : Channel) (count : ℕ) (calls : List (List ℕ)) (call : List ℕ) → new.made ≡ old.made + 1
+    → new.sizes ≡ old.sizes ++ length call ∷ [] → new.bytes ≡ old.bytes ++ call → 0 < length call
+    → IsQueued old count calls → IsQueued new count (calls ++ call ∷ [])
+IsQueued-called old new count calls call made sizes bytes some is =
+    let left = left-push count calls call some is.3 in (
+      made ∙ ap (λ (n : ℕ). n + 1) is.0 ∙ sym (length_push calls call),
+      sizes ∙ ap (λ (ns : List ℕ). ns ++ length call ∷ []) is.1 ∙ sym (map_push length (left_of count calls) call)
+          ∙ ap (map length) (sym left),
+      bytes ∙ ap (λ (b : List ℕ). b ++ call) is.2 ∙ sym (concat_push (left_of count calls) call) ∙ ap concat (sym left),
+      omega (arith, is.3, ap length (concat_push calls call), length-append (concat calls) call),
+    )
+
+-- ---- whether one may be sent
+
+sizes_are : (kept : Channel) (count : ℕ) (calls : List (List ℕ)) → IsQueued kept count calls
+    → length kept.sizes ≡ length (left_of count calls)
+sizes_are kept count calls is = ap length is.1 ∙ length-map (left_of count calls) length
+
+pub may_be_sent : (kept : Channel) (count : ℕ) (calls : List (List ℕ)) → IsQueued kept count calls → length kept.sizes < 32
+    → kept.made < 4294967295 → may_call count calls ≡ true
+may_be_sent kept count calls is h k =
+    rw (← sizes_are kept count calls is, ← is.0, lt-ltb (length kept.sizes) 32 h, lt-ltb kept.made 4294967295 k) refl
+
+pub is_crowded : (kept : Channel) (count : ℕ) (calls : List (List ℕ)) → IsQueued kept count calls → 32 ≤ length kept.sizes
+    → may_call count calls ≡ false
+is_crowded kept count calls is h = rw (← sizes_are kept count calls is, le-ltb (length kept.sizes) 32 h) refl
+
+and_false : (b : Bool) (m : ℕ) → 4294967295 ≤ m → (b && nat_lt m 4294967295) ≡ false
+and_false true m h = rw (le-ltb m 4294967295 h) refl
+and_false false m h = refl
+
+pub is_last : (kept : Channel) (count : ℕ) (calls : List (List ℕ)) → IsQueued kept count calls → 4294967295 ≤ kept.made
+    → may_call count calls ≡ false
+is_last kept count calls is h =
+    rw (← is.0) (and_false (nat_lt (length (left_of count calls)) 32) kept.made h)
+
+-- the calls behind which one was sent, if it may be
+abbrev pub with_call : Peer → List ℕ → ℕ → List (List ℕ) → Bool → List (List ℕ)
+with_call peer handle count calls can = if can then calls ++ request (length calls + 1) peer handle ∷ [] else calls
+
+-- a call is sent, as it may be
+pub IsQueued-sent : (old new : Channel) (peer : Peer) (handle : List ℕ) (count : ℕ) (calls : List (List ℕ)) (size : ℕ)
+    → new.made ≡ old.made + 1 → new.sizes ≡ old.sizes ++ size ∷ [] → new.bytes ≡ old.bytes ++ request (old.made + 1) peer handle
+    → length new.bytes ≡ length old.bytes + size → length old.sizes < 32 → old.made < 4294967295
+    → IsQueued old count calls → IsQueued new count (with_call peer handle count calls (may_call count calls))
+IsQueued-sent old new peer handle count calls size made sizes bytes total few left is =
+    let call = request (length calls + 1) peer handle in
+    let bytes : new.bytes ≡ old.bytes ++ call = bytes ∙ ap (λ (n : ℕ). old.bytes ++ request (n + 1) peer handle) is.0 in
+    let size_is : size ≡ length call = omega (arith, total, ap length bytes, length-append old.bytes call) in
+    let sizes = sizes ∙ ap (λ (n : ℕ). old.sizes ++ n ∷ []) size_is in
+    subst (λ (can : Bool). IsQueued new count (with_call peer handle count calls can)) (sym (may_be_sent old count calls is few left))
+    (IsQueued-called old new count calls call made sizes bytes (request_is_some (length calls + 1) peer handle) is)
+
+-- none is sent, as none may be
+pub IsQueued-unsent : (kept : Channel) (peer : Peer) (handle : List ℕ) (count : ℕ) (calls : List (List ℕ))
+    → may_call count calls ≡ false → IsQueued kept count calls
+    → IsQueued kept count (with_call peer handle count calls (may_call count calls))
+IsQueued-unsent kept peer handle count calls full is =
+    subst (λ (can : Bool). IsQueued kept count (with_call peer handle count calls can)) (sym full) is
+
+pub open≢closed : (stage : Stage) (peer : Peer) → stage ≡ Open peer → stage ≡ Closed → ⊥
+open≢closed stage peer e k = cc

@@ -1,0 +1,44 @@
+use Rattle.std.proofs.Common.{◌+◌, ◌-◌, length, refl, ap, arith}
+use Rattle.std.proofs.lemmas.List.{length-append}
+use Rattle.sv_links.specs.Request.{request}
+use Rattle.sv_links.specs.KeptChannels.{Channel}
+use Rattle.sv_links.proofs.Left.{sum-bounded}
+use Rattle.sv_links.proofs.Sent.{IsQueued-sent, open≢closed}
+use Rattle.sv_links.proofs.channel.Channel.request.Goals as goal
+
+pub put_request-requires-clause-room : goal.put_request-requires-clause-room
+put_request-requires-clause-room g c =
+    let inside = c.self.inside in
+    let is_open = rw (← c.self.view_is) at c.requires.open in
+    omega (
+      arith,
+      c.self.invariant.0,
+      sum-bounded inside.sizes.items c.self.invariant.1,
+      c.self.invariant.3 (open≢closed inside.stage c.args.peer is_open),
+      c.if-len-ge-MOST.false,
+      c.len.ensures.value,
+      inside.bytes.ok.0,
+    )
+
+pub returns-clause-queued : goal.returns-clause-queued
+returns-clause-queued g c count calls is =
+    let inside = c.self.inside in
+    let old : Channel = record { stage = inside.stage; made = inside.made; sizes = inside.sizes.items; bytes = inside.bytes.items } in
+    let new : Channel = record {
+      stage = inside.stage;
+      made = inside.made + 1;
+      sizes = c.push.new.self.items;
+      bytes = c.put_request.new.out.items;
+    } in
+    IsQueued-sent old new c.args.peer c.args.handle.now count calls (c.len-2.result - c.len-before.result) refl c.push.ensures.items
+    c.put_request.ensures.sent
+    (omega (
+      arith,
+      ap length c.put_request.ensures.sent,
+      length-append inside.bytes.items (request (inside.made + 1) c.args.peer c.args.handle.now),
+      c.len-2.ensures,
+      c.len-before.ensures,
+      inside.bytes.ok.0,
+      c.put_request.new.out.ok.0,
+    )) (omega (arith, c.if-len-ge-MOST.false, c.len.ensures.value)) (omega (arith, c.if-self.false))
+    (rw (← c.self.view_is) at is)

@@ -1,0 +1,46 @@
+use Rattle.std.proofs.Common.{ℕ, List, ap, sym, subst, ◌∙◌}
+use Rattle.std.proofs.lemmas.List.{take_all}
+use Rattle.sv_links.specs.declared.request.Peer.{Peer}
+use Rattle.sv_links.specs.declared.enabled.Enabled.{Enabled}
+use Rattle.sv_links.specs.Channels.{called, handles_of}
+use Rattle.sv_links.specs.KeptChannels.{Channel, IsQueued}
+use Rattle.sv_links.proofs.Calling.{called_for, called_own, called_other, open_for}
+use Rattle.sv_links.proofs.channel.Channel.request_each.Goals as goal
+use Rattle.sv_links.proofs.channel.Channel.request_each.Goals.{then-link-conn, else-link-conn}
+
+pub loop-link-preserved : goal.loop-link-preserved
+loop-link-preserved g c =
+    let peer = c.in-Open.peer in
+    let conn = c.args.conn in
+    let links = c.args.enabled.now in
+    let i = c.loop-link.link-index in
+    let link = c.link-item.result in
+    let here = c.link-item.is in
+    let before = c.loop-link.invariant in
+    let within = c.loop-link-test.true in
+    elim c.if-link-conn.branch [
+      | then-link-conn w ↦ record {
+        is_open = rw w.self-is (w.request.ensures.stage ∙ before.is_open);
+        queued = λ count calls is.
+            rw (w.self-is, ← called_own peer count conn links i link calls within here w.if-link-conn.true, ← w.handle.ensures.same)
+            (w.request.ensures.queued count (called_for peer count conn links i calls) (before.queued count calls is));
+      }
+      | else-link-conn w ↦ record {
+        is_open = rw w.self-is before.is_open;
+        queued = λ count calls is.
+            rw (w.self-is, ← called_other peer count conn links i link calls within here w.if-link-conn.false)
+            (before.queued count calls is);
+      }
+    ]
+
+pub returns-clause-queued : goal.returns-clause-queued
+returns-clause-queued g c count calls peer there is =
+    let links = c.args.enabled.now in
+    let i = c.loop-link.link-index in
+    let stage = sym (ap (λ (kept : Channel). kept.stage) c.self.view_is) ∙ c.in-Open.is in
+    let same = open_for c.args.self.now.stage c.in-Open.peer peer stage there in
+    let all = take_all i links c.loop-link-test.false in
+    subst (λ (called : List (List ℕ)). IsQueued c.loop-link.self count called)
+    (ap (λ (p : Peer). called_for p count c.args.conn links i calls) (sym same)
+    ∙ ap (λ (links : List Enabled). called peer count (handles_of c.args.conn links) calls) all)
+    (c.loop-link.invariant.queued count calls is)

@@ -1,0 +1,13 @@
+use Rattle.std.proofs.Common.{◌≡◌, ℕ, List}
+use Rattle.sv_links.specs.declared.channel.Stage.TheVariants.{Open}
+use Rattle.sv_links.specs.KeptChannels.{IsQueued}
+use Rattle.sv_links.proofs.Calling.{called_for}
+use Rattle.sv_links.proofs.channel.Channel.request_each.Given as goal
+
+-- it is open, and sent a call for each of the links in front of the index
+abbrev pub invariant-loop-link : goal.invariant-loop-link
+invariant-loop-link g l = record {
+  is_open : l.self.stage ≡ Open l.peer;
+  queued : (count : ℕ) (calls : List (List ℕ)) → IsQueued l.fn.self count calls
+      → IsQueued l.self count (called_for l.peer count l.conn l.enabled l.link-index calls);
+}

@@ -1,0 +1,16 @@
+use Rattle.std.proofs.Common.{◌≡◌, ◌<◌, true, length, sym, ap, subst, ◌∙◌, arith}
+use Rattle.std.specs.Prelude.{slice_index_or, slice_set}
+use Rattle.std.proofs.lemmas.Bool.{false≢true}
+use Rattle.std.proofs.lemmas.List.{get_or-set_same}
+use Rattle.sv_links.specs.KeptChannels.{Channel, is_prepared}
+use Rattle.sv_links.proofs.intr.Intr.cancel.Goals as goal
+
+pub returns-clause-unready : goal.returns-clause-unready
+returns-clause-unready g c ready =
+    let items = c.self.inside.channels.items in
+    let new = c.cancel.new.self in
+    let i = c.from.result in
+    let within : i < length items = omega (arith, c.requires, c.from.ensures, c.self.invariant.0) in
+    let place = ap (λ (kept : Channel). is_prepared kept.stage) (get_or-set_same items i new new within) in
+    let there = subst (λ k. is_prepared (slice_index_or (slice_set items i new) k new).stage ≡ true) (sym c.from.ensures) (ready new) in
+    false≢true (sym c.cancel.ensures.unready ∙ sym place ∙ there)

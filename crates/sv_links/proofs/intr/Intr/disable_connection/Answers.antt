@@ -1,0 +1,29 @@
+use Rattle.std.proofs.Common.{rules, eqb, Bool, List, sym, subst, ◌++◌, ◌∙◌}
+use Rattle.std.specs.Prelude.{not, map}
+use Rattle.std.proofs.lemmas.Fn.{filter_same}
+use Rattle.sv_links.specs.declared.enabled.Enabled.{Enabled}
+use Rattle.sv_links.specs.Channels.{SrqDisabled}
+use Rattle.sv_links.specs.KeptChannels.{Channels, AreChannels}
+use Rattle.sv_links.proofs.Asking.{sorted-filter}
+use Rattle.sv_links.proofs.Acts.{AreChannels-without}
+use Rattle.sv_links.proofs.intr.Intr.disable_connection.Goals as goal
+
+pub invariant_of-self : goal.invariant_of-self
+invariant_of-self g c =
+    let p : Enabled → Bool = λ other. not (eqb other.conn c.args.conn) in
+    let kept = filter_same _ p _ (λ x b f' k. search rules) _ _ c.retain.ensures.filtered in
+    let items = c.self.inside.enabled.items in
+    (search rules, search rules, search rules, rw kept (sorted-filter p items c.self.invariant.3))
+
+pub returns-clause-enabled : goal.returns-clause-enabled
+returns-clause-enabled g c =
+    let p : Enabled → Bool = λ other. not (eqb other.conn c.args.conn) in
+    rw (← c.self.view_is) (filter_same _ p _ (λ x b f' k. search rules) _ _ c.retain.ensures.filtered)
+
+pub returns-clause-stands : goal.returns-clause-stands
+returns-clause-stands g c lids acts is same =
+    let p : Enabled → Bool = λ other. not (eqb other.conn c.args.conn) in
+    let kept = filter_same _ p _ (λ x b f' k. search rules) _ _ c.retain.ensures.filtered in
+    let now : Channels = record { enabled = c.self.inside.enabled.items; channels = c.self.inside.channels.items } in
+    subst (λ (links : List Enabled). AreChannels (record now { enabled = links }) (map SrqDisabled lids ++ acts))
+    (rw (← c.self.view_is) at same ∙ sym kept) (AreChannels-without now lids acts (rw (← c.self.view_is) at is))

@@ -1,0 +1,20 @@
+use Rattle.std.proofs.Common.{◌≡◌, true, arith, ap, subst, ◌∙◌}
+use Rattle.std.specs.Prelude.{slice_index_or}
+use Rattle.std.proofs.lemmas.Result.{on_ok_weaker}
+use Rattle.sv_links.specs.KeptChannels.{Channel, is_prepared}
+use Rattle.sv_links.proofs.Acts.{at_set}
+use Rattle.sv_links.proofs.intr.Intr.prepare.Goals as goal
+
+pub returns-clause-others : goal.returns-clause-others
+returns-clause-others g c =
+    let items = c.self.inside.channels.items in
+    let i = c.from.result in
+    let old = c.index_mut.result.now in
+    on_ok_weaker c.prepare.result
+    (λ stays k ready other.
+    at_set (λ kept. is_prepared kept.stage ≡ true) items i k c.prepare.new.self other
+    (omega (arith, c.requires, c.from.ensures, c.self.invariant.0))
+    (λ same. stays (ap (λ (kept : Channel). is_prepared kept.stage) c.index_mut.ensures.value
+    ∙ (subst (λ k. (other : Channel) → is_prepared (slice_index_or items k other).stage ≡ true) same (rw (← c.self.view_is) at ready)) old))
+    (λ apart. (rw (← c.self.view_is) at ready) other))
+    c.prepare.ensures.stays

@@ -1,0 +1,86 @@
+-- Interrupt channels (VXI-11 revision 1.0, section B.6: device_enable_srq, create_intr_chan, destroy_intr_chan, device_intr_srq): which
+-- links ask for service requests, and what is sent on the channel of a connection. Acts are read from the newest.
+use Rattle.std.specs.Prelude.{ℕ, ◌+◌, ◌-◌, ◌==◌, not, ◌&&◌, Bool, List, [], ◌∷◌, ◌++◌, length, map, filter, drop, Option, Some, None, is_some, nat_lt, if◌then◌else◌}
+use Rattle.std.specs.List.{concat}
+use Rattle.sv_links.specs.declared.enabled.Enabled.{Enabled}
+use Rattle.sv_links.specs.declared.request.Peer.{Peer}
+use Rattle.sv_links.specs.Request.{request}
+
+-- what happens to them: a link of a connection asks for service requests, with a handle, or asks no more; the channel of a connection
+-- opens, for a program and its version, or closes; a service request is raised; the peer takes bytes of a channel
+pub data ChannelAct : Type 0 where
+  SrqEnabled : (lid conn : ℕ) (handle : List ℕ) → ChannelAct
+  SrqDisabled : (lid : ℕ) → ChannelAct
+  ChannelOpened : (conn : ℕ) (peer : Peer) → ChannelAct
+  ChannelClosed : (conn : ℕ) → ChannelAct
+  Requested : ChannelAct
+  ChannelTaken : (conn count : ℕ) → ChannelAct
+
+-- the links of lower numbers, and those of higher ones
+abbrev pub below : ℕ → List Enabled → List Enabled
+below lid = filter (λ other. nat_lt other.lid lid)
+
+abbrev pub above : ℕ → List Enabled → List Enabled
+above lid = filter (λ other. nat_lt lid other.lid)
+
+-- the links that ask for service requests, by rising number, each with the handle that it gave last
+abbrev pub enabled : List ChannelAct → List Enabled
+enabled [] = []
+enabled (SrqEnabled lid conn handle ∷ acts) =
+    below lid (enabled acts) ++ record { lid = lid; conn = conn; handle = handle } ∷ above lid (enabled acts)
+enabled (SrqDisabled lid ∷ acts) = filter (λ other. not (other.lid == lid)) (enabled acts)
+enabled (_ ∷ acts) = enabled acts
+
+-- the handles of those of a connection
+abbrev pub handles_of : ℕ → List Enabled → List (List ℕ)
+handles_of c links = map (λ link. link.handle) (filter (λ link. link.conn == c) links)
+
+-- what the channel of a connection was opened for, while it is open
+abbrev pub peer : ℕ → List ChannelAct → Option Peer
+peer c [] = None
+peer c (ChannelOpened conn what ∷ acts) = if conn == c then Some what else peer c acts
+peer c (ChannelClosed conn ∷ acts) = if conn == c then None else peer c acts
+peer c (_ ∷ acts) = peer c acts
+
+abbrev pub is_channel_open : ℕ → List ChannelAct → Bool
+is_channel_open c acts = is_some (peer c acts)
+
+-- how many bytes of it the peer took since it was opened
+abbrev pub taken : ℕ → List ChannelAct → ℕ
+taken c [] = 0
+taken c (ChannelOpened conn what ∷ acts) = if conn == c then 0 else taken c acts
+taken c (ChannelClosed conn ∷ acts) = if conn == c then 0 else taken c acts
+taken c (ChannelTaken conn count ∷ acts) = if conn == c then taken c acts + count else taken c acts
+taken c (_ ∷ acts) = taken c acts
+
+-- what the peer didn't take of calls, from the first that it didn't take to its end
+abbrev pub left_of : ℕ → List (List ℕ) → List (List ℕ)
+left_of count [] = []
+left_of count (call ∷ calls) = if nat_lt count (length call) then drop count call ∷ calls else left_of (count - length call) calls
+
+-- whether a call more may be sent behind these: while fewer than 32 aren't taken to their end, and while there are numbers
+abbrev pub may_call : ℕ → List (List ℕ) → Bool
+may_call count calls = nat_lt (length (left_of count calls)) 32 && nat_lt (length calls) 4294967295
+
+-- One call for each handle is sent behind these; its number is how many were sent so far, and one.
+abbrev pub called : Peer → ℕ → List (List ℕ) → List (List ℕ) → List (List ℕ)
+called what count [] calls = calls
+called what count (handle ∷ handles) calls =
+    called what count handles (if may_call count calls then calls ++ request (length calls + 1) what handle ∷ [] else calls)
+
+abbrev pub called_by : Option Peer → ℕ → List (List ℕ) → List (List ℕ) → List (List ℕ)
+called_by (Some what) count handles calls = called what count handles calls
+called_by None count handles calls = calls
+
+-- the calls that were sent on the channel of a connection since it was opened: where a request is raised, one for each of its links that
+-- ask for them
+abbrev pub calls : ℕ → List ChannelAct → List (List ℕ)
+calls c [] = []
+calls c (ChannelOpened conn what ∷ acts) = if conn == c then [] else calls c acts
+calls c (ChannelClosed conn ∷ acts) = if conn == c then [] else calls c acts
+calls c (Requested ∷ acts) = called_by (peer c acts) (taken c acts) (handles_of c (enabled acts)) (calls c acts)
+calls c (_ ∷ acts) = calls c acts
+
+-- the bytes that wait to be sent on it; none where it isn't open
+abbrev pub waiting : ℕ → List ChannelAct → List ℕ
+waiting c acts = if is_channel_open c acts then concat (left_of (taken c acts) (calls c acts)) else []

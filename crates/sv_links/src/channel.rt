@@ -1,0 +1,213 @@
+//! One interrupt channel: the calls that wait to be sent on it.
+
+ghost use Rattle.std.specs.Prelude.{◌≡◌, ◌+◌, ◌≤◌, ◌++◌, ℕ, List, [], ◌∷◌, length, IsOk, OnOk, OnErr, option_map, is_some, Some, None, true, false, if◌then◌else◌};
+ghost use Rattle.sv_links.specs.Channels.{called, handles_of, left_of, may_call};
+ghost use Rattle.sv_links.specs.Request.{request};
+ghost use Rattle.sv_links.specs.KeptChannels.{opened_for, is_prepared, IsQueued, left_in};
+
+use crate::enabled::Enabled;
+use crate::request::{LONGEST_CALL, Peer, put_request};
+use arrayvec::ArrayVec;
+use std::alloc::{AllocError, Allocator};
+use std::marker::Model;
+
+/// How many calls may wait that weren't taken to their end.
+const MOST: usize = 32;
+
+/// How far a channel is.
+#[derive(Clone, Copy, Debug, PartialEq, Eq)]
+pub(crate) enum Stage {
+    /// There is none.
+    Closed,
+    /// It has its memory, and may be opened.
+    Prepared,
+    /// It is open, and calls this peer.
+    Open(Peer),
+}
+
+/// The channel of a connection.
+#[derive(Drop)]
+pub(crate) struct Channel<A: Allocator> {
+    stage: Stage,
+    /// How many calls were sent.
+    made: u32,
+    /// How many bytes wait of each call that isn't taken to its end.
+    sizes: ArrayVec<u8, MOST>,
+    /// The bytes that wait.
+    bytes: Vec<u8, A>,
+}
+
+impl<A: Allocator> Model for Channel<A> {
+    ghost use Rattle.sv_links.specs.KeptChannels.{Channel};
+
+    ghost Value = { Channel };
+
+    ghost use Rattle.std.specs.Prelude.{◌≡◌, ◌≤◌, length, vec_capacity, sum};
+    ghost use Rattle.std.specs.List.{AllByRecursion};
+    ghost use Rattle.sv_links.specs.declared.channel.Stage.TheVariants.{Closed};
+
+    ghost view = { λ a. record {
+      stage = a.stage;
+      made = a.made;
+      sizes = a.sizes.items;
+      bytes = a.bytes.items;
+    } };
+
+    ghost invariant = { λ a. (length a.bytes.items ≡ sum a.sizes.items)
+        × AllByRecursion (λ size. size ≤ 88) a.sizes.items × (length a.sizes.items ≤ 32)
+        × ((a.stage ≡ Closed → ⊥) → 2816 ≤ vec_capacity a.bytes) };
+}
+
+impl<A: Allocator> Channel<A> {
+    /// No channel.
+    pub(crate) fn new(alloc: A) -> Channel<A>
+        ensures { result.stage ≡ Stage.Closed }
+    {
+        Channel {
+            stage: Stage::Closed,
+            made: 0,
+            sizes: ArrayVec::new(),
+            bytes: Vec::new(alloc),
+        }
+    }
+
+    /// Whether it is open.
+    pub(crate) fn is_open(&self) -> bool
+        ensures { result ≡ is_some (opened_for self.now.stage) }
+    {
+        matches!(self.stage, Stage::Open(_))
+    }
+
+    /// Takes its memory, so that it may be opened; an open one stays as it is.
+    pub(crate) fn prepare(&mut self) -> Result<(), AllocError>
+        ensures open { OnOk result (opened_for self.new.stage ≡ opened_for self.old.stage) }
+        ensures ready { OnOk result (opened_for self.old.stage ≡ None
+            → is_prepared self.new.stage ≡ true) }
+        ensures stays { OnOk result (is_prepared self.old.stage ≡ true
+            → is_prepared self.new.stage ≡ true) }
+        ensures queued { (count : ℕ) (calls : List (List ℕ)) → IsQueued self.old count calls
+            → IsQueued self.new count calls }
+        ensures err { OnErr result (self.new ≡ self.old) }
+    {
+        if self.stage == Stage::Closed {
+            self.bytes.reserve(MOST * LONGEST_CALL)?;
+            self.stage = Stage::Prepared;
+        }
+        Ok(())
+    }
+
+    /// It isn't to be opened any more; an open one stays as it is.
+    pub(crate) fn cancel(&mut self)
+        ensures open { opened_for self.new.stage ≡ opened_for self.old.stage }
+        ensures unready { is_prepared self.new.stage ≡ false }
+        ensures queued { (count : ℕ) (calls : List (List ℕ)) → IsQueued self.old count calls
+            → IsQueued self.new count calls }
+    {
+        if self.stage == Stage::Prepared {
+            self.stage = Stage::Closed;
+        }
+    }
+
+    /// Opens it, with nothing to send; one that isn't prepared stays as it is.
+    pub(crate) fn open(&mut self, peer: Peer)
+        ensures { is_prepared self.old.stage ≡ true
+            → (opened_for self.new.stage ≡ Some peer) × IsQueued self.new 0 [] }
+    {
+        if self.stage == Stage::Prepared {
+            self.clear();
+            self.stage = Stage::Open(peer);
+        }
+    }
+
+    /// Closes it where it is open; else it stays as it is.
+    pub(crate) fn close(&mut self)
+        ensures closed { opened_for self.new.stage ≡ None }
+        ensures ready { is_prepared self.new.stage ≡ is_prepared self.old.stage }
+    {
+        if self.is_open() {
+            self.clear();
+            self.stage = Stage::Closed;
+        }
+    }
+
+    /// Nothing was sent on it.
+    fn clear(&mut self)
+        ensures stage { self.new.stage ≡ self.old.stage }
+        ensures queued { IsQueued self.new 0 [] }
+    {
+        self.made = 0;
+        self.sizes.clear();
+        self.bytes.clear();
+    }
+
+    /// The bytes that wait.
+    pub(crate) fn waiting(&self) -> &[u8]
+        ensures same { result.now ≡ self.now.bytes }
+        ensures bounded { length result.now ≤ 2816 }
+    {
+        self.bytes.as_slice()
+    }
+
+    /// Lets bytes go that the peer took.
+    pub(crate) fn take(&mut self, count: usize)
+        requires { count ≤ length self.old.bytes }
+        ensures stage { self.new.stage ≡ self.old.stage }
+        ensures queued { (before : ℕ) (calls : List (List ℕ)) → IsQueued self.old before calls
+            → IsQueued self.new (before + count) calls }
+    {
+        self.bytes.drain(..count);
+        let_go(&mut self.sizes, count);
+    }
+
+    /// Sends a call with this handle behind those that wait, while there are fewer than 32 and a
+    /// number is left.
+    fn request(&mut self, peer: Peer, handle: &[u8])
+        requires open { self.old.stage ≡ Stage.Open peer }
+        requires short { length handle.now ≤ 40 }
+        ensures stage { self.new.stage ≡ self.old.stage }
+        ensures queued { (count : ℕ) (calls : List (List ℕ)) → IsQueued self.old count calls
+            → IsQueued self.new count
+            (if may_call count calls
+            then calls ++ request (length calls + 1) peer handle.now ∷ [] else calls) }
+    {
+        if self.sizes.len() >= MOST || self.made == u32::MAX {
+            return;
+        }
+        let before = self.bytes.len();
+        put_request(&mut self.bytes, self.made + 1, peer, handle);
+        self.sizes.push((self.bytes.len() - before) as u8);
+        self.made += 1;
+    }
+
+    /// Where it is open, sends a call for each of these links that is one of its connection.
+    pub(crate) fn request_each(&mut self, conn: u8, enabled: &[Enabled])
+        ensures stage { self.new.stage ≡ self.old.stage }
+        ensures queued { (count : ℕ) (calls : List (List ℕ)) (peer : Peer)
+            → opened_for self.old.stage ≡ Some peer → IsQueued self.old count calls
+            → IsQueued self.new count (called peer count (handles_of conn enabled.now) calls) }
+    {
+        let Stage::Open(peer) = self.stage else {
+            return;
+        };
+        for link in enabled {
+            if link.conn == conn {
+                self.request(peer, link.handle());
+            }
+        }
+    }
+}
+
+/// Lets so many bytes of calls go, whose sizes these are.
+fn let_go(sizes: &mut ArrayVec<u8, MOST>, count: usize)
+    ensures { sizes.new.items ≡ left_in count sizes.old.items }
+{
+    let mut left = count;
+    while let Some(size) = sizes.as_slice().first().copied() {
+        if left < usize::from(size) {
+            sizes.as_mut_slice()[0] = size - left as u8;
+            return;
+        }
+        left -= usize::from(size);
+        sizes.remove(0);
+    }
+}

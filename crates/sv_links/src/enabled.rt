@@ -1,0 +1,77 @@
+//! Links that ask for service requests (VXI-11 revision 1.0, device_enable_srq).
+
+ghost use Rattle.std.specs.Prelude.{◌≡◌, ◌≤◌, length};
+
+use arrayvec::ArrayVec;
+use std::marker::Model;
+
+/// The longest handle, in bytes.
+const LONGEST: usize = 40;
+
+/// What a controller knows a link by that asks for service: at most 40 bytes.
+#[derive(Debug, Drop)]
+pub(crate) struct Handle {
+    bytes: ArrayVec<u8, LONGEST>,
+}
+
+impl Model for Handle {
+    ghost use Rattle.std.specs.Prelude.{ℕ, List};
+
+    ghost Value = { List ℕ };
+
+    ghost view = { λ handle. handle.bytes.items };
+}
+
+impl Handle {
+    /// The handle of these bytes; an empty one where they are too many.
+    fn new(given: &[u8]) -> Handle
+        ensures { length given.now ≤ 40 → result ≡ given.now }
+    {
+        let mut bytes = ArrayVec::new();
+        if bytes.try_extend_from_slice(given).is_err() {
+            bytes.clear();
+        }
+        Handle { bytes }
+    }
+
+    /// Its bytes.
+    fn bytes(&self) -> &[u8]
+        ensures same { result.now ≡ self.now }
+        ensures short { length result.now ≤ 40 }
+    {
+        self.bytes.as_slice()
+    }
+}
+
+/// A link that asks for service requests.
+#[derive(Debug, Drop)]
+pub(crate) struct Enabled {
+    /// Its number.
+    pub(crate) lid: u32,
+    /// The connection that made it.
+    pub(crate) conn: u8,
+    /// What its controller knows it by.
+    pub(crate) handle: Handle,
+}
+
+impl Enabled {
+    /// A link with its handle, of at most 40 bytes.
+    pub(crate) fn new(lid: u32, conn: u8, handle: &[u8]) -> Enabled
+        ensures link { (result.lid ≡ lid) × (result.conn ≡ conn) }
+        ensures handle { length handle.now ≤ 40 → result.handle ≡ handle.now }
+    {
+        Enabled {
+            lid,
+            conn,
+            handle: Handle::new(handle),
+        }
+    }
+
+    /// The bytes of its handle.
+    pub(crate) fn handle(&self) -> &[u8]
+        ensures same { result.now ≡ self.now.handle }
+        ensures short { length result.now ≤ 40 }
+    {
+        self.handle.bytes()
+    }
+}

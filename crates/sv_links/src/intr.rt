@@ -1,0 +1,211 @@
+//! Interrupt channels: which links ask for service requests, and what waits to be sent on the
+//! channel of each connection.
+
+ghost use Rattle.std.specs.Prelude.{◌≡◌, ◌<◌, ◌≤◌, ◌==◌, ◌++◌, ℕ, List, [], ◌∷◌, map, length, filter, not, IfOk, OnOk, OnErr, false, true};
+ghost use Rattle.sv_links.specs.Channels.{ChannelAct, SrqEnabled, SrqDisabled, ChannelOpened, ChannelClosed, Requested, ChannelTaken, is_channel_open, waiting};
+ghost use Rattle.sv_links.specs.KeptChannels.{AreChannels, IsReady, HasRoomFor, bytes_of, disabled, of_others};
+
+use crate::channel::Channel;
+use crate::enabled::Enabled;
+use crate::request::Peer;
+use std::alloc::{AllocError, Allocator, Global};
+use std::marker::Model;
+
+/// How many connections there may be.
+const CONNECTIONS: usize = 16;
+/// How many links may ask for service requests.
+const MOST: usize = 32;
+
+/// The links that ask for service requests, at most 32, and the interrupt channels, at most one of
+/// each of sixteen connections.
+#[derive(Drop)]
+pub struct Intr<A: Allocator = Global> {
+    enabled: Vec<Enabled, A>,
+    channels: Vec<Channel<A>, A>,
+}
+
+impl<A: Allocator> Model for Intr<A> {
+    ghost use Rattle.sv_links.specs.KeptChannels.{Channels};
+
+    ghost Value = { Channels };
+
+    ghost use Rattle.std.specs.Prelude.{◌≡◌, ◌≤◌, length, vec_capacity};
+    ghost use Rattle.sv_links.specs.KeptChannels.{IsSorted};
+
+    ghost view = { λ a. record { enabled = a.enabled.items; channels = a.channels.items } };
+
+    ghost invariant = { λ a. (length a.channels.items ≡ 16) × (length a.enabled.items ≤ 32)
+        × (32 ≤ vec_capacity a.enabled) × IsSorted a.enabled.items };
+}
+
+impl<A: Allocator + Copy> Intr<A> {
+    /// No link asks, and no channel is open. Takes the memory of 32 handles.
+    ///
+    /// # Errors
+    /// Where memory is refused.
+    pub fn new(alloc: A) -> Result<Intr<A>, AllocError>
+        ensures { IfOk result (λ intr. AreChannels intr []) }
+    {
+        let enabled = Vec::with_capacity(alloc, MOST)?;
+        let mut channels = Vec::with_capacity(alloc, CONNECTIONS)?;
+        for _ in 0..CONNECTIONS {
+            channels.push(Channel::new(alloc))?;
+        }
+        Ok(Intr { enabled, channels })
+    }
+}
+
+impl<A: Allocator> Intr<A> {
+    /// Whether the channel of a connection, 0 to 15, is open.
+    pub fn is_open(&self, conn: u8) -> bool
+        requires { conn < 16 }
+        ensures { (acts : List ChannelAct) → AreChannels self.now acts
+            → result ≡ is_channel_open conn acts }
+    {
+        self.channels[usize::from(conn)].is_open()
+    }
+
+    /// Takes the memory of the channel of a connection, 0 to 15, so that it may be opened; where
+    /// it is open nothing changes.
+    ///
+    /// # Errors
+    /// Where memory is refused; nothing changes then.
+    pub fn prepare(&mut self, conn: u8) -> Result<(), AllocError>
+        requires { conn < 16 }
+        ensures ready { OnOk result ((acts : List ChannelAct) → AreChannels self.old acts
+            → is_channel_open conn acts ≡ false → IsReady self.new conn) }
+        ensures others { OnOk result ((other : ℕ) → IsReady self.old other
+            → IsReady self.new other) }
+        ensures stands { (acts : List ChannelAct) → AreChannels self.old acts
+            → AreChannels self.new acts }
+        ensures enabled { self.new.enabled ≡ self.old.enabled }
+        ensures err { OnErr result (self.new ≡ self.old) }
+    {
+        self.channels[usize::from(conn)].prepare()
+    }
+
+    /// The channel of a connection, 0 to 15, isn't to be opened any more.
+    pub fn cancel(&mut self, conn: u8)
+        requires { conn < 16 }
+        ensures unready { IsReady self.new conn → ⊥ }
+        ensures others { (other : ℕ) → (other ≡ conn → ⊥) → IsReady self.old other
+            → IsReady self.new other }
+        ensures stands { (acts : List ChannelAct) → AreChannels self.old acts
+            → AreChannels self.new acts }
+        ensures enabled { self.new.enabled ≡ self.old.enabled }
+    {
+        self.channels[usize::from(conn)].cancel();
+    }
+
+    /// Opens the channel of a connection, 0 to 15, which has to be prepared, with nothing to send.
+    pub fn open(&mut self, conn: u8, peer: Peer)
+        requires { conn < 16 }
+        ensures others { (other : ℕ) → (other ≡ conn → ⊥) → IsReady self.old other
+            → IsReady self.new other }
+        ensures stands { IsReady self.old conn → (acts : List ChannelAct)
+            → AreChannels self.old acts
+            → AreChannels self.new (ChannelOpened conn peer ∷ acts) }
+        ensures enabled { self.new.enabled ≡ self.old.enabled }
+    {
+        self.channels[usize::from(conn)].open(peer);
+    }
+
+    /// Closes the channel of a connection, 0 to 15, with what waits on it; tells whether it was
+    /// open.
+    pub fn close(&mut self, conn: u8) -> bool
+        requires { conn < 16 }
+        ensures answer { (acts : List ChannelAct) → AreChannels self.old acts
+            → result ≡ is_channel_open conn acts }
+        ensures others { (other : ℕ) → IsReady self.old other → IsReady self.new other }
+        ensures stands { (acts : List ChannelAct) → AreChannels self.old acts
+            → AreChannels self.new (ChannelClosed conn ∷ acts) }
+        ensures enabled { self.new.enabled ≡ self.old.enabled }
+    {
+        let channel = &mut self.channels[usize::from(conn)];
+        let was_open = channel.is_open();
+        channel.close();
+        was_open
+    }
+
+    /// A link of a connection asks for service requests with this handle, of at most 40 bytes. It
+    /// has to ask already, or fewer than 32 links do.
+    pub fn enable(&mut self, lid: u32, conn: u8, handle: &[u8])
+        ensures stands { length handle.now ≤ 40 → HasRoomFor lid self.old
+            → (acts : List ChannelAct) → AreChannels self.old acts
+            → AreChannels self.new (SrqEnabled lid conn handle.now ∷ acts) }
+        ensures ready { self.new.channels ≡ self.old.channels }
+    {
+        self.disable(lid);
+        if self.enabled.len() >= MOST {
+            return;
+        }
+        let place = self.enabled.iter().filter(|other| other.lid < lid).count();
+        let _ = self.enabled.insert(place, Enabled::new(lid, conn, handle));
+    }
+
+    /// A link asks for no more service requests.
+    pub fn disable(&mut self, lid: u32)
+        ensures value { self.new.enabled
+            ≡ filter (λ other. not (other.lid == lid)) self.old.enabled }
+        ensures stands { (acts : List ChannelAct) → AreChannels self.old acts
+            → AreChannels self.new (SrqDisabled lid ∷ acts) }
+        ensures ready { self.new.channels ≡ self.old.channels }
+    {
+        self.enabled.retain(|other| other.lid != lid);
+    }
+
+    /// The links of a connection ask for no more service requests: those of these numbers, where
+    /// these are all of its links that ask.
+    pub fn disable_connection(&mut self, conn: u8)
+        ensures stands { (lids : List ℕ) (acts : List ChannelAct) → AreChannels self.old acts
+            → disabled lids self.old.enabled ≡ of_others conn self.old.enabled
+            → AreChannels self.new (map SrqDisabled lids ++ acts) }
+        ensures enabled { self.new.enabled ≡ of_others conn self.old.enabled }
+        ensures ready { self.new.channels ≡ self.old.channels }
+    {
+        self.enabled.retain(|other| other.conn != conn);
+    }
+
+    /// A service request is raised: a call is sent on the channel of each link that asks, by rising
+    /// number.
+    pub fn raise(&mut self)
+        ensures stands { (acts : List ChannelAct) → AreChannels self.old acts
+            → AreChannels self.new (Requested ∷ acts) }
+        ensures ready { (other : ℕ) → IsReady self.old other → IsReady self.new other }
+        ensures enabled { self.new.enabled ≡ self.old.enabled }
+    {
+        for conn in 0..CONNECTIONS {
+            self.channels[conn].request_each(conn as u8, self.enabled.as_slice());
+        }
+    }
+
+    /// The bytes that wait on the channel of a connection, 0 to 15; none where it isn't open.
+    pub fn waiting(&self, conn: u8) -> &[u8]
+        requires { conn < 16 }
+        ensures same { result.now ≡ bytes_of self.now conn }
+        ensures answer { (acts : List ChannelAct) → AreChannels self.now acts
+            → result.now ≡ waiting conn acts }
+        ensures bounded { length result.now ≤ 2816 }
+    {
+        let channel = &self.channels[usize::from(conn)];
+        if channel.is_open() {
+            channel.waiting()
+        } else {
+            &[]
+        }
+    }
+
+    /// Lets bytes go that the peer took from the channel of a connection, 0 to 15; so many have to
+    /// wait there.
+    pub fn take(&mut self, conn: u8, count: usize)
+        requires within { conn < 16 }
+        requires waits { count ≤ length (bytes_of self.old conn) }
+        ensures stands { (acts : List ChannelAct) → AreChannels self.old acts
+            → is_channel_open conn acts ≡ true
+            → AreChannels self.new (ChannelTaken conn count ∷ acts) }
+        ensures ready { (other : ℕ) → IsReady self.old other → IsReady self.new other }
+        ensures enabled { self.new.enabled ≡ self.old.enabled }
+    {
+        self.channels[usize::from(conn)].take(count);
+    }
+}

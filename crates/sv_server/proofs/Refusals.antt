@@ -1,0 +1,101 @@
+-- A Refuse: what refuses it, and what it takes; and what refuses an Input.
+use Rattle.std.proofs.Common.{◌≡◌, ◌≢◌, ℕ, ◌<◌, Bool, true, false, cond, List, ◌∷◌, ◌++◌, length, set, nat_lt, Option, Some, None, refl, sym, ap, ◌∙◌, subst}
+use Rattle.std.specs.Prelude.{ℤ, not, is_none, Ok, Err}
+use Rattle.sv_errors.specs.Limits.{is_channel}
+use Rattle.sv_server.specs.declared.event.Config.{Config}
+use Rattle.sv_server.specs.declared.event.Role.{Role}
+use Rattle.sv_server.specs.declared.event.Did.TheVariants.{Done}
+use Rattle.sv_server.specs.declared.event.Refused.{Refused}
+use Rattle.sv_server.specs.declared.event.Refused.TheVariants.{NoMemory, ConnInUse, NoConn, NoRoom, NotSent, NoDial, NotRefusable, BadChannel, BadInput, TimeOver}
+use Rattle.sv_server.specs.Event.{Refuse, Input}
+use Rattle.sv_server.specs.Act.{Act, ConnAct, CallTaken, Replied, On, of}
+use Rattle.sv_server.specs.Connection.{open_role, next_call, free}
+use Rattle.sv_server.specs.CoreCall.{CoreCall}
+use Rattle.sv_server.specs.Refusing.{refusable, refusable_in, refused_reply}
+use Rattle.sv_server.specs.History.{refuse_refusal, refuse_acts, is_shut, is_beyond}
+use Rattle.sv_server.specs.KeptConnection.{Connection}
+use Rattle.sv_server.specs.State.{State, Represents}
+use Rattle.sv_server.specs.Inside.Acting.{Acts, Refuses, IsInput}
+use Rattle.sv_server.proofs.Projections.{of_mine, of_other}
+use Rattle.sv_server.proofs.Taken.{taken_acted}
+use Rattle.sv_server.proofs.Logs.{acted, busy_idle}
+use Rattle.sv_server.proofs.Turning.{not_busy}
+
+-- of an open connection, by its next call
+pub refusable_is : (acts : List ConnAct) (role : Role) (found : Option (List ℕ)) → open_role acts ≡ Some role → next_call acts ≡ found
+    → refusable acts ≡ refusable_in (Some role) found
+refusable_is acts role found opened next =
+    ap (λ (r : Option Role). refusable_in r (next_call acts)) opened ∙ ap (refusable_in (Some role)) next
+
+-- why it is refused
+pub refused_none : (acts : List ConnAct) → refusable acts ≡ None → refuse_refusal acts ≡ Some NotRefusable
+refused_none acts e = rw e refl
+
+pub refused_room : (acts : List ConnAct) (call : CoreCall) → refusable acts ≡ Some call → nat_lt (free acts) 8232 ≡ true
+    → refuse_refusal acts ≡ Some NoRoom
+refused_room acts call e short = rw (e, short) refl
+
+pub refused_not : (acts : List ConnAct) (call : CoreCall) → refusable acts ≡ Some call → nat_lt (free acts) 8232 ≡ false
+    → refuse_refusal acts ≡ None
+refused_not acts call e roomy = rw (e, roomy) refl
+
+-- want of memory is none of the reasons
+other_reason : (none short : Bool) → cond none (Some NotRefusable) (cond short (Some NoRoom) None) ≡ Some NoMemory → ⊥
+other_reason true short e = absurd (let z : Some NotRefusable ≡ Some NoMemory = e in cc)
+other_reason false true e = absurd (let z : Some NoRoom ≡ Some NoMemory = e in cc)
+other_reason false false e = absurd (let z : None ≡ Some NoMemory = e in cc)
+
+pub refuse_refused : (config : Config) (c : ℕ) (log : List Act) (r : Refused) (kept : Connection) (new : State)
+    → is_shut c log ≡ false → Refuses (of c log) (Err r) kept → Acts config (Refuse c) log (Err r) new
+refuse_refused config c log NoMemory kept new open_now why =
+    absurd (other_reason (is_none (refusable (of c log))) (nat_lt (free (of c log)) 8232) why)
+refuse_refused config c log ConnInUse kept new open_now why = λ told tells. rw open_now why
+refuse_refused config c log NoConn kept new open_now why = λ told tells. rw open_now why
+refuse_refused config c log NoRoom kept new open_now why = λ told tells. rw open_now why
+refuse_refused config c log NotSent kept new open_now why = λ told tells. rw open_now why
+refuse_refused config c log NoDial kept new open_now why = λ told tells. rw open_now why
+refuse_refused config c log NotRefusable kept new open_now why = λ told tells. rw open_now why
+refuse_refused config c log BadChannel kept new open_now why = λ told tells. rw open_now why
+refuse_refused config c log BadInput kept new open_now why = λ told tells. rw open_now why
+refuse_refused config c log TimeOver kept new open_now why = λ told tells. rw open_now why
+
+-- what it leaves of the server
+pub refuse_done : (state : State) (config : Config) (log : List Act) (c : ℕ) (kept : Connection)
+    → Represents state config log → length state.connections ≡ 16 → c < 16 → is_shut c log ≡ false
+    → Refuses (of c log) (Ok tt) kept
+    → Acts config (Refuse c) log (Ok Done) (record state { connections = set state.connections c kept })
+refuse_done state config log c kept rep sixteen lt open_now (none, bytes, call, next, known, mine) =
+    let answered = Replied (refused_reply call) in
+    let mid : List Act = On c (CallTaken bytes) ∷ log in
+    let others = λ (d : ℕ) (ne : d ≢ c). of_other c d answered mid ne ∙ of_other c d (CallTaken bytes) log ne in
+    let here : of c (On c answered ∷ mid) ≡ answered ∷ CallTaken bytes ∷ of c log =
+    of_mine c answered mid ∙ ap (λ (l : List ConnAct). answered ∷ l) (of_mine c (CallTaken bytes) log) in (
+      λ told tells. rw open_now none,
+      refl,
+      λ polled said. subst
+          (λ (adds : List Act). Represents (record state { connections = set state.connections c kept }) config (adds ++ log))
+          (sym (ap (λ (found : Option (List ℕ)). refuse_acts c found (refusable (of c log))) next ∙ ap (refuse_acts c (Some bytes)) known))
+          (acted state config log (On c answered ∷ mid) c kept state.bench rep sixteen lt (rw here mine) rep.shared others
+          (taken_acted c log (On c answered ∷ mid) state.bench.waiting others
+          (λ other waits. absurd {0} (busy_idle (of c log) other waits (not_busy c log bytes next))) rep.taken)),
+    )
+
+-- an Input that is refused
+other_input : (none far : Bool) → Some NoMemory ≡ cond none (Some BadChannel) (cond far (Some BadInput) None) → ⊥
+other_input true far e = absurd (let z : Some NoMemory ≡ Some BadChannel = e in cc)
+other_input false true e = absurd (let z : Some NoMemory ≡ Some BadInput = e in cc)
+other_input false false e = absurd (let z : Some NoMemory ≡ None = e in cc)
+
+pub input_refused : (config : Config) (channel : ℕ) (microvolts : ℤ) (log : List Act) (r : Refused) (new : State)
+    → IsInput channel microvolts (Err r) → Acts config (Input channel microvolts) log (Err r) new
+input_refused config channel microvolts log NoMemory new why =
+    absurd (other_input (not (is_channel channel)) (is_beyond microvolts) why)
+input_refused config channel microvolts log ConnInUse new why = λ told tells. sym why
+input_refused config channel microvolts log NoConn new why = λ told tells. sym why
+input_refused config channel microvolts log NoRoom new why = λ told tells. sym why
+input_refused config channel microvolts log NotSent new why = λ told tells. sym why
+input_refused config channel microvolts log NoDial new why = λ told tells. sym why
+input_refused config channel microvolts log NotRefusable new why = λ told tells. sym why
+input_refused config channel microvolts log BadChannel new why = λ told tells. sym why
+input_refused config channel microvolts log BadInput new why = λ told tells. sym why
+input_refused config channel microvolts log TimeOver new why = λ told tells. sym why

@@ -1,0 +1,12 @@
+use Rattle.sv_server.specs.Act.{wait_acts}
+use Rattle.sv_server.proofs.Benches.{bench_left}
+use Rattle.sv_server.proofs.Channeled.{bench_left_same}
+use Rattle.sv_server.proofs.bench.Bench.give_up_channel.Goals as goal
+
+pub returns-clause-stands : goal.returns-clause-stands
+returns-clause-stands g c = λ config acts old.
+    let is = rw (← c.self.view_is) at old in
+    let left = bench_left _ c.leave.new.self config acts c.args.conn is
+    (c.leave.ensures.stands (wait_acts acts) is.4) c.leave.ensures.value in
+    bench_left_same _ c.cancel.new.self config acts c.args.conn left c.cancel.ensures.stands c.cancel.ensures.enabled
+    c.cancel.ensures.others
