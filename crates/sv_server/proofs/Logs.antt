@@ -35,7 +35,7 @@ open_is kept acts b is e = ap is_some (sym is.role) ∙ e
 pub shut_is : (c : ℕ) (log : List Act) (b : Bool) → c < 16 → is_open (of c log) ≡ b → is_shut c log ≡ not b
 shut_is c log b lt e = rw (le-ltb 15 c (omega arith), e) refl
 
-not_not : (b : Bool) → b ≡ not (not b)
+pub not_not : (b : Bool) → b ≡ not (not b)
 not_not true = refl
 not_not false = refl
 

@@ -10,6 +10,7 @@ use Rattle.sv_scan.specs.declared.acts.ScanAct.TheVariants.{Input as InputTo}
 use Rattle.sv_layers.specs.Act.{Scanned}
 use Rattle.sv_instrument.specs.Happened.{external_acts, tick_acts}
 use Rattle.sv_server.specs.declared.event.Role.{Role}
+use Rattle.sv_server.specs.declared.event.Port.{Port}
 use Rattle.sv_server.specs.declared.event.Port.TheVariants.{Conn, Intr}
 use Rattle.sv_server.specs.declared.event.Config.{Config}
 use Rattle.sv_server.specs.declared.event.Did.{Did}
@@ -75,10 +76,20 @@ is_shut c log = nat_lt 15 c || not (is_open (of c log))
 abbrev pub is_channel_shut : ℕ → List Act → Bool
 is_channel_shut c log = nat_lt 15 c || not (has_channel c (bench log))
 
+-- and of either
+abbrev pub is_port_shut : Port → List Act → Bool
+is_port_shut (Conn c) log = is_shut c log
+is_port_shut (Intr c) log = is_channel_shut c log
+
 -- whether a voltage is beyond 1,000 V in either direction
 abbrev pub is_beyond : ℤ → Bool
 is_beyond (pos n) = nat_lt most_microvolts n
 is_beyond (negsuc n) = nat_lt most_microvolts (n + 1)
+
+-- why a voltage can't be at an input
+abbrev pub input_refusal : ℕ → ℤ → Option Refused
+input_refusal channel microvolts =
+    if not (is_channel channel) then Some BadChannel else (if is_beyond microvolts then Some BadInput else None)
 
 abbrev pub last_clock : ℕ
 last_clock = 9223372036854775807
@@ -111,8 +122,7 @@ refusal config told (Took (Intr c) count) log =
 refusal config told (Close (Conn c)) log = unless_shut c log None
 refusal config told (Close (Intr c)) log = if is_channel_shut c log then Some NoConn else None
 refusal config told (Dialed c ok) log = unless_shut c log (if is_dialing c (wait_acts (bench log)) then None else Some NoDial)
-refusal config told (Input channel microvolts) log =
-    if not (is_channel channel) then Some BadChannel else (if is_beyond microvolts then Some BadInput else None)
+refusal config told (Input channel microvolts) log = input_refusal channel microvolts
 refusal config told External log = None
 refusal config told Tick log = if config.clock + ticks (bench log) == last_clock then Some TimeOver else None
 

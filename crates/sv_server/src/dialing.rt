@@ -1,7 +1,7 @@
 //! Interrupt channels of the server: which are to be dialed, and what is sent on those that are
 //! open.
 
-ghost use Rattle.std.specs.Prelude.{◌≡◌, ◌≤◌, List, length, OnErr, Some, None, nat_lt, if◌then◌else◌};
+ghost use Rattle.std.specs.Prelude.{◌≡◌, ◌≤◌, not, List, length, OnErr, Some, None, nat_lt, if◌then◌else◌};
 ghost use Rattle.sv_vxi.specs.Reading.{plain_arguments};
 ghost use Rattle.sv_links.specs.Channels.{ChannelAct, waiting as channel_bytes};
 ghost use Rattle.sv_server.specs.declared.event.Config.{Config};
@@ -10,6 +10,7 @@ ghost use Rattle.sv_server.specs.Event.{PlainEvent, Took, Close, Dialed};
 ghost use Rattle.sv_server.specs.Act.{Act, bench};
 ghost use Rattle.sv_server.specs.Requests.{Tells};
 ghost use Rattle.sv_server.specs.Interrupts.{dial_by as called_by, dial_of};
+ghost use Rattle.sv_server.specs.History.{is_channel_shut};
 ghost use Rattle.sv_server.specs.Asking.{Answered};
 ghost use Rattle.sv_server.specs.State.{Represents, StandsFor};
 ghost use Rattle.sv_server.specs.Inside.Acting.{Acts};
@@ -64,6 +65,17 @@ impl<A: Allocator> Server<A> {
         let connection = self.connection(conn)?;
         let call = core_call(connection.taken()?)?;
         dial_by(&call.args)
+    }
+
+    /// Whether the interrupt channel of the connection of this number is open.
+    pub(crate) fn has_channel(&self, conn: u8) -> bool
+        ensures { (config : Config) (log : List Act) → Represents self.now config log
+            → result ≡ not (is_channel_shut conn log) }
+    {
+        if usize::from(conn) >= CONNECTIONS {
+            return false;
+        }
+        self.bench.has_channel(conn)
     }
 
     /// The bytes that wait on an interrupt channel; none where it isn't open.

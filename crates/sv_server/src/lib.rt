@@ -11,6 +11,7 @@ mod core_channel;
 mod dialing;
 mod dispatch;
 mod event;
+mod inputs;
 mod interrupts;
 pub mod laws;
 mod outcomes;
@@ -25,5 +26,6 @@ mod settling;
 mod turn;
 
 pub use event::{Config, Dial, Did, Event, Port, Refused, Role};
+pub use inputs::input_refusal;
 pub use replay::ReplayFault;
 pub use server::Server;

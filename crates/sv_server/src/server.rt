@@ -7,21 +7,21 @@ ghost use Rattle.sv_server.specs.Event.{PlainEvent, Open, Bytes, Turn, Refuse, T
 ghost use Rattle.sv_links.specs.Waiting.{waits};
 ghost use Rattle.sv_server.specs.Act.{Act, of, bench, wait_acts};
 ghost use Rattle.sv_server.specs.Connection.{is_open, waiting_on, room, is_idle, is_faulted};
-ghost use Rattle.sv_server.specs.History.{abort_acts, IsLogOf, Answers, history_after};
+ghost use Rattle.sv_server.specs.History.{abort_acts, is_shut, is_port_shut, IsLogOf, Answers, history_after};
 ghost use Rattle.sv_server.specs.Requests.{Tells};
 ghost use Rattle.sv_server.specs.Asking.{Answered, WaitOn};
 ghost use Rattle.sv_server.specs.KeptConnection.{Connection as KeptConnection, IsConnection};
 ghost use Rattle.sv_server.specs.State.{Represents, StandsFor};
-ghost use Rattle.sv_server.specs.Inside.Acting.{Acts, IsInput};
+ghost use Rattle.sv_server.specs.Inside.Acting.{Acts};
 
 use crate::bench::Bench;
 use crate::connection::Connection;
 use crate::event::{Config, Did, Event, Port, Refused, Role};
+use crate::inputs::may_input;
 use crate::refusing::refuse;
 use crate::turn::{Turned, turn};
 use std::alloc::{AllocError, Allocator, Global};
 use std::marker::Model;
-use sv_errors::{MOST_MICROVOLTS, is_channel};
 use sv_vxi::ErrorCode;
 
 /// How many connections there may be.
@@ -108,6 +108,28 @@ impl<A: Allocator> Server<A> {
         match self.connection(conn) {
             Some(connection) => connection.room() as u32,
             None => 0,
+        }
+    }
+
+    /// Whether a connection or an interrupt channel is open; none of a number above 15 is.
+    pub fn is_open(&self, port: Port) -> bool
+        ensures { (config : Config) (history : List PlainEvent) → StandsFor self.now config history
+            → Answered (λ log. not (is_port_shut port log)) config history result }
+    {
+        match port {
+            Port::Conn(conn) => self.is_connected(conn),
+            Port::Intr(conn) => self.has_channel(conn),
+        }
+    }
+
+    /// Whether the connection of this number is open.
+    fn is_connected(&self, conn: u8) -> bool
+        ensures { (config : Config) (log : List Act) → Represents self.now config log
+            → result ≡ not (is_shut conn log) }
+    {
+        match self.connection(conn) {
+            Some(connection) => connection.is_open(),
+            None => false,
         }
     }
 
@@ -393,18 +415,4 @@ impl<A: Allocator> Server<A> {
         self.settle();
         Ok(did)
     }
-}
-
-/// Whether a voltage may be at the input of a channel.
-fn may_input(channel: u8, microvolts: i64) -> Result<Did, Refused>
-    ensures { IsInput channel microvolts result }
-{
-    if !is_channel(u64::from(channel)) {
-        return Err(Refused::BadChannel);
-    }
-    let most = i64::from(MOST_MICROVOLTS);
-    if microvolts < -most || microvolts > most {
-        return Err(Refused::BadInput);
-    }
-    Ok(Did::Done)
 }

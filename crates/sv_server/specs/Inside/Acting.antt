@@ -7,7 +7,7 @@ use Rattle.sv_server.specs.declared.event.Config.{Config}
 use Rattle.sv_server.specs.declared.event.Did.{Did}
 use Rattle.sv_server.specs.declared.event.Did.TheVariants.{Done as DidSo}
 use Rattle.sv_server.specs.declared.event.Refused.{Refused}
-use Rattle.sv_server.specs.declared.event.Refused.TheVariants.{NoMemory, BadChannel, BadInput}
+use Rattle.sv_server.specs.declared.event.Refused.TheVariants.{NoMemory}
 use Rattle.sv_server.specs.declared.event.Role.{Role}
 use Rattle.sv_server.specs.declared.turn.Turned.{Turned}
 use Rattle.sv_server.specs.declared.turn.Turned.TheVariants.{Idle, Done}
@@ -25,7 +25,7 @@ use Rattle.sv_server.specs.Connection.{open_role, next_call, is_idle}
 use Rattle.sv_server.specs.Polled.{IsPolled}
 use Rattle.sv_server.specs.Settling.{IsNext, IsSettled, SettlesIn, Settles}
 use Rattle.sv_server.specs.Refusing.{refusable, refused_reply}
-use Rattle.sv_server.specs.History.{refusal, turn_refusal, refuse_refusal, own_acts, did, wants_memory, is_beyond}
+use Rattle.sv_server.specs.History.{refusal, turn_refusal, refuse_refusal, own_acts, did, wants_memory, is_beyond, input_refusal}
 use Rattle.sv_server.specs.KeptConnection.{Connection, IsConnection}
 use Rattle.sv_server.specs.KeptBench.{Bench, IsBench}
 use Rattle.sv_server.specs.State.{State, Represents}
@@ -81,8 +81,7 @@ Refuses acts (Err refused) connection = refuse_refusal acts ≡ Some refused
 -- an input that may be
 abbrev pub IsInput : ℕ → ℤ → Result Did Refused → Type 0
 IsInput channel microvolts (Ok what) = (what ≡ DidSo) × (is_channel channel ≡ true) × (is_beyond microvolts ≡ false)
-IsInput channel microvolts (Err refused) = Some refused
-    ≡ (if not (is_channel channel) then Some BadChannel else (if is_beyond microvolts then Some BadInput else None))
+IsInput channel microvolts (Err refused) = Some refused ≡ input_refusal channel microvolts
 
 -- A step of this kind is taken, or there is none and nothing changes.
 abbrev pub TakesStep : (Config → List Act → List Act → Type 0) → Bool → Config → List Act → State → State → Type 0

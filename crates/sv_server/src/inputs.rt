@@ -1,0 +1,33 @@
+//! Which voltages may be at which inputs.
+
+ghost use Rattle.std.specs.Prelude.{◌≡◌};
+ghost use Rattle.sv_server.specs.History.{input_refusal as refusal_of};
+ghost use Rattle.sv_server.specs.Inside.Acting.{IsInput};
+
+use crate::event::{Did, Refused};
+use sv_errors::{MOST_MICROVOLTS, is_channel};
+
+/// Why an Input of this channel and this voltage, in microvolts, is refused: `BadChannel` where the
+/// channel isn't 1 to 32, else `BadInput` where the voltage is beyond plus or minus 1,000,000,000.
+pub fn input_refusal(channel: u8, microvolts: i64) -> Option<Refused>
+    ensures { result ≡ refusal_of channel microvolts }
+{
+    match may_input(channel, microvolts) {
+        Ok(_) => None,
+        Err(refused) => Some(refused),
+    }
+}
+
+/// Whether a voltage may be at the input of a channel.
+pub(crate) fn may_input(channel: u8, microvolts: i64) -> Result<Did, Refused>
+    ensures { IsInput channel microvolts result }
+{
+    if !is_channel(u64::from(channel)) {
+        return Err(Refused::BadChannel);
+    }
+    let most = i64::from(MOST_MICROVOLTS);
+    if microvolts < -most || microvolts > most {
+        return Err(Refused::BadInput);
+    }
+    Ok(Did::Done)
+}
