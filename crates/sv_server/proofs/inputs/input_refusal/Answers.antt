@@ -1,5 +1,9 @@
-use Rattle.std.proofs.Common.{refl}
+use Rattle.std.proofs.Common.{◌≡◌, rules, false, refl}
+use Rattle.sv_server.specs.History.{is_beyond}
 use Rattle.sv_server.proofs.inputs.input_refusal.Goals as goal
 
 pub returns-in-Ok : goal.returns-in-Ok
-returns-in-Ok c = rw (c.in-Ok.ensures.0.1, c.in-Ok.ensures.1) refl
+returns-in-Ok c =
+    let known = c.in-Ok.ensures in
+    let near : is_beyond c.args.microvolts ≡ false = search (rules, known.2) in
+    rw (known.1, near) refl
