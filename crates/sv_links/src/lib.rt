@@ -5,7 +5,8 @@
 //! [`Waiting`] keeps the calls that wait, in the order in which they came, and finds the oldest
 //! that can go on, or that has waited long enough. [`Intr`] keeps the links that ask for service
 //! requests, and the calls that wait on interrupt channels. Only [`Links::create`],
-//! [`Links::reserve`], [`Waiting::new`], [`Intr::new`] and [`Intr::prepare`] take memory.
+//! [`Links::reserve`], [`Waiting::new`], [`Intr::new`] and [`Intr::prepare`] are written to take
+//! memory; no contract says so.
 #![tactic(auto)]
 
 mod channel;
