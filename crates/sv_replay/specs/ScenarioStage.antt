@@ -1,5 +1,5 @@
 -- How far the reading of a scenario is, and how it goes on.
-use Rattle.std.specs.Prelude.{◌≡◌, ◌⊎◌, ℕ, List, [], ◌∷◌, ◌++◌, length, Option, Some, None, Result, Ok, Err}
+use Rattle.std.specs.Prelude.{◌≡◌, ◌⊎◌, ℕ, List, [], ◌∷◌, ◌++◌, length, Result, Ok, Err}
 use Rattle.sv_replay.specs.declared.entry.Entry.{Entry}
 use Rattle.sv_replay.specs.declared.scenario.ScenarioFault.{ScenarioFault}
 use Rattle.sv_replay.specs.declared.scenario.ScenarioFault.TheVariants.{BadLine, Memory}
@@ -13,12 +13,7 @@ Adds least line number old new (Ok tick) = ((line ≡ []) × (new ≡ old) × (t
 Adds least line number old new (Err (BadLine n)) = (n ≡ number) × IsBadFrom least line
 Adds least line number old new (Err Memory) = (entry : Entry) × SaysFrom least line entry
 
--- the lines of what is left, if anything is
-abbrev pub lines_left : Option (List ℕ) → List (List ℕ)
-lines_left None = []
-lines_left (Some left) = parts left
-
 -- So many lines of the text are read, they tell these entries, the last of them at this tick, and this is left of it.
-abbrev pub IsRead : List ℕ → ℕ → List Entry → ℕ → Option (List ℕ) → Type 0
-IsRead text number entries least left = (front : List (List ℕ)) × (parts text ≡ front ++ lines_left left) × (number ≡ length front)
+abbrev pub IsRead : List ℕ → ℕ → List Entry → ℕ → List ℕ → Type 0
+IsRead text number entries least left = (front : List (List ℕ)) × (parts text ≡ front ++ parts left) × (number ≡ length front)
     × Tells 0 front entries × (least ≡ last_tick 0 entries)

@@ -36,13 +36,13 @@ pub fn read_scenario<A: Allocator + Copy>(
     let mut entries = Vec::new(alloc);
     let mut least = 0;
     let mut number = 0;
-    let mut rest = Some(text);
-    while let Some(left) = rest {
-        let (line, behind) = first_part(left, b'\n');
+    let mut rest = text;
+    while let (line, Some(behind)) = first_part(rest, b'\n') {
         number += 1;
         least = add(&mut entries, line, number, least)?;
         rest = behind;
     }
+    add(&mut entries, rest, number + 1, least)?;
     Ok(entries)
 }
 
