@@ -1,7 +1,7 @@
 -- What is read from a line of a scenario is what it says.
-use Rattle.std.proofs.Common.{◌≡◌, ◌≢◌, ℕ, ◌<◌, ◌≤◌, Bool, true, false, cond, ltb, List, [], ◌∷◌, ◌++◌, length, Option, Some, None, refl, sym, subst, ap, ◌∙◌, inl, inr, arith}
+use Rattle.std.proofs.Common.{◌≡◌, ◌≢◌, ℕ, true, cond, ltb, List, [], ◌∷◌, ◌++◌, length, Option, Some, None, refl, sym, subst, ap, ◌∙◌, inl, inr}
 use Rattle.std.specs.Prelude.{codes, is_none}
-use Rattle.std.proofs.lemmas.Bool.{cases_Bool, le-ltb, ltb-true, ltb-false}
+use Rattle.std.proofs.lemmas.Bool.{cases_Bool, ltb-true, ltb-false}
 use Rattle.std.proofs.lemmas.Option.{none-some, same_Some, option_and_then_some}
 use Rattle.sv_server.specs.History.{input_refusal}
 use Rattle.sv_replay.specs.declared.entry.Entry.{Entry}
@@ -105,8 +105,11 @@ unfolding entry_from
 from_none least line some e = elim (cases_Bool (ltb 65536 (length line))) [
   | inl long ↦ inl (ltb-true 65536 (length line) long)
   | inr short ↦
-      inr (some, λ entry says. elim (cases_Bool (ltb entry.tick least)) [
-        | inl early ↦ ltb-true entry.tick least early
-        | inr late ↦ absurd (none-some entry (sym (rw (short, entry_reads line entry says, late) at e)))
-      ])
+      inr (
+        some,
+        λ entry says. elim (cases_Bool (ltb entry.tick least)) [
+          | inl early ↦ ltb-true entry.tick least early
+          | inr late ↦ absurd (none-some entry (sym (rw (short, entry_reads line entry says, late) at e)))
+        ],
+      )
 ]

@@ -1,5 +1,5 @@
 -- An entry of a scenario, as a relation between the bytes of a line and what it says, and the event of a stimulus.
-use Rattle.std.specs.Prelude.{◌≡◌, ℕ, ◌≤◌, List, ◌∷◌, ◌++◌, length, codes, None, ⊤}
+use Rattle.std.specs.Prelude.{◌≡◌, ℕ, ◌≤◌, List, ◌∷◌, ◌++◌, length, None, ⊤}
 use Rattle.sv_server.specs.Event.{PlainEvent, Input, External}
 use Rattle.sv_server.specs.History.{input_refusal}
 use Rattle.sv_replay.specs.declared.entry.Entry.{Entry}

@@ -117,7 +117,11 @@ fn lines_are_read_up_to_the_first_bad_one(rt: HostRuntime) -> Result<(), Fail> {
                 assert_eq!(rt; entries.len(), count, "{text:?}");
                 assert_eq!(rt; fault, None, "{text:?}");
             }
-            Err(found) => assert_eq!(rt; Some(found), fault.map(ScenarioFault::BadLine), "{text:?}"),
+            Err(found) => assert_eq!(rt;
+                Some(found),
+                fault.map(ScenarioFault::BadLine),
+                "{text:?}"
+            ),
         }
     }
     Ok(())

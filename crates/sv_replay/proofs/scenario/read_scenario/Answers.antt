@@ -6,9 +6,10 @@ use Rattle.sv_replay.proofs.scenario.read_scenario.Goals as goal
 
 pub returns-in_err-least : goal.returns-in_err-least
 returns-in_err-least g c =
-    read_stop _ c.args.text.now c.loop-line.rest.now c.first_part.result.0.now _ c.loop-line.number (c.loop-line.number + 1) c.loop-line.least
-    c.loop-line.entries.items c.add.new.entries.items c.in_err-least.field-0.0 c.from_residual.result c.loop-line.invariant.0
-    (rw c.in_default-Some.is-1 at c.first_part.ensures.parts) refl c.in_err-least.ensures c.from_residual.ensures.0 c.from_residual.ensures.1
+    let cut = rw c.in_default-Some.is-1 at c.first_part.ensures.parts in
+    read_stop _ c.args.text.now c.loop-line.rest.now c.first_part.result.0.now _ c.loop-line.number (c.loop-line.number + 1)
+    c.loop-line.least c.loop-line.entries.items c.add.new.entries.items c.in_err-least.field-0.0 c.from_residual.result
+    c.loop-line.invariant.0 cut refl c.in_err-least.ensures c.from_residual.ensures.0 c.from_residual.ensures.1
 
 pub loop-line-preserved : goal.loop-line-preserved
 loop-line-preserved g c = rw c.in_default-Some.is-1 (
