@@ -8,3 +8,5 @@ pub mod Parts
 pub mod Staged
 pub mod Printed
 pub mod Going
+pub mod Entries
+pub mod Scenarios

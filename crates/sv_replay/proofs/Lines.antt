@@ -17,14 +17,14 @@ use Rattle.sv_replay.proofs.Numbers.{AreDigits, plain_reads, plain_takes, voltag
 use Rattle.sv_replay.proofs.Hexes.{hex_reads, hex_takes}
 
 -- digits in front of a space are cut off there
-cut_reads : (digits rest : List ℕ) → AreDigits digits → cut_at (digits ++ 32 ∷ rest) ≡ Some (digits, rest)
+pub cut_reads : (digits rest : List ℕ) → AreDigits digits → cut_at (digits ++ 32 ∷ rest) ≡ Some (digits, rest)
 unfolding cut_at
 cut_reads [] rest are = refl
 cut_reads (digit ∷ digits) rest are =
     rw (ne_eqb digit 32 (λ e. omega (arith, are.0.0)), cut_reads digits rest are.1) refl
 
 -- what was cut is a text around a space
-cut_takes : (text : List ℕ) (cut : List ℕ × List ℕ) → cut_at text ≡ Some cut → text ≡ cut.0 ++ 32 ∷ cut.1
+pub cut_takes : (text : List ℕ) (cut : List ℕ × List ℕ) → cut_at text ≡ Some cut → text ≡ cut.0 ++ 32 ∷ cut.1
 unfolding cut_at
 cut_takes [] cut e = absurd (none-some cut e)
 cut_takes (byte ∷ bytes) cut e =
@@ -36,12 +36,12 @@ cut_takes (byte ∷ bytes) cut e =
     subst (λ (d : List ℕ × List ℕ). byte ∷ bytes ≡ d.0 ++ 32 ∷ d.1) e2 (ap (λ bs. byte ∷ bs) (cut_takes bytes c read))))
 
 -- a number, a space and what follows are read
-numbered_reads : (c : ℕ) (number rest : List ℕ) → IsPlain 255 number c → numbered_at (number ++ 32 ∷ rest) ≡ Some (c, rest)
+pub numbered_reads : (c : ℕ) (number rest : List ℕ) → IsPlain 255 number c → numbered_at (number ++ 32 ∷ rest) ≡ Some (c, rest)
 unfolding numbered_at
 numbered_reads c number rest is = rw (cut_reads number rest is.0.1, plain_reads 255 c number is) refl
 
 -- what was read as a number and what follows are in the text
-numbered_takes : {P : Type 0} (text : List ℕ) (x : ℕ × List ℕ) → numbered_at text ≡ Some x
+pub numbered_takes : {P : Type 0} (text : List ℕ) (x : ℕ × List ℕ) → numbered_at text ≡ Some x
     → ((number : List ℕ) → IsPlain 255 number x.0 → text ≡ number ++ 32 ∷ x.1 → P) → P
 unfolding numbered_at
 numbered_takes {P} text x e then =

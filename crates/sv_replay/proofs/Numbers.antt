@@ -103,13 +103,13 @@ short_below n digits is short =
     omega (arith, onto_below 0 digits is.1, is.2, pow-le-pow_right {n = 10} (omega arith) {i = length digits} {j = 18} short)
 
 -- at most 18 digits are read as the number that they spell
-short_reads : (n : ℕ) (digits : List ℕ) → IsNumber digits n → length digits ≤ 18 → short_at digits ≡ Some n
+pub short_reads : (n : ℕ) (digits : List ℕ) → IsNumber digits n → length digits ≤ 18 → short_at digits ≡ Some n
 unfolding short_at
 short_reads n digits is short = rw (le-ltb 18 (length digits) short)
     (number_reads 999999999999999999 n digits is (short_below n digits is short))
 
 -- what is read so is at most 18 digits
-short_takes : (n : ℕ) (digits : List ℕ) → short_at digits ≡ Some n → IsNumber digits n × (length digits ≤ 18)
+pub short_takes : (n : ℕ) (digits : List ℕ) → short_at digits ≡ Some n → IsNumber digits n × (length digits ≤ 18)
 unfolding short_at
 short_takes n digits e =
     chosen (ltb 18 (length digits)) _ _ (Some n) e

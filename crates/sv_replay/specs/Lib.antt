@@ -6,3 +6,7 @@ pub mod Script
 pub mod Run
 pub mod Stage
 pub mod Text
+pub mod Entry
+pub mod Scenario
+pub mod EntryReading
+pub mod ScenarioStage

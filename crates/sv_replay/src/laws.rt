@@ -1,8 +1,13 @@
 //! Laws of the definitions, each on a function that does nothing.
 
-ghost use Rattle.sv_replay.specs.Laws.{OneLine};
+ghost use Rattle.sv_replay.specs.Laws.{OneLine, OneScenario};
 
 /// A line says one thing, or nothing.
 pub fn one_line()
     ensures { OneLine }
+{}
+
+/// A text tells one list of entries, or none.
+pub fn one_scenario()
+    ensures { OneScenario }
 {}

@@ -1,7 +1,8 @@
 //! The replay of a script: its lines are read, what they say happens to a server, and what follows
-//! is printed.
+//! is printed. And the reading of a scenario: what happens to a server, and when.
 #![tactic(auto)]
 
+mod entry;
 mod fault;
 mod hex;
 pub mod laws;
@@ -9,8 +10,11 @@ mod line;
 mod number;
 mod perform;
 mod run;
+mod scenario;
 mod text;
 
+pub use entry::{Entry, Stimulus};
 pub use fault::RunFault;
 pub use line::{Line, read_line};
 pub use run::run_replay;
+pub use scenario::{ScenarioFault, read_scenario};

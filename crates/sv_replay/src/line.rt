@@ -45,7 +45,7 @@ fn line_of<'a>(line: &[u8], buffer: &'a mut [u8]) -> Option<Line<'a>>
 }
 
 /// What stands in front of the first space, and what stands behind it.
-fn cut(text: &[u8]) -> Option<(&[u8], &[u8])>
+pub(crate) fn cut(text: &[u8]) -> Option<(&[u8], &[u8])>
     ensures exact { option_map (λ cut. (cut.0.now, cut.1.now)) result ≡ cut_at text.now }
     ensures shorter { IfSome result (λ cut. length cut.1.now < length text.now) }
 {
@@ -109,7 +109,7 @@ fn traffic<'a>(word: &[u8], text: &[u8], buffer: &'a mut [u8]) -> Option<Event<'
 
 /// Reads a number and a space, and gives what follows them.
 #[tactic(auto, unfolding(crate::specs::Reading::numbered_at))]
-fn numbered(text: &[u8]) -> Option<(u8, &[u8])>
+pub(crate) fn numbered(text: &[u8]) -> Option<(u8, &[u8])>
     ensures exact { option_map (λ x. (x.0, x.1.now)) result ≡ numbered_at text.now }
     ensures shorter { IfSome result (λ x. length x.1.now < length text.now) }
 {

@@ -50,14 +50,22 @@ pub(crate) fn byte(digits: &[u8]) -> Option<u8>
 
 /// The number that at most 18 digits spell.
 #[tactic(auto, unfolding(crate::specs::Reading::short_at))]
-fn short(digits: &[u8]) -> Option<i64>
-    ensures exact { result ≡ option_map pos (short_at digits.now) }
-    ensures positive { IfSome result (λ n. pos 0 ≤ℤ n) }
+pub(crate) fn short(digits: &[u8]) -> Option<u64>
+    ensures exact { result ≡ short_at digits.now }
+    ensures bounded { IfSome result (λ n. n < 10 ^ 18) }
 {
     if digits.len() > 18 {
         return None;
     }
-    Some(number(digits, MOST_OF_18)? as i64)
+    number(digits, MOST_OF_18)
+}
+
+/// The voltage that at most 18 digits spell, without a sign.
+fn unsigned(digits: &[u8]) -> Option<i64>
+    ensures exact { result ≡ option_map pos (short_at digits.now) }
+    ensures positive { IfSome result (λ n. pos 0 ≤ℤ n) }
+{
+    Some(short(digits)? as i64)
 }
 
 /// The voltage that at most 18 digits spell, with a minus in front of them where it is below zero.
@@ -66,7 +74,7 @@ pub(crate) fn voltage(text: &[u8]) -> Option<i64>
     ensures { result ≡ voltage_at text.now }
 {
     match text {
-        [b'-', digits @ ..] => Some(-short(digits)?),
-        digits => short(digits),
+        [b'-', digits @ ..] => Some(-unsigned(digits)?),
+        digits => unsigned(digits),
     }
 }

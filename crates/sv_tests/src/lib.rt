@@ -19,4 +19,6 @@ mod replays;
 #[cfg(test)]
 mod same;
 #[cfg(test)]
+mod scenarios;
+#[cfg(test)]
 mod streams;

@@ -1,0 +1,20 @@
+-- What was read is said.
+use Rattle.std.proofs.Common.{length, inr, refl, sym, ◌∙◌}
+use Rattle.std.proofs.lemmas.Bool.{eqb-false}
+use Rattle.sv_replay.proofs.Entries.{from_takes, from_none}
+use Rattle.sv_replay.proofs.Scenarios.{not_empty}
+use Rattle.sv_replay.proofs.scenario.add.Goals as goal
+
+pub returns-in_default : goal.returns-in_default
+returns-in_default g c = (
+  refl,
+  from_none c.args.least c.args.line.now (not_empty c.args.line.now (eqb-false (length c.args.line.now) 0 (sym c.if-is_empty.ensures)))
+      (sym c.timely.ensures ∙ c.in_default.is),
+)
+
+pub returns-in-Ok : goal.returns-in-Ok
+returns-in-Ok g c =
+    inr (c.in-Some.entry, from_takes c.args.least c.args.line.now c.in-Some.entry (sym c.in-Some.ensures), c.in-Ok.ensures.items, refl)
+
+pub returns-in-Err : goal.returns-in-Err
+returns-in-Err g c = (c.in-Some.entry, from_takes c.args.least c.args.line.now c.in-Some.entry (sym c.in-Some.ensures))

@@ -1,0 +1,12 @@
+use Rattle.std.proofs.Common.{◌+◌, ◌≤◌, length}
+use Rattle.sv_replay.specs.ScenarioStage.{IsRead}
+use Rattle.sv_replay.proofs.scenario.read_scenario.Given as goal
+
+-- the lines in front of what is left are read
+abbrev pub invariant-loop-line : goal.invariant-loop-line
+invariant-loop-line g l =
+    IsRead l.text l.number l.entries.items l.least l.rest × (l.number + length l.rest ≤ length l.text)
+
+-- each turn takes a line
+abbrev pub decreases-loop-line : goal.decreases-loop-line
+decreases-loop-line g l = length l.rest

@@ -1,0 +1,46 @@
+-- Reading a line of a scenario, from left to right.
+use Rattle.std.specs.Prelude.{ℕ, List, length, codes, Option, Some, None, is_none, nat_lt, if◌then◌else◌}
+use Rattle.std.specs.Str.{bytes_eq}
+use Rattle.sv_server.specs.History.{input_refusal}
+use Rattle.sv_replay.specs.declared.entry.Entry.{Entry}
+use Rattle.sv_replay.specs.declared.entry.Stimulus.{Stimulus}
+use Rattle.sv_replay.specs.declared.entry.Stimulus.TheVariants.{Input, External}
+use Rattle.sv_replay.specs.Reading.{◌>>=◌, cut_at, numbered_at, short_at, voltage_at}
+
+-- a voltage at a channel, if the server accepts it
+unfoldable pub accepted_at : List ℕ → Option Stimulus
+accepted_at text = do
+  x ← numbered_at text
+  microvolts ← voltage_at x.1
+  if is_none (input_refusal x.0 microvolts) then Some (Input x.0 microvolts) else None
+
+-- a stimulus of one word
+unfoldable pub lone_stimulus_at : List ℕ → Option Stimulus
+lone_stimulus_at word = if bytes_eq word (codes "external") then Some External else None
+
+-- a stimulus of words, the first of which is this
+unfoldable pub worded_stimulus_at : List ℕ → List ℕ → Option Stimulus
+worded_stimulus_at word text = if bytes_eq word (codes "input") then accepted_at text else None
+
+-- a stimulus whose text was cut at its first space, if it has one
+abbrev pub cut_stimulus_at : List ℕ → Option (List ℕ × List ℕ) → Option Stimulus
+cut_stimulus_at text None = lone_stimulus_at text
+cut_stimulus_at text (Some cut) = worded_stimulus_at cut.0 cut.1
+
+-- what is to happen
+unfoldable pub stimulus_at : List ℕ → Option Stimulus
+stimulus_at text = cut_stimulus_at text (cut_at text)
+
+-- a tick, a space, and what is to happen
+unfoldable pub entry_at : List ℕ → Option Entry
+entry_at line = do
+  cut ← cut_at line
+  tick ← short_at cut.0
+  stimulus ← stimulus_at cut.1
+  Some (record { tick = tick; stimulus = stimulus })
+
+-- an entry of this tick or a later one, if the line isn't too long
+unfoldable pub entry_from : ℕ → List ℕ → Option Entry
+entry_from least line =
+    if nat_lt 65536 (length line) then None
+    else entry_at line >>= (λ entry. if nat_lt entry.tick least then None else Some entry)

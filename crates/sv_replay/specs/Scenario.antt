@@ -1,0 +1,34 @@
+-- The entries that the lines of a scenario tell.
+use Rattle.std.specs.Prelude.{◌≡◌, ◌≢◌, ◌⊎◌, ℕ, ◌+◌, ◌<◌, ◌≤◌, List, [], ◌∷◌, ◌++◌, length, Result, Ok, Err, fold}
+use Rattle.sv_replay.specs.declared.entry.Entry.{Entry}
+use Rattle.sv_replay.specs.declared.scenario.ScenarioFault.{ScenarioFault}
+use Rattle.sv_replay.specs.declared.scenario.ScenarioFault.TheVariants.{BadLine, Memory}
+use Rattle.sv_replay.specs.Entry.{SaysEntry}
+use Rattle.sv_replay.specs.Script.{parts}
+
+-- The line has at most 65,536 bytes, and says an entry of this tick or a later one.
+abbrev pub SaysFrom : ℕ → List ℕ → Entry → Type 0
+SaysFrom least line entry = (length line ≤ 65536) × SaysEntry line entry × (least ≤ entry.tick)
+
+-- The lines that aren't empty say these entries, each at the tick of the one in front of it or later, and the first at this tick or later.
+abbrev pub Tells : ℕ → List (List ℕ) → List Entry → Type 0
+Tells least [] entries = entries ≡ []
+Tells least (line ∷ lines) entries = ((line ≡ []) × Tells least lines entries)
+    ⊎ ((entry : Entry) × (others : List Entry) × SaysFrom least line entry × Tells entry.tick lines others × (entries ≡ entry ∷ others))
+
+-- the tick of the last entry, or this where there is none
+abbrev pub last_tick : ℕ → List Entry → ℕ
+last_tick least entries = fold (λ tick entry. entry.tick) least entries
+
+-- A line that is too long; or that isn't empty, and says no entry of this tick or a later one.
+abbrev pub IsBadFrom : ℕ → List ℕ → Type 0
+IsBadFrom least line = (65536 < length line) ⊎ ((line ≢ []) × ((entry : Entry) → SaysEntry line entry → entry.tick < least))
+
+-- A text is read as the entries that all its lines tell. At a bad line the lines in front of it tell entries, and it is bad behind those.
+-- Memory is refused to the entry of a line.
+abbrev pub Reads : List ℕ → Result (List Entry) ScenarioFault → Type 0
+Reads text (Ok entries) = Tells 0 (parts text) entries
+Reads text (Err (BadLine n)) = (front behind : List (List ℕ)) × (line : List ℕ) × (entries : List Entry)
+    × (parts text ≡ front ++ line ∷ behind) × (n ≡ length front + 1) × Tells 0 front entries × IsBadFrom (last_tick 0 entries) line
+Reads text (Err Memory) = (front behind : List (List ℕ)) × (line : List ℕ) × (entries : List Entry) × (entry : Entry)
+    × (parts text ≡ front ++ line ∷ behind) × Tells 0 front entries × SaysFrom (last_tick 0 entries) line entry

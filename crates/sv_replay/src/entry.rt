@@ -1,0 +1,127 @@
+//! What a scenario lets happen and when, and reading it from a line.
+
+ghost use Rattle.std.specs.Prelude.{◌≡◌};
+ghost use Rattle.sv_server.specs.Event.{plain};
+ghost use Rattle.sv_replay.specs.Entry.{stimulus_event};
+ghost use Rattle.sv_replay.specs.EntryReading.{accepted_at, lone_stimulus_at, worded_stimulus_at, stimulus_at, entry_at, entry_from};
+
+use crate::line::{cut, numbered};
+use crate::number::{short, voltage};
+use crate::text::LONGEST_LINE;
+use sv_server::{Event, input_refusal};
+
+/// What a scenario lets happen to a server.
+#[derive(Clone, Copy, Debug, PartialEq, Eq)]
+pub enum Stimulus {
+    /// The live voltage of a channel changes.
+    Input {
+        /// The channel, 1 to 32.
+        channel: u8,
+        /// The voltage in microvolts, within plus or minus 1,000,000,000.
+        microvolts: i64,
+    },
+    /// The external trigger comes.
+    External,
+}
+
+/// What happens, and when.
+#[derive(Clone, Copy, Debug, PartialEq, Eq)]
+pub struct Entry {
+    /// When, in ticks of a millisecond, from 0 to 999,999,999,999,999,999.
+    pub tick: u64,
+    /// What.
+    pub stimulus: Stimulus,
+}
+
+impl Stimulus {
+    /// The server's event of it.
+    pub fn event(self) -> Event<'static>
+        ensures { plain result ≡ stimulus_event self }
+    {
+        match self {
+            Stimulus::Input {
+                channel,
+                microvolts,
+            } => Event::Input {
+                channel,
+                microvolts,
+            },
+            Stimulus::External => Event::External,
+        }
+    }
+}
+
+/// Reads a line of at most 65,536 bytes, which says an entry of the tick `least` or a later one.
+#[tactic(auto, unfolding(crate::specs::EntryReading::entry_from))]
+pub(crate) fn timely(line: &[u8], least: u64) -> Option<Entry>
+    ensures { result ≡ entry_from least line.now }
+{
+    if line.len() > LONGEST_LINE {
+        return None;
+    }
+    let entry = entry_of(line)?;
+    if entry.tick < least {
+        return None;
+    }
+    Some(entry)
+}
+
+/// Reads an entry: a tick, a space, and what is to happen.
+#[tactic(auto, unfolding(crate::specs::EntryReading::entry_at))]
+fn entry_of(line: &[u8]) -> Option<Entry>
+    ensures { result ≡ entry_at line.now }
+{
+    let (digits, text) = cut(line)?;
+    let tick = short(digits)?;
+    let stimulus = stimulus_of(text)?;
+    Some(Entry { tick, stimulus })
+}
+
+/// Reads what is to happen: at its first space it is cut into a word and a text.
+#[tactic(auto, unfolding(crate::specs::EntryReading::stimulus_at))]
+fn stimulus_of(text: &[u8]) -> Option<Stimulus>
+    ensures { result ≡ stimulus_at text.now }
+{
+    match cut(text) {
+        None => lone(text),
+        Some((word, rest)) => worded(word, rest),
+    }
+}
+
+/// Reads a stimulus of one word.
+#[tactic(auto, unfolding(crate::specs::EntryReading::lone_stimulus_at))]
+fn lone(word: &[u8]) -> Option<Stimulus>
+    ensures { result ≡ lone_stimulus_at word.now }
+{
+    match word {
+        b"external" => Some(Stimulus::External),
+        _ => None,
+    }
+}
+
+/// Reads a stimulus of words, the first of which is `word`.
+#[tactic(auto, unfolding(crate::specs::EntryReading::worded_stimulus_at))]
+fn worded(word: &[u8], text: &[u8]) -> Option<Stimulus>
+    ensures { result ≡ worded_stimulus_at word.now text.now }
+{
+    match word {
+        b"input" => accepted(text),
+        _ => None,
+    }
+}
+
+/// Reads what channel's voltage becomes what, if the server accepts it.
+#[tactic(auto, unfolding(crate::specs::EntryReading::accepted_at))]
+fn accepted(text: &[u8]) -> Option<Stimulus>
+    ensures { result ≡ accepted_at text.now }
+{
+    let (channel, word) = numbered(text)?;
+    let microvolts = voltage(word)?;
+    match input_refusal(channel, microvolts) {
+        None => Some(Stimulus::Input {
+            channel,
+            microvolts,
+        }),
+        Some(_) => None,
+    }
+}

@@ -1,0 +1,69 @@
+//! Reading a scenario: the entries that the lines of a text say, one after the other.
+
+ghost use Rattle.std.specs.Prelude.{◌≡◌, List, [], ◌++◌, ◌∷◌, MatchResult, Ok, Err};
+ghost use Rattle.sv_replay.specs.Scenario.{Reads};
+ghost use Rattle.sv_replay.specs.ScenarioStage.{Adds};
+
+use crate::entry::{Entry, timely};
+use std::alloc::{AllocError, Allocator};
+use sv_text::first_part;
+use thiserror::Error;
+
+/// Why a scenario isn't read.
+#[derive(Clone, Copy, Debug, PartialEq, Eq, Error)]
+pub enum ScenarioFault {
+    /// The line of this number, from 1, is above 65,536 bytes, says nothing that a scenario knows,
+    /// or says what is to happen before what the line in front of it says.
+    #[error("bad line {0}")]
+    BadLine(u64),
+    /// Memory was refused.
+    #[error("memory")]
+    Memory,
+}
+
+/// Reads a scenario: each of its lines is empty or says an entry, and no entry is before the one in
+/// front of it.
+///
+/// # Errors
+/// `BadLine` at the first line that isn't so, and `Memory` where memory was refused to an entry.
+pub fn read_scenario<A: Allocator + Copy>(
+    alloc: A,
+    text: &[u8],
+) -> Result<Vec<Entry, A>, ScenarioFault>
+    ensures { MatchResult result (λ entries. Reads text.now (Ok entries.items))
+        (λ fault. Reads text.now (Err fault)) }
+{
+    let mut entries = Vec::new(alloc);
+    let mut least = 0;
+    let mut number = 0;
+    let mut rest = text;
+    while let (line, Some(behind)) = first_part(rest, b'\n') {
+        number += 1;
+        least = add(&mut entries, line, number, least)?;
+        rest = behind;
+    }
+    add(&mut entries, rest, number + 1, least)?;
+    Ok(entries)
+}
+
+/// Puts the entry of a line behind the others, where the line isn't empty, and answers the tick of
+/// the last one; `least` is the tick of the last one before.
+fn add<A: Allocator>(
+    entries: &mut Vec<Entry, A>,
+    line: &[u8],
+    number: u64,
+    least: u64,
+) -> Result<u64, ScenarioFault>
+    ensures { Adds least line.now number entries.old.items entries.new.items result }
+{
+    if line.is_empty() {
+        return Ok(least);
+    }
+    let Some(entry) = timely(line, least) else {
+        return Err(ScenarioFault::BadLine(number));
+    };
+    match entries.push(entry) {
+        Ok(()) => Ok(entry.tick),
+        Err(_) => Err(ScenarioFault::Memory),
+    }
+}
