@@ -1,7 +1,16 @@
 # What can be done here; the README says what each proves and how long it takes.
 RT ?= rt
 
-.PHONY: test lint check scanvolt run bench
+# The program that is served and measured: the proved one, unless SERVER names another.
+ifndef SERVER
+SERVER := crates/scanvolt/out/scanvolt
+PROVED := scanvolt
+endif
+
+# What the server is measured beside.
+ECHO := crates/echo/out/echo
+
+.PHONY: test lint check scanvolt run serve bench echo clients hostile
 
 # What a proof doesn't see (tools/lint); then proves every crate and its tests from nothing, tries
 # the must-fail edits, and runs the programs and the tests.
@@ -24,6 +33,27 @@ scanvolt:
 run:
 	@cd crates/scanvolt && $(RT) try -- replay < ../../examples/scan.replay
 
+# Serves an instrument with the proved program, on ports that need no root, until it is stopped.
+serve: $(PROVED)
+	@$(SERVER) serve --core 4096 --abort 4097 --portmap 4111 \
+	    --scenario examples/bench.scenario --sweeps 4294967295
+
 # Proves the program as above and measures it: its speed and memory, and what they are to be.
-bench: scanvolt
-	@bench/run crates/scanvolt/out/scanvolt
+# Then the same of its server, beside one by rpcgen and beside a bare echo.
+bench: $(PROVED) echo
+	@bench/run $(SERVER)
+	@bench/serve $(SERVER) $(ECHO)
+
+# Proves the bare echo, and has it look ten times.
+echo:
+	@cd crates/echo && $(RT) run -- 0 10 > /dev/null
+
+# Runs the clients of examples/ against the program and compares what they print; it needs some
+# Debian packages, which it names, and a network namespace, so root.
+clients: $(PROVED)
+	@tools/clients $(SERVER)
+
+# Serves with the program, and sends it peers that drop, reset, half-close, send random bytes or
+# never read, beside one that must lose no reply.
+hostile: $(PROVED)
+	@tools/hostile $(SERVER)

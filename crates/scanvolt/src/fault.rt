@@ -2,7 +2,8 @@
 
 ghost use Rattle.std.specs.Prelude.{◌≡◌};
 
-use sv_replay::RunFault;
+use std::alloc::AllocError;
+use sv_replay::{RunFault, ScenarioFault};
 use thiserror::Error;
 
 /// Why the program stopped.
@@ -11,9 +12,12 @@ pub enum ProgramFault {
     /// The words of the command line aren't those that it knows.
     #[error("bad words")]
     BadWords,
-    /// The replay stopped.
+    /// A script or a scenario can't be run, or the input, the output or memory failed.
     #[error("{0}")]
     Run(#[from] RunFault),
+    /// A port can't be listened on, or the system fails to wait.
+    #[error("socket")]
+    Socket,
 }
 
 impl ProgramFault {
@@ -25,7 +29,33 @@ impl ProgramFault {
     {
         match self {
             ProgramFault::BadWords | ProgramFault::Run(RunFault::BadLine(_)) => 2,
-            ProgramFault::Run(RunFault::Input | RunFault::Output | RunFault::Memory) => 3,
+            ProgramFault::Run(RunFault::Input | RunFault::Output | RunFault::Memory)
+            | ProgramFault::Socket => 3,
         }
+    }
+}
+
+impl From<ScenarioFault> for ProgramFault {
+    ghost use Rattle.scanvolt.specs.Program.{scenario_fault};
+
+    ghost from_gives = { λ scenario fault. fault ≡ scenario_fault scenario };
+
+    fn from(fault: ScenarioFault) -> ProgramFault {
+        match fault {
+            ScenarioFault::BadLine(number) => ProgramFault::Run(RunFault::BadLine(number)),
+            ScenarioFault::Memory => ProgramFault::Run(RunFault::Memory),
+        }
+    }
+}
+
+impl From<AllocError> for ProgramFault {
+    ghost use Rattle.std.specs.Prelude.{◌≡◌};
+    ghost use Rattle.sv_replay.specs.declared.fault.RunFault.TheVariants.{Memory};
+    ghost use Rattle.scanvolt.specs.declared.fault.ProgramFault.TheVariants.{Run};
+
+    ghost from_gives = { λ refused fault. fault ≡ Run Memory };
+
+    fn from(_: AllocError) -> ProgramFault {
+        ProgramFault::Run(RunFault::Memory)
     }
 }

@@ -2,18 +2,21 @@
 #![tactic(auto)]
 
 mod fault;
+mod options;
+mod serving;
 #[cfg(test)]
 mod tests;
 mod words;
 
 use fault::ProgramFault;
+use std::alloc::Global;
 use std::env;
 use std::io::{self, BufWriter, Error, ErrorKind};
 use std::process::ExitCode;
 use sv_replay::{RunFault, run_replay};
-use words::is_replay;
+use words::{Words, read_words};
 
-/// Runs the program: the one word `replay` stands for the replay of the standard input.
+/// Runs the program: `replay` replays the standard input, `serve` serves sockets.
 fn main(rt: HostRuntime) -> ExitCode {
     match program(&rt) {
         Ok(()) => ExitCode::SUCCESS,
@@ -26,21 +29,17 @@ fn main(rt: HostRuntime) -> ExitCode {
 
 /// Reads the words, and does what they ask for.
 fn program(rt: &HostRuntime) -> Result<(), ProgramFault> {
-    read_words(rt)?;
-    replay(rt)?;
-    Ok(())
+    let words = own_words(rt)?;
+    match read_words(rt.alloc(), words.get(1..).unwrap_or(&[]))? {
+        Words::Replay => Ok(replay(rt)?),
+        Words::Server(serve) => serving::serve(rt, &serve),
+    }
 }
 
-/// Reads the words, which have to be the one word `replay`.
-fn read_words(rt: &HostRuntime) -> Result<(), ProgramFault> {
-    let mut words = env::args(rt).map_err(|error| words_fault(&error))?;
-    let _program = words.next();
-    let (first, second) = (words.next(), words.next());
-    if is_replay(first.as_deref(), second.as_deref()) {
-        Ok(())
-    } else {
-        Err(ProgramFault::BadWords)
-    }
+/// The words, the program's name first.
+fn own_words(rt: &HostRuntime) -> Result<Vec<String<Global>, Global>, ProgramFault> {
+    let words = env::args(rt).map_err(|error| words_fault(&error))?;
+    Ok(words.collect(rt.alloc())?)
 }
 
 /// What is told where the words can't be read: memory was refused, or a word isn't text.

@@ -1,16 +1,90 @@
 //! The words of the command line.
 
-ghost use Rattle.std.specs.Prelude.{◌≡◌, option_map};
-ghost use Rattle.scanvolt.specs.Program.{is_replay};
+ghost use Rattle.std.specs.Prelude.{◌≡◌, map};
+ghost use Rattle.clap.specs.Values.{kind_of};
+ghost use Rattle.scanvolt.specs.Words.{Serves, Asks, Reads, Refuses};
 
-/// Whether the words behind the program's name are the one word `replay`: what the first two of
-/// them are, if there are so many.
-pub fn is_replay(first: Option<&str>, second: Option<&str>) -> bool
-    ensures { result ≡ is_replay (option_map (λ word. word.now) first.entry)
-        (option_map (λ word. word.now) second.entry) }
+use crate::fault::ProgramFault;
+use crate::options::{command, told};
+use clap::Error;
+use clap::error::ErrorKind;
+use std::alloc::Global;
+use std::convert::AsStr;
+use sv_replay::RunFault;
+
+/// What the words ask for.
+#[derive(Clone, Copy, Debug, PartialEq, Eq)]
+pub enum Words<'a> {
+    /// The replay of the standard input.
+    Replay,
+    /// A server.
+    Server(Serve<'a>),
+}
+
+/// What is to be served.
+#[derive(Clone, Copy, Debug, PartialEq, Eq)]
+pub struct Serve<'a> {
+    /// The port of the core channel, from 1.
+    pub core: u16,
+    /// The port of the abort channel, from 1.
+    pub abort: u16,
+    /// The port of the port mapper, from 1.
+    pub portmap: u16,
+    /// The path of the scenario.
+    pub scenario: &'a str,
+    /// After so many sweeps it ends: from 1.
+    pub sweeps: u32,
+}
+
+/// Reads the words behind the program's name: the one word `replay`, or `serve` and five options
+/// in any order, each of them once and with its value: `--core`, `--abort` and `--portmap` with a
+/// port of 1 to 65535, `--scenario` with a path, `--sweeps` with 1 to 4,294,967,295. A number has 1
+/// to 10 decimal digits.
+///
+/// # Errors
+/// `BadWords` for all others, and where memory is refused its fault.
+pub fn read_words<'a, S: AsStr>(alloc: Global, words: &'a [S]) -> Result<Words<'a>, ProgramFault>
+    ensures { Reads (Asks (map S.text words.now)) result }
 {
-    match (first, second) {
-        (Some(word), None) => word == "replay",
-        _ => false,
+    let Some(first) = words.first() else {
+        return Err(ProgramFault::BadWords);
+    };
+    let word = first.as_str();
+    if word == "serve" {
+        return match read_serve(alloc, words) {
+            Ok(serve) => Ok(Words::Server(serve)),
+            Err(fault) => Err(fault),
+        };
+    }
+    if (words.len() == 1) & (word == "replay") {
+        Ok(Words::Replay)
+    } else {
+        Err(ProgramFault::BadWords)
+    }
+}
+
+/// Reads the word `serve` and the options behind it.
+fn read_serve<'a, S: AsStr>(alloc: Global, words: &'a [S]) -> Result<Serve<'a>, ProgramFault>
+    ensures { Reads (Serves (map S.text words.now)) result }
+{
+    let Ok(command) = command(alloc) else {
+        return Err(ProgramFault::Run(RunFault::Memory));
+    };
+    match command.try_get_matches_from(words) {
+        Ok(matches) => match told(&matches) {
+            Some(serve) => Ok(serve),
+            None => Err(ProgramFault::BadWords),
+        },
+        Err(error) => Err(refused(&error)),
+    }
+}
+
+/// Why words were refused.
+fn refused(error: &Error) -> ProgramFault
+    ensures { Refuses (kind_of error.now) result }
+{
+    match error.kind() {
+        ErrorKind::OutOfMemory => ProgramFault::Run(RunFault::Memory),
+        _ => ProgramFault::BadWords,
     }
 }

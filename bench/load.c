@@ -1,0 +1,237 @@
+/*
+ * Clients in a closed loop, each with one call under way: load KIND PORT CONNECTIONS SECONDS
+ *
+ *     idn    a query is device_write of *IDN? and device_read
+ *     lock   the same, between device_lock, which waits for the lock, and device_unlock
+ *     stb    a query is device_readstb
+ *     echo   no VXI-11: what idn sends, each call coming back as it is; a query is two of these
+ *
+ * Every reply is compared. It prints the queries a second; one connection alone can do idn, since
+ * without the lock clients interrupt each other's answers.
+ */
+#include <arpa/inet.h>
+#include <netinet/in.h>
+#include <netinet/tcp.h>
+#include <poll.h>
+#include <stdint.h>
+#include <stdio.h>
+#include <stdlib.h>
+#include <string.h>
+#include <sys/socket.h>
+#include <time.h>
+#include <unistd.h>
+
+enum { CREATE_LINK = 10, WRITE = 11, READ = 12, READSTB = 13, LOCK = 18, UNLOCK = 19 };
+enum { CONNECTIONS = 16, STEPS = 4, LONGEST = 128, TIMEOUT = 10000, WAITLOCK = 1, END = 8 };
+
+static const char name[] = "SCANVOLT,SV32,0,1.0\n";
+
+struct message {
+    unsigned char bytes[LONGEST];
+    unsigned size;
+};
+
+/* A connection: its calls and their replies, which one is under way, what came of its reply. */
+static struct connection {
+    int socket;
+    struct message calls[STEPS], replies[STEPS];
+    unsigned step, came;
+    uint32_t number;
+    unsigned char reply[LONGEST];
+} connections[CONNECTIONS];
+static unsigned steps, queries;
+static int echoes, polls, ending, under_way;
+
+static void fail(const char *what)
+{
+    fprintf(stderr, "load: %s\n", what);
+    exit(1);
+}
+
+static void set_word(unsigned char *place, uint32_t word)
+{
+    word = htonl(word);
+    memcpy(place, &word, 4);
+}
+
+static uint32_t word_at(const unsigned char *place)
+{
+    uint32_t word;
+    memcpy(&word, place, 4);
+    return ntohl(word);
+}
+
+static void add_word(struct message *message, uint32_t word)
+{
+    set_word(message->bytes + message->size, word);
+    message->size += 4;
+}
+
+static void add_opaque(struct message *message, const char *text)
+{
+    unsigned size = strlen(text);
+    add_word(message, size);
+    memcpy(message->bytes + message->size, text, size);
+    message->size += (size + 3) / 4 * 4;
+}
+
+/* Puts the length of a record, whose place was left, in front. */
+static struct message whole(struct message message)
+{
+    set_word(message.bytes, 0x80000000u | (message.size - 4));
+    return message;
+}
+
+static struct message call(uint32_t procedure, unsigned count, const uint32_t *words,
+                           const char *text)
+{
+    const uint32_t head[] = { 0, 0, 0, 2, 0x0607AF, 1, procedure, 0, 0, 0, 0 };
+    struct message message = { .size = 0 };
+    for (unsigned i = 0; i < 11; i++)
+        add_word(&message, head[i]);
+    for (unsigned i = 0; i < count; i++)
+        add_word(&message, words[i]);
+    if (text != NULL)
+        add_opaque(&message, text);
+    return whole(message);
+}
+
+/* A reply with error 0, then so many words, then a text. */
+static struct message reply(unsigned count, const uint32_t *words, const char *text)
+{
+    struct message message = { .size = 0 };
+    add_word(&message, 0);
+    add_word(&message, 0);
+    add_word(&message, 1);
+    for (unsigned i = 0; i < 4; i++)
+        add_word(&message, 0);
+    for (unsigned i = 0; i < count; i++)
+        add_word(&message, words[i]);
+    if (text != NULL)
+        add_opaque(&message, text);
+    return whole(message);
+}
+
+static void add_step(struct connection *to, struct message sent, struct message answered)
+{
+    to->calls[steps] = sent;
+    to->replies[steps] = echoes ? sent : answered;
+    steps++;
+}
+
+static void plan(struct connection *to, const char *kind, uint32_t link)
+{
+    const uint32_t none = 0, error_and_size[] = { 0, 6 }, error_and_end[] = { 0, 4 };
+    const uint32_t written[] = { link, TIMEOUT, TIMEOUT, END };
+    const uint32_t wanted[] = { link, 1024, TIMEOUT, TIMEOUT, 0, 0 };
+    const uint32_t waiting[] = { link, WAITLOCK, TIMEOUT, TIMEOUT };
+    steps = 0;
+    if (strcmp(kind, "stb") == 0) {
+        polls = 1;
+        add_step(to, call(READSTB, 4, waiting, NULL), reply(2, (uint32_t[]){ 0, 0 }, NULL));
+        return;
+    }
+    if (strcmp(kind, "lock") == 0)
+        add_step(to, call(LOCK, 3, waiting, NULL), reply(1, &none, NULL));
+    add_step(to, call(WRITE, 4, written, "*IDN?\n"), reply(2, error_and_size, NULL));
+    add_step(to, call(READ, 6, wanted, NULL), reply(2, error_and_end, name));
+    if (strcmp(kind, "lock") == 0)
+        add_step(to, call(UNLOCK, 1, &link, NULL), reply(1, &none, NULL));
+}
+
+static void send_step(struct connection *of)
+{
+    struct message *message = &of->calls[of->step];
+    set_word(message->bytes + 4, ++of->number);
+    set_word(of->replies[of->step].bytes + 4, of->number);
+    if (send(of->socket, message->bytes, message->size, MSG_NOSIGNAL) != (ssize_t)message->size)
+        fail("a call isn't sent");
+}
+
+/* Takes what came; behind a whole reply the next call goes out, but at the end no further query. */
+static void receive(struct connection *of)
+{
+    const struct message *expected = &of->replies[of->step];
+    ssize_t count = recv(of->socket, of->reply + of->came, expected->size - of->came, 0);
+    if (count <= 0)
+        fail("the connection ended");
+    of->came += count;
+    if (of->came < expected->size)
+        return;
+    /* Of a status byte only that it is one is known. */
+    unsigned same = polls ? expected->size - 4 : expected->size;
+    if (memcmp(of->reply, expected->bytes, same) != 0 || (polls && word_at(of->reply + same) > 255))
+        fail("a reply differs");
+    of->came = 0;
+    of->step = (of->step + 1) % steps;
+    queries += of->step == 0;
+    if (ending && of->step == 0)
+        under_way--;
+    else
+        send_step(of);
+}
+
+static void connect_to(struct connection *of, int port, const char *kind)
+{
+    const uint32_t wanted[] = { 1, 0, 0 };
+    struct sockaddr_in address = { .sin_family = AF_INET, .sin_port = htons(port) };
+    struct message first = call(CREATE_LINK, 3, wanted, "inst0");
+    uint32_t link = 1;
+    int on = 1;
+    address.sin_addr.s_addr = htonl(INADDR_LOOPBACK);
+    of->socket = socket(AF_INET, SOCK_STREAM, 0);
+    if (connect(of->socket, (struct sockaddr *)&address, sizeof address) != 0)
+        fail("no connection");
+    setsockopt(of->socket, IPPROTO_TCP, TCP_NODELAY, &on, sizeof on);
+    if (!echoes) {
+        if (send(of->socket, first.bytes, first.size, MSG_NOSIGNAL) != (ssize_t)first.size ||
+            recv(of->socket, of->reply, 44, MSG_WAITALL) != 44 || word_at(of->reply + 28) != 0)
+            fail("no link");
+        link = word_at(of->reply + 32);
+    }
+    plan(of, kind, link);
+}
+
+static double now(void)
+{
+    struct timespec time;
+    clock_gettime(CLOCK_MONOTONIC, &time);
+    return time.tv_sec + time.tv_nsec / 1e9;
+}
+
+/* Goes on for so many seconds, or to the end; the queries a second. */
+static double run(int count, double seconds)
+{
+    struct pollfd polled[CONNECTIONS];
+    double begun = now(), time = begun;
+    for (int i = 0; i < count; i++)
+        polled[i] = (struct pollfd){ .fd = connections[i].socket, .events = POLLIN };
+    queries = 0;
+    for (; ending ? under_way > 0 : time < begun + seconds; time = now()) {
+        if (poll(polled, count, TIMEOUT) <= 0)
+            fail("no reply came");
+        for (int i = 0; i < count; i++)
+            if (polled[i].revents != 0)
+                receive(&connections[i]);
+    }
+    return queries / (time - begun);
+}
+
+int main(int words, char **word)
+{
+    int port = words == 5 ? atoi(word[2]) : 0, count = words == 5 ? atoi(word[3]) : 0;
+    if (port < 1 || count < 1 || count > CONNECTIONS) {
+        fprintf(stderr, "usage: load idn|lock|stb|echo PORT CONNECTIONS SECONDS\n");
+        return 2;
+    }
+    echoes = strcmp(word[1], "echo") == 0;
+    for (int i = 0; i < count; i++)
+        connect_to(&connections[i], port, word[1]);
+    for (under_way = 0; under_way < count; under_way++)
+        send_step(&connections[under_way]);
+    run(count, 0.2);
+    printf("%.0f\n", run(count, atof(word[4])));
+    ending = 1;
+    run(count, 0);
+    return 0;
+}

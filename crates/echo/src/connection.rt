@@ -1,0 +1,36 @@
+//! A connection, and what of its bytes is still to be given back.
+
+use mio::net::TcpStream;
+use mio::{Interest, Registry, Token};
+use std::io::{self, ErrorKind, Read, Write};
+
+/// A connection.
+#[derive(Drop)]
+pub(crate) struct Connection {
+    stream: TcpStream,
+}
+
+impl Connection {
+    /// A connection that is reported under this token.
+    pub(crate) fn new(
+        mut stream: TcpStream,
+        registry: &Registry,
+        token: Token,
+    ) -> io::Result<Connection> {
+        stream.set_nodelay(true)?;
+        registry.register(&mut stream, token, Interest::READABLE | Interest::WRITABLE)?;
+        Ok(Connection { stream })
+    }
+
+    /// Reads once and gives it back; false where the connection is to be closed.
+    pub(crate) fn echo(&mut self, buffer: &mut [u8]) -> bool {
+        match self.stream.read(buffer) {
+            Ok(0) => false,
+            Ok(count) => match self.stream.write(buffer.get(..count).unwrap_or(&[])) {
+                Ok(written) => written == count,
+                Err(_) => false,
+            },
+            Err(error) => error.kind() == ErrorKind::WouldBlock,
+        }
+    }
+}

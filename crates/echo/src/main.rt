@@ -1,0 +1,35 @@
+//! A bare echo, for measuring: `echo PORT LOOKS` gives back what it reads on connections to a port
+//! of 127.0.0.1, asleep in the same way as scanvolt between sweeps. It prints `ready PORT`, and
+//! ends after so many looks at what there is.
+#![tactic(auto)]
+
+mod connection;
+mod serving;
+
+use serving::serve;
+use std::env;
+use std::io::{self, Error, ErrorKind};
+use std::process::ExitCode;
+
+fn main(rt: HostRuntime) -> ExitCode {
+    match program(&rt) {
+        Ok(()) => ExitCode::SUCCESS,
+        Err(_) => {
+            let _ = eprintln!(rt; "usage: echo PORT LOOKS");
+            ExitCode::from(2)
+        }
+    }
+}
+
+/// Reads the port and how many looks, and serves.
+fn program(rt: &HostRuntime) -> io::Result<()> {
+    let mut words = env::args(rt)?;
+    let _program = words.next();
+    let (Some(port), Some(looks)) = (words.next(), words.next()) else {
+        return Err(Error::from(ErrorKind::InvalidInput));
+    };
+    match (port.parse::<u16>(), looks.parse::<u32>()) {
+        (Ok(port), Ok(looks)) => serve(rt, port, looks),
+        _ => Err(Error::from(ErrorKind::InvalidInput)),
+    }
+}

@@ -1,0 +1,66 @@
+-- What the words of the command line ask for.
+use Rattle.std.specs.Prelude.{◌≡◌, ◌≤◌, ◌⊎◌, ℕ, true, List, [], ◌∷◌, length, codes, Option, Some, None, Result, Ok, Err}
+use Rattle.clap.specs.Words.{App, Rule, Text, fault_of, first_of, matches_of, new_app, new_rule, with_rule}
+use Rattle.clap.specs.declared.builder.action.ArgAction.TheVariants.{Set}
+use Rattle.clap.specs.declared.error.kind.ErrorKind.{ErrorKind}
+use Rattle.clap.specs.declared.error.kind.ErrorKind.TheVariants.{OutOfMemory}
+use Rattle.std.specs.Str.Parse.{IsNumeral, digits_value}
+use Rattle.sv_replay.specs.declared.fault.RunFault.TheVariants.{Memory}
+use Rattle.scanvolt.specs.declared.fault.ProgramFault.{ProgramFault}
+use Rattle.scanvolt.specs.declared.fault.ProgramFault.TheVariants.{BadWords, Run, Socket}
+use Rattle.scanvolt.specs.declared.words.Serve.{Serve}
+use Rattle.scanvolt.specs.declared.words.Words.{Words}
+use Rattle.scanvolt.specs.declared.words.Words.TheVariants.{Replay, Server}
+
+-- 1 to 10 decimal digits that spell a number from 1 to this
+abbrev pub IsCount : ℕ → Text → ℕ → Type 0
+IsCount most digits n = IsNumeral 10 digits × (length digits ≤ 10) × (n ≡ digits_value 10 digits) × (1 ≤ n) × (n ≤ most)
+
+-- an option that takes one value and has to be there
+abbrev pub option : Text → Rule
+option name = record (new_rule name) { long = Some name; action = Some Set; required = true }
+
+-- the command `serve` of five such options
+abbrev pub serve_command : App
+serve_command =
+    with_rule (with_rule (with_rule (with_rule (with_rule (new_app (codes "serve"))
+    (option (codes "core"))) (option (codes "abort"))) (option (codes "portmap"))) (option (codes "scenario"))) (option (codes "sweeps"))
+
+-- there is a value, and of it this holds
+abbrev pub IfGiven : Option Text → (Text → Type 0) → Type 0
+IfGiven (Some text) P = P text
+IfGiven None P = ⊥
+
+-- The values of the five options, by their names, tell what is to be served.
+abbrev pub Tells : (Text → Option Text) → Serve → Type 0
+Tells value serve = IfGiven (value (codes "core")) (λ text. IsCount 65535 text serve.core)
+    × IfGiven (value (codes "abort")) (λ text. IsCount 65535 text serve.abort)
+    × IfGiven (value (codes "portmap")) (λ text. IsCount 65535 text serve.portmap)
+    × IfGiven (value (codes "scenario")) (λ text. serve.scenario.now ≡ text)
+    × IfGiven (value (codes "sweeps")) (λ text. IsCount 4294967295 text serve.sweeps)
+
+-- The command finds no fault in the words, and the values that it matches tell what is to be served.
+abbrev pub Serves : List Text → Serve → Type 0
+Serves words serve = (fault_of serve_command words ≡ []) × Tells (λ name. first_of name (matches_of serve_command words)) serve
+
+-- The one word `replay`; or `serve`, with the options behind it.
+abbrev pub Asks : List Text → Words → Type 0
+Asks words Replay = words ≡ codes "replay" ∷ []
+Asks [] (Server serve) = ⊥
+Asks (word ∷ words) (Server serve) = (word ≡ codes "serve") × Serves (word ∷ words) serve
+
+-- what reading words answers
+abbrev pub Reads : {A : Type 0} → (A → Type 0) → Result A ProgramFault → Type 0
+Reads P (Ok asked) = P asked
+Reads {A} P (Err BadWords) = (asked : A) → P asked → ⊥
+Reads P (Err (Run fault)) = fault ≡ Memory
+Reads P (Err Socket) = ⊥
+
+-- one that is so is found, if there is one
+abbrev pub Finds : {A : Type 0} → (A → Type 0) → Option A → Type 0
+Finds P (Some found) = P found
+Finds {A} P None = (other : A) → P other → ⊥
+
+-- Words that the command refuses are bad, unless memory was refused.
+abbrev pub Refuses : ErrorKind → ProgramFault → Type 0
+Refuses kind fault = ((kind ≡ OutOfMemory) × (fault ≡ Run Memory)) ⊎ ((kind ≡ OutOfMemory → ⊥) × (fault ≡ BadWords))

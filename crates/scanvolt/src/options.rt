@@ -1,0 +1,92 @@
+//! The options of `serve`, and what their values tell.
+
+ghost use Rattle.std.specs.Prelude.{◌≡◌, ◌≤◌, ◌==◌, false, IfOk, slice_index};
+ghost use Rattle.clap.specs.Words.{app_of};
+ghost use Rattle.clap.specs.Matches.{found_of, first_value};
+ghost use Rattle.clap.specs.Walk.{rule_of};
+ghost use Rattle.scanvolt.specs.Words.{option, serve_command, IsCount, IfGiven, Tells, Finds};
+
+use crate::words::Serve;
+use clap::{Arg, ArgAction, ArgMatches, Command};
+use std::alloc::{AllocError, Global};
+
+/// An option with a value, which has to be there.
+fn option<'a>(alloc: Global, name: &'a str) -> Arg<'a>
+    ensures rule { rule_of result ≡ option name.now }
+    ensures local { result.global ≡ false }
+{
+    Arg::new(alloc, name)
+        .long(name)
+        .required(true)
+        .action(ArgAction::Set)
+}
+
+/// The command `serve`.
+pub(crate) fn command<'a>(alloc: Global) -> Result<Command<'a>, AllocError>
+    ensures { IfOk result (λ command. app_of command ≡ serve_command) }
+{
+    Command::new(alloc, "serve")
+        .arg(option(alloc, "core"))?
+        .arg(option(alloc, "abort"))?
+        .arg(option(alloc, "portmap"))?
+        .arg(option(alloc, "scenario"))?
+        .arg(option(alloc, "sweeps"))
+}
+
+/// Whether a word begins with a plus, which stands in front of no number here.
+fn has_plus(word: &str) -> bool
+    ensures { result ≡ (slice_index word.now 0 == 43) }
+{
+    matches!(word.as_bytes(), [b'+', ..])
+}
+
+/// The number from 1 to `most` that 1 to 10 digits spell.
+fn count(word: &str, most: u32) -> Option<u32>
+    ensures { Finds (IsCount most word.now) result }
+{
+    if word.len() > 10 {
+        return None;
+    }
+    if has_plus(word) {
+        return None;
+    }
+    match word.parse::<u32>() {
+        Ok(number) => within(number, most),
+        Err(_) => None,
+    }
+}
+
+/// This number, if it is from 1 to `most`.
+fn within(number: u32, most: u32) -> Option<u32>
+    ensures { Finds (λ n. (n ≡ number) × (1 ≤ n) × (n ≤ most)) result }
+{
+    if (1 <= number) & (number <= most) {
+        Some(number)
+    } else {
+        None
+    }
+}
+
+/// The number that an option's value spells.
+fn count_of(matches: &ArgMatches<'_>, name: &str, most: u32) -> Option<u32>
+    ensures { Finds (λ n. IfGiven (first_value (found_of matches.now) name.now)
+        (λ text. IsCount most text n)) result }
+{
+    match matches.get_str(name) {
+        Some(word) => count(word, most),
+        None => None,
+    }
+}
+
+/// What is to be served, by the values of the options.
+pub(crate) fn told<'a>(matches: &ArgMatches<'a>) -> Option<Serve<'a>>
+    ensures { Finds (Tells (λ name. first_value (found_of matches.now) name)) result }
+{
+    Some(Serve {
+        core: count_of(matches, "core", 65_535)? as u16,
+        abort: count_of(matches, "abort", 65_535)? as u16,
+        portmap: count_of(matches, "portmap", 65_535)? as u16,
+        scenario: matches.get_str("scenario")?,
+        sweeps: count_of(matches, "sweeps", u32::MAX)?,
+    })
+}

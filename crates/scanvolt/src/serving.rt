@@ -1,0 +1,49 @@
+//! Serving sockets.
+
+use crate::fault::ProgramFault;
+use crate::words::Serve;
+use std::alloc::Global;
+use std::fs;
+use std::io::{Error, ErrorKind};
+use sv_net::Watch;
+use sv_replay::{Entry, RunFault, read_scenario};
+use sv_serve::Driver;
+use sv_server::{Config, Server};
+
+/// What a failure of the system is told as: want of memory, or else this.
+fn fault_or(error: &Error, other: ProgramFault) -> ProgramFault {
+    match error.kind() {
+        ErrorKind::OutOfMemory => ProgramFault::Run(RunFault::Memory),
+        _ => other,
+    }
+}
+
+/// Reads a scenario whole.
+fn scenario(rt: &HostRuntime, path: &str) -> Result<Vec<Entry, Global>, ProgramFault> {
+    let text = fs::read(rt, path).map_err(|error| fault_or(
+        &error,
+        ProgramFault::Run(RunFault::Input),
+    ))?;
+    Ok(read_scenario(rt.alloc(), &text)?)
+}
+
+/// Serves sockets on three ports of 127.0.0.1. Once it listens it prints `ready` and the ports.
+pub(crate) fn serve(rt: &HostRuntime, words: &Serve<'_>) -> Result<(), ProgramFault> {
+    let scenario = scenario(rt, words.scenario)?;
+    let config = Config {
+        core: words.core,
+        abort: words.abort,
+        clock: 0,
+    };
+    let server = Server::new(rt.alloc(), config)?;
+    let ports = [words.core, words.abort, words.portmap];
+    let (mut watch, net) = Watch::listen(*rt, rt.alloc(), ports).map_err(|error| fault_or(
+        &error,
+        ProgramFault::Socket,
+    ))?;
+    let mut driver = Driver::new(rt.alloc(), server, net, scenario)?;
+    println!(rt; "ready {} {} {}", words.core, words.abort, words.portmap).map_err(
+        |_| ProgramFault::Run(RunFault::Output),
+    )?;
+    sv_net::serve(rt, &mut watch, &mut driver, words.sweeps).map_err(|_| ProgramFault::Socket)
+}

@@ -1,0 +1,99 @@
+//! Sweep after sweep.
+
+use crate::net::Net;
+use crate::pace::Pace;
+use crate::watch::Watch;
+use std::alloc::Allocator;
+use std::io;
+use std::net::Net as Network;
+use std::time::{Clock, Duration, Instant};
+use sv_serve::Driver;
+use sv_server::Port;
+
+/// How often it looks again without sleeping, at most.
+const LOOKS: u32 = 1_000;
+
+/// Nanoseconds since the beginning, by the machine's clock.
+fn since(clock: &impl Clock, start: Instant) -> io::Result<u64> {
+    let passed = start.elapsed(clock)?;
+    Ok(passed.as_nanos().min(u128::from(u64::MAX)) as u64)
+}
+
+/// Whether a sweep finds something to do on a connection without a report: bytes that wait can be
+/// written, or else a call is there; or bytes may be there that it has room for.
+fn has_work_on<N: Network + Drop, A: Allocator>(driver: &Driver<Net<N, A>, A>, conn: u8) -> bool {
+    let (net, server) = (driver.wire(), driver.server());
+    let Some(socket) = net.socket(Port::Conn(conn)) else {
+        return false;
+    };
+    let goes_on = if server.waiting(Port::Conn(conn)).is_empty() {
+        server.ready(conn)
+    } else {
+        socket.is_writable()
+    };
+    goes_on || socket.is_readable() && server.room(conn) > 0 || has_work_for(driver, conn)
+}
+
+/// The same of the connection's interrupt channel.
+fn has_work_for<N: Network + Drop, A: Allocator>(driver: &Driver<Net<N, A>, A>, conn: u8) -> bool {
+    let server = driver.server();
+    let Some(channel) = driver.wire().socket(Port::Intr(conn)) else {
+        return false;
+    };
+    let wanted = server.dial(conn).is_some() || !server.waiting(Port::Intr(conn)).is_empty();
+    channel.is_writable() && wanted
+}
+
+/// Whether a sweep finds something to do without a report.
+fn has_work<N: Network + Drop, A: Allocator>(driver: &Driver<Net<N, A>, A>) -> bool {
+    driver.wire().is_called() || (0..16).any(|conn| has_work_on(driver, conn))
+}
+
+/// Makes so many sweeps. Behind each it waits until a socket is reported, or the next whole
+/// millisecond; for 50 microseconds after something was reported it looks again without sleeping.
+///
+/// # Errors
+/// Where the system tells no time, or fails to wait.
+pub fn serve<N: Network + Drop, A: Allocator>(
+    clock: &impl Clock,
+    watch: &mut Watch<A>,
+    driver: &mut Driver<Net<N, A>, A>,
+    sweeps: u32,
+) -> io::Result<()> {
+    let start = Instant::now(clock)?;
+    let mut pace = Pace::new();
+    for _ in 0..sweeps {
+        let now = since(clock, start)?;
+        driver.sweep(pace.ticks(now));
+        let reported = if has_work(driver) {
+            watch.wait(driver.wire(), Duration::ZERO)?
+        } else {
+            look(clock, start, watch, driver.wire(), pace)?
+        };
+        if reported {
+            pace.work(now);
+        }
+    }
+    Ok(())
+}
+
+/// Waits until something is reported, or the next whole millisecond, and tells whether something
+/// was.
+fn look<N: Network + Drop, A: Allocator>(
+    clock: &impl Clock,
+    start: Instant,
+    watch: &mut Watch<A>,
+    net: &Net<N, A>,
+    pace: Pace,
+) -> io::Result<bool> {
+    for _ in 0..LOOKS {
+        let now = since(clock, start)?;
+        if !pace.is_eager(now) {
+            return watch.wait(net, pace.rest(now));
+        }
+        if watch.wait(net, Duration::ZERO)? {
+            return Ok(true);
+        }
+    }
+    Ok(false)
+}

@@ -1,0 +1,151 @@
+//! A socket, with what was reported of it.
+
+ghost use Rattle.std.specs.Prelude.{length};
+ghost use Rattle.sv_serve.specs.Heard.{IsWithin};
+
+use mio::event::Event;
+use mio::net::TcpStream;
+use mio::{Interest, Registry, Token};
+use std::cell::Cell;
+use std::io::{self, ErrorKind, Read, Write};
+use sv_serve::Answer;
+
+/// A socket, and what was reported of it since it last answered that it would wait.
+#[derive(Drop)]
+pub(crate) struct Socket {
+    stream: TcpStream,
+    /// Bytes may be there, or the stream's end.
+    readable: Cell<bool>,
+    /// It may take bytes.
+    writable: Cell<bool>,
+    /// The peer sends no more, so nothing more is reported of its bytes.
+    ended: Cell<bool>,
+}
+
+impl Socket {
+    /// A connected socket, of which anything is possible until it is asked.
+    pub(crate) fn connected(stream: TcpStream) -> Socket {
+        let _ = stream.set_nodelay(true);
+        Socket {
+            stream,
+            readable: Cell::new(true),
+            writable: Cell::new(true),
+            ended: Cell::new(false),
+        }
+    }
+
+    /// A socket that began to connect: it can be written to once this is reported.
+    pub(crate) fn connecting(stream: TcpStream) -> Socket {
+        let _ = stream.set_nodelay(true);
+        Socket {
+            stream,
+            readable: Cell::new(false),
+            writable: Cell::new(false),
+            ended: Cell::new(false),
+        }
+    }
+
+    /// Has it reported under this token.
+    pub(crate) fn register(&mut self, registry: &Registry, token: Token) -> io::Result<()> {
+        registry.register(
+            &mut self.stream,
+            token,
+            Interest::READABLE | Interest::WRITABLE,
+        )
+    }
+
+    /// Keeps what was reported.
+    pub(crate) fn report(&self, event: &Event) {
+        let broken = event.is_error();
+        let ended = broken | event.is_read_closed();
+        self.readable
+            .set(self.readable.get() | ended | event.is_readable());
+        self.writable.set(
+            self.writable.get() | broken | event.is_writable() | event.is_write_closed(),
+        );
+        self.ended.set(self.ended.get() | ended);
+    }
+
+    /// Whether bytes may be there, or the stream's end.
+    pub(crate) fn is_readable(&self) -> bool {
+        self.readable.get()
+    }
+
+    /// Whether it may take bytes, or tell whether it is connected.
+    pub(crate) fn is_writable(&self) -> bool {
+        self.writable.get()
+    }
+
+    /// Reads what is there. A read that fills less than the buffer emptied the socket, so more is
+    /// reported again, unless the peer had ended its stream.
+    pub(crate) fn read(&mut self, buffer: &mut [u8]) -> Answer<usize>
+        ensures { IsWithin result (length buffer.old) }
+    {
+        if !self.readable.get() {
+            return Answer::Pending;
+        }
+        match self.stream.read(buffer) {
+            Ok(0) => Answer::Failed,
+            Ok(count) => {
+                self.readable
+                    .set((count == buffer.len()) | self.ended.get());
+                Answer::Got(count)
+            }
+            Err(error) => would_wait(&self.readable, error.kind()),
+        }
+    }
+
+    /// Writes as much as it takes.
+    pub(crate) fn write(&mut self, bytes: &[u8]) -> Answer<usize>
+        ensures { IsWithin result (length bytes.now) }
+    {
+        if !self.writable.get() {
+            return Answer::Pending;
+        }
+        match self.stream.write(bytes) {
+            Ok(count) => {
+                self.writable.set(count == bytes.len());
+                Answer::Got(count)
+            }
+            Err(error) => would_wait(&self.writable, error.kind()),
+        }
+    }
+
+    /// Whether a socket that began to connect is connected.
+    pub(crate) fn answered(&self) -> Answer<()> {
+        if !self.writable.get() {
+            return Answer::Pending;
+        }
+        match (self.stream.take_error(), self.stream.peer_addr()) {
+            (Ok(None), Ok(_)) => Answer::Got(()),
+            (Ok(None), Err(error)) => not_connected(&self.writable, error.kind()),
+            (Ok(Some(_)), _) | (Err(_), _) => Answer::Failed,
+        }
+    }
+}
+
+/// What a call that failed answers: nothing yet where it would wait, and then nothing more is
+/// asked until it is reported.
+fn would_wait(flag: &Cell<bool>, kind: ErrorKind) -> Answer<usize>
+    ensures { IsWithin result 0 }
+{
+    match kind {
+        ErrorKind::WouldBlock => {
+            flag.set(false);
+            Answer::Pending
+        }
+        ErrorKind::Interrupted => Answer::Pending,
+        _ => Answer::Failed,
+    }
+}
+
+/// The same of asking for the peer.
+fn not_connected(flag: &Cell<bool>, kind: ErrorKind) -> Answer<()> {
+    match kind {
+        ErrorKind::NotConnected => {
+            flag.set(false);
+            Answer::Pending
+        }
+        _ => Answer::Failed,
+    }
+}

@@ -1,0 +1,54 @@
+//! Waiting until the system reports something.
+
+use crate::net::Net;
+use mio::{Events, Poll};
+use std::alloc::{Allocator, Global};
+use std::io;
+use std::net::Net as Network;
+use std::time::Duration;
+
+/// How many reports are taken at once.
+const REPORTS: usize = 64;
+
+/// What waits for reports of the system.
+#[derive(Drop)]
+pub struct Watch<A: Allocator = Global> {
+    poll: Poll,
+    events: Events<A>,
+}
+
+impl<A: Allocator + Copy> Watch<A> {
+    /// A watch over no socket, and the sockets that it is to watch: those that come on three ports
+    /// of 127.0.0.1, of the core channel, the abort channel and the port mapper.
+    ///
+    /// # Errors
+    /// Where a port can't be listened on, or memory is refused (`ErrorKind::OutOfMemory`).
+    pub fn listen<N: Network + Drop>(
+        network: N,
+        alloc: A,
+        ports: [u16; 3],
+    ) -> io::Result<(Watch<A>, Net<N, A>)> {
+        let poll = Poll::new(&network)?;
+        let net = Net::listen(network, alloc, &poll, ports)?;
+        let events = Events::with_capacity(alloc, REPORTS)?;
+        Ok((Watch { poll, events }, net))
+    }
+}
+
+impl<A: Allocator> Watch<A> {
+    /// Waits until something is reported, at most so long, and tells whether something was.
+    ///
+    /// # Errors
+    /// Where the system fails to wait.
+    pub(crate) fn wait<N: Network + Drop, B: Allocator>(
+        &mut self,
+        net: &Net<N, B>,
+        limit: Duration,
+    ) -> io::Result<bool> {
+        self.poll.poll(&mut self.events, Some(limit))?;
+        for event in self.events.iter() {
+            net.report(event);
+        }
+        Ok(!self.events.is_empty())
+    }
+}

@@ -1,0 +1,14 @@
+use Rattle.std.proofs.Common.{ℕ, ◌<◌, List}
+use Rattle.std.specs.Prelude.{true}
+use Rattle.sv_server.specs.declared.event.Config.{Config}
+use Rattle.sv_server.specs.declared.event.Port.TheVariants.{Conn}
+use Rattle.sv_server.specs.Event.{PlainEvent}
+use Rattle.sv_server.specs.State.{StandsFor}
+use Rattle.sv_serve.specs.Asked.{IsOpen}
+use Rattle.sv_serve.specs.Moment.{moment}
+use Rattle.sv_serve.proofs.driver.Driver.lowest.Given as goal
+
+-- each connection below the number is open
+abbrev pub invariant-loop-conn : goal.invariant-loop-conn
+invariant-loop-conn g l = (config : Config) (history : List PlainEvent) → StandsFor l.fn.self.server config history
+    → (d : ℕ) → d < l.conn → IsOpen (Conn d) config (moment l.fn.self history) true

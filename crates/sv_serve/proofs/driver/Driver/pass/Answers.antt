@@ -1,0 +1,33 @@
+use Rattle.std.proofs.Common.{refl, arith, ℕ, ◌+◌}
+use Rattle.sv_serve.specs.Moment.{moment}
+use Rattle.sv_serve.specs.Moment.{◌then◌}
+use Rattle.sv_serve.specs.Sweep.{Plays, TicksOnce}
+use Rattle.sv_serve.proofs.Joined.{one_more, as_many}
+use Rattle.sv_serve.proofs.driver.Driver.pass.Goals as goal
+
+pub loop-init : goal.loop-init
+loop-init g c = λ config history stands. (history, stands, refl)
+
+pub loop-preserved : goal.loop-preserved
+loop-preserved g c = λ config history stands.
+    let (h0, s0, p0) = c.loop.invariant config history stands in
+    let (h1, s1, p1) = c.play.ensures config h0 s0 in
+    let (h2, s2, p2) = c.tick.ensures config h1 s1 in (
+      h2,
+      s2,
+      one_more (λ (i : ℕ). Plays then TicksOnce) config c.loop.counter (c.loop.counter + 1) _ (moment c.loop.self h0) _ (omega arith)
+          p0 (moment c.play.new.self h1, p1, p2),
+    )
+
+pub returns : goal.returns
+returns g c = λ config history stands.
+    let (h0, s0, p0) = c.loop.invariant config history stands in
+    let (h1, s1, p1) = c.play-2.ensures config h0 s0 in (
+      h1,
+      s1,
+      (
+        moment c.loop.self h0,
+        as_many (λ (i : ℕ). Plays then TicksOnce) config c.loop.counter c.args.ticks _ (moment c.loop.self h0) (omega arith) p0,
+        p1,
+      ),
+    )

@@ -1,0 +1,31 @@
+use Rattle.std.proofs.Common.{refl, rules, drop, ◌+◌, arith}
+use Rattle.std.proofs.lemmas.Option.{slice_get_read}
+use Rattle.sv_serve.proofs.Joined.{from_here}
+use Rattle.sv_server.specs.Event.{plain}
+use Rattle.sv_server.specs.History.{history_after}
+use Rattle.sv_serve.proofs.driver.Driver.play_one.Goals as goal
+
+pub returns-clause-goes : goal.returns-clause-goes
+returns-clause-goes g c = rw (← c.self.view_is) (λ config history stands.
+    let (log, is_log, answers) = c.apply.ensures.answers config history stands in
+    let seen = rw c.deref.ensures.value at c.in-Some.ensures.lookup in
+    let after = history_after (plain c.event-event.result) c.apply.result history in (
+      after,
+      c.apply.ensures.stands config history stands,
+      (
+        c.in-Some.entry.now,
+        drop (c.self.inside.next + 1) c.self.inside.scenario.items,
+        record {
+          wire = c.self.inside.wire;
+          history = after;
+          called = c.self.inside.called;
+          ahead = drop c.self.inside.next c.self.inside.scenario.items;
+          ticks = c.self.inside.ticks;
+        },
+        from_here c.self.inside.scenario.items c.self.inside.next (c.self.inside.next + 1) c.in-Some.entry.now (omega arith)
+            (slice_get_read c.self.inside.scenario.items _ c.self.inside.next c.in-Some.entry.now refl seen.3.0 seen.1),
+        search (rules, c.if-entry-self.false),
+        rw (← c.event-event.ensures) (c.apply.result, (log, is_log, answers, refl)),
+        refl,
+      ),
+    ))

@@ -1,0 +1,41 @@
+use Rattle.std.proofs.Common.{refl, rules, drop, inl, inr}
+use Rattle.std.proofs.lemmas.List.{nil_from_length}
+use Rattle.sv_serve.proofs.driver.Driver.write.Goals as goal
+
+pub returns-then-is_empty : goal.returns-then-is_empty
+returns-then-is_empty g c = λ config history stands. (
+  history,
+  stands,
+  (
+    c.waiting-bytes.result.now,
+    c.waiting-bytes.ensures.waiting config history (rw (← c.self.view_is) at stands),
+    inl (nil_from_length _ (search (rules, c.is_empty.ensures, c.if-is_empty.true)), refl),
+  ),
+)
+
+pub returns : goal.returns
+returns g c = rw (← c.self.view_is) (λ config history stands.
+    let (h0, s0, p0) = c.leave.ensures config history stands in (
+      h0,
+      s0,
+      (
+        c.waiting-bytes.result.now,
+        c.waiting-bytes.ensures.waiting config history stands,
+        inr (
+          search rules,
+          c.write-answer.result,
+          c.write-answer.ensures.within,
+          (
+            record {
+              wire = c.write-answer.new.self;
+              history = history;
+              called = c.self.inside.called;
+              ahead = drop c.self.inside.next c.self.inside.scenario.items;
+              ticks = c.self.inside.ticks;
+            },
+            (c.write-answer.new.self, c.write-answer.ensures.heard, refl),
+            p0,
+          ),
+        ),
+      ),
+    ))

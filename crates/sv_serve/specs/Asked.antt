@@ -1,0 +1,41 @@
+-- What the server answers at a moment, by what happened to it.
+use Rattle.std.specs.Prelude.{ℕ, ◌<◌, not, Bool, true, false, List, Option, Some, None}
+use Rattle.sv_server.specs.declared.event.Config.{Config}
+use Rattle.sv_server.specs.declared.event.Dial.{Dial}
+use Rattle.sv_server.specs.declared.event.Port.{Port}
+use Rattle.sv_server.specs.declared.event.Port.TheVariants.{Conn}
+use Rattle.sv_server.specs.Act.{of}
+use Rattle.sv_server.specs.Connection.{room, is_idle, is_faulted}
+use Rattle.sv_server.specs.Interrupts.{dial_of}
+use Rattle.sv_server.specs.History.{is_port_shut}
+use Rattle.sv_server.specs.Asking.{Answered, WaitOn}
+use Rattle.sv_serve.specs.Moment.{Moment}
+
+-- whether a connection or an interrupt channel is open
+abbrev pub IsOpen : {W : Type 0} → Port → Config → Moment W → Bool → Type 0
+IsOpen port config at answer = Answered (λ log. not (is_port_shut port log)) config at.history answer
+
+-- for how many bytes a connection has room
+abbrev pub HasRoom : {W : Type 0} → ℕ → Config → Moment W → ℕ → Type 0
+HasRoom c config at answer = Answered (λ log. room (of c log)) config at.history answer
+
+-- whether a call is there to be taken
+abbrev pub IsReady : {W : Type 0} → ℕ → Config → Moment W → Bool → Type 0
+IsReady c config at answer = Answered (λ log. not (is_idle (of c log))) config at.history answer
+
+-- whether it only waits to be closed
+abbrev pub IsFaulted : {W : Type 0} → ℕ → Config → Moment W → Bool → Type 0
+IsFaulted c config at answer = Answered (λ log. is_faulted (of c log)) config at.history answer
+
+-- whom it wants to be called
+abbrev pub Wants : {W : Type 0} → ℕ → Config → Moment W → Option Dial → Type 0
+Wants c config at answer = Answered (λ log. dial_of c log) config at.history answer
+
+-- the bytes that wait
+abbrev pub Waits : {W : Type 0} → Port → Config → Moment W → List ℕ → Type 0
+Waits port config at bytes = WaitOn port config at.history bytes
+
+-- The lowest number of sixteen of which no connection is open, or none is.
+abbrev pub IsLowest : {W : Type 0} → Option ℕ → Config → Moment W → Type 0
+IsLowest (Some c) config at = (c < 16) × IsOpen (Conn c) config at false × ((d : ℕ) → d < c → IsOpen (Conn d) config at true)
+IsLowest None config at = (d : ℕ) → d < 16 → IsOpen (Conn d) config at true

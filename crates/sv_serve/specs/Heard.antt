@@ -1,0 +1,34 @@
+-- What a wire is asked, and what it answers.
+use Rattle.std.specs.Prelude.{ℕ, ◌≤◌, List, length, take, Option, ⊤}
+use Rattle.sv_server.specs.declared.event.Role.{Role}
+use Rattle.sv_server.specs.declared.event.Port.{Port}
+use Rattle.sv_server.specs.declared.event.Dial.{Dial}
+use Rattle.sv_serve.specs.declared.wire.Answer.{Answer}
+use Rattle.sv_serve.specs.declared.wire.Answer.TheVariants.{Got, Pending, Failed}
+
+-- one call of a wire, with its answer
+pub data Heard : Type 0 where
+  WasAccepted : (role : Role) (conn : Option ℕ) (answer : Answer ⊤) → Heard
+  WasRead : (conn : ℕ) (answer : Answer (List ℕ)) → Heard
+  WasWritten : (port : Port) (bytes : List ℕ) (answer : Answer ℕ) → Heard
+  WasDialed : (conn : ℕ) (dial : Dial) (answer : Answer ⊤) → Heard
+  PeerAnswered : (conn : ℕ) (answer : Answer ⊤) → Heard
+  WasClosed : (port : Port) → Heard
+
+-- so many bytes of a buffer were read
+abbrev pub bytes_of : Answer ℕ → List ℕ → Answer (List ℕ)
+bytes_of (Got n) buffer = Got (take n buffer)
+bytes_of Pending buffer = Pending
+bytes_of Failed buffer = Failed
+
+-- at most so many were read or written
+abbrev pub IsWithin : Answer ℕ → ℕ → Type 0
+IsWithin (Got n) most = n ≤ most
+IsWithin Pending most = ⊤
+IsWithin Failed most = ⊤
+
+-- a piece of at most so many bytes
+abbrev pub IsPiece : Answer (List ℕ) → ℕ → Type 0
+IsPiece (Got bytes) most = length bytes ≤ most
+IsPiece Pending most = ⊤
+IsPiece Failed most = ⊤

@@ -1,0 +1,5 @@
+pub mod Heard
+pub mod Moment
+pub mod Asked
+pub mod Steps
+pub mod Sweep

@@ -1,0 +1,61 @@
+//! Accepting connections.
+
+ghost use Rattle.std.specs.Prelude.{◌≡◌, ◌<◌, List, IfSome};
+ghost use Rattle.sv_server.specs.declared.event.Config.{Config};
+ghost use Rattle.sv_server.specs.Event.{PlainEvent};
+ghost use Rattle.sv_server.specs.State.{StandsFor};
+ghost use Rattle.sv_serve.specs.Asked.{IsLowest};
+ghost use Rattle.sv_serve.specs.Heard.{WasAccepted};
+ghost use Rattle.sv_serve.specs.Moment.{Goes, moment};
+ghost use Rattle.sv_serve.specs.Steps.{Hears, Accepts, Opens};
+
+use crate::driver::{CONNECTIONS, Driver};
+use crate::wire::{Answer, Wire};
+use std::alloc::Allocator;
+use sv_server::{Event, Port, Role};
+
+impl<W: Wire + Drop, A: Allocator> Driver<W, A> {
+    /// Takes a connection for this purpose, if one comes; without a free number it is dropped.
+    pub(crate) fn accept(&mut self, role: Role)
+        ensures { Goes (Accepts W.hears role) self.old self.new }
+    {
+        let conn = self.lowest();
+        let answer = self.greet(role, conn);
+        self.open(role, conn, answer);
+    }
+
+    /// Takes a connection under this number.
+    fn greet(&mut self, role: Role, conn: Option<u8>) -> Answer<()>
+        ensures { Goes (Hears W.hears (WasAccepted role conn result)) self.old self.new }
+    {
+        self.wire.accept(role, conn)
+    }
+
+    /// The lowest number of which no connection is open.
+    fn lowest(&self) -> Option<u8>
+        ensures { (config : Config) (history : List PlainEvent)
+            → StandsFor self.now.server config history
+            → IsLowest result config (moment self.now history) }
+    {
+        for conn in 0..CONNECTIONS {
+            if !self.server.is_open(Port::Conn(conn)) {
+                return Some(conn);
+            }
+        }
+        None
+    }
+
+    /// Opens what came.
+    fn open(&mut self, role: Role, conn: Option<u8>, answer: Answer<()>)
+        ensures { Goes (Opens role conn answer) self.old self.new }
+    {
+        match (conn, answer) {
+            (Some(conn), Answer::Got(())) => {
+                let _ = self.give(Event::Open { conn, role });
+            }
+            (Some(_), Answer::Pending) => {}
+            (Some(_), Answer::Failed) => {}
+            (None, _) => {}
+        }
+    }
+}

@@ -1,0 +1,148 @@
+//! Calling the peers of interrupt channels.
+
+ghost use Rattle.std.specs.Prelude.{◌≡◌, ◌<◌, slice_index_or, Some, None};
+ghost use Rattle.sv_serve.specs.Heard.{WasDialed, PeerAnswered};
+ghost use Rattle.sv_serve.specs.Moment.{Goes, Each};
+ghost use Rattle.sv_serve.specs.Steps.{Hears, is_same, LetsGo, KeepsCall, Rings, Picks, CallsFor, Calls, Dials, Notes};
+
+use crate::driver::{CONNECTIONS, Driver};
+use crate::wire::{Answer, Wire};
+use std::alloc::Allocator;
+use sv_server::{Dial, Event, Port};
+
+/// Whether both are there, and the same.
+fn is_same(first: Option<Dial>, second: Option<Dial>) -> bool
+    ensures { result ≡ is_same first second }
+{
+    match (first, second) {
+        (Some(first), Some(second)) => (first.addr == second.addr) & (first.port == second.port),
+        (Some(_), None) => false,
+        (None, _) => false,
+    }
+}
+
+impl<W: Wire + Drop, A: Allocator> Driver<W, A> {
+    /// Calls each peer that is wanted, and lets go each that isn't any more.
+    pub(crate) fn dial_each(&mut self)
+        ensures { Goes (Each 16 (Dials W.hears)) self.old self.new }
+    {
+        for conn in 0..CONNECTIONS {
+            self.dial(conn);
+        }
+    }
+
+    /// Calls the peer of a connection, or lets it go.
+    fn dial(&mut self, conn: u8)
+        requires { conn < 16 }
+        ensures { Goes (Dials W.hears conn) self.old self.new }
+    {
+        self.let_go(conn);
+        self.call(conn);
+    }
+
+    /// Lets the peer of a connection go, unless its channel is open or it is still wanted.
+    fn let_go(&mut self, conn: u8)
+        requires { conn < 16 }
+        ensures { Goes (LetsGo W.hears conn) self.old self.new }
+    {
+        let open = self.server.is_open(Port::Intr(conn));
+        let wanted = self.server.dial(conn);
+        let called = self.called[usize::from(conn)];
+        self.keep_call(conn, open | is_same(wanted, called));
+    }
+
+    /// Hangs up, unless this is so.
+    fn keep_call(&mut self, conn: u8, keeps: bool)
+        requires { conn < 16 }
+        ensures { Goes (KeepsCall W.hears conn keeps) self.old self.new }
+    {
+        if keeps {
+            return;
+        }
+        self.hang_up(conn);
+    }
+
+    /// Calls the peer that is wanted, or asks whether it answered.
+    fn call(&mut self, conn: u8)
+        requires { conn < 16 }
+        ensures { Goes (Calls W.hears conn) self.old self.new }
+    {
+        let wanted = self.server.dial(conn);
+        let called = self.called[usize::from(conn)];
+        self.call_for(conn, wanted, called);
+    }
+
+    /// Calls a peer that wasn't called, or asks whether it answered.
+    fn call_for(&mut self, conn: u8, wanted: Option<Dial>, called: Option<Dial>)
+        requires { conn < 16 }
+        ensures { Goes (CallsFor W.hears conn wanted called) self.old self.new }
+    {
+        match (wanted, called) {
+            (None, _) => {}
+            (Some(dial), None) => {
+                let answer = self.ring_up(conn, dial);
+                self.ring(conn, dial, answer);
+            }
+            (Some(_), Some(_)) => {
+                let answer = self.listen(conn);
+                self.pick(conn, answer);
+            }
+        }
+    }
+
+    /// Calls a peer.
+    fn ring_up(&mut self, conn: u8, dial: Dial) -> Answer<()>
+        ensures { Goes (Hears W.hears (WasDialed conn dial result)) self.old self.new }
+    {
+        self.wire.dial(conn, dial)
+    }
+
+    /// Asks whether a peer answered.
+    fn listen(&mut self, conn: u8) -> Answer<()>
+        ensures { Goes (Hears W.hears (PeerAnswered conn result)) self.old self.new }
+    {
+        self.wire.dialed(conn)
+    }
+
+    /// What came of calling a peer happens.
+    fn ring(&mut self, conn: u8, dial: Dial, answer: Answer<()>)
+        requires { conn < 16 }
+        ensures { Goes (Rings conn dial answer) self.old self.new }
+    {
+        match answer {
+            Answer::Got(()) => {
+                self.note(conn, dial);
+                let _ = self.give(Event::Dialed { conn, ok: true });
+            }
+            Answer::Pending => self.note(conn, dial),
+            Answer::Failed => {
+                let _ = self.give(Event::Dialed { conn, ok: false });
+            }
+        }
+    }
+
+    /// Keeps whom it called for a connection.
+    fn note(&mut self, conn: u8, dial: Dial)
+        requires { conn < 16 }
+        ensures { Goes (Notes conn (Some dial)) self.old self.new }
+    {
+        self.called[usize::from(conn)] = Some(dial);
+    }
+
+    /// What came of waiting for a peer happens.
+    fn pick(&mut self, conn: u8, answer: Answer<()>)
+        requires { conn < 16 }
+        ensures { Goes (Picks W.hears conn answer) self.old self.new }
+    {
+        match answer {
+            Answer::Got(()) => {
+                let _ = self.give(Event::Dialed { conn, ok: true });
+            }
+            Answer::Pending => {}
+            Answer::Failed => {
+                self.hang_up(conn);
+                let _ = self.give(Event::Dialed { conn, ok: false });
+            }
+        }
+    }
+}

@@ -1,0 +1,82 @@
+//! Closing connections and interrupt channels.
+
+ghost use Rattle.std.specs.Prelude.{◌<◌, None};
+ghost use Rattle.sv_serve.specs.Heard.{WasClosed};
+ghost use Rattle.sv_serve.specs.Moment.{Goes, Each};
+ghost use Rattle.sv_serve.specs.Steps.{Hears, Notes, HangsUp, Closes, ClosesIf, Ends};
+
+use crate::driver::{CONNECTIONS, Driver};
+use crate::wire::Wire;
+use std::alloc::Allocator;
+use sv_server::{Event, Port};
+
+impl<W: Wire + Drop, A: Allocator> Driver<W, A> {
+    /// Closes the socket of a connection's interrupt channel, where a peer was called.
+    pub(crate) fn hang_up(&mut self, conn: u8)
+        requires { conn < 16 }
+        ensures { Goes (HangsUp W.hears conn) self.old self.new }
+    {
+        match self.called[usize::from(conn)] {
+            None => {}
+            Some(_) => {
+                self.shut(Port::Intr(conn));
+                self.forget(conn);
+            }
+        }
+    }
+
+    /// Closes a socket.
+    fn shut(&mut self, port: Port)
+        ensures { Goes (Hears W.hears (WasClosed port)) self.old self.new }
+    {
+        self.wire.close(port);
+    }
+
+    /// Keeps no longer whom it called for a connection.
+    fn forget(&mut self, conn: u8)
+        requires { conn < 16 }
+        ensures { Goes (Notes conn None) self.old self.new }
+    {
+        self.called[usize::from(conn)] = None;
+    }
+
+    /// Closes a connection, and its interrupt channel.
+    pub(crate) fn close(&mut self, conn: u8)
+        requires { conn < 16 }
+        ensures { Goes (Closes W.hears conn) self.old self.new }
+    {
+        self.shut(Port::Conn(conn));
+        self.hang_up(conn);
+        let port = Port::Conn(conn);
+        let _ = self.give(Event::Close { port });
+    }
+
+    /// Closes each connection that only waits for it, once nothing waits on it.
+    pub(crate) fn end_each(&mut self)
+        ensures { Goes (Each 16 (Ends W.hears)) self.old self.new }
+    {
+        for conn in 0..CONNECTIONS {
+            self.end(conn);
+        }
+    }
+
+    /// Closes a connection that only waits for it, once nothing waits on it.
+    fn end(&mut self, conn: u8)
+        requires { conn < 16 }
+        ensures { Goes (Ends W.hears conn) self.old self.new }
+    {
+        let faulted = self.server.faulted(conn);
+        let empty = self.server.waiting(Port::Conn(conn)).is_empty();
+        self.close_if(conn, faulted & empty);
+    }
+
+    /// Closes a connection, if this is so.
+    pub(crate) fn close_if(&mut self, conn: u8, so: bool)
+        requires { conn < 16 }
+        ensures { Goes (ClosesIf W.hears conn so) self.old self.new }
+    {
+        if so {
+            self.close(conn);
+        }
+    }
+}

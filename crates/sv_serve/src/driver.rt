@@ -1,0 +1,103 @@
+//! A driver: a server, a wire, and a scenario.
+
+ghost use Rattle.std.specs.Prelude.{◌≡◌, replicate, None, IfOk};
+ghost use Rattle.sv_server.specs.Event.{plain};
+ghost use Rattle.sv_serve.specs.Moment.{Goes};
+ghost use Rattle.sv_serve.specs.Steps.{Given};
+
+use crate::wire::Wire;
+use std::alloc::{AllocError, Allocator, Global};
+use std::marker::Model;
+use sv_replay::Entry;
+use sv_server::{Dial, Did, Event, Refused, Server};
+
+/// How many connections there may be.
+pub(crate) const CONNECTIONS: u8 = 16;
+/// How many bytes are read at once, at most.
+const PIECE: usize = 16_384;
+
+/// A server behind a wire, at which a scenario is played.
+#[derive(Drop)]
+pub struct Driver<W: Wire + Drop, A: Allocator = Global> {
+    pub(crate) server: Server<A>,
+    pub(crate) wire: W,
+    /// Whom it called for the interrupt channel of each connection.
+    pub(crate) called: [Option<Dial>; 16],
+    pub(crate) scenario: Vec<Entry, A>,
+    /// How many entries of the scenario were played.
+    pub(crate) next: usize,
+    /// How many milliseconds passed.
+    pub(crate) ticks: u64,
+    /// Where bytes are read into.
+    pub(crate) buffer: Vec<u8, A>,
+}
+
+impl<W: Wire + Drop, A: Allocator> Model for Driver<W, A> {
+    ghost use Rattle.sv_serve.specs.Moment.{Driving};
+    ghost use Rattle.std.specs.Prelude.{◌≡◌, ◌≤◌, drop, length};
+
+    ghost Value = { Driving W };
+
+    ghost view = { λ a. record {
+      server = a.server;
+      wire = a.wire;
+      called = a.called;
+      ahead = drop a.next a.scenario.items;
+      ticks = a.ticks;
+    } };
+
+    ghost invariant = { λ a. (length a.called ≡ 16) × (a.next ≤ length a.scenario.items) };
+}
+
+impl<W: Wire + Drop, A: Allocator> Driver<W, A> {
+    /// A driver that called nobody, at the beginning of its scenario. Takes the memory into which
+    /// is read.
+    ///
+    /// # Errors
+    /// Where memory is refused.
+    pub fn new(
+        alloc: A,
+        server: Server<A>,
+        wire: W,
+        scenario: Vec<Entry, A>,
+    ) -> Result<Driver<W, A>, AllocError>
+        ensures { IfOk result (λ driver. driver ≡ record {
+          server = server;
+          wire = wire;
+          called = replicate 16 None;
+          ahead = scenario.items;
+          ticks = 0;
+        }) }
+    {
+        Ok(Driver {
+            server,
+            wire,
+            called: [None; 16],
+            scenario,
+            next: 0,
+            ticks: 0,
+            buffer: vec![in alloc; 0; PIECE]?,
+        })
+    }
+
+    /// Its wire.
+    pub fn wire(&self) -> &W
+        ensures { result.now ≡ self.now.wire }
+    {
+        &self.wire
+    }
+
+    /// Its server.
+    pub fn server(&self) -> &Server<A>
+        ensures { result.now ≡ self.now.server }
+    {
+        &self.server
+    }
+
+    /// Gives an event to the server.
+    pub(crate) fn give(&mut self, event: Event<'_>) -> Result<Did, Refused>
+        ensures { Goes (Given (plain event.entry) result) self.old self.new }
+    {
+        self.server.apply(event)
+    }
+}

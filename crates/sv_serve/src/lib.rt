@@ -1,0 +1,17 @@
+//! What stands between a server and its sockets: in a sweep each socket is asked once, and what it
+//! answers happens to the server.
+#![tactic(auto)]
+
+mod accepting;
+mod calling;
+mod closing;
+mod driver;
+mod passing;
+mod reading;
+mod sweeping;
+mod turning;
+mod wire;
+mod writing;
+
+pub use driver::Driver;
+pub use wire::{Answer, Wire};

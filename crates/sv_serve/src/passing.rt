@@ -1,0 +1,69 @@
+//! Time passes, and the scenario is played.
+
+ghost use Rattle.std.specs.Prelude.{◌≡◌, ◌<◌, length, true};
+ghost use Rattle.sv_serve.specs.Moment.{Goes};
+ghost use Rattle.sv_serve.specs.Sweep.{PlaysIf, Plays, TicksOnce, Counts, Passes};
+
+use crate::driver::Driver;
+use crate::wire::Wire;
+use std::alloc::Allocator;
+use sv_server::{Did, Event, Refused};
+
+impl<W: Wire + Drop, A: Allocator> Driver<W, A> {
+    /// Lets so many milliseconds pass, with what is due before each of them and after the last one.
+    pub(crate) fn pass(&mut self, ticks: u32)
+        ensures { Goes (Passes ticks) self.old self.new }
+    {
+        for _ in 0..ticks {
+            self.play();
+            self.tick();
+        }
+        self.play();
+    }
+
+    /// Plays what is due.
+    fn play(&mut self)
+        ensures { Goes Plays self.old self.new }
+    {
+        while self.play_one() {}
+    }
+
+    /// Plays the next entry, if it is due; false where it isn't.
+    fn play_one(&mut self) -> bool
+        ensures goes { Goes (PlaysIf result) self.old self.new }
+        ensures measure { result ≡ true → length self.new.ahead < length self.old.ahead }
+    {
+        let Some(entry) = self.scenario.get(self.next) else {
+            return false;
+        };
+        if entry.tick > self.ticks {
+            return false;
+        }
+        let event = entry.stimulus.event();
+        self.next += 1;
+        let _ = self.server.apply(event);
+        true
+    }
+
+    /// Lets a millisecond pass.
+    fn tick(&mut self)
+        ensures { Goes TicksOnce self.old self.new }
+    {
+        let answer = self.give(Event::Tick);
+        self.count(answer);
+    }
+
+    /// Counts a millisecond, if it wasn't refused.
+    fn count(&mut self, answer: Result<Did, Refused>)
+        ensures { Goes (Counts answer) self.old self.new }
+    {
+        match answer {
+            Ok(_) => {
+                if self.ticks != u64::MAX {
+                    self.ticks += 1;
+                }
+            }
+            Err(_) => {}
+        }
+    }
+}

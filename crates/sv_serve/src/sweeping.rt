@@ -1,0 +1,38 @@
+//! A sweep.
+
+ghost use Rattle.sv_serve.specs.Moment.{Goes};
+ghost use Rattle.sv_serve.specs.Sweep.{Sweeps};
+
+use crate::driver::Driver;
+use crate::wire::Wire;
+use std::alloc::Allocator;
+use sv_server::Role;
+
+impl<W: Wire + Drop, A: Allocator> Driver<W, A> {
+    /// Asks each socket once, and lets what it answers happen, and so many milliseconds pass.
+    ///
+    /// First a connection is accepted on the core channel, one on the abort channel and one on the
+    /// port mapper, each under the lowest free number of 0 to 15. Then, by rising number, each
+    /// connection is read, at most for as many bytes as it has room; each takes a call, if it has
+    /// one whole; the peer of each wanted interrupt channel is called. Then time passes: what is
+    /// due of the scenario happens before each millisecond and after the last one. Then what waits
+    /// is written, on connections first. Last, connections that only wait to be closed, and on
+    /// which no byte waits, are closed.
+    ///
+    /// Where reading or writing fails, the connection or the channel is closed; where a call finds
+    /// no memory, its connection is.
+    pub fn sweep(&mut self, ticks: u32)
+        ensures { Goes (Sweeps W.hears ticks) self.old self.new }
+    {
+        self.accept(Role::Core);
+        self.accept(Role::Abort);
+        self.accept(Role::Portmap);
+        self.read_each();
+        self.turn_each();
+        self.dial_each();
+        self.pass(ticks);
+        self.write_connections();
+        self.write_channels();
+        self.end_each();
+    }
+}

@@ -1,0 +1,60 @@
+//! Taking calls.
+
+ghost use Rattle.std.specs.Prelude.{◌≡◌, ◌<◌};
+ghost use Rattle.sv_server.specs.Print.{is_no_memory};
+ghost use Rattle.sv_serve.specs.Moment.{Goes, Each};
+ghost use Rattle.sv_serve.specs.Steps.{Turns, Takes, EndsTurn};
+
+use crate::driver::{CONNECTIONS, Driver};
+use crate::wire::Wire;
+use std::alloc::Allocator;
+use sv_server::{Did, Event, Refused};
+
+/// Whether this is want of memory.
+fn is_no_memory(refused: Refused) -> bool
+    ensures { result ≡ is_no_memory refused }
+{
+    matches!(refused, Refused::NoMemory)
+}
+
+impl<W: Wire + Drop, A: Allocator> Driver<W, A> {
+    /// Takes a call of each connection that has one.
+    pub(crate) fn turn_each(&mut self)
+        ensures { Goes (Each 16 (Turns W.hears)) self.old self.new }
+    {
+        for conn in 0..CONNECTIONS {
+            self.turn(conn);
+        }
+    }
+
+    /// Takes a call of a connection, if it has one.
+    fn turn(&mut self, conn: u8)
+        requires { conn < 16 }
+        ensures { Goes (Turns W.hears conn) self.old self.new }
+    {
+        let ready = self.server.ready(conn);
+        self.take(conn, ready);
+    }
+
+    /// Takes a call of a connection, if this is so.
+    fn take(&mut self, conn: u8, ready: bool)
+        requires { conn < 16 }
+        ensures { Goes (Takes W.hears conn ready) self.old self.new }
+    {
+        if ready {
+            let answer = self.give(Event::Turn { conn });
+            self.end_turn(conn, answer);
+        }
+    }
+
+    /// Closes a connection whose call found no memory.
+    fn end_turn(&mut self, conn: u8, answer: Result<Did, Refused>)
+        requires { conn < 16 }
+        ensures { Goes (EndsTurn W.hears conn answer) self.old self.new }
+    {
+        match answer {
+            Ok(_) => {}
+            Err(refused) => self.close_if(conn, is_no_memory(refused)),
+        }
+    }
+}

@@ -1,0 +1,51 @@
+//! What carries bytes: sockets, or lists of answers in a test.
+
+ghost use Rattle.std.specs.Prelude.{length, option_map};
+
+use sv_server::{Dial, Port, Role};
+
+/// What a wire answers at once.
+#[derive(Clone, Copy, Debug, PartialEq, Eq)]
+pub enum Answer<T> {
+    /// This came of it.
+    Got(T),
+    /// Nothing yet: ask again.
+    Pending,
+    /// It failed, or the stream came to its end.
+    Failed,
+}
+
+/// What carries the bytes of connections and interrupt channels. No call waits.
+pub trait Wire {
+    ghost use Rattle.sv_serve.specs.Heard.{Heard, WasAccepted, WasRead, WasWritten, WasDialed, PeerAnswered, WasClosed, bytes_of, IsWithin};
+    ghost use Rattle.std.specs.Prelude.{⊤};
+
+    /// What a call and its answer lead to; of a wire that is a system's nothing is known.
+    ghost hears: { Self → Heard → Self → Type 0 } = { λ before heard after. ⊤ };
+
+    /// Takes a connection for this purpose, under this number; under none it is dropped.
+    fn accept(&mut self, role: Role, conn: Option<u8>) -> Answer<()>
+        ensures { hears self.old (WasAccepted role conn result) self.new };
+
+    /// Reads bytes of a connection, at most as many as the buffer has.
+    fn read(&mut self, conn: u8, buffer: &mut [u8]) -> Answer<usize>
+        ensures within { IsWithin result (length buffer.old) }
+        ensures heard { hears self.old (WasRead conn (bytes_of result buffer.new)) self.new };
+
+    /// Writes bytes to a connection or an interrupt channel, and tells how many of them it took.
+    fn write(&mut self, port: Port, bytes: &[u8]) -> Answer<usize>
+        ensures within { IsWithin result (length bytes.now) }
+        ensures heard { hears self.old (WasWritten port bytes.now result) self.new };
+
+    /// Calls a peer for the interrupt channel of a connection.
+    fn dial(&mut self, conn: u8, dial: Dial) -> Answer<()>
+        ensures { hears self.old (WasDialed conn dial result) self.new };
+
+    /// Whether the peer that was called for a connection answered.
+    fn dialed(&mut self, conn: u8) -> Answer<()>
+        ensures { hears self.old (PeerAnswered conn result) self.new };
+
+    /// Closes the socket of a connection or an interrupt channel.
+    fn close(&mut self, port: Port)
+        ensures { hears self.old (WasClosed port) self.new };
+}

@@ -1,0 +1,66 @@
+//! Writing what waits.
+
+ghost use Rattle.std.specs.Prelude.{◌≡◌, ◌<◌, ◌≤◌, ℕ};
+ghost use Rattle.sv_server.specs.declared.event.Port.TheVariants.{Conn, Intr};
+ghost use Rattle.sv_server.specs.Event.{port_number};
+ghost use Rattle.sv_serve.specs.Moment.{Goes, Each};
+ghost use Rattle.sv_serve.specs.Steps.{Writes, Leaves};
+
+use crate::driver::{CONNECTIONS, Driver};
+use crate::wire::{Answer, Wire};
+use std::alloc::Allocator;
+use sv_server::{Event, Port};
+
+impl<W: Wire + Drop, A: Allocator> Driver<W, A> {
+    /// Writes what waits on each connection.
+    pub(crate) fn write_connections(&mut self)
+        ensures { Goes (Each 16 (λ (c : ℕ). Writes W.hears (Conn c))) self.old self.new }
+    {
+        for conn in 0..CONNECTIONS {
+            self.write(Port::Conn(conn));
+        }
+    }
+
+    /// Writes what waits on each interrupt channel.
+    pub(crate) fn write_channels(&mut self)
+        ensures { Goes (Each 16 (λ (c : ℕ). Writes W.hears (Intr c))) self.old self.new }
+    {
+        for conn in 0..CONNECTIONS {
+            self.write(Port::Intr(conn));
+        }
+    }
+
+    /// Writes what waits on a port, once.
+    fn write(&mut self, port: Port)
+        requires { port_number port < 16 }
+        ensures { Goes (Writes W.hears port) self.old self.new }
+    {
+        let bytes = self.server.waiting(port);
+        if bytes.is_empty() {
+            return;
+        }
+        let answer = self.wire.write(port, bytes);
+        self.leave(port, answer);
+    }
+
+    /// Lets go what was taken, or closes a port at which writing failed.
+    fn leave(&mut self, port: Port, answer: Answer<usize>)
+        requires number { port_number port < 16 }
+        requires counted { (n : ℕ) → answer ≡ Answer.Got n → n < 4294967296 }
+        ensures { Goes (Leaves W.hears port answer) self.old self.new }
+    {
+        match (answer, port) {
+            (Answer::Got(count), _) => {
+                let count = count as u32;
+                let _ = self.give(Event::Took { port, count });
+            }
+            (Answer::Pending, _) => {}
+            (Answer::Failed, Port::Conn(conn)) => self.close(conn),
+            (Answer::Failed, Port::Intr(conn)) => {
+                self.hang_up(conn);
+                let port = Port::Intr(conn);
+                let _ = self.give(Event::Close { port });
+            }
+        }
+    }
+}

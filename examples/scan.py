@@ -1,0 +1,64 @@
+#!/usr/bin/python3
+"""A scan and a limit, with PyVISA over VXI-11: scan.py [ADDRESS]
+
+The instrument's port mapper has to answer at port 111, which PyVISA-py always asks.
+"""
+import sys
+import time
+
+import pyvisa
+
+REQUEST = 64    # bit 6 of the status byte: the instrument requests service
+
+
+def wait_for_request(meter, seconds=30):
+    """Polls until the instrument requests service. Gives the status byte; a poll clears bit 6."""
+    end = time.monotonic() + seconds
+    while time.monotonic() < end:
+        status = meter.read_stb()
+        if status & REQUEST:
+            return status
+        time.sleep(0.01)
+    raise TimeoutError("no service request in %d seconds" % seconds)
+
+
+def voltages(answer):
+    """The numbers of an answer. An overload is 9.9E+37 or -9.9E+37."""
+    return [float(text) for text in answer.split(",")]
+
+
+address = sys.argv[1] if len(sys.argv) > 1 else "127.0.0.1"
+manager = pyvisa.ResourceManager("@py")
+meter = manager.open_resource("TCPIP::%s::inst0::INSTR" % address)
+meter.read_termination = meter.write_termination = "\n"
+meter.timeout = 5000    # milliseconds; longer than any scan
+
+# What others left: first their unread answers, then their settings and events.
+meter.clear()
+meter.write("*RST;*CLS")
+print("instrument:", meter.query("*IDN?"))
+
+# Two scans of three channels. *OPC sets bit 0 of the standard events when both are done, *ESE lets
+# it into bit 5 (32) of the status byte, and *SRE lets that request service.
+meter.write("CONF:VOLT (@1,4,2);:TRIG:COUN 2;*ESE 1;*SRE 32")
+meter.write("INIT;*OPC")
+print("scan done, status byte:", wait_for_request(meter))
+print("standard events:", meter.query("*ESR?"))
+for place, volts in enumerate(voltages(meter.query("FETC?"))):
+    shown = "overload" if abs(volts) > 1e37 else "%+.6f V" % volts
+    print("scan %d, channel %d: %s" % (place // 3 + 1, (1, 4, 2)[place % 3], shown))
+
+# A watch on channel 3, without a scan: bit 11 (2048) of the questionable register tells that the
+# monitored input is outside the limits, and that is bit 3 (8) of the status byte.
+meter.write("*CLS;ROUT:MON (@3);:CALC:LIM:UPP 5;STAT ON;:STAT:QUES:ENAB 2048;*SRE 8")
+print("outside the limits, status byte:", wait_for_request(meter))
+print("questionable events:", meter.query("STAT:QUES?"))
+print("channel 3: %+.6f V" % voltages(meter.query("MEAS:VOLT? (@3)"))[0])
+
+# A mistake, and what the instrument says of it.
+meter.write("VOLT:RANGE:AUTO ON")
+print("error:", meter.query("SYST:ERR?"))
+print("error:", meter.query("SYST:ERR?"))
+
+meter.close()
+manager.close()
