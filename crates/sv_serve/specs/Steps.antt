@@ -95,19 +95,23 @@ Takes hears c true config before after =
 abbrev pub Turns : {W : Type 0} → (W → Heard → W → Type 0) → ℕ → Config → Moment W → Moment W → Type 0
 Turns hears c config before after = (ready : Bool) × IsReady c config before ready × Takes hears c ready config before after
 
-abbrev pub is_same : Option Dial → Option Dial → Bool
-is_same (Some a) (Some b) = (a.addr == b.addr) && (a.port == b.port)
-is_same (Some a) None = false
-is_same None b = false
+-- whether this one is wanted
+abbrev pub is_wanted : Dial → Option Dial → Bool
+is_wanted called (Some wanted) = (called.addr == wanted.addr) && (called.port == wanted.port)
+is_wanted called None = false
 
 abbrev pub KeepsCall : {W : Type 0} → (W → Heard → W → Type 0) → ℕ → Bool → Config → Moment W → Moment W → Type 0
 KeepsCall hears c true = Stays
 KeepsCall hears c false = HangsUp hears c
 
+abbrev pub LetsGoOf : {W : Type 0} → (W → Heard → W → Type 0) → ℕ → Option Dial → Config → Moment W → Moment W → Type 0
+LetsGoOf hears c None config before after = after ≡ before
+LetsGoOf hears c (Some called) config before after = (channel : Bool) × (wanted : Option Dial) × IsOpen (Intr c) config before channel
+    × Wants c config before wanted × KeepsCall hears c (channel || is_wanted called wanted) config before after
+
 -- A peer that was called is let go, unless its interrupt channel is open, or it is still wanted.
 abbrev pub LetsGo : {W : Type 0} → (W → Heard → W → Type 0) → ℕ → Config → Moment W → Moment W → Type 0
-LetsGo hears c config before after = (channel : Bool) × (wanted : Option Dial) × IsOpen (Intr c) config before channel
-    × Wants c config before wanted × KeepsCall hears c (channel || is_same wanted (called_of c before)) config before after
+LetsGo hears c config before after = LetsGoOf hears c (called_of c before) config before after
 
 -- what comes of calling a peer
 abbrev pub Rings : {W : Type 0} → ℕ → Dial → Answer ⊤ → Config → Moment W → Moment W → Type 0
@@ -157,7 +161,12 @@ abbrev pub Writes : {W : Type 0} → (W → Heard → W → Type 0) → Port →
 Writes hears port config before after =
     (bytes : List ℕ) × Waits port config before bytes × WritesAll hears port bytes config before after
 
--- a faulted connection on which nothing waits is closed
+abbrev pub EndsIf : {W : Type 0} → (W → Heard → W → Type 0) → ℕ → Bool → Config → Moment W → Moment W → Type 0
+EndsIf hears c false config before after = after ≡ before
+EndsIf hears c true config before after =
+    (bytes : List ℕ) × Waits (Conn c) config before bytes × ClosesIf hears c (length bytes == 0) config before after
+
+-- a faulted connection is closed, if nothing waits on it
 abbrev pub Ends : {W : Type 0} → (W → Heard → W → Type 0) → ℕ → Config → Moment W → Moment W → Type 0
-Ends hears c config before after = (faulted : Bool) × (bytes : List ℕ) × IsFaulted c config before faulted
-    × Waits (Conn c) config before bytes × ClosesIf hears c (faulted && (length bytes == 0)) config before after
+Ends hears c config before after =
+    (faulted : Bool) × IsFaulted c config before faulted × EndsIf hears c faulted config before after

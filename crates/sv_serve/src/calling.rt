@@ -3,21 +3,20 @@
 ghost use Rattle.std.specs.Prelude.{◌≡◌, ◌<◌, slice_index_or, Some, None};
 ghost use Rattle.sv_serve.specs.Heard.{WasDialed, PeerAnswered};
 ghost use Rattle.sv_serve.specs.Moment.{Goes, Each};
-ghost use Rattle.sv_serve.specs.Steps.{Hears, is_same, LetsGo, KeepsCall, Rings, Picks, CallsFor, Calls, Dials, Notes};
+ghost use Rattle.sv_serve.specs.Steps.{Hears, is_wanted, LetsGoOf, LetsGo, KeepsCall, Rings, Picks, CallsFor, Calls, Dials, Notes};
 
 use crate::driver::{CONNECTIONS, Driver};
 use crate::wire::{Answer, Wire};
 use std::alloc::Allocator;
 use sv_server::{Dial, Event, Port};
 
-/// Whether both are there, and the same.
-fn is_same(first: Option<Dial>, second: Option<Dial>) -> bool
-    ensures { result ≡ is_same first second }
+/// Whether this one is wanted.
+fn is_wanted(called: Dial, wanted: Option<Dial>) -> bool
+    ensures { result ≡ is_wanted called wanted }
 {
-    match (first, second) {
-        (Some(first), Some(second)) => (first.addr == second.addr) & (first.port == second.port),
-        (Some(_), None) => false,
-        (None, _) => false,
+    match wanted {
+        Some(wanted) => (called.addr == wanted.addr) & (called.port == wanted.port),
+        None => false,
     }
 }
 
@@ -45,10 +44,23 @@ impl<W: Wire + Drop, A: Allocator> Driver<W, A> {
         requires { conn < 16 }
         ensures { Goes (LetsGo W.hears conn) self.old self.new }
     {
-        let open = self.server.is_open(Port::Intr(conn));
-        let wanted = self.server.dial(conn);
         let called = self.called[usize::from(conn)];
-        self.keep_call(conn, open | is_same(wanted, called));
+        self.let_go_of(conn, called);
+    }
+
+    /// Lets a peer go that was called.
+    fn let_go_of(&mut self, conn: u8, called: Option<Dial>)
+        requires { conn < 16 }
+        ensures { Goes (LetsGoOf W.hears conn called) self.old self.new }
+    {
+        match called {
+            None => {}
+            Some(called) => {
+                let open = self.server.is_open(Port::Intr(conn));
+                let wanted = self.server.dial(conn);
+                self.keep_call(conn, open | is_wanted(called, wanted));
+            }
+        }
     }
 
     /// Hangs up, unless this is so.

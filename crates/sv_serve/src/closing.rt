@@ -3,7 +3,7 @@
 ghost use Rattle.std.specs.Prelude.{◌<◌, None};
 ghost use Rattle.sv_serve.specs.Heard.{WasClosed};
 ghost use Rattle.sv_serve.specs.Moment.{Goes, Each};
-ghost use Rattle.sv_serve.specs.Steps.{Hears, Notes, HangsUp, Closes, ClosesIf, Ends};
+ghost use Rattle.sv_serve.specs.Steps.{Hears, Notes, HangsUp, Closes, ClosesIf, EndsIf, Ends};
 
 use crate::driver::{CONNECTIONS, Driver};
 use crate::wire::Wire;
@@ -66,8 +66,18 @@ impl<W: Wire + Drop, A: Allocator> Driver<W, A> {
         ensures { Goes (Ends W.hears conn) self.old self.new }
     {
         let faulted = self.server.faulted(conn);
-        let empty = self.server.waiting(Port::Conn(conn)).is_empty();
-        self.close_if(conn, faulted & empty);
+        self.end_if(conn, faulted);
+    }
+
+    /// Closes a connection on which nothing waits, if this is so.
+    fn end_if(&mut self, conn: u8, so: bool)
+        requires { conn < 16 }
+        ensures { Goes (EndsIf W.hears conn so) self.old self.new }
+    {
+        if so {
+            let empty = self.server.waiting(Port::Conn(conn)).is_empty();
+            self.close_if(conn, empty);
+        }
     }
 
     /// Closes a connection, if this is so.

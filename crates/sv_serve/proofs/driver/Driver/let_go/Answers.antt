@@ -5,17 +5,7 @@ use Rattle.sv_serve.proofs.driver.Driver.let_go.Goals as goal
 
 pub returns : goal.returns
 returns g c = λ config history stands.
-    let kept = rw (← c.self.view_is) at stands in
-    let (h0, s0, p0) = c.keep_call.ensures config history stands in
+    let (h0, s0, p0) = c.let_go_of.ensures config history stands in
     let is : called_of c.args.conn (moment c.args.self.now history) ≡ slice_index_or c.self.inside.called c.from.result None =
-    rw (← c.self.view_is, ← c.from.ensures) refl in (
-      h0,
-      s0,
-      (
-        c.is_open-open.result,
-        c.dial-wanted.result,
-        c.is_open-open.ensures config history kept,
-        c.dial-wanted.ensures config history kept,
-        rw is (rw c.is_same.ensures at p0),
-      ),
-    )
+    rw (← c.self.view_is, ← c.from.ensures) refl in
+    (h0, s0, rw is p0)

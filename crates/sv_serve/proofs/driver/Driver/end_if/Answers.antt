@@ -1,0 +1,10 @@
+use Rattle.sv_serve.proofs.driver.Driver.end_if.Goals as goal
+
+pub returns-then-so : goal.returns-then-so
+returns-then-so g c = λ config history stands.
+    let kept = rw (← c.self.view_is) at stands in
+    let (h0, s0, p0) = c.close_if.ensures config history stands in (
+      h0,
+      s0,
+      rw c.if-so.true (c.waiting.result.now, c.waiting.ensures.waiting config history kept, rw c.is_empty-empty.ensures at p0),
+    )
