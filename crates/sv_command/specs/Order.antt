@@ -51,23 +51,27 @@ without_six mask = bit_and mask 191
 abbrev ask : Question → Result Order Code
 ask asked = Ok (order.Ask asked)
 
+-- commands that change a setting of the scanner
+abbrev pub setting_order : CommandId → Option Parameter → Result Order Code
+setting_order id.RouteScan given = then_value (λ list. order.Set (setting.List list)) (one read_channels given)
+setting_order id.RouteMonitor given = then_value (λ channel. order.Set (setting.Monitor channel)) (one read_channel given)
+setting_order id.VoltageRange given = then_value (λ volts. order.Set (setting.Range volts)) (one read_voltage given)
+setting_order id.UpperLimit given = then_value (λ volts. order.Set (setting.Upper volts)) (one read_voltage given)
+setting_order id.LowerLimit given = then_value (λ volts. order.Set (setting.Lower volts)) (one read_voltage given)
+setting_order id.LimitState given = then_value (λ on. order.Set (setting.Limits on)) (one read_boolean given)
+setting_order id.TriggerSource given = then_value (λ source. order.Set (setting.Source source)) (one read_source given)
+setting_order id.TriggerCount given = then_value (λ scans. order.Set (setting.Count scans)) (one (read_whole 1 16) given)
+setting_order command given = Err UndefinedHeader
+
 -- commands of the scanner
 abbrev pub scan_order : CommandId → Option Parameter → Result Order Code
-scan_order id.RouteScan given = then_value (λ list. order.Set (setting.List list)) (one read_channels given)
 scan_order id.RouteScanQuery given = ask question.ScanList
-scan_order id.RouteMonitor given = then_value (λ channel. order.Set (setting.Monitor channel)) (one read_channel given)
 scan_order id.RouteMonitorQuery given = ask question.Monitor
-scan_order id.VoltageRange given = then_value (λ volts. order.Set (setting.Range volts)) (one read_voltage given)
 scan_order id.VoltageRangeQuery given = ask question.Range
-scan_order id.UpperLimit given = then_value (λ volts. order.Set (setting.Upper volts)) (one read_voltage given)
 scan_order id.UpperLimitQuery given = ask question.UpperLimit
-scan_order id.LowerLimit given = then_value (λ volts. order.Set (setting.Lower volts)) (one read_voltage given)
 scan_order id.LowerLimitQuery given = ask question.LowerLimit
-scan_order id.LimitState given = then_value (λ on. order.Set (setting.Limits on)) (one read_boolean given)
 scan_order id.LimitStateQuery given = ask question.Limits
-scan_order id.TriggerSource given = then_value (λ source. order.Set (setting.Source source)) (one read_source given)
 scan_order id.TriggerSourceQuery given = ask question.Source
-scan_order id.TriggerCount given = then_value (λ scans. order.Set (setting.Count scans)) (one (read_whole 1 16) given)
 scan_order id.TriggerCountQuery given = ask question.Count
 scan_order id.Initiate given = Ok order.Initiate
 scan_order id.Abort given = Ok order.Abort
@@ -75,7 +79,7 @@ scan_order id.FetchQuery given = ask question.Readings
 scan_order id.ReadQuery given = Ok order.Read
 scan_order id.ConfigureVoltage given = then_value order.Configure (maybe read_channels given)
 scan_order id.MeasureVoltageQuery given = then_value order.Measure (maybe read_channels given)
-scan_order command given = Err UndefinedHeader
+scan_order command given = setting_order command given
 
 -- commands of the status registers
 abbrev pub status_order : CommandId → Option Parameter → Result Order Code

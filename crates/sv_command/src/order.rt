@@ -49,7 +49,7 @@ pub enum Order {
 }
 
 /// What a query asks for that is answered at once.
-#[derive(Clone, Copy, Debug, PartialEq, Eq)]
+#[derive(Clone, Copy, Debug)]
 pub enum Question {
     /// `*IDN?`: who the instrument is.
     Identification,

@@ -1,12 +1,14 @@
 -- A step that was taken is the one that is due, and less is left to be done behind it.
-use Rattle.std.proofs.Common.{◌≡◌, ℕ, ◌+◌, ◌*◌, ◌<◌, ◌≤◌, false, List, [], ◌∷◌, length, drop, ap, sym, subst, ◌∙◌, arith}
+use Rattle.std.proofs.Common.{◌≡◌, ℕ, ◌+◌, ◌*◌, ◌<◌, ◌≤◌, true, false, List, [], ◌∷◌, length, drop, ap, sym, subst, ◌∙◌, arith}
 use Rattle.std.specs.Prelude.{Option, Some, None}
+use Rattle.sv_errors.specs.declared.code.Code.{Code}
 use Rattle.sv_scan.specs.declared.setting.State.TheVariants.{Waiting, Scanning}
-use Rattle.sv_exchange.specs.Exchange.{Due, UnitDue, due, next_unit, is_something}
+use Rattle.sv_exchange.specs.Exchange.{Due, NothingDue, UnitDue, due, next_unit, is_something}
 use Rattle.sv_exchange.specs.Contents.{Contents, IsUnitDue, next_of, shown_by, work_of}
 use Rattle.sv_exchange.proofs.Dues.{at_unit}
 use Rattle.sv_layers.specs.declared.change.Awaited.{Awaited}
 use Rattle.sv_layers.specs.Act.{Act, exchange_acts}
+use Rattle.sv_layers.specs.Condition.{is_idle}
 use Rattle.sv_layers.specs.Inside.Kept.{Layered, state_by}
 use Rattle.sv_instrument.specs.declared.outcome.Outcome.{Outcome}
 use Rattle.sv_instrument.specs.Held.{held}
@@ -30,6 +32,25 @@ pub step_of : (log new : List Act) (kept : Option Awaited) (next : Due) → kept
     → StepOf kept next log new → IsStep log new
 step_of log new kept next is next_is step =
     subst (λ (d : Due). StepOf (held log) d log new) next_is (subst (λ (h : Option Awaited). StepOf h next log new) is step)
+
+differ : false ≡ true → ⊥
+differ same = absurd cc
+
+-- none is due where nothing is
+pub nothing_due : (log new : List Act) → None ≡ held log → NothingDue ≡ due (exchange_acts log) → IsStep log new → ⊥
+nothing_due log new free is step =
+    subst (λ (d : Due). StepOf None d log new) (sym is)
+    (subst (λ (h : Option Awaited). StepOf h (due (exchange_acts log)) log new) (sym free) step)
+
+-- none is due where a unit is held and a measurement is under way
+pub none_while_busy : (log new : List Act) (awaited : Awaited) → Some awaited ≡ held log → false ≡ is_idle log → IsStep log new → ⊥
+none_while_busy log new awaited is busy step =
+    let ended = subst (λ (h : Option Awaited). StepOf h (due (exchange_acts log)) log new) (sym is) step in
+    differ (busy ∙ ended.0)
+
+-- a trigger that is refused is not waited for
+pub refused_none : {fault : Option Code} {code : Code} → fault ≡ Some code → fault ≡ None → ⊥
+refused_none {fault} {code} is none = absurd cc
 
 same_unit : (next : Option (List ℕ)) (unit text : List ℕ) → next ≡ Some unit → next ≡ Some text → unit ≡ text
 same_unit next unit text is same = cc

@@ -6,6 +6,7 @@ use Rattle.sv_errors.specs.declared.code.Code.TheVariants.{QueryDeadlocked}
 use Rattle.sv_exchange.specs.Exchange.{ExchangeAct, Answered, AnswersDropped, units_done, current, message, answers, fits_response}
 use Rattle.sv_command.specs.declared.order.Order.{Order}
 use Rattle.sv_command.specs.declared.order.Question.{Question}
+use Rattle.sv_command.specs.declared.order.Question.TheVariants as question
 use Rattle.sv_command.specs.Unit.{IsReadAs}
 use Rattle.sv_layers.specs.declared.change.Awaited.{Awaited}
 use Rattle.sv_layers.specs.declared.change.Change.{Change}
@@ -36,6 +37,32 @@ change_apart (changes.Enable name mask) log = refl
 change_apart (changes.SetRise name mask) log = refl
 change_apart (changes.SetFall name mask) log = refl
 change_apart (changes.EnableService mask) log = refl
+
+-- nor what a query takes or clears
+pub taken_apart : (asked : Question) (log : List Act) → IsApart log (taken asked log)
+taken_apart question.Identification log = refl
+taken_apart question.SelfTest log = refl
+taken_apart question.Version log = refl
+taken_apart question.StandardEvents log = refl
+taken_apart question.StandardEnable log = refl
+taken_apart question.ServiceEnable log = refl
+taken_apart question.StatusByte log = refl
+taken_apart question.Error log = refl
+taken_apart question.ErrorCount log = refl
+taken_apart (question.Events name) log = refl
+taken_apart (question.Condition name) log = refl
+taken_apart (question.Enable name) log = refl
+taken_apart (question.Rise name) log = refl
+taken_apart (question.Fall name) log = refl
+taken_apart question.ScanList log = refl
+taken_apart question.Monitor log = refl
+taken_apart question.Range log = refl
+taken_apart question.UpperLimit log = refl
+taken_apart question.LowerLimit log = refl
+taken_apart question.Limits log = refl
+taken_apart question.Source log = refl
+taken_apart question.Count log = refl
+taken_apart question.Readings log = refl
 
 pub configured_apart : (list : Option (List ℕ)) (log : List Act) → IsApart log (configured list log)
 configured_apart None log = refl

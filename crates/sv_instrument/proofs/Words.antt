@@ -13,3 +13,12 @@ word_printed Bit word wide before text fits empty same is bits = record {
   text_is = is ∙ ap (λ (front : List ℕ). front ++ decimal wide) empty ∙ ap decimal same;
   bits = bits;
 }
+
+-- the same of a number that is told as such
+pub number_printed : (number wide : ℕ) (before text : List ℕ) → before ≡ [] → wide ≡ number → text ≡ before ++ decimal wide
+    → text ≡ decimal number
+number_printed number wide before text empty same is = is ∙ ap (λ (front : List ℕ). front ++ decimal wide) empty ∙ ap decimal same
+
+-- what is put where nothing was
+pub alone : {before piece text : List ℕ} → before ≡ [] → text ≡ before ++ piece → text ≡ piece
+alone {before} {piece} {text} empty is = is ∙ ap (λ (front : List ℕ). front ++ piece) empty

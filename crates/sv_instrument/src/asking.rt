@@ -5,7 +5,7 @@ ghost use Rattle.sv_exchange.specs.Contents.{IsUnitDue, next_of};
 ghost use Rattle.sv_layers.specs.Act.{Act};
 ghost use Rattle.sv_layers.specs.Inside.Kept.{StandsFor as Stands};
 ghost use Rattle.sv_instrument.specs.Performed.{question_fault, taken, Replies};
-ghost use Rattle.sv_instrument.specs.Inside.Acted.{Acted, Behaves, Advances, IsApart};
+ghost use Rattle.sv_instrument.specs.Inside.Acted.{Acted, Behaves, Advances};
 
 use crate::acting::{carry_out, change, reply};
 use crate::answering::put_answer;
@@ -53,7 +53,6 @@ fn refused<A: Allocator>(layers: &Layers<A>, question: Question) -> Option<Code>
 fn take<A: Allocator>(layers: &mut Layers<A>, question: Question) -> u8
     ensures acts { (log : List Act) → Stands layers.old log
         → Acted layers.new result log (taken question log) }
-    ensures apart { (log : List Act) → IsApart log (taken question log) }
     ensures few { result ≤ 1 }
     ensures exchange { layers.new.exchange ≡ layers.old.exchange }
 {

@@ -47,12 +47,15 @@ impl<A: Allocator + Copy> Instrument<A> {
     pub fn new(alloc: A) -> Result<Instrument<A>, AllocError>
         ensures { IfOk result (λ instrument. StandsFor instrument []) }
     {
+        let answer = Vec::with_capacity(alloc, LONGEST_ANSWER)?;
+        let table = Table::new(alloc)?;
+        let layers = Layers::new(alloc)?;
         Ok(Instrument {
-            table: Table::new(alloc)?,
+            table,
             path: Path::root(),
-            layers: Layers::new(alloc)?,
+            layers,
             held: None,
-            answer: Vec::with_capacity(alloc, LONGEST_ANSWER)?,
+            answer,
         })
     }
 }

@@ -30,28 +30,29 @@ pub(crate) fn perform<A: Allocator>(
     ensures few { result.raised ≤ 8 }
     ensures capacity { 8192 ≤ vec_capacity answer.new }
 {
-    match order {
-        Order::ClearStatus => carry_out(layers, Change::ClearStatus),
-        Order::Reset => carry_out(layers, Change::Scan(ScanAct::Reset)),
-        Order::TellComplete => carry_out(layers, Change::AskComplete),
-        Order::Wait => hold(layers, 0, Awaited::Nothing),
-        Order::WaitAndTell => hold(layers, 0, Awaited::One),
-        Order::Trigger => trigger(layers),
-        Order::Preset => carry_out(layers, Change::Preset),
-        Order::EnableStandard(mask) => carry_out(layers, Change::EnableStandard(mask)),
-        Order::EnableService(mask) => carry_out(layers, Change::EnableService(mask)),
-        Order::Enable(name, mask) => carry_out(layers, Change::Enable(name, mask)),
-        Order::SetRise(name, mask) => carry_out(layers, Change::SetRise(name, mask)),
-        Order::SetFall(name, mask) => carry_out(layers, Change::SetFall(name, mask)),
-        Order::Set(setting) => set(layers, setting),
-        Order::Initiate => initiate(layers),
-        Order::Abort => carry_out(layers, Change::Scan(ScanAct::Abort)),
+    let change = match order {
+        Order::ClearStatus => Change::ClearStatus,
+        Order::Reset => Change::Scan(ScanAct::Reset),
+        Order::TellComplete => Change::AskComplete,
+        Order::Wait => return hold(layers, 0, Awaited::Nothing),
+        Order::WaitAndTell => return hold(layers, 0, Awaited::One),
+        Order::Trigger => return trigger(layers),
+        Order::Preset => Change::Preset,
+        Order::EnableStandard(mask) => Change::EnableStandard(mask),
+        Order::EnableService(mask) => Change::EnableService(mask),
+        Order::Enable(name, mask) => Change::Enable(name, mask),
+        Order::SetRise(name, mask) => Change::SetRise(name, mask),
+        Order::SetFall(name, mask) => Change::SetFall(name, mask),
+        Order::Set(setting) => return set(layers, setting),
+        Order::Initiate => return initiate(layers),
+        Order::Abort => Change::Scan(ScanAct::Abort),
         Order::Configure(list) => {
             let raised = configure(layers, list);
-            end(layers, raised)
+            return end(layers, raised);
         }
-        Order::Read => read(layers),
-        Order::Measure(list) => measure(layers, list),
-        Order::Ask(question) => ask(layers, answer, question),
-    }
+        Order::Read => return read(layers),
+        Order::Measure(list) => return measure(layers, list),
+        Order::Ask(question) => return ask(layers, answer, question),
+    };
+    carry_out(layers, change)
 }

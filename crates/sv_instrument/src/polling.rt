@@ -12,7 +12,7 @@ use crate::instrument::Instrument;
 use std::alloc::Allocator;
 
 /// What a poll gives.
-#[derive(Clone, Copy, Debug, PartialEq, Eq)]
+#[derive(Clone, Copy)]
 pub struct Polled {
     /// The status byte, with the request for service in bit 6.
     pub status: u8,

@@ -5,7 +5,7 @@ ghost use Rattle.sv_exchange.specs.Exchange.{next_unit};
 ghost use Rattle.sv_exchange.specs.Contents.{IsUnitDue, next_of};
 ghost use Rattle.sv_layers.specs.Act.{Act, exchange_acts};
 ghost use Rattle.sv_layers.specs.Inside.Kept.{StandsFor as Stands};
-ghost use Rattle.sv_instrument.specs.Step.{Does, ended};
+ghost use Rattle.sv_instrument.specs.Step.{ended};
 ghost use Rattle.sv_instrument.specs.Inside.Acted.{Behaves, Advances, Follows};
 
 use crate::acting::{carry_out, end, reply};
@@ -13,13 +13,14 @@ use crate::outcome::Outcome;
 use crate::performing::perform;
 use crate::readings::put_readings;
 use std::alloc::Allocator;
-use sv_command::{Order, read_unit};
+use sv_command::read_unit;
 use sv_errors::Code;
 use sv_exchange::Next;
 use sv_header::{Path, Table};
 use sv_layers::{Awaited, Change, Layers};
 
-/// The unit that is due starts, behind this path, which follows it.
+/// The unit that is due starts, behind this path, which follows it: it does what it asks for, or
+/// its fault is reported.
 pub(crate) fn start<A: Allocator>(
     table: &Table<A>,
     path: &mut Path,
@@ -35,30 +36,10 @@ pub(crate) fn start<A: Allocator>(
     ensures few { result.raised ≤ 8 }
     ensures capacity { 8192 ≤ vec_capacity answer.new }
 {
-    match layers.exchange().next_unit() {
-        Next::Unit(text) => {
-            let read = read_unit(table, path, text);
-            act_on(layers, answer, read)
-        }
-        Next::Nothing | Next::Overrun | Next::Interrupt | Next::Finish => end(layers, 0),
-    }
-}
-
-/// The unit that is due does what it asks for, or its fault is reported.
-fn act_on<A: Allocator>(
-    layers: &mut Layers<A>,
-    answer: &mut Vec<u8, A>,
-    read: Result<Order, Code>,
-) -> Outcome
-    requires due { IsUnitDue (next_of layers.old.exchange) }
-    requires room { 8192 ≤ vec_capacity answer.old }
-    ensures behaves { (log : List Act) → Stands layers.old log
-        → Behaves (Does read log) layers.new result log }
-    ensures advances { Advances layers.old layers.new result.held }
-    ensures few { result.raised ≤ 8 }
-    ensures capacity { 8192 ≤ vec_capacity answer.new }
-{
-    match read {
+    let Next::Unit(text) = layers.exchange().next_unit() else {
+        return end(layers, 0);
+    };
+    match read_unit(table, path, text) {
         Ok(order) => perform(layers, answer, order),
         Err(code) => carry_out(layers, Change::Report(code)),
     }

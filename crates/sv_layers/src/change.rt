@@ -5,7 +5,7 @@ use sv_scan::ScanAct;
 use sv_status::RegisterName;
 
 /// What a unit answers that is held until no measurement is under way.
-#[derive(Clone, Copy, Debug, PartialEq, Eq)]
+#[derive(Clone, Copy)]
 pub enum Awaited {
     /// Nothing: `*WAI` (IEEE 488.2, 12.5.1).
     Nothing,
@@ -16,7 +16,7 @@ pub enum Awaited {
 }
 
 /// A change of the instrument, other than of program text and the response.
-#[derive(Debug, Drop)]
+#[derive(Drop)]
 pub enum Change {
     /// Something happens to the scanner.
     Scan(ScanAct),

@@ -10,7 +10,7 @@ use crate::layers::Layers;
 use std::alloc::Allocator;
 
 /// What becomes of an answer.
-#[derive(Clone, Copy, Debug, PartialEq, Eq)]
+#[derive(Clone, Copy)]
 pub struct Response {
     /// Whether it has room; else all answers of the message are dropped.
     pub fits: bool,

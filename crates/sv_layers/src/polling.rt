@@ -10,7 +10,7 @@ use crate::layers::Layers;
 use std::alloc::Allocator;
 
 /// What a poll gives.
-#[derive(Clone, Copy, Debug, PartialEq, Eq)]
+#[derive(Clone, Copy)]
 pub struct Poll {
     /// The status byte, with the request for service in bit 6.
     pub status: u8,

@@ -1,7 +1,7 @@
 //! Tests of what no script and no line of a table can show: refusals of memory, readers and writers
-//! that fail, bytes that are taken in parts, the end of the clock, and calls that nothing joins
-//! yet. What scripts and lines can show is in `sv_rows` and `sv_tables`. The library itself is
-//! empty.
+//! that fail, bytes that are taken in parts, the end of the clock, real sockets, and calls that
+//! nothing joins yet. What scripts and lines can show is in `sv_rows`, `sv_sweeps` and `sv_tables`.
+//! The library itself is empty.
 #![tactic(auto)]
 
 #[cfg(test)]
@@ -20,5 +20,7 @@ mod replays;
 mod same;
 #[cfg(test)]
 mod scenarios;
+#[cfg(test)]
+mod sockets;
 #[cfg(test)]
 mod streams;

@@ -1,8 +1,7 @@
-use Rattle.std.proofs.Common.{refl, rules}
+use Rattle.std.proofs.Common.{◌≡◌, refl, ◌∙◌}
+use Rattle.sv_header.specs.declared.command.CommandId.TheVariants.{RouteScanQuery, RouteMonitorQuery, VoltageRangeQuery, UpperLimitQuery, LowerLimitQuery, LimitStateQuery, TriggerSourceQuery, TriggerCountQuery, Initiate, Abort, FetchQuery, ReadQuery, ConfigureVoltage, MeasureVoltageQuery}
+use Rattle.sv_command.specs.Order.{given, scan_order, setting_order}
 use Rattle.sv_command.proofs.filling.scan_order.Goals as goal
-
-pub returns-in-MeasureVoltageQuery : goal.returns-in-MeasureVoltageQuery
-returns-in-MeasureVoltageQuery c = search rules
 
 pub returns-in-RouteScanQuery : goal.returns-in-RouteScanQuery
 returns-in-RouteScanQuery c = rw c.in-RouteScanQuery.is refl
@@ -39,3 +38,24 @@ returns-in-FetchQuery c = rw c.in-FetchQuery.is refl
 
 pub returns-in-ReadQuery : goal.returns-in-ReadQuery
 returns-in-ReadQuery c = rw c.in-ReadQuery.is refl
+
+pub returns-in_default : goal.returns-in_default
+returns-in_default c =
+    let of = given c.args.given in
+    c.setting_order.ensures ∙ elim c.args.command as (λ it. c.args.command ≡ it → setting_order it of ≡ scan_order it of) [
+      | RouteScanQuery ↦ λ e. absurd (c.in_default.not-RouteScanQuery e)
+      | RouteMonitorQuery ↦ λ e. absurd (c.in_default.not-RouteMonitorQuery e)
+      | VoltageRangeQuery ↦ λ e. absurd (c.in_default.not-VoltageRangeQuery e)
+      | UpperLimitQuery ↦ λ e. absurd (c.in_default.not-UpperLimitQuery e)
+      | LowerLimitQuery ↦ λ e. absurd (c.in_default.not-LowerLimitQuery e)
+      | LimitStateQuery ↦ λ e. absurd (c.in_default.not-LimitStateQuery e)
+      | TriggerSourceQuery ↦ λ e. absurd (c.in_default.not-TriggerSourceQuery e)
+      | TriggerCountQuery ↦ λ e. absurd (c.in_default.not-TriggerCountQuery e)
+      | Initiate ↦ λ e. absurd (c.in_default.not-Initiate e)
+      | Abort ↦ λ e. absurd (c.in_default.not-Abort e)
+      | FetchQuery ↦ λ e. absurd (c.in_default.not-FetchQuery e)
+      | ReadQuery ↦ λ e. absurd (c.in_default.not-ReadQuery e)
+      | ConfigureVoltage ↦ λ e. absurd (c.in_default.not-ConfigureVoltage e)
+      | MeasureVoltageQuery ↦ λ e. absurd (c.in_default.not-MeasureVoltageQuery e)
+      | _ ↦ λ e. refl
+    ] refl

@@ -1,4 +1,6 @@
-use Rattle.std.proofs.Common.{refl}
+use Rattle.std.proofs.Common.{◌≡◌, refl, ◌∙◌}
+use Rattle.sv_header.specs.declared.command.CommandId.TheVariants.{StatusPreset, OperationEventQuery, OperationConditionQuery, OperationEnable, OperationEnableQuery, OperationPositiveTransition, OperationPositiveTransitionQuery, OperationNegativeTransition, OperationNegativeTransitionQuery, QuestionableEventQuery, QuestionableConditionQuery, QuestionableEnable, QuestionableEnableQuery, QuestionablePositiveTransition, QuestionablePositiveTransitionQuery, QuestionableNegativeTransition, QuestionableNegativeTransitionQuery}
+use Rattle.sv_command.specs.Order.{given, status_order, scan_order}
 use Rattle.sv_command.proofs.filling.status_order.Goals as goal
 
 pub returns-in-StatusPreset : goal.returns-in-StatusPreset
@@ -51,3 +53,27 @@ returns-in-QuestionablePositiveTransition c = rw c.in-QuestionablePositiveTransi
 
 pub returns-in-QuestionableNegativeTransition : goal.returns-in-QuestionableNegativeTransition
 returns-in-QuestionableNegativeTransition c = rw c.in-QuestionableNegativeTransition.is c.set_fall-in-QuestionableNegativeTransition.ensures
+
+pub returns-in_default : goal.returns-in_default
+returns-in_default c =
+    let of = given c.args.given in
+    c.scan_order.ensures ∙ elim c.args.command as (λ it. c.args.command ≡ it → scan_order it of ≡ status_order it of) [
+      | StatusPreset ↦ λ e. absurd (c.in_default.not-StatusPreset e)
+      | OperationEventQuery ↦ λ e. absurd (c.in_default.not-OperationEventQuery e)
+      | OperationConditionQuery ↦ λ e. absurd (c.in_default.not-OperationConditionQuery e)
+      | OperationEnable ↦ λ e. absurd (c.in_default.not-OperationEnable e)
+      | OperationEnableQuery ↦ λ e. absurd (c.in_default.not-OperationEnableQuery e)
+      | OperationPositiveTransition ↦ λ e. absurd (c.in_default.not-OperationPositiveTransition e)
+      | OperationPositiveTransitionQuery ↦ λ e. absurd (c.in_default.not-OperationPositiveTransitionQuery e)
+      | OperationNegativeTransition ↦ λ e. absurd (c.in_default.not-OperationNegativeTransition e)
+      | OperationNegativeTransitionQuery ↦ λ e. absurd (c.in_default.not-OperationNegativeTransitionQuery e)
+      | QuestionableEventQuery ↦ λ e. absurd (c.in_default.not-QuestionableEventQuery e)
+      | QuestionableConditionQuery ↦ λ e. absurd (c.in_default.not-QuestionableConditionQuery e)
+      | QuestionableEnable ↦ λ e. absurd (c.in_default.not-QuestionableEnable e)
+      | QuestionableEnableQuery ↦ λ e. absurd (c.in_default.not-QuestionableEnableQuery e)
+      | QuestionablePositiveTransition ↦ λ e. absurd (c.in_default.not-QuestionablePositiveTransition e)
+      | QuestionablePositiveTransitionQuery ↦ λ e. absurd (c.in_default.not-QuestionablePositiveTransitionQuery e)
+      | QuestionableNegativeTransition ↦ λ e. absurd (c.in_default.not-QuestionableNegativeTransition e)
+      | QuestionableNegativeTransitionQuery ↦ λ e. absurd (c.in_default.not-QuestionableNegativeTransitionQuery e)
+      | _ ↦ λ e. refl
+    ] refl

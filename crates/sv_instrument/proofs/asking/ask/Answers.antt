@@ -1,6 +1,6 @@
 use Rattle.sv_exchange.specs.Contents.{Contents, IsUnitDue, next_of, work_of}
 use Rattle.std.proofs.Common.{sym, arith, ap, subst}
-use Rattle.sv_instrument.proofs.Units.{behaves_replied}
+use Rattle.sv_instrument.proofs.Units.{behaves_replied, taken_apart}
 use Rattle.sv_instrument.proofs.asking.ask.Goals as goal
 
 pub returns-in-None-clause-behaves : goal.returns-in-None-clause-behaves
@@ -9,7 +9,7 @@ returns-in-None-clause-behaves g c = λ log h.
     let says = rw (← c.as_slice.ensures.value) at (c.put_answer.ensures.says log h free) in
     let taken = c.take-raised.ensures.acts log h in
     behaves_replied c.args.question _ log free says
-    (c.reply.ensures.behaves log _ taken.stands taken.raises (c.take-raised.ensures.apart log))
+    (c.reply.ensures.behaves log _ taken.stands taken.raises (taken_apart c.args.question log))
 
 pub carry_out-requires : goal.carry_out-requires
 carry_out-requires g c = c.requires.due
@@ -43,3 +43,6 @@ returns-in-None-clause-few g c = omega (arith, c.reply.ensures.few, c.take-raise
 
 pub returns-in-None-clause-capacity : goal.returns-in-None-clause-capacity
 returns-in-None-clause-capacity g c = c.put_answer.ensures.capacity
+
+pub returns-in-Some-clause-behaves : goal.returns-in-Some-clause-behaves
+returns-in-Some-clause-behaves g c = λ log h. rw (← c.in-Some.ensures log h) (c.carry_out.ensures.behaves log h)

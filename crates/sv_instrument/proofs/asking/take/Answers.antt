@@ -1,11 +1,7 @@
-use Rattle.std.proofs.Common.{refl}
 use Rattle.sv_instrument.proofs.asking.take.Goals as goal
 
 pub returns-in-StandardEvents-clause-acts : goal.returns-in-StandardEvents-clause-acts
 returns-in-StandardEvents-clause-acts g c = λ log h. rw c.in-StandardEvents.is (c.change.ensures.acts log h)
-
-pub returns-in-StandardEvents-clause-apart : goal.returns-in-StandardEvents-clause-apart
-returns-in-StandardEvents-clause-apart g c = λ log. rw c.in-StandardEvents.is refl
 
 pub returns-in-StandardEvents-clause-few : goal.returns-in-StandardEvents-clause-few
 returns-in-StandardEvents-clause-few g c = c.change.ensures.few
@@ -16,9 +12,6 @@ returns-in-StandardEvents-clause-exchange g c = c.change.ensures.exchange
 pub returns-in-Error-clause-acts : goal.returns-in-Error-clause-acts
 returns-in-Error-clause-acts g c = λ log h. rw c.in-Error.is (c.change-in-Error.ensures.acts log h)
 
-pub returns-in-Error-clause-apart : goal.returns-in-Error-clause-apart
-returns-in-Error-clause-apart g c = λ log. rw c.in-Error.is refl
-
 pub returns-in-Error-clause-few : goal.returns-in-Error-clause-few
 returns-in-Error-clause-few g c = c.change-in-Error.ensures.few
 
@@ -27,9 +20,6 @@ returns-in-Error-clause-exchange g c = c.change-in-Error.ensures.exchange
 
 pub returns-in-Events-clause-acts : goal.returns-in-Events-clause-acts
 returns-in-Events-clause-acts g c = λ log h. rw c.in-Events.is (c.change-in-Events.ensures.acts log h)
-
-pub returns-in-Events-clause-apart : goal.returns-in-Events-clause-apart
-returns-in-Events-clause-apart g c = λ log. rw c.in-Events.is refl
 
 pub returns-in-Events-clause-few : goal.returns-in-Events-clause-few
 returns-in-Events-clause-few g c = c.change-in-Events.ensures.few

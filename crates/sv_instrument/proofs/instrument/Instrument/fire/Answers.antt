@@ -2,7 +2,7 @@ use Rattle.std.proofs.Common.{refl, ap}
 use Rattle.sv_layers.specs.Inside.Kept.{Layered}
 use Rattle.sv_instrument.specs.Kept.{Kept}
 use Rattle.sv_instrument.proofs.Running.{ran_one}
-use Rattle.sv_instrument.proofs.Steps.{fired_less}
+use Rattle.sv_instrument.proofs.Steps.{fired_less, refused_none}
 use Rattle.sv_instrument.proofs.instrument.Instrument.fire.Goals.{in-Ok, in-Err}
 use Rattle.sv_instrument.proofs.instrument.Instrument.fire.Goals as goal
 
@@ -13,7 +13,7 @@ returns-clause-fires g c = λ log h.
       | in-Ok w ↦
           let did = w.in-Ok.ensures.happens log s.layers in
           rw w.result-is (_, (did.0, refl), ran_one _ _ log _ _ did.1 s.held s.path w.one.ensures.value)
-      | in-Err w ↦ rw w.result-is (λ new fired. let other = w.in-Err.ensures.happens log s.layers in absurd cc)
+      | in-Err w ↦ rw w.result-is (λ new fired. refused_none (w.in-Err.ensures.happens log s.layers) fired.0)
     ]
 
 pub returns-clause-measure : goal.returns-clause-measure

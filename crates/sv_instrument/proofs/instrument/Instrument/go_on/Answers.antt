@@ -1,8 +1,8 @@
-use Rattle.std.proofs.Common.{◌∙◌, sym, ap}
-use Rattle.sv_exchange.specs.Exchange.{InterruptDue}
+use Rattle.std.proofs.Common.{◌∙◌, sym, ap, refl}
+use Rattle.sv_exchange.specs.Exchange.{InterruptDue, OverrunDue, FinishDue}
 use Rattle.sv_exchange.specs.Contents.{next_of}
 use Rattle.sv_layers.specs.Act.{exchange_acts}
-use Rattle.sv_instrument.proofs.Steps.{step_of, unit_step}
+use Rattle.sv_instrument.proofs.Steps.{step_of, unit_step, nothing_due}
 use Rattle.sv_instrument.proofs.instrument.Instrument.go_on.Goals as goal
 
 pub returns-in-Interrupt-clause-steps : goal.returns-in-Interrupt-clause-steps
@@ -66,3 +66,27 @@ returns-in-Finish-clause-idle g c = tt
 
 pub returns-in-Nothing-clause-measure : goal.returns-in-Nothing-clause-measure
 returns-in-Nothing-clause-measure g c = tt
+
+pub returns-in-Nothing-clause-steps : goal.returns-in-Nothing-clause-steps
+returns-in-Nothing-clause-steps g c = λ log h new.
+    let s = rw (← c.self.view_is) at h in
+    let is = c.in-Nothing.ensures.answer (exchange_acts log) (c.exchange.ensures.stands log s.layers) in
+    nothing_due log new (sym c.requires ∙ h.held) is
+
+pub returns-in-Nothing-clause-idle : goal.returns-in-Nothing-clause-idle
+returns-in-Nothing-clause-idle g c = refl
+
+pub returns-in-Overrun-clause-steps : goal.returns-in-Overrun-clause-steps
+returns-in-Overrun-clause-steps g c = λ log h.
+    let s = rw (← c.self.view_is) at h in
+    let is = c.in-Overrun.ensures.answer (exchange_acts log) (c.exchange.ensures.stands log s.layers) in
+    (_, step_of log _ _ OverrunDue (sym c.requires ∙ h.held) is refl, c.overran.ensures.ran log h)
+
+pub returns-in-Finish-clause-steps : goal.returns-in-Finish-clause-steps
+returns-in-Finish-clause-steps g c = λ log h.
+    let s = rw (← c.self.view_is) at h in
+    let is = c.in-Finish.ensures.answer (exchange_acts log) (c.exchange.ensures.stands log s.layers) in
+    (_, step_of log _ _ FinishDue (sym c.requires ∙ h.held) is refl, c.finish.ensures.ran log h)
+
+pub start-requires-clause-due : goal.start-requires-clause-due
+start-requires-clause-due g c = rw (← c.self.view_is) (_, ap next_of (sym c.exchange.ensures.value) ∙ sym c.in-Unit.ensures.value)

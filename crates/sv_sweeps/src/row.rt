@@ -1,0 +1,107 @@
+//! A row: what stands in front of its sweeps, and the sweeps.
+
+use crate::scripted::Scripted;
+use rationing::Rationed;
+use std::alloc::Global;
+use std::io::{self, BufWriter, Error, ErrorKind, Write};
+use sv_replay::read_scenario;
+use sv_serve::Driver;
+use sv_server::{Config, Server};
+
+/// What stands behind a sweep's number, where memory is refused in it.
+const MEMORY: &str = " memory ";
+
+/// The driver of a row.
+type Played<'a> = Driver<Scripted, &'a Rationed<Global>>;
+
+/// A number.
+fn number(text: &str) -> io::Result<u64> {
+    match text.parse::<u64>() {
+        Ok(number) => Ok(number),
+        Err(_) => Err(Error::from(ErrorKind::InvalidData)),
+    }
+}
+
+/// The number of the first line, where that begins with a word, and what stands behind; else 0,
+/// and the whole.
+fn setting<'a>(word: &str, text: &'a str) -> io::Result<(u64, &'a str)> {
+    match text.strip_prefix(word) {
+        Some(rest) => {
+            let (first, behind) = rest.split_once('\n').unwrap_or((rest, ""));
+            Ok((number(first)?, behind))
+        }
+        None => Ok((0, text)),
+    }
+}
+
+/// A driver as a row wants it, whose heap the row may ration.
+fn made<'a>(alloc: Global, heap: &'a Rationed<Global>, row: &str) -> io::Result<Played<'a>> {
+    let (front, _) = row.split_once("\nsweep ").unwrap_or((row, ""));
+    let (_, settings) = front.split_once('\n').unwrap_or((front, ""));
+    let (clock, settings) = setting("clock ", settings)?;
+    let (refused, entries) = setting("memory ", settings)?;
+    let config = Config {
+        core: 4096,
+        abort: 4097,
+        clock: clock.min(9_223_372_036_854_775_807),
+    };
+    let server = Server::new(heap, config)?;
+    let Ok(scenario) = read_scenario(heap, entries.as_bytes()) else {
+        return Err(Error::from(ErrorKind::InvalidData));
+    };
+    let wire = Scripted::new(alloc, String::from_str(alloc, row)?);
+    heap.refuse(refused);
+    Ok(Driver::new(heap, server, wire, scenario)?)
+}
+
+/// Makes a sweep, and prints what was asked in it.
+fn sweep<W: Write + Drop>(
+    heap: &Rationed<Global>,
+    driver: &mut Played<'_>,
+    place: usize,
+    line: &str,
+    writer: &mut BufWriter<W>,
+) -> io::Result<()> {
+    let (ticks, refused) = line.split_once(MEMORY).unwrap_or((line, "0"));
+    let ticks = number(ticks)?.min(u64::from(u32::MAX)) as u32;
+    driver.wire().sweep.set(place);
+    let before = driver.wire().asked.len();
+    heap.refuse(number(refused)?);
+    driver.sweep(ticks);
+    writeln!(writer, "sweep {line}")?;
+    let asked = driver.wire().asked.get(before..).unwrap_or("");
+    write!(writer, "{asked}")?;
+    if heap.waits() {
+        writeln!(writer, "memory was not asked for")?;
+    }
+    Ok(())
+}
+
+/// Plays a row, and prints its title and what is asked in each of its sweeps, or `memory` where
+/// there was none for its driver.
+pub(crate) fn play<W: Write + Drop>(
+    alloc: Global,
+    row: &str,
+    writer: &mut BufWriter<W>,
+) -> io::Result<()> {
+    let (title, _) = row.split_once('\n').unwrap_or((row, ""));
+    writeln!(writer, "= {title}")?;
+    let heap = Rationed::new(alloc);
+    let mut driver = match made(alloc, &heap, row) {
+        Ok(driver) => driver,
+        Err(fault) => return told(fault, writer),
+    };
+    for (place, section) in row.split("\nsweep ").enumerate().skip(1) {
+        let (line, _) = section.split_once('\n').unwrap_or((section, ""));
+        sweep(&heap, &mut driver, place, line, writer)?;
+    }
+    Ok(())
+}
+
+/// Prints that memory was refused; any other fault is passed on.
+fn told<W: Write + Drop>(fault: Error, writer: &mut BufWriter<W>) -> io::Result<()> {
+    match fault.kind() {
+        ErrorKind::OutOfMemory => writeln!(writer, "memory"),
+        _ => Err(fault),
+    }
+}
