@@ -59,9 +59,11 @@ fn the_first_reply_comes_over_sockets(rt: HostRuntime) -> Result<(), Fail> {
     let (mut told, mut heard) = (0, 0);
     let mut buffer = [0; 64];
     for _ in 0..10_000 {
-        told += tell(&mut client, CREATE_LINK.get(told..).unwrap_or(&[]))?;
+        let count = tell(&mut client, CREATE_LINK.get(told..).unwrap_or(&[]))?;
+        told = told.saturating_add(count);
         serve(&rt, &mut watch, &mut driver, 1)?;
-        heard += hear(&mut client, buffer.get_mut(heard..).unwrap_or(&mut []))?;
+        let count = hear(&mut client, buffer.get_mut(heard..).unwrap_or(&mut []))?;
+        heard = heard.saturating_add(count);
         if heard >= MADE.len() {
             break;
         }
