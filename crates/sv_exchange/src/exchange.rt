@@ -11,7 +11,7 @@ use crate::read::{Read, read_of};
 use crate::units::first_unit;
 use std::alloc::{AllocError, Allocator, Global};
 use std::marker::Model;
-use sv_text::append;
+use sv_text::{append, drop_front};
 
 /// How long a program message may be, and how many bytes are written at once.
 const MAX_MESSAGE: usize = 4096;
@@ -122,7 +122,7 @@ impl<A: Allocator> Exchange<A> {
         ensures stands { (acts : List ExchangeAct) → StandsFor self.old acts
             → StandsFor self.new (Accepted bytes.now ended ∷ acts) }
     {
-        self.text.drain(..self.cursor);
+        drop_front(&mut self.text, self.cursor);
         let before = self.text.len();
         append(&mut self.text, bytes);
         let cut = first_message(bytes, ended);

@@ -10,6 +10,7 @@ use crate::request::{LONGEST_CALL, Peer, put_request};
 use arrayvec::ArrayVec;
 use std::alloc::{AllocError, Allocator};
 use std::marker::Model;
+use sv_text::drop_front;
 
 /// How many calls may wait that weren't taken to their end.
 const MOST: usize = 32;
@@ -155,7 +156,7 @@ impl<A: Allocator> Channel<A> {
         ensures queued { (before : ℕ) (calls : List (List ℕ)) → IsQueued self.old before calls
             → IsQueued self.new (before + count) calls }
     {
-        self.bytes.drain(..count);
+        drop_front(&mut self.bytes, count);
         let_go(&mut self.sizes, count);
     }
 

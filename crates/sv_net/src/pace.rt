@@ -39,9 +39,14 @@ impl Pace {
         whole.min(MOST_TICKS) as u32
     }
 
-    /// Keeps that something was reported.
-    pub(crate) fn work(&mut self, now: u64) {
-        self.worked = now;
+    /// Keeps whether something was reported. This is when, and now.
+    pub(crate) fn seen(&mut self, reported: bool, now: u64) -> u64
+        ensures { result ≡ now }
+    {
+        if reported {
+            self.worked = now;
+        }
+        now
     }
 
     /// Whether it looks again without sleeping.

@@ -62,38 +62,38 @@ pub fn serve<N: Network + Drop, A: Allocator>(
 ) -> io::Result<()> {
     let start = Instant::now(clock)?;
     let mut pace = Pace::new();
+    let mut now = since(clock, start)?;
     for _ in 0..sweeps {
-        let now = since(clock, start)?;
         driver.sweep(pace.ticks(now));
-        let reported = if has_work(driver) {
-            watch.wait(driver.wire(), Duration::ZERO)?
+        now = if has_work(driver) {
+            let reported = watch.wait(driver.wire(), Duration::ZERO)?;
+            pace.seen(reported, since(clock, start)?)
         } else {
-            look(clock, start, watch, driver.wire(), pace)?
+            look(clock, start, watch, driver.wire(), &mut pace)?
         };
-        if reported {
-            pace.work(now);
-        }
     }
     Ok(())
 }
 
-/// Waits until something is reported, or the next whole millisecond, and tells whether something
-/// was.
+/// Waits until something is reported, or the next whole millisecond, and tells when that was. A
+/// look that doesn't sleep takes no time.
 fn look<N: Network + Drop, A: Allocator>(
     clock: &impl Clock,
     start: Instant,
     watch: &mut Watch<A>,
     net: &Net<N, A>,
-    pace: Pace,
-) -> io::Result<bool> {
+    pace: &mut Pace,
+) -> io::Result<u64> {
+    let mut now = since(clock, start)?;
     for _ in 0..LOOKS {
-        let now = since(clock, start)?;
         if !pace.is_eager(now) {
-            return watch.wait(net, pace.rest(now));
+            let reported = watch.wait(net, pace.rest(now))?;
+            return Ok(pace.seen(reported, since(clock, start)?));
         }
         if watch.wait(net, Duration::ZERO)? {
-            return Ok(true);
+            return Ok(pace.seen(true, now));
         }
+        now = since(clock, start)?;
     }
-    Ok(false)
+    Ok(now)
 }

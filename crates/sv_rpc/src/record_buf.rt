@@ -9,7 +9,7 @@ ghost use Rattle.sv_rpc.specs.Kept.{InRoom, GoesOn, Keeps, IsInHeader, IsBeforeH
 use crate::NoMemory;
 use std::alloc::{Allocator, Global};
 use std::marker::Model;
-use sv_text::append;
+use sv_text::{append, drop_front};
 use thiserror::Error;
 
 /// How many bytes the records in a buffer may take, with 4 for each.
@@ -131,7 +131,7 @@ impl<A: Allocator> RecordBuf<A> {
             → StandsFor self.new stream (dropped + 1) }
     {
         let size = usize::from(self.lengths.remove(0));
-        self.bytes.drain(..size);
+        drop_front(&mut self.bytes, size);
     }
 
     /// Forgets everything, as when it was new.

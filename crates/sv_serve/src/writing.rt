@@ -31,6 +31,7 @@ impl<W: Wire + Drop, A: Allocator> Driver<W, A> {
     }
 
     /// Writes what waits on a port, once.
+    #[inline(always)]
     fn write(&mut self, port: Port)
         requires { port_number port < 16 }
         ensures { Goes (Writes W.hears port) self.old self.new }

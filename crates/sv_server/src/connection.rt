@@ -13,6 +13,7 @@ use crate::reply::{Answer, LONGEST_REPLY, put_reply};
 use std::alloc::{AllocError, Allocator};
 use std::marker::Model;
 use sv_rpc::{RecordBuf, RpcFault};
+use sv_text::drop_front;
 
 /// How many outgoing bytes may wait.
 const OUTGOING: usize = 16384;
@@ -154,7 +155,7 @@ impl<A: Allocator> Connection<A> {
         ensures { (acts : List ConnAct) → IsConnection self.old acts
             → IsConnection self.new (BytesTaken count ∷ acts) }
     {
-        self.output.drain(..count);
+        drop_front(&mut self.output, count);
     }
 
     /// Whether a record was taken that is no call, or all records in front of one that is too long

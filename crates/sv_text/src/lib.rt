@@ -13,6 +13,6 @@ mod white;
 
 pub use header::{Header, Lead, header_parts};
 pub use part::first_part;
-pub use piece::append;
+pub use piece::{append, drop_front};
 pub use place::place_of;
 pub use white::{is_space, trim, without_end, without_start};

@@ -1,6 +1,6 @@
-//! Putting pieces together.
+//! Pieces put behind bytes, and bytes dropped from their front.
 
-ghost use Rattle.std.specs.Prelude.{◌≡◌, ◌+◌, ◌≤◌, ◌++◌, length, vec_len, vec_capacity};
+ghost use Rattle.std.specs.Prelude.{◌≡◌, ◌+◌, ◌≤◌, ◌++◌, drop, length, vec_len, vec_capacity};
 
 use std::alloc::Allocator;
 
@@ -11,4 +11,17 @@ pub fn append<A: Allocator>(bytes: &mut Vec<u8, A>, piece: &[u8])
     ensures capacity { vec_capacity bytes.old ≤ vec_capacity bytes.new }
 {
     bytes.extend_from_slice(piece).unwrap();
+}
+
+/// Drops so many bytes from the front, in one step where that is all. It takes no memory.
+pub fn drop_front<A: Allocator>(bytes: &mut Vec<u8, A>, count: usize)
+    requires { count ≤ vec_len bytes.old }
+    ensures items { bytes.new.items ≡ drop count bytes.old.items }
+    ensures capacity { vec_capacity bytes.new ≡ vec_capacity bytes.old }
+{
+    if count == bytes.len() {
+        bytes.clear();
+    } else {
+        bytes.drain(..count);
+    }
 }

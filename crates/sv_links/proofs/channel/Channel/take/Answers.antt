@@ -1,4 +1,4 @@
-use Rattle.std.proofs.Common.{length, refl, ap, ◌∙◌, arith}
+use Rattle.std.proofs.Common.{length, refl, ap, arith}
 use Rattle.std.proofs.lemmas.List.{length-drop}
 use Rattle.sv_links.specs.KeptChannels.{Channel}
 use Rattle.sv_links.proofs.Left.{sum-left, all-left, length-left}
@@ -9,13 +9,13 @@ pub invariant_of-self : goal.invariant_of-self
 invariant_of-self g c =
     let sizes = c.self.inside.sizes.items in
     let bytes = c.self.inside.bytes.items in
-    let items = c.drop-drain.ensures.items ∙ c.drain.ensures.kept in
+    let items = c.drop_front.ensures.items in
     let within = rw (← c.self.view_is) at c.requires in
     let rest = sum-left c.args.count sizes (omega (arith, within, c.self.invariant.0)) in (
       rw c.let_go.ensures (omega (arith, ap length items, length-drop c.args.count bytes, within, rest, c.self.invariant.0)),
       rw c.let_go.ensures (all-left 88 c.args.count sizes c.self.invariant.1),
       rw c.let_go.ensures (omega (arith, length-left c.args.count sizes, c.self.invariant.2)),
-      λ there. rw (c.drop-drain.ensures.capacity ∙ c.drain.ensures.capacity) (c.self.invariant.3 there),
+      λ there. rw (c.drop_front.ensures.capacity) (c.self.invariant.3 there),
     )
 
 pub returns-clause-queued : goal.returns-clause-queued
@@ -26,7 +26,7 @@ returns-clause-queued g c before calls is =
       stage = inside.stage;
       made = inside.made;
       sizes = c.let_go.new.sizes.items;
-      bytes = c.drop-drain.new.self.0.items;
+      bytes = c.drop_front.new.bytes.items;
     } in
-    IsQueued-taken old new before c.args.count calls refl c.let_go.ensures (c.drop-drain.ensures.items ∙ c.drain.ensures.kept)
+    IsQueued-taken old new before c.args.count calls refl c.let_go.ensures (c.drop_front.ensures.items)
     (rw (← c.self.view_is) at c.requires) (rw (← c.self.view_is) at is)
