@@ -3,11 +3,12 @@
 ghost use Rattle.std.specs.Prelude.{◌≡◌, List, [], IfOk};
 ghost use Rattle.sv_errors.specs.ErrorQueue.{StandsFor as Queues};
 ghost use Rattle.sv_status.specs.Register.{StandsFor as Registers};
+ghost use Rattle.sv_status.specs.declared.status_byte.StatusAct.{StatusAct};
 ghost use Rattle.sv_scan.specs.Stands.{StandsFor as Scans};
 ghost use Rattle.sv_exchange.specs.Contents.{StandsFor as Exchanges};
 ghost use Rattle.sv_layers.specs.Act.{Act, exchange_acts, queue_acts, scan_acts};
-ghost use Rattle.sv_layers.specs.Inside.Seen.{seen, register_acts};
-ghost use Rattle.sv_layers.specs.Inside.Kept.{StandsFor};
+ghost use Rattle.sv_layers.specs.Inside.Seen.{Seen, register_acts};
+ghost use Rattle.sv_layers.specs.Inside.Kept.{StandsFor, Joined};
 
 use std::alloc::{AllocError, Allocator, Global};
 use std::marker::Model;
@@ -107,8 +108,8 @@ impl<A: Allocator> Layers<A> {
 
     /// One of the two status registers.
     pub(crate) fn register(&self, name: RegisterName) -> &Register
-        ensures { (log : List Act) → StandsFor self.now log
-            → Registers result.now (register_acts name (seen log)) }
+        ensures { (at : Seen) (told : List StatusAct) → Joined self.now at told
+            → Registers result.now (register_acts name at) }
     {
         match name {
             RegisterName::Operation => &self.operation,

@@ -1,16 +1,37 @@
-//! Runs the scripts of the standard input, each on a new server, and prints behind the title of
-//! each what its replay prints, and why it stopped if it did.
+//! Plays the rows of the standard input, each with parts of its own, and prints behind the title of
+//! each what comes of it.
 //!
-//! A title is a line `= WORDS`. The script behind it reaches to the next title, without the new
-//! line in front of that: so a script that ends in a new line has an empty line behind it, and a
-//! script without one shows how a replay ends in the midst of a line.
+//! A title is a line `= WORDS`. The text behind it reaches to the next title, without the new line
+//! in front of that: so a text that ends in a new line has an empty line behind it, and one without
+//! shows how a replay ends in the midst of a line. A text is a script of a replay, unless its first
+//! line begins with `! `:
+//!
+//! | First line | What the text behind it is | What is printed |
+//! |---|---|---|
+//! | none | a script | what its replay prints, and its fault where it has one |
+//! | `! singly` | a script | the same, where bytes come and go singly, each behind an interruption |
+//! | `! input fails` | a script, behind which the input fails | how many bytes the output took, these, and the fault |
+//! | `! output takes N` | a script, whose output takes so many bytes, and then fails | the same |
+//! | `! output stops at N` | a script, whose output takes so many bytes, and then none | the same |
+//! | `! memory` | a script, of whose replay each allocation is refused in turn | each outcome that differs from the one before, and behind `all` that with all memory |
+//! | `! memory, output takes N` | the same, with such an output | the same |
+//! | `! events` | events and questions, a line each (`events.rt`) | what each tells |
+//! | `! scenario` | a scenario | its entries, or its fault |
+//! | `! scenario, memory` | the same, of whose reading each allocation is refused in turn | as for `! memory` |
 #![tactic(auto)]
+
+mod events;
+mod replays;
+mod scenarios;
+mod streams;
+mod turns;
+mod words;
 
 use std::alloc::Global;
 use std::io::{self, BufWriter, Error, ErrorKind, Write};
 use sv_replay::run_replay;
 
-/// Runs each script in its order.
+/// Plays each row in its order.
 fn main(rt: HostRuntime) -> io::Result<()> {
     let text = io::read_to_string(rt.alloc(), rt.reader())?;
     let Some(rows) = text.strip_prefix("= ") else {
@@ -23,13 +44,38 @@ fn main(rt: HostRuntime) -> io::Result<()> {
     writer.flush()
 }
 
-/// Prints the title of a script and what its replay prints. A replay that fails is told by its
-/// fault.
+/// Prints the title of a row and what comes of it.
 fn show<W: Write + Drop>(alloc: Global, row: &str, writer: &mut BufWriter<W>) -> io::Result<()> {
-    let (title, script) = row.split_once('\n').unwrap_or((row, ""));
+    let (title, text) = row.split_once('\n').unwrap_or((row, ""));
     writeln!(writer, "= {title}")?;
-    match run_replay(alloc, &mut script.as_bytes(), writer) {
+    match text.strip_prefix("! ") {
+        Some(rest) => {
+            let (kind, behind) = rest.split_once('\n').unwrap_or((rest, ""));
+            play(alloc, kind, behind, writer)
+        }
+        None => replay(alloc, text, writer),
+    }
+}
+
+/// Prints what the replay of a script prints. A replay that fails is told by its fault.
+fn replay<W: Write + Drop>(alloc: Global, text: &str, writer: &mut BufWriter<W>) -> io::Result<()> {
+    match run_replay(alloc, &mut text.as_bytes(), writer) {
         Ok(()) => Ok(()),
         Err(fault) => writeln!(writer, "{fault}"),
+    }
+}
+
+/// Prints what comes of a text of this kind.
+fn play<W: Write + Drop>(
+    alloc: Global,
+    kind: &str,
+    text: &str,
+    writer: &mut BufWriter<W>,
+) -> io::Result<()> {
+    match kind {
+        "events" => events::play(alloc, text, writer),
+        "scenario" => scenarios::show(alloc, text, writer),
+        "scenario, memory" => scenarios::show_each(alloc, text, writer),
+        _ => replays::play(alloc, kind, text, writer),
     }
 }

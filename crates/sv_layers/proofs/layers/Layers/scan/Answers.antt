@@ -1,22 +1,17 @@
-use Rattle.std.proofs.Common.{rules, refl}
-use Rattle.sv_layers.specs.Act.{Scanned}
+use Rattle.std.proofs.Common.{rules}
 use Rattle.sv_layers.proofs.layers.Layers.scan.Goals as goal
 
-pub returns-clause-happens : goal.returns-clause-happens
-returns-clause-happens g c = λ log h.
-    let j = rw (← c.self.view_is) at h.joined in
-    c.settle.ensures.happens log (Scanned c.args.act) (record {
-      told = h.told;
-      are = h.are;
-      joined = record {
-        exchange = j.exchange;
-        errors = j.errors;
-        operation = j.operation;
-        questionable = j.questionable;
-        standard = j.standard;
-        status = j.status;
-        scanner = search rules;
-        service = j.service;
-        waits = search rules;
-      };
-    }) refl
+pub returns-clause-stands : goal.returns-clause-stands
+returns-clause-stands g c = λ at told h.
+    let j = rw (← c.self.view_is) at h in
+    record {
+      exchange = j.exchange;
+      errors = j.errors;
+      operation = j.operation;
+      questionable = j.questionable;
+      standard = j.standard;
+      status = j.status;
+      scanner = search rules;
+      service = j.service;
+      waits = search rules;
+    }

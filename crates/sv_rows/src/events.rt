@@ -1,0 +1,159 @@
+//! Events at a server, and what it tells without printing it. A text has these lines:
+//!
+//! | Line | What it says |
+//! |---|---|
+//! | `clock MILLISECONDS` | in front of all others: the clock at the start; else 0 |
+//! | a line of a replay, other than `tick N` | this happens |
+//! | `took c0 44` | the peer takes so many bytes of a port |
+//! | `memory N` | from here on the Nth allocation is refused |
+//! | `ask 0` | what is told of a connection |
+//! | `show c0` | the bytes that wait on a port |
+//!
+//! Of an event it is printed that it was idle, or by which number it was refused; of one that was
+//! done nothing.
+
+use crate::words::{bad, number};
+use rationing::Rationed;
+use std::alloc::Global;
+use std::io::{self, BufWriter, Write};
+use sv_replay::{Line, read_line};
+use sv_server::{Config, Did, Event, Port, Server};
+
+/// The longest line.
+const LONGEST: usize = 16_384;
+
+/// The server of a row, whose memory the row may refuse.
+type Played<'a> = Server<&'a Rationed<Global>>;
+
+/// A connection's number.
+fn conn_of(text: &str) -> io::Result<u8> {
+    Ok(number(text)?.min(255) as u8)
+}
+
+/// A port, as `c0` or `i0`.
+fn port_of(text: &str) -> io::Result<Port> {
+    if let Some(conn) = text.strip_prefix('c') {
+        return Ok(Port::Conn(conn_of(conn)?));
+    }
+    match text.strip_prefix('i') {
+        Some(conn) => Ok(Port::Intr(conn_of(conn)?)),
+        None => Err(bad()),
+    }
+}
+
+/// Lets an event happen, and prints what it did, unless that is what it asks for.
+fn happen<W: Write + Drop>(
+    server: &mut Played<'_>,
+    event: Event<'_>,
+    writer: &mut BufWriter<W>,
+) -> io::Result<()> {
+    match server.apply(event) {
+        Ok(Did::Done) => Ok(()),
+        Ok(Did::Idle) => writeln!(writer, "idle"),
+        Err(refused) => writeln!(writer, "refused {}: {refused}", refused.number()),
+    }
+}
+
+/// Lets the event of a replay's line happen.
+fn replayed<W: Write + Drop>(
+    server: &mut Played<'_>,
+    line: &str,
+    writer: &mut BufWriter<W>,
+) -> io::Result<()> {
+    let mut buffer = [0; LONGEST];
+    if line.len() > LONGEST {
+        return Err(bad());
+    }
+    match read_line(line.as_bytes(), &mut buffer) {
+        Some(Line::Blank) => Ok(()),
+        Some(Line::One(event)) => happen(server, event, writer),
+        Some(Line::Ticks(_)) => Err(bad()),
+        None => Err(bad()),
+    }
+}
+
+/// Prints what is told of a connection.
+fn ask<W: Write + Drop>(
+    server: &Played<'_>,
+    conn: u8,
+    writer: &mut BufWriter<W>,
+) -> io::Result<()> {
+    let (ready, faulted) = (server.ready(conn), server.faulted(conn));
+    write!(writer, "ready {ready}, faulted {faulted}")?;
+    let (replies, calls) = (
+        server.waiting(Port::Conn(conn)).len(),
+        server.waiting(Port::Intr(conn)).len(),
+    );
+    write!(
+        writer,
+        ", room {}, c{conn} {replies}, i{conn} {calls}",
+        server.room(conn)
+    )?;
+    match server.dial(conn) {
+        Some(dial) => writeln!(writer, ", dial {:x}:{}", dial.addr, dial.port),
+        None => writeln!(writer),
+    }
+}
+
+/// Prints the bytes that wait on a port.
+fn show<W: Write + Drop>(
+    server: &Played<'_>,
+    port: &str,
+    writer: &mut BufWriter<W>,
+) -> io::Result<()> {
+    write!(writer, "{port} ")?;
+    for byte in server.waiting(port_of(port)?) {
+        write!(writer, "{byte:02x}")?;
+    }
+    writeln!(writer)
+}
+
+/// Does what a line says.
+fn step<W: Write + Drop>(
+    heap: &Rationed<Global>,
+    server: &mut Played<'_>,
+    line: &str,
+    writer: &mut BufWriter<W>,
+) -> io::Result<()> {
+    let (word, rest) = line.split_once(' ').unwrap_or((line, ""));
+    match word {
+        "memory" => {
+            heap.refuse(number(rest)?);
+            Ok(())
+        }
+        "ask" => ask(server, conn_of(rest)?, writer),
+        "show" => show(server, rest, writer),
+        "took" => {
+            let (port, count) = rest.split_once(' ').unwrap_or((rest, ""));
+            let (port, count) = (port_of(port)?, number(count)? as u32);
+            happen(server, Event::Took { port, count }, writer)
+        }
+        _ => replayed(server, line, writer),
+    }
+}
+
+/// Plays the lines of a text on a new server.
+pub(crate) fn play<W: Write + Drop>(
+    alloc: Global,
+    text: &str,
+    writer: &mut BufWriter<W>,
+) -> io::Result<()> {
+    let (clock, lines) = match text.strip_prefix("clock ") {
+        Some(rest) => {
+            let (clock, lines) = rest.split_once('\n').unwrap_or((rest, ""));
+            (number(clock)?, lines)
+        }
+        None => (0, text),
+    };
+    let config = Config {
+        core: 4096,
+        abort: 4097,
+        clock: clock.min(9_223_372_036_854_775_807),
+    };
+    let heap = Rationed::new(alloc);
+    let mut server = Server::new(&heap, config)?;
+    for line in lines.split('\n') {
+        step(&heap, &mut server, line, writer)?;
+    }
+    Ok(())
+}

@@ -1,0 +1,97 @@
+//! Replays whose reader or writer gives little, takes little or fails, or whose memory is refused.
+
+use crate::streams::{Manner, Sink, Source};
+use crate::turns::each;
+use crate::words::{bad, number};
+use rationing::Rationed;
+use std::alloc::Global;
+use std::io::{self, BufWriter, Write};
+use sv_replay::{RunFault, run_replay};
+
+/// The manner that these words tell.
+fn manner_of(words: &str) -> io::Result<Manner> {
+    let ample = Manner::ample();
+    if let Some(count) = words.strip_prefix("output takes ") {
+        let room = number(count)? as usize;
+        return Ok(Manner { room, ..ample });
+    }
+    if let Some(count) = words.strip_prefix("output stops at ") {
+        let room = number(count)? as usize;
+        let is_silent = true;
+        return Ok(Manner {
+            room,
+            is_silent,
+            ..ample
+        });
+    }
+    match words {
+        "singly" => Ok(Manner {
+            singly: true,
+            ..ample
+        }),
+        "input fails" => Ok(Manner {
+            input_fails: true,
+            ..ample
+        }),
+        "memory" => Ok(ample),
+        _ => Err(bad()),
+    }
+}
+
+/// What was taken of the print, and the fault where there is one.
+fn told(alloc: Global, taken: &[u8], answer: Result<(), RunFault>) -> io::Result<String> {
+    let Ok(text) = str::from_utf8(taken) else {
+        return Err(bad());
+    };
+    let mut outcome = String::from_str(alloc, text)?;
+    if let Err(fault) = answer {
+        if !text.is_empty() && !text.ends_with('\n') {
+            outcome.push('\n')?;
+        }
+        let fault = format!(in alloc; "{fault}\n")?;
+        outcome.push_str(&fault)?;
+    }
+    Ok(outcome)
+}
+
+/// What comes of a replay: how many bytes the output took, unless it takes all, and these.
+fn outcome(
+    alloc: Global,
+    heap: &Rationed<Global>,
+    manner: Manner,
+    script: &str,
+) -> io::Result<String> {
+    let mut source = Source {
+        rest: script.as_bytes(),
+        manner,
+        was_interrupted: false,
+    };
+    let sink = Sink {
+        taken: Vec::new(alloc),
+        manner,
+        was_interrupted: false,
+    };
+    let mut writer = BufWriter::new(alloc, sink)?;
+    let answer = run_replay(heap, &mut source, &mut writer);
+    told(alloc, writer.get_ref().taken.as_slice(), answer)
+}
+
+/// Prints what comes of a script in the manner that these words tell.
+pub(crate) fn play<W: Write + Drop>(
+    alloc: Global,
+    words: &str,
+    script: &str,
+    writer: &mut BufWriter<W>,
+) -> io::Result<()> {
+    match words.strip_prefix("memory") {
+        Some(rest) => {
+            let manner = manner_of(rest.strip_prefix(", ").unwrap_or("memory"))?;
+            each(alloc, |heap| outcome(alloc, heap, manner, script), writer)
+        }
+        None => {
+            let heap = Rationed::new(alloc);
+            let outcome = outcome(alloc, &heap, manner_of(words)?, script)?;
+            write!(writer, "{outcome}")
+        }
+    }
+}

@@ -1,0 +1,85 @@
+//! Readers and writers that give little, take little or fail.
+
+use std::io::{Error, ErrorKind, Read, Result, Write};
+
+/// How a reader gives its bytes, and a writer takes them.
+#[derive(Clone, Copy)]
+pub(crate) struct Manner {
+    /// Whether each byte comes and goes by itself, behind an interruption.
+    pub(crate) singly: bool,
+    /// Whether the reader fails at its end.
+    pub(crate) input_fails: bool,
+    /// How many bytes the writer takes.
+    pub(crate) room: usize,
+    /// Whether the writer then takes none, and doesn't say why.
+    pub(crate) is_silent: bool,
+}
+
+impl Manner {
+    /// All at once, and without a fault.
+    pub(crate) fn ample() -> Manner {
+        Manner {
+            singly: false,
+            input_fails: false,
+            room: usize::MAX,
+            is_silent: false,
+        }
+    }
+
+    /// How many bytes come or go at once.
+    fn most(self) -> usize {
+        if self.singly { 1 } else { usize::MAX }
+    }
+}
+
+/// A reader of a text.
+#[derive(Drop)]
+pub(crate) struct Source<'a> {
+    pub(crate) rest: &'a [u8],
+    pub(crate) manner: Manner,
+    pub(crate) was_interrupted: bool,
+}
+
+impl Read for Source<'_> {
+    fn read(&mut self, buf: &mut [u8]) -> Result<usize> {
+        self.was_interrupted = self.manner.singly & !self.was_interrupted;
+        if self.was_interrupted {
+            return Err(Error::from(ErrorKind::Interrupted));
+        }
+        if self.rest.is_empty() && self.manner.input_fails {
+            return Err(Error::from(ErrorKind::BrokenPipe));
+        }
+        let count = self.rest.len().min(buf.len()).min(self.manner.most());
+        buf[..count].copy_from_slice(&self.rest[..count]);
+        self.rest = &self.rest[count..];
+        Ok(count)
+    }
+}
+
+/// A writer that keeps what it takes.
+#[derive(Drop)]
+pub(crate) struct Sink {
+    pub(crate) taken: Vec<u8>,
+    pub(crate) manner: Manner,
+    pub(crate) was_interrupted: bool,
+}
+
+impl Write for Sink {
+    fn write(&mut self, buf: &[u8]) -> Result<usize> {
+        self.was_interrupted = self.manner.singly & !self.was_interrupted;
+        if self.was_interrupted {
+            return Err(Error::from(ErrorKind::Interrupted));
+        }
+        let count = buf.len().min(self.manner.room).min(self.manner.most());
+        if count == 0 && !self.manner.is_silent {
+            return Err(Error::from(ErrorKind::BrokenPipe));
+        }
+        self.taken.extend_from_slice(&buf[..count])?;
+        self.manner.room -= count;
+        Ok(count)
+    }
+
+    fn flush(&mut self) -> Result<()> {
+        Ok(())
+    }
+}

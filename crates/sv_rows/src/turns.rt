@@ -1,0 +1,34 @@
+//! Each allocation refused in turn.
+
+use crate::words::bad;
+use rationing::Rationed;
+use std::alloc::Global;
+use std::io::{self, BufWriter, Write};
+
+/// Above how many allocations a row can't be played.
+const MOST: u64 = 1000;
+
+/// Makes something once for each of its allocations, of which that one is refused. Prints each
+/// outcome that differs from the one before it, and behind `all` the one with all memory.
+pub(crate) fn each<W: Write + Drop, F: Fn(&Rationed<Global>) -> io::Result<String>>(
+    alloc: Global,
+    make: F,
+    writer: &mut BufWriter<W>,
+) -> io::Result<()>
+    requires { F.IsAlwaysCallable make }
+{
+    let heap = Rationed::new(alloc);
+    let mut before = String::new(alloc);
+    for number in 1..MOST {
+        heap.refuse(number);
+        let outcome = make(&heap)?;
+        if heap.waits() {
+            return write!(writer, "all\n{outcome}");
+        }
+        if outcome != before {
+            write!(writer, "{outcome}")?;
+        }
+        before = outcome;
+    }
+    Err(bad())
+}

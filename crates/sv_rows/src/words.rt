@@ -1,0 +1,16 @@
+//! Numbers in the lines of a row.
+
+use std::io::{self, Error, ErrorKind};
+
+/// What is told of a row that can't be played.
+pub(crate) fn bad() -> Error {
+    Error::from(ErrorKind::InvalidData)
+}
+
+/// A number.
+pub(crate) fn number(text: &str) -> io::Result<u64> {
+    match text.parse::<u64>() {
+        Ok(number) => Ok(number),
+        Err(_) => Err(bad()),
+    }
+}
