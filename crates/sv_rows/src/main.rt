@@ -6,18 +6,18 @@
 //! shows how a replay ends in the midst of a line. A text is a script of a replay, unless its first
 //! line begins with `! `:
 //!
-//! | First line | What the text behind it is | What is printed |
-//! |---|---|---|
-//! | none | a script | what its replay prints, and its fault where it has one |
-//! | `! singly` | a script | the same, where bytes come and go singly, each behind an interruption |
-//! | `! input fails` | a script, behind which the input fails | how many bytes the output took, these, and the fault |
-//! | `! output takes N` | a script, whose output takes so many bytes, and then fails | the same |
-//! | `! output stops at N` | a script, whose output takes so many bytes, and then none | the same |
-//! | `! memory` | a script, of whose replay each allocation is refused in turn | each outcome that differs from the one before, and behind `all` that with all memory |
-//! | `! memory, output takes N` | the same, with such an output | the same |
-//! | `! events` | events and questions, a line each (`events.rt`) | what each tells |
-//! | `! scenario` | a scenario | its entries, or its fault |
-//! | `! scenario, memory` | the same, of whose reading each allocation is refused in turn | as for `! memory` |
+//! - none: a script; printed is what its replay prints, and its fault where it has one;
+//! - `! singly`: the same, where bytes come and go singly, each behind an interruption;
+//! - `! input fails`: a script, behind which the input fails; printed is what the output took, and
+//!   the fault, on a line of its own;
+//! - `! output takes N`, `! output stops at N`: a script, whose output takes so many bytes and then
+//!   fails, or takes none without a word; printed is the same;
+//! - `! memory`, `! memory, output takes N`: a script, of whose replay each allocation is refused
+//!   in turn; printed is each outcome that differs from the one in front of it, and behind `all`
+//!   that with all memory;
+//! - `! events`: events and questions, a line each (`events.rt`); printed is what each tells;
+//! - `! scenario`: a scenario; printed are its entries, or its fault;
+//! - `! scenario, memory`: a scenario, of whose reading each allocation is refused in turn.
 #![tactic(auto)]
 
 mod events;

@@ -1,6 +1,5 @@
 //! A driver over real sockets: a client in the same process, which is served between its steps.
 
-use crate::controller::CREATE_LINK;
 use crate::same::same_bytes;
 use mio::net::TcpStream;
 use std::io::{ErrorKind, Read, Write};
@@ -12,6 +11,11 @@ use sv_server::{Config, Server};
 
 /// The ports of the core channel, the abort channel and the port mapper.
 const PORTS: [u16; 3] = [24096, 24097, 24098];
+
+/// A call of `create_link` for the device `inst0`.
+const CREATE_LINK: &[u8] =
+    b"\x80\0\0\x40\0\0\0\x01\0\0\0\0\0\0\0\x02\0\x06\x07\xAF\0\0\0\x01\0\0\0\x0A\0\0\0\0\0\0\0\0\
+    \0\0\0\0\0\0\0\0\0\0\0\0\0\0\0\0\0\0\0\0\0\0\0\x05inst0\0\0\0";
 
 /// The reply that makes link 1: its number, the abort port and the most that a write may have.
 const MADE: &[u8] =
