@@ -5,7 +5,7 @@ use sv_status::RegisterName;
 
 /// What a unit asks for, with values of its own. A mask of a register may have bit 15, which the
 /// register drops.
-#[derive(Debug, Drop)]
+#[derive(Drop)]
 pub enum Order {
     /// `*CLS`: clear events and the error queue (IEEE 488.2, 10.3).
     ClearStatus,
@@ -49,7 +49,7 @@ pub enum Order {
 }
 
 /// What a query asks for that is answered at once.
-#[derive(Clone, Copy, Debug)]
+#[derive(Clone, Copy)]
 pub enum Question {
     /// `*IDN?`: who the instrument is.
     Identification,

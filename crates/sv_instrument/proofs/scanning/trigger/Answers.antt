@@ -1,6 +1,7 @@
 use Rattle.sv_exchange.specs.Contents.{work_of}
 use Rattle.std.proofs.Common.{refl, sym, subst, arith, ap}
 use Rattle.sv_layers.specs.Inside.Kept.{Layered, StandsFor as Stands}
+use Rattle.sv_instrument.specs.Inside.Acted.{Advances}
 use Rattle.sv_instrument.proofs.Running.{acted_one}
 use Rattle.sv_instrument.proofs.Units.{behaves_unrefused, behaves_refused}
 use Rattle.sv_instrument.proofs.scanning.trigger.Goals as goal
@@ -21,6 +22,10 @@ returns-in-Ok-clause-advances g c = record {
   less = omega (arith, c.end.ensures.advances.less, ap work_of c.trigger.ensures.exchange);
   right = c.end.ensures.advances.right;
 }
+
+pub returns-in-Err-clause-advances : goal.returns-in-Err-clause-advances
+returns-in-Err-clause-advances g c = subst (λ (layers : Layered). Advances layers c.carry_out.new.layers c.carry_out.result.held)
+    c.in-Err.ensures.refused c.carry_out.ensures.advances
 
 pub returns-in-Ok-clause-few : goal.returns-in-Ok-clause-few
 returns-in-Ok-clause-few g c = omega (arith, c.end.ensures.few, c.one.ensures.few)
