@@ -2,10 +2,11 @@
 
 use crate::same::same_bytes;
 use mio::net::TcpStream;
-use std::io::{ErrorKind, Read, Write};
+use std::alloc::Global;
+use std::io::{self, ErrorKind, Read, Write};
 use std::net::{Ipv4Addr, SocketAddr, SocketAddrV4};
 use std::test::Fail;
-use sv_net::{Watch, serve};
+use sv_net::{Net, Watch, serve};
 use sv_serve::Driver;
 use sv_server::{Config, Server};
 
@@ -22,12 +23,20 @@ const MADE: &[u8] =
     b"\x80\0\0\x28\0\0\0\x01\0\0\0\x01\0\0\0\0\0\0\0\0\0\0\0\0\0\0\0\0\0\0\0\0\0\0\0\x01\0\0\
     \x5E\x21\0\0\x10\0";
 
-/// Writes what is still to be written, as much of it as the socket takes; tells how much that is.
-fn tell(client: &mut TcpStream, bytes: &[u8]) -> Result<usize, Fail> {
-    if bytes.is_empty() {
-        return Ok(0);
-    }
-    match client.write(bytes) {
+/// A client that makes one call.
+#[derive(Drop)]
+struct Client {
+    stream: TcpStream,
+    /// How many bytes of the call were written.
+    told: usize,
+    /// What came, and how many bytes of that.
+    buffer: [u8; 64],
+    heard: usize,
+}
+
+/// What a socket gave or took; nothing where it would have blocked.
+fn moved(outcome: io::Result<usize>) -> Result<usize, Fail> {
+    match outcome {
         Ok(count) => Ok(count),
         Err(error) => match error.kind() {
             ErrorKind::WouldBlock | ErrorKind::NotConnected => Ok(0),
@@ -36,41 +45,69 @@ fn tell(client: &mut TcpStream, bytes: &[u8]) -> Result<usize, Fail> {
     }
 }
 
-/// Reads what is there; tells how much that is.
-fn hear(client: &mut TcpStream, buffer: &mut [u8]) -> Result<usize, Fail> {
-    match client.read(buffer) {
-        Ok(0) => Err(Fail::new(format_args!("the stream ended"))),
-        Ok(count) => Ok(count),
-        Err(error) => match error.kind() {
-            ErrorKind::WouldBlock | ErrorKind::NotConnected => Ok(0),
-            _ => Err(Fail::from(error)),
-        },
+impl Client {
+    /// A client of the core channel.
+    fn connect(rt: HostRuntime) -> Result<Client, Fail> {
+        let addr = SocketAddr::V4(SocketAddrV4::new(Ipv4Addr::LOCALHOST, PORTS[0]));
+        Ok(Client {
+            stream: TcpStream::connect(&rt, addr)?,
+            told: 0,
+            buffer: [0; 64],
+            heard: 0,
+        })
+    }
+
+    /// Writes what is still to be written, as much of it as the socket takes.
+    fn tell(&mut self) -> Result<(), Fail> {
+        let rest = CREATE_LINK.get(self.told..).unwrap_or(&[]);
+        if !rest.is_empty() {
+            let count = moved(self.stream.write(rest))?;
+            self.told = self.told.saturating_add(count);
+        }
+        Ok(())
+    }
+
+    /// Reads what is there.
+    fn hear(&mut self) -> Result<(), Fail> {
+        let room = self.buffer.get_mut(self.heard..).unwrap_or(&mut []);
+        let count = moved(self.stream.read(room))?;
+        self.heard = self.heard.saturating_add(count);
+        Ok(())
+    }
+
+    /// What came.
+    fn reply(&self) -> &[u8] {
+        self.buffer.get(..self.heard).unwrap_or(&[])
     }
 }
 
-#[test]
-fn the_first_reply_comes_over_sockets(rt: HostRuntime) -> Result<(), Fail> {
+/// What waits for sockets, and a driver over them with a new server.
+type Served = (Watch<Global>, Driver<Net<HostRuntime, Global>, Global>);
+
+/// A server over real sockets.
+fn served(rt: HostRuntime) -> Result<Served, Fail> {
     let config = Config {
         core: PORTS[0],
         abort: PORTS[1],
         clock: 0,
     };
     let server = Server::new(rt.alloc(), config)?;
-    let (mut watch, net) = Watch::listen(rt, rt.alloc(), PORTS)?;
-    let mut driver = Driver::new(rt.alloc(), server, net, Vec::new(rt.alloc()))?;
-    let addr = SocketAddr::V4(SocketAddrV4::new(Ipv4Addr::LOCALHOST, PORTS[0]));
-    let mut client = TcpStream::connect(&rt, addr)?;
-    let (mut told, mut heard) = (0, 0);
-    let mut buffer = [0; 64];
+    let (watch, net) = Watch::listen(rt, rt.alloc(), PORTS)?;
+    let driver = Driver::new(rt.alloc(), server, net, Vec::new(rt.alloc()))?;
+    Ok((watch, driver))
+}
+
+#[test]
+fn the_first_reply_comes_over_sockets(rt: HostRuntime) -> Result<(), Fail> {
+    let (mut watch, mut driver) = served(rt)?;
+    let mut client = Client::connect(rt)?;
     for _ in 0..10_000 {
-        let count = tell(&mut client, CREATE_LINK.get(told..).unwrap_or(&[]))?;
-        told = told.saturating_add(count);
+        client.tell()?;
         serve(&rt, &mut watch, &mut driver, 1)?;
-        let count = hear(&mut client, buffer.get_mut(heard..).unwrap_or(&mut []))?;
-        heard = heard.saturating_add(count);
-        if heard >= MADE.len() {
+        client.hear()?;
+        if client.reply().len() >= MADE.len() {
             break;
         }
     }
-    same_bytes(buffer.get(..heard).unwrap_or(&[]), MADE, "the reply")
+    same_bytes(client.reply(), MADE, "the reply")
 }
