@@ -38,7 +38,7 @@ fn manner_of(words: &str) -> io::Result<Manner> {
     }
 }
 
-/// What was taken of the print, and the fault where there is one.
+/// What was taken of the print, and the fault where there is one, on a line of its own.
 fn told(alloc: Global, taken: &[u8], answer: Result<(), RunFault>) -> io::Result<String> {
     let Ok(text) = str::from_utf8(taken) else {
         return Err(bad());
@@ -54,7 +54,7 @@ fn told(alloc: Global, taken: &[u8], answer: Result<(), RunFault>) -> io::Result
     Ok(outcome)
 }
 
-/// What comes of a replay: how many bytes the output took, unless it takes all, and these.
+/// What comes of a replay: what the output took of its print, and its fault where it has one.
 fn outcome(
     alloc: Global,
     heap: &Rationed<Global>,
