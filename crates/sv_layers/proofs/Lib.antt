@@ -1,6 +1,7 @@
 pub mod Booleans
 pub mod OneStatus
 pub mod Compared
+pub mod Acted
 pub mod Unpolled
 pub mod Projected
 pub mod Registered

@@ -1,4 +1,4 @@
-use Rattle.std.proofs.Common.{rules, refl}
+use Rattle.std.proofs.Common.{refl}
 use Rattle.sv_errors.proofs.Since.{then_same}
 use Rattle.sv_layers.specs.Act.{Polled}
 use Rattle.sv_layers.proofs.SameRequests.{same_status}
@@ -21,7 +21,7 @@ returns-clause-happens g c = λ log h.
         operation = j.operation;
         questionable = j.questionable;
         standard = j.standard;
-        status = search rules;
+        status = c.poll-status.ensures.stands _ j.status;
         scanner = j.scanner;
         service = j.service;
         waits = j.waits;

@@ -1,4 +1,4 @@
-use Rattle.std.proofs.Common.{rules, refl}
+use Rattle.std.proofs.Common.{refl}
 use Rattle.sv_layers.specs.Act.{Purged}
 use Rattle.sv_layers.proofs.layers.Layers.purge.Goals as goal
 
@@ -9,7 +9,7 @@ returns-clause-happens g c = λ log h.
       told = h.told;
       are = h.are;
       joined = record {
-        exchange = search rules;
+        exchange = c.clear.ensures.stands _ j.exchange;
         errors = j.errors;
         operation = j.operation;
         questionable = j.questionable;

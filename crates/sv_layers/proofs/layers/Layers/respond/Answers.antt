@@ -3,6 +3,7 @@ use Rattle.std.specs.Prelude.{if◌then◌else◌}
 use Rattle.sv_exchange.specs.Exchange.{ExchangeAct, Answered, AnswersDropped, answers, fits_response}
 use Rattle.sv_layers.specs.Act.{Exchanged}
 use Rattle.sv_layers.specs.Inside.Seen.{seen}
+use Rattle.sv_layers.proofs.Acted.{exchange_acted}
 use Rattle.sv_layers.proofs.Projected.{projected}
 use Rattle.sv_layers.proofs.layers.Layers.respond.Goals as goal
 
@@ -14,21 +15,7 @@ returns-clause-fits g c = λ log h.
 
 pub returns-clause-happens : goal.returns-clause-happens
 returns-clause-happens g c = λ log h.
-    let j = rw (← c.self.view_is) at h.joined in
-    let stands = (c.respond-fits.ensures.stands (seen log).exchange j.exchange).1 in
-    c.settle-raised.ensures.happens log (Exchanged (if c.respond-fits.result then Answered c.args.answer.now else AnswersDropped))
-    (record {
-      told = h.told;
-      are = h.are;
-      joined = record {
-        exchange = stands;
-        errors = j.errors;
-        operation = j.operation;
-        questionable = j.questionable;
-        standard = j.standard;
-        status = j.status;
-        scanner = j.scanner;
-        service = j.service;
-        waits = j.waits;
-      };
-    }) refl
+    let k = rw (← c.self.view_is) at h in
+    let act : ExchangeAct = if c.respond-fits.result then Answered c.args.answer.now else AnswersDropped in
+    let acted = exchange_acted _ log k _ act (c.respond-fits.ensures.stands (seen log).exchange k.joined.exchange).1 in
+    c.settle-raised.ensures.happens log (Exchanged act) acted refl

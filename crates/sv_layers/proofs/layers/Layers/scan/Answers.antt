@@ -1,4 +1,4 @@
-use Rattle.std.proofs.Common.{rules}
+use Rattle.std.proofs.Common.{Bool, not, ◌&&◌, ap, ◌∙◌}
 use Rattle.sv_layers.proofs.layers.Layers.scan.Goals as goal
 
 pub returns-clause-stands : goal.returns-clause-stands
@@ -11,7 +11,7 @@ returns-clause-stands g c = λ at told h.
       questionable = j.questionable;
       standard = j.standard;
       status = j.status;
-      scanner = search rules;
+      scanner = c.act.ensures.stands at.scanner j.scanner;
       service = j.service;
-      waits = search rules;
+      waits = ap (λ (b : Bool). b && not c.is_reset.result) j.waits ∙ ap (λ (b : Bool). at.waits && not b) c.is_reset.ensures;
     }

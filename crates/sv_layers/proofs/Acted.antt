@@ -1,0 +1,25 @@
+-- The exchange has acted, and the other layers are as they were: so an act of the instrument begins.
+use Rattle.std.proofs.Common.{List, ◌∷◌}
+use Rattle.sv_exchange.specs.Exchange.{ExchangeAct}
+use Rattle.sv_exchange.specs.Contents.{Contents, StandsFor as Exchanges}
+use Rattle.sv_layers.specs.Act.{Act, Exchanged}
+use Rattle.sv_layers.specs.Inside.Seen.{seen}
+use Rattle.sv_layers.specs.Inside.Kept.{Layered, StandsFor, Begun}
+
+pub exchange_acted : (layered : Layered) (log : List Act) (h : StandsFor layered log) (new : Contents) (act : ExchangeAct)
+    → Exchanges new (act ∷ (seen log).exchange) → Begun (record layered { exchange = new }) (Exchanged act) log
+exchange_acted layered log h new act stands = record {
+  told = h.told;
+  are = h.are;
+  joined = record {
+    exchange = stands;
+    errors = h.joined.errors;
+    operation = h.joined.operation;
+    questionable = h.joined.questionable;
+    standard = h.joined.standard;
+    status = h.joined.status;
+    scanner = h.joined.scanner;
+    service = h.joined.service;
+    waits = h.joined.waits;
+  };
+}
