@@ -9,43 +9,6 @@ use Rattle.sv_instrument.proofs.Words.{word_printed, number_printed, alone}
 use Rattle.sv_instrument.proofs.answering.put_answer.Goals.{in-StandardEvents, in-StandardEnable, in-ServiceEnable, in-StatusByte, in-ErrorCount, in-Events, in-Condition, in-Enable, in-Rise, in-Fall, in-Count}
 use Rattle.sv_instrument.proofs.answering.put_answer.Goals as goal
 
-pub append-requires : goal.append-requires
-append-requires g c = omega (arith, c.clear.ensures.len, c.clear.ensures.capacity, c.requires)
-
-pub append-requires-in-SelfTest : goal.append-requires-in-SelfTest
-append-requires-in-SelfTest g c = omega (arith, c.clear.ensures.len, c.clear.ensures.capacity, c.requires)
-
-pub append-requires-in-Version : goal.append-requires-in-Version
-append-requires-in-Version g c = omega (arith, c.clear.ensures.len, c.clear.ensures.capacity, c.requires)
-
-pub put_whole-requires : goal.put_whole-requires
-put_whole-requires g c = omega (arith, c.clear.ensures.len, c.clear.ensures.capacity, c.requires)
-
-pub put_error-requires : goal.put_error-requires
-put_error-requires g c = omega (arith, c.clear.ensures.len, c.clear.ensures.capacity, c.requires)
-
-pub put_channels-requires-in-Monitor : goal.put_channels-requires-in-Monitor
-put_channels-requires-in-Monitor g c = omega (arith, c.clear.ensures.len, c.clear.ensures.capacity, c.requires)
-
-pub put_voltage-requires-clause-room : goal.put_voltage-requires-clause-room
-put_voltage-requires-clause-room g c = omega (arith, c.clear.ensures.len, c.clear.ensures.capacity, c.requires)
-
-pub put_voltage-requires-in-UpperLimit-clause-room : goal.put_voltage-requires-in-UpperLimit-clause-room
-put_voltage-requires-in-UpperLimit-clause-room g c = omega (arith, c.clear.ensures.len, c.clear.ensures.capacity, c.requires)
-
-pub put_voltage-requires-in-LowerLimit-clause-room : goal.put_voltage-requires-in-LowerLimit-clause-room
-put_voltage-requires-in-LowerLimit-clause-room g c = omega (arith, c.clear.ensures.len, c.clear.ensures.capacity, c.requires)
-
-pub put_switch-requires : goal.put_switch-requires
-put_switch-requires g c = omega (arith, c.clear.ensures.len, c.clear.ensures.capacity, c.requires)
-
-pub put_source-requires : goal.put_source-requires
-put_source-requires g c = omega (arith, c.clear.ensures.len, c.clear.ensures.capacity, c.requires)
-
-pub put_readings-requires-clause-room : goal.put_readings-requires-clause-room
-put_readings-requires-clause-room g c =
-    omega (arith, c.clear.ensures.len, c.clear.ensures.capacity, c.requires, c.readings_so_far.ensures.few)
-
 pub returns-in-Identification-clause-capacity : goal.returns-in-Identification-clause-capacity
 returns-in-Identification-clause-capacity g c = omega (arith, c.append.ensures.capacity, c.clear.ensures.capacity, c.requires)
 

@@ -20,45 +20,6 @@ returns-in-Configure-clause-behaves g c = λ log h.
 pub returns-in-Ask-clause-behaves : goal.returns-in-Ask-clause-behaves
 returns-in-Ask-clause-behaves g c = λ log h. rw c.in-Ask.is (c.ask.ensures.behaves log h)
 
-pub carry_out-requires : goal.carry_out-requires
-carry_out-requires g c = c.requires.due
-
-pub hold-requires-clause-due : goal.hold-requires-clause-due
-hold-requires-clause-due g c = c.requires.due
-
-pub hold-requires-clause-few : goal.hold-requires-clause-few
-hold-requires-clause-few g c = omega arith
-
-pub hold-requires-in-WaitAndTell-clause-due : goal.hold-requires-in-WaitAndTell-clause-due
-hold-requires-in-WaitAndTell-clause-due g c = c.requires.due
-
-pub hold-requires-in-WaitAndTell-clause-few : goal.hold-requires-in-WaitAndTell-clause-few
-hold-requires-in-WaitAndTell-clause-few g c = omega arith
-
-pub trigger-requires : goal.trigger-requires
-trigger-requires g c = c.requires.due
-
-pub set-requires : goal.set-requires
-set-requires g c = c.requires.due
-
-pub initiate-requires : goal.initiate-requires
-initiate-requires g c = c.requires.due
-
-pub end-requires-clause-few : goal.end-requires-clause-few
-end-requires-clause-few g c = omega (arith, c.configure-raised.ensures.few)
-
-pub read-requires : goal.read-requires
-read-requires g c = c.requires.due
-
-pub measure-requires : goal.measure-requires
-measure-requires g c = c.requires.due
-
-pub ask-requires-clause-due : goal.ask-requires-clause-due
-ask-requires-clause-due g c = c.requires.due
-
-pub ask-requires-clause-room : goal.ask-requires-clause-room
-ask-requires-clause-room g c = c.requires.room
-
 pub returns-in-Wait-clause-advances : goal.returns-in-Wait-clause-advances
 returns-in-Wait-clause-advances g c = c.hold.ensures.advances
 
@@ -151,10 +112,6 @@ returns-in-Ask-clause-few g c = omega (arith, c.ask.ensures.few)
 
 pub returns-in-Ask-clause-capacity : goal.returns-in-Ask-clause-capacity
 returns-in-Ask-clause-capacity g c = c.ask.ensures.capacity
-
-pub end-requires-clause-due : goal.end-requires-clause-due
-end-requires-clause-due g c =
-    subst (λ (held : Contents). IsUnitDue (next_of held)) (sym c.configure-raised.ensures.exchange) c.requires.due
 
 pub returns-in-Configure-clause-advances : goal.returns-in-Configure-clause-advances
 returns-in-Configure-clause-advances g c = record {
