@@ -1,5 +1,5 @@
-use Rattle.std.proofs.Common.{refl, arith, sym, ap, subst}
-use Rattle.sv_exchange.specs.Contents.{Contents, IsUnitDue, next_of, work_of}
+use Rattle.std.proofs.Common.{refl, arith, ap}
+use Rattle.sv_exchange.specs.Contents.{work_of}
 use Rattle.sv_instrument.proofs.Running.{raises_none}
 use Rattle.sv_instrument.proofs.Units.{configured_apart}
 use Rattle.sv_instrument.proofs.performing.perform.Goals.{in-ClearStatus, in-Reset, in-TellComplete, in-Preset, in-EnableStandard, in-EnableService, in-Enable, in-SetRise, in-SetFall, in-Abort}
