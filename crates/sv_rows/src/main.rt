@@ -11,10 +11,10 @@
 //! - `! input fails`: a script, behind which the input fails; printed is what the output took, and
 //!   the fault, on a line of its own;
 //! - `! output takes N`, `! output stops at N`: a script, whose output takes so many bytes and then
-//!   fails, or takes none without a word; printed is the same;
+//!   fails, or takes none without a word; printed is how many it took, and the same;
 //! - `! memory`, `! memory, output takes N`: a script, of whose replay each allocation is refused
-//!   in turn; printed is each outcome that differs from the one in front of it, and behind `all`
-//!   that with all memory;
+//!   in turn; printed is each outcome that differs from the one in front of it, `again` behind one
+//!   that came more than once in a row, and behind `all` that with all memory;
 //! - `! events`: events and questions, a line each (`events.rt`); printed is what each tells;
 //! - `! scenario`: a scenario; printed are its entries, or its fault;
 //! - `! scenario, memory`: a scenario, of whose reading each allocation is refused in turn.

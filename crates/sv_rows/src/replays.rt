@@ -38,12 +38,23 @@ fn manner_of(words: &str) -> io::Result<Manner> {
     }
 }
 
-/// What was taken of the print, and the fault where there is one, on a line of its own.
-fn told(alloc: Global, taken: &[u8], answer: Result<(), RunFault>) -> io::Result<String> {
+/// What was taken of the print, behind how many bytes that is where the output is narrow, and the
+/// fault where there is one, on a line of its own.
+fn told(
+    alloc: Global,
+    taken: &[u8],
+    narrow: bool,
+    answer: Result<(), RunFault>,
+) -> io::Result<String> {
     let Ok(text) = str::from_utf8(taken) else {
         return Err(bad());
     };
-    let mut outcome = String::from_str(alloc, text)?;
+    let mut outcome = String::new(alloc);
+    if narrow {
+        let count = format!(in alloc; "{} bytes\n", taken.len())?;
+        outcome.push_str(&count)?;
+    }
+    outcome.push_str(text)?;
     if let Err(fault) = answer {
         if !text.is_empty() && !text.ends_with('\n') {
             outcome.push('\n')?;
@@ -54,7 +65,7 @@ fn told(alloc: Global, taken: &[u8], answer: Result<(), RunFault>) -> io::Result
     Ok(outcome)
 }
 
-/// What comes of a replay: what the output took of its print, and its fault where it has one.
+/// What comes of a replay.
 fn outcome(
     alloc: Global,
     heap: &Rationed<Global>,
@@ -73,7 +84,8 @@ fn outcome(
     };
     let mut writer = BufWriter::new(alloc, sink)?;
     let answer = run_replay(heap, &mut source, &mut writer);
-    told(alloc, writer.get_ref().taken.as_slice(), answer)
+    let narrow = manner.room < usize::MAX;
+    told(alloc, writer.get_ref().taken.as_slice(), narrow, answer)
 }
 
 /// Prints what comes of a script in the manner that these words tell.

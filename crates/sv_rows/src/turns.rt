@@ -9,7 +9,8 @@ use std::io::{self, BufWriter, Write};
 const MOST: u64 = 1000;
 
 /// Makes something once for each of its allocations, of which that one is refused. Prints each
-/// outcome that differs from the one before it, and behind `all` the one with all memory.
+/// outcome that differs from the one before it, `again` behind one that came more than once in a
+/// row, and behind `all` the one with all memory.
 pub(crate) fn each<W: Write + Drop, F: Fn(&Rationed<Global>) -> io::Result<String>>(
     alloc: Global,
     make: F,
@@ -19,15 +20,20 @@ pub(crate) fn each<W: Write + Drop, F: Fn(&Rationed<Global>) -> io::Result<Strin
 {
     let heap = Rationed::new(alloc);
     let mut before = String::new(alloc);
+    let mut told = false;
     for number in 1..MOST {
         heap.refuse(number);
         let outcome = make(&heap)?;
         if heap.waits() {
             return write!(writer, "all\n{outcome}");
         }
-        if outcome != before {
+        let same = outcome == before;
+        if !same {
             write!(writer, "{outcome}")?;
+        } else if !told {
+            writeln!(writer, "again")?;
         }
+        told = same;
         before = outcome;
     }
     Err(bad())

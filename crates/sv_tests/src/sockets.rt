@@ -67,12 +67,16 @@ impl Client {
         Ok(())
     }
 
-    /// Reads what is there.
+    /// Reads what is there; a stream that ends is told.
     fn hear(&mut self) -> Result<(), Fail> {
         let room = self.buffer.get_mut(self.heard..).unwrap_or(&mut []);
-        let count = moved(self.stream.read(room))?;
-        self.heard = self.heard.saturating_add(count);
-        Ok(())
+        match self.stream.read(room) {
+            Ok(0) => Err(Fail::new("the stream ended")),
+            outcome => {
+                self.heard = self.heard.saturating_add(moved(outcome)?);
+                Ok(())
+            }
+        }
     }
 
     /// What came.
