@@ -125,7 +125,8 @@ fn step<W: Write + Drop>(
         "show" => show(server, rest, writer),
         "took" => {
             let (port, count) = rest.split_once(' ').unwrap_or((rest, ""));
-            let (port, count) = (port_of(port)?, number(count)? as u32);
+            let port = port_of(port)?;
+            let count = number(count)?.min(u64::from(u32::MAX)) as u32;
             happen(server, Event::Took { port, count }, writer)
         }
         _ => replayed(server, line, writer),
