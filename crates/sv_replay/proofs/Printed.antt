@@ -2,9 +2,9 @@
 use Rattle.std.proofs.Common.{◌≡◌, ℕ, zero, suc, ◌+◌, ◌<◌, ◌≤◌, List, [], ◌∷◌, ◌++◌, length, replicate, refl, sym, ap, subst, ◌∙◌, append_assoc, append-nil, arith}
 use Rattle.std.proofs.lemmas.List.{replicate_more}
 use Rattle.std.specs.Prelude.{Result, Ok, Err, ⊤, IsErr, IsErrAnd}
-use Rattle.sv_server.specs.declared.event.Config.{Config}
+use Rattle.sv_history.specs.declared.event.Config.{Config}
 use Rattle.sv_server.specs.declared.replay.ReplayFault.{ReplayFault}
-use Rattle.sv_server.specs.Event.{PlainEvent, Tick}
+use Rattle.sv_history.specs.Event.{PlainEvent, Tick}
 use Rattle.sv_server.specs.Replay.{Replays}
 use Rattle.sv_replay.specs.Line.{Line, Says}
 use Rattle.sv_replay.specs.Script.{events_of, IsScript, Prints, Stops, Performs}

@@ -1,7 +1,7 @@
 -- An entry of a scenario, as a relation between the bytes of a line and what it says, and the event of a stimulus.
 use Rattle.std.specs.Prelude.{◌≡◌, ℕ, ◌≤◌, List, ◌∷◌, ◌++◌, length, None, ⊤}
-use Rattle.sv_server.specs.Event.{PlainEvent, Input, External}
-use Rattle.sv_server.specs.History.{input_refusal}
+use Rattle.sv_history.specs.Event.{PlainEvent, Input, External}
+use Rattle.sv_history.specs.History.{input_refusal}
 use Rattle.sv_replay.specs.declared.entry.Entry.{Entry}
 use Rattle.sv_replay.specs.declared.entry.Stimulus.{Stimulus}
 use Rattle.sv_replay.specs.declared.entry.Stimulus.TheVariants as stimuli

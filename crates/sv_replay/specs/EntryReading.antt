@@ -1,7 +1,7 @@
 -- Reading a line of a scenario, from left to right.
 use Rattle.std.specs.Prelude.{ℕ, List, length, codes, Option, Some, None, is_none, nat_lt, if◌then◌else◌}
 use Rattle.std.specs.Str.{bytes_eq}
-use Rattle.sv_server.specs.History.{input_refusal}
+use Rattle.sv_history.specs.History.{input_refusal}
 use Rattle.sv_replay.specs.declared.entry.Entry.{Entry}
 use Rattle.sv_replay.specs.declared.entry.Stimulus.{Stimulus}
 use Rattle.sv_replay.specs.declared.entry.Stimulus.TheVariants.{Input, External}

@@ -1,10 +1,10 @@
 -- A line of a replay, as a relation between its bytes and what it says.
 use Rattle.std.specs.Prelude.{◌≡◌, ◌≢◌, ◌⊎◌, ℕ, ◌+◌, ◌-◌, ◌*◌, ◌<◌, ◌≤◌, ℤ, pos, negsuc, Bool, true, false, List, [], ◌∷◌, ◌++◌, length, codes, fold}
 use Rattle.std.specs.List.{AllByRecursion}
-use Rattle.sv_server.specs.declared.event.Role.{Role}
-use Rattle.sv_server.specs.declared.event.Role.TheVariants.{Core, Abort, Portmap}
-use Rattle.sv_server.specs.declared.event.Port.TheVariants.{Conn, Intr}
-use Rattle.sv_server.specs.Event.{PlainEvent, Open, Bytes, Turn, Refuse, Took, Close, Dialed, Input, External, Tick}
+use Rattle.sv_history.specs.declared.event.Role.{Role}
+use Rattle.sv_history.specs.declared.event.Role.TheVariants.{Core, Abort, Portmap}
+use Rattle.sv_history.specs.declared.event.Port.TheVariants.{Conn, Intr}
+use Rattle.sv_history.specs.Event.{PlainEvent, Open, Bytes, Turn, Refuse, Took, Close, Dialed, Input, External, Tick}
 
 -- nothing, one event, or so many ticks
 pub data Line : Type 0 where

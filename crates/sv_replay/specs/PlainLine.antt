@@ -1,5 +1,5 @@
 -- What was read from a line, as plain data.
-use Rattle.sv_server.specs.Event.{plain}
+use Rattle.sv_history.specs.Event.{plain}
 use Rattle.sv_replay.specs.Line.{Line as Said, Blank, One, Ticks}
 use Rattle.sv_replay.specs.declared.line.Line.{Line}
 use Rattle.sv_replay.specs.declared.line.Line.TheVariants as lines

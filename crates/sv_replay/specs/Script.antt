@@ -1,9 +1,9 @@
 -- The script of a text: the events that its lines say. And the print of events, one after the other.
 use Rattle.std.specs.Prelude.{◌≡◌, ◌⊎◌, ℕ, ◌<◌, ◌≤◌, List, [], ◌∷◌, ◌++◌, length, replicate, Result, Ok, Err, ⊤}
 use Rattle.sv_text.specs.Cut.{cut_at}
-use Rattle.sv_server.specs.declared.event.Config.{Config}
+use Rattle.sv_history.specs.declared.event.Config.{Config}
 use Rattle.sv_server.specs.declared.replay.ReplayFault.{ReplayFault}
-use Rattle.sv_server.specs.Event.{PlainEvent, Tick}
+use Rattle.sv_history.specs.Event.{PlainEvent, Tick}
 use Rattle.sv_server.specs.Replay.{Replays}
 use Rattle.sv_replay.specs.Line.{Line, Blank, One, Ticks, Says}
 

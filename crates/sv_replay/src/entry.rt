@@ -1,7 +1,7 @@
 //! What a scenario lets happen and when, and reading it from a line.
 
 ghost use Rattle.std.specs.Prelude.{◌≡◌};
-ghost use Rattle.sv_server.specs.Event.{plain};
+ghost use Rattle.sv_history.specs.Event.{plain};
 ghost use Rattle.sv_replay.specs.Entry.{stimulus_event};
 ghost use Rattle.sv_replay.specs.EntryReading.{accepted_at, lone_stimulus_at, worded_stimulus_at, stimulus_at, entry_at, entry_from};
 

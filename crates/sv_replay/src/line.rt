@@ -4,7 +4,7 @@ ghost use Rattle.std.specs.Prelude.{◌≡◌, ◌<◌, ◌≤◌, length, optio
 ghost use Rattle.sv_replay.specs.Line.{Line as Said, Says};
 ghost use Rattle.sv_replay.specs.PlainLine.{plain_line};
 ghost use Rattle.sv_replay.specs.Reading.{cut_at, numbered_at, role_at, ok_at, port_at, ticks_at, open_at, bytes_at, dialed_at, input_at, traffic_at, event_at, lone_at, words_at, line_at};
-ghost use Rattle.sv_server.specs.Event.{plain as plain_event};
+ghost use Rattle.sv_history.specs.Event.{plain as plain_event};
 
 use crate::hex::decode;
 use crate::number::{byte, plain, voltage};

@@ -3,7 +3,7 @@
 ghost use Rattle.std.specs.Prelude.{◌≡◌, ◌≢◌, ◌⊎◌, ℕ, ◌+◌, ◌-◌, ◌*◌, ◌^◌, ◌<◌, ◌≤◌, List, [], ◌++◌, length, Err, None, IfOk, IfErr, OnOk};
 ghost use Rattle.std.specs.Io.Buffered.{writer_buffer, writer_contents};
 ghost use Rattle.std.specs.Io.KnownBytes.{Consumes, Appends, Keeps, IsAtEnd};
-ghost use Rattle.sv_server.specs.Event.{PlainEvent};
+ghost use Rattle.sv_history.specs.Event.{PlainEvent};
 ghost use Rattle.sv_server.specs.State.{StandsFor};
 ghost use Rattle.sv_replay.specs.Text.{nothing_held, first_end};
 ghost use Rattle.sv_replay.specs.Run.{set_up, Runs};

@@ -2,7 +2,7 @@
 use Rattle.std.proofs.Common.{◌≡◌, ℕ, suc, subst, sym, rules, refl, zero, List, [], ◌∷◌, drop, Some, ◌<◌, ◌≤◌, inl, inr, arith}
 use Rattle.std.proofs.Math.Nat.{eq-or-lt_of_le}
 use Rattle.std.specs.List.{slice_get}
-use Rattle.sv_server.specs.declared.event.Config.{Config}
+use Rattle.sv_history.specs.declared.event.Config.{Config}
 use Rattle.sv_serve.specs.Moment.{Moment, Each}
 
 -- one more number

@@ -1,14 +1,14 @@
 -- What the server answers at a moment, by what happened to it.
 use Rattle.std.specs.Prelude.{ℕ, ◌<◌, not, Bool, true, false, List, Option, Some, None}
-use Rattle.sv_server.specs.declared.event.Config.{Config}
-use Rattle.sv_server.specs.declared.event.Dial.{Dial}
-use Rattle.sv_server.specs.declared.event.Port.{Port}
-use Rattle.sv_server.specs.declared.event.Port.TheVariants.{Conn}
-use Rattle.sv_server.specs.Act.{of}
-use Rattle.sv_server.specs.Connection.{room, is_idle, is_faulted}
-use Rattle.sv_server.specs.Interrupts.{dial_of}
-use Rattle.sv_server.specs.History.{is_port_shut}
-use Rattle.sv_server.specs.Asking.{Answered, WaitOn}
+use Rattle.sv_history.specs.declared.event.Config.{Config}
+use Rattle.sv_history.specs.declared.event.Dial.{Dial}
+use Rattle.sv_history.specs.declared.event.Port.{Port}
+use Rattle.sv_history.specs.declared.event.Port.TheVariants.{Conn}
+use Rattle.sv_history.specs.Act.{of}
+use Rattle.sv_history.specs.Connection.{room, is_idle, is_faulted}
+use Rattle.sv_history.specs.Interrupts.{dial_of}
+use Rattle.sv_history.specs.History.{is_port_shut}
+use Rattle.sv_history.specs.Asking.{Answered, WaitOn}
 use Rattle.sv_serve.specs.Moment.{Moment}
 
 -- whether a connection or an interrupt channel is open

@@ -1,8 +1,8 @@
 -- What a wire is asked, and what it answers.
 use Rattle.std.specs.Prelude.{ℕ, ◌≤◌, List, length, take, Option, ⊤}
-use Rattle.sv_server.specs.declared.event.Role.{Role}
-use Rattle.sv_server.specs.declared.event.Port.{Port}
-use Rattle.sv_server.specs.declared.event.Dial.{Dial}
+use Rattle.sv_history.specs.declared.event.Role.{Role}
+use Rattle.sv_history.specs.declared.event.Port.{Port}
+use Rattle.sv_history.specs.declared.event.Dial.{Dial}
 use Rattle.sv_serve.specs.declared.wire.Answer.{Answer}
 use Rattle.sv_serve.specs.declared.wire.Answer.TheVariants.{Got, Pending, Failed}
 

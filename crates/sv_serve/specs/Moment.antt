@@ -1,8 +1,8 @@
 -- What is seen of a driver at a moment, and the steps that lead from one moment to another one.
 use Rattle.std.specs.Prelude.{◌≡◌, ℕ, zero, suc, List, Option}
-use Rattle.sv_server.specs.declared.event.Config.{Config}
-use Rattle.sv_server.specs.declared.event.Dial.{Dial}
-use Rattle.sv_server.specs.Event.{PlainEvent}
+use Rattle.sv_history.specs.declared.event.Config.{Config}
+use Rattle.sv_history.specs.declared.event.Dial.{Dial}
+use Rattle.sv_history.specs.Event.{PlainEvent}
 use Rattle.sv_server.specs.State.{State, StandsFor}
 use Rattle.sv_replay.specs.declared.entry.Entry.{Entry}
 

@@ -1,16 +1,16 @@
 -- The steps of a driver. In each the wire is asked once at most, and what it answers happens to the server.
 use Rattle.std.specs.Prelude.{◌≡◌, ◌⊎◌, ℕ, ◌<◌, ◌==◌, ◌&&◌, ◌||◌, Bool, true, false, List, [], length, Option, Some, None, Result, Ok, Err, ⊤, slice_set, slice_index_or, if◌then◌else◌}
-use Rattle.sv_server.specs.declared.event.Config.{Config}
-use Rattle.sv_server.specs.declared.event.Dial.{Dial}
-use Rattle.sv_server.specs.declared.event.Did.{Did}
-use Rattle.sv_server.specs.declared.event.Port.{Port}
-use Rattle.sv_server.specs.declared.event.Port.TheVariants.{Conn, Intr}
-use Rattle.sv_server.specs.declared.event.Refused.{Refused}
-use Rattle.sv_server.specs.declared.event.Role.{Role}
-use Rattle.sv_server.specs.Act.{Act}
-use Rattle.sv_server.specs.Event.{PlainEvent, Open, Bytes, Turn, Took, Close, Dialed}
-use Rattle.sv_server.specs.History.{IsLogOf, Answers, history_after}
-use Rattle.sv_server.specs.Print.{is_no_memory}
+use Rattle.sv_history.specs.declared.event.Config.{Config}
+use Rattle.sv_history.specs.declared.event.Dial.{Dial}
+use Rattle.sv_history.specs.declared.event.Did.{Did}
+use Rattle.sv_history.specs.declared.event.Port.{Port}
+use Rattle.sv_history.specs.declared.event.Port.TheVariants.{Conn, Intr}
+use Rattle.sv_history.specs.declared.event.Refused.{Refused}
+use Rattle.sv_history.specs.declared.event.Role.{Role}
+use Rattle.sv_history.specs.Act.{Act}
+use Rattle.sv_history.specs.Event.{PlainEvent, Open, Bytes, Turn, Took, Close, Dialed}
+use Rattle.sv_history.specs.History.{IsLogOf, Answers, history_after}
+use Rattle.sv_history.specs.Print.{is_no_memory}
 use Rattle.sv_serve.specs.declared.wire.Answer.{Answer}
 use Rattle.sv_serve.specs.declared.wire.Answer.TheVariants.{Got, Pending, Failed}
 use Rattle.sv_serve.specs.Heard.{Heard, WasAccepted, WasRead, WasWritten, WasDialed, PeerAnswered, WasClosed, IsWithin, IsPiece}

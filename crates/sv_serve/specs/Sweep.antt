@@ -1,11 +1,11 @@
 -- A sweep of a driver.
 use Rattle.std.specs.Prelude.{◌≡◌, ℕ, ◌+◌, ◌<◌, ◌≤◌, ◌==◌, Bool, true, false, List, [], ◌∷◌, Result, Ok, Err, ⊤, if◌then◌else◌}
-use Rattle.sv_server.specs.declared.event.Config.{Config}
-use Rattle.sv_server.specs.declared.event.Did.{Did}
-use Rattle.sv_server.specs.declared.event.Port.TheVariants.{Conn, Intr}
-use Rattle.sv_server.specs.declared.event.Refused.{Refused}
-use Rattle.sv_server.specs.declared.event.Role.TheVariants.{Core, Abort, Portmap}
-use Rattle.sv_server.specs.Event.{Tick}
+use Rattle.sv_history.specs.declared.event.Config.{Config}
+use Rattle.sv_history.specs.declared.event.Did.{Did}
+use Rattle.sv_history.specs.declared.event.Port.TheVariants.{Conn, Intr}
+use Rattle.sv_history.specs.declared.event.Refused.{Refused}
+use Rattle.sv_history.specs.declared.event.Role.TheVariants.{Core, Abort, Portmap}
+use Rattle.sv_history.specs.Event.{Tick}
 use Rattle.sv_replay.specs.Entry.{stimulus_event}
 use Rattle.sv_replay.specs.declared.entry.Entry.{Entry}
 use Rattle.sv_serve.specs.Heard.{Heard}

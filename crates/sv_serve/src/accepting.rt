@@ -1,8 +1,8 @@
 //! Accepting connections.
 
 ghost use Rattle.std.specs.Prelude.{◌≡◌, ◌<◌, List, IfSome};
-ghost use Rattle.sv_server.specs.declared.event.Config.{Config};
-ghost use Rattle.sv_server.specs.Event.{PlainEvent};
+ghost use Rattle.sv_history.specs.declared.event.Config.{Config};
+ghost use Rattle.sv_history.specs.Event.{PlainEvent};
 ghost use Rattle.sv_server.specs.State.{StandsFor};
 ghost use Rattle.sv_serve.specs.Asked.{IsLowest};
 ghost use Rattle.sv_serve.specs.Heard.{WasAccepted};

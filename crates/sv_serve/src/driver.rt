@@ -1,7 +1,7 @@
 //! A driver: a server, a wire, and a scenario.
 
 ghost use Rattle.std.specs.Prelude.{◌≡◌, replicate, None, IfOk};
-ghost use Rattle.sv_server.specs.Event.{plain};
+ghost use Rattle.sv_history.specs.Event.{plain};
 ghost use Rattle.sv_serve.specs.Moment.{Goes};
 ghost use Rattle.sv_serve.specs.Steps.{Given};
 

@@ -1,7 +1,7 @@
 //! Taking calls.
 
 ghost use Rattle.std.specs.Prelude.{◌≡◌, ◌<◌};
-ghost use Rattle.sv_server.specs.Print.{is_no_memory};
+ghost use Rattle.sv_history.specs.Print.{is_no_memory};
 ghost use Rattle.sv_serve.specs.Moment.{Goes, Each};
 ghost use Rattle.sv_serve.specs.Steps.{Turns, Takes, EndsTurn};
 

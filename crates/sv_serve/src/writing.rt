@@ -1,8 +1,8 @@
 //! Writing what waits.
 
 ghost use Rattle.std.specs.Prelude.{◌≡◌, ◌<◌, ◌≤◌, ℕ};
-ghost use Rattle.sv_server.specs.declared.event.Port.TheVariants.{Conn, Intr};
-ghost use Rattle.sv_server.specs.Event.{port_number};
+ghost use Rattle.sv_history.specs.declared.event.Port.TheVariants.{Conn, Intr};
+ghost use Rattle.sv_history.specs.Event.{port_number};
 ghost use Rattle.sv_serve.specs.Moment.{Goes, Each};
 ghost use Rattle.sv_serve.specs.Steps.{Writes, Leaves};
 

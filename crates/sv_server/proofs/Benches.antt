@@ -19,14 +19,16 @@ use Rattle.sv_links.specs.Waiting.{WaitAct, Entered, Again, Left, waits}
 use Rattle.sv_links.specs.Queue.{IsQueue, creates, creations, without}
 use Rattle.sv_links.proofs.Counted.{creations-without, creations-push, creations-other}
 use Rattle.sv_links.proofs.Live.{closing-live, destroyed-live}
-use Rattle.sv_server.specs.declared.event.Config.{Config}
-use Rattle.sv_server.specs.Act.{BenchAct, Linked, Waited, link_acts, wait_acts}
+use Rattle.sv_history.specs.declared.event.Config.{Config}
+use Rattle.sv_history.specs.Act.{BenchAct, Linked, Waited, link_acts, wait_acts}
 use Rattle.sv_instrument.specs.Kept.{Kept, StandsFor}
-use Rattle.sv_server.specs.CoreChannel.{make_link, device_lock, device_unlock}
+use Rattle.sv_history.specs.CoreChannel.{make_link, device_lock, device_unlock}
 use Rattle.sv_server.specs.KeptBench.{Bench, IsBench, HasPlace, AreTold, AreOwned, AreReady}
-use Rattle.sv_server.specs.Requests.{link_told}
-use Rattle.sv_server.specs.Interrupts.{is_dial, is_dialing}
-use Rattle.sv_server.proofs.Projections.{bench_linked, link_acts-links}
+use Rattle.sv_history.specs.Requests.{link_told}
+use Rattle.sv_history.specs.Interrupts.{is_dial, is_dialing}
+use Rattle.sv_history.proofs.Projections.{link_acts-links}
+use Rattle.sv_server.specs.Inside.Outcome.{IsResult}
+use Rattle.sv_server.proofs.Effects.{bench_linked}
 use Rattle.sv_server.proofs.Owned.{owned_made, owned_destroyed, owned_closed, closed_disabled, tells_closed}
 
 -- ---- calls that wait
@@ -260,7 +262,7 @@ pub made_ends : (kept : Bench) (links : Table) (config : Config) (acts : List Be
     → IsBench kept config acts → HasPlace kept acts → lids_left (link_acts acts) ≡ true → lid ≡ made (link_acts acts) + 1
     → IsTable links (Made lid c ∷ link_acts acts) → kept.links.spare ≤ links.spare + 1
     → told ≡ Link NoError (pos lid) kept.config.abort 4096
-    → ((make_link config c false acts).result ≡ told)
+    → IsResult (make_link config c false acts).result told
     × IsBench (record kept { links = links }) config ((make_link config c false acts).adds ++ acts)
 made_ends kept links config acts c lid told is place left number table spare tells = rw left (
   told_as config kept told lid (made (link_acts acts) + 1) is.2 number tells,
@@ -273,7 +275,7 @@ pub locked_ends : (kept : Bench) (mid links : Table) (config : Config) (acts : L
     → IsTable mid (Made lid c ∷ link_acts acts) → IsTable links (Locked lid ∷ Made lid c ∷ link_acts acts)
     → kept.links.spare ≤ mid.spare + 1 → links.spare ≡ mid.spare
     → told ≡ Link NoError (pos lid) kept.config.abort 4096
-    → ((make_link config c true acts).result ≡ told)
+    → IsResult (make_link config c true acts).result told
     × IsBench (record kept { links = links }) config ((make_link config c true acts).adds ++ acts)
 locked_ends kept mid links config acts c lid told is place left number table locked spare same tells = rw left (
   told_as config kept told lid (made (link_acts acts) + 1) is.2 number tells,
@@ -302,23 +304,23 @@ not_false false e = absurd cc
 pub lock_ends : (config : Config) (acts : List BenchAct) (kept : Bench) (links : Table) (lid : ℕ) (got : Bool) → IsBench kept config acts
     → got ≡ not (is_locked_out (holder (link_acts acts)) (Some lid)) → (got ≡ true → IsTable links (Locked lid ∷ link_acts acts))
     → links.spare ≡ kept.links.spare → (got ≡ false → links ≡ kept.links)
-    → ((device_lock (Some lid) acts).result ≡ Plain (if got then NoError else DeviceLocked))
+    → (told : Outcome) → told ≡ Plain (if got then NoError else DeviceLocked) → IsResult (device_lock (Some lid) acts).result told
     × IsBench (record kept { links = links }) config ((device_lock (Some lid) acts).adds ++ acts)
-lock_ends config acts kept links lid true is granted stands spare same =
+lock_ends config acts kept links lid true is granted stands spare same told tells =
     let free : is_locked_out (holder (link_acts acts)) (Some lid) ≡ false = not_true _ granted in
-    rw free (refl, bench_locked kept links config acts lid is (stands refl) spare)
-lock_ends config acts kept links lid false is granted stands spare same =
+    rw free (sym tells, bench_locked kept links config acts lid is (stands refl) spare)
+lock_ends config acts kept links lid false is granted stands spare same told tells =
     let other : is_locked_out (holder (link_acts acts)) (Some lid) ≡ true = not_false _ granted in
-    rw other (refl, subst (λ (t : Table). IsBench (record kept { links = t }) config acts) (sym (same refl)) is)
+    rw other (sym tells, subst (λ (t : Table). IsBench (record kept { links = t }) config acts) (sym (same refl)) is)
 
 -- and one that was to be freed was, or nothing changed
 pub unlock_ends : (config : Config) (acts : List BenchAct) (kept : Bench) (links : Table) (lid : ℕ) (freed : Bool)
     → IsBench kept config acts
     → freed ≡ is_this lid (holder (link_acts acts)) → (freed ≡ true → IsTable links (Unlocked lid ∷ link_acts acts))
     → links.spare ≡ kept.links.spare → (freed ≡ false → links ≡ kept.links)
-    → ((device_unlock (Some lid) acts).result ≡ Plain (if freed then NoError else NoLock))
+    → (told : Outcome) → told ≡ Plain (if freed then NoError else NoLock) → IsResult (device_unlock (Some lid) acts).result told
     × IsBench (record kept { links = links }) config ((device_unlock (Some lid) acts).adds ++ acts)
-unlock_ends config acts kept links lid true is this stands spare same =
-    rw (sym this) (refl, bench_unlocked kept links config acts lid is (stands refl) spare)
-unlock_ends config acts kept links lid false is this stands spare same =
-    rw (sym this) (refl, subst (λ (t : Table). IsBench (record kept { links = t }) config acts) (sym (same refl)) is)
+unlock_ends config acts kept links lid true is this stands spare same told tells =
+    rw (sym this) (sym tells, bench_unlocked kept links config acts lid is (stands refl) spare)
+unlock_ends config acts kept links lid false is this stands spare same told tells =
+    rw (sym this) (sym tells, subst (λ (t : Table). IsBench (record kept { links = t }) config acts) (sym (same refl)) is)

@@ -10,11 +10,11 @@ use Rattle.sv_links.specs.Waiting.{WaitAct, Entered, Left}
 use Rattle.sv_links.specs.Queue.{IsQueue}
 use Rattle.sv_links.specs.Channels.{ChannelAct, SrqEnabled, SrqDisabled, below, above}
 use Rattle.sv_links.specs.KeptChannels.{Channels, AreChannels, IsReady, HasRoomFor}
-use Rattle.sv_server.specs.declared.event.Config.{Config}
-use Rattle.sv_server.specs.Act.{BenchAct, Linked, Waited, Channel, link_acts, wait_acts}
-use Rattle.sv_server.specs.Requests.{Tells}
+use Rattle.sv_history.specs.declared.event.Config.{Config}
+use Rattle.sv_history.specs.Act.{BenchAct, Linked, Waited, Channel, link_acts, wait_acts}
+use Rattle.sv_history.specs.Requests.{Tells}
 use Rattle.sv_server.specs.KeptBench.{Bench, IsBench, IsReserved, AreOwned, AreReady}
-use Rattle.sv_server.proofs.Projections.{wait_acts-links}
+use Rattle.sv_history.proofs.Projections.{wait_acts-links}
 use Rattle.sv_server.proofs.Benches.{dials_left}
 use Rattle.sv_server.proofs.Owned.{enabled_sorted, room_for, owned_enabled}
 
@@ -70,19 +70,19 @@ bench_opened kept intr config acts c act is stands same others =
     (rw same is.6.3) (ready_left kept.intr intr c (wait_acts acts) is.7 others)
 
 -- a call begins to wait for its peer, with a channel that is prepared
-dials_ready : (intr : Channels) (c : ℕ) (acts : List WaitAct) → AreReady intr acts → IsReady intr c
-    → AreReady intr (Entered c None Dial None ∷ acts)
-dials_ready intr c acts ready this = λ d dials. elim (cases_eq c d) [
+dials_ready : (intr : Channels) (c : ℕ) (named deadline : Option ℕ) (acts : List WaitAct) → AreReady intr acts → IsReady intr c
+    → AreReady intr (Entered c named Dial deadline ∷ acts)
+dials_ready intr c named deadline acts ready this = λ d dials. elim (cases_eq c d) [
   | inl e ↦ subst (λ (k : ℕ). IsReady intr k) e this
   | inr ne ↦ ready d (rw (ne_eqb c d ne) at dials)
 ]
 
-pub bench_dialing : (kept : Bench) (waiting : List Entry) (config : Config) (acts : List BenchAct) (c : ℕ)
-    → IsBench kept config acts → IsQueue waiting (Entered c None Dial None ∷ wait_acts acts)
+pub bench_dialing : (kept : Bench) (waiting : List Entry) (config : Config) (acts : List BenchAct) (c : ℕ) (named deadline : Option ℕ)
+    → IsBench kept config acts → IsQueue waiting (Entered c named Dial deadline ∷ wait_acts acts)
     → IsReserved (record kept { waiting = waiting }) acts → IsReady kept.intr c
-    → IsBench (record kept { waiting = waiting }) config (Waited (Entered c None Dial None) ∷ acts)
-bench_dialing kept waiting config acts c (links, instrument, set_up, clock, before, was, told, ready) queue reserved this =
-    (links, instrument, set_up, clock, queue, reserved, told, dials_ready kept.intr c (wait_acts acts) ready this)
+    → IsBench (record kept { waiting = waiting }) config (Waited (Entered c named Dial deadline) ∷ acts)
+bench_dialing kept waiting config acts c named deadline (links, instrument, set_up, clock, before, was, told, ready) queue reserved this =
+    (links, instrument, set_up, clock, queue, reserved, told, dials_ready kept.intr c named deadline (wait_acts acts) ready this)
 
 -- a link of a connection asks for service requests
 pub room_there : (kept : Bench) (config : Config) (acts : List BenchAct) (lid conn : ℕ) → IsBench kept config acts

@@ -6,17 +6,17 @@ use Rattle.std.proofs.lemmas.Bool.{lt-ltb, le-ltb, ne_eqb, cases_lt}
 use Rattle.sv_links.specs.declared.request.Peer.{Peer}
 use Rattle.sv_links.specs.Channels.{ChannelAct, ChannelTaken, is_channel_open, taken, calls, left_of, waiting as channel_waiting}
 use Rattle.sv_links.specs.KeptChannels.{AreChannels}
-use Rattle.sv_server.specs.declared.event.Config.{Config}
-use Rattle.sv_server.specs.Act.{Act, BenchAct, of, bench, wait_acts}
-use Rattle.sv_server.specs.Requests.{Tells}
-use Rattle.sv_server.specs.Interrupts.{has_channel, is_dial, is_dialing, dial_of, dial_in}
-use Rattle.sv_server.specs.Connection.{unanswered}
-use Rattle.sv_server.specs.CoreCall.{core_call_in}
-use Rattle.sv_server.specs.declared.event.Refused.TheVariants.{NotSent}
+use Rattle.sv_history.specs.declared.event.Config.{Config}
+use Rattle.sv_history.specs.Act.{Act, BenchAct, of, bench, wait_acts}
+use Rattle.sv_history.specs.Requests.{Tells}
+use Rattle.sv_history.specs.Interrupts.{has_channel, is_dial, is_dialing, dial_of, dial_in}
+use Rattle.sv_history.specs.Connection.{unanswered}
+use Rattle.sv_history.specs.Request.{core_call_in}
+use Rattle.sv_history.specs.declared.event.Refused.TheVariants.{NotSent}
 use Rattle.sv_links.specs.Waiting.{WaitAct, waits}
 use Rattle.sv_server.specs.KeptBench.{Bench as KeptBench, IsBench}
-use Rattle.sv_server.specs.History.{is_channel_shut, took_refusal}
-use Rattle.sv_server.proofs.Telling.{tells_once}
+use Rattle.sv_history.specs.History.{is_channel_shut, took_refusal}
+use Rattle.sv_history.proofs.Telling.{tells_once}
 
 -- what is kept of them, by what the acts tell
 channels_of : (kept : KeptBench) (config : Config) (acts : List BenchAct) (told : List ChannelAct) → IsBench kept config acts

@@ -9,8 +9,8 @@ use Rattle.sv_rpc.specs.Record.{Tail, Header, Data, TooLong}
 use Rattle.sv_rpc.specs.RecordBuf.{room_of, used_by, next_among}
 use Rattle.sv_rpc.specs.Stream.{read, records_of, tail_of}
 use Rattle.sv_rpc.proofs.OneReading.{read_alone}
-use Rattle.sv_server.specs.Act.{ConnAct, CallTaken}
-use Rattle.sv_server.specs.Connection.{is_open, stream, ended, took_no_call, is_busy, next_call, is_idle, is_too_long, is_faulted, room}
+use Rattle.sv_history.specs.Act.{ConnAct, CallTaken}
+use Rattle.sv_history.specs.Connection.{is_open, stream, ended, took_no_call, is_busy, next_call, is_idle, is_too_long, is_faulted, room}
 use Rattle.sv_server.specs.KeptConnection.{Connection, IsConnection}
 use Rattle.sv_server.specs.Inside.Kept.{kept_next}
 

@@ -1,5 +1,5 @@
 -- A call that waits goes on, or is given up, and what stands for that.
-use Rattle.std.proofs.Common.{◌≡◌, ◌≢◌, ℕ, ◌<◌, ◌≤◌, Bool, true, false, eqb, List, [], ◌∷◌, ◌++◌, length, set, Option, Some, None, refl, sym, ap, subst, ◌∙◌, inl, inr}
+use Rattle.std.proofs.Common.{◌≡◌, ℕ, ◌<◌, ◌≤◌, Bool, true, false, eqb, List, [], ◌∷◌, ◌++◌, length, set, Option, Some, None, refl, sym, ap, subst, ◌∙◌, inl, inr}
 use Rattle.std.specs.Prelude.{is_none, ◌&&◌, option_map, map}
 use Rattle.std.specs.List.{AllByRecursion}
 use Rattle.std.proofs.lemmas.Bool.{cases_Bool, eqb-true}
@@ -10,20 +10,21 @@ use Rattle.sv_links.specs.Links.{is_locked_out, holder}
 use Rattle.sv_links.specs.Waiting.{WaitAct, waits, is_there, is_lock}
 use Rattle.sv_links.specs.Queue.{IsEntry, entry_of, creates, creations, without}
 use Rattle.sv_layers.specs.Act.{Act as InstrumentAct}
-use Rattle.sv_server.specs.declared.event.Config.{Config}
-use Rattle.sv_server.specs.Act.{Act, Happened, Bench, of, bench, link_acts, wait_acts, instrument_acts}
-use Rattle.sv_server.specs.Connection.{unanswered}
-use Rattle.sv_server.specs.CoreCall.{core_call}
-use Rattle.sv_server.specs.Verdict.{Verdict, NoCall, Replies, Stays, verdict_acts}
-use Rattle.sv_server.specs.Settling.{CanGoOn, Happens}
+use Rattle.sv_history.specs.declared.event.Config.{Config}
+use Rattle.sv_history.specs.Act.{Act, Happened, Bench, of, bench, link_acts, wait_acts, instrument_acts}
+use Rattle.sv_history.specs.Connection.{unanswered}
+use Rattle.sv_history.specs.Request.{core_call}
+use Rattle.sv_history.specs.Effect.{Effect, acts_of}
+use Rattle.sv_history.specs.Settling.{CanGoOn, Happens}
 use Rattle.sv_server.specs.KeptConnection.{Connection}
 use Rattle.sv_server.specs.KeptBench.{Bench as KeptBench}
 use Rattle.sv_server.specs.State.{State, Represents, IsTaken, creates_link}
-use Rattle.sv_server.specs.Inside.Acting.{Concludes, GoneOn, TakesStep, InstrumentSteps}
+use Rattle.sv_server.specs.Inside.Acting.{Concludes, WentOn, TakesStep, InstrumentSteps}
 use Rattle.sv_server.specs.Inside.Outcome.{MayGoOn, WaitsOn}
-use Rattle.sv_server.proofs.Projections.{of_shared, resumed_stands}
+use Rattle.sv_history.proofs.Projections.{others_effect}
+use Rattle.sv_server.proofs.Effects.{of_same}
 use Rattle.sv_server.proofs.Taken.{taken_without, taken_anew, taken_one}
-use Rattle.sv_server.proofs.Logs.{acted, shared_acts}
+use Rattle.sv_server.proofs.Logs.{shared_acts, resumed}
 
 -- ---- the call of a connection that waits
 
@@ -60,44 +61,37 @@ within_of state config log c rep does above =
 
 -- ---- it is given up
 
-pub gave_up_stands : (state : State) (config : Config) (log : List Act) (c : ℕ) (verdict : Verdict) (kept : Connection) (shared : KeptBench)
+pub gave_up_stands : (state : State) (config : Config) (log : List Act) (c : ℕ) (effect : Effect) (kept : Connection) (shared : KeptBench)
     → Represents state config log → length state.connections ≡ 16 → c < 16
-    → Concludes verdict config (of c log) (bench log) kept shared → shared.waiting ≡ without c state.bench.waiting
-    → Represents (record { connections = set state.connections c kept; bench = shared }) config (verdict_acts c verdict ++ log)
-gave_up_stands state config log c verdict kept shared rep sixteen lt done left =
-    let s = resumed_stands config c log verdict kept shared done in
-    acted state config log (verdict_acts c verdict ++ log) c kept shared rep sixteen lt s.0 s.1 s.2
-    (rw left (taken_without c log (verdict_acts c verdict ++ log) state.bench.waiting s.2 rep.taken))
+    → Concludes effect config (of c log) (bench log) kept shared → shared.waiting ≡ without c state.bench.waiting
+    → Represents (record { connections = set state.connections c kept; bench = shared }) config (acts_of c effect ++ log)
+gave_up_stands state config log c effect kept shared rep sixteen lt done left =
+    resumed state config log c effect kept shared rep sixteen lt done
+    (rw left (taken_without c log (acts_of c effect ++ log) state.bench.waiting (λ d ne. others_effect c d effect log ne) rep.taken))
 
 -- ---- it goes on
 
-went_taken : (c : ℕ) (log : List Act) (call : List ℕ) (verdict : Verdict) (old new : List Entry)
-    → unanswered (of c log) ≡ Some call → ((d : ℕ) → d ≢ c → of d (verdict_acts c verdict ++ log) ≡ of d log)
-    → WaitsOn verdict c (core_call call) old new → AllByRecursion (IsTaken log) old
-    → AllByRecursion (IsTaken (verdict_acts c verdict ++ log)) new
-went_taken c log call NoCall old new known others left taken =
-    rw left (taken_without c log (verdict_acts c NoCall ++ log) old others taken)
-went_taken c log call (Replies adds aborts bytes) old new known others left taken =
-    rw left (taken_without c log (verdict_acts c (Replies adds aborts bytes) ++ log) old others taken)
-went_taken c log call (Stays adds) old new known others (inl left) taken =
-    rw left (taken_without c log (map Bench adds ++ log) old others taken)
-went_taken c log call (Stays adds) old new known others (inr (wait, deadline, is, other)) taken =
-    rw is (taken_anew c wait deadline log (map Bench adds ++ log) old (λ d. of_shared d adds log)
+went_taken : (c : ℕ) (log : List Act) (call : List ℕ) (effect : Effect) (old new : List Entry) → unanswered (of c log) ≡ Some call
+    → WaitsOn effect c (core_call call) old new → AllByRecursion (IsTaken log) old
+    → AllByRecursion (IsTaken (acts_of c effect ++ log)) new
+went_taken c log call effect old new known (inl left) taken =
+    rw left (taken_without c log (acts_of c effect ++ log) old (λ d ne. others_effect c d effect log ne) taken)
+went_taken c log call effect old new known (inr (none, wait, deadline, is, other)) taken =
+    rw is (taken_anew c wait deadline log (acts_of c effect ++ log) old (λ d. of_same c d effect log none)
     (λ its e. let same : call ≡ its = one_call call its (sym known ∙ e) in
     ap (λ (l : List ℕ). creates_link (core_call l)) (sym same) ∙ other) taken)
   where
     one_call : (a b : List ℕ) → Some a ≡ Some b → a ≡ b
     one_call a b e = cc
 
-pub went_on_stands : (state : State) (config : Config) (log : List Act) (c : ℕ) (call : List ℕ) (verdict : Verdict) (kept : Connection)
+pub went_on_stands : (state : State) (config : Config) (log : List Act) (c : ℕ) (call : List ℕ) (effect : Effect) (kept : Connection)
     (shared : KeptBench)
     → Represents state config log → length state.connections ≡ 16 → c < 16 → unanswered (of c log) ≡ Some call
-    → GoneOn verdict c (core_call call) config (of c log) (bench log) state.bench.waiting kept shared
-    → Represents (record { connections = set state.connections c kept; bench = shared }) config (verdict_acts c verdict ++ log)
-went_on_stands state config log c call verdict kept shared rep sixteen lt known (done, waits) =
-    let s = resumed_stands config c log verdict kept shared done in
-    acted state config log (verdict_acts c verdict ++ log) c kept shared rep sixteen lt s.0 s.1 s.2
-    (went_taken c log call verdict state.bench.waiting shared.waiting known s.2 waits rep.taken)
+    → WentOn effect c (core_call call) config (of c log) (bench log) state.bench.waiting kept shared
+    → Represents (record { connections = set state.connections c kept; bench = shared }) config (acts_of c effect ++ log)
+went_on_stands state config log c call effect kept shared rep sixteen lt known (done, waits) =
+    resumed state config log c effect kept shared rep sixteen lt done
+    (went_taken c log call effect state.bench.waiting shared.waiting known waits rep.taken)
 
 -- a create_link that can go on finds the lock free
 free_for : (locked : Option ℕ) (can_write can_read : Bool) (wait : Wait) (lid : Option ℕ)

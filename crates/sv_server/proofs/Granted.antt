@@ -1,153 +1,219 @@
--- What is known of a call by its arguments.
-use Rattle.std.proofs.Common.{◌≡◌, ℕ, ◌<◌, Bool, true, false, cond, zero, suc, nat_lt, List, [], ◌∷◌, Option, Some, None, refl, sym, ap, subst, ◌∙◌, arith}
-use Rattle.std.specs.Prelude.{◌||◌, not, is_none, is_some, Result, Ok, Err, OnErr, ◌&&◌, ℤ, pos, negsuc}
-use Rattle.sv_vxi.specs.Arguments.{Arguments, DeviceAbort, CreateLink, DeviceWrite, DeviceRead, DeviceReadstb, DeviceTrigger, DeviceClear, DeviceRemote, DeviceLocal, DeviceLock, DeviceUnlock, DeviceEnableSrq, DeviceDocmd, DestroyLink, CreateIntrChan, DestroyIntrChan}
+-- What is known of a call by its arguments and by what stops it.
+use Rattle.std.proofs.Common.{◌≡◌, ℕ, ◌<◌, ◌&&◌, Bool, true, false, cond, zero, suc, List, [], ◌∷◌, nat_lt, Option, Some, None, refl, sym, ap, subst, ◌∙◌, arith}
+use Rattle.std.specs.Prelude.{ℤ, pos, negsuc, not, ◌||◌, is_none, is_some, option_map, Result, Ok, Err, IfOk, OnOk, OnErr}
+use Rattle.sv_vxi.specs.declared.error_code.ErrorCode.{ErrorCode}
+use Rattle.sv_vxi.specs.declared.error_code.ErrorCode.TheVariants.{InvalidLink, ParameterError, NotAccessible, OutOfResources}
+use Rattle.sv_vxi.specs.declared.error_code.ErrorCode.TheVariants.{Locked as DeviceLocked}
+use Rattle.sv_vxi.specs.declared.arguments.LockWait.{LockWait}
+use Rattle.sv_vxi.specs.Arguments.{Arguments, CreateLink, CreateIntrChan, DestroyIntrChan, DeviceWrite, DeviceRead, link, lock_wait, io_timeout, is_create_link}
 use Rattle.sv_links.specs.declared.waiting.Entry.{Entry}
 use Rattle.sv_links.specs.declared.waiting.Wait.{Wait}
 use Rattle.sv_links.specs.declared.waiting.Wait.TheVariants.{Lock, Input, Response, Dial}
-use Rattle.sv_links.specs.Links.{is_locked_out, holder, is_this, lids_left}
-use Rattle.sv_links.specs.Waiting.{Entered, Left, is_lock, waits, link, creating}
-use Rattle.sv_links.specs.Queue.{rank_of, creations, without, IsEntry}
-use Rattle.sv_server.specs.declared.event.Config.{Config}
-use Rattle.sv_server.specs.declared.core_call.Patience.{Patience}
-use Rattle.sv_server.specs.Act.{BenchAct, Waited, link_acts, wait_acts}
-use Rattle.sv_server.specs.CoreCall.{lid_of, named_by, link_named, lock_patience, is_too_long, is_create_link}
-use Rattle.sv_server.specs.CoreChannel.{owns, names_another, make_link}
-use Rattle.sv_server.specs.Interrupts.{dialing, channel_fault}
-use Rattle.sv_server.specs.Refusing.{takes_memory}
-use Rattle.sv_server.specs.Admission.{Begun, deadline_of, begin_link, begin_channel, blocked, unless_blocked, behind_lock}
-use Rattle.sv_server.specs.AbortChannel.{waits_with}
-use Rattle.sv_server.specs.KeptBench.{Bench, IsBench}
-use Rattle.sv_server.specs.Inside.Outcome.{IsGranted, MayMake, makes, begun_wants}
+use Rattle.sv_links.specs.Links.{holder, is_locked_out, is_this, lids_left}
+use Rattle.sv_links.specs.Waiting.{Entered, Left, creating, waits, link as link_of_wait, is_lock}
+use Rattle.sv_links.specs.Queue.{IsEntry, creations, without, rank_of}
+use Rattle.sv_history.specs.declared.event.Config.{Config}
+use Rattle.sv_history.specs.Act.{BenchAct, Waited, link_acts, wait_acts}
+use Rattle.sv_history.specs.CoreCall.{lid_of, is_too_long}
+use Rattle.sv_history.specs.Interrupts.{channel_fault, dialing, has_channel}
+use Rattle.sv_history.specs.CoreChannel.{make_link}
+use Rattle.sv_history.specs.Admission.{Stop, Fails, Awaits, names_another, is_kept_out, lock_stop, device_wait, may_make_more, channel_stop, device_stop, own_stop, stop_of, begun}
+use Rattle.sv_history.specs.AbortChannel.{waits_with}
+use Rattle.sv_history.specs.History.{wants_memory}
+use Rattle.sv_server.specs.KeptBench.{Bench, IsBench, HasPlace}
+use Rattle.sv_server.specs.Inside.Outcome.{IsGranted, MayMake, Admits, AdmitsAt}
+use Rattle.sv_server.specs.declared.outcomes.CallOutcome.{CallOutcome as Outcome}
+use Rattle.sv_history.specs.Refusing.{takes_memory}
 
--- a call that makes no link wants nothing
-pub granted_other : (arguments : Arguments) (kept : Bench) (acts : List BenchAct) → is_create_link arguments ≡ false
-    → IsGranted arguments kept acts
-granted_other (DeviceAbort lid) kept acts e = tt
-granted_other (CreateLink client_id lock_device lock_timeout device) kept acts e = absurd cc
-granted_other (DeviceWrite lid io_timeout lock_timeout flags bytes) kept acts e = tt
-granted_other (DeviceRead lid request_size io_timeout lock_timeout flags term_char) kept acts e = tt
-granted_other (DeviceReadstb lid flags lock_timeout io_timeout) kept acts e = tt
-granted_other (DeviceTrigger lid flags lock_timeout io_timeout) kept acts e = tt
-granted_other (DeviceClear lid flags lock_timeout io_timeout) kept acts e = tt
-granted_other (DeviceRemote lid flags lock_timeout io_timeout) kept acts e = tt
-granted_other (DeviceLocal lid flags lock_timeout io_timeout) kept acts e = tt
-granted_other (DeviceLock lid flags lock_timeout) kept acts e = tt
-granted_other (DeviceUnlock lid) kept acts e = tt
-granted_other (DeviceEnableSrq lid enable handle) kept acts e = tt
-granted_other (DeviceDocmd lid flags io_timeout lock_timeout cmd network_order datasize bytes) kept acts e = tt
-granted_other (DestroyLink lid) kept acts e = tt
-granted_other (CreateIntrChan host_addr host_port prog_num prog_vers prog_family) kept acts e = tt
-granted_other DestroyIntrChan kept acts e = tt
+pub both_true : (a b : Bool) → (a && b) ≡ true → (a ≡ true) × (b ≡ true)
+both_true true true e = (refl, refl)
+both_true true false e = absurd cc
+both_true false b e = absurd cc
 
--- nor does one that is too long
-pub long_other : (arguments : Arguments) → is_too_long arguments ≡ true → is_create_link arguments ≡ false
-long_other (DeviceAbort lid) e = refl
-long_other (CreateLink client_id lock_device lock_timeout device) e = absurd cc
-long_other (DeviceWrite lid io_timeout lock_timeout flags bytes) e = refl
-long_other (DeviceRead lid request_size io_timeout lock_timeout flags term_char) e = refl
-long_other (DeviceReadstb lid flags lock_timeout io_timeout) e = refl
-long_other (DeviceTrigger lid flags lock_timeout io_timeout) e = refl
-long_other (DeviceClear lid flags lock_timeout io_timeout) e = refl
-long_other (DeviceRemote lid flags lock_timeout io_timeout) e = refl
-long_other (DeviceLocal lid flags lock_timeout io_timeout) e = refl
-long_other (DeviceLock lid flags lock_timeout) e = refl
-long_other (DeviceUnlock lid) e = refl
-long_other (DeviceEnableSrq lid enable handle) e = refl
-long_other (DeviceDocmd lid flags io_timeout lock_timeout cmd network_order datasize bytes) e = refl
-long_other (DestroyLink lid) e = refl
-long_other (CreateIntrChan host_addr host_port prog_num prog_vers prog_family) e = refl
-long_other DestroyIntrChan e = refl
+pub if_ok : {A E : Type 0} (r : Result A E) (P Q : A → Type 0) → IfOk r P → ((a : A) → P a → Q a) → IfOk r Q
+if_ok (Ok a) P Q p then = then a p
+if_ok (Err e) P Q p then = tt
 
--- nor does one that is subject to the lock
-pub subject_other : (arguments : Arguments) (patience : Patience) → lock_patience arguments ≡ Some patience
-    → is_create_link arguments ≡ false
-subject_other (DeviceAbort lid) patience e = refl
-subject_other (CreateLink client_id lock_device lock_timeout device) patience e = absurd cc
-subject_other (DeviceWrite lid io_timeout lock_timeout flags bytes) patience e = refl
-subject_other (DeviceRead lid request_size io_timeout lock_timeout flags term_char) patience e = refl
-subject_other (DeviceReadstb lid flags lock_timeout io_timeout) patience e = refl
-subject_other (DeviceTrigger lid flags lock_timeout io_timeout) patience e = refl
-subject_other (DeviceClear lid flags lock_timeout io_timeout) patience e = refl
-subject_other (DeviceRemote lid flags lock_timeout io_timeout) patience e = refl
-subject_other (DeviceLocal lid flags lock_timeout io_timeout) patience e = refl
-subject_other (DeviceLock lid flags lock_timeout) patience e = refl
-subject_other (DeviceUnlock lid) patience e = refl
-subject_other (DeviceEnableSrq lid enable handle) patience e = refl
-subject_other (DeviceDocmd lid flags io_timeout lock_timeout cmd network_order datasize bytes) patience e = refl
-subject_other (DestroyLink lid) patience e = refl
-subject_other (CreateIntrChan host_addr host_port prog_num prog_vers prog_family) patience e = refl
-subject_other DestroyIntrChan patience e = refl
+pub on_err_then : {A E : Type 0} (r : Result A E) (P Q : Type 0) → OnErr r P → (P → Q) → OnErr r Q
+on_err_then (Ok a) P Q p then = tt
+on_err_then (Err e) P Q p then = then p
 
--- a link of the connection has a number
-owned_number : (c : ℕ) (lid : ℤ) (acts : List BenchAct) → not (owns c (lid_of lid) acts) ≡ false → is_none (lid_of lid) ≡ false
-owned_number c (pos lid) acts e = refl
-owned_number c (negsuc lid) acts e = absurd cc
+pub on_ok : {A E : Type 0} (r : Result A E) (P Q : Type 0) → OnOk r P → (P → Q) → OnOk r Q
+on_ok (Ok a) P Q p then = then p
+on_ok (Err e) P Q p then = tt
 
--- so has the one that a call names that is subject to the lock
-pub named_known : (c : ℕ) (arguments : Arguments) (patience : Patience) (acts : List BenchAct) → lock_patience arguments ≡ Some patience
-    → names_another c (link_named arguments) acts ≡ false → is_none (named_by arguments) ≡ false
-named_known c (DeviceAbort lid) patience acts e own = absurd cc
-named_known c (CreateLink client_id lock_device lock_timeout device) patience acts e own = absurd cc
-named_known c (DeviceWrite lid io_timeout lock_timeout flags bytes) patience acts e own = owned_number c lid acts own
-named_known c (DeviceRead lid request_size io_timeout lock_timeout flags term_char) patience acts e own = owned_number c lid acts own
-named_known c (DeviceReadstb lid flags lock_timeout io_timeout) patience acts e own = owned_number c lid acts own
-named_known c (DeviceTrigger lid flags lock_timeout io_timeout) patience acts e own = owned_number c lid acts own
-named_known c (DeviceClear lid flags lock_timeout io_timeout) patience acts e own = owned_number c lid acts own
-named_known c (DeviceRemote lid flags lock_timeout io_timeout) patience acts e own = owned_number c lid acts own
-named_known c (DeviceLocal lid flags lock_timeout io_timeout) patience acts e own = owned_number c lid acts own
-named_known c (DeviceLock lid flags lock_timeout) patience acts e own = owned_number c lid acts own
-named_known c (DeviceUnlock lid) patience acts e own = absurd cc
-named_known c (DeviceEnableSrq lid enable handle) patience acts e own = absurd cc
-named_known c (DeviceDocmd lid flags io_timeout lock_timeout cmd network_order datasize bytes) patience acts e own =
-    owned_number c lid acts own
-named_known c (DestroyLink lid) patience acts e own = absurd cc
-named_known c (CreateIntrChan host_addr host_port prog_num prog_vers prog_family) patience acts e own = absurd cc
-named_known c DestroyIntrChan patience acts e own = absurd cc
+pub on_err : {A E : Type 0} (r : Result A E) (P : Type 0) → P → OnErr r P
+on_err (Ok a) P p = tt
+on_err (Err e) P p = p
+
+-- ---- what may stop a create_link
+
+link_free : (named more asks locked : Bool) (timeout : ℕ)
+    → cond (not named) (Some (Fails NotAccessible)) (cond (not more) (Some (Fails OutOfResources))
+    (cond (asks && locked) (Some (Awaits Lock (Some timeout))) None)) ≡ None
+    → (more ≡ true) × (asks ≡ true → locked ≡ false)
+link_free false more asks locked timeout e = absurd cc
+link_free true false asks locked timeout e = absurd cc
+link_free true true true true timeout e = absurd cc
+link_free true true true false timeout e = (refl, λ _. refl)
+link_free true true false locked timeout e = (refl, λ z. absurd cc)
+
+link_waits : (named more asks locked : Bool) (timeout : ℕ) (wait : Wait) (until : Option ℕ)
+    → cond (not named) (Some (Fails NotAccessible)) (cond (not more) (Some (Fails OutOfResources))
+    (cond (asks && locked) (Some (Awaits Lock (Some timeout))) None)) ≡ Some (Awaits wait until)
+    → (more ≡ true) × (wait ≡ Lock)
+link_waits false more asks locked timeout wait until e = absurd cc
+link_waits true false asks locked timeout wait until e = absurd cc
+link_waits true true true true timeout wait until e = (refl, cc)
+link_waits true true true false timeout wait until e = absurd cc
+link_waits true true false locked timeout wait until e = absurd cc
+
+-- one that nothing stops has its place, and finds the lock free where it asks for it
+pub granted_start : (c : ℕ) (arguments : Arguments) (kept : Bench) (acts : List BenchAct) → stop_of c arguments acts ≡ None
+    → (is_create_link arguments ≡ true → may_make_more acts ≡ true → HasPlace kept acts) → IsGranted arguments kept acts
+granted_start c (CreateLink client_id lock_device lock_timeout device) kept acts free place =
+    let known = link_free _ (may_make_more acts) lock_device _ lock_timeout free in (place refl known.0, known.1)
+granted_start c _ kept acts free place = tt
+
+-- ---- what a call waits for
+
+-- one that has to wait names no link of another connection
+stop_named : (other : Bool) (rest : Option Stop) (wait : Wait) (until : Option ℕ)
+    → cond other (Some (Fails InvalidLink)) rest ≡ Some (Awaits wait until) → other ≡ false
+stop_named true rest wait until e = absurd cc
+stop_named false rest wait until e = refl
+
+named_some : (c : ℕ) (named : Option ℤ) (acts : List BenchAct) → is_none named ≡ false → names_another c named acts ≡ false
+    → is_none (lid_of named) ≡ false
+named_some c None acts some own = absurd cc
+named_some c (Some (pos lid)) acts some own = refl
+named_some c (Some (negsuc n)) acts some own = absurd cc
+
+channel_waits : (fault : Option ErrorCode) (wait : Wait) (until : Option ℕ) → channel_stop fault ≡ Awaits wait until
+    → (fault ≡ None) × (wait ≡ Dial)
+channel_waits (Some error) wait until e = absurd cc
+channel_waits None wait until e = (refl, cc)
+
+some_stop : (a b : Stop) → Some a ≡ Some b → a ≡ b
+some_stop a b e = cc
+
+-- where it waits for the lock and isn't a create_link, it names a link
+names_link : (c : ℕ) (arguments : Arguments) (acts : List BenchAct) (until : Option ℕ) → stop_of c arguments acts ≡ Some (Awaits Lock until)
+    → is_create_link arguments ≡ false → is_none (link arguments) ≡ false
+names_link c (CreateLink client_id lock_device lock_timeout device) acts until e other = absurd cc
+names_link c (CreateIntrChan host_addr host_port prog_num prog_vers prog_family) acts until e other =
+    absurd (let z : Lock ≡ Dial = (channel_waits _ Lock until (some_stop _ _ e)).1 in cc)
+names_link c DestroyIntrChan acts until e other = absurd (let z : None ≡ Some (Awaits Lock until) = e in cc)
+names_link c _ acts until e other = refl
+
+lock_both : (wait : Wait) (b : Bool) → (is_lock (Some wait) && b) ≡ true → (wait ≡ Lock) × (b ≡ true)
+lock_both Lock b e = (refl, e)
+lock_both Input b e = absurd cc
+lock_both Response b e = absurd cc
+lock_both Dial b e = absurd cc
+
+-- so one that waits for the lock and names none is a create_link, and may make a link
+pub lock_place : (c : ℕ) (arguments : Arguments) (acts : List BenchAct) (wait : Wait) (until : Option ℕ)
+    → stop_of c arguments acts ≡ Some (Awaits wait until) → (is_lock (Some wait) && is_none (lid_of (link arguments))) ≡ true
+    → (is_create_link arguments ≡ true) × (may_make_more acts ≡ true)
+lock_place c (CreateLink client_id lock_device lock_timeout device) acts wait until e both =
+    (refl, (link_waits _ (may_make_more acts) lock_device _ lock_timeout wait until e).0)
+lock_place c arguments acts wait until e both =
+    let (is, none) = lock_both wait _ both in
+    let at : stop_of c arguments acts ≡ Some (Awaits Lock until) = e ∙ ap (λ (w : Wait). Some (Awaits w until)) is in
+    let some = named_some c (link arguments) acts (names_link c arguments acts until at refl)
+    (stop_named (names_another c (link arguments) acts) _ Lock until at) in
+    absurd (let z : true ≡ false = sym none ∙ some in cc)
+
+-- and a create_link waits for the lock as such
+pub link_lock : (c : ℕ) (arguments : Arguments) (acts : List BenchAct) (wait : Wait) (until : Option ℕ)
+    → stop_of c arguments acts ≡ Some (Awaits wait until) → is_create_link arguments ≡ true
+    → (is_lock (Some wait) && is_none (lid_of (link arguments))) ≡ true
+link_lock c (CreateLink client_id lock_device lock_timeout device) acts wait until e makes =
+    rw (link_waits _ (may_make_more acts) lock_device _ lock_timeout wait until e).1 refl
+link_lock c _ acts wait until e makes = absurd (let z : false ≡ true = makes in cc)
+
+-- a create_intr_chan waits for its peer, and no other call does; it finds no channel open
+no_channel : (there : Bool) (host_addr host_port prog_family : ℕ) → channel_fault there host_addr host_port prog_family ≡ None
+    → there ≡ false
+no_channel true host_addr host_port prog_family e = absurd cc
+no_channel false host_addr host_port prog_family e = refl
+
+same_wait : (a b : Wait) (x y : Option ℕ) → Awaits a x ≡ Awaits b y → a ≡ b
+same_wait a b x y e = cc
+
+lock_never : (lock : Option LockWait) (until : Option ℕ) → lock_stop lock ≡ Awaits Dial until → ⊥
+lock_never None until e = cc
+lock_never (Some wait) until e = by wait.waits e
+  where
+    by : (waits : Bool) → cond waits (Awaits Lock (Some wait.timeout)) (Fails DeviceLocked) ≡ Awaits Dial until → ⊥
+    by true e = cc
+    by false e = cc
+
+dial_never : (other long out : Bool) (lock : Option LockWait) (wait : Option Wait) (timeout until : Option ℕ) → (wait ≡ Some Dial → ⊥)
+    → cond other (Some (Fails InvalidLink)) (cond long (Some (Fails ParameterError))
+    (cond out (Some (lock_stop lock)) (option_map (λ wait. Awaits wait timeout) wait))) ≡ Some (Awaits Dial until) → ⊥
+dial_never true long out lock wait timeout until never e = absurd cc
+dial_never false true out lock wait timeout until never e = absurd cc
+dial_never false false true lock wait timeout until never e = lock_never lock until (some_stop _ _ e)
+dial_never false false false lock None timeout until never e = absurd cc
+dial_never false false false lock (Some wait) timeout until never e =
+    never (ap (λ (w : Wait). Some w) (same_wait wait Dial timeout until (some_stop _ _ e)))
+
+one_of : (b : Bool) (a c : Option Wait) → (a ≡ Some Dial → ⊥) → (c ≡ Some Dial → ⊥) → cond b a c ≡ Some Dial → ⊥
+one_of true a c never other e = never e
+one_of false a c never other e = other e
+
+not_dial : (arguments : Arguments) (acts : List BenchAct) → device_wait arguments acts ≡ Some Dial → ⊥
+not_dial (DeviceWrite lid timeout lock_timeout flags bytes) acts e = one_of _ (Some Input) None (λ z. cc) (λ z. cc) e
+not_dial (DeviceRead lid request_size timeout lock_timeout flags term_char) acts e = one_of _ None (Some Response) (λ z. cc) (λ z. cc) e
+not_dial _ acts e = absurd (let z : None ≡ Some Dial = e in cc)
+
+pub dials : (c : ℕ) (arguments : Arguments) (acts : List BenchAct) (until : Option ℕ) → stop_of c arguments acts ≡ Some (Awaits Dial until)
+    → (has_channel c acts ≡ false) × (is_create_link arguments ≡ false)
+dials c (CreateLink client_id lock_device lock_timeout device) acts until e =
+    absurd (let z : Dial ≡ Lock = (link_waits _ (may_make_more acts) lock_device _ lock_timeout Dial until e).1 in cc)
+dials c (CreateIntrChan host_addr host_port prog_num prog_vers prog_family) acts until e =
+    (no_channel (has_channel c acts) host_addr host_port prog_family (channel_waits _ Dial until (some_stop _ _ e)).0, refl)
+dials c arguments acts until e = absurd (dial_never (names_another c (link arguments) acts) (is_too_long arguments)
+    (is_kept_out arguments acts) (lock_wait arguments) (device_wait arguments acts) (io_timeout arguments) until
+    (not_dial arguments acts) e)
+
+-- a call that is none of these is stopped by the device alone
+pub own_device : (c : ℕ) (arguments : Arguments) (acts : List BenchAct) → takes_memory arguments ≡ false
+    → own_stop c arguments acts ≡ device_stop arguments acts
+own_device c (CreateLink client_id lock_device lock_timeout device) acts e = absurd cc
+own_device c (CreateIntrChan host_addr host_port prog_num prog_vers prog_family) acts e = absurd cc
+own_device c _ acts e = refl
+
+-- a call begins as what stops it says
+pub admitted : (stop : Option Stop) {E : Type 0} (result : Result Outcome E) (c : ℕ) (arguments : Arguments) (old new : Bench)
+    → ((config : Config) (acts : List BenchAct) → IsBench old config acts → stop_of c arguments acts ≡ stop)
+    → AdmitsAt stop result c arguments old new → Admits result c arguments old new
+admitted stop {E} result c arguments old new is at = record {
+  does = λ config polled acts known. if_ok result _ _ (at.does config polled acts known) (λ outcome so always. so (is config acts known.0));
+  lacks = λ config polled acts known. on_err_then result _ _ (at.lacks config polled acts known) (λ wants always. wants (is config acts known.0));
+  brief = at.brief;
+  err = at.err;
+}
+
+-- ---- a call that waited
 
 -- what waited for the lock as a create_link has its place
 pub granted_left : (arguments : Arguments) (kept : Bench) (waiting : List Entry) (config : Config) (acts : List BenchAct) (c : ℕ)
     → IsBench kept config acts → waiting ≡ without c kept.waiting → MayMake arguments c kept acts
     → IsGranted arguments (record kept { waiting = waiting }) (Waited (Left c) ∷ acts)
-granted_left (DeviceAbort lid) kept waiting config acts c is left may = tt
 granted_left (CreateLink client_id lock_device lock_timeout device) kept waiting config acts c is left may =
     rw left ((omega (arith, is.5.0, may.0), omega (arith, is.5.1, may.0)), λ asks. may.1)
-granted_left (DeviceWrite lid io_timeout lock_timeout flags bytes) kept waiting config acts c is left may = tt
-granted_left (DeviceRead lid request_size io_timeout lock_timeout flags term_char) kept waiting config acts c is left may = tt
-granted_left (DeviceReadstb lid flags lock_timeout io_timeout) kept waiting config acts c is left may = tt
-granted_left (DeviceTrigger lid flags lock_timeout io_timeout) kept waiting config acts c is left may = tt
-granted_left (DeviceClear lid flags lock_timeout io_timeout) kept waiting config acts c is left may = tt
-granted_left (DeviceRemote lid flags lock_timeout io_timeout) kept waiting config acts c is left may = tt
-granted_left (DeviceLocal lid flags lock_timeout io_timeout) kept waiting config acts c is left may = tt
-granted_left (DeviceLock lid flags lock_timeout) kept waiting config acts c is left may = tt
-granted_left (DeviceUnlock lid) kept waiting config acts c is left may = tt
-granted_left (DeviceEnableSrq lid enable handle) kept waiting config acts c is left may = tt
-granted_left (DeviceDocmd lid flags io_timeout lock_timeout cmd network_order datasize bytes) kept waiting config acts c is left may = tt
-granted_left (DestroyLink lid) kept waiting config acts c is left may = tt
-granted_left (CreateIntrChan host_addr host_port prog_num prog_vers prog_family) kept waiting config acts c is left may = tt
-granted_left DestroyIntrChan kept waiting config acts c is left may = tt
+granted_left _ kept waiting config acts c is left may = tt
 
 -- whether a call makes a link tells what it may
 pub may_make_link : (arguments : Arguments) (kept : Bench) (acts : List BenchAct) (c : ℕ)
     → (is_create_link arguments ≡ true
     → (creations (without c kept.waiting) < creations kept.waiting) × (is_locked_out (holder (link_acts acts)) None ≡ false))
     → MayMake arguments c kept acts
-may_make_link (DeviceAbort lid) kept acts c may = tt
 may_make_link (CreateLink client_id lock_device lock_timeout device) kept acts c may = may refl
-may_make_link (DeviceWrite lid io_timeout lock_timeout flags bytes) kept acts c may = tt
-may_make_link (DeviceRead lid request_size io_timeout lock_timeout flags term_char) kept acts c may = tt
-may_make_link (DeviceReadstb lid flags lock_timeout io_timeout) kept acts c may = tt
-may_make_link (DeviceTrigger lid flags lock_timeout io_timeout) kept acts c may = tt
-may_make_link (DeviceClear lid flags lock_timeout io_timeout) kept acts c may = tt
-may_make_link (DeviceRemote lid flags lock_timeout io_timeout) kept acts c may = tt
-may_make_link (DeviceLocal lid flags lock_timeout io_timeout) kept acts c may = tt
-may_make_link (DeviceLock lid flags lock_timeout) kept acts c may = tt
-may_make_link (DeviceUnlock lid) kept acts c may = tt
-may_make_link (DeviceEnableSrq lid enable handle) kept acts c may = tt
-may_make_link (DeviceDocmd lid flags io_timeout lock_timeout cmd network_order datasize bytes) kept acts c may = tt
-may_make_link (DestroyLink lid) kept acts c may = tt
-may_make_link (CreateIntrChan host_addr host_port prog_num prog_vers prog_family) kept acts c may = tt
-may_make_link DestroyIntrChan kept acts c may = tt
+may_make_link _ kept acts c may = tt
 
 -- what isn't waited for once more
 pub rank_other : (wait : Wait) → rank_of wait ≡ 1 → wait ≡ Lock → ⊥
@@ -171,89 +237,60 @@ free_lock None lid e = refl
 pub waits_told : (c lid : ℕ) (entry : Entry) (acts : List BenchAct) → entry.conn ≡ c → IsEntry (wait_acts acts) entry
     → is_this lid entry.lid ≡ waits_with c (Some lid) acts
 waits_told c lid entry acts same is =
-    subst (λ (d : ℕ). is_this lid entry.lid ≡ (is_some (waits d (wait_acts acts)) && is_this lid (link d (wait_acts acts)))) same
+    subst (λ (d : ℕ). is_this lid entry.lid ≡ (is_some (waits d (wait_acts acts)) && is_this lid (link_of_wait d (wait_acts acts)))) same
     (ap (λ (l : Option ℕ). is_this lid l) (sym is.2)
-    ∙ ap (λ (w : Option Wait). is_some w && is_this lid (link entry.conn (wait_acts acts))) (sym is.0))
+    ∙ ap (λ (w : Option Wait). is_some w && is_this lid (link_of_wait entry.conn (wait_acts acts))) (sym is.0))
 
 -- a create_link that waits is one, and so is a create_intr_chan
-one_waits : (c : ℕ) (d : Option ℕ) → c < 16
-    → (nat_lt 0 (creating (Entered c None Lock d ∷ [])) ≡ true) × (nat_lt 0 (dialing (Entered c None Dial d ∷ [])) ≡ true)
-one_waits zero d lt = (refl, refl)
-one_waits (suc zero) d lt = (refl, refl)
-one_waits (suc (suc zero)) d lt = (refl, refl)
-one_waits (suc (suc (suc zero))) d lt = (refl, refl)
-one_waits (suc (suc (suc (suc zero)))) d lt = (refl, refl)
-one_waits (suc (suc (suc (suc (suc zero))))) d lt = (refl, refl)
-one_waits (suc (suc (suc (suc (suc (suc zero)))))) d lt = (refl, refl)
-one_waits (suc (suc (suc (suc (suc (suc (suc zero))))))) d lt = (refl, refl)
-one_waits (suc (suc (suc (suc (suc (suc (suc (suc zero)))))))) d lt = (refl, refl)
-one_waits (suc (suc (suc (suc (suc (suc (suc (suc (suc zero))))))))) d lt = (refl, refl)
-one_waits (suc (suc (suc (suc (suc (suc (suc (suc (suc (suc zero)))))))))) d lt = (refl, refl)
-one_waits (suc (suc (suc (suc (suc (suc (suc (suc (suc (suc (suc zero))))))))))) d lt = (refl, refl)
-one_waits (suc (suc (suc (suc (suc (suc (suc (suc (suc (suc (suc (suc zero)))))))))))) d lt = (refl, refl)
-one_waits (suc (suc (suc (suc (suc (suc (suc (suc (suc (suc (suc (suc (suc zero))))))))))))) d lt = (refl, refl)
-one_waits (suc (suc (suc (suc (suc (suc (suc (suc (suc (suc (suc (suc (suc (suc zero)))))))))))))) d lt = (refl, refl)
-one_waits (suc (suc (suc (suc (suc (suc (suc (suc (suc (suc (suc (suc (suc (suc (suc zero))))))))))))))) d lt = (refl, refl)
-one_waits (suc (suc (suc (suc (suc (suc (suc (suc (suc (suc (suc (suc (suc (suc (suc (suc n)))))))))))))))) d lt = absurd
+one_waits : (c : ℕ) (named until : Option ℕ) → c < 16
+    → (nat_lt 0 (creating (Entered c None Lock until ∷ [])) ≡ true) × (nat_lt 0 (dialing (Entered c named Dial until ∷ [])) ≡ true)
+one_waits zero named until lt = (refl, refl)
+one_waits (suc zero) named until lt = (refl, refl)
+one_waits (suc (suc zero)) named until lt = (refl, refl)
+one_waits (suc (suc (suc zero))) named until lt = (refl, refl)
+one_waits (suc (suc (suc (suc zero)))) named until lt = (refl, refl)
+one_waits (suc (suc (suc (suc (suc zero))))) named until lt = (refl, refl)
+one_waits (suc (suc (suc (suc (suc (suc zero)))))) named until lt = (refl, refl)
+one_waits (suc (suc (suc (suc (suc (suc (suc zero))))))) named until lt = (refl, refl)
+one_waits (suc (suc (suc (suc (suc (suc (suc (suc zero)))))))) named until lt = (refl, refl)
+one_waits (suc (suc (suc (suc (suc (suc (suc (suc (suc zero))))))))) named until lt = (refl, refl)
+one_waits (suc (suc (suc (suc (suc (suc (suc (suc (suc (suc zero)))))))))) named until lt = (refl, refl)
+one_waits (suc (suc (suc (suc (suc (suc (suc (suc (suc (suc (suc zero))))))))))) named until lt = (refl, refl)
+one_waits (suc (suc (suc (suc (suc (suc (suc (suc (suc (suc (suc (suc zero)))))))))))) named until lt = (refl, refl)
+one_waits (suc (suc (suc (suc (suc (suc (suc (suc (suc (suc (suc (suc (suc zero))))))))))))) named until lt = (refl, refl)
+one_waits (suc (suc (suc (suc (suc (suc (suc (suc (suc (suc (suc (suc (suc (suc zero)))))))))))))) named until lt = (refl, refl)
+one_waits (suc (suc (suc (suc (suc (suc (suc (suc (suc (suc (suc (suc (suc (suc (suc zero))))))))))))))) named until lt = (refl, refl)
+one_waits (suc (suc (suc (suc (suc (suc (suc (suc (suc (suc (suc (suc (suc (suc (suc (suc n)))))))))))))))) named until lt = absurd
     (omega (arith, lt))
 
-made_wants : (config : Config) (c : ℕ) (lock_device : Bool) (acts : List BenchAct) → lids_left (link_acts acts) ≡ true
-    → makes (make_link config c lock_device acts).adds ≡ true
-made_wants config c true acts left = rw left refl
-made_wants config c false acts left = rw left refl
-
-if_wants : (b : Bool) (x y : Begun) → begun_wants x ≡ true → begun_wants y ≡ true → begun_wants (cond b x y) ≡ true
-if_wants true x y e f = e
-if_wants false x y e f = f
+-- ---- what wants memory
 
 either : (a b : Bool) → b ≡ true → (a || b) ≡ true
 either true b e = refl
 either false b e = e
 
--- an interrupt channel that may be opened wants memory
-pub channel_wants : (c : ℕ) → c < 16 → begun_wants (begin_channel c None) ≡ true
-channel_wants c lt = either (nat_lt 0 (creating (Entered c None Dial None ∷ []))) (nat_lt 0 (dialing (Entered c None Dial None ∷ [])))
-    (one_waits c None lt).1
+first : (a b : Bool) → a ≡ true → (a || b) ≡ true
+first true b e = refl
+first false b e = absurd cc
 
--- where nothing is in its way none is open
-pub no_channel : (there : Bool) (host_addr host_port prog_family : ℕ) → channel_fault there host_addr host_port prog_family ≡ None
-    → there ≡ false
-no_channel true host_addr host_port prog_family e = absurd cc
-no_channel false host_addr host_port prog_family e = refl
+made_wants : (config : Config) (c : ℕ) (lock_device : Bool) (acts : List BenchAct) → lids_left (link_acts acts) ≡ true
+    → wants_memory (make_link config c lock_device acts).adds ≡ true
+made_wants config c true acts left = rw left refl
+made_wants config c false acts left = rw left refl
 
--- a link that may be made wants memory
-pub begin_wants : (config : Config) (c : ℕ) (timeout : Option ℕ) (acts : List BenchAct) → c < 16 → lids_left (link_acts acts) ≡ true
-    → begun_wants (begin_link config c timeout acts) ≡ true
-begin_wants config c (Some timeout) acts lt left =
-    if_wants (is_locked_out (holder (link_acts acts)) None) _ _ (rw (one_waits c (Some (deadline_of config timeout acts)) lt).0 refl)
-    (made_wants config c true acts left)
-begin_wants config c None acts lt left = made_wants config c false acts left
+pub start_wants : (config : Config) (polled c : ℕ) (arguments : Arguments) (acts : List BenchAct) → stop_of c arguments acts ≡ None
+    → is_create_link arguments ≡ true → wants_memory (begun config polled c arguments None acts).adds ≡ true
+start_wants config polled c (CreateLink client_id lock_device lock_timeout device) acts free makes =
+    made_wants config c lock_device acts (both_true _ (lids_left (link_acts acts)) (link_free _ (may_make_more acts) lock_device _ lock_timeout
+    free).0).1
+start_wants config polled c _ acts free makes = absurd (let z : false ≡ true = makes in cc)
 
-pub both_true : (a b : Bool) → (a && b) ≡ true → (a ≡ true) × (b ≡ true)
-both_true true true e = (refl, refl)
-both_true true false e = absurd cc
-both_true false b e = absurd cc
+pub lock_wants : (c : ℕ) (arguments : Arguments) (acts : List BenchAct) (wait : Wait) (until deadline : Option ℕ) → c < 16
+    → stop_of c arguments acts ≡ Some (Awaits wait until) → is_create_link arguments ≡ true
+    → wants_memory (Waited (Entered c (lid_of (link arguments)) wait deadline) ∷ []) ≡ true
+lock_wants c (CreateLink client_id lock_device lock_timeout device) acts wait until deadline lt e makes =
+    rw (link_waits _ (may_make_more acts) lock_device _ lock_timeout wait until e).1 (first _ _ (one_waits c None deadline lt).0)
+lock_wants c _ acts wait until deadline lt e makes = absurd (let z : false ≡ true = makes in cc)
 
-pub on_err : {A E : Type 0} (r : Result A E) (P : Type 0) → P → OnErr r P
-on_err (Ok a) P p = tt
-on_err (Err e) P p = p
-
--- what makes no link needn't wait for the lock so
-pub behind_other : (config : Config) (polled c : ℕ) (arguments : Arguments) (acts : List BenchAct) → takes_memory arguments ≡ false
-    → unless_blocked config polled c arguments (blocked arguments acts) acts ≡ behind_lock config polled c arguments acts
-behind_other config polled c (DeviceAbort lid) acts e = refl
-behind_other config polled c (CreateLink client_id lock_device lock_timeout device) acts e = absurd cc
-behind_other config polled c (DeviceWrite lid io_timeout lock_timeout flags bytes) acts e = refl
-behind_other config polled c (DeviceRead lid request_size io_timeout lock_timeout flags term_char) acts e = refl
-behind_other config polled c (DeviceReadstb lid flags lock_timeout io_timeout) acts e = refl
-behind_other config polled c (DeviceTrigger lid flags lock_timeout io_timeout) acts e = refl
-behind_other config polled c (DeviceClear lid flags lock_timeout io_timeout) acts e = refl
-behind_other config polled c (DeviceRemote lid flags lock_timeout io_timeout) acts e = refl
-behind_other config polled c (DeviceLocal lid flags lock_timeout io_timeout) acts e = refl
-behind_other config polled c (DeviceLock lid flags lock_timeout) acts e = refl
-behind_other config polled c (DeviceUnlock lid) acts e = refl
-behind_other config polled c (DeviceEnableSrq lid enable handle) acts e = refl
-behind_other config polled c (DeviceDocmd lid flags io_timeout lock_timeout cmd network_order datasize bytes) acts e = refl
-behind_other config polled c (DestroyLink lid) acts e = refl
-behind_other config polled c (CreateIntrChan host_addr host_port prog_num prog_vers prog_family) acts e = absurd cc
-behind_other config polled c DestroyIntrChan acts e = refl
+pub dial_wants : (c : ℕ) (named deadline : Option ℕ) → c < 16 → wants_memory (Waited (Entered c named Dial deadline) ∷ []) ≡ true
+dial_wants c named deadline lt = either (nat_lt 0 (creating (Entered c named Dial deadline ∷ []))) _ (one_waits c named deadline lt).1

@@ -1,7 +1,6 @@
 pub mod Replies
 pub mod Connections
-pub mod Projections
-pub mod Telling
+pub mod Effects
 pub mod Owned
 pub mod Raising
 pub mod Taken

@@ -9,18 +9,19 @@ use Rattle.sv_links.specs.Links.{closing}
 use Rattle.sv_links.specs.Waiting.{Left}
 use Rattle.sv_links.specs.Channels.{ChannelClosed}
 use Rattle.sv_links.specs.Queue.{without}
-use Rattle.sv_server.specs.declared.event.Config.{Config}
+use Rattle.sv_history.specs.declared.event.Config.{Config}
 use Rattle.sv_server.specs.Inside.Acting.{Concludes}
 use Rattle.sv_server.specs.Inside.Outcome.{HeldAs}
-use Rattle.sv_server.specs.Act.{Act, ConnAct, BenchAct, CallTaken, Faulted, Replied, PortClosed, Linked, Waited, Channel, Ticked, On, Bench, of, bench, link_acts}
-use Rattle.sv_server.specs.Connection.{is_open, is_busy, unanswered}
-use Rattle.sv_server.specs.CoreCall.{core_call}
-use Rattle.sv_server.specs.Verdict.{Verdict, NoCall, Replies, Stays, verdict_acts}
+use Rattle.sv_history.specs.Act.{Act, ConnAct, BenchAct, CallTaken, PortClosed, Linked, Waited, Channel, Ticked, On, Bench, of, bench, link_acts}
+use Rattle.sv_history.specs.Connection.{is_open, is_busy, unanswered}
+use Rattle.sv_history.specs.Request.{core_call}
+use Rattle.sv_history.specs.Effect.{Effect, acts_of}
 use Rattle.sv_server.specs.KeptConnection.{Connection, IsConnection}
 use Rattle.sv_server.specs.KeptBench.{IsBench, Bench as KeptBench}
 use Rattle.sv_server.specs.State.{State, Represents, IsTaken}
-use Rattle.sv_server.specs.History.{is_shut}
-use Rattle.sv_server.proofs.Projections.{of_mine, of_other, of_shared, bench_shared, concluded_stands, resumed_stands}
+use Rattle.sv_history.specs.History.{is_shut}
+use Rattle.sv_history.proofs.Projections.{of_mine, of_other, of_shared, bench_shared, of_effect, others_effect, bench_effect}
+use Rattle.sv_server.proofs.Effects.{of_taken, others_taken, bench_taken}
 use Rattle.sv_server.proofs.Taken.{taken_acted, taken_without, taken_push}
 
 -- the connection of a number
@@ -131,63 +132,43 @@ closes state config log c old new shared rep sixteen lt e goes freed left =
     others
     (rw left (taken_without c log (map Bench adds ++ On c PortClosed ∷ log) state.bench.waiting others rep.taken))
 
--- what a call that was taken leaves of the acts of connections
-of_parts : (adds : List BenchAct) (c : ℕ) (call : List ℕ) (log : List Act)
-    → (map Bench adds ++ On c (CallTaken call) ∷ []) ++ log ≡ map Bench adds ++ On c (CallTaken call) ∷ log
-of_parts adds c call log = append_assoc (map Bench adds) (On c (CallTaken call) ∷ []) log
-
-of_taken : (c d : ℕ) (adds : List BenchAct) (call : List ℕ) (log : List Act) → d ≢ c
-    → of d ((map Bench adds ++ On c (CallTaken call) ∷ []) ++ log) ≡ of d log
-of_taken c d adds call log ne = ap (of d) (of_parts adds c call log) ∙ of_shared d adds (On c (CallTaken call) ∷ log)
-    ∙ of_other c d (CallTaken call) log ne
-
-of_itself : (c : ℕ) (adds : List BenchAct) (call : List ℕ) (log : List Act)
-    → of c ((map Bench adds ++ On c (CallTaken call) ∷ []) ++ log) ≡ CallTaken call ∷ of c log
-of_itself c adds call log = ap (of c) (of_parts adds c call log) ∙ of_shared c adds (On c (CallTaken call) ∷ log)
-    ∙ of_mine c (CallTaken call) log
-
+-- a call that is busy isn't idle
 pub busy_idle : (acts : List ConnAct) (call : List ℕ) → unanswered acts ≡ Some call → is_busy acts ≡ false → ⊥
 busy_idle acts call known idle = let z : true ≡ false = sym (ap is_some known) ∙ idle in cc
 
 -- what is known of the calls that wait, behind a Turn
-pub held_taken : (c : ℕ) (log : List Act) (call : List ℕ) (verdict : Verdict) (old new : List Entry)
-    → is_busy (of c log) ≡ false → AllByRecursion (IsTaken log) old → HeldAs verdict c (core_call call) old new
-    → AllByRecursion (IsTaken ((verdict_acts c verdict ++ On c (CallTaken call) ∷ []) ++ log)) new
-held_taken c log call NoCall old new idle taken held =
-    let after : List Act = On c Faulted ∷ On c (CallTaken call) ∷ log in
-    rw held (taken_acted c log after old
-    (λ d ne. of_other c d Faulted (On c (CallTaken call) ∷ log) ne ∙ of_other c d (CallTaken call) log ne)
-    (λ other known. absurd {0} (busy_idle (of c log) other known idle)) taken)
-held_taken c log call (Replies adds aborts bytes) old new idle taken held =
-    let before : List Act = (map Bench adds ++ On c (CallTaken call) ∷ []) ++ log in
-    rw held (taken_acted c log (On c (Replied bytes) ∷ before) old
-    (λ d ne. of_other c d (Replied bytes) before ne ∙ of_taken c d adds call log ne)
-    (λ other known. absurd {0} (busy_idle (of c log) other known idle)) taken)
-held_taken c log call (Stays adds) old new idle taken (entry, mine, is, makes) =
-    let after : List Act = (map Bench adds ++ On c (CallTaken call) ∷ []) ++ log in
-    let here : of c after ≡ CallTaken call ∷ of c log = of_itself c adds call log in
-    rw is (taken_push after (without c old) entry (taken_without c log after old (λ d ne. of_taken c d adds call log ne) taken)
+pub held_taken : (c : ℕ) (log : List Act) (call : List ℕ) (effect : Effect) (old new : List Entry)
+    → is_busy (of c log) ≡ false → AllByRecursion (IsTaken log) old → HeldAs effect c (core_call call) old new
+    → AllByRecursion (IsTaken ((acts_of c effect ++ On c (CallTaken call) ∷ []) ++ log)) new
+held_taken c log call effect old new idle taken (inl same) =
+    rw same (taken_acted c log ((acts_of c effect ++ On c (CallTaken call) ∷ []) ++ log) old
+    (λ d ne. others_taken c d effect call log ne) (λ other known. absurd {0} (busy_idle (of c log) other known idle)) taken)
+held_taken c log call effect old new idle taken (inr (none, (entry, mine, is, makes))) =
+    let after : List Act = (acts_of c effect ++ On c (CallTaken call) ∷ []) ++ log in
+    let here : of c after ≡ CallTaken call ∷ of c log =
+    of_taken c effect call log ∙ ap (λ (own : List ConnAct). own ++ CallTaken call ∷ of c log) none in
+    rw is (taken_push after (without c old) entry (taken_without c log after old (λ d ne. others_taken c d effect call log ne) taken)
     (call, ap unanswered (ap (λ (d : ℕ). of d after) mine ∙ here), makes))
 
 -- a Turn of an open connection
-pub turned : (state : State) (config : Config) (log : List Act) (c : ℕ) (call : List ℕ) (verdict : Verdict) (kept : Connection)
+pub turned : (state : State) (config : Config) (log : List Act) (c : ℕ) (call : List ℕ) (effect : Effect) (kept : Connection)
     (shared : KeptBench)
     → Represents state config log → length state.connections ≡ 16 → c < 16 → is_busy (of c log) ≡ false
-    → Concludes verdict config (CallTaken call ∷ of c log) (bench log) kept shared
-    → HeldAs verdict c (core_call call) state.bench.waiting shared.waiting
+    → Concludes effect config (CallTaken call ∷ of c log) (bench log) kept shared
+    → HeldAs effect c (core_call call) state.bench.waiting shared.waiting
     → Represents (record { connections = set state.connections c kept; bench = shared }) config
-    ((verdict_acts c verdict ++ On c (CallTaken call) ∷ []) ++ log)
-turned state config log c call verdict kept shared rep sixteen lt idle done held =
-    let s = concluded_stands config c log call verdict kept shared done in
-    acted state config log _ c kept shared rep sixteen lt s.0 s.1 s.2
-    (held_taken c log call verdict state.bench.waiting shared.waiting idle rep.taken held)
+    ((acts_of c effect ++ On c (CallTaken call) ∷ []) ++ log)
+turned state config log c call effect kept shared rep sixteen lt idle (mine, all) held =
+    acted state config log _ c kept shared rep sixteen lt (rw (of_taken c effect call log) mine) (rw (bench_taken c effect call log) all)
+    (λ d ne. others_taken c d effect call log ne)
+    (held_taken c log call effect state.bench.waiting shared.waiting idle rep.taken held)
 
 -- a call that waited, and was given up or went on
-pub resumed : (state : State) (config : Config) (log : List Act) (c : ℕ) (verdict : Verdict) (kept : Connection) (shared : KeptBench)
+pub resumed : (state : State) (config : Config) (log : List Act) (c : ℕ) (effect : Effect) (kept : Connection) (shared : KeptBench)
     → Represents state config log → length state.connections ≡ 16 → c < 16
-    → Concludes verdict config (of c log) (bench log) kept shared
-    → AllByRecursion (IsTaken (verdict_acts c verdict ++ log)) shared.waiting
-    → Represents (record { connections = set state.connections c kept; bench = shared }) config (verdict_acts c verdict ++ log)
-resumed state config log c verdict kept shared rep sixteen lt done taken =
-    let s = resumed_stands config c log verdict kept shared done in
-    acted state config log _ c kept shared rep sixteen lt s.0 s.1 s.2 taken
+    → Concludes effect config (of c log) (bench log) kept shared
+    → AllByRecursion (IsTaken (acts_of c effect ++ log)) shared.waiting
+    → Represents (record { connections = set state.connections c kept; bench = shared }) config (acts_of c effect ++ log)
+resumed state config log c effect kept shared rep sixteen lt (mine, all) taken =
+    acted state config log _ c kept shared rep sixteen lt (rw (of_effect c effect log) mine) (rw (bench_effect c effect log) all)
+    (λ d ne. others_effect c d effect log ne) taken

@@ -11,9 +11,9 @@ use Rattle.sv_links.specs.Table.{IsRising}
 use Rattle.sv_links.specs.Channels.{ChannelAct, SrqEnabled, SrqDisabled, ChannelOpened, ChannelClosed, Requested, ChannelTaken, enabled, below, above}
 use Rattle.sv_links.specs.KeptChannels.{IsSorted, disabled, of_others}
 use Rattle.sv_links.proofs.Tables.{Below, above-filter, other_than}
-use Rattle.sv_server.specs.Act.{BenchAct, Linked, link_acts}
+use Rattle.sv_history.specs.Act.{BenchAct, Linked, link_acts}
 use Rattle.sv_server.specs.KeptBench.{AreOwned}
-use Rattle.sv_server.specs.Requests.{Tells}
+use Rattle.sv_history.specs.Requests.{Tells}
 
 -- what holds of all holds of those that pass a test, and may use that they do
 all_passing : (P Q : Enabled → Type 0) (test : Enabled → Bool) (links : List Enabled)

@@ -4,17 +4,17 @@ use Rattle.std.specs.Prelude.{Result, Ok, Err, ⊤, IsErr}
 use Rattle.std.specs.Io.KnownBytes.{Appends}
 use Rattle.std.proofs.lemmas.Bool.{lt-ltb, le-ltb, cases_lt}
 use Rattle.std.proofs.lemmas.List.{map-append}
-use Rattle.sv_server.specs.declared.event.Config.{Config}
-use Rattle.sv_server.specs.declared.event.Port.{Port}
+use Rattle.sv_history.specs.declared.event.Config.{Config}
+use Rattle.sv_history.specs.declared.event.Port.{Port}
 use Rattle.sv_server.specs.declared.print.WriteFault.{WriteFault}
-use Rattle.sv_server.specs.Event.{PlainEvent}
+use Rattle.sv_history.specs.Event.{PlainEvent}
 use Rattle.sv_links.specs.Channels.{ChannelAct}
-use Rattle.sv_server.specs.Act.{Act, BytesTaken}
-use Rattle.sv_server.specs.Connection.{waiting, waiting_on}
+use Rattle.sv_history.specs.Act.{Act, BytesTaken}
+use Rattle.sv_history.specs.Connection.{waiting, waiting_on}
 use Rattle.sv_server.specs.State.{State}
-use Rattle.sv_server.specs.Print.{port_of, below, ports, port_line, lines_of, with_took, with_tooks}
+use Rattle.sv_history.specs.Print.{port_of, below, ports, port_line, lines_of, with_took, with_tooks}
 use Rattle.sv_server.specs.Inside.Showing.{StandsBy, ShowsPort, ShowsAll, log_with_took, told_with_took}
-use Rattle.sv_server.proofs.Projections.{of_other}
+use Rattle.sv_history.proofs.Projections.{of_other}
 use Rattle.sv_server.proofs.Channels.{took_other}
 use Rattle.sv_server.proofs.Taking.{appends_then}
 

@@ -7,12 +7,13 @@ use Rattle.sv_links.specs.KeptChannels.{Channels, AreChannels, IsReady}
 use Rattle.sv_layers.specs.Act.{Act as InstrumentAct}
 use Rattle.sv_instrument.specs.Kept.{Kept, StandsFor, Ran, Takes}
 use Rattle.sv_instrument.specs.Raised.{Raise}
-use Rattle.sv_server.specs.declared.event.Config.{Config}
-use Rattle.sv_server.specs.Act.{BenchAct, Happened, instrument_acts}
+use Rattle.sv_history.specs.declared.event.Config.{Config}
+use Rattle.sv_history.specs.Act.{BenchAct, Happened, instrument_acts}
 use Rattle.sv_server.specs.KeptBench.{Bench, IsBench, HasDone}
-use Rattle.sv_server.proofs.Projections.{bench_done, link_acts-happened, instrument_acts-happened, ticks-happened, wait_acts-happened}
+use Rattle.sv_history.proofs.Projections.{link_acts-happened, instrument_acts-happened, ticks-happened, wait_acts-happened}
+use Rattle.sv_server.proofs.Effects.{bench_done}
 use Rattle.sv_server.specs.Inside.Acting.{InstrumentSteps}
-use Rattle.sv_server.proofs.Telling.{requests, tells_raised}
+use Rattle.sv_history.proofs.Telling.{requests, tells_raised}
 
 -- what stands for acts stands with so many requests more behind them
 abbrev pub Tolls : Channels → Channels → ℕ → Type 0

@@ -2,30 +2,31 @@
 use Rattle.std.proofs.Common.{◌≡◌, ◌≢◌, ℕ, ◌<◌, Bool, true, false, cond, List, ◌∷◌, ◌++◌, length, set, nat_lt, Option, Some, None, refl, sym, ap, ◌∙◌, subst}
 use Rattle.std.specs.Prelude.{ℤ, not, is_none, Ok, Err}
 use Rattle.sv_errors.specs.Limits.{is_channel}
-use Rattle.sv_server.specs.declared.event.Config.{Config}
-use Rattle.sv_server.specs.declared.event.Role.{Role}
-use Rattle.sv_server.specs.declared.event.Did.TheVariants.{Done}
-use Rattle.sv_server.specs.declared.event.Refused.{Refused}
-use Rattle.sv_server.specs.declared.event.Refused.TheVariants.{NoMemory, ConnInUse, NoConn, NoRoom, NotSent, NoDial, NotRefusable, BadChannel, BadInput, TimeOver}
-use Rattle.sv_server.specs.Event.{Refuse, Input}
-use Rattle.sv_server.specs.Act.{Act, ConnAct, CallTaken, Replied, On, of}
-use Rattle.sv_server.specs.Connection.{open_role, next_call, free}
-use Rattle.sv_server.specs.CoreCall.{CoreCall}
-use Rattle.sv_server.specs.Refusing.{refusable, refusable_in, refused_reply}
-use Rattle.sv_server.specs.History.{refuse_refusal, refuse_acts, is_shut, is_beyond}
+use Rattle.sv_history.specs.declared.event.Config.{Config}
+use Rattle.sv_history.specs.declared.event.Role.{Role}
+use Rattle.sv_history.specs.declared.event.Did.TheVariants.{Done}
+use Rattle.sv_history.specs.declared.event.Refused.{Refused}
+use Rattle.sv_history.specs.declared.event.Refused.TheVariants.{NoMemory, ConnInUse, NoConn, NoRoom, NotSent, NoDial, NotRefusable, BadChannel, BadInput, TimeOver}
+use Rattle.sv_history.specs.Event.{Refuse, Input}
+use Rattle.sv_history.specs.Act.{Act, ConnAct, CallTaken, Replied, On, of}
+use Rattle.sv_history.specs.Connection.{open_role, next_call, free}
+use Rattle.sv_history.specs.CoreCall.{CoreCall}
+use Rattle.sv_history.specs.Refusing.{refusable, refusable_call, refused_reply}
+use Rattle.sv_history.specs.Request.{asked}
+use Rattle.sv_history.specs.History.{refuse_refusal, refuse_acts, is_shut, is_beyond}
 use Rattle.sv_server.specs.KeptConnection.{Connection}
 use Rattle.sv_server.specs.State.{State, Represents}
 use Rattle.sv_server.specs.Inside.Acting.{Acts, Refuses, IsInput}
-use Rattle.sv_server.proofs.Projections.{of_mine, of_other}
+use Rattle.sv_history.proofs.Projections.{of_mine, of_other}
 use Rattle.sv_server.proofs.Taken.{taken_acted}
 use Rattle.sv_server.proofs.Logs.{acted, busy_idle}
 use Rattle.sv_server.proofs.Turning.{not_busy}
 
 -- of an open connection, by its next call
 pub refusable_is : (acts : List ConnAct) (role : Role) (found : Option (List ℕ)) → open_role acts ≡ Some role → next_call acts ≡ found
-    → refusable acts ≡ refusable_in (Some role) found
-refusable_is acts role found opened next =
-    ap (λ (r : Option Role). refusable_in r (next_call acts)) opened ∙ ap (refusable_in (Some role)) next
+    → refusable acts ≡ refusable_call (asked (Some role) found)
+refusable_is acts role found opened next = ap (λ (r : Option Role). refusable_call (asked r (next_call acts))) opened
+    ∙ ap (λ (bytes : Option (List ℕ)). refusable_call (asked (Some role) bytes)) next
 
 -- why it is refused
 pub refused_none : (acts : List ConnAct) → refusable acts ≡ None → refuse_refusal acts ≡ Some NotRefusable

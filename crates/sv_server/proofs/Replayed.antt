@@ -2,20 +2,20 @@
 use Rattle.std.proofs.Common.{◌≡◌, ◌≢◌, ℕ, true, false, List, ◌++◌, Option, refl, sym, ap, inl, inr, subst, ◌∙◌, append-nil}
 use Rattle.std.specs.Prelude.{Result, Ok, Err, ⊤}
 use Rattle.std.specs.Io.KnownBytes.{Appends}
-use Rattle.sv_server.specs.declared.event.Config.{Config}
-use Rattle.sv_server.specs.declared.event.Did.{Did}
-use Rattle.sv_server.specs.declared.event.Refused.{Refused}
-use Rattle.sv_server.specs.declared.event.Refused.TheVariants as refused
+use Rattle.sv_history.specs.declared.event.Config.{Config}
+use Rattle.sv_history.specs.declared.event.Did.{Did}
+use Rattle.sv_history.specs.declared.event.Refused.{Refused}
+use Rattle.sv_history.specs.declared.event.Refused.TheVariants as refused
 use Rattle.sv_server.specs.declared.print.WriteFault.{WriteFault}
 use Rattle.sv_server.specs.declared.replay.ReplayFault.{ReplayFault}
 use Rattle.sv_server.specs.declared.replay.ReplayFault.TheVariants.{NoMemory, Write}
-use Rattle.sv_server.specs.Event.{PlainEvent}
+use Rattle.sv_history.specs.Event.{PlainEvent}
 use Rattle.sv_links.specs.Channels.{ChannelAct}
-use Rattle.sv_server.specs.Act.{Act, bench}
-use Rattle.sv_server.specs.History.{IsLogOf, Answers, history_after}
+use Rattle.sv_history.specs.Act.{Act, bench}
+use Rattle.sv_history.specs.History.{IsLogOf, Answers, history_after}
 use Rattle.sv_server.specs.State.{State, StandsFor}
 use Rattle.sv_server.specs.Written.{Takes}
-use Rattle.sv_server.specs.Print.{ports, ports_after, with_tooks, head_of, refusal_line, is_no_memory}
+use Rattle.sv_history.specs.Print.{ports, ports_after, with_tooks, head_of, refusal_line, is_no_memory}
 use Rattle.sv_server.specs.Replay.{Writes, Replays}
 use Rattle.sv_server.specs.Inside.Showing.{StandsBy, ShowsAll}
 use Rattle.sv_server.proofs.Steps.{told_now}

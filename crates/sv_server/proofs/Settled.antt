@@ -1,9 +1,9 @@
 -- Steps one after the other, until a call went on or was given up, and until none is due.
 use Rattle.std.proofs.Common.{◌≡◌, false, List, refl}
 use Rattle.std.specs.Prelude.{⊤}
-use Rattle.sv_server.specs.declared.event.Config.{Config}
-use Rattle.sv_server.specs.Act.{Act}
-use Rattle.sv_server.specs.Settling.{IsSettled, IsNext}
+use Rattle.sv_history.specs.declared.event.Config.{Config}
+use Rattle.sv_history.specs.Act.{Act}
+use Rattle.sv_history.specs.Settling.{IsSettled, IsNext}
 use Rattle.sv_server.specs.State.{State, Represents}
 use Rattle.sv_server.specs.Inside.Acting.{GoesTo, Settled}
 use Rattle.sv_server.proofs.Steps.{goes_none, goes_more, goes_then, goes_settled}

@@ -2,28 +2,29 @@
 use Rattle.std.proofs.Common.{◌≡◌, ◌≢◌, ℕ, ◌<◌, ◌≤◌, ◌||◌, not, Bool, true, false, cond, List, [], ◌∷◌, ◌++◌, length, nat_lt, Some, None, refl, sym, ap, inl, inr, subst, ◌∙◌, arith}
 use Rattle.std.specs.Prelude.{Option, Result, Ok, Err, IsErr, ⊤}
 use Rattle.std.proofs.lemmas.Bool.{le-ltb, cases_lt}
-use Rattle.sv_server.specs.declared.event.Config.{Config}
-use Rattle.sv_server.specs.declared.event.Did.{Did}
-use Rattle.sv_server.specs.declared.event.Refused.{Refused}
-use Rattle.sv_server.specs.declared.event.Refused.TheVariants.{NoMemory, ConnInUse, NoConn, NoRoom, NotSent, NoDial, NotRefusable, BadChannel, BadInput, TimeOver}
-use Rattle.sv_server.specs.declared.event.Port.{Port}
-use Rattle.sv_server.specs.declared.event.Port.TheVariants.{Conn, Intr}
-use Rattle.sv_server.specs.Event.{PlainEvent, Took}
+use Rattle.sv_history.specs.declared.event.Config.{Config}
+use Rattle.sv_history.specs.declared.event.Did.{Did}
+use Rattle.sv_history.specs.declared.event.Refused.{Refused}
+use Rattle.sv_history.specs.declared.event.Refused.TheVariants.{NoMemory, ConnInUse, NoConn, NoRoom, NotSent, NoDial, NotRefusable, BadChannel, BadInput, TimeOver}
+use Rattle.sv_history.specs.declared.event.Port.{Port}
+use Rattle.sv_history.specs.declared.event.Port.TheVariants.{Conn, Intr}
+use Rattle.sv_history.specs.Event.{PlainEvent, Took}
 use Rattle.sv_links.specs.Channels.{ChannelAct, ChannelTaken, waiting as channel_waiting}
-use Rattle.sv_server.specs.Act.{Act, On, BytesTaken, Bench, Channel, of, bench}
-use Rattle.sv_server.specs.Requests.{Tells}
-use Rattle.sv_server.specs.Interrupts.{has_channel}
-use Rattle.sv_server.specs.Polled.{IsPolled}
-use Rattle.sv_server.proofs.Steps.{polled_now, still_settled, channel_settled}
-use Rattle.sv_server.proofs.Telling.{has_channel_told}
+use Rattle.sv_history.specs.Act.{Act, On, BytesTaken, Bench, Channel, of, bench}
+use Rattle.sv_history.specs.Requests.{Tells}
+use Rattle.sv_history.specs.Interrupts.{has_channel}
+use Rattle.sv_history.specs.Polled.{IsPolled}
+use Rattle.sv_history.proofs.StillSettled.{still_settled, channel_settled}
+use Rattle.sv_server.proofs.Steps.{polled_now}
+use Rattle.sv_history.proofs.Telling.{has_channel_told}
 use Rattle.sv_server.proofs.Channels.{channel_open, channel_within, channel_shut_is}
-use Rattle.sv_server.specs.Connection.{is_open, untaken, waiting, waiting_on}
-use Rattle.sv_server.specs.History.{refusal, took_refusal, own_acts, wants_memory, is_shut, is_channel_shut}
+use Rattle.sv_history.specs.Connection.{is_open, untaken, waiting, waiting_on}
+use Rattle.sv_history.specs.History.{refusal, took_refusal, own_acts, wants_memory, is_shut, is_channel_shut}
 use Rattle.sv_server.specs.State.{State, Represents}
 use Rattle.sv_server.specs.Inside.Acting.{Acts, IsRefusal}
 use Rattle.sv_server.specs.declared.print.WriteFault.{WriteFault}
 use Rattle.std.specs.Io.KnownBytes.{Appends}
-use Rattle.sv_server.specs.Print.{with_took, port_line}
+use Rattle.sv_history.specs.Print.{with_took, port_line}
 use Rattle.sv_server.specs.Written.{IsFront, Takes}
 use Rattle.sv_server.specs.Inside.Showing.{StandsBy, ShowsPort, log_with_took, told_with_took}
 
@@ -69,7 +70,7 @@ never_refused : (config : Config) (event : PlainEvent) (told : List ChannelAct) 
 never_refused config event told log r tells none why = absurd (let z : None ≡ Some r = sym none ∙ why told tells in cc)
 
 makes_none : (port : Port) (count : ℕ) (config : Config) (log : List Act) (polled : ℕ) (result : Result Did Refused) (new : State)
-    → IsPolled polled (bench log) → wants_memory (own_acts config polled (Took port count) log) ≡ false
+    → IsPolled polled (bench log) → wants_memory (bench (own_acts config polled (Took port count) log)) ≡ false
     → Acts config (Took port count) log result new → result ≢ Err NoMemory
 makes_none port count config log polled result new said none acts e = absurd (let z : true ≡ false =
     sym ((subst (λ (r : Result Did Refused). Acts config (Took port count) log r new) e acts).1 polled said) ∙ none in cc)

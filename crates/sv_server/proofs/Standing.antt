@@ -1,23 +1,19 @@
 -- An event that was done, and the steps that are due after it, leave what stands for the longer history; and a history has one log.
-use Rattle.std.proofs.Common.{◌≡◌, ℕ, zero, suc, ap, List, [], ◌∷◌, ◌++◌, None, Some, inl, inr, sym, ◌∙◌, subst}
+use Rattle.std.proofs.Common.{◌≡◌, ℕ, zero, suc, ap, List, [], ◌∷◌, ◌++◌, None, Some, inl, inr, sym, subst}
 use Rattle.std.specs.Prelude.{Option, Result, Ok, Err, IsErr, IsErrAnd}
-use Rattle.sv_server.specs.declared.event.Config.{Config}
-use Rattle.sv_server.specs.declared.event.Did.{Did}
-use Rattle.sv_server.specs.declared.event.Refused.{Refused}
-use Rattle.sv_server.specs.declared.event.Refused.TheVariants.{NoMemory, ConnInUse, NoConn, NoRoom, NotSent, NoDial, NotRefusable, BadChannel, BadInput, TimeOver}
-use Rattle.sv_server.specs.Event.{PlainEvent, IsEvent}
-use Rattle.sv_server.specs.Act.{Act, bench, instrument_acts}
-use Rattle.sv_layers.specs.StatusByte.{PolledBit}
-use Rattle.sv_layers.proofs.PolledByte.{one_word}
-use Rattle.sv_server.specs.Polled.{IsPolled}
-use Rattle.sv_server.specs.Settling.{IsSettled, SettlesIn, Settles}
+use Rattle.sv_history.specs.declared.event.Config.{Config}
+use Rattle.sv_history.specs.declared.event.Did.{Did}
+use Rattle.sv_history.specs.declared.event.Refused.{Refused}
+use Rattle.sv_history.specs.declared.event.Refused.TheVariants.{NoMemory, ConnInUse, NoConn, NoRoom, NotSent, NoDial, NotRefusable, BadChannel, BadInput, TimeOver}
+use Rattle.sv_history.specs.Event.{PlainEvent, IsEvent}
+use Rattle.sv_history.specs.Act.{Act, bench}
+use Rattle.sv_history.specs.Settling.{IsSettled, SettlesIn}
 use Rattle.sv_links.specs.Channels.{ChannelAct}
-use Rattle.sv_server.specs.Requests.{Tells}
-use Rattle.sv_server.specs.History.{own_acts, refusal, Answers}
-use Rattle.sv_server.specs.Laws.{OneLog}
+use Rattle.sv_history.specs.Requests.{Tells}
+use Rattle.sv_history.specs.History.{own_acts, refusal, Answers}
 use Rattle.sv_server.specs.State.{State, Represents, StandsFor}
 use Rattle.sv_server.specs.Inside.Acting.{Acts, IsRefusal, Settled}
-use Rattle.sv_server.proofs.Steps.{next_once, polled_now, told_now}
+use Rattle.sv_server.proofs.Steps.{polled_now, told_now}
 
 nothing_due : (n : ℕ) (config : Config) (log new : List Act) → SettlesIn n config log new → IsSettled config new
 nothing_due zero config log new (none, same) = subst (λ (end : List Act). IsSettled config end) (sym same) none
@@ -46,25 +42,6 @@ none_due config new (inl fires) = absurd (let none = fires.1.0 in cc)
 none_due config new (inr (none, inl goes)) = absurd (let z : None ≡ Some goes.1 = goes.4 in cc)
 none_due config new (inr (none, inr (still, inl step))) = step.1
 none_due config new (inr (none, inr (still, inr (idle, gives)))) = absurd (let z : None ≡ Some gives.1 = gives.3 in cc)
-
--- the steps that are due lead to one log
-one_end : (n m : ℕ) (config : Config) (log a b : List Act) → SettlesIn n config log a → SettlesIn m config log b → a ≡ b
-one_end zero zero config log a b x y = x.1 ∙ sym y.1
-one_end zero (suc m) config log a b x y = absurd (x.0 y.0 y.1)
-one_end (suc n) zero config log a b x y = absurd (y.0 x.0 x.1)
-one_end (suc n) (suc m) config log a b x y =
-    let same = next_once config log x.0 y.0 x.1 y.1 in one_end n m config y.0 a b (rw same at x.2) y.2
-
--- a history has at most one log
-pub one_log : OneLog
-one_log config [] a b x y = x.1 ∙ sym y.1
-one_log config (event ∷ history) a b x y =
-    let before = one_log config history x.0 y.0 x.4 y.4 in
-    let said = subst (λ (log : List Act). IsPolled y.1 (bench log)) (sym before) y.7 in
-    let polled = one_word (λ k. PolledBit k (instrument_acts (bench x.0))) y.1 x.1 said x.7 in
-    let there = subst (λ (log : List Act). Settles config (own_acts config y.1 event log ++ log) b) (sym before) y.8 in
-    let settled = subst (λ (word : ℕ). Settles config (own_acts config word event x.0 ++ x.0) b) polled there in
-    one_end x.8.0 settled.0 config (own_acts config x.1 event x.0 ++ x.0) a b x.8.1 settled.1
 
 -- ---- refusals
 

@@ -6,9 +6,9 @@ use Rattle.std.proofs.lemmas.Bool.{cases_eq, cases_Bool, eqb-true, eqb-false}
 use Rattle.sv_links.specs.declared.waiting.Entry.{Entry}
 use Rattle.sv_links.specs.declared.waiting.Wait.{Wait}
 use Rattle.sv_links.specs.Queue.{without, anew, entry_of}
-use Rattle.sv_server.specs.Act.{Act, of}
-use Rattle.sv_server.specs.Connection.{unanswered}
-use Rattle.sv_server.specs.CoreCall.{core_call}
+use Rattle.sv_history.specs.Act.{Act, of}
+use Rattle.sv_history.specs.Connection.{unanswered}
+use Rattle.sv_history.specs.Request.{core_call}
 use Rattle.sv_server.specs.State.{IsTaken, creates_link}
 
 -- an entry of another connection

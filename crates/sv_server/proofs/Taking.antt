@@ -4,8 +4,8 @@ use Rattle.std.proofs.lemmas.List.{take_all, take-append-drop, length-drop}
 use Rattle.hex.specs.Hex.{encode_with, encode_lower, lower_digits}
 use Rattle.std.specs.Prelude.{Result, Ok, Err, ⊤, IsErr}
 use Rattle.std.specs.Io.KnownBytes.{Appends, Keeps}
-use Rattle.sv_server.specs.declared.event.Port.{Port}
-use Rattle.sv_server.specs.Print.{port_line, port_name}
+use Rattle.sv_history.specs.declared.event.Port.{Port}
+use Rattle.sv_history.specs.Print.{port_line, port_name}
 use Rattle.sv_server.specs.Written.{Takes}
 
 pub appends_none : (old : Option (List ℕ)) → Appends old old []

@@ -10,11 +10,11 @@ use Rattle.sv_links.specs.Queue.{IsQueue, creations}
 use Rattle.sv_links.specs.Channels.{ChannelAct}
 use Rattle.sv_links.specs.KeptChannels.{Channels, AreChannels, IsReady}
 use Rattle.sv_instrument.specs.Kept.{Kept, StandsFor}
-use Rattle.sv_server.specs.declared.event.Config.{Config}
+use Rattle.sv_history.specs.declared.event.Config.{Config}
 use Rattle.sv_layers.specs.Act.{Act as InstrumentAct}
-use Rattle.sv_server.specs.Act.{BenchAct, link_acts, wait_acts, instrument_acts, ticks}
-use Rattle.sv_server.specs.Requests.{Tells}
-use Rattle.sv_server.specs.Interrupts.{is_dialing}
+use Rattle.sv_history.specs.Act.{BenchAct, link_acts, wait_acts, instrument_acts, ticks}
+use Rattle.sv_history.specs.Requests.{Tells}
+use Rattle.sv_history.specs.Interrupts.{is_dialing}
 
 pub record Bench : Type 0 where
   pub links : Table

@@ -1,9 +1,9 @@
 -- What the server keeps of a connection, and what of its acts that stands for.
 use Rattle.std.specs.Prelude.{◌≡◌, ℕ, ◌≤◌, Bool, true, List, length, Option, slice_get}
 use Rattle.sv_rpc.specs.RecordBuf.{Records, StandsFor}
-use Rattle.sv_server.specs.declared.event.Role.{Role}
-use Rattle.sv_server.specs.Act.{ConnAct}
-use Rattle.sv_server.specs.Connection.{open_role, stream, ended, unanswered, is_busy, took_no_call, sent, given, untaken}
+use Rattle.sv_history.specs.declared.event.Role.{Role}
+use Rattle.sv_history.specs.Act.{ConnAct}
+use Rattle.sv_history.specs.Connection.{open_role, stream, ended, unanswered, is_busy, took_no_call, sent, given, untaken}
 
 -- what it is open for; what came and didn't come to its end; what waits to be sent; whether a record was taken that is no call; and whether
 -- its first record is a call that was taken

@@ -1,18 +1,18 @@
 -- What the replay of an event writes and leaves.
 use Rattle.std.specs.Prelude.{◌≡◌, ◌≢◌, ◌⊎◌, ℕ, List, ◌++◌, Result, Ok, Err, ⊤}
-use Rattle.sv_server.specs.declared.event.Config.{Config}
-use Rattle.sv_server.specs.declared.event.Port.{Port}
-use Rattle.sv_server.specs.declared.event.Did.{Did}
-use Rattle.sv_server.specs.declared.event.Refused.{Refused}
-use Rattle.sv_server.specs.declared.event.Refused.TheVariants as refused
+use Rattle.sv_history.specs.declared.event.Config.{Config}
+use Rattle.sv_history.specs.declared.event.Port.{Port}
+use Rattle.sv_history.specs.declared.event.Did.{Did}
+use Rattle.sv_history.specs.declared.event.Refused.{Refused}
+use Rattle.sv_history.specs.declared.event.Refused.TheVariants as refused
 use Rattle.sv_server.specs.declared.replay.ReplayFault.{ReplayFault}
 use Rattle.sv_server.specs.declared.replay.ReplayFault.TheVariants.{NoMemory, Write}
-use Rattle.sv_server.specs.Event.{PlainEvent}
+use Rattle.sv_history.specs.Event.{PlainEvent}
 use Rattle.sv_links.specs.Channels.{ChannelAct}
-use Rattle.sv_server.specs.Act.{Act, bench}
-use Rattle.sv_server.specs.Requests.{Tells}
-use Rattle.sv_server.specs.History.{IsLogOf, Answers, history_after}
-use Rattle.sv_server.specs.Print.{head_of, ports_after, lines_of, with_tooks, print_of}
+use Rattle.sv_history.specs.Act.{Act, bench}
+use Rattle.sv_history.specs.Requests.{Tells}
+use Rattle.sv_history.specs.History.{IsLogOf, Answers, history_after}
+use Rattle.sv_history.specs.Print.{head_of, ports_after, lines_of, with_tooks, print_of}
 use Rattle.sv_server.specs.Written.{IsFront}
 
 -- The print was written, and then the peer took all that it shows; where memory was refused the print is that alone. Where the writer

@@ -1,17 +1,19 @@
 -- What the server keeps, and what of a log and of a history that stands for.
 use Rattle.std.specs.Prelude.{◌≡◌, ℕ, ◌<◌, ◌≤◌, Bool, true, false, List, [], Option, Some, None, slice_index_or}
-use Rattle.sv_server.specs.declared.event.Config.{Config}
-use Rattle.sv_server.specs.Event.{PlainEvent}
+use Rattle.sv_history.specs.declared.event.Config.{Config}
+use Rattle.sv_history.specs.Event.{PlainEvent}
 use Rattle.std.specs.List.{AllByRecursion}
 use Rattle.sv_links.specs.declared.waiting.Entry.{Entry}
 use Rattle.sv_links.specs.Queue.{creates}
-use Rattle.sv_server.specs.Act.{Act, of, bench}
-use Rattle.sv_server.specs.Connection.{unanswered}
-use Rattle.sv_server.specs.CoreCall.{CoreCall, core_call, is_create_link}
+use Rattle.sv_history.specs.Act.{Act, of, bench}
+use Rattle.sv_history.specs.Connection.{unanswered}
+use Rattle.sv_history.specs.CoreCall.{CoreCall}
+use Rattle.sv_history.specs.Request.{core_call}
+use Rattle.sv_vxi.specs.Arguments.{is_create_link}
 use Rattle.sv_server.specs.KeptConnection.{Connection, IsConnection}
 use Rattle.sv_server.specs.KeptBench.{Bench, IsBench}
-use Rattle.sv_server.specs.Settling.{IsSettled}
-use Rattle.sv_server.specs.History.{IsLogOf}
+use Rattle.sv_history.specs.Settling.{IsSettled}
+use Rattle.sv_history.specs.History.{IsLogOf}
 
 pub record State : Type 0 where
   pub connections : List Connection

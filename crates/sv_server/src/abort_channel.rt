@@ -3,10 +3,10 @@
 ghost use Rattle.std.specs.Prelude.{◌≡◌, List, [], Some};
 ghost use Rattle.sv_vxi.specs.Results.{plain_result, data_of};
 ghost use Rattle.sv_links.specs.Links.{is_this as is_this_link};
-ghost use Rattle.sv_server.specs.declared.event.Config.{Config};
-ghost use Rattle.sv_server.specs.Act.{BenchAct};
+ghost use Rattle.sv_history.specs.declared.event.Config.{Config};
+ghost use Rattle.sv_history.specs.Act.{BenchAct};
 ghost use Rattle.sv_server.specs.KeptBench.{IsBench};
-ghost use Rattle.sv_server.specs.AbortChannel.{owner_of as owner_for, waits_with as waits_with_link, where_waiting as where_waiting_with, aborted as aborted_by, abort_result as result_of};
+ghost use Rattle.sv_history.specs.AbortChannel.{owner_of as owner_for, waits_with as waits_with_link, where_waiting as where_waiting_with, aborted as aborted_by, abort_result as result_of};
 
 use crate::bench::Bench;
 use crate::outcomes::plain;

@@ -1,68 +1,117 @@
 //! What stands in front of a call of the core channel (VXI-11 revision 1.0, B.4.4 and B.6):
 //! its link, the lock, and what it waits for.
 
-ghost use Rattle.std.specs.Prelude.{◌≡◌, ◌+◌, ◌<◌, ◌&&◌, ℕ, List, ◌∷◌, Some, None, is_none, if◌then◌else◌, IfOk, IfSome, OnErr, true, false, Bool};
+ghost use Rattle.std.specs.Prelude.{◌≡◌, ◌<◌, ◌&&◌, ℕ, List, ◌∷◌, Some, None, option_map, is_none, IfSome, OnOk, OnErr, Option, true, false, Bool, if◌then◌else◌};
+ghost use Rattle.sv_vxi.specs.Arguments.{is_create_link as makes_link};
 ghost use Rattle.sv_vxi.specs.Reading.{plain_arguments};
 ghost use Rattle.sv_links.specs.Waiting.{Entered, is_lock};
 ghost use Rattle.sv_links.specs.Queue.{rank_of};
 ghost use Rattle.sv_exchange.specs.Exchange.{has_ended};
 ghost use Rattle.sv_instrument.specs.Step.{is_answerable};
-ghost use Rattle.sv_server.specs.declared.event.Config.{Config as Configured};
-ghost use Rattle.sv_server.specs.Act.{BenchAct, Waited, instrument_acts, exchange_acts};
+ghost use Rattle.sv_history.specs.declared.event.Config.{Config as Configured};
+ghost use Rattle.sv_history.specs.Act.{BenchAct, Waited, instrument_acts, exchange_acts};
+ghost use Rattle.sv_history.specs.Interrupts.{is_dial};
+ghost use Rattle.sv_history.specs.Admission.{names_another, is_kept_out, lock_stop as lock_stop_for, device_wait, may_make_more as may_make, link_stop as link_stop_for, channel_stop as channel_stop_for, device_stop as device_stop_for, own_stop as own_stop_for, stop_of, deadline as deadline_for, Awaits};
 ghost use Rattle.sv_server.specs.KeptBench.{IsBench, HasPlace};
-ghost use Rattle.sv_server.specs.CoreCall.{is_create_link, link_named as link_for, lock_patience as patience_for};
-ghost use Rattle.sv_server.specs.Interrupts.{is_dial};
-ghost use Rattle.sv_server.specs.CoreChannel.{names_another};
-ghost use Rattle.sv_server.specs.Admission.{Begun, deadline_of, blocked as blocked_by, may_make_more as may_make, begin_link as begun_link, create_link as created_link, unless_blocked as done_unless_blocked, behind_lock as done_behind_lock, locked_out as begun_locked_out, unless_locked as done_unless_locked, begun as begun_by};
-ghost use Rattle.sv_server.specs.Inside.Outcome.{IsBenchAt, BegunAs, Enters, IsBehind, IsShortEnding, begun_wants};
+ghost use Rattle.sv_server.specs.Inside.Outcome.{plain_stop, IsBehind, Admits, AdmitsAt};
 
-use crate::bench::{Bench, Ending};
-use crate::core_call::{Patience, is_too_long, link_named, lock_patience, named_by};
-use crate::outcomes::{failure, no_link};
+use crate::bench::Bench;
+use crate::core_call::{is_too_long, lid_of};
+use crate::interrupts::channel_fault;
+use crate::outcomes::{CallOutcome, failure};
 use std::alloc::{AllocError, Allocator};
 use sv_links::{Entry, Wait, is_locked_out};
-use sv_vxi::{Args, ErrorCode};
+use sv_vxi::{Args, ErrorCode, LockWait};
 
 /// How many links may live or be waited for.
 const MOST_LINKS: u8 = 32;
 
-/// What a call waits for, and how long.
+/// What stops a call.
 #[derive(Clone, Copy)]
-pub struct Block {
-    /// What for.
-    pub wait: Wait,
-    /// How long, in milliseconds.
-    pub timeout: u32,
+pub enum Stop {
+    /// It fails.
+    Fails(ErrorCode),
+    /// It waits.
+    Awaits {
+        /// What for.
+        wait: Wait,
+        /// How long at most, in milliseconds.
+        timeout: Option<u32>,
+    },
 }
 
-/// How long a create_link waits for the lock, where it asks for it.
-fn patience_of(lock_device: bool, timeout: u32) -> Option<u32>
-    ensures { result ≡ (if lock_device then Some timeout else None) }
+/// What the lock of another link makes of a call that minds it.
+fn lock_stop(lock_wait: Option<LockWait>) -> Stop
+    ensures { plain_stop result ≡ lock_stop_for lock_wait }
 {
-    if lock_device { Some(timeout) } else { None }
+    match lock_wait {
+        Some(wait) => if wait.waits {
+            Stop::Awaits {
+                wait: Wait::Lock,
+                timeout: Some(wait.timeout),
+            }
+        } else {
+            Stop::Fails(ErrorCode::Locked)
+        },
+        None => Stop::Fails(ErrorCode::Locked),
+    }
+}
+
+/// An interrupt channel can't be opened, or waits until its peer was called.
+fn channel_stop(fault: Option<ErrorCode>) -> Stop
+    ensures { plain_stop result ≡ channel_stop_for fault }
+{
+    match fault {
+        Some(error) => Stop::Fails(error),
+        None => Stop::Awaits {
+            wait: Wait::Dial,
+            timeout: None,
+        },
+    }
 }
 
 impl<A: Allocator> Bench<A> {
-    /// What a call waits for behind the lock: a write until no ended message waits to
-    /// be finished, a read until there is something to answer.
-    pub fn blocked(&self, args: &Args<'_>) -> Option<Block>
+    /// Whether a call names a link that isn't one of its connection.
+    fn names_another(&self, conn: u8, named: Option<i32>) -> bool
+        ensures { (config : Configured) (acts : List BenchAct) → IsBench self.now config acts
+            → result ≡ names_another conn named acts }
+    {
+        match named {
+            Some(_) => !self.owns(conn, lid_of(named)),
+            None => false,
+        }
+    }
+
+    /// Whether another link holds the lock, and a call minds it.
+    fn is_kept_out(&self, args: &Args<'_>) -> bool
+        ensures { (config : Configured) (acts : List BenchAct) → IsBench self.now config acts
+            → result ≡ is_kept_out (plain_arguments args.now) acts }
+    {
+        match args.lock_wait() {
+            Some(_) => is_locked_out(self.links.holder(), lid_of(args.link())),
+            None => false,
+        }
+    }
+
+    /// What a call waits for that isn't kept out: a write until no ended message waits to be
+    /// finished, a read until there is something to answer.
+    pub fn device_wait(&self, args: &Args<'_>) -> Option<Wait>
         ensures answer { (config : Configured) (acts : List BenchAct) → IsBench self.now config acts
-            → result ≡ blocked_by (plain_arguments args.now) acts }
-        ensures measure { IfSome result (λ block. rank_of block.wait ≡ 1) }
-        ensures plain { IfSome result (λ block. is_dial (Some block.wait) ≡ false) }
-        ensures other { IfSome result (λ block.
-            is_create_link (plain_arguments args.now) ≡ false) }
+            → result ≡ device_wait (plain_arguments args.now) acts }
+        ensures measure { IfSome result (λ wait. rank_of wait ≡ 1) }
+        ensures plain { IfSome result (λ wait. is_dial (Some wait) ≡ false) }
+        ensures other { IfSome result (λ wait. makes_link (plain_arguments args.now) ≡ false) }
     {
         match *args {
-            Args::DeviceWrite { io_timeout, .. } => self.blocked_write(io_timeout),
-            Args::DeviceRead { io_timeout, .. } => self.blocked_read(io_timeout),
+            Args::DeviceWrite { .. } => self.input_wait(),
+            Args::DeviceRead { .. } => self.response_wait(),
             Args::DeviceAbort { .. }
             | Args::CreateLink { .. }
-            | Args::DeviceReadstb { .. }
-            | Args::DeviceTrigger { .. }
-            | Args::DeviceClear { .. }
-            | Args::DeviceRemote { .. }
-            | Args::DeviceLocal { .. }
+            | Args::DeviceReadstb(_)
+            | Args::DeviceTrigger(_)
+            | Args::DeviceClear(_)
+            | Args::DeviceRemote(_)
+            | Args::DeviceLocal(_)
             | Args::DeviceLock { .. }
             | Args::DeviceUnlock { .. }
             | Args::DeviceEnableSrq { .. }
@@ -74,45 +123,29 @@ impl<A: Allocator> Bench<A> {
     }
 
     /// What a write waits for.
-    fn blocked_write(&self, timeout: u32) -> Option<Block>
+    fn input_wait(&self) -> Option<Wait>
         ensures answer { (config : Configured) (acts : List BenchAct) → IsBench self.now config acts
-            → result ≡ (if has_ended (exchange_acts acts)
-            then Some (record { wait = Wait.Input; timeout = timeout }) else None) }
-        ensures measure { IfSome result (λ block. rank_of block.wait ≡ 1) }
-        ensures plain { IfSome result (λ block. is_dial (Some block.wait) ≡ false) }
+            → result ≡ (if has_ended (exchange_acts acts) then Some Wait.Input else None) }
+        ensures measure { IfSome result (λ wait. rank_of wait ≡ 1) }
+        ensures plain { IfSome result (λ wait. is_dial (Some wait) ≡ false) }
     {
         if self.instrument.can_write() {
             return None;
         }
-        Some(Block {
-            wait: Wait::Input,
-            timeout,
-        })
+        Some(Wait::Input)
     }
 
     /// What a read waits for.
-    fn blocked_read(&self, timeout: u32) -> Option<Block>
+    fn response_wait(&self) -> Option<Wait>
         ensures answer { (config : Configured) (acts : List BenchAct) → IsBench self.now config acts
-            → result ≡ (if is_answerable (instrument_acts acts)
-            then None else Some (record { wait = Wait.Response; timeout = timeout })) }
-        ensures measure { IfSome result (λ block. rank_of block.wait ≡ 1) }
-        ensures plain { IfSome result (λ block. is_dial (Some block.wait) ≡ false) }
+            → result ≡ (if is_answerable (instrument_acts acts) then None else Some Wait.Response) }
+        ensures measure { IfSome result (λ wait. rank_of wait ≡ 1) }
+        ensures plain { IfSome result (λ wait. is_dial (Some wait) ≡ false) }
     {
         if self.instrument.can_read() {
             return None;
         }
-        Some(Block {
-            wait: Wait::Response,
-            timeout,
-        })
-    }
-
-    /// The clock, so many milliseconds from now.
-    pub fn deadline(&self, timeout: u32) -> u64
-        ensures { (config : Configured) (acts : List BenchAct) → IsBench self.now config acts
-            → result ≡ deadline_of config timeout acts }
-    {
-        self.clock() + u64::from(timeout)
+        Some(Wait::Response)
     }
 
     /// Whether a link more may be made, with those for which create_links wait.
@@ -123,117 +156,46 @@ impl<A: Allocator> Bench<A> {
         self.links.count() + self.waiting.creating() < MOST_LINKS && self.links.lids_left()
     }
 
-    /// A call begins to wait, for something else than its peer.
-    fn wait(&mut self, conn: u8, lid: Option<u32>, block: Block)
-        requires within { conn < 16 }
-        requires plain { is_dial (Some block.wait) ≡ false }
-        ensures stands { (config : Configured) (acts : List BenchAct) → IsBench self.old config acts
-            → ((is_lock (Some block.wait) && is_none lid) ≡ true → HasPlace self.old acts)
-            → IsBench self.new config (Waited (Entered conn lid block.wait
-            (Some (deadline_of config block.timeout acts))) ∷ acts) }
-        ensures waits { (makes : Bool)
-            → (makes ≡ true → (is_lock (Some block.wait) && is_none lid) ≡ true)
-            → IsBehind conn makes self.old.waiting self.new.waiting }
-    {
-        let deadline = Some(self.deadline(block.timeout));
-        self.waiting.enter(Entry {
-            conn,
-            lid,
-            wait: block.wait,
-            deadline,
-        });
-    }
-
-    /// create_link: a link of the name inst0, while one more may be; one that asks for the lock
-    /// waits so long until no link has it.
-    fn create_link(
-        &mut self,
-        conn: u8,
-        timeout: Option<u32>,
-        device: &[u8],
-    ) -> Result<Option<Ending>, AllocError>
-        requires { conn < 16 }
-        ensures ok { (config : Configured) (polled : ℕ) (acts : List BenchAct)
-            → IsBenchAt self.old config polled acts
-            → IfOk result (λ begun. BegunAs begun self.new config acts
-            (created_link config conn timeout device.now acts)) }
-        ensures short { IfOk result (λ begun. IfSome begun (λ ending. IsShortEnding ending)) }
-        ensures waits { IfOk result
-            (λ begun. Enters begun conn true self.old.waiting self.new.waiting) }
-        ensures err { OnErr result (self.new ≡ self.old) }
-        ensures lacks { (config : Configured) (polled : ℕ) (acts : List BenchAct)
-            → IsBenchAt self.old config polled acts
-            → OnErr result (begun_wants
-            (created_link config conn timeout device.now acts) ≡ true) }
+    /// What stops create_link: its name, the number of links, and, where it asks for the lock, a
+    /// link that has it.
+    fn link_stop(&self, lock_device: bool, timeout: u32, device: &[u8]) -> Option<Stop>
+        ensures { (config : Configured) (acts : List BenchAct) → IsBench self.now config acts
+            → option_map plain_stop result ≡ link_stop_for lock_device timeout device.now acts }
     {
         if device != b"inst0".as_slice() {
-            return Ok(Some(Ending::Result(no_link(ErrorCode::NotAccessible))));
+            return Some(Stop::Fails(ErrorCode::NotAccessible));
         }
         if !self.may_make_more() {
-            return Ok(Some(Ending::Result(no_link(ErrorCode::OutOfResources))));
+            return Some(Stop::Fails(ErrorCode::OutOfResources));
         }
-        self.links.reserve(self.waiting.creating() + 1)?;
-        Ok(self.begin_link(conn, timeout))
-    }
-
-    /// A link for which there are a place and memory is made, or waits for the lock.
-    fn begin_link(&mut self, conn: u8, timeout: Option<u32>) -> Option<Ending>
-        requires { conn < 16 }
-        ensures ok { (config : Configured) (acts : List BenchAct) → IsBench self.old config acts
-            → HasPlace self.old acts
-            → BegunAs result self.new config acts (begun_link config conn timeout acts) }
-        ensures short { IfSome result (λ ending. IsShortEnding ending) }
-        ensures waits { Enters result conn true self.old.waiting self.new.waiting }
-    {
-        let Some(timeout) = timeout else {
-            return Some(self.make_free(conn));
-        };
-        if !is_locked_out(self.links.holder(), None) {
-            return Some(self.make_locked(conn));
+        if lock_device && is_locked_out(self.links.holder(), None) {
+            return Some(Stop::Awaits {
+                wait: Wait::Lock,
+                timeout: Some(timeout),
+            });
         }
-        let block = Block {
-            wait: Wait::Lock,
-            timeout,
-        };
-        self.wait(conn, None, block);
         None
     }
 
-    /// A call that needn't wait for the lock, and makes no link.
-    fn unless_blocked(&mut self, conn: u8, args: &Args<'_>) -> Option<Ending>
-        requires within { conn < 16 }
-        requires other { is_create_link (plain_arguments args.now) ≡ false }
-        ensures ok { (config : Configured) (polled : ℕ) (acts : List BenchAct)
-            → IsBenchAt self.old config polled acts
-            → BegunAs result self.new config acts (done_unless_blocked config polled conn
-            (plain_arguments args.now) (blocked_by (plain_arguments args.now) acts) acts) }
-        ensures short { IfSome result (λ ending. IsShortEnding ending) }
-        ensures waits { Enters result conn (is_create_link (plain_arguments args.now))
-            self.old.waiting self.new.waiting }
+    /// What stops a call that has to wait for the device.
+    fn device_stop(&self, args: &Args<'_>) -> Option<Stop>
+        ensures { (config : Configured) (acts : List BenchAct) → IsBench self.now config acts
+            → option_map plain_stop result ≡ device_stop_for (plain_arguments args.now) acts }
     {
-        if let Some(block) = self.blocked(args) {
-            self.wait(conn, named_by(args), block);
-            return None;
+        match self.device_wait(args) {
+            Some(wait) => Some(Stop::Awaits {
+                wait,
+                timeout: args.io_timeout(),
+            }),
+            None => None,
         }
-        Some(self.own_call(conn, args))
     }
 
-    /// A call that needn't wait for the lock.
-    fn behind_lock(&mut self, conn: u8, args: &Args<'_>) -> Result<Option<Ending>, AllocError>
+    /// What stops a call by what it is.
+    fn own_stop(&self, conn: u8, args: &Args<'_>) -> Option<Stop>
         requires { conn < 16 }
-        ensures ok { (config : Configured) (polled : ℕ) (acts : List BenchAct)
-            → IsBenchAt self.old config polled acts
-            → IfOk result (λ begun. BegunAs begun self.new config acts
-            (done_behind_lock config polled conn (plain_arguments args.now) acts)) }
-        ensures short { IfOk result (λ begun. IfSome begun (λ ending. IsShortEnding ending)) }
-        ensures waits { IfOk result
-            (λ begun. Enters begun conn (is_create_link (plain_arguments args.now))
-            self.old.waiting self.new.waiting) }
-        ensures err { OnErr result (self.new ≡ self.old) }
-        ensures lacks { (config : Configured) (polled : ℕ) (acts : List BenchAct)
-            → IsBenchAt self.old config polled acts
-            → OnErr result (begun_wants
-            (done_behind_lock config polled conn (plain_arguments args.now) acts) ≡ true) }
+        ensures { (config : Configured) (acts : List BenchAct) → IsBench self.now config acts
+            → option_map plain_stop result ≡ own_stop_for conn (plain_arguments args.now) acts }
     {
         match *args {
             Args::CreateLink {
@@ -241,134 +203,191 @@ impl<A: Allocator> Bench<A> {
                 lock_timeout,
                 device,
                 ..
-            } => self.create_link(conn, patience_of(lock_device, lock_timeout), device),
+            } => self.link_stop(lock_device, lock_timeout, device),
             Args::CreateIntrChan {
                 host_addr,
                 host_port,
                 prog_family,
                 ..
-            } => self.create_channel(conn, host_addr, host_port, prog_family),
+            } => Some(channel_stop(channel_fault(
+                self.has_channel(conn),
+                host_addr,
+                host_port,
+                prog_family,
+            ))),
             Args::DeviceAbort { .. }
             | Args::DeviceWrite { .. }
             | Args::DeviceRead { .. }
-            | Args::DeviceReadstb { .. }
-            | Args::DeviceTrigger { .. }
-            | Args::DeviceClear { .. }
-            | Args::DeviceRemote { .. }
-            | Args::DeviceLocal { .. }
+            | Args::DeviceReadstb(_)
+            | Args::DeviceTrigger(_)
+            | Args::DeviceClear(_)
+            | Args::DeviceRemote(_)
+            | Args::DeviceLocal(_)
             | Args::DeviceLock { .. }
             | Args::DeviceUnlock { .. }
             | Args::DeviceEnableSrq { .. }
             | Args::DeviceDocmd { .. }
             | Args::DestroyLink { .. }
-            | Args::DestroyIntrChan => Ok(self.unless_blocked(conn, args)),
+            | Args::DestroyIntrChan => self.device_stop(args),
         }
     }
 
-    /// A call that finds the lock with another link waits for it, or fails.
-    fn locked_out(&mut self, conn: u8, args: &Args<'_>, patience: Patience) -> Option<Ending>
-        requires within { conn < 16 }
-        requires subject { patience_for (plain_arguments args.now) ≡ Some patience }
-        ensures ok { (config : Configured) (acts : List BenchAct) → IsBench self.old config acts
-            → names_another conn (link_for (plain_arguments args.now)) acts ≡ false
-            → BegunAs result self.new config acts
-            (begun_locked_out config conn (plain_arguments args.now) patience acts) }
-        ensures short { IfSome result (λ ending. IsShortEnding ending) }
-        ensures waits { Enters result conn (is_create_link (plain_arguments args.now))
-            self.old.waiting self.new.waiting }
+    /// What stops a call: the link that it names is looked at first, then how much a write brings,
+    /// then the lock.
+    fn stop(&self, conn: u8, args: &Args<'_>) -> Option<Stop>
+        requires { conn < 16 }
+        ensures { (config : Configured) (acts : List BenchAct) → IsBench self.now config acts
+            → option_map plain_stop result ≡ stop_of conn (plain_arguments args.now) acts }
     {
-        if !patience.waits {
-            return Some(Ending::Result(failure(args, ErrorCode::Locked)));
+        if self.names_another(conn, args.link()) {
+            return Some(Stop::Fails(ErrorCode::InvalidLink));
         }
-        let block = Block {
-            wait: Wait::Lock,
-            timeout: patience.timeout,
-        };
-        self.wait(conn, named_by(args), block);
-        None
+        if is_too_long(args) {
+            return Some(Stop::Fails(ErrorCode::ParameterError));
+        }
+        if self.is_kept_out(args) {
+            return Some(lock_stop(args.lock_wait()));
+        }
+        self.own_stop(conn, args)
     }
 
-    /// A call that goes on only while no other link holds the lock.
-    fn if_free(
+    /// The clock, so many milliseconds from now.
+    pub fn deadline(&self, timeout: Option<u32>) -> Option<u64>
+        ensures { (config : Configured) (acts : List BenchAct) → IsBench self.now config acts
+            → result ≡ deadline_for config timeout acts }
+    {
+        match timeout {
+            Some(milliseconds) => Some(self.clock() + u64::from(milliseconds)),
+            None => None,
+        }
+    }
+
+    /// Takes the memory of a link that a call makes, if it may make one more.
+    fn reserve(&mut self, args: &Args<'_>) -> Result<(), AllocError>
+        ensures ok { (config : Configured) (acts : List BenchAct) → IsBench self.old config acts
+            → OnOk result (IsBench self.new config acts
+            × (makes_link (plain_arguments args.now) ≡ true → may_make acts ≡ true
+            → HasPlace self.new acts)) }
+        ensures waiting { OnOk result (self.new.waiting ≡ self.old.waiting) }
+        ensures err { OnErr result ((self.new ≡ self.old)
+            × (makes_link (plain_arguments args.now) ≡ true)) }
+    {
+        if !args.is_create_link() {
+            return Ok(());
+        }
+        self.links.reserve(self.waiting.creating() + 1)
+    }
+
+    /// A call begins to wait, for something else than its peer.
+    fn enter(&mut self, conn: u8, lid: Option<u32>, wait: Wait, timeout: Option<u32>)
+        requires within { conn < 16 }
+        requires plain { is_dial (Some wait) ≡ false }
+        ensures stands { (config : Configured) (acts : List BenchAct) → IsBench self.old config acts
+            → ((is_lock (Some wait) && is_none lid) ≡ true → HasPlace self.old acts)
+            → IsBench self.new config (Waited (Entered conn lid wait
+            (deadline_for config timeout acts)) ∷ acts) }
+        ensures waits { (makes : Bool)
+            → (makes ≡ true → (is_lock (Some wait) && is_none lid) ≡ true)
+            → IsBehind conn makes self.old.waiting self.new.waiting }
+    {
+        let deadline = self.deadline(timeout);
+        self.waiting.enter(Entry {
+            conn,
+            lid,
+            wait,
+            deadline,
+        });
+    }
+
+    /// A create_intr_chan waits until its peer was called; there is no channel.
+    fn await_peer(
         &mut self,
         conn: u8,
         args: &Args<'_>,
-        patience: Patience,
-    ) -> Result<Option<Ending>, AllocError>
+        timeout: Option<u32>,
+    ) -> Result<CallOutcome, AllocError>
+        requires { conn < 16 }
+        ensures { AdmitsAt (Some (Awaits Wait.Dial timeout)) result conn (plain_arguments args.now)
+            self.old self.new }
+    {
+        self.intr.prepare(conn)?;
+        let deadline = self.deadline(timeout);
+        self.waiting.enter(Entry {
+            conn,
+            lid: lid_of(args.link()),
+            wait: Wait::Dial,
+            deadline,
+        });
+        Ok(CallOutcome::Suspended)
+    }
+
+    /// A call waits for the lock or for the device.
+    fn await_device(
+        &mut self,
+        conn: u8,
+        args: &Args<'_>,
+        wait: Wait,
+        timeout: Option<u32>,
+    ) -> Result<CallOutcome, AllocError>
         requires within { conn < 16 }
-        requires subject { patience_for (plain_arguments args.now) ≡ Some patience }
-        ensures ok { (config : Configured) (polled : ℕ) (acts : List BenchAct)
-            → IsBenchAt self.old config polled acts
-            → names_another conn (link_for (plain_arguments args.now)) acts ≡ false
-            → IfOk result (λ begun. BegunAs begun self.new config acts
-            (done_unless_locked config polled conn (plain_arguments args.now)
-            (Some patience) acts)) }
-        ensures short { IfOk result (λ begun. IfSome begun (λ ending. IsShortEnding ending)) }
-        ensures waits { IfOk result (λ begun. Enters begun conn
-            (is_create_link (plain_arguments args.now)) self.old.waiting self.new.waiting) }
-        ensures err { OnErr result (self.new ≡ self.old) }
-        ensures lacks { (config : Configured) (polled : ℕ) (acts : List BenchAct)
-            → IsBenchAt self.old config polled acts
-            → names_another conn (link_for (plain_arguments args.now)) acts ≡ false
-            → OnErr result (begun_wants
-            (done_unless_locked config polled conn (plain_arguments args.now)
-            (Some patience) acts) ≡ true) }
+        requires plain { is_dial (Some wait) ≡ false }
+        ensures { AdmitsAt (Some (Awaits wait timeout)) result conn (plain_arguments args.now)
+            self.old self.new }
     {
-        if is_locked_out(self.links.holder(), named_by(args)) {
-            return Ok(self.locked_out(conn, args, patience));
-        }
-        self.behind_lock(conn, args)
+        self.reserve(args)?;
+        self.enter(conn, lid_of(args.link()), wait, timeout);
+        Ok(CallOutcome::Suspended)
     }
 
-    /// A call whose link was looked at, and what it brings.
-    fn unless_locked(&mut self, conn: u8, args: &Args<'_>) -> Result<Option<Ending>, AllocError>
+    /// A call waits.
+    fn suspend(
+        &mut self,
+        conn: u8,
+        args: &Args<'_>,
+        wait: Wait,
+        timeout: Option<u32>,
+    ) -> Result<CallOutcome, AllocError>
         requires { conn < 16 }
-        ensures ok { (config : Configured) (polled : ℕ) (acts : List BenchAct)
-            → IsBenchAt self.old config polled acts
-            → names_another conn (link_for (plain_arguments args.now)) acts ≡ false
-            → IfOk result (λ begun. BegunAs begun self.new config acts
-            (done_unless_locked config polled conn (plain_arguments args.now)
-            (patience_for (plain_arguments args.now)) acts)) }
-        ensures short { IfOk result (λ begun. IfSome begun (λ ending. IsShortEnding ending)) }
-        ensures waits { IfOk result (λ begun. Enters begun conn
-            (is_create_link (plain_arguments args.now)) self.old.waiting self.new.waiting) }
-        ensures err { OnErr result (self.new ≡ self.old) }
-        ensures lacks { (config : Configured) (polled : ℕ) (acts : List BenchAct)
-            → IsBenchAt self.old config polled acts
-            → names_another conn (link_for (plain_arguments args.now)) acts ≡ false
-            → OnErr result (begun_wants
-            (done_unless_locked config polled conn (plain_arguments args.now)
-            (patience_for (plain_arguments args.now)) acts) ≡ true) }
+        ensures { AdmitsAt (Some (Awaits wait timeout)) result conn (plain_arguments args.now)
+            self.old self.new }
     {
-        match lock_patience(args) {
-            Some(patience) => self.if_free(conn, args, patience),
-            None => self.behind_lock(conn, args),
+        match wait {
+            Wait::Dial => self.await_peer(conn, args, timeout),
+            Wait::Lock => self.await_device(conn, args, Wait::Lock, timeout),
+            Wait::Input => self.await_device(conn, args, Wait::Input, timeout),
+            Wait::Response => self.await_device(conn, args, Wait::Response, timeout),
         }
     }
 
-    /// Begins a call whose arguments were read. The link that it names is looked at first, then how
-    /// much a write brings, then the lock. Where it waits nothing is told.
-    pub fn begin(&mut self, conn: u8, args: &Args<'_>) -> Result<Option<Ending>, AllocError>
+    /// A call that this stops fails, or waits.
+    fn halt(&mut self, conn: u8, args: &Args<'_>, stop: Stop) -> Result<CallOutcome, AllocError>
         requires { conn < 16 }
-        ensures ok { (config : Configured) (polled : ℕ) (acts : List BenchAct)
-            → IsBenchAt self.old config polled acts
-            → IfOk result (λ begun. BegunAs begun self.new config acts
-            (begun_by config polled conn (plain_arguments args.now) acts)) }
-        ensures short { IfOk result (λ begun. IfSome begun (λ ending. IsShortEnding ending)) }
-        ensures waits { IfOk result (λ begun. Enters begun conn
-            (is_create_link (plain_arguments args.now)) self.old.waiting self.new.waiting) }
-        ensures err { OnErr result (self.new ≡ self.old) }
-        ensures lacks { (config : Configured) (polled : ℕ) (acts : List BenchAct)
-            → IsBenchAt self.old config polled acts
-            → OnErr result (begun_wants
-            (begun_by config polled conn (plain_arguments args.now) acts) ≡ true) }
+        ensures { AdmitsAt (Some (plain_stop stop)) result conn (plain_arguments args.now)
+            self.old self.new }
     {
-        if self.names_another(conn, link_named(args)) {
-            return Ok(Some(Ending::Result(failure(args, ErrorCode::InvalidLink))));
+        match stop {
+            Stop::Fails(error) => Ok(CallOutcome::Result(failure(args, error))),
+            Stop::Awaits { wait, timeout } => self.suspend(conn, args, wait, timeout),
         }
-        if is_too_long(args) {
-            return Ok(Some(self.own_call(conn, args)));
+    }
+
+    /// A call that nothing stops is done.
+    fn start(&mut self, conn: u8, args: &Args<'_>) -> Result<CallOutcome, AllocError>
+        requires { conn < 16 }
+        ensures { AdmitsAt None result conn (plain_arguments args.now) self.old self.new }
+    {
+        self.reserve(args)?;
+        Ok(self.own_call(conn, args))
+    }
+
+    /// Does a call whose arguments were read, unless something stops it.
+    pub fn admit(&mut self, conn: u8, args: &Args<'_>) -> Result<CallOutcome, AllocError>
+        requires { conn < 16 }
+        ensures { Admits result conn (plain_arguments args.now) self.old self.new }
+    {
+        match self.stop(conn, args) {
+            Some(stop) => self.halt(conn, args, stop),
+            None => self.start(conn, args),
         }
-        self.unless_locked(conn, args)
     }
 }

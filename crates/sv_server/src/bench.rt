@@ -9,39 +9,24 @@ ghost use Rattle.sv_layers.specs.Act.{Scanned};
 ghost use Rattle.sv_instrument.specs.Happened.{IsFired, external_acts, tick_acts};
 ghost use Rattle.sv_instrument.specs.Step.{IsStep};
 ghost use Rattle.sv_instrument.specs.Kept.{left_of};
-ghost use Rattle.sv_server.specs.declared.event.Config.{Config};
+ghost use Rattle.sv_history.specs.declared.event.Config.{Config};
 ghost use Rattle.sv_links.specs.Channels.{ChannelClosed};
-ghost use Rattle.sv_server.specs.Act.{BenchAct, Linked, Waited, Channel, Happened, Ticked, link_acts, wait_acts, instrument_acts, ticks};
-ghost use Rattle.sv_server.specs.Settling.{CanGoOn};
+ghost use Rattle.sv_history.specs.Act.{BenchAct, Linked, Waited, Channel, Happened, Ticked, link_acts, wait_acts, instrument_acts, ticks};
+ghost use Rattle.sv_history.specs.Settling.{CanGoOn};
 ghost use Rattle.sv_server.specs.Inside.Kept.{IsKept};
 ghost use Rattle.sv_server.specs.Inside.Acting.{InstrumentSteps};
 ghost use Rattle.sv_layers.specs.Act.{Act as InstrumentAct};
 ghost use Rattle.sv_instrument.specs.Raised.{Raise};
 ghost use Rattle.sv_server.specs.KeptBench.{IsBench, HasDone};
 
-use crate::event::Config;
 use std::alloc::{AllocError, Allocator};
 use std::marker::Model;
+use sv_history::Config;
 use sv_instrument::Instrument;
 use sv_links::{Entry, Intr, Links, Waiting};
-use sv_vxi::VxiResult;
 
 /// The last value of the clock, in milliseconds.
 const LAST_CLOCK: u64 = 9_223_372_036_854_775_807;
-
-/// How a call ends that was executed.
-#[derive(Clone, Copy)]
-pub enum Ending {
-    /// With this result.
-    Result(VxiResult<'static>),
-    /// With what is to be read of the response.
-    Response {
-        /// The most bytes to give.
-        most: u32,
-        /// The termination character, where it counts.
-        term: Option<u8>,
-    },
-}
 
 /// What all connections share.
 #[derive(Drop)]

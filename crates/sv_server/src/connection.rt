@@ -2,16 +2,16 @@
 
 ghost use Rattle.std.specs.Prelude.{◌≡◌, ◌≢◌, ◌+◌, ◌≤◌, ◌||◌, not, ◌&&◌, ℕ, List, [], ◌∷◌, length, IfOk, IsSome, Some, None, true, false, is_some, nat_lt, option_map, if◌then◌else◌};
 ghost use Rattle.sv_rpc.specs.RecordBuf.{StandsFor, room_of, no_records};
-ghost use Rattle.sv_server.specs.Act.{ConnAct, Opened, Piece, CallTaken, Faulted, Replied, BytesTaken, PortClosed};
-ghost use Rattle.sv_server.specs.Connection.{is_open, unanswered, is_busy, next_call, is_idle, is_faulted, room, free, waiting};
+ghost use Rattle.sv_history.specs.Act.{ConnAct, Opened, Piece, CallTaken, Faulted, Replied, BytesTaken, PortClosed};
+ghost use Rattle.sv_history.specs.Connection.{is_open, unanswered, is_busy, next_call, is_idle, is_faulted, room, free, waiting};
 ghost use Rattle.sv_server.specs.KeptConnection.{IsConnection};
 ghost use Rattle.sv_server.specs.Inside.Kept.{kept_next};
 ghost use Rattle.sv_server.specs.Inside.Outcome.{answer_bytes, IsShort};
 
-use crate::event::Role;
 use crate::reply::{Answer, LONGEST_REPLY, put_reply};
 use std::alloc::{AllocError, Allocator};
 use std::marker::Model;
+use sv_history::Role;
 use sv_rpc::{RecordBuf, RpcFault};
 use sv_text::drop_front;
 

@@ -4,22 +4,22 @@
 ghost use Rattle.std.specs.Prelude.{◌≡◌, ◌≤◌, not, List, length, OnErr, Some, None, nat_lt, if◌then◌else◌};
 ghost use Rattle.sv_vxi.specs.Reading.{plain_arguments};
 ghost use Rattle.sv_links.specs.Channels.{ChannelAct, waiting as channel_bytes};
-ghost use Rattle.sv_server.specs.declared.event.Config.{Config};
-ghost use Rattle.sv_server.specs.declared.event.Port.TheVariants.{Intr};
-ghost use Rattle.sv_server.specs.Event.{PlainEvent, Took, Close, Dialed};
-ghost use Rattle.sv_server.specs.Act.{Act, bench};
-ghost use Rattle.sv_server.specs.Requests.{Tells};
-ghost use Rattle.sv_server.specs.Interrupts.{dial_by as called_by, dial_of};
-ghost use Rattle.sv_server.specs.History.{is_channel_shut};
-ghost use Rattle.sv_server.specs.Asking.{Answered};
+ghost use Rattle.sv_history.specs.declared.event.Config.{Config};
+ghost use Rattle.sv_history.specs.declared.event.Port.TheVariants.{Intr};
+ghost use Rattle.sv_history.specs.Event.{PlainEvent, Took, Close, Dialed};
+ghost use Rattle.sv_history.specs.Act.{Act, bench};
+ghost use Rattle.sv_history.specs.Requests.{Tells};
+ghost use Rattle.sv_history.specs.Interrupts.{dial_by as called_by, dial_of};
+ghost use Rattle.sv_history.specs.History.{is_channel_shut};
+ghost use Rattle.sv_history.specs.Asking.{Answered};
 ghost use Rattle.sv_server.specs.State.{Represents, StandsFor};
 ghost use Rattle.sv_server.specs.Inside.Acting.{Acts};
 
-use crate::continuing::dialed;
-use crate::core_call::core_call;
-use crate::event::{Dial, Did, Refused};
+use crate::request::core_call;
+use crate::resuming::dialed;
 use crate::server::{CONNECTIONS, Server};
 use std::alloc::Allocator;
+use sv_history::{Dial, Did, Refused};
 use sv_vxi::Args;
 
 /// Whom a call asks to be called, where it does.

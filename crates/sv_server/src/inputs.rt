@@ -1,11 +1,11 @@
 //! Which voltages may be at which inputs.
 
 ghost use Rattle.std.specs.Prelude.{◌≡◌};
-ghost use Rattle.sv_server.specs.History.{input_refusal as refusal_of};
+ghost use Rattle.sv_history.specs.History.{input_refusal as refusal_of};
 ghost use Rattle.sv_server.specs.Inside.Acting.{IsInput};
 
-use crate::event::{Did, Refused};
 use sv_errors::{MOST_MICROVOLTS, is_channel};
+use sv_history::{Did, Refused};
 
 /// Why an Input of this channel and this voltage, in microvolts, is refused: `BadChannel` where the
 /// channel isn't 1 to 32, else `BadInput` where the voltage is beyond plus or minus 1,000,000,000.

@@ -7,22 +7,21 @@ ghost use Rattle.sv_vxi.specs.Results.{Plain};
 ghost use Rattle.sv_links.specs.Waiting.{Left};
 ghost use Rattle.sv_links.specs.Queue.{without};
 ghost use Rattle.sv_links.specs.Channels.{ChannelOpened};
-ghost use Rattle.sv_server.specs.declared.event.Config.{Config as Configured};
-ghost use Rattle.sv_server.specs.Act.{BenchAct, Waited, Channel, wait_acts};
+ghost use Rattle.sv_history.specs.declared.event.Config.{Config as Configured};
+ghost use Rattle.sv_history.specs.Act.{BenchAct, Waited, Channel, wait_acts};
 ghost use Rattle.sv_server.specs.KeptBench.{IsBench};
-ghost use Rattle.sv_server.specs.Interrupts.{has_channel as channel_there, enable_srq as enabled_srq, device_enable_srq as done_enable_srq, is_peer as may_call, channel_fault as fault_of, destroy_channel as destroyed_channel, is_dialing, peer_by as asked_peer, end_channel as ended_channel, dialed};
+ghost use Rattle.sv_history.specs.Interrupts.{has_channel as channel_there, enable_srq as enabled_srq, device_enable_srq as done_enable_srq, is_peer as may_call, channel_fault as fault_of, destroy_channel as destroyed_channel, is_dialing, peer_by as asked_peer, end_channel as ended_channel, dialed};
 ghost use Rattle.sv_vxi.specs.Reading.{plain_arguments};
 ghost use Rattle.sv_links.specs.Channels.{ChannelAct, ChannelClosed, ChannelTaken, waiting as channel_bytes};
 ghost use Rattle.sv_links.specs.KeptChannels.{bytes_of};
-ghost use Rattle.sv_server.specs.Requests.{Tells};
-ghost use Rattle.sv_server.specs.CoreChannel.{owns};
-ghost use Rattle.sv_server.specs.Admission.{begin_channel as begun_channel};
-ghost use Rattle.sv_server.specs.Inside.Outcome.{BegunAs, EndsAs, Enters, IsShortEnding, begun_wants};
+ghost use Rattle.sv_history.specs.Requests.{Tells};
+ghost use Rattle.sv_history.specs.CoreChannel.{owns};
+ghost use Rattle.sv_server.specs.Inside.Outcome.{OutcomeIs, IsBrief};
 
-use crate::bench::{Bench, Ending};
-use crate::outcomes::{failure, plain};
-use std::alloc::{AllocError, Allocator};
-use sv_links::{Entry, Peer, Wait};
+use crate::bench::Bench;
+use crate::outcomes::{CallOutcome, failure, plain};
+use std::alloc::Allocator;
+use sv_links::{Peer, Wait};
 use sv_vxi::{Args, ErrorCode};
 
 /// The longest handle of a link, in bytes.
@@ -38,7 +37,12 @@ fn is_peer(host_addr: u32, host_port: u32) -> bool
 
 /// Why no interrupt channel can be opened: one is there, it isn't over TCP (0), or it can't be
 /// opened to there.
-fn channel_fault(there: bool, host_addr: u32, host_port: u32, prog_family: u32) -> Option<ErrorCode>
+pub fn channel_fault(
+    there: bool,
+    host_addr: u32,
+    host_port: u32,
+    prog_family: u32,
+) -> Option<ErrorCode>
     ensures { result ≡ fault_of there host_addr host_port prog_family }
 {
     if there {
@@ -88,101 +92,55 @@ impl<A: Allocator> Bench<A> {
         lid: Option<u32>,
         enable: bool,
         handle: &[u8],
-    ) -> Ending
+    ) -> CallOutcome
         ensures ends { (config : Configured) (acts : List BenchAct) → IsBench self.old config acts
-            → EndsAs result self.new config acts
+            → OutcomeIs result self.new config acts
             (done_enable_srq conn (owns conn lid acts) enable lid handle.now) }
-        ensures short { IsShortEnding result }
+        ensures short { IsBrief result }
         ensures waiting { self.new.waiting ≡ self.old.waiting }
     {
         let owned = self.owns(conn, lid);
         let Some(lid) = lid else {
-            return Ending::Result(plain(ErrorCode::InvalidLink));
+            return CallOutcome::Result(plain(ErrorCode::InvalidLink));
         };
         if !owned {
-            return Ending::Result(plain(ErrorCode::InvalidLink));
+            return CallOutcome::Result(plain(ErrorCode::InvalidLink));
         }
         self.enable_srq(conn, enable, lid, handle)
     }
 
     /// A link of the connection asks for service requests, or asks no more.
-    fn enable_srq(&mut self, conn: u8, enable: bool, lid: u32, handle: &[u8]) -> Ending
+    fn enable_srq(&mut self, conn: u8, enable: bool, lid: u32, handle: &[u8]) -> CallOutcome
         ensures ends { (config : Configured) (acts : List BenchAct) → IsBench self.old config acts
             → owns conn (Some lid) acts ≡ true
-            → EndsAs result self.new config acts (enabled_srq conn enable lid handle.now) }
-        ensures short { IsShortEnding result }
+            → OutcomeIs result self.new config acts (enabled_srq conn enable lid handle.now) }
+        ensures short { IsBrief result }
         ensures waiting { self.new.waiting ≡ self.old.waiting }
     {
         if !enable {
             self.intr.disable(lid);
-            return Ending::Result(plain(ErrorCode::NoError));
+            return CallOutcome::Result(plain(ErrorCode::NoError));
         }
         if handle.len() > MAX_HANDLE {
-            return Ending::Result(plain(ErrorCode::ParameterError));
+            return CallOutcome::Result(plain(ErrorCode::ParameterError));
         }
         self.intr.enable(lid, conn, handle);
-        Ending::Result(plain(ErrorCode::NoError))
-    }
-
-    /// create_intr_chan: where a channel may be opened, the call waits until its peer was called.
-    pub fn create_channel(
-        &mut self,
-        conn: u8,
-        host_addr: u32,
-        host_port: u32,
-        prog_family: u32,
-    ) -> Result<Option<Ending>, AllocError>
-        requires { conn < 16 }
-        ensures ok { (config : Configured) (acts : List BenchAct) → IsBench self.old config acts
-            → IfOk result (λ begun. BegunAs begun self.new config acts (begun_channel conn
-            (fault_of (channel_there conn acts) host_addr host_port prog_family))) }
-        ensures short { IfOk result (λ begun. IfSome begun (λ ending. IsShortEnding ending)) }
-        ensures waits { IfOk result
-            (λ begun. Enters begun conn false self.old.waiting self.new.waiting) }
-        ensures err { OnErr result (self.new ≡ self.old) }
-        ensures lacks { (config : Configured) (acts : List BenchAct)
-            → IsBench self.old config acts → OnErr result (begun_wants (begun_channel conn
-            (fault_of (channel_there conn acts) host_addr host_port prog_family)) ≡ true) }
-    {
-        match channel_fault(self.has_channel(conn), host_addr, host_port, prog_family) {
-            Some(error) => Ok(Some(Ending::Result(plain(error)))),
-            None => self.await_peer(conn),
-        }
-    }
-
-    /// A create_intr_chan waits until its peer was called; there is no channel.
-    fn await_peer(&mut self, conn: u8) -> Result<Option<Ending>, AllocError>
-        requires { conn < 16 }
-        ensures ok { (config : Configured) (acts : List BenchAct) → IsBench self.old config acts
-            → channel_there conn acts ≡ false
-            → IfOk result (λ begun. BegunAs begun self.new config acts (begun_channel conn None)) }
-        ensures waits { IfOk result
-            (λ begun. (begun ≡ None) × Enters begun conn false self.old.waiting self.new.waiting) }
-        ensures err { OnErr result (self.new ≡ self.old) }
-    {
-        self.intr.prepare(conn)?;
-        self.waiting.enter(Entry {
-            conn,
-            lid: None,
-            wait: Wait::Dial,
-            deadline: None,
-        });
-        Ok(None)
+        CallOutcome::Result(plain(ErrorCode::NoError))
     }
 
     /// destroy_intr_chan: the channel is closed, where one is open.
-    pub fn destroy_channel(&mut self, conn: u8) -> Ending
+    pub fn destroy_channel(&mut self, conn: u8) -> CallOutcome
         requires { conn < 16 }
         ensures ends { (config : Configured) (acts : List BenchAct) → IsBench self.old config acts
-            → EndsAs result self.new config acts (destroyed_channel conn acts) }
-        ensures short { IsShortEnding result }
+            → OutcomeIs result self.new config acts (destroyed_channel conn acts) }
+        ensures short { IsBrief result }
         ensures waiting { self.new.waiting ≡ self.old.waiting }
     {
         if self.has_channel(conn) {
             self.close_channel(conn);
-            Ending::Result(plain(ErrorCode::NoError))
+            CallOutcome::Result(plain(ErrorCode::NoError))
         } else {
-            Ending::Result(plain(ErrorCode::NotEstablished))
+            CallOutcome::Result(plain(ErrorCode::NotEstablished))
         }
     }
 
@@ -196,40 +154,40 @@ impl<A: Allocator> Bench<A> {
 
     /// The peer was called for whose answer a call waits: its channel is open, or can't be. The
     /// call waits no more.
-    pub fn end_dial(&mut self, conn: u8, ok: bool, args: &Args<'_>) -> Ending
+    pub fn end_dial(&mut self, conn: u8, ok: bool, args: &Args<'_>) -> CallOutcome
         requires { conn < 16 }
         ensures ends { (config : Configured) (acts : List BenchAct)
             → IsBench self.old config acts → is_dialing conn (wait_acts acts) ≡ true
-            → EndsAs result self.new config (Waited (Left conn) ∷ acts)
+            → OutcomeIs result self.new config (Waited (Left conn) ∷ acts)
             (dialed conn ok (plain_arguments args.now)) }
-        ensures short { IsShortEnding result }
+        ensures short { IsBrief result }
         ensures waiting { self.new.waiting ≡ without conn self.old.waiting }
     {
         match peer_by(args) {
             Some(peer) => self.end_channel(conn, ok, peer),
             None => {
                 self.give_up_channel(conn);
-                Ending::Result(failure(args, ErrorCode::NotEstablished))
+                CallOutcome::Result(failure(args, ErrorCode::NotEstablished))
             }
         }
     }
 
     /// The same for this peer.
-    fn end_channel(&mut self, conn: u8, ok: bool, peer: Peer) -> Ending
+    fn end_channel(&mut self, conn: u8, ok: bool, peer: Peer) -> CallOutcome
         requires { conn < 16 }
         ensures ends { (config : Configured) (acts : List BenchAct)
             → IsBench self.old config acts → is_dialing conn (wait_acts acts) ≡ true
-            → EndsAs result self.new config (Waited (Left conn) ∷ acts)
+            → OutcomeIs result self.new config (Waited (Left conn) ∷ acts)
             (ended_channel conn ok peer) }
-        ensures short { IsShortEnding result }
+        ensures short { IsBrief result }
         ensures waiting { self.new.waiting ≡ without conn self.old.waiting }
     {
         if !ok {
             self.give_up_channel(conn);
-            return Ending::Result(plain(ErrorCode::NotEstablished));
+            return CallOutcome::Result(plain(ErrorCode::NotEstablished));
         }
         self.open_channel(conn, peer);
-        Ending::Result(plain(ErrorCode::NoError))
+        CallOutcome::Result(plain(ErrorCode::NoError))
     }
 
     /// The channel for which a create_intr_chan waits is open: the call waits no more.

@@ -1,11 +1,34 @@
-//! Results of calls, in the shape of each.
+//! What comes of a record, and results of calls in the shape of each.
 
 ghost use Rattle.std.specs.Prelude.{◌≡◌, pos, []};
 ghost use Rattle.sv_vxi.specs.Reading.{plain_arguments};
 ghost use Rattle.sv_vxi.specs.Results.{Link, Size, Plain, plain_result, data_of};
-ghost use Rattle.sv_server.specs.CoreCall.{failure as failed, no_bytes};
+ghost use Rattle.sv_history.specs.CoreCall.{failure as failed, no_bytes};
 
+use sv_rpc::Reply;
 use sv_vxi::{Args, ErrorCode, Reason, VxiResult};
+
+/// What comes of a record that was taken, or of a call that was suspended.
+#[derive(Clone, Copy)]
+pub enum CallOutcome {
+    /// It is no call, and faults its connection.
+    NoCall,
+    /// It is answered with what its header or its arguments alone decide.
+    Header(Reply),
+    /// It is answered with the port that GETPORT asks for.
+    Port(u32),
+    /// It is answered with the result of a call of the core or the abort channel.
+    Result(VxiResult<'static>),
+    /// It is answered with what is to be read of the response.
+    Reads {
+        /// The most bytes to give.
+        most: u32,
+        /// The termination character, where it counts.
+        term: Option<u8>,
+    },
+    /// It is suspended.
+    Suspended,
+}
 
 /// The result of a call that fails, in the shape of that call's.
 pub fn failure(args: &Args<'_>, error: ErrorCode) -> VxiResult<'static>
@@ -16,13 +39,13 @@ pub fn failure(args: &Args<'_>, error: ErrorCode) -> VxiResult<'static>
         Args::CreateLink { .. } => no_link(error),
         Args::DeviceWrite { .. } => written(error, 0),
         Args::DeviceRead { .. } => nothing_read(error),
-        Args::DeviceReadstb { .. } => VxiResult::Status { error, stb: 0 },
+        Args::DeviceReadstb(_) => VxiResult::Status { error, stb: 0 },
         Args::DeviceDocmd { .. } => VxiResult::Data { error, bytes: &[] },
         Args::DeviceAbort { .. }
-        | Args::DeviceTrigger { .. }
-        | Args::DeviceClear { .. }
-        | Args::DeviceRemote { .. }
-        | Args::DeviceLocal { .. }
+        | Args::DeviceTrigger(_)
+        | Args::DeviceClear(_)
+        | Args::DeviceRemote(_)
+        | Args::DeviceLocal(_)
         | Args::DeviceLock { .. }
         | Args::DeviceUnlock { .. }
         | Args::DeviceEnableSrq { .. }

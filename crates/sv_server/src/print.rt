@@ -3,11 +3,11 @@
 ghost use Rattle.std.specs.Prelude.{◌≤◌, [], length, take, decimal, MatchResult, IfOk};
 ghost use Rattle.std.specs.Io.KnownBytes.{Appends};
 ghost use Rattle.hex.specs.Hex.{encode_lower};
-ghost use Rattle.sv_server.specs.Print.{port_name, port_line, refusal_line};
+ghost use Rattle.sv_history.specs.Print.{port_name, port_line, refusal_line};
 ghost use Rattle.sv_server.specs.Written.{Takes};
 
-use crate::event::{Port, Refused};
 use std::io::{ErrorKind, Write};
+use sv_history::{Port, Refused};
 
 /// How many bytes are spelled at once.
 const PIECE: usize = 256;

@@ -3,21 +3,21 @@
 ghost use Rattle.std.specs.Prelude.{◌≡◌, List, Some, OnErr, option_map};
 ghost use Rattle.sv_rpc.specs.Call.{call_at};
 ghost use Rattle.sv_vxi.specs.Reading.{plain_arguments};
-ghost use Rattle.sv_server.specs.Act.{ConnAct};
-ghost use Rattle.sv_server.specs.Refusing.{takes_memory as makes_more, refusable_call};
+ghost use Rattle.sv_history.specs.Act.{ConnAct};
+ghost use Rattle.sv_history.specs.Refusing.{takes_memory as makes_more, refusable_call};
+ghost use Rattle.sv_history.specs.Request.{CoreRequest, request_of as request_for};
 ghost use Rattle.sv_server.specs.KeptConnection.{IsConnection};
 ghost use Rattle.sv_server.specs.Inside.Outcome.{plain_core_call};
 ghost use Rattle.sv_server.specs.Inside.Acting.{Refuses};
 
 use crate::connection::Connection;
 use crate::core_call::CoreCall;
-use crate::dispatch::header_reply;
-use crate::event::{Refused, Role};
 use crate::outcomes::failure;
 use crate::reply::Answer;
+use crate::request::{Request, request_of};
 use std::alloc::Allocator;
-use sv_rpc::read_call;
-use sv_vxi::{Args, ErrorCode, read_args};
+use sv_history::{Refused, Role};
+use sv_vxi::{Args, ErrorCode};
 
 /// Whether a call makes a link or an interrupt channel.
 fn takes_memory(args: &Args<'_>) -> bool
@@ -29,34 +29,26 @@ fn takes_memory(args: &Args<'_>) -> bool
 /// The call that may be refused: one that would take memory, and passes the checks in front of its
 /// own.
 fn refusable(role: Role, bytes: &[u8]) -> Option<CoreCall<'_>>
-    ensures { option_map plain_core_call result ≡ refusable_call role (call_at bytes.now) }
+    ensures { option_map plain_core_call result
+        ≡ refusable_call (Some (request_for role (call_at bytes.now))) }
 {
-    match role {
-        Role::Core => refusable_core(bytes),
-        Role::Abort | Role::Portmap => None,
+    match request_of(role, bytes) {
+        Request::Core(call) => unless_modest(call),
+        Request::NoCall | Request::Decided { .. } | Request::Abort { .. } | Request::Port { .. } =>
+            None,
     }
 }
 
-/// The same of the core channel.
-fn refusable_core(bytes: &[u8]) -> Option<CoreCall<'_>>
-    ensures { option_map plain_core_call result ≡ refusable_call Role.Core (call_at bytes.now) }
+/// A call that would take memory; `None` if it wouldn't.
+fn unless_modest(call: CoreCall<'_>) -> Option<CoreCall<'_>>
+    ensures { option_map plain_core_call result
+        ≡ refusable_call (Some (CoreRequest (plain_core_call call.entry))) }
 {
-    let Ok(call) = read_call(bytes) else {
-        return None;
-    };
-    if header_reply(Role::Core, &call).is_some() {
-        return None;
+    if takes_memory(&call.args) {
+        Some(call)
+    } else {
+        None
     }
-    let Ok(args) = read_args(call.proc, call.args) else {
-        return None;
-    };
-    if !takes_memory(&args) {
-        return None;
-    }
-    Some(CoreCall {
-        xid: call.xid,
-        args,
-    })
 }
 
 /// Takes the next call of an open connection, where it may be refused and there is room for its

@@ -2,21 +2,21 @@
 
 ghost use Rattle.std.specs.Prelude.{◌≡◌, ℕ, List};
 ghost use Rattle.std.specs.Io.KnownBytes.{Appends};
-ghost use Rattle.sv_server.specs.declared.event.Config.{Config};
-ghost use Rattle.sv_server.specs.declared.event.Did.{Did};
-ghost use Rattle.sv_server.specs.Event.{PlainEvent, plain};
+ghost use Rattle.sv_history.specs.declared.event.Config.{Config};
+ghost use Rattle.sv_history.specs.declared.event.Did.{Did};
+ghost use Rattle.sv_history.specs.Event.{PlainEvent, plain};
 ghost use Rattle.sv_links.specs.Channels.{ChannelAct};
-ghost use Rattle.sv_server.specs.Act.{Act};
+ghost use Rattle.sv_history.specs.Act.{Act};
 ghost use Rattle.sv_server.specs.State.{StandsFor};
-ghost use Rattle.sv_server.specs.Print.{port_of, is_no_memory};
+ghost use Rattle.sv_history.specs.Print.{port_of, is_no_memory};
 ghost use Rattle.sv_server.specs.Replay.{Replays};
 ghost use Rattle.sv_server.specs.Inside.Showing.{StandsBy, ShowsPort, ShowsAll};
 
-use crate::event::{Event, Port, Refused};
 use crate::print::{WriteFault, put_line, put_refusal};
 use crate::server::Server;
 use std::alloc::Allocator;
 use std::io::Write;
+use sv_history::{Event, Port, Refused};
 use thiserror::Error;
 
 /// Why a replay stopped.

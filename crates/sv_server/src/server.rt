@@ -1,27 +1,27 @@
 //! The server: connections, links and the instrument behind them.
 
 ghost use Rattle.std.specs.Prelude.{◌≡◌, ◌<◌, ◌≤◌, ◌++◌, ℕ, not, List, [], length, slice_index_or, true, false, if◌then◌else◌, MatchOption, Some, None, IfOk, OnErr};
-ghost use Rattle.sv_server.specs.declared.event.Config.{Config};
+ghost use Rattle.sv_history.specs.declared.event.Config.{Config};
 ghost use Rattle.sv_links.specs.Channels.{ChannelAct};
-ghost use Rattle.sv_server.specs.Event.{PlainEvent, Open, Bytes, Turn, Refuse, Took, Close, Input, External, Tick, plain, IsEvent};
+ghost use Rattle.sv_history.specs.Event.{PlainEvent, Open, Bytes, Turn, Refuse, Took, Close, Input, External, Tick, plain, IsEvent};
 ghost use Rattle.sv_links.specs.Waiting.{waits};
-ghost use Rattle.sv_server.specs.Act.{Act, of, bench, wait_acts};
-ghost use Rattle.sv_server.specs.Connection.{is_open, waiting_on, room, is_idle, is_faulted};
-ghost use Rattle.sv_server.specs.History.{abort_acts, is_shut, is_port_shut, IsLogOf, Answers, history_after};
-ghost use Rattle.sv_server.specs.Requests.{Tells};
-ghost use Rattle.sv_server.specs.Asking.{Answered, WaitOn};
+ghost use Rattle.sv_history.specs.Act.{Act, of, bench, wait_acts};
+ghost use Rattle.sv_history.specs.Connection.{is_open, waiting_on, room, is_idle, is_faulted};
+ghost use Rattle.sv_history.specs.History.{abort_acts, is_shut, is_port_shut, IsLogOf, Answers, history_after};
+ghost use Rattle.sv_history.specs.Requests.{Tells};
+ghost use Rattle.sv_history.specs.Asking.{Answered, WaitOn};
 ghost use Rattle.sv_server.specs.KeptConnection.{Connection as KeptConnection, IsConnection};
 ghost use Rattle.sv_server.specs.State.{Represents, StandsFor};
 ghost use Rattle.sv_server.specs.Inside.Acting.{Acts};
 
 use crate::bench::Bench;
 use crate::connection::Connection;
-use crate::event::{Config, Did, Event, Port, Refused, Role};
 use crate::inputs::may_input;
 use crate::refusing::refuse;
 use crate::turn::{Turned, turn};
 use std::alloc::{AllocError, Allocator, Global};
 use std::marker::Model;
+use sv_history::{Config, Did, Event, Port, Refused, Role};
 use sv_vxi::ErrorCode;
 
 /// How many connections there may be.

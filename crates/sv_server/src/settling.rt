@@ -6,19 +6,19 @@ ghost use Rattle.sv_links.specs.Queue.{IsEntry, creates, creations, without, ran
 ghost use Rattle.sv_instrument.specs.Happened.{IsFired};
 ghost use Rattle.sv_instrument.specs.Step.{IsStep};
 ghost use Rattle.sv_instrument.specs.Kept.{left_of};
-ghost use Rattle.sv_server.specs.declared.event.Config.{Config};
-ghost use Rattle.sv_server.specs.Act.{Act, of, bench, wait_acts};
-ghost use Rattle.sv_server.specs.Connection.{unanswered};
-ghost use Rattle.sv_server.specs.CoreCall.{core_call_in};
-ghost use Rattle.sv_server.specs.Polled.{IsPolled};
-ghost use Rattle.sv_server.specs.Verdict.{verdict_acts};
-ghost use Rattle.sv_server.specs.Resuming.{gone_on, given_up, late as late_error};
-ghost use Rattle.sv_server.specs.Settling.{CanGoOn, Happens, GoesOn, GivesUp, IsSettled};
+ghost use Rattle.sv_history.specs.declared.event.Config.{Config};
+ghost use Rattle.sv_history.specs.Act.{Act, of, bench, wait_acts};
+ghost use Rattle.sv_history.specs.Connection.{unanswered};
+ghost use Rattle.sv_history.specs.Request.{core_call_in};
+ghost use Rattle.sv_history.specs.Polled.{IsPolled};
+ghost use Rattle.sv_history.specs.Effect.{acts_of};
+ghost use Rattle.sv_history.specs.Resuming.{resumed, failed, late as late_error};
+ghost use Rattle.sv_history.specs.Settling.{CanGoOn, Happens, GoesOn, GivesUp, IsSettled};
 ghost use Rattle.sv_server.specs.State.{Represents};
 ghost use Rattle.sv_server.specs.Inside.Kept.{IsKept};
 ghost use Rattle.sv_server.specs.Inside.Acting.{TakesStep, Steps, GoesTo, Settled};
 
-use crate::continuing::{give_up, go_on};
+use crate::resuming::{give_up, go_on};
 use crate::server::Server;
 use std::alloc::Allocator;
 use sv_links::{Entry, Wait};
@@ -54,7 +54,7 @@ impl<A: Allocator> Server<A> {
             → CanGoOn (bench log) entry.conn → IsEntry (wait_acts (bench log)) entry
             → (creates entry ≡ true → creations (without entry.conn self.old.bench.waiting)
             < creations self.old.bench.waiting)
-            → Represents self.new config (verdict_acts entry.conn (gone_on config polled entry.conn
+            → Represents self.new config (acts_of entry.conn (resumed config polled entry.conn
             entry.wait (core_call_in (unanswered (of entry.conn log))) (bench log)) ++ log) }
         ensures measure { rank self.new.bench.waiting < rank self.old.bench.waiting }
     {
@@ -67,8 +67,8 @@ impl<A: Allocator> Server<A> {
         requires { conn < 16 }
         ensures stands { (config : Config) (log : List Act) → Represents self.old config log
             → (waits conn (wait_acts (bench log)) ≡ None → ⊥)
-            → Represents self.new config (verdict_acts conn
-            (given_up error conn (core_call_in (unanswered (of conn log)))) ++ log) }
+            → Represents self.new config (acts_of conn
+            (failed error conn (core_call_in (unanswered (of conn log)))) ++ log) }
         ensures waiting { self.new.bench.waiting ≡ without conn self.old.bench.waiting }
     {
         let connection = &mut self.connections[usize::from(conn)];

@@ -1,23 +1,25 @@
 //! A connection's next call is taken and done.
 
-ghost use Rattle.std.specs.Prelude.{◌≡◌, ◌<◌, List, Some, OnErr, true};
-ghost use Rattle.sv_server.specs.declared.event.Config.{Config};
-ghost use Rattle.sv_server.specs.Act.{Act, ConnAct, BenchAct, of, bench, exchange_acts};
-ghost use Rattle.sv_server.specs.Connection.{is_busy};
+ghost use Rattle.std.specs.Prelude.{◌≡◌, ◌<◌, ℕ, List, Some, OnErr, true};
+ghost use Rattle.sv_exchange.specs.Exchange.{response};
+ghost use Rattle.sv_history.specs.declared.event.Config.{Config};
+ghost use Rattle.sv_history.specs.Act.{Act, ConnAct, BenchAct, of, bench, exchange_acts};
+ghost use Rattle.sv_history.specs.Connection.{is_busy};
+ghost use Rattle.sv_history.specs.Effect.{Effect, call_effect};
+ghost use Rattle.sv_history.specs.CoreChannel.{reads};
 ghost use Rattle.sv_server.specs.KeptConnection.{IsConnection};
 ghost use Rattle.sv_server.specs.KeptBench.{IsBench};
-ghost use Rattle.sv_server.specs.Verdict.{Verdict as VerdictData, execution_verdict};
-ghost use Rattle.sv_exchange.specs.Exchange.{response};
-ghost use Rattle.sv_server.specs.CoreChannel.{reads};
 ghost use Rattle.sv_server.specs.Inside.Acting.{Turns, Concludes};
-ghost use Rattle.sv_server.specs.Inside.Outcome.{ConsideredAs, IsShortVerdict};
+ghost use Rattle.sv_server.specs.Inside.Outcome.{EndsAs, IsBrief};
 
 use crate::bench::Bench;
 use crate::connection::Connection;
-use crate::dispatch::{Verdict, consider};
-use crate::event::{Refused, Role};
+use crate::execution::{aborts, execute};
+use crate::outcomes::CallOutcome;
 use crate::reply::Answer;
+use crate::request::request_of;
 use std::alloc::Allocator;
+use sv_history::{Refused, Role};
 use sv_vxi::{ErrorCode, Reason, VxiResult};
 
 /// What a Turn of an open connection did.
@@ -53,36 +55,39 @@ pub fn turn<A: Allocator>(
     if !connection.has_reply_room() {
         return Err(Refused::NoRoom);
     }
-    let Ok(verdict) = consider(shared, conn, role, call) else {
+    let request = request_of(role, call);
+    let xid = request.xid();
+    let aborts = aborts(shared, &request);
+    let Ok(outcome) = execute(shared, conn, &request) else {
         return Err(Refused::NoMemory);
     };
     connection.take_call();
-    let aborts = verdict.aborts();
-    conclude(verdict, connection, shared);
+    conclude(xid, outcome, connection, shared);
     Ok(Turned::Done { aborts })
 }
 
-/// Ends the record that was taken: by its answer, or as one that is no call.
+/// Ends the record that was taken: by its answer, or as one that is no call; or lets it wait.
 pub fn conclude<A: Allocator>(
-    verdict: Verdict,
+    xid: u32,
+    outcome: CallOutcome,
     connection: &mut Connection<A>,
     shared: &mut Bench<A>,
 )
-    requires { IsShortVerdict verdict }
+    requires { IsBrief outcome }
     ensures ends { (config : Config) (acts : List ConnAct) (before : List BenchAct)
-        (said : VerdictData)
+        (effect : Effect)
         → IsConnection connection.old acts → is_busy acts ≡ true
-        → ConsideredAs verdict shared.old config before said
-        → Concludes said config acts before connection.new shared.new }
+        → EndsAs outcome xid shared.old config before effect
+        → Concludes effect config acts before connection.new shared.new }
     ensures waiting { shared.new.waiting ≡ shared.old.waiting }
 {
-    match verdict {
-        Verdict::NoCall => connection.fault(),
-        Verdict::Answer { xid, answer, .. } => connection.answer(xid, &answer),
-        Verdict::Response { xid, most, term } => {
-            answer_response(xid, most, term, connection, shared);
-        }
-        Verdict::Waits => {}
+    match outcome {
+        CallOutcome::NoCall => connection.fault(),
+        CallOutcome::Header(reply) => connection.answer(xid, &Answer::Header(reply)),
+        CallOutcome::Port(port) => connection.answer(xid, &Answer::Port(port)),
+        CallOutcome::Result(told) => connection.answer(xid, &Answer::Result(told)),
+        CallOutcome::Reads { most, term } => answer_response(xid, most, term, connection, shared),
+        CallOutcome::Suspended => {}
     }
 }
 
@@ -97,9 +102,8 @@ fn answer_response<A: Allocator>(
     ensures ends { (config : Config) (acts : List ConnAct) (before : List BenchAct)
         → IsConnection connection.old acts → is_busy acts ≡ true
         → IsBench shared.old config before
-        → Concludes
-        (execution_verdict xid (reads (response (exchange_acts before)) most term)) config acts
-        before connection.new shared.new }
+        → Concludes (call_effect xid (reads (response (exchange_acts before)) most term)) config
+        acts before connection.new shared.new }
     ensures waiting { shared.new.waiting ≡ shared.old.waiting }
 {
     let read = shared.instrument.peek(most, term);

@@ -7,7 +7,7 @@ use Rattle.sv_xdr.specs.Garbage.{◌>>=◌}
 use Rattle.sv_xdr.specs.Spelling.{Field, Unsigned, Signed, Boolean, Opaque, Begins, BeginsAll}
 use Rattle.sv_xdr.specs.Reader.{opaque_at}
 use Rattle.sv_xdr.proofs.Fields.{IsBytes, bytes_after, unsigned_takes, signed_takes, boolean_takes, opaque_at-takes}
-use Rattle.sv_vxi.specs.Arguments.{Arguments, procedure_of, argument_fields, InBounds, max_handle, core_calls, abort_calls, is_one_of, ArgumentsAre}
+use Rattle.sv_vxi.specs.Arguments.{GenericParms, Arguments, procedure_of, argument_fields, InBounds, max_handle, core_calls, abort_calls, is_one_of, ArgumentsAre}
 use Rattle.sv_vxi.specs.Reading.{any_length, create_link_at, device_write_at, device_read_at, generic, generic_at, device_lock_at, device_enable_srq_at, device_docmd_at, create_intr_chan_at, of_link, link_at, arguments_at}
 use Rattle.sv_vxi.proofs.Spelled.{arguments_read}
 
@@ -119,16 +119,17 @@ device_enable_srq bytes h =
 
 -- of the calls of one shape
 generic_call : (proc : ℕ)
-    → ((lid : ℤ) (flags lock_timeout io_timeout : ℕ) (bytes : List ℕ)
-    → Reads proc (λ fields. Signed lid ∷ Unsigned flags ∷ Unsigned lock_timeout ∷ Unsigned io_timeout ∷ fields) bytes
-    (Ok (generic proc lid flags lock_timeout io_timeout)))
+    → ((parms : GenericParms) (bytes : List ℕ)
+    → Reads proc (λ fields. Signed parms.lid ∷ Unsigned parms.flags ∷ Unsigned parms.lock_timeout ∷ Unsigned parms.io_timeout ∷ fields)
+    bytes (Ok (generic proc parms)))
     → Takes proc (generic_at proc)
 unfolding generic_at
 generic_call proc is bytes h =
     step Signed signed_takes _ h (λ lid l1 _ h1.
     step Unsigned unsigned_takes _ h1 (λ flags l2 _ h2.
     step Unsigned unsigned_takes _ h2 (λ lock_timeout l3 _ h3.
-    step Unsigned unsigned_takes _ h3 (λ io_timeout l4 _ h4. is lid flags lock_timeout io_timeout l4))))
+    step Unsigned unsigned_takes _ h3 (λ io_timeout l4 _ h4.
+    is (record { lid = lid; flags = flags; lock_timeout = lock_timeout; io_timeout = io_timeout }) l4))))
 
 link_call : (proc : ℕ) → ((lid : ℤ) (bytes : List ℕ) → Reads proc (λ fields. Signed lid ∷ fields) bytes (Ok (of_link proc lid)))
     → Takes proc (link_at proc)
@@ -162,11 +163,11 @@ a & b = (a, b)
 each_takes : AllByRecursion (λ proc. Takes proc (arguments_at proc)) (core_calls ++ abort_calls)
 each_takes =
     create_link & device_write & device_read
-    & generic_call 13 (λ _ _ _ _ _. done refl tt refl)
-    & generic_call 14 (λ _ _ _ _ _. done refl tt refl)
-    & generic_call 15 (λ _ _ _ _ _. done refl tt refl)
-    & generic_call 16 (λ _ _ _ _ _. done refl tt refl)
-    & generic_call 17 (λ _ _ _ _ _. done refl tt refl)
+    & generic_call 13 (λ _ _. done refl tt refl)
+    & generic_call 14 (λ _ _. done refl tt refl)
+    & generic_call 15 (λ _ _. done refl tt refl)
+    & generic_call 16 (λ _ _. done refl tt refl)
+    & generic_call 17 (λ _ _. done refl tt refl)
     & device_lock & link_call 19 (λ _ _. done refl tt refl) & device_enable_srq & device_docmd
     & link_call 23 (λ _ _. done refl tt refl) & create_intr_chan & (λ _ _. done refl tt refl)
     & link_call 1 (λ _ _. done refl tt refl) & tt

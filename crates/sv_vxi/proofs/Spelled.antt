@@ -4,18 +4,17 @@ use Rattle.sv_xdr.specs.Spelling.{Opaque, Begins, BeginsAll}
 use Rattle.sv_xdr.specs.Reader.{opaque_at}
 use Rattle.sv_xdr.specs.declared.garbage.Garbage.{Garbage}
 use Rattle.sv_xdr.proofs.Fields.{unsigned_begins, signed_begins, boolean_begins, opaque_again, word_fits}
-use Rattle.sv_vxi.specs.Arguments.{Arguments, DeviceAbort, CreateLink, DeviceWrite, DeviceRead, DeviceReadstb, DeviceTrigger, DeviceClear, DeviceRemote, DeviceLocal, DeviceLock, DeviceUnlock, DeviceEnableSrq, DeviceDocmd, DestroyLink, CreateIntrChan, DestroyIntrChan, procedure_of, generic_fields, link_fields, max_handle, BeginsWith, ArgumentsAre}
+use Rattle.sv_vxi.specs.Arguments.{GenericParms, Arguments, DeviceAbort, CreateLink, DeviceWrite, DeviceRead, DeviceReadstb, DeviceTrigger, DeviceClear, DeviceRemote, DeviceLocal, DeviceLock, DeviceUnlock, DeviceEnableSrq, DeviceDocmd, DestroyLink, CreateIntrChan, DestroyIntrChan, procedure_of, generic_fields, link_fields, max_handle, BeginsWith, ArgumentsAre}
 use Rattle.sv_vxi.specs.Reading.{any_length, create_link_at, device_write_at, device_read_at, generic, generic_at, device_lock_at, device_enable_srq_at, device_docmd_at, create_intr_chan_at, of_link, link_at, arguments_at}
 
 -- opaque data that are spelled are read, whatever their length
 text_begins : (bytes text after : List ℕ) → Begins bytes (Opaque text) after → opaque_at any_length bytes ≡ Ok (text, after)
 text_begins bytes text after b = opaque_again any_length bytes text after b (omega (arith, word_fits b.1.0 (length text) b.1.2))
 
-generic_begins : (proc : ℕ) (lid : ℤ) (flags lock_timeout io_timeout : ℕ) (bytes after : List ℕ)
-    → BeginsAll bytes (generic_fields lid flags lock_timeout io_timeout) after
-    → generic_at proc bytes ≡ Ok (generic proc lid flags lock_timeout io_timeout)
+generic_begins : (proc : ℕ) (parms : GenericParms) (bytes after : List ℕ)
+    → BeginsAll bytes (generic_fields parms) after → generic_at proc bytes ≡ Ok (generic proc parms)
 unfolding generic_at
-generic_begins proc lid flags lock_timeout io_timeout bytes after h =
+generic_begins proc parms bytes after h =
     rw (signed_begins _ _ _ h.1, unsigned_begins _ _ _ h.2.1, unsigned_begins _ _ _ h.2.2.1, unsigned_begins _ _ _ h.2.2.2.1) refl
 
 link_begins : (proc : ℕ) (lid : ℤ) (bytes after : List ℕ) → BeginsAll bytes (link_fields lid) after
@@ -33,16 +32,11 @@ arguments_begin (DeviceWrite lid io_timeout lock_timeout flags text) bytes after
 arguments_begin (DeviceRead lid request_size io_timeout lock_timeout flags term_char) bytes after (bounds, h) =
     rw (signed_begins _ _ _ h.1, unsigned_begins _ _ _ h.2.1, unsigned_begins _ _ _ h.2.2.1, unsigned_begins _ _ _ h.2.2.2.1)
     (rw (unsigned_begins _ _ _ h.2.2.2.2.1, unsigned_begins _ _ _ h.2.2.2.2.2.1) refl)
-arguments_begin (DeviceReadstb lid flags lock_timeout io_timeout) bytes after (bounds, h) =
-    generic_begins 13 lid flags lock_timeout io_timeout bytes after h
-arguments_begin (DeviceTrigger lid flags lock_timeout io_timeout) bytes after (bounds, h) =
-    generic_begins 14 lid flags lock_timeout io_timeout bytes after h
-arguments_begin (DeviceClear lid flags lock_timeout io_timeout) bytes after (bounds, h) =
-    generic_begins 15 lid flags lock_timeout io_timeout bytes after h
-arguments_begin (DeviceRemote lid flags lock_timeout io_timeout) bytes after (bounds, h) =
-    generic_begins 16 lid flags lock_timeout io_timeout bytes after h
-arguments_begin (DeviceLocal lid flags lock_timeout io_timeout) bytes after (bounds, h) =
-    generic_begins 17 lid flags lock_timeout io_timeout bytes after h
+arguments_begin (DeviceReadstb parms) bytes after (bounds, h) = generic_begins 13 parms bytes after h
+arguments_begin (DeviceTrigger parms) bytes after (bounds, h) = generic_begins 14 parms bytes after h
+arguments_begin (DeviceClear parms) bytes after (bounds, h) = generic_begins 15 parms bytes after h
+arguments_begin (DeviceRemote parms) bytes after (bounds, h) = generic_begins 16 parms bytes after h
+arguments_begin (DeviceLocal parms) bytes after (bounds, h) = generic_begins 17 parms bytes after h
 arguments_begin (DeviceLock lid flags lock_timeout) bytes after (bounds, h) =
     rw (signed_begins _ _ _ h.1, unsigned_begins _ _ _ h.2.1, unsigned_begins _ _ _ h.2.2.1) refl
 arguments_begin (DeviceEnableSrq lid enable handle) bytes after (bounds, h) =

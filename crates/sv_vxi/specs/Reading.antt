@@ -3,9 +3,10 @@ use Rattle.std.specs.Prelude.{ℕ, ℤ, List, [], ◌∷◌, Result, Ok, Err, �
 use Rattle.sv_xdr.specs.declared.garbage.Garbage.{Garbage}
 use Rattle.sv_xdr.specs.Garbage.{◌>>=◌}
 use Rattle.sv_xdr.specs.Reader.{unsigned_at, signed_at, boolean_at, opaque_at}
+use Rattle.sv_vxi.specs.declared.arguments.GenericParms.{GenericParms as Parms}
 use Rattle.sv_vxi.specs.declared.arguments.Args.{Args}
 use Rattle.sv_vxi.specs.declared.arguments.Args.TheVariants as args
-use Rattle.sv_vxi.specs.Arguments.{Arguments, DeviceAbort, CreateLink, DeviceWrite, DeviceRead, DeviceReadstb, DeviceTrigger, DeviceClear, DeviceRemote, DeviceLocal, DeviceLock, DeviceUnlock, DeviceEnableSrq, DeviceDocmd, DestroyLink, CreateIntrChan, DestroyIntrChan, is_one_of, max_handle}
+use Rattle.sv_vxi.specs.Arguments.{GenericParms, Arguments, DeviceAbort, CreateLink, DeviceWrite, DeviceRead, DeviceReadstb, DeviceTrigger, DeviceClear, DeviceRemote, DeviceLocal, DeviceLock, DeviceUnlock, DeviceEnableSrq, DeviceDocmd, DestroyLink, CreateIntrChan, DestroyIntrChan, is_one_of, max_handle}
 
 -- the longest opaque data that a length can tell
 abbrev pub any_length : ℕ
@@ -38,13 +39,12 @@ device_read_at bytes = do
   term_char ← unsigned_at flags.1
   Ok (DeviceRead lid.0 request_size.0 io_timeout.0 lock_timeout.0 flags.0 term_char.0)
 
--- of the calls that name a link and say how long to wait, this one
-abbrev pub generic : ℕ → ℤ → ℕ → ℕ → ℕ → Arguments
-generic proc lid flags lock_timeout io_timeout =
-    if proc == 13 then DeviceReadstb lid flags lock_timeout io_timeout
-    else (if proc == 14 then DeviceTrigger lid flags lock_timeout io_timeout
-    else (if proc == 15 then DeviceClear lid flags lock_timeout io_timeout
-    else (if proc == 16 then DeviceRemote lid flags lock_timeout io_timeout else DeviceLocal lid flags lock_timeout io_timeout)))
+-- of the calls with generic parameters, this one
+abbrev pub generic : ℕ → GenericParms → Arguments
+generic proc parms = if proc == 13 then DeviceReadstb parms
+    else (if proc == 14 then DeviceTrigger parms
+    else (if proc == 15 then DeviceClear parms
+    else (if proc == 16 then DeviceRemote parms else DeviceLocal parms)))
 
 unfoldable pub generic_at : ℕ → List ℕ → Result Arguments Garbage
 generic_at proc bytes = do
@@ -52,7 +52,7 @@ generic_at proc bytes = do
   flags ← unsigned_at lid.1
   lock_timeout ← unsigned_at flags.1
   io_timeout ← unsigned_at lock_timeout.1
-  Ok (generic proc lid.0 flags.0 lock_timeout.0 io_timeout.0)
+  Ok (generic proc (record { lid = lid.0; flags = flags.0; lock_timeout = lock_timeout.0; io_timeout = io_timeout.0 }))
 
 unfoldable pub device_lock_at : List ℕ → Result Arguments Garbage
 device_lock_at bytes = do
@@ -111,18 +111,26 @@ arguments_at proc bytes =
     else (if proc == 25 then create_intr_chan_at bytes
     else (if proc == 26 then Ok DestroyIntrChan else link_at proc bytes))))))))
 
--- arguments as plain data
+-- parameters and arguments as plain data
+abbrev pub plain_parms : Parms → GenericParms
+plain_parms parms = record {
+  lid = parms.lid;
+  flags = parms.flags.0;
+  lock_timeout = parms.lock_timeout;
+  io_timeout = parms.io_timeout;
+}
+
 abbrev pub plain_arguments : Args → Arguments
 plain_arguments (args.DeviceAbort lid) = DeviceAbort lid
 plain_arguments (args.CreateLink client_id lock_device lock_timeout device) = CreateLink client_id lock_device lock_timeout device.now
 plain_arguments (args.DeviceWrite lid io_timeout lock_timeout flags bytes) = DeviceWrite lid io_timeout lock_timeout flags.0 bytes.now
 plain_arguments (args.DeviceRead lid request_size io_timeout lock_timeout flags term_char) =
     DeviceRead lid request_size io_timeout lock_timeout flags.0 term_char
-plain_arguments (args.DeviceReadstb lid flags lock_timeout io_timeout) = DeviceReadstb lid flags.0 lock_timeout io_timeout
-plain_arguments (args.DeviceTrigger lid flags lock_timeout io_timeout) = DeviceTrigger lid flags.0 lock_timeout io_timeout
-plain_arguments (args.DeviceClear lid flags lock_timeout io_timeout) = DeviceClear lid flags.0 lock_timeout io_timeout
-plain_arguments (args.DeviceRemote lid flags lock_timeout io_timeout) = DeviceRemote lid flags.0 lock_timeout io_timeout
-plain_arguments (args.DeviceLocal lid flags lock_timeout io_timeout) = DeviceLocal lid flags.0 lock_timeout io_timeout
+plain_arguments (args.DeviceReadstb parms) = DeviceReadstb (plain_parms parms)
+plain_arguments (args.DeviceTrigger parms) = DeviceTrigger (plain_parms parms)
+plain_arguments (args.DeviceClear parms) = DeviceClear (plain_parms parms)
+plain_arguments (args.DeviceRemote parms) = DeviceRemote (plain_parms parms)
+plain_arguments (args.DeviceLocal parms) = DeviceLocal (plain_parms parms)
 plain_arguments (args.DeviceLock lid flags lock_timeout) = DeviceLock lid flags.0 lock_timeout
 plain_arguments (args.DeviceUnlock lid) = DeviceUnlock lid
 plain_arguments (args.DeviceEnableSrq lid enable handle) = DeviceEnableSrq lid enable handle.now

@@ -1,9 +1,35 @@
-//! The arguments of calls (VXI-11 revision 1.0, sections B.5 and B.6).
+//! The arguments of calls (VXI-11 revision 1.0, sections B.5 and B.6), and what is asked of them.
+
+ghost use Rattle.std.specs.Prelude.{◌≡◌};
+ghost use Rattle.sv_vxi.specs.Arguments.{link as link_by, lock_wait as lock_wait_by, flagged as flagged_by, io_timeout as io_timeout_by, is_create_link as makes_link};
+ghost use Rattle.sv_vxi.specs.Reading.{plain_arguments};
 
 use crate::flags::Flags;
 
+/// What five calls have in common: Device_GenericParms. Timeouts are in milliseconds.
+#[derive(Clone, Copy)]
+pub struct GenericParms {
+    /// The link.
+    pub lid: i32,
+    /// Waiting for the lock.
+    pub flags: Flags,
+    /// How long to wait for the lock.
+    pub lock_timeout: u32,
+    /// How long to wait for the device.
+    pub io_timeout: u32,
+}
+
+/// What a call does while another link holds the lock (section B.4.4).
+#[derive(Clone, Copy)]
+pub struct LockWait {
+    /// Whether it waits for the lock; otherwise it fails.
+    pub waits: bool,
+    /// How long it waits, in milliseconds.
+    pub timeout: u32,
+}
+
 /// The arguments of a call, a variant for each. Timeouts are in milliseconds.
-#[derive(Clone, Copy, Debug, PartialEq, Eq)]
+#[derive(Clone, Copy)]
 pub enum Args<'a> {
     /// Of device_abort.
     DeviceAbort {
@@ -50,60 +76,15 @@ pub enum Args<'a> {
         term_char: u32,
     },
     /// Of device_readstb.
-    DeviceReadstb {
-        /// The link.
-        lid: i32,
-        /// Waiting for the lock.
-        flags: Flags,
-        /// How long to wait for the lock.
-        lock_timeout: u32,
-        /// How long to wait for the device.
-        io_timeout: u32,
-    },
+    DeviceReadstb(GenericParms),
     /// Of device_trigger.
-    DeviceTrigger {
-        /// The link.
-        lid: i32,
-        /// Waiting for the lock.
-        flags: Flags,
-        /// How long to wait for the lock.
-        lock_timeout: u32,
-        /// How long to wait for the device.
-        io_timeout: u32,
-    },
+    DeviceTrigger(GenericParms),
     /// Of device_clear.
-    DeviceClear {
-        /// The link.
-        lid: i32,
-        /// Waiting for the lock.
-        flags: Flags,
-        /// How long to wait for the lock.
-        lock_timeout: u32,
-        /// How long to wait for the device.
-        io_timeout: u32,
-    },
+    DeviceClear(GenericParms),
     /// Of device_remote.
-    DeviceRemote {
-        /// The link.
-        lid: i32,
-        /// Waiting for the lock.
-        flags: Flags,
-        /// How long to wait for the lock.
-        lock_timeout: u32,
-        /// How long to wait for the device.
-        io_timeout: u32,
-    },
+    DeviceRemote(GenericParms),
     /// Of device_local.
-    DeviceLocal {
-        /// The link.
-        lid: i32,
-        /// Waiting for the lock.
-        flags: Flags,
-        /// How long to wait for the lock.
-        lock_timeout: u32,
-        /// How long to wait for the device.
-        io_timeout: u32,
-    },
+    DeviceLocal(GenericParms),
     /// Of device_lock.
     DeviceLock {
         /// The link.
@@ -166,4 +147,110 @@ pub enum Args<'a> {
     },
     /// Of destroy_intr_chan, which has none.
     DestroyIntrChan,
+}
+
+impl Args<'_> {
+    /// The link that the call names; `None` if it names none.
+    pub fn link(&self) -> Option<i32>
+        ensures { result ≡ link_by (plain_arguments self.now) }
+    {
+        match *self {
+            Args::DeviceReadstb(parms)
+            | Args::DeviceTrigger(parms)
+            | Args::DeviceClear(parms)
+            | Args::DeviceRemote(parms)
+            | Args::DeviceLocal(parms) => Some(parms.lid),
+            Args::DeviceAbort { lid }
+            | Args::DeviceWrite { lid, .. }
+            | Args::DeviceRead { lid, .. }
+            | Args::DeviceLock { lid, .. }
+            | Args::DeviceUnlock { lid }
+            | Args::DeviceEnableSrq { lid, .. }
+            | Args::DeviceDocmd { lid, .. }
+            | Args::DestroyLink { lid } => Some(lid),
+            Args::CreateLink { .. } | Args::CreateIntrChan { .. } | Args::DestroyIntrChan => None,
+        }
+    }
+
+    /// What the call does while another link holds the lock; `None` if it is executed all the same.
+    pub fn lock_wait(&self) -> Option<LockWait>
+        ensures { result ≡ lock_wait_by (plain_arguments self.now) }
+    {
+        match *self {
+            Args::DeviceReadstb(parms)
+            | Args::DeviceTrigger(parms)
+            | Args::DeviceClear(parms)
+            | Args::DeviceRemote(parms)
+            | Args::DeviceLocal(parms) => flagged(parms.flags, parms.lock_timeout),
+            Args::DeviceWrite {
+                flags,
+                lock_timeout,
+                ..
+            }
+            | Args::DeviceRead {
+                flags,
+                lock_timeout,
+                ..
+            }
+            | Args::DeviceLock {
+                flags,
+                lock_timeout,
+                ..
+            }
+            | Args::DeviceDocmd {
+                flags,
+                lock_timeout,
+                ..
+            } => flagged(flags, lock_timeout),
+            Args::DeviceAbort { .. }
+            | Args::CreateLink { .. }
+            | Args::DeviceUnlock { .. }
+            | Args::DeviceEnableSrq { .. }
+            | Args::DestroyLink { .. }
+            | Args::CreateIntrChan { .. }
+            | Args::DestroyIntrChan => None,
+        }
+    }
+
+    /// How long a write or a read waits for the device, in milliseconds; `None` for other calls.
+    pub fn io_timeout(&self) -> Option<u32>
+        ensures { result ≡ io_timeout_by (plain_arguments self.now) }
+    {
+        match *self {
+            Args::DeviceWrite { io_timeout, .. } | Args::DeviceRead { io_timeout, .. } => {
+                Some(io_timeout)
+            }
+            Args::DeviceAbort { .. }
+            | Args::CreateLink { .. }
+            | Args::DeviceReadstb(_)
+            | Args::DeviceTrigger(_)
+            | Args::DeviceClear(_)
+            | Args::DeviceRemote(_)
+            | Args::DeviceLocal(_)
+            | Args::DeviceLock { .. }
+            | Args::DeviceUnlock { .. }
+            | Args::DeviceEnableSrq { .. }
+            | Args::DeviceDocmd { .. }
+            | Args::DestroyLink { .. }
+            | Args::CreateIntrChan { .. }
+            | Args::DestroyIntrChan => None,
+        }
+    }
+
+    /// Whether the call is create_link.
+    pub fn is_create_link(&self) -> bool
+        ensures { result ≡ makes_link (plain_arguments self.now) }
+    {
+        matches!(*self, Args::CreateLink { .. })
+    }
+}
+
+/// What flags and a timeout say of the lock.
+fn flagged(flags: Flags, timeout: u32) -> Option<LockWait>
+    ensures { result ≡ flagged_by flags.0 timeout }
+{
+    Some(LockWait {
+        waits: flags.has_wait_lock(),
+        timeout,
+    })
 }

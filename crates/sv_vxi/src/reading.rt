@@ -5,7 +5,7 @@ ghost use Rattle.sv_xdr.specs.declared.garbage.Garbage.{Garbage};
 ghost use Rattle.sv_vxi.specs.Arguments.{Arguments, ArgumentsAre, core_calls, abort_calls, is_one_of};
 ghost use Rattle.sv_vxi.specs.Reading.{arguments_at, create_link_at, device_write_at, device_read_at, generic_at, device_lock_at, device_enable_srq_at, device_docmd_at, create_intr_chan_at, link_at, seen};
 
-use crate::arguments::Args;
+use crate::arguments::{Args, GenericParms};
 use crate::flags::Flags;
 use crate::procedure::{
     CREATE_INTR_CHAN, CREATE_LINK, DESTROY_INTR_CHAN, DEVICE_ABORT, DEVICE_CLEAR, DEVICE_DOCMD,
@@ -99,41 +99,18 @@ fn generic(proc: u32, bytes: &[u8]) -> Result<Args<'_>, Garbage>
     ensures { seen result ≡ generic_at proc bytes.now }
 {
     let mut reader = Reader::new(bytes);
-    let lid = reader.i32()?;
-    let flags = Flags(reader.u32()?);
-    let lock_timeout = reader.u32()?;
-    let io_timeout = reader.u32()?;
+    let parms = GenericParms {
+        lid: reader.i32()?,
+        flags: Flags(reader.u32()?),
+        lock_timeout: reader.u32()?,
+        io_timeout: reader.u32()?,
+    };
     Ok(match proc {
-        DEVICE_READSTB => Args::DeviceReadstb {
-            lid,
-            flags,
-            lock_timeout,
-            io_timeout,
-        },
-        DEVICE_TRIGGER => Args::DeviceTrigger {
-            lid,
-            flags,
-            lock_timeout,
-            io_timeout,
-        },
-        DEVICE_CLEAR => Args::DeviceClear {
-            lid,
-            flags,
-            lock_timeout,
-            io_timeout,
-        },
-        DEVICE_REMOTE => Args::DeviceRemote {
-            lid,
-            flags,
-            lock_timeout,
-            io_timeout,
-        },
-        _ => Args::DeviceLocal {
-            lid,
-            flags,
-            lock_timeout,
-            io_timeout,
-        },
+        DEVICE_READSTB => Args::DeviceReadstb(parms),
+        DEVICE_TRIGGER => Args::DeviceTrigger(parms),
+        DEVICE_CLEAR => Args::DeviceClear(parms),
+        DEVICE_REMOTE => Args::DeviceRemote(parms),
+        _ => Args::DeviceLocal(parms),
     })
 }
 

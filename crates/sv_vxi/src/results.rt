@@ -12,7 +12,7 @@ use sv_xdr::{Writer, XdrFault};
 
 /// The result of a call, a variant for each shape. Behind an error all other fields are written as
 /// 0 or empty, whatever they are.
-#[derive(Clone, Copy, Debug, PartialEq, Eq)]
+#[derive(Clone, Copy)]
 pub enum VxiResult<'a> {
     /// Of create_link.
     Link {

@@ -1,35 +1,34 @@
 -- What a private function that does an event leaves.
-use Rattle.std.specs.Prelude.{◌≡◌, ℕ, ℤ, not, true, Bool, false, List, ◌∷◌, ◌++◌, map, Some, None, Result, Ok, Err, if◌then◌else◌, Option, ⊤}
+use Rattle.std.specs.Prelude.{◌≡◌, ℕ, ℤ, true, Bool, false, List, ◌∷◌, ◌++◌, map, Some, None, Result, Ok, Err, Option, ⊤}
 use Rattle.sv_errors.specs.Limits.{is_channel}
-use Rattle.sv_rpc.specs.Call.{call_at}
 use Rattle.sv_links.specs.declared.waiting.Entry.{Entry}
-use Rattle.sv_server.specs.declared.event.Config.{Config}
-use Rattle.sv_server.specs.declared.event.Did.{Did}
-use Rattle.sv_server.specs.declared.event.Did.TheVariants.{Done as DidSo}
-use Rattle.sv_server.specs.declared.event.Refused.{Refused}
-use Rattle.sv_server.specs.declared.event.Refused.TheVariants.{NoMemory}
-use Rattle.sv_server.specs.declared.event.Role.{Role}
+use Rattle.sv_history.specs.declared.event.Config.{Config}
+use Rattle.sv_history.specs.declared.event.Did.{Did}
+use Rattle.sv_history.specs.declared.event.Did.TheVariants.{Done as DidSo}
+use Rattle.sv_history.specs.declared.event.Refused.{Refused}
+use Rattle.sv_history.specs.declared.event.Refused.TheVariants.{NoMemory}
 use Rattle.sv_server.specs.declared.turn.Turned.{Turned}
 use Rattle.sv_server.specs.declared.turn.Turned.TheVariants.{Idle, Done}
 use Rattle.sv_server.specs.declared.settling.Stepped.{Stepped}
 use Rattle.sv_server.specs.declared.settling.Stepped.TheVariants.{Nothing, Instrument, Call}
 use Rattle.sv_links.specs.Channels.{ChannelAct}
-use Rattle.sv_server.specs.Event.{PlainEvent}
-use Rattle.sv_server.specs.Requests.{Tells}
+use Rattle.sv_history.specs.Event.{PlainEvent}
+use Rattle.sv_history.specs.Requests.{Tells}
 use Rattle.sv_layers.specs.Act.{Act as InstrumentAct}
-use Rattle.sv_server.specs.Act.{Act, ConnAct, BenchAct, CallTaken, Faulted, Replied, Happened, of, bench, instrument_acts}
-use Rattle.sv_server.specs.CoreCall.{CoreCall, core_call}
-use Rattle.sv_server.specs.Verdict.{Verdict, NoCall, Replies, Stays, aborts_of}
-use Rattle.sv_server.specs.Dispatch.{verdict_of}
-use Rattle.sv_server.specs.Connection.{open_role, next_call, is_idle}
-use Rattle.sv_server.specs.Polled.{IsPolled}
-use Rattle.sv_server.specs.Settling.{IsNext, IsSettled, SettlesIn, Settles}
-use Rattle.sv_server.specs.Refusing.{refusable, refused_reply}
-use Rattle.sv_server.specs.History.{refusal, turn_refusal, refuse_refusal, own_acts, did, wants_memory, is_beyond, input_refusal}
+use Rattle.sv_history.specs.Act.{Act, ConnAct, BenchAct, CallTaken, Replied, Happened, of, bench, instrument_acts}
+use Rattle.sv_history.specs.CoreCall.{CoreCall}
+use Rattle.sv_history.specs.Request.{Request, core_call, next_request}
+use Rattle.sv_history.specs.Effect.{Effect}
+use Rattle.sv_history.specs.Execution.{request_effect, aborts}
+use Rattle.sv_history.specs.Connection.{next_call, is_idle}
+use Rattle.sv_history.specs.Polled.{IsPolled}
+use Rattle.sv_history.specs.Settling.{IsNext, IsSettled, SettlesIn, Settles}
+use Rattle.sv_history.specs.Refusing.{refusable, refused_reply}
+use Rattle.sv_history.specs.History.{refusal, turn_refusal, refuse_refusal, own_acts, did, wants_memory, is_beyond, input_refusal}
 use Rattle.sv_server.specs.KeptConnection.{Connection, IsConnection}
 use Rattle.sv_server.specs.KeptBench.{Bench, IsBench}
 use Rattle.sv_server.specs.State.{State, Represents}
-use Rattle.sv_server.specs.Inside.Outcome.{HeldAs, WaitsOn, verdict_wants}
+use Rattle.sv_server.specs.Inside.Outcome.{HeldAs, WaitsOn}
 
 -- This is what refuses an event.
 abbrev pub IsRefusal : Config → PlainEvent → List Act → Option Refused → Type 0
@@ -40,35 +39,33 @@ abbrev pub Acts : Config → PlainEvent → List Act → Result Did Refused → 
 Acts config event log (Ok what) new = IsRefusal config event log None × (what ≡ did event log)
     × ((polled : ℕ) → IsPolled polled (bench log) → Represents new config (own_acts config polled event log ++ log))
 Acts config event log (Err NoMemory) new = IsRefusal config event log None
-    × ((polled : ℕ) → IsPolled polled (bench log) → wants_memory (own_acts config polled event log) ≡ true)
+    × ((polled : ℕ) → IsPolled polled (bench log) → wants_memory (bench (own_acts config polled event log)) ≡ true)
 Acts config event log (Err refused) new = IsRefusal config event log (Some refused)
 
--- The call that was taken is ended as was said, or waits.
-abbrev pub Concludes : Verdict → Config → List ConnAct → List BenchAct → Connection → Bench → Type 0
-Concludes NoCall config acts before connection shared = IsConnection connection (Faulted ∷ acts) × IsBench shared config before
-Concludes (Replies adds aborts bytes) config acts before connection shared =
-    IsConnection connection (Replied bytes ∷ acts) × IsBench shared config (adds ++ before)
-Concludes (Stays adds) config acts before connection shared = IsConnection connection acts × IsBench shared config (adds ++ before)
+-- The call that was taken comes to this.
+abbrev pub Concludes : Effect → Config → List ConnAct → List BenchAct → Connection → Bench → Type 0
+Concludes effect config acts before connection shared =
+    IsConnection connection (effect.own ++ acts) × IsBench shared config (effect.adds ++ before)
 
 -- A call that waited went on so.
-abbrev pub GoneOn : Verdict → ℕ → Option CoreCall → Config → List ConnAct → List BenchAct → List Entry → Connection → Bench → Type 0
-GoneOn verdict c call config acts before old connection shared =
-    Concludes verdict config acts before connection shared × WaitsOn verdict c call old shared.waiting
+abbrev pub WentOn : Effect → ℕ → Option CoreCall → Config → List ConnAct → List BenchAct → List Entry → Connection → Bench → Type 0
+WentOn effect c call config acts before old connection shared =
+    Concludes effect config acts before connection shared × WaitsOn effect c call old shared.waiting
 
 -- A Turn of an open connection takes its next call, where there is one.
-abbrev pub TakesCall : Config → ℕ → List Act → List ℕ → (Verdict → Type 0) → Type 0
-TakesCall config c log call IsSo = (role : Role) × (open_role (of c log) ≡ Some role) × (next_call (of c log) ≡ Some call)
-    × ((polled : ℕ) → IsPolled polled (bench log) → IsSo (verdict_of config polled c role (call_at call) (bench log)))
+abbrev pub TakesCall : Config → ℕ → List Act → List ℕ → Request → (Effect → Type 0) → Type 0
+TakesCall config c log call request IsSo = (next_call (of c log) ≡ Some call) × (next_request (of c log) ≡ Some request)
+    × ((polled : ℕ) → IsPolled polled (bench log) → IsSo (request_effect config polled c request (bench log)))
 
 abbrev pub Turns : Config → ℕ → List Act → List Entry → Result Turned Refused → Connection → Bench → Type 0
 Turns config c log old (Ok Idle) connection shared = (turn_refusal (of c log) ≡ None) × (is_idle (of c log) ≡ true)
     × IsConnection connection (of c log) × IsBench shared config (bench log) × (shared.waiting ≡ old)
-Turns config c log old (Ok (Done aborts)) connection shared = (turn_refusal (of c log) ≡ None) × (is_idle (of c log) ≡ false)
-    × (call : List ℕ) × TakesCall config c log call (λ verdict. (aborts_of verdict ≡ aborts)
-    × Concludes verdict config (CallTaken call ∷ of c log) (bench log) connection shared
-    × HeldAs verdict c (core_call call) old shared.waiting)
-Turns config c log old (Err NoMemory) connection shared = (turn_refusal (of c log) ≡ None)
-    × (call : List ℕ) × TakesCall config c log call (λ verdict. verdict_wants verdict ≡ true)
+Turns config c log old (Ok (Done aborted)) connection shared = (turn_refusal (of c log) ≡ None) × (is_idle (of c log) ≡ false)
+    × (call : List ℕ) × (request : Request) × (aborted ≡ aborts request (bench log))
+    × TakesCall config c log call request (λ effect. Concludes effect config (CallTaken call ∷ of c log) (bench log) connection shared
+    × HeldAs effect c (core_call call) old shared.waiting)
+Turns config c log old (Err NoMemory) connection shared = (turn_refusal (of c log) ≡ None) × (call : List ℕ) × (request : Request)
+    × TakesCall config c log call request (λ effect. wants_memory effect.adds ≡ true)
 Turns config c log old (Err refused) connection shared = turn_refusal (of c log) ≡ Some refused
 
 -- A Refuse of an open connection takes and answers its next call, or is refused.

@@ -1,18 +1,18 @@
 -- How the lines of ports are written, one after the other.
 use Rattle.std.specs.Prelude.{◌≡◌, ℕ, List, [], ◌∷◌, ◌++◌, length, Result, Ok, Err, ⊤}
-use Rattle.sv_server.specs.declared.event.Config.{Config}
-use Rattle.sv_server.specs.declared.event.Port.{Port}
+use Rattle.sv_history.specs.declared.event.Config.{Config}
+use Rattle.sv_history.specs.declared.event.Port.{Port}
 use Rattle.sv_server.specs.declared.print.WriteFault.{WriteFault}
-use Rattle.sv_server.specs.Event.{PlainEvent}
-use Rattle.sv_server.specs.declared.event.Port.TheVariants.{Conn, Intr}
+use Rattle.sv_history.specs.Event.{PlainEvent}
+use Rattle.sv_history.specs.declared.event.Port.TheVariants.{Conn, Intr}
 use Rattle.sv_links.specs.Channels.{ChannelAct, ChannelTaken}
-use Rattle.sv_server.specs.Act.{Act, On, BytesTaken, Bench, Channel, bench}
-use Rattle.sv_server.specs.Requests.{Tells}
-use Rattle.sv_server.specs.Connection.{waiting_on}
-use Rattle.sv_server.specs.Settling.{IsSettled}
-use Rattle.sv_server.specs.History.{IsLogOf}
+use Rattle.sv_history.specs.Act.{Act, On, BytesTaken, Bench, Channel, bench}
+use Rattle.sv_history.specs.Requests.{Tells}
+use Rattle.sv_history.specs.Connection.{waiting_on}
+use Rattle.sv_history.specs.Settling.{IsSettled}
+use Rattle.sv_history.specs.History.{IsLogOf}
 use Rattle.sv_server.specs.State.{State, Represents}
-use Rattle.sv_server.specs.Print.{ports, port_line, lines_of, with_took, with_tooks}
+use Rattle.sv_history.specs.Print.{ports, port_line, lines_of, with_took, with_tooks}
 use Rattle.sv_server.specs.Written.{IsFront}
 
 -- The server stands for a history by this log, which tells this to interrupt channels.

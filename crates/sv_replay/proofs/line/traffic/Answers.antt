@@ -2,7 +2,7 @@
 use Rattle.std.proofs.Common.{◌≡◌, rules, ap, option_map, arith}
 use Rattle.std.specs.Prelude.{codes}
 use Rattle.std.proofs.lemmas.Slice.Eq.{text_from_reads}
-use Rattle.sv_server.specs.Event.{Refuse}
+use Rattle.sv_history.specs.Event.{Refuse}
 use Rattle.sv_replay.specs.Reading.{traffic_at}
 use Rattle.sv_replay.proofs.line.traffic.Goals as goal
 

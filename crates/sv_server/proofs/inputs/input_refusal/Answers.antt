@@ -1,5 +1,5 @@
 use Rattle.std.proofs.Common.{◌≡◌, rules, false, refl}
-use Rattle.sv_server.specs.History.{is_beyond}
+use Rattle.sv_history.specs.History.{is_beyond}
 use Rattle.sv_server.proofs.inputs.input_refusal.Goals as goal
 
 pub returns-in-Ok : goal.returns-in-Ok

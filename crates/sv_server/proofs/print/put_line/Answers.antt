@@ -1,6 +1,6 @@
 use Rattle.std.proofs.Common.{[], ◌∷◌, ◌++◌, sym}
 use Rattle.hex.specs.Hex.{encode_lower}
-use Rattle.sv_server.specs.Print.{port_name}
+use Rattle.sv_history.specs.Print.{port_name}
 use Rattle.sv_server.proofs.Taking.{takes_then, takes_stop, line_is}
 use Rattle.sv_server.proofs.print.put_line.Goals as goal
 

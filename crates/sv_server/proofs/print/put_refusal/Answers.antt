@@ -1,6 +1,6 @@
 use Rattle.std.proofs.Common.{[], ◌∷◌, ◌++◌, decimal}
 use Rattle.std.specs.Prelude.{codes}
-use Rattle.sv_server.specs.Print.{number}
+use Rattle.sv_history.specs.Print.{number}
 use Rattle.sv_server.proofs.Taking.{takes_then, takes_stop}
 use Rattle.sv_server.proofs.print.put_refusal.Goals as goal
 

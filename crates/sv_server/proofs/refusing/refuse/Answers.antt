@@ -1,11 +1,10 @@
 use Rattle.std.proofs.Common.{◌≡◌, false, ◌∷◌, refl, sym, ◌∙◌, subst}
 use Rattle.std.specs.Prelude.{nat_lt, Some}
-use Rattle.sv_rpc.specs.declared.reply.Reply.TheVariants.{Success}
-use Rattle.sv_vxi.specs.Results.{Outcome, result_fields}
-use Rattle.sv_server.specs.Act.{Replied, CallTaken}
-use Rattle.sv_server.specs.Connection.{next_call, free}
-use Rattle.sv_server.specs.Reply.{reply_record}
-use Rattle.sv_server.specs.Refusing.{refusable}
+use Rattle.sv_vxi.specs.Results.{Outcome}
+use Rattle.sv_history.specs.Act.{Replied, CallTaken}
+use Rattle.sv_history.specs.Connection.{next_call, free}
+use Rattle.sv_history.specs.Effect.{result_reply}
+use Rattle.sv_history.specs.Refusing.{refusable}
 use Rattle.sv_server.specs.KeptConnection.{IsConnection}
 use Rattle.sv_server.specs.Inside.Outcome.{plain_core_call}
 use Rattle.sv_server.proofs.Turned.{flipped}
@@ -26,7 +25,7 @@ returns-clause-acts g c = λ acts is.
       next,
       known,
       subst (λ (o : Outcome). IsConnection c.answer.new.self
-          (Replied (reply_record call.xid Success (result_fields o)) ∷ CallTaken bytes ∷ acts))
+          (Replied (result_reply call.xid o) ∷ CallTaken bytes ∷ acts))
           c.failure-result.ensures.result_is
           (c.answer.ensures (CallTaken bytes ∷ acts) (c.take_call.ensures acts bytes is next) refl),
     )

@@ -1,6 +1,6 @@
 use Rattle.std.proofs.Common.{arith, ℕ, ◌+◌}
 use Rattle.sv_serve.specs.Moment.{moment}
-use Rattle.sv_server.specs.declared.event.Port.TheVariants.{Conn}
+use Rattle.sv_history.specs.declared.event.Port.TheVariants.{Conn}
 use Rattle.std.specs.Prelude.{true}
 use Rattle.sv_serve.specs.Asked.{IsOpen}
 use Rattle.sv_serve.proofs.Joined.{up_to}

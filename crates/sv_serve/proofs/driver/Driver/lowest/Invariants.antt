@@ -1,8 +1,8 @@
 use Rattle.std.proofs.Common.{ℕ, ◌<◌, List}
 use Rattle.std.specs.Prelude.{true}
-use Rattle.sv_server.specs.declared.event.Config.{Config}
-use Rattle.sv_server.specs.declared.event.Port.TheVariants.{Conn}
-use Rattle.sv_server.specs.Event.{PlainEvent}
+use Rattle.sv_history.specs.declared.event.Config.{Config}
+use Rattle.sv_history.specs.declared.event.Port.TheVariants.{Conn}
+use Rattle.sv_history.specs.Event.{PlainEvent}
 use Rattle.sv_server.specs.State.{StandsFor}
 use Rattle.sv_serve.specs.Asked.{IsOpen}
 use Rattle.sv_serve.specs.Moment.{moment}

@@ -1,8 +1,8 @@
 use Rattle.std.proofs.Common.{refl, rules, drop, ◌+◌, arith}
 use Rattle.std.proofs.lemmas.Option.{slice_get_read}
 use Rattle.sv_serve.proofs.Joined.{from_here}
-use Rattle.sv_server.specs.Event.{plain}
-use Rattle.sv_server.specs.History.{history_after}
+use Rattle.sv_history.specs.Event.{plain}
+use Rattle.sv_history.specs.History.{history_after}
 use Rattle.sv_serve.proofs.driver.Driver.play_one.Goals as goal
 
 pub returns-clause-goes : goal.returns-clause-goes

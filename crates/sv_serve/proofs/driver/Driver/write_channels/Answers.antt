@@ -1,6 +1,6 @@
 use Rattle.std.proofs.Common.{refl, arith, ℕ, ◌+◌}
 use Rattle.sv_serve.specs.Moment.{moment}
-use Rattle.sv_server.specs.declared.event.Port.TheVariants.{Intr}
+use Rattle.sv_history.specs.declared.event.Port.TheVariants.{Intr}
 use Rattle.sv_serve.specs.Steps.{Writes}
 use Rattle.sv_serve.proofs.Joined.{one_more, as_many}
 use Rattle.sv_serve.proofs.driver.Driver.write_channels.Goals as goal

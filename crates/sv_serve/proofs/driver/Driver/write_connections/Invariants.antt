@@ -1,6 +1,6 @@
 use Rattle.std.proofs.Common.{ℕ}
 use Rattle.sv_serve.specs.Moment.{Goes, Each}
-use Rattle.sv_server.specs.declared.event.Port.TheVariants.{Conn}
+use Rattle.sv_history.specs.declared.event.Port.TheVariants.{Conn}
 use Rattle.sv_serve.specs.Steps.{Writes}
 use Rattle.sv_serve.proofs.driver.Driver.write_connections.Given as goal
 

@@ -1,6 +1,6 @@
 use Rattle.std.proofs.Common.{◌∙◌}
 use Rattle.sv_links.specs.Channels.{ChannelTaken}
-use Rattle.sv_server.proofs.Telling.{has_channel_told}
+use Rattle.sv_history.proofs.Telling.{has_channel_told}
 use Rattle.sv_server.proofs.Channeled.{bench_channel}
 use Rattle.sv_server.proofs.bench.Bench.channel_took.Goals as goal
 

@@ -1,7 +1,7 @@
 use Rattle.std.proofs.Common.{◌∷◌}
 use Rattle.sv_links.specs.Links.{closing}
 use Rattle.sv_links.specs.Waiting.{Left}
-use Rattle.sv_server.specs.Act.{Waited, Linked, link_acts, wait_acts}
+use Rattle.sv_history.specs.Act.{Waited, Linked, link_acts, wait_acts}
 use Rattle.std.specs.Prelude.{map}
 use Rattle.std.proofs.Common.{◌++◌}
 use Rattle.sv_server.proofs.Benches.{bench_left, bench_closed}

@@ -1,5 +1,5 @@
 use Rattle.std.proofs.Common.{sym}
-use Rattle.sv_server.specs.Act.{link_acts}
+use Rattle.sv_history.specs.Act.{link_acts}
 use Rattle.sv_server.proofs.Benches.{bench_destroyed}
 use Rattle.sv_server.proofs.bench.Bench.destroy_link.Goals as goal
 

@@ -1,5 +1,5 @@
 use Rattle.std.proofs.Common.{[], ◌∷◌, sym}
-use Rattle.sv_server.specs.Act.{instrument_acts}
+use Rattle.sv_history.specs.Act.{instrument_acts}
 use Rattle.sv_server.proofs.Raising.{bench_ran}
 use Rattle.sv_layers.specs.Act.{Purged}
 use Rattle.sv_server.proofs.bench.Bench.device_clear.Goals as goal

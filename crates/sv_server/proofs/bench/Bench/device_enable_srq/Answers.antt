@@ -1,5 +1,5 @@
 use Rattle.std.proofs.Common.{◌≡◌, ℕ, true, false, Option, Some, sym, ap, ◌∙◌}
-use Rattle.sv_server.specs.CoreChannel.{owns}
+use Rattle.sv_history.specs.CoreChannel.{owns}
 use Rattle.sv_server.proofs.bench.Bench.device_enable_srq.Goals as goal
 
 pub returns-then-not-owned-clause-ends : goal.returns-then-not-owned-clause-ends

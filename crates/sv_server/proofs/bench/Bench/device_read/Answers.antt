@@ -1,9 +1,9 @@
-use Rattle.std.proofs.Common.{◌∙◌, sym, [], ◌∷◌}
+use Rattle.std.proofs.Common.{sym, [], ◌∷◌}
 use Rattle.sv_errors.specs.declared.code.Code.TheVariants.{QueryUnterminated}
 use Rattle.sv_exchange.specs.Exchange.{TextDropped}
 use Rattle.sv_layers.specs.Act.{Exchanged, Reported}
 use Rattle.sv_server.proofs.Raising.{bench_ran}
-use Rattle.sv_server.specs.Act.{instrument_acts}
+use Rattle.sv_history.specs.Act.{instrument_acts}
 use Rattle.sv_server.proofs.Calls.{unread_ends}
 use Rattle.sv_server.proofs.bench.Bench.device_read.Goals as goal
 
@@ -13,9 +13,8 @@ returns-clause-ends g c = λ config acts old.
     let log = instrument_acts acts in
     let stands = bench_ran _ c.unterminated-raised.new.self _ config acts (Reported QueryUnterminated ∷ Exchanged TextDropped ∷ [])
     c.unterminated-raised.result is (c.unterminated-raised.ensures log is.1) c.raise.ensures.stands in
-    let done = unread_ends config acts _ c.args.most c.args.term (sym (c.if-readable.ensures.answer log is.1))
-    (sym (c.if-not-can_read.ensures.answer log is.1)) stands in
-    (done.0 ∙ sym c.nothing_read-2.ensures.result_is, done.1)
+    unread_ends config acts _ c.args.most c.args.term _ (sym (c.if-readable.ensures.answer log is.1))
+    (sym (c.if-not-can_read.ensures.answer log is.1)) c.nothing_read-2.ensures.result_is stands
 
 pub returns-then-not-can_read-clause-ends : goal.returns-then-not-can_read-clause-ends
 returns-then-not-can_read-clause-ends g c = λ config acts old.

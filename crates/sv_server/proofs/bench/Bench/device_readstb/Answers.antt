@@ -4,7 +4,7 @@ use Rattle.sv_vxi.specs.Results.{Status}
 use Rattle.sv_layers.specs.Act.{Polled}
 use Rattle.sv_layers.specs.StatusByte.{PolledBit}
 use Rattle.sv_layers.proofs.PolledByte.{one_word}
-use Rattle.sv_server.specs.Act.{instrument_acts}
+use Rattle.sv_history.specs.Act.{instrument_acts}
 use Rattle.sv_server.proofs.Raising.{bench_ran}
 use Rattle.sv_server.proofs.bench.Bench.device_readstb.Goals as goal
 

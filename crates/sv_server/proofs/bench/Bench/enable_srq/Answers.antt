@@ -1,6 +1,6 @@
 use Rattle.std.proofs.Common.{◌≤◌, length, sym}
 use Rattle.std.proofs.lemmas.Bool.{le-ltb}
-use Rattle.sv_server.specs.Act.{link_acts}
+use Rattle.sv_history.specs.Act.{link_acts}
 use Rattle.sv_links.specs.Links.{owner}
 use Rattle.sv_server.proofs.Benches.{ready_same}
 use Rattle.sv_server.proofs.Channeled.{bench_disabled, bench_enabled, owner_is}

@@ -1,6 +1,6 @@
 use Rattle.std.proofs.Common.{◌≡◌, None, sym}
 use Rattle.sv_vxi.specs.Reading.{plain_arguments}
-use Rattle.sv_server.specs.Interrupts.{peer_by}
+use Rattle.sv_history.specs.Interrupts.{peer_by}
 use Rattle.sv_server.proofs.bench.Bench.end_dial.Goals as goal
 
 pub returns-in-None-clause-ends : goal.returns-in-None-clause-ends

@@ -1,7 +1,7 @@
 use Rattle.std.proofs.Common.{subst, ℕ}
 use Rattle.std.specs.Prelude.{option_map}
 use Rattle.sv_links.specs.Waiting.{IsExpired, IsOldest}
-use Rattle.sv_server.specs.Act.{wait_acts}
+use Rattle.sv_history.specs.Act.{wait_acts}
 use Rattle.sv_server.proofs.bench.Bench.expired.Goals as goal
 
 pub returns-clause-answer : goal.returns-clause-answer

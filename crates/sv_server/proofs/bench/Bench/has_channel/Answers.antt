@@ -1,5 +1,5 @@
 use Rattle.std.proofs.Common.{◌∙◌}
-use Rattle.sv_server.proofs.Telling.{has_channel_told}
+use Rattle.sv_history.proofs.Telling.{has_channel_told}
 use Rattle.sv_server.proofs.bench.Bench.has_channel.Goals as goal
 
 pub returns : goal.returns

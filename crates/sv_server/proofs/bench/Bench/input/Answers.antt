@@ -1,5 +1,5 @@
 use Rattle.std.proofs.Common.{rules, [], ◌∷◌}
-use Rattle.sv_server.specs.Act.{instrument_acts}
+use Rattle.sv_history.specs.Act.{instrument_acts}
 use Rattle.sv_server.proofs.Raising.{bench_ran}
 use Rattle.sv_scan.specs.declared.acts.ScanAct.TheVariants.{Input}
 use Rattle.sv_layers.specs.Act.{Scanned}

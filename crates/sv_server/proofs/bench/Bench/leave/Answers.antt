@@ -1,7 +1,7 @@
 use Rattle.std.proofs.Common.{◌∷◌}
 use Rattle.sv_vxi.specs.Reading.{plain_arguments}
 use Rattle.sv_links.specs.Waiting.{Left}
-use Rattle.sv_server.specs.Act.{Waited, wait_acts}
+use Rattle.sv_history.specs.Act.{Waited, wait_acts}
 use Rattle.sv_server.proofs.Benches.{bench_left}
 use Rattle.sv_server.proofs.Granted.{granted_left}
 use Rattle.sv_server.proofs.bench.Bench.leave.Goals as goal

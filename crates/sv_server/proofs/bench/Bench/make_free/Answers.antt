@@ -1,4 +1,4 @@
-use Rattle.sv_server.specs.Act.{link_acts}
+use Rattle.sv_history.specs.Act.{link_acts}
 use Rattle.sv_server.proofs.Benches.{lids_there, made_ends, not_refused}
 use Rattle.sv_server.proofs.bench.Bench.make_free.Goals as goal
 

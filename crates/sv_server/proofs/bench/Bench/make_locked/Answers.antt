@@ -1,7 +1,7 @@
 use Rattle.std.proofs.Common.{◌∙◌, ap, ◌∷◌}
 use Rattle.std.specs.Prelude.{not}
 use Rattle.sv_links.specs.Links.{Made, holder}
-use Rattle.sv_server.specs.Act.{link_acts}
+use Rattle.sv_history.specs.Act.{link_acts}
 use Rattle.sv_server.proofs.Granted.{free_lock}
 use Rattle.sv_server.proofs.Benches.{lids_there, locked_ends, not_refused}
 use Rattle.sv_server.proofs.bench.Bench.make_locked.Goals as goal

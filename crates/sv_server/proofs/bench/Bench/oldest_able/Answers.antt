@@ -4,7 +4,7 @@ use Rattle.sv_links.specs.declared.waiting.Entry.{Entry}
 use Rattle.sv_links.specs.Links.{holder}
 use Rattle.sv_links.specs.Waiting.{IsAble, IsOldest}
 use Rattle.sv_exchange.specs.Exchange.{has_ended}
-use Rattle.sv_server.specs.Act.{wait_acts, link_acts, instrument_acts, exchange_acts}
+use Rattle.sv_history.specs.Act.{wait_acts, link_acts, instrument_acts, exchange_acts}
 use Rattle.sv_server.proofs.bench.Bench.oldest_able.Goals as goal
 
 pub returns-clause-answer : goal.returns-clause-answer

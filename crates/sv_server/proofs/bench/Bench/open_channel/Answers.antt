@@ -1,4 +1,4 @@
-use Rattle.sv_server.specs.Act.{wait_acts}
+use Rattle.sv_history.specs.Act.{wait_acts}
 use Rattle.sv_links.specs.Channels.{ChannelOpened}
 use Rattle.sv_server.proofs.Benches.{bench_left}
 use Rattle.sv_server.proofs.Channeled.{bench_opened}

@@ -1,6 +1,6 @@
 use Rattle.std.proofs.Common.{◌+◌, ◌∷◌, ◌≡◌, arith}
 use Rattle.sv_instrument.specs.Happened.{tick_acts}
-use Rattle.sv_server.specs.Act.{Ticked, instrument_acts, ticks}
+use Rattle.sv_history.specs.Act.{Ticked, instrument_acts, ticks}
 use Rattle.sv_server.specs.KeptBench.{Bench}
 use Rattle.sv_server.proofs.Raising.{ran_raised}
 use Rattle.sv_server.proofs.bench.Bench.tick.Goals as goal

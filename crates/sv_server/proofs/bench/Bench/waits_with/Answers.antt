@@ -1,5 +1,5 @@
 use Rattle.std.proofs.Common.{◌∙◌}
-use Rattle.sv_server.specs.Act.{wait_acts}
+use Rattle.sv_history.specs.Act.{wait_acts}
 use Rattle.sv_server.proofs.Granted.{waits_told}
 use Rattle.sv_server.proofs.bench.Bench.waits_with.Goals as goal
 

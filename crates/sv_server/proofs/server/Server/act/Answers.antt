@@ -1,6 +1,6 @@
 use Rattle.std.proofs.Common.{rules, sym, subst}
-use Rattle.sv_server.specs.declared.event.Event.{Event}
-use Rattle.sv_server.specs.Event.{Input, plain}
+use Rattle.sv_history.specs.declared.event.Event.{Event}
+use Rattle.sv_history.specs.Event.{Input, plain}
 use Rattle.sv_server.specs.Inside.Acting.{Acts}
 use Rattle.sv_server.proofs.server.Server.act.Goals as goal
 

@@ -1,9 +1,9 @@
 use Rattle.std.proofs.Common.{rules, sym, subst}
 use Rattle.std.specs.Prelude.{Result, Ok, Err}
-use Rattle.sv_server.specs.declared.event.Did.{Did}
-use Rattle.sv_server.specs.declared.event.Refused.{Refused}
-use Rattle.sv_server.specs.Event.{plain}
-use Rattle.sv_server.specs.History.{Answers}
+use Rattle.sv_history.specs.declared.event.Did.{Did}
+use Rattle.sv_history.specs.declared.event.Refused.{Refused}
+use Rattle.sv_history.specs.Event.{plain}
+use Rattle.sv_history.specs.History.{Answers}
 use Rattle.sv_server.proofs.Standing.{answered, passed_on, stands_after}
 use Rattle.sv_server.proofs.server.Server.apply.Goals as goal
 

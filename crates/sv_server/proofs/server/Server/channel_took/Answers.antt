@@ -1,6 +1,6 @@
 use Rattle.std.proofs.Common.{refl, sym, ◌∷◌, [], arith}
 use Rattle.sv_links.specs.Channels.{ChannelTaken, waiting as channel_bytes}
-use Rattle.sv_server.specs.Act.{Channel, bench}
+use Rattle.sv_history.specs.Act.{Channel, bench}
 use Rattle.sv_server.proofs.Logs.{shared_acts}
 use Rattle.sv_server.proofs.Channels.{channel_shut_is, took_refused, took_allowed}
 use Rattle.sv_server.proofs.server.Server.channel_took.Goals as goal

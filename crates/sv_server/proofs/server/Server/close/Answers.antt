@@ -3,7 +3,7 @@ use Rattle.std.specs.Prelude.{map}
 use Rattle.sv_links.specs.Links.{closing}
 use Rattle.sv_links.specs.Waiting.{Left}
 use Rattle.sv_links.specs.Channels.{ChannelClosed}
-use Rattle.sv_server.specs.Act.{PortClosed, Linked, Waited, Channel, On, Bench, of, bench, link_acts}
+use Rattle.sv_history.specs.Act.{PortClosed, Linked, Waited, Channel, On, Bench, of, bench, link_acts}
 use Rattle.sv_server.proofs.Logs.{connection_of, open_is, shut_is, closes}
 use Rattle.sv_server.proofs.server.Server.close.Goals as goal
 

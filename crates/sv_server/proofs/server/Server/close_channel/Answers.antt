@@ -1,6 +1,6 @@
 use Rattle.std.proofs.Common.{refl, sym, ◌∷◌, [], arith}
 use Rattle.sv_links.specs.Channels.{ChannelClosed}
-use Rattle.sv_server.specs.Act.{Channel, bench}
+use Rattle.sv_history.specs.Act.{Channel, bench}
 use Rattle.sv_server.proofs.Logs.{shared_acts}
 use Rattle.sv_server.proofs.Channels.{channel_shut_is}
 use Rattle.sv_server.proofs.server.Server.close_channel.Goals as goal

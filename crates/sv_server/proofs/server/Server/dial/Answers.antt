@@ -1,7 +1,7 @@
 use Rattle.std.proofs.Common.{◌≡◌, Some, None, sym, ap, ◌∙◌}
-use Rattle.sv_server.specs.Act.{of, bench}
-use Rattle.sv_server.specs.Connection.{unanswered}
-use Rattle.sv_server.specs.Interrupts.{dial_in}
+use Rattle.sv_history.specs.Act.{of, bench}
+use Rattle.sv_history.specs.Connection.{unanswered}
+use Rattle.sv_history.specs.Interrupts.{dial_in}
 use Rattle.sv_server.proofs.Channels.{dial_is, no_dial}
 use Rattle.sv_server.proofs.server.Server.dial.Goals as goal
 

@@ -1,6 +1,6 @@
 use Rattle.std.proofs.Common.{refl, sym, ap, ◌∙◌, arith}
 use Rattle.std.specs.Prelude.{is_some}
-use Rattle.sv_server.specs.Act.{of, bench, wait_acts}
+use Rattle.sv_history.specs.Act.{of, bench, wait_acts}
 use Rattle.sv_server.proofs.Logs.{connection_of, open_is, shut_is}
 use Rattle.sv_server.proofs.Going.{taken_of, gave_up_stands}
 use Rattle.sv_server.proofs.Channels.{dialing_waits}

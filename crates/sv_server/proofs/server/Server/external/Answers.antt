@@ -1,5 +1,5 @@
 use Rattle.std.proofs.Common.{refl}
-use Rattle.sv_server.specs.Act.{bench}
+use Rattle.sv_history.specs.Act.{bench}
 use Rattle.sv_server.proofs.Logs.{shared_acts}
 use Rattle.sv_server.proofs.server.Server.external.Goals as goal
 

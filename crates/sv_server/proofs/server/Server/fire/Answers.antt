@@ -1,5 +1,5 @@
 use Rattle.sv_instrument.specs.Happened.{IsFired}
-use Rattle.sv_server.specs.Act.{bench}
+use Rattle.sv_history.specs.Act.{bench}
 use Rattle.sv_server.proofs.Going.{happens_step}
 use Rattle.sv_server.proofs.server.Server.fire.Goals as goal
 

@@ -1,6 +1,6 @@
 use Rattle.std.proofs.Common.{ap}
 use Rattle.std.specs.Prelude.{is_some}
-use Rattle.sv_server.specs.Act.{of, bench}
+use Rattle.sv_history.specs.Act.{of, bench}
 use Rattle.sv_server.proofs.Logs.{connection_of}
 use Rattle.sv_server.proofs.Going.{taken_of, gave_up_stands}
 use Rattle.sv_server.proofs.server.Server.give_up.Goals as goal

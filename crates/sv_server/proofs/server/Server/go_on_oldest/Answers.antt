@@ -1,5 +1,5 @@
 use Rattle.std.proofs.Common.{refl}
-use Rattle.sv_server.specs.Act.{bench}
+use Rattle.sv_history.specs.Act.{bench}
 use Rattle.sv_server.proofs.Steps.{polled_now}
 use Rattle.sv_server.proofs.server.Server.go_on_oldest.Goals as goal
 

@@ -1,5 +1,5 @@
 use Rattle.std.proofs.Common.{sym, ap, arith, not, ◌∙◌}
-use Rattle.sv_server.specs.Act.{bench}
+use Rattle.sv_history.specs.Act.{bench}
 use Rattle.sv_server.proofs.Logs.{not_not}
 use Rattle.sv_server.proofs.Channels.{channel_shut_is, channel_beyond}
 use Rattle.sv_server.proofs.server.Server.has_channel.Goals as goal

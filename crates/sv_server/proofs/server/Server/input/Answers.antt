@@ -2,8 +2,8 @@ use Rattle.std.proofs.Common.{rules, ◌≡◌, ℤ, w64, to_z, of_z, false, ref
 use Rattle.std.proofs.lemmas.Int.{to_z-of_z}
 use Rattle.sv_scan.specs.declared.acts.ScanAct.TheVariants.{Input}
 use Rattle.sv_layers.specs.Act.{Scanned}
-use Rattle.sv_server.specs.History.{is_beyond}
-use Rattle.sv_server.specs.Act.{Happened, bench}
+use Rattle.sv_history.specs.History.{is_beyond}
+use Rattle.sv_history.specs.Act.{Happened, bench}
 use Rattle.sv_server.specs.KeptBench.{IsBench}
 use Rattle.sv_server.proofs.Logs.{shared_acts}
 use Rattle.std.specs.Prelude.{Err}

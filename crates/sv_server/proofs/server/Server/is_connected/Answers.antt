@@ -1,6 +1,6 @@
 use Rattle.std.proofs.Common.{sym, ap}
 use Rattle.sv_server.proofs.Logs.{open_is, open_known}
-use Rattle.sv_server.specs.Connection.{is_open}
+use Rattle.sv_history.specs.Connection.{is_open}
 use Rattle.sv_server.proofs.server.Server.is_connected.Goals as goal
 
 pub returns-in-Some : goal.returns-in-Some

@@ -1,7 +1,7 @@
 use Rattle.std.proofs.Common.{[], refl, sym}
 use Rattle.std.specs.Prelude.{Ok, Err}
-use Rattle.sv_server.specs.Event.{plain}
-use Rattle.sv_server.specs.Print.{refusal_line}
+use Rattle.sv_history.specs.Event.{plain}
+use Rattle.sv_history.specs.Print.{refusal_line}
 use Rattle.sv_server.proofs.Taking.{appends_none}
 use Rattle.sv_server.specs.declared.replay.ReplayFault.TheVariants.{Write}
 use Rattle.sv_server.proofs.Standing.{passed_on}

@@ -1,5 +1,5 @@
 use Rattle.std.proofs.Common.{sym, arith}
-use Rattle.sv_server.specs.Act.{bench}
+use Rattle.sv_history.specs.Act.{bench}
 use Rattle.sv_server.proofs.Channels.{none_beyond}
 use Rattle.sv_server.proofs.server.Server.sent.Goals as goal
 

@@ -1,4 +1,4 @@
-use Rattle.sv_server.specs.Print.{port_line}
+use Rattle.sv_history.specs.Print.{port_line}
 use Rattle.std.proofs.Common.{List, ℕ, ap}
 use Rattle.sv_server.proofs.Shown.{stands_taken, nothing_shown, show_stopped}
 use Rattle.sv_server.proofs.server.Server.show.Goals as goal

@@ -1,9 +1,9 @@
 use Rattle.std.proofs.Common.{ℕ, List}
 use Rattle.std.specs.Io.KnownBytes.{Appends}
-use Rattle.sv_server.specs.declared.event.Config.{Config}
-use Rattle.sv_server.specs.Event.{PlainEvent}
+use Rattle.sv_history.specs.declared.event.Config.{Config}
+use Rattle.sv_history.specs.Event.{PlainEvent}
 use Rattle.sv_links.specs.Channels.{ChannelAct}
-use Rattle.sv_server.specs.Act.{Act}
+use Rattle.sv_history.specs.Act.{Act}
 use Rattle.sv_server.specs.Inside.Showing.{StandsBy}
 use Rattle.sv_server.proofs.Ports.{SoFar}
 use Rattle.sv_server.proofs.server.Server.show_all.Given as goal

@@ -1,0 +1,5 @@
+pub mod Projections
+pub mod Telling
+pub mod OneStep
+pub mod StillSettled
+mod OneLog

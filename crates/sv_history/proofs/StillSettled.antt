@@ -1,0 +1,100 @@
+-- An act of a connection, or of an interrupt channel, makes no step due.
+use Rattle.std.proofs.Common.{◌≡◌, ℕ, ◌+◌, List, ◌∷◌, ◌++◌, Some, refl, sym, subst, inl, inr}
+use Rattle.std.specs.Prelude.{map}
+use Rattle.sv_links.specs.Waiting.{waits, IsOldest, IsExpired}
+use Rattle.sv_links.specs.Channels.{ChannelAct}
+use Rattle.sv_layers.specs.Act.{Act as InstrumentAct}
+use Rattle.sv_instrument.specs.Happened.{IsFired}
+use Rattle.sv_instrument.specs.Step.{IsStep}
+use Rattle.sv_history.specs.declared.event.Config.{Config}
+use Rattle.sv_history.specs.Act.{Act, ConnAct, BenchAct, Channel, Happened, On, Bench, bench, wait_acts, instrument_acts, ticks}
+use Rattle.sv_history.specs.Polled.{IsPolled}
+use Rattle.sv_history.specs.Settling.{First, Happens, CanGoOn, GoesOn, GivesUp, IsNext, IsSettled}
+use Rattle.sv_history.proofs.OneStep.{went_on, gave_up}
+
+happens_back : (IsSuch : List InstrumentAct → List InstrumentAct → Type 0) (log other new : List Act) → bench other ≡ bench log
+    → Happens IsSuch other new → (there : List Act) × Happens IsSuch log there
+happens_back IsSuch log other new same (adds, such, is) = (
+  map Bench (map Happened adds) ++ log,
+  (adds, subst (λ (acts : List BenchAct). IsSuch (instrument_acts acts) (adds ++ instrument_acts acts)) same such, refl),
+)
+
+goes_back : (config : Config) (log other new : List Act) → bench other ≡ bench log → GoesOn config other new
+    → (there : List Act) × GoesOn config log there
+goes_back config log other new same (c, wait, polled, oldest, for, said, is) = (
+  went_on config log polled c wait,
+  (
+    c,
+    wait,
+    polled,
+    subst (λ (acts : List BenchAct). IsOldest (wait_acts acts) (CanGoOn acts) (Some c)) same oldest,
+    subst (λ (acts : List BenchAct). waits c (wait_acts acts) ≡ Some wait) same for,
+    subst (λ (acts : List BenchAct). IsPolled polled acts) same said,
+    refl,
+  ),
+)
+
+gives_back : (config : Config) (log other new : List Act) → bench other ≡ bench log → GivesUp config other new
+    → (there : List Act) × GivesUp config log there
+gives_back config log other new same (c, wait, oldest, for, is) = (
+  gave_up log c wait,
+  (
+    c,
+    wait,
+    subst (λ (acts : List BenchAct). IsOldest (wait_acts acts) (IsExpired (config.clock + ticks acts) (wait_acts acts)) (Some c))
+        same oldest,
+    subst (λ (acts : List BenchAct). waits c (wait_acts acts) ≡ Some wait) same for,
+    refl,
+  ),
+)
+
+-- of two kinds of steps that are there where they are there of another log
+abbrev Back : (List Act → Type 0) → (List Act → Type 0) → Type 0
+Back Here There = (new : List Act) → Here new → (there : List Act) × There there
+
+first_back : (A B C D : List Act → Type 0) → Back A C → Back C A → Back B D → Back (First A B) (First C D)
+first_back A B C D to from on new (inl a) = ((to new a).0, inl (to new a).1)
+first_back A B C D to from on new (inr b) =
+    ((on new b.1).0, inr ((λ one c. b.0 (from one c).0 (from one c).1), (on new b.1).1))
+
+next_back : (config : Config) (log other : List Act) → bench other ≡ bench log → Back (IsNext config other) (IsNext config log)
+next_back config log other same = first_back _ _ _ _ (λ new. happens_back IsFired log other new same)
+    (λ new. happens_back IsFired other log new (sym same))
+    (first_back _ _ _ _ (λ new. goes_back config log other new same) (λ new. goes_back config other log new (sym same))
+    (first_back _ _ _ _ (λ new. happens_back IsStep log other new same) (λ new. happens_back IsStep other log new (sym same))
+    (λ new. gives_back config log other new same)))
+
+pub still_settled : (c : ℕ) (act : ConnAct) (config : Config) (log : List Act) → IsSettled config log → IsSettled config (On c act ∷ log)
+still_settled c act config log none = λ new next.
+    let there = next_back config log (On c act ∷ log) refl new next in none there.0 there.1
+
+-- nor does an act of an interrupt channel
+channel_happens : (act : ChannelAct) (IsSuch : List InstrumentAct → List InstrumentAct → Type 0) (log new : List Act)
+    → Happens IsSuch (Bench (Channel act) ∷ log) new → (there : List Act) × Happens IsSuch log there
+channel_happens act IsSuch log new (adds, such, is) = (map Bench (map Happened adds) ++ log, (adds, such, refl))
+
+happens_channel : (act : ChannelAct) (IsSuch : List InstrumentAct → List InstrumentAct → Type 0) (log new : List Act)
+    → Happens IsSuch log new → (there : List Act) × Happens IsSuch (Bench (Channel act) ∷ log) there
+happens_channel act IsSuch log new (adds, such, is) = (map Bench (map Happened adds) ++ Bench (Channel act) ∷ log, (adds, such, refl))
+
+channel_goes : (act : ChannelAct) (config : Config) (log new : List Act) → GoesOn config (Bench (Channel act) ∷ log) new
+    → (there : List Act) × GoesOn config log there
+channel_goes act config log new (c, wait, polled, oldest, for, said, is) =
+    (went_on config log polled c wait, (c, wait, polled, oldest, for, said, refl))
+
+goes_channel : (act : ChannelAct) (config : Config) (log new : List Act) → GoesOn config log new
+    → (there : List Act) × GoesOn config (Bench (Channel act) ∷ log) there
+goes_channel act config log new (c, wait, polled, oldest, for, said, is) =
+    (went_on config (Bench (Channel act) ∷ log) polled c wait, (c, wait, polled, oldest, for, said, refl))
+
+channel_gives : (act : ChannelAct) (config : Config) (log new : List Act) → GivesUp config (Bench (Channel act) ∷ log) new
+    → (there : List Act) × GivesUp config log there
+channel_gives act config log new (c, wait, oldest, for, is) = (gave_up log c wait, (c, wait, oldest, for, refl))
+
+pub channel_settled : (act : ChannelAct) (config : Config) (log : List Act) → IsSettled config log
+    → IsSettled config (Bench (Channel act) ∷ log)
+channel_settled act config log none = λ new next.
+    let there = first_back _ _ _ _ (λ new. channel_happens act IsFired log new) (λ new. happens_channel act IsFired log new)
+    (first_back _ _ _ _ (λ new. channel_goes act config log new) (λ new. goes_channel act config log new)
+    (first_back _ _ _ _ (λ new. channel_happens act IsStep log new) (λ new. happens_channel act IsStep log new)
+    (λ new. channel_gives act config log new))) new next in none there.0 there.1

@@ -1,0 +1,19 @@
+-- What the server answers when it is asked, recomputed from a history alone.
+use Rattle.std.specs.Prelude.{◌≡◌, ℕ, List}
+use Rattle.sv_links.specs.Channels.{ChannelAct}
+use Rattle.sv_history.specs.declared.event.Config.{Config}
+use Rattle.sv_history.specs.declared.event.Port.{Port}
+use Rattle.sv_history.specs.Event.{PlainEvent}
+use Rattle.sv_history.specs.Act.{Act, bench}
+use Rattle.sv_history.specs.Connection.{waiting_on}
+use Rattle.sv_history.specs.Requests.{Tells}
+use Rattle.sv_history.specs.History.{IsLogOf}
+
+-- These are the bytes that wait on a port, by the history's log and what it tells to interrupt channels.
+abbrev pub WaitOn : Port → Config → List PlainEvent → List ℕ → Type 0
+WaitOn port config history bytes = (log : List Act) × (told : List ChannelAct) × IsLogOf config history log × Tells (bench log) told
+    × (bytes ≡ waiting_on told port log)
+
+-- The result is this function of the history's log.
+abbrev pub Answered : {A : Type 0} → (List Act → A) → Config → List PlainEvent → A → Type 0
+Answered answer config history result = (log : List Act) × IsLogOf config history log × (result ≡ answer log)

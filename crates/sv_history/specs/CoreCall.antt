@@ -1,0 +1,34 @@
+-- The calls of the core channel (VXI-11 revision 1.0, section B.6), as their arguments say them.
+use Rattle.std.specs.Prelude.{ℕ, ℤ, pos, negsuc, Bool, false, List, [], length, Option, Some, None, nat_lt}
+use Rattle.sv_vxi.specs.declared.error_code.ErrorCode.{ErrorCode}
+use Rattle.sv_vxi.specs.Arguments.{Arguments, CreateLink, DeviceWrite, DeviceRead, DeviceReadstb, DeviceDocmd}
+use Rattle.sv_vxi.specs.Results.{Outcome, Link, Size, Read, Status, Plain, Data}
+
+-- a call of the core channel: its transaction and its arguments
+pub record CoreCall : Type 0 where
+  pub xid : ℕ
+  pub arguments : Arguments
+
+-- the number of the link that is named; none has a negative one
+abbrev pub lid_of : Option ℤ → Option ℕ
+lid_of (Some (pos lid)) = Some lid
+lid_of (Some (negsuc n)) = None
+lid_of None = None
+
+-- whether a write brings more than 4,096 bytes
+abbrev pub is_too_long : Arguments → Bool
+is_too_long (DeviceWrite lid io_timeout lock_timeout flags bytes) = nat_lt 4096 (length bytes)
+is_too_long _ = false
+
+-- the result of a read that gives nothing
+abbrev pub no_bytes : ErrorCode → Outcome
+no_bytes error = Read error (record { request_count = false; character = false; end = false }) []
+
+-- the result of a call that fails, in the shape of that call's; its other fields are 0 or empty
+abbrev pub failure : Arguments → ErrorCode → Outcome
+failure (CreateLink client_id lock_device lock_timeout device) error = Link error (pos 0) 0 0
+failure (DeviceWrite lid io_timeout lock_timeout flags bytes) error = Size error 0
+failure (DeviceRead lid request_size io_timeout lock_timeout flags term_char) error = no_bytes error
+failure (DeviceReadstb parms) error = Status error 0
+failure (DeviceDocmd lid flags io_timeout lock_timeout cmd network_order datasize bytes) error = Data error []
+failure _ error = Plain error

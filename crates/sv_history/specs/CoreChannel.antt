@@ -1,0 +1,98 @@
+-- What each call of the core channel does, once it needn't wait (VXI-11 revision 1.0, section B.6). What it waits for stands in front
+-- (Admission); a write or a read for which that isn't there finds nothing in time.
+use Rattle.std.specs.Prelude.{ℕ, ◌+◌, ◌%◌, ◌==◌, not, ℤ, pos, Bool, false, List, [], ◌∷◌, ◌++◌, length, map, take, Option, Some, None, nat_lt, if◌then◌else◌}
+use Rattle.std.specs.Int.{bit_at}
+use Rattle.sv_errors.specs.declared.code.Code.TheVariants.{QueryUnterminated}
+use Rattle.sv_vxi.specs.declared.error_code.ErrorCode.TheVariants.{NoError, InvalidLink, ParameterError, NotSupported, OutOfResources, NoLock, IoTimeout}
+use Rattle.sv_vxi.specs.declared.error_code.ErrorCode.TheVariants.{Locked as DeviceLocked}
+use Rattle.sv_vxi.specs.Arguments.{Arguments, CreateLink, DeviceWrite, DeviceRead, DeviceReadstb, DeviceTrigger, DeviceClear, DeviceRemote, DeviceLocal, DeviceLock, DeviceUnlock, DeviceEnableSrq, DestroyLink, DestroyIntrChan}
+use Rattle.sv_vxi.specs.Results.{Outcome, Link, Size, Read, Status, Plain}
+use Rattle.sv_links.specs.Links.{Made, Destroyed, Locked, Unlocked, owner, is_of, made, lids_left, holder, is_locked_out, is_this}
+use Rattle.sv_exchange.specs.Exchange.{Accepted, TextDropped, ResponseRead, has_ended, response, is_something}
+use Rattle.sv_exchange.specs.Read.{read_count, ends_at_term}
+use Rattle.sv_history.specs.declared.event.Config.{Config}
+use Rattle.sv_layers.specs.Act.{Exchanged, Reported, Purged, Polled}
+use Rattle.sv_instrument.specs.Step.{is_answerable}
+use Rattle.sv_instrument.specs.Happened.{trigger_acts}
+use Rattle.sv_history.specs.Act.{BenchAct, Linked, Happened, link_acts, instrument_acts, exchange_acts}
+use Rattle.sv_history.specs.CallOutcome.{CallOutcome, answered, only}
+use Rattle.sv_history.specs.CoreCall.{lid_of, no_bytes, failure}
+use Rattle.sv_history.specs.Interrupts.{device_enable_srq, destroy_channel}
+
+-- whether a link is one of this connection: it lives, and this one made it
+abbrev pub owns : ℕ → Option ℕ → List BenchAct → Bool
+owns c (Some lid) acts = is_of c (owner lid (link_acts acts))
+owns c None acts = false
+
+-- a link is made, with the lock where it asks for it, while there are numbers
+abbrev pub make_link : Config → ℕ → Bool → List BenchAct → CallOutcome
+make_link config c lock_device acts =
+    if not (lids_left (link_acts acts)) then only (Link OutOfResources (pos 0) 0 0)
+    else (let lid = made (link_acts acts) + 1 in
+    answered ((if lock_device then Linked (Locked lid) ∷ [] else []) ++ Linked (Made lid c) ∷ [])
+    (Link NoError (pos lid) config.abort 4096))
+
+-- a link is destroyed
+abbrev pub destroy_link : Option ℕ → CallOutcome
+destroy_link (Some lid) = answered (Linked (Destroyed lid) ∷ []) (Plain NoError)
+destroy_link None = only (Plain InvalidLink)
+
+-- a link gets the lock, also where it has it, unless another has it
+abbrev pub device_lock : Option ℕ → List BenchAct → CallOutcome
+device_lock (Some lid) acts = if is_locked_out (holder (link_acts acts)) (Some lid) then only (Plain DeviceLocked)
+    else answered (Linked (Locked lid) ∷ []) (Plain NoError)
+device_lock None acts = only (Plain InvalidLink)
+
+-- the lock is free, where this link had it
+abbrev pub device_unlock : Option ℕ → List BenchAct → CallOutcome
+device_unlock (Some lid) acts = if is_this lid (holder (link_acts acts)) then answered (Linked (Unlocked lid) ∷ []) (Plain NoError)
+    else only (Plain NoLock)
+device_unlock None acts = only (Plain InvalidLink)
+
+-- the bytes of a write are accepted where no message waits to be executed
+abbrev pub device_write : ℕ → List ℕ → List BenchAct → CallOutcome
+device_write flags bytes acts =
+    if nat_lt 4096 (length bytes) then only (Size ParameterError 0)
+    else (if has_ended (exchange_acts acts) then only (Size IoTimeout 0)
+    else answered (Happened (Exchanged (Accepted bytes (bit_at flags 3 == 1))) ∷ []) (Size NoError (length bytes)))
+
+-- the termination character, where the flag for it is set: the low eight bits
+abbrev pub term_of : ℕ → ℕ → Option ℕ
+term_of flags term_char = if bit_at flags 7 == 1 then Some (term_char % 256) else None
+
+-- what a read gives of a response, and why it ends there
+abbrev pub read_of : List ℕ → ℕ → Option ℕ → Outcome
+read_of bytes most term =
+    let count = read_count bytes most term in
+    Read NoError (record { request_count = count == most; character = ends_at_term bytes count term; end = count == length bytes })
+    (take count bytes)
+
+abbrev pub reads : List ℕ → ℕ → Option ℕ → CallOutcome
+reads bytes most term = answered (Happened (Exchanged (ResponseRead (read_count bytes most term))) ∷ []) (read_of bytes most term)
+
+-- a read gives what stands of the response; without one, where none can come, the unfinished text is dropped, and that is reported
+abbrev pub device_read : ℕ → Option ℕ → List BenchAct → CallOutcome
+device_read most term acts =
+    if is_something (response (exchange_acts acts)) then reads (response (exchange_acts acts)) most term
+    else (if not (is_answerable (instrument_acts acts)) then only (no_bytes IoTimeout)
+    else answered (Happened (Reported QueryUnterminated) ∷ Happened (Exchanged TextDropped) ∷ []) (no_bytes IoTimeout))
+
+-- A call by what it is, once it needn't wait, where a poll of the status byte would give this. device_docmd isn't supported; nor, here, are
+-- device_abort, which is none of this channel, and create_intr_chan, which waits until its peer was called (Interrupts).
+abbrev pub own_call : Config → ℕ → ℕ → Arguments → List BenchAct → CallOutcome
+own_call config polled c (CreateLink client_id lock_device lock_timeout device) acts = make_link config c lock_device acts
+own_call config polled c (DeviceWrite lid io_timeout lock_timeout flags bytes) acts = device_write flags bytes acts
+own_call config polled c (DeviceRead lid request_size io_timeout lock_timeout flags term_char) acts =
+    device_read request_size (term_of flags term_char) acts
+own_call config polled c (DeviceReadstb parms) acts = answered (Happened Polled ∷ []) (Status NoError polled)
+own_call config polled c (DeviceTrigger parms) acts = answered (map Happened (trigger_acts (instrument_acts acts))) (Plain NoError)
+own_call config polled c (DeviceClear parms) acts = answered (Happened Purged ∷ []) (Plain NoError)
+own_call config polled c (DeviceRemote parms) acts = only (Plain NoError)
+own_call config polled c (DeviceLocal parms) acts = only (Plain NoError)
+own_call config polled c (DeviceLock lid flags lock_timeout) acts = device_lock (lid_of (Some lid)) acts
+own_call config polled c (DeviceUnlock lid) acts = device_unlock (lid_of (Some lid)) acts
+own_call config polled c (DeviceEnableSrq lid enable handle) acts =
+    device_enable_srq c (owns c (lid_of (Some lid)) acts) enable (lid_of (Some lid)) handle
+own_call config polled c (DestroyLink lid) acts = destroy_link (lid_of (Some lid))
+own_call config polled c DestroyIntrChan acts = destroy_channel c acts
+own_call config polled c arguments acts = only (failure arguments NotSupported)

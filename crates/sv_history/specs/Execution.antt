@@ -1,0 +1,37 @@
+-- What a record that was taken does.
+use Rattle.std.specs.Prelude.{ℕ, List, [], ◌∷◌, Option, Some, None, Result, Ok, Err}
+use Rattle.sv_xdr.specs.declared.garbage.Garbage.{Garbage}
+use Rattle.sv_xdr.specs.Spelling.{Unsigned}
+use Rattle.sv_rpc.specs.declared.reply.Reply.TheVariants.{Success, GarbageArgs}
+use Rattle.sv_rpc.specs.declared.ports.Ports.{Ports}
+use Rattle.sv_rpc.specs.Ports.{port_at}
+use Rattle.sv_history.specs.declared.event.Config.{Config}
+use Rattle.sv_history.specs.Act.{BenchAct, Faulted}
+use Rattle.sv_history.specs.Reply.{reply_record}
+use Rattle.sv_history.specs.Effect.{Effect, result_reply, call_effect, replied}
+use Rattle.sv_history.specs.Request.{Request, NoCall, Decided, CoreRequest, AbortRequest, PortRequest}
+use Rattle.sv_history.specs.CoreCall.{lid_of}
+use Rattle.sv_history.specs.Admission.{stop_of, begun}
+use Rattle.sv_history.specs.AbortChannel.{aborted, abort_result}
+
+-- what the port mapper tells (RFC 1833, section 3): the ports of the configuration
+abbrev pub ports_of : Config → Ports
+ports_of config = record { core = config.core; abort = config.abort }
+
+abbrev pub port_reply : ℕ → Result ℕ Garbage → List ℕ
+port_reply xid (Ok port) = reply_record xid Success (Unsigned port ∷ [])
+port_reply xid (Err garbage) = reply_record xid GarbageArgs []
+
+-- What a request does, where a poll of the status byte would give this. A record that is no call faults its connection.
+abbrev pub request_effect : Config → ℕ → ℕ → Request → List BenchAct → Effect
+request_effect config polled c NoCall acts = record { own = Faulted ∷ []; adds = [] }
+request_effect config polled c (Decided xid reply) acts = replied (reply_record xid reply [])
+request_effect config polled c (CoreRequest call) acts =
+    call_effect call.xid (begun config polled c call.arguments (stop_of c call.arguments acts) acts)
+request_effect config polled c (AbortRequest xid lid) acts = replied (result_reply xid (abort_result (lid_of (Some lid)) acts))
+request_effect config polled c (PortRequest xid args) acts = replied (port_reply xid (port_at (ports_of config) args))
+
+-- the connection whose suspended call it ends beside
+abbrev pub aborts : Request → List BenchAct → Option ℕ
+aborts (AbortRequest xid lid) acts = aborted (lid_of (Some lid)) acts
+aborts _ acts = None

@@ -1,0 +1,159 @@
+-- The log of a history, and what the history refuses. Histories are lists of events that weren't refused, the newest first.
+use Rattle.std.specs.Prelude.{◌≡◌, ℕ, ◌+◌, ◌||◌, ◌==◌, not, ℤ, pos, negsuc, Bool, true, List, [], ◌∷◌, ◌++◌, length, map, Option, Some, None, is_none, Result, Ok, Err, nat_lt, if◌then◌else◌}
+use Rattle.sv_errors.specs.Limits.{is_channel, most_microvolts}
+use Rattle.sv_vxi.specs.declared.error_code.ErrorCode.TheVariants.{Abort}
+use Rattle.sv_links.specs.Links.{closing, made}
+use Rattle.sv_links.specs.Waiting.{Left, creating}
+use Rattle.sv_links.specs.Channels.{ChannelAct, ChannelClosed, ChannelTaken, waiting as channel_waiting}
+use Rattle.sv_scan.specs.declared.acts.ScanAct.TheVariants.{Input as InputTo}
+use Rattle.sv_layers.specs.Act.{Scanned}
+use Rattle.sv_instrument.specs.Happened.{external_acts, tick_acts}
+use Rattle.sv_history.specs.declared.event.Role.{Role}
+use Rattle.sv_history.specs.declared.event.Port.{Port}
+use Rattle.sv_history.specs.declared.event.Port.TheVariants.{Conn, Intr}
+use Rattle.sv_history.specs.declared.event.Config.{Config}
+use Rattle.sv_history.specs.declared.event.Did.{Did}
+use Rattle.sv_history.specs.declared.event.Did.TheVariants.{Done, Idle}
+use Rattle.sv_history.specs.declared.event.Refused.{Refused}
+use Rattle.sv_history.specs.declared.event.Refused.TheVariants.{NoMemory, ConnInUse, NoConn, NoRoom, NotSent, NoDial, NotRefusable, BadChannel, BadInput, TimeOver}
+use Rattle.sv_history.specs.Event.{IsEvent, IsConfig, PlainEvent, Open, Bytes, Turn, Refuse, Took, Close, Dialed, Input, External, Tick}
+use Rattle.sv_history.specs.Act.{Act, ConnAct, BenchAct, Opened, Piece, CallTaken, Replied, BytesTaken, PortClosed, Linked, Waited, Channel, Happened, Ticked, On, Bench, of, bench, link_acts, wait_acts, instrument_acts, ticks}
+use Rattle.sv_history.specs.Connection.{is_open, unanswered, waiting, next_call, is_idle, room, free}
+use Rattle.sv_history.specs.CoreCall.{CoreCall}
+use Rattle.sv_history.specs.Request.{Request, core_call_in, next_request}
+use Rattle.sv_history.specs.Requests.{Tells}
+use Rattle.sv_history.specs.Interrupts.{has_channel, is_dialing, dialing}
+use Rattle.sv_history.specs.Refusing.{refusable, refused_reply}
+use Rattle.sv_history.specs.Effect.{Effect, acts_of}
+use Rattle.sv_history.specs.Execution.{request_effect, aborts}
+use Rattle.sv_history.specs.Resuming.{failed, connected}
+use Rattle.sv_history.specs.Polled.{IsPolled}
+use Rattle.sv_history.specs.Settling.{Settles}
+
+-- the acts of a suspended call of this connection that another one's call ends
+abbrev pub abort_acts : Option ℕ → List Act → List Act
+abort_acts (Some c) log = acts_of c (failed Abort c (core_call_in (unanswered (of c log))))
+abort_acts None log = []
+
+-- the acts of a record that was taken
+abbrev pub taken_acts : ℕ → List ℕ → Effect → Option ℕ → List Act → List Act
+taken_acts c bytes effect aborts log =
+    let acts = acts_of c effect ++ On c (CallTaken bytes) ∷ [] in abort_acts aborts (acts ++ log) ++ acts
+
+-- the acts of a Turn: those of what the connection's next call asks for, where there is one to take
+abbrev pub turn_acts : Config → ℕ → ℕ → Option (List ℕ) → Option Request → List Act → List Act
+turn_acts config polled c (Some bytes) (Some request) log =
+    taken_acts c bytes (request_effect config polled c request (bench log)) (aborts request (bench log)) log
+turn_acts config polled c _ _ log = []
+
+-- the acts of a Refuse: the call is taken, and answered at once
+abbrev pub refuse_acts : ℕ → Option (List ℕ) → Option CoreCall → List Act
+refuse_acts c (Some bytes) (Some call) = On c (Replied (refused_reply call)) ∷ On c (CallTaken bytes) ∷ []
+refuse_acts c _ _ = []
+
+-- The acts that an event adds to the log by itself, where a poll of the status byte would give this. Closing a connection
+-- ends the wait of its call, destroys its links, by rising number, and closes its interrupt channel.
+abbrev pub own_acts : Config → ℕ → PlainEvent → List Act → List Act
+own_acts config polled (Open c role) log = On c (Opened role) ∷ []
+own_acts config polled (Bytes c piece) log = On c (Piece piece) ∷ []
+own_acts config polled (Turn c) log = turn_acts config polled c (next_call (of c log)) (next_request (of c log)) log
+own_acts config polled (Refuse c) log = refuse_acts c (next_call (of c log)) (refusable (of c log))
+own_acts config polled (Took (Conn c) count) log = On c (BytesTaken count) ∷ []
+own_acts config polled (Took (Intr c) count) log = Bench (Channel (ChannelTaken c count)) ∷ []
+own_acts config polled (Close (Conn c)) log =
+    map Bench (Channel (ChannelClosed c) ∷ map Linked (closing c (link_acts (bench log))) ++ Waited (Left c) ∷ []) ++ On c PortClosed ∷ []
+own_acts config polled (Close (Intr c)) log = Bench (Channel (ChannelClosed c)) ∷ []
+own_acts config polled (Dialed c ok) log = acts_of c (connected c ok (core_call_in (unanswered (of c log))))
+own_acts config polled (Input channel microvolts) log = Bench (Happened (Scanned (InputTo channel microvolts))) ∷ []
+own_acts config polled External log = map Bench (map Happened (external_acts (instrument_acts (bench log))))
+own_acts config polled Tick log = map Bench (map Happened (tick_acts (instrument_acts (bench log)))) ++ Bench Ticked ∷ []
+
+-- whether a number isn't that of an open connection
+abbrev pub is_shut : ℕ → List Act → Bool
+is_shut c log = nat_lt 15 c || not (is_open (of c log))
+
+-- whether the interrupt channel of this number isn't open
+abbrev pub is_channel_shut : ℕ → List Act → Bool
+is_channel_shut c log = nat_lt 15 c || not (has_channel c (bench log))
+
+-- and of either
+abbrev pub is_port_shut : Port → List Act → Bool
+is_port_shut (Conn c) log = is_shut c log
+is_port_shut (Intr c) log = is_channel_shut c log
+
+-- whether a voltage is beyond 1,000 V in either direction
+abbrev pub is_beyond : ℤ → Bool
+is_beyond (pos n) = nat_lt most_microvolts n
+is_beyond (negsuc n) = nat_lt most_microvolts (n + 1)
+
+-- why a voltage can't be at an input
+abbrev pub input_refusal : ℕ → ℤ → Option Refused
+input_refusal channel microvolts =
+    if not (is_channel channel) then Some BadChannel else (if is_beyond microvolts then Some BadInput else None)
+
+abbrev pub last_clock : ℕ
+last_clock = 9223372036854775807
+
+-- why a Turn of an open connection is refused: only one that isn't idle wants room for the longest reply
+abbrev pub turn_refusal : List ConnAct → Option Refused
+turn_refusal acts = if is_idle acts then None else (if nat_lt (free acts) 8232 then Some NoRoom else None)
+
+-- why a Refuse of an open connection is
+abbrev pub refuse_refusal : List ConnAct → Option Refused
+refuse_refusal acts = if is_none (refusable acts) then Some NotRefusable else (if nat_lt (free acts) 8232 then Some NoRoom else None)
+
+-- why so many bytes can't have been taken, of those that wait
+abbrev pub took_refusal : ℕ → List ℕ → Option Refused
+took_refusal count bytes = if nat_lt (length bytes) count then Some NotSent else None
+
+abbrev pub unless_shut : ℕ → List Act → Option Refused → Option Refused
+unless_shut c log other = if is_shut c log then Some NoConn else other
+
+-- What refuses an event, where this was told to interrupt channels: the first, in the order of checks, that holds. Want of memory isn't
+-- among them.
+abbrev pub refusal : Config → List ChannelAct → PlainEvent → List Act → Option Refused
+refusal config told (Open c role) log = if nat_lt 15 c then Some NoConn else (if is_open (of c log) then Some ConnInUse else None)
+refusal config told (Bytes c piece) log = unless_shut c log (if nat_lt (room (of c log)) (length piece) then Some NoRoom else None)
+refusal config told (Turn c) log = unless_shut c log (turn_refusal (of c log))
+refusal config told (Refuse c) log = unless_shut c log (refuse_refusal (of c log))
+refusal config told (Took (Conn c) count) log = unless_shut c log (took_refusal count (waiting (of c log)))
+refusal config told (Took (Intr c) count) log =
+    if is_channel_shut c log then Some NoConn else took_refusal count (channel_waiting c told)
+refusal config told (Close (Conn c)) log = unless_shut c log None
+refusal config told (Close (Intr c)) log = if is_channel_shut c log then Some NoConn else None
+refusal config told (Dialed c ok) log = unless_shut c log (if is_dialing c (wait_acts (bench log)) then None else Some NoDial)
+refusal config told (Input channel microvolts) log = input_refusal channel microvolts
+refusal config told External log = None
+refusal config told Tick log = if config.clock + ticks (bench log) == last_clock then Some TimeOver else None
+
+-- The log of a history: each event's own acts, and then the steps that are due. Each number of a history lies in its range.
+abbrev pub IsLogOf : Config → List PlainEvent → List Act → Type 0
+IsLogOf config [] log = IsConfig config × (log ≡ [])
+IsLogOf config (event ∷ history) log = (before : List Act) × (polled : ℕ) × (told : List ChannelAct) × IsEvent event
+    × IsLogOf config history before × Tells (bench before) told × (refusal config told event before ≡ None) × IsPolled polled (bench before)
+    × Settles config (own_acts config polled event before ++ before) log
+
+-- what an event that wasn't refused does: a Turn that finds no call to take is idle
+abbrev pub did : PlainEvent → List Act → Did
+did (Turn c) log = if is_idle (of c log) then Idle else Done
+did _ log = Done
+
+-- whether acts make a link, or let a create_link or a create_intr_chan wait: what alone wants memory
+abbrev pub wants_memory : List BenchAct → Bool
+wants_memory acts = nat_lt 0 (made (link_acts acts)) || (nat_lt 0 (creating (wait_acts acts)) || nat_lt 0 (dialing (wait_acts acts)))
+
+-- What a call of the server answers: what the event does, or what refuses it. Memory may be wanting only for an event that nothing else
+-- refuses, and that makes a link, or lets a create_link or a create_intr_chan wait.
+abbrev pub AnswersBy : Config → List ChannelAct → PlainEvent → List Act → Result Did Refused → Type 0
+AnswersBy config told event log (Ok what) = (refusal config told event log ≡ None) × (what ≡ did event log)
+AnswersBy config told event log (Err NoMemory) = (refusal config told event log ≡ None) × (polled : ℕ) × IsPolled polled (bench log)
+    × (wants_memory (bench (own_acts config polled event log)) ≡ true)
+AnswersBy config told event log (Err refused) = refusal config told event log ≡ Some refused
+
+abbrev pub Answers : Config → PlainEvent → List Act → Result Did Refused → Type 0
+Answers config event log result = (told : List ChannelAct) × Tells (bench log) told × AnswersBy config told event log result
+
+-- the history with the event, unless it was refused
+abbrev pub history_after : PlainEvent → Result Did Refused → List PlainEvent → List PlainEvent
+history_after event (Ok what) history = event ∷ history
+history_after event (Err refused) history = history

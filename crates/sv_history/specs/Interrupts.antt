@@ -1,0 +1,90 @@
+-- Calls for interrupt channels (VXI-11 revision 1.0, section B.6: device_enable_srq, create_intr_chan, destroy_intr_chan).
+use Rattle.std.specs.Prelude.{ℕ, ◌/◌, ◌==◌, not, ◌&&◌, Bool, true, false, List, [], ◌∷◌, length, filter, Option, Some, None, nat_lt, if◌then◌else◌}
+use Rattle.sv_vxi.specs.declared.error_code.ErrorCode.{ErrorCode}
+use Rattle.sv_vxi.specs.declared.error_code.ErrorCode.TheVariants.{NoError, InvalidLink, ParameterError, NotEstablished, NotSupported, InvalidAddress, AlreadyEstablished}
+use Rattle.sv_vxi.specs.Arguments.{Arguments, CreateIntrChan, max_handle}
+use Rattle.sv_vxi.specs.Results.{Plain}
+use Rattle.sv_links.specs.declared.request.Peer.{Peer}
+use Rattle.sv_links.specs.declared.waiting.Wait.{Wait}
+use Rattle.sv_links.specs.declared.waiting.Wait.TheVariants.{Dial as Dialing}
+use Rattle.sv_links.specs.Waiting.{WaitAct, waits, connections}
+use Rattle.sv_links.specs.Channels.{SrqEnabled, SrqDisabled, ChannelOpened, ChannelClosed, is_channel_open}
+use Rattle.sv_history.specs.declared.event.Dial.{Dial}
+use Rattle.sv_history.specs.Act.{Act, BenchAct, Channel, of, bench, wait_acts, channel_acts}
+use Rattle.sv_history.specs.Connection.{unanswered}
+use Rattle.sv_history.specs.CallOutcome.{CallOutcome, answered, only}
+use Rattle.sv_history.specs.CoreCall.{CoreCall, failure}
+use Rattle.sv_history.specs.Request.{core_call_in}
+
+-- whether the interrupt channel of a connection is open
+abbrev pub has_channel : ℕ → List BenchAct → Bool
+has_channel c acts = is_channel_open c (channel_acts acts)
+
+-- a link asks for service requests, with a handle of at most 40 bytes, or asks no more
+abbrev pub enable_srq : ℕ → Bool → ℕ → List ℕ → CallOutcome
+enable_srq c true lid handle = if nat_lt max_handle (length handle) then only (Plain ParameterError)
+    else answered (Channel (SrqEnabled lid c handle) ∷ []) (Plain NoError)
+enable_srq c false lid handle = answered (Channel (SrqDisabled lid) ∷ []) (Plain NoError)
+
+-- one of the connection
+abbrev pub device_enable_srq : ℕ → Bool → Bool → Option ℕ → List ℕ → CallOutcome
+device_enable_srq c owned enable (Some lid) handle = if owned then enable_srq c enable lid handle else only (Plain InvalidLink)
+device_enable_srq c owned enable None handle = only (Plain InvalidLink)
+
+-- why no channel can be opened: one is open, it isn't over TCP (0), or the address isn't in 127.0.0.0/8, or the port none of 1 to 65535
+abbrev pub is_peer : ℕ → ℕ → Bool
+is_peer host_addr host_port = (host_addr / 16777216 == 127) && nat_lt 0 host_port && nat_lt host_port 65536
+
+abbrev pub channel_fault : Bool → ℕ → ℕ → ℕ → Option ErrorCode
+channel_fault there host_addr host_port prog_family =
+    if there then Some AlreadyEstablished
+    else (if not (prog_family == 0) then Some NotSupported
+    else (if not (is_peer host_addr host_port) then Some InvalidAddress else None))
+
+-- the channel is closed, where one is open
+abbrev pub destroy_channel : ℕ → List BenchAct → CallOutcome
+destroy_channel c acts = if has_channel c acts then answered (Channel (ChannelClosed c) ∷ []) (Plain NoError)
+    else only (Plain NotEstablished)
+
+-- whether a create_intr_chan of a connection waits for its peer to be called
+abbrev pub is_dial : Option Wait → Bool
+is_dial (Some Dialing) = true
+is_dial _ = false
+
+abbrev pub is_dialing : ℕ → List WaitAct → Bool
+is_dialing c acts = is_dial (waits c acts)
+
+-- how many do, of sixteen connections
+abbrev pub dialing : List WaitAct → ℕ
+dialing acts = length (filter (λ c. is_dialing c acts) connections)
+
+-- whom to call
+abbrev pub dial_by : Arguments → Option Dial
+dial_by (CreateIntrChan host_addr host_port prog_num prog_vers prog_family) =
+    if nat_lt host_port 65536 then Some (record { addr = host_addr; port = host_port }) else None
+dial_by _ = None
+
+abbrev pub dial_in : Option CoreCall → Option Dial
+dial_in (Some call) = dial_by call.arguments
+dial_in None = None
+
+-- of the call of a connection that waits for it
+abbrev pub dial_of : ℕ → List Act → Option Dial
+dial_of c log = if is_dialing c (wait_acts (bench log)) then dial_in (core_call_in (unanswered (of c log))) else None
+
+-- The peer was called, and the channel is open; or it can't be.
+abbrev pub end_channel : ℕ → Bool → Peer → CallOutcome
+end_channel c true peer = answered (Channel (ChannelOpened c peer) ∷ []) (Plain NoError)
+end_channel c false peer = only (Plain NotEstablished)
+
+-- which peer a call asks for
+abbrev pub peer_by : Arguments → Option Peer
+peer_by (CreateIntrChan host_addr host_port prog_num prog_vers prog_family) = Some (record { prog = prog_num; vers = prog_vers })
+peer_by _ = None
+
+abbrev pub dialed_to : ℕ → Bool → Arguments → Option Peer → CallOutcome
+dialed_to c ok arguments (Some peer) = end_channel c ok peer
+dialed_to c ok arguments None = only (failure arguments NotEstablished)
+
+abbrev pub dialed : ℕ → Bool → Arguments → CallOutcome
+dialed c ok arguments = dialed_to c ok arguments (peer_by arguments)

@@ -1,0 +1,9 @@
+-- The status byte, as a poll would give it (IEEE 488.2, 11.2.2.1).
+use Rattle.std.specs.Prelude.{◌≡◌, ◌↔◌, ℕ, List}
+use Rattle.std.specs.Int.{bit_at}
+use Rattle.sv_layers.specs.StatusByte.{PolledBit}
+use Rattle.sv_history.specs.Act.{BenchAct, instrument_acts}
+
+-- A poll would give this byte.
+abbrev pub IsPolled : ℕ → List BenchAct → Type 0
+IsPolled polled acts = (k : ℕ) → (bit_at polled k ≡ 1) ↔ PolledBit k (instrument_acts acts)

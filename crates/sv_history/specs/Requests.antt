@@ -1,0 +1,29 @@
+-- What is told to interrupt channels (VXI-11 revision 1.0, section B.6, device_intr_srq; IEEE 488.2, 11.3): their own acts, that a link
+-- which is destroyed asks for no more service requests, and a request at each place of the acts at which one is raised.
+use Rattle.std.specs.Prelude.{◌≡◌, ◌↔◌, Bool, true, false, List, [], ◌∷◌}
+use Rattle.sv_links.specs.Links.{LinkAct, Made, Destroyed, Locked, Unlocked}
+use Rattle.sv_links.specs.Channels.{ChannelAct, SrqDisabled, Requested}
+use Rattle.sv_layers.specs.StatusByte.{IsRaised}
+use Rattle.sv_history.specs.Act.{BenchAct, Linked, Waited, Channel, Happened, Ticked, instrument_acts}
+
+-- what a link's act is to them
+abbrev pub link_told : LinkAct → List ChannelAct → List ChannelAct
+link_told (Destroyed lid) told = SrqDisabled lid ∷ told
+link_told (Made lid conn) told = told
+link_told (Locked lid) told = told
+link_told (Unlocked lid) told = told
+
+-- and that of the instrument, where it raises a request
+abbrev pub request_told : Bool → List ChannelAct → List ChannelAct
+request_told true told = Requested ∷ told
+request_told false told = told
+
+-- The acts tell them this.
+abbrev pub Tells : List BenchAct → List ChannelAct → Type 0
+Tells [] told = told ≡ []
+Tells (Channel act ∷ acts) told = (before : List ChannelAct) × Tells acts before × (told ≡ act ∷ before)
+Tells (Linked act ∷ acts) told = (before : List ChannelAct) × Tells acts before × (told ≡ link_told act before)
+Tells (Happened act ∷ acts) told = (before : List ChannelAct) × (raised : Bool) × Tells acts before
+    × ((raised ≡ true) ↔ IsRaised (act ∷ instrument_acts acts)) × (told ≡ request_told raised before)
+Tells (Waited act ∷ acts) told = Tells acts told
+Tells (Ticked ∷ acts) told = Tells acts told

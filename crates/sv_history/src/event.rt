@@ -1,0 +1,171 @@
+//! What happens to the server, and what it answers.
+
+ghost use Rattle.std.specs.Prelude.{◌≡◌};
+
+use thiserror::Error;
+
+/// What a connection is for.
+#[derive(Clone, Copy, Debug, PartialEq, Eq)]
+pub enum Role {
+    /// The core channel.
+    Core,
+    /// The abort channel.
+    Abort,
+    /// The port mapper.
+    Portmap,
+}
+
+/// Where bytes are sent.
+#[derive(Clone, Copy, Debug, PartialEq, Eq)]
+pub enum Port {
+    /// The connection of this number.
+    Conn(u8),
+    /// The interrupt channel of the connection of this number.
+    Intr(u8),
+}
+
+/// What happens to the server.
+#[derive(Clone, Copy, Debug, PartialEq, Eq)]
+pub enum Event<'a> {
+    /// A connection opens, of number 0 to 15.
+    Open {
+        /// Its number.
+        conn: u8,
+        /// What it is for.
+        role: Role,
+    },
+    /// Bytes come on a connection.
+    Bytes {
+        /// Its number.
+        conn: u8,
+        /// As many bytes as the connection has room for, at most.
+        piece: &'a [u8],
+    },
+    /// The next call of a connection is taken.
+    Turn {
+        /// Its number.
+        conn: u8,
+    },
+    /// The next call of a connection is answered with want of resources.
+    Refuse {
+        /// Its number.
+        conn: u8,
+    },
+    /// The peer took bytes that waited.
+    Took {
+        /// Where.
+        port: Port,
+        /// How many bytes.
+        count: u32,
+    },
+    /// A connection or an interrupt channel closes.
+    Close {
+        /// Which.
+        port: Port,
+    },
+    /// An interrupt channel was dialed.
+    Dialed {
+        /// The number of its connection.
+        conn: u8,
+        /// Whether it opened.
+        ok: bool,
+    },
+    /// The live voltage of a channel changes.
+    Input {
+        /// The channel, 1 to 32.
+        channel: u8,
+        /// The voltage in microvolts, within plus or minus 1,000,000,000.
+        microvolts: i64,
+    },
+    /// The external trigger comes.
+    External,
+    /// A millisecond passes.
+    Tick,
+}
+
+/// What an event that wasn't refused did.
+#[derive(Clone, Copy, Debug, PartialEq, Eq)]
+pub enum Did {
+    /// What it asks for.
+    Done,
+    /// Nothing: a Turn found no call to take.
+    Idle,
+}
+
+/// What the server is set up with.
+#[derive(Clone, Copy, Debug, PartialEq, Eq)]
+pub struct Config {
+    /// The port of the core channel.
+    pub core: u16,
+    /// The port of the abort channel.
+    pub abort: u16,
+    /// The clock at the start, in milliseconds, at most 9,223,372,036,854,775,807.
+    pub clock: u64,
+}
+
+/// Where an interrupt channel is to be opened.
+#[derive(Clone, Copy, Debug, PartialEq, Eq)]
+pub struct Dial {
+    /// The address, most significant byte first.
+    pub addr: u32,
+    /// The port.
+    pub port: u16,
+}
+
+/// Why an event was refused. It changed nothing, and isn't in the history.
+#[derive(Clone, Copy, Debug, PartialEq, Eq, Error)]
+pub enum Refused {
+    /// No memory was left for a link.
+    #[error("no memory was left")]
+    NoMemory = 1,
+    /// The connection's number is in use.
+    #[error("the connection is open already")]
+    ConnInUse = 2,
+    /// The number is above 15, or nothing of that number is open.
+    #[error("there is no such connection")]
+    NoConn = 3,
+    /// Bytes are more than the connection's room; a Turn finds fewer than 8,232 outgoing bytes
+    /// free.
+    #[error("there is no room")]
+    NoRoom = 4,
+    /// More bytes were taken than waited.
+    #[error("so many bytes were not sent")]
+    NotSent = 5,
+    /// No interrupt channel of the connection is being dialed.
+    #[error("nothing is being dialed")]
+    NoDial = 6,
+    /// The next call can't be refused.
+    #[error("the next call can't be refused")]
+    NotRefusable = 7,
+    /// The channel isn't 1 to 32.
+    #[error("there is no such channel")]
+    BadChannel = 8,
+    /// The voltage is beyond plus or minus 1,000,000,000 microvolts.
+    #[error("the voltage is out of range")]
+    BadInput = 9,
+    /// The clock is at its last value, 9,223,372,036,854,775,807.
+    #[error("the clock is at its end")]
+    TimeOver = 10,
+}
+
+impl Refused {
+    ghost use Rattle.sv_history.specs.Print.{number};
+
+    /// Its number, from 1 to 10, as a replay prints it.
+    pub fn number(self) -> u8
+        ensures { result ≡ number self }
+    {
+        match self {
+            Refused::NoMemory => 1,
+            Refused::ConnInUse => 2,
+            Refused::NoConn => 3,
+            Refused::NoRoom => 4,
+            Refused::NotSent => 5,
+            Refused::NoDial => 6,
+            Refused::NotRefusable => 7,
+            Refused::BadChannel => 8,
+            Refused::BadInput => 9,
+            Refused::TimeOver => 10,
+        }
+    }
+}
