@@ -1,20 +1,14 @@
 //! The program scanvolt.
 #![tactic(auto)]
 
-mod fault;
-mod options;
 mod serving;
-#[cfg(test)]
-mod tests;
-mod words;
 
-use fault::ProgramFault;
 use std::alloc::Global;
 use std::env;
 use std::io::{self, BufWriter, Error, ErrorKind};
 use std::process::ExitCode;
 use sv_replay::{RunFault, run_replay};
-use words::{Words, read_words};
+use sv_words::{ProgramFault, Words, read_words};
 
 /// Runs the program: `replay` replays the standard input, `serve` serves sockets.
 fn main(rt: HostRuntime) -> ExitCode {

@@ -1,7 +1,5 @@
 //! Serving sockets.
 
-use crate::fault::ProgramFault;
-use crate::words::Serve;
 use std::alloc::Global;
 use std::fs;
 use std::io::{Error, ErrorKind};
@@ -9,6 +7,7 @@ use sv_net::Watch;
 use sv_replay::{Entry, RunFault, read_scenario};
 use sv_serve::Driver;
 use sv_server::{Config, Server};
+use sv_words::{ProgramFault, Serve};
 
 /// What a failure of the system is told as: want of memory, or else this.
 fn fault_or(error: &Error, other: ProgramFault) -> ProgramFault {

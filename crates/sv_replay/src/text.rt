@@ -51,13 +51,21 @@ impl<A: Allocator> Text<A> {
     pub fn new(alloc: A) -> Result<Text<A>, AllocError>
         ensures { IfOk result (λ text. text ≡ nothing_held) }
     {
-        Ok(Text {
-            buffer: vec![in alloc; 0; SIZE]?,
+        Ok(Text::over(vec![in alloc; 0; SIZE]?))
+    }
+
+    /// No text, in a buffer that is as long as it ever gets.
+    fn over(buffer: Vec<u8, A>) -> Text<A>
+        requires { length buffer.items ≡ 131072 }
+        ensures { result ≡ nothing_held }
+    {
+        Text {
+            buffer,
             start: 0,
             clean: 0,
             end: 0,
             reads: 0,
-        })
+        }
     }
 
     /// How many bytes the text has.

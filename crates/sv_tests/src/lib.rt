@@ -1,6 +1,7 @@
 //! Tests of what no row and no line of a table can show: parts that are refused memory when they
-//! are made, real sockets, and calls that nothing joins yet. What rows and lines can show is in
-//! `sv_rows`, `sv_sweeps` and `sv_tables`. The library itself is empty.
+//! are made, real sockets, calls that nothing joins yet, and the words, texts and statuses of the
+//! program. What rows and lines can show is in `sv_rows`, `sv_sweeps` and `sv_tables`. The library
+//! itself is empty.
 #![tactic(auto)]
 
 #[cfg(test)]
@@ -11,3 +12,5 @@ mod parts;
 mod same;
 #[cfg(test)]
 mod sockets;
+#[cfg(test)]
+mod words;

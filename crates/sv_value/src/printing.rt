@@ -1,7 +1,9 @@
 //! Printing response data behind the bytes of a vector that has room for them (IEEE 488.2, 8.7).
 
 ghost use Rattle.std.specs.Prelude.{◌≡◌, ◌≤◌, ◌+◌, ◌*◌, ◌++◌, codes, decimal, length, unsigned_abs, vec_capacity, vec_len};
+ghost use Rattle.std.specs.Fmt.{signed_decimal};
 ghost use Rattle.std.specs.List.{join_by};
+ghost use Rattle.sv_errors.specs.Code.{text_of};
 ghost use Rattle.sv_value.specs.Printing.{channels_text, error_text, overload_text, source_text, switch_text, whole_text};
 ghost use Rattle.sv_value.specs.Written.{voltage_text};
 
@@ -68,9 +70,9 @@ pub fn put_error<A: Allocator>(out: &mut Vec<u8, A>, code: Code)
     ensures capacity { vec_capacity out.old ≤ vec_capacity out.new }
     ensures bounded { vec_len out.new ≤ vec_len out.old + 40 }
 {
-    append(out, Buffer::new().format(code.number()).as_bytes());
+    put_number(out, code.number());
     append(out, b",\"");
-    append(out, code.text().as_bytes());
+    append(out, short_text(code).as_bytes());
     append(out, b"\"");
 }
 
@@ -98,6 +100,24 @@ pub fn put_source<A: Allocator>(out: &mut Vec<u8, A>, source: Source)
         Source::External => b"EXT",
     };
     append(out, keyword);
+}
+
+/// Puts a number in decimal, with a minus in front if it is below 0.
+fn put_number<A: Allocator>(out: &mut Vec<u8, A>, value: i16)
+    requires room { vec_len out.old + 6 ≤ vec_capacity out.old }
+    ensures text { out.new.items ≡ out.old.items ++ signed_decimal value }
+    ensures capacity { vec_capacity out.old ≤ vec_capacity out.new }
+    ensures bounded { vec_len out.new ≤ vec_len out.old + 6 }
+{
+    append(out, Buffer::new().format(value).as_bytes());
+}
+
+/// The text of an error, which is never long.
+fn short_text(code: Code) -> &'static str
+    ensures value { result.now ≡ text_of code }
+    ensures short { length result.now ≤ 31 }
+{
+    code.text()
 }
 
 /// Puts channels in decimal, with commas between them.

@@ -1,5 +1,5 @@
-use Rattle.scanvolt.proofs.Served.{served, not_served, refused}
-use Rattle.scanvolt.proofs.words.read_serve.Goals as goal
+use Rattle.sv_words.proofs.Served.{served, not_served, refused}
+use Rattle.sv_words.proofs.words.read_serve.Goals as goal
 
 pub returns-in-Some : goal.returns-in-Some
 returns-in-Some g c = served _ _ c.in-Ok-try_get_matches_from.matches c.in-Some.serve c.in-Ok.ensures

@@ -6,11 +6,11 @@ use Rattle.clap.specs.declared.error.kind.ErrorKind.{ErrorKind}
 use Rattle.clap.specs.declared.error.kind.ErrorKind.TheVariants.{OutOfMemory}
 use Rattle.std.specs.Str.Parse.{IsNumeral, digits_value}
 use Rattle.sv_replay.specs.declared.fault.RunFault.TheVariants.{Memory}
-use Rattle.scanvolt.specs.declared.fault.ProgramFault.{ProgramFault}
-use Rattle.scanvolt.specs.declared.fault.ProgramFault.TheVariants.{BadWords, Run, Socket}
-use Rattle.scanvolt.specs.declared.words.Serve.{Serve}
-use Rattle.scanvolt.specs.declared.words.Words.{Words}
-use Rattle.scanvolt.specs.declared.words.Words.TheVariants.{Replay, Server}
+use Rattle.sv_words.specs.declared.fault.ProgramFault.{ProgramFault}
+use Rattle.sv_words.specs.declared.fault.ProgramFault.TheVariants.{BadWords, Run, Socket}
+use Rattle.sv_words.specs.declared.words.Serve.{Serve}
+use Rattle.sv_words.specs.declared.words.Words.{Words}
+use Rattle.sv_words.specs.declared.words.Words.TheVariants.{Replay, Server}
 
 -- 1 to 10 decimal digits that spell a number from 1 to this
 abbrev pub IsCount : ℕ → Text → ℕ → Type 0

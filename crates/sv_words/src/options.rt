@@ -4,7 +4,7 @@ ghost use Rattle.std.specs.Prelude.{◌≡◌, ◌≤◌, ◌==◌, false, IfOk,
 ghost use Rattle.clap.specs.Words.{app_of};
 ghost use Rattle.clap.specs.Matches.{found_of, first_value};
 ghost use Rattle.clap.specs.Walk.{rule_of};
-ghost use Rattle.scanvolt.specs.Words.{option, serve_command, IsCount, IfGiven, Tells, Finds};
+ghost use Rattle.sv_words.specs.Words.{option, serve_command, IsCount, IfGiven, Tells, Finds};
 
 use crate::words::Serve;
 use clap::{Arg, ArgAction, ArgMatches, Command};

@@ -9,9 +9,9 @@ use Rattle.clap.specs.Matches.{found_of, first_value}
 use Rattle.clap.specs.declared.parser.matches.ArgMatches.{ArgMatches}
 use Rattle.clap.proofs.OnLiterals.{clap_on_literals}
 use Rattle.clap.proofs.WalkLemmas.{first_value-rows}
-use Rattle.scanvolt.specs.declared.words.Serve.{Serve}
-use Rattle.scanvolt.specs.declared.fault.ProgramFault.{ProgramFault}
-use Rattle.scanvolt.specs.Words.{serve_command, Tells, IfGiven, IsCount, Serves, Reads, Refuses}
+use Rattle.sv_words.specs.declared.words.Serve.{Serve}
+use Rattle.sv_words.specs.declared.fault.ProgramFault.{ProgramFault}
+use Rattle.sv_words.specs.Words.{serve_command, Tells, IfGiven, IsCount, Serves, Reads, Refuses}
 
 -- the command is of the kind whose matches are a function of the words
 command_is_simple : is_simple serve_command ≡ true

@@ -2,12 +2,12 @@
 use Rattle.std.proofs.Common.{◌≡◌, ◌∙◌, ap, sym, map, List, [], ◌∷◌, Some, Err, length, codes, slice_get, arith}
 use Rattle.std.proofs.lemmas.Option.{none-some, same_Some}
 use Rattle.clap.specs.Words.{Text}
-use Rattle.scanvolt.specs.declared.fault.ProgramFault.{ProgramFault}
-use Rattle.scanvolt.specs.declared.fault.ProgramFault.TheVariants.{BadWords, Run, Socket}
-use Rattle.scanvolt.specs.declared.words.Serve.{Serve}
-use Rattle.scanvolt.specs.declared.words.Words.{Words}
-use Rattle.scanvolt.specs.declared.words.Words.TheVariants.{Replay, Server}
-use Rattle.scanvolt.specs.Words.{Asks, Serves, Reads}
+use Rattle.sv_words.specs.declared.fault.ProgramFault.{ProgramFault}
+use Rattle.sv_words.specs.declared.fault.ProgramFault.TheVariants.{BadWords, Run, Socket}
+use Rattle.sv_words.specs.declared.words.Serve.{Serve}
+use Rattle.sv_words.specs.declared.words.Words.{Words}
+use Rattle.sv_words.specs.declared.words.Words.TheVariants.{Replay, Server}
+use Rattle.sv_words.specs.Words.{Asks, Serves, Reads}
 
 -- the first text is that of the first word
 pub first_text : {A : Type 0} (text : A → Text) (words : List A) (word : A) → Some word ≡ slice_get words 0

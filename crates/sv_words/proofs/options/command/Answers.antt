@@ -1,7 +1,7 @@
 use Rattle.std.proofs.Common.{ap₂, ◌∙◌}
 use Rattle.std.proofs.lemmas.Result.{IfOk-weaker}
 use Rattle.clap.specs.Words.{with_rule}
-use Rattle.scanvolt.proofs.options.command.Goals as goal
+use Rattle.sv_words.proofs.options.command.Goals as goal
 
 pub returns : goal.returns
 returns c =

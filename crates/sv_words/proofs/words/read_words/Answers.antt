@@ -1,8 +1,8 @@
 use Rattle.std.proofs.Common.{rules, ap, ◌∙◌, Some}
 use Rattle.std.proofs.lemmas.Slice.Eq.{bytes_eq-Decides}
 use Rattle.std.proofs.lemmas.Bool.{and_parts, eqb-true}
-use Rattle.scanvolt.proofs.Asked.{first_text, asks_server, asks_fault, asks_replay}
-use Rattle.scanvolt.proofs.words.read_words.Goals as goal
+use Rattle.sv_words.proofs.Asked.{first_text, asks_server, asks_fault, asks_replay}
+use Rattle.sv_words.proofs.words.read_words.Goals as goal
 
 pub returns-in-Ok : goal.returns-in-Ok
 returns-in-Ok g c =

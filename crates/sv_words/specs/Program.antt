@@ -3,8 +3,8 @@ use Rattle.std.specs.Prelude.{ℕ}
 use Rattle.sv_replay.specs.declared.fault.RunFault.TheVariants.{BadLine, Input, Output, Memory}
 use Rattle.sv_replay.specs.declared.scenario.ScenarioFault.{ScenarioFault}
 use Rattle.sv_replay.specs.declared.scenario.ScenarioFault.TheVariants as scenario
-use Rattle.scanvolt.specs.declared.fault.ProgramFault.{ProgramFault}
-use Rattle.scanvolt.specs.declared.fault.ProgramFault.TheVariants.{BadWords, Run, Socket}
+use Rattle.sv_words.specs.declared.fault.ProgramFault.{ProgramFault}
+use Rattle.sv_words.specs.declared.fault.ProgramFault.TheVariants.{BadWords, Run, Socket}
 
 -- the exit status of a fault
 abbrev pub status : ProgramFault → ℕ

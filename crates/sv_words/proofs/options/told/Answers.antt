@@ -1,4 +1,4 @@
-use Rattle.scanvolt.proofs.options.told.Goals as goal
+use Rattle.sv_words.proofs.options.told.Goals as goal
 
 pub returns-in_err-count_of : goal.returns-in_err-count_of
 returns-in_err-count_of c = rw c.from_residual.ensures (λ serve tells. c.in_err-count_of.ensures serve.core tells.0)

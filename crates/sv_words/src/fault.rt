@@ -21,7 +21,7 @@ pub enum ProgramFault {
 }
 
 impl ProgramFault {
-    ghost use Rattle.scanvolt.specs.Program.{status};
+    ghost use Rattle.sv_words.specs.Program.{status};
 
     /// The status with which the program exits: 2 for words and lines, 3 for the world around it.
     pub fn status(self) -> u8
@@ -36,7 +36,7 @@ impl ProgramFault {
 }
 
 impl From<ScenarioFault> for ProgramFault {
-    ghost use Rattle.scanvolt.specs.Program.{scenario_fault};
+    ghost use Rattle.sv_words.specs.Program.{scenario_fault};
 
     ghost from_gives = { λ scenario fault. fault ≡ scenario_fault scenario };
 
@@ -51,7 +51,7 @@ impl From<ScenarioFault> for ProgramFault {
 impl From<AllocError> for ProgramFault {
     ghost use Rattle.std.specs.Prelude.{◌≡◌};
     ghost use Rattle.sv_replay.specs.declared.fault.RunFault.TheVariants.{Memory};
-    ghost use Rattle.scanvolt.specs.declared.fault.ProgramFault.TheVariants.{Run};
+    ghost use Rattle.sv_words.specs.declared.fault.ProgramFault.TheVariants.{Run};
 
     ghost from_gives = { λ refused fault. fault ≡ Run Memory };
 

@@ -2,7 +2,7 @@
 
 ghost use Rattle.std.specs.Prelude.{◌≡◌, map};
 ghost use Rattle.clap.specs.Values.{kind_of};
-ghost use Rattle.scanvolt.specs.Words.{Serves, Asks, Reads, Refuses};
+ghost use Rattle.sv_words.specs.Words.{Serves, Asks, Reads, Refuses};
 
 use crate::fault::ProgramFault;
 use crate::options::{command, told};

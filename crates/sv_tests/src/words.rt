@@ -1,10 +1,9 @@
 //! Tests of the program's words, texts and statuses.
 
-use crate::fault::ProgramFault;
-use crate::words::{Serve, Words, read_words};
 use std::alloc::Global;
 use std::test::Fail;
 use sv_replay::RunFault;
+use sv_words::{ProgramFault, Serve, Words, read_words};
 
 #[test]
 fn faults_have_their_texts_and_statuses(rt: HostRuntime) -> Result<(), Fail> {
