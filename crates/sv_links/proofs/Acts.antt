@@ -5,16 +5,17 @@ use Rattle.std.proofs.lemmas.Bool.{cases_eq}
 use Rattle.std.proofs.lemmas.List.{get_or-set_same, get_or-set_other}
 use Rattle.sv_links.specs.declared.enabled.Enabled.{Enabled}
 use Rattle.sv_links.specs.declared.request.Peer.{Peer}
-use Rattle.sv_links.specs.Channels.{ChannelAct, SrqEnabled, SrqDisabled, Requested, below, above, enabled, peer, taken, calls, called, called_by, handles_of}
+use Rattle.sv_links.specs.Channels.{ChannelAct, SrqEnabled, SrqDisabled, Requested, enabled, peer, taken, calls, called, called_by, handles_of}
 use Rattle.sv_links.specs.KeptChannels.{Channel, Channels, AreChannels, disabled, IsChannel, IsChannelFor, IsQueued, opened_for}
 use Rattle.sv_links.proofs.Asking.{other_links}
+use Rattle.sv_links.proofs.Rising.{with_link, enabled-enabled, enabled-disabled}
 
 -- a link asks no more
 pub AreChannels-disabled : (kept : Channels) (links : List Enabled) (lid : ℕ) (acts : List ChannelAct)
     → links ≡ other_links lid kept.enabled → AreChannels kept acts
     → AreChannels (record kept { enabled = links }) (SrqDisabled lid ∷ acts)
 AreChannels-disabled kept links lid acts same is = record {
-  enabled = same ∙ ap (other_links lid) is.enabled;
+  enabled = same ∙ ap (other_links lid) is.enabled ∙ sym (enabled-disabled lid acts);
   each = is.each;
   beyond = is.beyond;
 }
@@ -29,10 +30,10 @@ AreChannels-without kept (lid ∷ lids) acts is =
 
 -- a link asks
 pub AreChannels-enabled : (kept : Channels) (links : List Enabled) (link : Enabled) (acts : List ChannelAct)
-    → links ≡ below link.lid kept.enabled ++ link ∷ above link.lid kept.enabled → AreChannels kept acts
+    → links ≡ with_link link kept.enabled → AreChannels kept acts
     → AreChannels (record kept { enabled = links }) (SrqEnabled link.lid link.conn link.handle ∷ acts)
 AreChannels-enabled kept links link acts same is = record {
-  enabled = same ∙ ap (λ (xs : List Enabled). below link.lid xs ++ link ∷ above link.lid xs) is.enabled;
+  enabled = same ∙ ap (with_link link) is.enabled ∙ sym (enabled-enabled link acts);
   each = is.each;
   beyond = is.beyond;
 }

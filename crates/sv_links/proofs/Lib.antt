@@ -16,4 +16,5 @@ mod Going
 mod Sent
 mod Calling
 mod Asking
+pub mod Rising
 mod Acts

@@ -1,7 +1,7 @@
 -- Interrupt channels (VXI-11 revision 1.0, section B.6: device_enable_srq, create_intr_chan, destroy_intr_chan, device_intr_srq): which
 -- links ask for service requests, and what is sent on the channel of a connection. Acts are read from the newest.
-use Rattle.std.specs.Prelude.{ℕ, ◌+◌, ◌-◌, ◌==◌, not, ◌&&◌, Bool, List, [], ◌∷◌, ◌++◌, length, map, filter, drop, Option, Some, None, is_some, nat_lt, if◌then◌else◌}
-use Rattle.std.specs.List.{concat}
+use Rattle.std.specs.Prelude.{ℕ, ◌+◌, ◌-◌, ◌==◌, max, ◌&&◌, Bool, List, [], ◌∷◌, ◌++◌, length, map, filter, drop, Option, Some, None, is_some, nat_lt, if◌then◌else◌}
+use Rattle.std.specs.List.{concat, filter_map, range_with_len}
 use Rattle.sv_links.specs.declared.enabled.Enabled.{Enabled}
 use Rattle.sv_links.specs.declared.request.Peer.{Peer}
 use Rattle.sv_links.specs.Request.{request}
@@ -16,20 +16,23 @@ pub data ChannelAct : Type 0 where
   Requested : ChannelAct
   ChannelTaken : (conn count : ℕ) → ChannelAct
 
--- the links of lower numbers, and those of higher ones
-abbrev pub below : ℕ → List Enabled → List Enabled
-below lid = filter (λ other. nat_lt other.lid lid)
+-- how a link asks for service requests, if it does: by the newest act that says whether it does
+abbrev pub asked : ℕ → List ChannelAct → Option Enabled
+asked lid [] = None
+asked lid (SrqEnabled other conn handle ∷ acts) =
+    if other == lid then Some (record { lid = lid; conn = conn; handle = handle }) else asked lid acts
+asked lid (SrqDisabled other ∷ acts) = if other == lid then None else asked lid acts
+asked lid (_ ∷ acts) = asked lid acts
 
-abbrev pub above : ℕ → List Enabled → List Enabled
-above lid = filter (λ other. nat_lt lid other.lid)
+-- a number past those of all links that ever asked
+abbrev pub past : List ChannelAct → ℕ
+past [] = 0
+past (SrqEnabled lid conn handle ∷ acts) = max (lid + 1) (past acts)
+past (_ ∷ acts) = past acts
 
 -- the links that ask for service requests, by rising number, each with the handle that it gave last
 abbrev pub enabled : List ChannelAct → List Enabled
-enabled [] = []
-enabled (SrqEnabled lid conn handle ∷ acts) =
-    below lid (enabled acts) ++ record { lid = lid; conn = conn; handle = handle } ∷ above lid (enabled acts)
-enabled (SrqDisabled lid ∷ acts) = filter (λ other. not (other.lid == lid)) (enabled acts)
-enabled (_ ∷ acts) = enabled acts
+enabled acts = filter_map (λ lid. asked lid acts) (range_with_len 0 (past acts))
 
 -- the handles of those of a connection
 abbrev pub handles_of : ℕ → List Enabled → List (List ℕ)
