@@ -16,7 +16,7 @@ pub data ChannelAct : Type 0 where
   Requested : ChannelAct
   ChannelTaken : (conn count : ℕ) → ChannelAct
 
--- how a link asks for service requests, if it does: by the newest act that says whether it does
+-- how a link asks for service requests, if it does: the newest act counts that says whether it asks
 abbrev pub asked : ℕ → List ChannelAct → Option Enabled
 asked lid [] = None
 asked lid (SrqEnabled other conn handle ∷ acts) =
@@ -24,7 +24,7 @@ asked lid (SrqEnabled other conn handle ∷ acts) =
 asked lid (SrqDisabled other ∷ acts) = if other == lid then None else asked lid acts
 asked lid (_ ∷ acts) = asked lid acts
 
--- a number past those of all links that ever asked
+-- a number above those of all links that ever asked
 abbrev pub past : List ChannelAct → ℕ
 past [] = 0
 past (SrqEnabled lid conn handle ∷ acts) = max (lid + 1) (past acts)

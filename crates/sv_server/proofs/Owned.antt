@@ -10,6 +10,7 @@ use Rattle.sv_links.specs.Links.{LinkAct, Made, Destroyed, live, owner, is_of, l
 use Rattle.sv_links.specs.Table.{IsRising}
 use Rattle.sv_links.specs.Channels.{ChannelAct, SrqDisabled}
 use Rattle.sv_links.specs.KeptChannels.{IsSorted, disabled, of_others, below, above}
+use Rattle.sv_links.proofs.Asking.{sorted-filter}
 use Rattle.sv_links.proofs.Tables.{Below, above-filter, other_than}
 use Rattle.sv_server.specs.Act.{BenchAct, Linked, link_acts}
 use Rattle.sv_server.specs.KeptBench.{AreOwned}
@@ -232,5 +233,5 @@ pub room_for : (links : List Enabled) (acts : List LinkAct) (lid conn : ℕ) →
 room_for links acts lid conn sorted owned own within =
     let left : length (filter (λ (other : Enabled). not (eqb other.lid lid)) links) ≤ length (filter (other_than lid) (live acts))
     = no_more_than (filter (λ other. not (eqb other.lid lid)) links) (filter (other_than lid) (live acts))
-    (sorted_filter (λ other. not (eqb other.lid lid)) links sorted) (owned_destroyed links acts lid owned) in
+    (sorted-filter (λ other. not (eqb other.lid lid)) links sorted) (owned_destroyed links acts lid owned) in
     omega (arith, left, fewer lid conn (live acts) own, within)
