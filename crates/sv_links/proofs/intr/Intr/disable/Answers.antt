@@ -23,6 +23,3 @@ returns-clause-stands g c acts is =
     let p : Enabled → Bool = λ other. not (eqb other.lid c.args.lid) in
     let kept = filter_same _ p _ (λ x b f' k. search rules) _ _ c.retain.ensures.filtered in
     AreChannels-disabled _ _ c.args.lid acts kept (rw (← c.self.view_is) at is)
-
-pub returns-clause-ready : goal.returns-clause-ready
-returns-clause-ready g c = search rules

@@ -27,6 +27,3 @@ returns-clause-stands g c lids acts is same =
     let now : Channels = record { enabled = c.self.inside.enabled.items; channels = c.self.inside.channels.items } in
     subst (λ (links : List Enabled). AreChannels (record now { enabled = links }) (map SrqDisabled lids ++ acts))
     (rw (← c.self.view_is) at same ∙ sym kept) (AreChannels-without now lids acts (rw (← c.self.view_is) at is))
-
-pub returns-clause-ready : goal.returns-clause-ready
-returns-clause-ready g c = search rules

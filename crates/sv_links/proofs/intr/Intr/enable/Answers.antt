@@ -65,6 +65,3 @@ returns-clause-stands g c short room acts is =
     ∙ ap (λ (lid : ℕ). below lid old.enabled ++ link ∷ above lid old.enabled) (sym c.new.ensures.link.0) in
     let now = AreChannels-enabled (record old { channels = c.self.inside.channels.items }) c.insert.new.self.items link acts place before in
     rw (← c.new.ensures.link.0, ← c.new.ensures.link.1, ← c.new.ensures.handle short) now
-
-pub returns-clause-ready : goal.returns-clause-ready
-returns-clause-ready g c = search rules

@@ -1,4 +1,4 @@
-use Rattle.std.proofs.Common.{◌≡◌, ◌<◌, Vec, ◌∷◌, length, true, arith, sym, ap, subst, ◌∙◌, rules}
+use Rattle.std.proofs.Common.{◌≡◌, ◌<◌, Vec, ◌∷◌, length, true, arith, sym, ap, subst, ◌∙◌}
 use Rattle.std.specs.Prelude.{slice_index_or}
 use Rattle.std.proofs.lemmas.List.{length-set}
 use Rattle.sv_links.specs.declared.enabled.Enabled.{Enabled}
@@ -45,9 +45,3 @@ returns-clause-stands g c acts is =
       each = λ k other lt. c.loop-conn.invariant.sent k other acts (omega (arith, lt, c.loop-conn-test.false)) is;
       beyond = is.beyond;
     }
-
-pub returns-clause-ready : goal.returns-clause-ready
-returns-clause-ready g c = search rules
-
-pub returns-clause-enabled : goal.returns-clause-enabled
-returns-clause-enabled g c = search rules

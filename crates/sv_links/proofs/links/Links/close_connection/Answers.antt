@@ -55,6 +55,3 @@ returns-clause-stands g c acts is =
           rw w.self-inside-is (IsTable-closed _ c.args.conn acts c.retain.new.self.slots c.self.inside.holder slots
           (left_none c.args.conn acts c.self.inside.holder w.in_default.is) old)
     ]
-
-pub returns-clause-spare : goal.returns-clause-spare
-returns-clause-spare g c = search rules

@@ -42,9 +42,3 @@ returns-clause-refused g c acts is =
 
 pub returns-then-is_err-clause-err : goal.returns-then-is_err-clause-err
 returns-then-is_err-clause-err g c = search rules
-
-pub returns-clause-number : goal.returns-clause-number
-returns-clause-number g c = search rules
-
-pub returns-clause-spare : goal.returns-clause-spare
-returns-clause-spare g c = search rules

@@ -36,9 +36,3 @@ returns-else-eq-clause-stands g c acts is =
     c.self.inside.links.slots c.retain.new.self.slots c.retain.ensures.retained in
     IsTable-destroyed _ c.args.lid acts _ _ slots (freed-other c.args.lid c.self.inside.holder c.eq.result c.eq.ensures c.if-eq.false)
     (rw c.self.view_is is)
-
-pub returns-then-eq-clause-spare : goal.returns-then-eq-clause-spare
-returns-then-eq-clause-spare g c = search rules
-
-pub returns-else-eq-clause-spare : goal.returns-else-eq-clause-spare
-returns-else-eq-clause-spare g c = search rules

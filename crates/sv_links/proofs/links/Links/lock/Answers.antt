@@ -1,4 +1,4 @@
-use Rattle.std.proofs.Common.{◌∙◌, sym, ap, refl, Some, Option, ℕ, ◌≡◌, rules}
+use Rattle.std.proofs.Common.{◌∙◌, sym, ap, refl, Some, Option, ℕ, ◌≡◌}
 use Rattle.std.specs.Prelude.{not, None}
 use Rattle.std.proofs.lemmas.Bool.{eqb-true}
 use Rattle.sv_links.specs.Links.{is_locked_out, holder}
@@ -25,12 +25,3 @@ returns-clause-answer g c acts is =
 
 pub returns-clause-stands : goal.returns-clause-stands
 returns-clause-stands g c e acts is = IsTable-locked _ c.args.lid acts c.in_default.is (rw c.self.view_is is)
-
-pub returns-in-Some-clause-spare : goal.returns-in-Some-clause-spare
-returns-in-Some-clause-spare g c = search rules
-
-pub returns-in-Some-clause-refused : goal.returns-in-Some-clause-refused
-returns-in-Some-clause-refused g c = search rules
-
-pub returns-clause-spare : goal.returns-clause-spare
-returns-clause-spare g c = search rules

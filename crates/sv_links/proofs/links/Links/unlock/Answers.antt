@@ -1,4 +1,4 @@
-use Rattle.std.proofs.Common.{◌∙◌, sym, ap, rules}
+use Rattle.std.proofs.Common.{◌∙◌, sym, ap}
 use Rattle.sv_links.specs.Links.{is_this}
 use Rattle.sv_links.specs.Table.{Table}
 use Rattle.sv_links.proofs.Locks.{holder_is, other_holds, this_holds, IsTable-unlocked}
@@ -18,12 +18,3 @@ pub returns-clause-stands : goal.returns-clause-stands
 returns-clause-stands g c e acts is =
     IsTable-unlocked _ c.args.lid acts (this_holds c.args.lid c.self.inside.holder c.ne.result c.ne.ensures c.if-ne.false)
     (rw c.self.view_is is)
-
-pub returns-then-ne-clause-spare : goal.returns-then-ne-clause-spare
-returns-then-ne-clause-spare g c = search rules
-
-pub returns-then-ne-clause-refused : goal.returns-then-ne-clause-refused
-returns-then-ne-clause-refused g c = search rules
-
-pub returns-clause-spare : goal.returns-clause-spare
-returns-clause-spare g c = search rules
