@@ -1,20 +1,22 @@
 -- What is kept of channels, over acts.
 use Rattle.std.proofs.Common.{◌≡◌, ◌≢◌, ℕ, ◌<◌, List, [], ◌∷◌, ◌++◌, length, Option, Some, None, refl, sym, ap, subst, ◌∙◌, inl, inr}
 use Rattle.std.specs.Prelude.{map, slice_index_or, slice_set}
+use Rattle.std.specs.List.{fold}
 use Rattle.std.proofs.lemmas.Bool.{cases_eq}
 use Rattle.std.proofs.lemmas.List.{get_or-set_same, get_or-set_other}
 use Rattle.sv_links.specs.declared.enabled.Enabled.{Enabled}
 use Rattle.sv_links.specs.declared.request.Peer.{Peer}
-use Rattle.sv_links.specs.Channels.{ChannelAct, SrqEnabled, SrqDisabled, Requested, below, above, enabled, peer, taken, calls, called, called_by, handles_of}
+use Rattle.sv_links.specs.Channels.{ChannelAct, SrqEnabled, SrqDisabled, Requested, enabled, peer, taken, calls, called, handles_of}
 use Rattle.sv_links.specs.KeptChannels.{Channel, Channels, AreChannels, disabled, IsChannel, IsChannelFor, IsQueued, opened_for}
 use Rattle.sv_links.proofs.Asking.{other_links}
+use Rattle.sv_links.proofs.Rising.{with_link, enabled-enabled, enabled-disabled}
 
 -- a link asks no more
 pub AreChannels-disabled : (kept : Channels) (links : List Enabled) (lid : ℕ) (acts : List ChannelAct)
     → links ≡ other_links lid kept.enabled → AreChannels kept acts
     → AreChannels (record kept { enabled = links }) (SrqDisabled lid ∷ acts)
 AreChannels-disabled kept links lid acts same is = record {
-  enabled = same ∙ ap (other_links lid) is.enabled;
+  enabled = same ∙ ap (other_links lid) is.enabled ∙ sym (enabled-disabled lid acts);
   each = is.each;
   beyond = is.beyond;
 }
@@ -29,18 +31,18 @@ AreChannels-without kept (lid ∷ lids) acts is =
 
 -- a link asks
 pub AreChannels-enabled : (kept : Channels) (links : List Enabled) (link : Enabled) (acts : List ChannelAct)
-    → links ≡ below link.lid kept.enabled ++ link ∷ above link.lid kept.enabled → AreChannels kept acts
+    → links ≡ with_link link kept.enabled → AreChannels kept acts
     → AreChannels (record kept { enabled = links }) (SrqEnabled link.lid link.conn link.handle ∷ acts)
 AreChannels-enabled kept links link acts same is = record {
-  enabled = same ∙ ap (λ (xs : List Enabled). below link.lid xs ++ link ∷ above link.lid xs) is.enabled;
+  enabled = same ∙ ap (with_link link) is.enabled ∙ sym (enabled-enabled link acts);
   each = is.each;
   beyond = is.beyond;
 }
 
 channel-requested : (what : Option Peer) (old new : Channel) (count : ℕ) (handles calls : List (List ℕ)) → opened_for old.stage ≡ what
     → ((count : ℕ) (calls : List (List ℕ)) (peer : Peer) → opened_for old.stage ≡ Some peer → IsQueued old count calls
-    → IsQueued new count (called peer count handles calls))
-    → IsChannelFor what old count calls → IsChannelFor what new count (called_by what count handles calls)
+    → IsQueued new count (fold (called (Some peer) count) calls handles))
+    → IsChannelFor what old count calls → IsChannelFor what new count (fold (called what count) calls handles)
 channel-requested None old new count handles calls opened sends is = tt
 channel-requested (Some what) old new count handles calls opened sends is = sends count calls what opened is
 
@@ -48,12 +50,12 @@ channel-requested (Some what) old new count handles calls opened sends is = send
 pub IsChannel-requested : (c : ℕ) (old new : Channel) (links : List Enabled) (acts : List ChannelAct) → links ≡ enabled acts
     → new.stage ≡ old.stage
     → ((count : ℕ) (calls : List (List ℕ)) (peer : Peer) → opened_for old.stage ≡ Some peer → IsQueued old count calls
-    → IsQueued new count (called peer count (handles_of c links) calls))
+    → IsQueued new count (fold (called (Some peer) count) calls (handles_of c links)))
     → IsChannel old c acts → IsChannel new c (Requested ∷ acts)
 IsChannel-requested c old new links acts same stage sends is = (
   ap opened_for stage ∙ is.0,
   subst (λ (links : List Enabled).
-      IsChannelFor (peer c acts) new (taken c acts) (called_by (peer c acts) (taken c acts) (handles_of c links) (calls c acts))) same
+      IsChannelFor (peer c acts) new (taken c acts) (fold (called (peer c acts) (taken c acts)) (calls c acts) (handles_of c links))) same
       (channel-requested (peer c acts) old new (taken c acts) (handles_of c links) (calls c acts) is.0 sends is.1),
 )
 

@@ -5,8 +5,7 @@ use Rattle.std.specs.List.{AllByRecursion, insert}
 use Rattle.std.proofs.lemmas.Bool.{cases_Bool, cond_both, eqb-true, eqb-false, ltb-true, ltb-false, lt-ltb, le-ltb}
 use Rattle.std.proofs.lemmas.List.Elements.{All-filter, All-from_recursion, recursion_from_All}
 use Rattle.sv_links.specs.declared.enabled.Enabled.{Enabled}
-use Rattle.sv_links.specs.Channels.{below, above}
-use Rattle.sv_links.specs.KeptChannels.{IsSorted}
+use Rattle.sv_links.specs.KeptChannels.{IsSorted, below, above}
 
 -- the links without this one
 abbrev pub other_links : ℕ → List Enabled → List Enabled
@@ -23,11 +22,11 @@ sorted-filter p (x ∷ xs) h = cond_both (p x) (x ∷ filter p xs) (filter p xs)
 -- ---- the place of a number
 
 -- none of those behind a link that isn't below is
-none_below : (lid n : ℕ) (xs : List Enabled) → lid ≤ n → AllByRecursion (λ x. n < x.lid) xs → below lid xs ≡ []
+pub none_below : (lid n : ℕ) (xs : List Enabled) → lid ≤ n → AllByRecursion (λ x. n < x.lid) xs → below lid xs ≡ []
 none_below lid n [] le h = refl
 none_below lid n (x ∷ xs) le h = rw (le-ltb x.lid lid (omega (arith, h.0))) (none_below lid n xs le h.1)
 
-all_above : (lid n : ℕ) (xs : List Enabled) → lid ≤ n → AllByRecursion (λ x. n < x.lid) xs → above lid xs ≡ xs
+pub all_above : (lid n : ℕ) (xs : List Enabled) → lid ≤ n → AllByRecursion (λ x. n < x.lid) xs → above lid xs ≡ xs
 all_above lid n [] le h = refl
 all_above lid n (x ∷ xs) le h =
     rw (lt-ltb lid x.lid (omega (arith, h.0))) (ap (λ (ys : List Enabled). x ∷ ys) (all_above lid n xs le h.1))

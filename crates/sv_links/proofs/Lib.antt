@@ -15,5 +15,6 @@ mod Requests
 mod Going
 mod Sent
 mod Calling
-mod Asking
+pub mod Asking
+pub mod Rising
 mod Acts

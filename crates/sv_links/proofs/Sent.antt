@@ -1,5 +1,5 @@
 -- What is kept of a channel's calls, where a call is sent or bytes are taken.
-use Rattle.std.proofs.Common.{◌≡◌, ℕ, ◌+◌, ◌<◌, ◌≤◌, Bool, true, false, List, [], ◌∷◌, ◌++◌, length, drop, refl, sym, ap, subst, ◌∙◌, arith}
+use Rattle.std.proofs.Common.{◌≡◌, ℕ, ◌+◌, ◌<◌, ◌≤◌, Bool, true, false, List, [], ◌∷◌, ◌++◌, length, drop, Some, refl, sym, ap, subst, ◌∙◌, arith}
 use Rattle.std.specs.Prelude.{map, nat_lt, ◌&&◌, if◌then◌else◌}
 use Rattle.std.specs.List.{concat}
 use Rattle.std.proofs.lemmas.Bool.{lt-ltb, le-ltb}
@@ -9,7 +9,7 @@ use Rattle.sv_links.specs.declared.channel.Stage.{Stage}
 use Rattle.sv_links.specs.declared.channel.Stage.TheVariants.{Closed, Open}
 use Rattle.sv_links.specs.declared.request.Peer.{Peer}
 use Rattle.sv_links.specs.Request.{request}
-use Rattle.sv_links.specs.Channels.{left_of, may_call}
+use Rattle.sv_links.specs.Channels.{left_of, may_call, called}
 use Rattle.sv_links.specs.KeptChannels.{Channel, IsQueued, left_in}
 use Rattle.sv_links.proofs.Left.{left-sizes, left-bytes, left-left, left-push}
 use Rattle.sv_links.proofs.Requests.{request_is_some}
@@ -66,28 +66,28 @@ is_last kept count calls is h =
     rw (← is.0) (and_false (nat_lt (length (left_of count calls)) 32) kept.made h)
 
 -- the calls behind which one was sent, if it may be
-abbrev pub with_call : Peer → List ℕ → ℕ → List (List ℕ) → Bool → List (List ℕ)
-with_call peer handle count calls can = if can then calls ++ request (length calls + 1) peer handle ∷ [] else calls
+abbrev with_call : Peer → List ℕ → List (List ℕ) → Bool → List (List ℕ)
+with_call peer handle calls can = if can then calls ++ request (length calls + 1) peer handle ∷ [] else calls
 
 -- a call is sent, as it may be
 pub IsQueued-sent : (old new : Channel) (peer : Peer) (handle : List ℕ) (count : ℕ) (calls : List (List ℕ)) (size : ℕ)
     → new.made ≡ old.made + 1 → new.sizes ≡ old.sizes ++ size ∷ [] → new.bytes ≡ old.bytes ++ request (old.made + 1) peer handle
     → length new.bytes ≡ length old.bytes + size → length old.sizes < 32 → old.made < 4294967295
-    → IsQueued old count calls → IsQueued new count (with_call peer handle count calls (may_call count calls))
+    → IsQueued old count calls → IsQueued new count (called (Some peer) count calls handle)
 IsQueued-sent old new peer handle count calls size made sizes bytes total few left is =
     let call = request (length calls + 1) peer handle in
     let bytes : new.bytes ≡ old.bytes ++ call = bytes ∙ ap (λ (n : ℕ). old.bytes ++ request (n + 1) peer handle) is.0 in
     let size_is : size ≡ length call = omega (arith, total, ap length bytes, length-append old.bytes call) in
     let sizes = sizes ∙ ap (λ (n : ℕ). old.sizes ++ n ∷ []) size_is in
-    subst (λ (can : Bool). IsQueued new count (with_call peer handle count calls can)) (sym (may_be_sent old count calls is few left))
+    subst (λ (can : Bool). IsQueued new count (with_call peer handle calls can)) (sym (may_be_sent old count calls is few left))
     (IsQueued-called old new count calls call made sizes bytes (request_is_some (length calls + 1) peer handle) is)
 
 -- none is sent, as none may be
 pub IsQueued-unsent : (kept : Channel) (peer : Peer) (handle : List ℕ) (count : ℕ) (calls : List (List ℕ))
     → may_call count calls ≡ false → IsQueued kept count calls
-    → IsQueued kept count (with_call peer handle count calls (may_call count calls))
+    → IsQueued kept count (called (Some peer) count calls handle)
 IsQueued-unsent kept peer handle count calls full is =
-    subst (λ (can : Bool). IsQueued kept count (with_call peer handle count calls can)) (sym full) is
+    subst (λ (can : Bool). IsQueued kept count (with_call peer handle calls can)) (sym full) is
 
 pub open≢closed : (stage : Stage) (peer : Peer) → stage ≡ Open peer → stage ≡ Closed → ⊥
 open≢closed stage peer e k = cc

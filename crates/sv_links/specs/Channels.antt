@@ -1,7 +1,7 @@
 -- Interrupt channels (VXI-11 revision 1.0, section B.6: device_enable_srq, create_intr_chan, destroy_intr_chan, device_intr_srq): which
 -- links ask for service requests, and what is sent on the channel of a connection. Acts are read from the newest.
-use Rattle.std.specs.Prelude.{ℕ, ◌+◌, ◌-◌, ◌==◌, not, ◌&&◌, Bool, List, [], ◌∷◌, ◌++◌, length, map, filter, drop, Option, Some, None, is_some, nat_lt, if◌then◌else◌}
-use Rattle.std.specs.List.{concat}
+use Rattle.std.specs.Prelude.{ℕ, ◌+◌, ◌-◌, ◌==◌, max, ◌&&◌, Bool, List, [], ◌∷◌, ◌++◌, length, map, filter, drop, Option, Some, None, is_some, nat_lt, if◌then◌else◌}
+use Rattle.std.specs.List.{concat, filter_map, fold, range_with_len}
 use Rattle.sv_links.specs.declared.enabled.Enabled.{Enabled}
 use Rattle.sv_links.specs.declared.request.Peer.{Peer}
 use Rattle.sv_links.specs.Request.{request}
@@ -16,20 +16,23 @@ pub data ChannelAct : Type 0 where
   Requested : ChannelAct
   ChannelTaken : (conn count : ℕ) → ChannelAct
 
--- the links of lower numbers, and those of higher ones
-abbrev pub below : ℕ → List Enabled → List Enabled
-below lid = filter (λ other. nat_lt other.lid lid)
+-- how a link asks for service requests, if it does: the newest act counts that says whether it asks
+abbrev pub asked : ℕ → List ChannelAct → Option Enabled
+asked lid [] = None
+asked lid (SrqEnabled other conn handle ∷ acts) =
+    if other == lid then Some (record { lid = lid; conn = conn; handle = handle }) else asked lid acts
+asked lid (SrqDisabled other ∷ acts) = if other == lid then None else asked lid acts
+asked lid (_ ∷ acts) = asked lid acts
 
-abbrev pub above : ℕ → List Enabled → List Enabled
-above lid = filter (λ other. nat_lt lid other.lid)
+-- a number above those of all links that ever asked
+abbrev pub past : List ChannelAct → ℕ
+past [] = 0
+past (SrqEnabled lid conn handle ∷ acts) = max (lid + 1) (past acts)
+past (_ ∷ acts) = past acts
 
 -- the links that ask for service requests, by rising number, each with the handle that it gave last
 abbrev pub enabled : List ChannelAct → List Enabled
-enabled [] = []
-enabled (SrqEnabled lid conn handle ∷ acts) =
-    below lid (enabled acts) ++ record { lid = lid; conn = conn; handle = handle } ∷ above lid (enabled acts)
-enabled (SrqDisabled lid ∷ acts) = filter (λ other. not (other.lid == lid)) (enabled acts)
-enabled (_ ∷ acts) = enabled acts
+enabled acts = filter_map (λ lid. asked lid acts) (range_with_len 0 (past acts))
 
 -- the handles of those of a connection
 abbrev pub handles_of : ℕ → List Enabled → List (List ℕ)
@@ -62,23 +65,18 @@ left_of count (call ∷ calls) = if nat_lt count (length call) then drop count c
 abbrev pub may_call : ℕ → List (List ℕ) → Bool
 may_call count calls = nat_lt (length (left_of count calls)) 32 && nat_lt (length calls) 4294967295
 
--- One call for each handle is sent behind these; its number is how many were sent so far, and one.
-abbrev pub called : Peer → ℕ → List (List ℕ) → List (List ℕ) → List (List ℕ)
-called what count [] calls = calls
-called what count (handle ∷ handles) calls =
-    called what count handles (if may_call count calls then calls ++ request (length calls + 1) what handle ∷ [] else calls)
+-- these calls with one more behind them, for a handle, if it may be sent; its number is how many were sent so far, and one
+abbrev pub called : Option Peer → ℕ → List (List ℕ) → List ℕ → List (List ℕ)
+called (Some what) count calls handle = if may_call count calls then calls ++ request (length calls + 1) what handle ∷ [] else calls
+called None count calls handle = calls
 
-abbrev pub called_by : Option Peer → ℕ → List (List ℕ) → List (List ℕ) → List (List ℕ)
-called_by (Some what) count handles calls = called what count handles calls
-called_by None count handles calls = calls
-
--- the calls that were sent on the channel of a connection since it was opened: where a request is raised, one for each of its links that
--- ask for them
+-- the calls that were sent on the channel of a connection since it was opened: where a request is raised, one after the other for each of
+-- its links that ask for them
 abbrev pub calls : ℕ → List ChannelAct → List (List ℕ)
 calls c [] = []
 calls c (ChannelOpened conn what ∷ acts) = if conn == c then [] else calls c acts
 calls c (ChannelClosed conn ∷ acts) = if conn == c then [] else calls c acts
-calls c (Requested ∷ acts) = called_by (peer c acts) (taken c acts) (handles_of c (enabled acts)) (calls c acts)
+calls c (Requested ∷ acts) = fold (called (peer c acts) (taken c acts)) (calls c acts) (handles_of c (enabled acts))
 calls c (_ ∷ acts) = calls c acts
 
 -- the bytes that wait to be sent on it; none where it isn't open

@@ -1,8 +1,8 @@
 //! One interrupt channel: the calls that wait to be sent on it.
 
-ghost use Rattle.std.specs.Prelude.{◌≡◌, ◌+◌, ◌≤◌, ◌++◌, ℕ, List, [], ◌∷◌, length, IsOk, OnOk, OnErr, option_map, is_some, Some, None, true, false, if◌then◌else◌};
-ghost use Rattle.sv_links.specs.Channels.{called, handles_of, left_of, may_call};
-ghost use Rattle.sv_links.specs.Request.{request};
+ghost use Rattle.std.specs.Prelude.{◌≡◌, ◌+◌, ◌≤◌, ℕ, List, [], length, OnOk, OnErr, is_some, Some, None, true, false};
+ghost use Rattle.std.specs.List.{fold};
+ghost use Rattle.sv_links.specs.Channels.{called, handles_of};
 ghost use Rattle.sv_links.specs.KeptChannels.{opened_for, is_prepared, IsQueued, left_in};
 
 use crate::enabled::Enabled;
@@ -168,8 +168,7 @@ impl<A: Allocator> Channel<A> {
         ensures stage { self.new.stage ≡ self.old.stage }
         ensures queued { (count : ℕ) (calls : List (List ℕ)) → IsQueued self.old count calls
             → IsQueued self.new count
-            (if may_call count calls
-            then calls ++ request (length calls + 1) peer handle.now ∷ [] else calls) }
+            (called (Some peer) count calls handle.now) }
     {
         if self.sizes.len() >= MOST || self.made == u32::MAX {
             return;
@@ -185,7 +184,8 @@ impl<A: Allocator> Channel<A> {
         ensures stage { self.new.stage ≡ self.old.stage }
         ensures queued { (count : ℕ) (calls : List (List ℕ)) (peer : Peer)
             → opened_for self.old.stage ≡ Some peer → IsQueued self.old count calls
-            → IsQueued self.new count (called peer count (handles_of conn enabled.now) calls) }
+            → IsQueued self.new count
+            (fold (called (Some peer) count) calls (handles_of conn enabled.now)) }
     {
         let Stage::Open(peer) = self.stage else {
             return;

@@ -15,6 +15,7 @@ use Rattle.sv_links.specs.Table.{Table, IsTable, IsRising}
 use Rattle.sv_links.specs.declared.enabled.Enabled.{Enabled}
 use Rattle.sv_links.specs.Channels.{ChannelAct, SrqDisabled}
 use Rattle.sv_links.specs.KeptChannels.{Channels, Channel, AreChannels, IsReady, is_prepared, disabled, of_others}
+use Rattle.sv_links.proofs.Rising.{enabled-disabled}
 use Rattle.sv_links.specs.Waiting.{WaitAct, Entered, Again, Left, waits}
 use Rattle.sv_links.specs.Queue.{IsQueue, creates, creations, without}
 use Rattle.sv_links.proofs.Counted.{creations-without, creations-push, creations-other}
@@ -163,7 +164,8 @@ told_destroyed : (old intr : Channels) (acts : List BenchAct) (lid : ℕ) → Ar
 told_destroyed old intr acts lid (told, tells, are, owned) disables =
     let now = disables told are in
     let less : intr.enabled ≡ filter (λ other. not (other.lid == lid)) old.enabled =
-    now.enabled ∙ ap (λ (links : List Enabled). filter (λ other. not (other.lid == lid)) links) (sym are.enabled) in
+    now.enabled ∙ enabled-disabled lid told ∙ ap (λ (links : List Enabled). filter (λ other. not (other.lid == lid)) links)
+    (sym are.enabled) in
     (SrqDisabled lid ∷ told, (told, tells, refl), now, rw less (owned_destroyed old.enabled (link_acts acts) lid owned))
 
 pub bench_destroyed : (kept : Bench) (links : Table) (intr : Channels) (config : Config) (acts : List BenchAct) (lid : ℕ)

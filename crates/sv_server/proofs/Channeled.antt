@@ -8,15 +8,16 @@ use Rattle.sv_links.specs.declared.waiting.Wait.TheVariants.{Dial}
 use Rattle.sv_links.specs.Links.{LinkAct, owner, is_of}
 use Rattle.sv_links.specs.Waiting.{WaitAct, Entered, Left}
 use Rattle.sv_links.specs.Queue.{IsQueue}
-use Rattle.sv_links.specs.Channels.{ChannelAct, SrqEnabled, SrqDisabled, below, above}
+use Rattle.sv_links.specs.Channels.{ChannelAct, SrqEnabled, SrqDisabled}
 use Rattle.sv_links.specs.KeptChannels.{Channels, AreChannels, IsReady, HasRoomFor}
+use Rattle.sv_links.proofs.Rising.{with_link, enabled-enabled, enabled-disabled, enabled-sorted}
 use Rattle.sv_history.specs.declared.event.Config.{Config}
 use Rattle.sv_history.specs.Act.{BenchAct, Linked, Waited, Channel, link_acts, wait_acts}
 use Rattle.sv_history.specs.Requests.{Tells}
 use Rattle.sv_server.specs.KeptBench.{Bench, IsBench, IsReserved, AreOwned, AreReady}
 use Rattle.sv_history.proofs.Projections.{wait_acts-links}
 use Rattle.sv_server.proofs.Benches.{dials_left}
-use Rattle.sv_server.proofs.Owned.{enabled_sorted, room_for, owned_enabled}
+use Rattle.sv_server.proofs.Owned.{room_for, owned_enabled}
 
 -- an act of a channel
 pub bench_channel : (kept : Bench) (intr : Channels) (config : Config) (acts : List BenchAct) (act : ChannelAct) → IsBench kept config acts
@@ -89,7 +90,7 @@ pub room_there : (kept : Bench) (config : Config) (acts : List BenchAct) (lid co
     → owner lid (link_acts acts) ≡ Some conn → HasRoomFor lid kept.intr
 room_there kept config acts lid conn is owns =
     let (told, tells, are, owned) = is.6 in
-    room_for kept.intr.enabled (link_acts acts) lid conn (rw are.enabled (enabled_sorted told)) owned owns (omega (arith, is.5.0))
+    room_for kept.intr.enabled (link_acts acts) lid conn (rw are.enabled (enabled-sorted told)) owned owns (omega (arith, is.5.0))
 
 pub bench_enabled : (kept : Bench) (intr : Channels) (config : Config) (acts : List BenchAct) (lid conn : ℕ) (handle : List ℕ)
     → IsBench kept config acts → owner lid (link_acts acts) ≡ Some conn
@@ -101,10 +102,9 @@ bench_enabled kept intr config acts lid conn handle is owns stands still =
     let (told, tells, are, owned) = is.6 in
     let room = room_there kept config acts lid conn is owns in
     let now = stands room told are in
-    let more : intr.enabled
-    ≡ below lid kept.intr.enabled ++ record { lid = lid; conn = conn; handle = handle } ∷ above lid kept.intr.enabled =
-    now.enabled ∙ ap (λ (links : List Enabled). below lid links ++ record { lid = lid; conn = conn; handle = handle } ∷ above lid links)
-    (sym are.enabled) in
+    let link : Enabled = record { lid = lid; conn = conn; handle = handle } in
+    let more : intr.enabled ≡ with_link link kept.intr.enabled =
+    now.enabled ∙ enabled-enabled link told ∙ ap (with_link link) (sym are.enabled) in
     bench_channel kept intr config acts (SrqEnabled lid conn handle) is (λ t tells are. stands room t are)
     (rw more (owned_enabled kept.intr.enabled (link_acts acts) lid conn handle owned owns)) (λ c dials. still c (is.7 c dials))
 
@@ -125,7 +125,8 @@ bench_disabled kept intr config acts lid is stands still =
     let (told, tells, are, owned) = is.6 in
     let now = stands told are in
     let less : intr.enabled ≡ filter (λ other. not (other.lid == lid)) kept.intr.enabled =
-    now.enabled ∙ ap (λ (links : List Enabled). filter (λ other. not (other.lid == lid)) links) (sym are.enabled) in
+    now.enabled ∙ enabled-disabled lid told ∙ ap (λ (links : List Enabled). filter (λ other. not (other.lid == lid)) links)
+    (sym are.enabled) in
     bench_channel kept intr config acts (SrqDisabled lid) is (λ t tells are. stands t are)
     (rw less (owned_less (λ other. not (other.lid == lid)) kept.intr.enabled (link_acts acts) owned)) (λ c dials. still c (is.7 c dials))
 

@@ -2,14 +2,15 @@
 use Rattle.std.proofs.Common.{◌≡◌, ◌≢◌, ℕ, ◌<◌, ◌≤◌, Bool, true, false, eqb, List, [], ◌∷◌, ◌++◌, length, Option, Some, refl, sym, ap, ◌∙◌, arith, inl, inr, eq-eqb}
 use Rattle.std.specs.Prelude.{◌==◌, not, map, filter, find, option_map, reverse, nat_lt}
 use Rattle.std.specs.List.{AllByRecursion, list_any}
-use Rattle.std.proofs.lemmas.Bool.{ne_eqb, cases_Bool, cases_eq, eqb-true, ltb-true}
+use Rattle.std.proofs.lemmas.Bool.{ne_eqb, cases_Bool, cases_eq, eqb-true}
 use mathlib.Core.List.{reverse_aux}
 use Rattle.sv_links.specs.declared.links.Link.{Link}
 use Rattle.sv_links.specs.declared.enabled.Enabled.{Enabled}
 use Rattle.sv_links.specs.Links.{LinkAct, Made, Destroyed, live, owner, is_of, links_of, closing}
 use Rattle.sv_links.specs.Table.{IsRising}
-use Rattle.sv_links.specs.Channels.{ChannelAct, SrqEnabled, SrqDisabled, ChannelOpened, ChannelClosed, Requested, ChannelTaken, enabled, below, above}
-use Rattle.sv_links.specs.KeptChannels.{IsSorted, disabled, of_others}
+use Rattle.sv_links.specs.Channels.{ChannelAct, SrqDisabled}
+use Rattle.sv_links.specs.KeptChannels.{IsSorted, disabled, of_others, below, above}
+use Rattle.sv_links.proofs.Asking.{sorted-filter}
 use Rattle.sv_links.proofs.Tables.{Below, above-filter, other_than}
 use Rattle.sv_history.specs.Act.{BenchAct, Linked, link_acts}
 use Rattle.sv_server.specs.KeptBench.{AreOwned}
@@ -190,51 +191,7 @@ pub tells_closed : (c : ℕ) (acts : List BenchAct) (told : List ChannelAct) →
 tells_closed c acts told tells = rw (closing_numbers c (link_acts acts))
     (tells_gone (reverse (links_of c (link_acts acts))) acts told tells)
 
--- ---- their order, and how many
-
-passing : (Q : Enabled → Type 0) (test : Enabled → Bool) (links : List Enabled) → ((link : Enabled) → test link ≡ true → Q link)
-    → AllByRecursion Q (filter test links)
-passing Q test [] so = tt
-passing Q test (link ∷ links) so = elim (cases_Bool (test link)) [
-  | inl e ↦ rw e (so link e, passing Q test links so)
-  | inr e ↦ rw e (passing Q test links so)
-]
-
-sorted_filter : (test : Enabled → Bool) (links : List Enabled) → IsSorted links → IsSorted (filter test links)
-sorted_filter test [] sorted = tt
-sorted_filter test (link ∷ links) sorted =
-    let P : Enabled → Type 0 = λ other. link.lid < other.lid in
-    elim (cases_Bool (test link)) [
-      | inl e ↦ rw e (all_passing P P test links (λ other k h. h) sorted.0, sorted_filter test links sorted.1)
-      | inr e ↦ rw e (sorted_filter test links sorted.1)
-    ]
-
-sorted_join : (links : List Enabled) (one : Enabled) (more : List Enabled) → IsSorted links
-    → AllByRecursion (λ other. other.lid < one.lid) links → AllByRecursion (λ other. one.lid < other.lid) more → IsSorted more
-    → IsSorted (links ++ one ∷ more)
-sorted_join [] one more sorted low high behind = (high, behind)
-sorted_join (link ∷ links) one more sorted low high behind =
-    let P : Enabled → Type 0 = λ other. link.lid < other.lid in (
-      all_join P links (one ∷ more) sorted.0
-          (low.0, all_of (λ other. one.lid < other.lid) P more (λ other h. omega (arith, h, low.0)) high),
-      sorted_join links one more sorted.1 low.1 high behind,
-    )
-
--- they stand by rising number
-pub enabled_sorted : (acts : List ChannelAct) → IsSorted (enabled acts)
-enabled_sorted [] = tt
-enabled_sorted (SrqEnabled lid conn handle ∷ acts) =
-    let one : Enabled = record { lid = lid; conn = conn; handle = handle } in
-    sorted_join (below lid (enabled acts)) one (above lid (enabled acts))
-    (sorted_filter (λ other. nat_lt other.lid lid) (enabled acts) (enabled_sorted acts))
-    (passing (λ other. other.lid < lid) (λ other. nat_lt other.lid lid) (enabled acts) (λ other e. ltb-true other.lid lid e))
-    (passing (λ other. lid < other.lid) (λ other. nat_lt lid other.lid) (enabled acts) (λ other e. ltb-true lid other.lid e))
-    (sorted_filter (λ other. nat_lt lid other.lid) (enabled acts) (enabled_sorted acts))
-enabled_sorted (SrqDisabled lid ∷ acts) = sorted_filter (λ other. not (eqb other.lid lid)) (enabled acts) (enabled_sorted acts)
-enabled_sorted (ChannelOpened conn peer ∷ acts) = enabled_sorted acts
-enabled_sorted (ChannelClosed conn ∷ acts) = enabled_sorted acts
-enabled_sorted (Requested ∷ acts) = enabled_sorted acts
-enabled_sorted (ChannelTaken conn count ∷ acts) = enabled_sorted acts
+-- ---- how many there are
 
 no_more : (test : Link → Bool) (xs : List Link) → length (filter test xs) ≤ length xs
 no_more test [] = omega arith
@@ -276,5 +233,5 @@ pub room_for : (links : List Enabled) (acts : List LinkAct) (lid conn : ℕ) →
 room_for links acts lid conn sorted owned own within =
     let left : length (filter (λ (other : Enabled). not (eqb other.lid lid)) links) ≤ length (filter (other_than lid) (live acts))
     = no_more_than (filter (λ other. not (eqb other.lid lid)) links) (filter (other_than lid) (live acts))
-    (sorted_filter (λ other. not (eqb other.lid lid)) links sorted) (owned_destroyed links acts lid owned) in
+    (sorted-filter (λ other. not (eqb other.lid lid)) links sorted) (owned_destroyed links acts lid owned) in
     omega (arith, left, fewer lid conn (live acts) own, within)

@@ -1,4 +1,6 @@
 use Rattle.std.proofs.Common.{ℕ, List, ap, sym, subst, ◌∙◌}
+use Rattle.std.specs.Prelude.{Some}
+use Rattle.std.specs.List.{fold}
 use Rattle.std.proofs.lemmas.List.{take_all}
 use Rattle.sv_links.specs.declared.request.Peer.{Peer}
 use Rattle.sv_links.specs.declared.enabled.Enabled.{Enabled}
@@ -42,5 +44,5 @@ returns-clause-queued g c count calls peer there is =
     let all = take_all i links c.loop-link-test.false in
     subst (λ (called : List (List ℕ)). IsQueued c.loop-link.self count called)
     (ap (λ (p : Peer). called_for p count c.args.conn links i calls) (sym same)
-    ∙ ap (λ (links : List Enabled). called peer count (handles_of c.args.conn links) calls) all)
+    ∙ ap (λ (links : List Enabled). fold (called (Some peer) count) calls (handles_of c.args.conn links)) all)
     (c.loop-link.invariant.queued count calls is)

@@ -1,4 +1,4 @@
-use Rattle.std.proofs.Common.{◌≡◌, ◌<◌, true, length, sym, ap, subst, ◌∙◌, arith}
+use Rattle.std.proofs.Common.{◌≡◌, ◌<◌, true, length, sym, ap, subst, ◌∙◌, arith, rules}
 use Rattle.std.specs.Prelude.{slice_index_or, slice_set}
 use Rattle.std.proofs.lemmas.Bool.{false≢true}
 use Rattle.std.proofs.lemmas.List.{get_or-set_same}
@@ -14,3 +14,12 @@ returns-clause-unready g c ready =
     let place = ap (λ (kept : Channel). is_prepared kept.stage) (get_or-set_same items i new new within) in
     let there = subst (λ k. is_prepared (slice_index_or (slice_set items i new) k new).stage ≡ true) (sym c.from.ensures) (ready new) in
     false≢true (sym c.cancel.ensures.unready ∙ sym place ∙ there)
+
+pub returns-clause-others : goal.returns-clause-others
+returns-clause-others g c = search rules
+
+pub returns-clause-stands : goal.returns-clause-stands
+returns-clause-stands g c = search rules
+
+pub returns-clause-enabled : goal.returns-clause-enabled
+returns-clause-enabled g c = search rules

@@ -1,8 +1,9 @@
-use Rattle.std.proofs.Common.{◌≡◌, true, arith, ap, subst, ◌∙◌}
+use Rattle.std.proofs.Common.{◌≡◌, true, arith, ap, subst, ◌∙◌, rules}
 use Rattle.std.specs.Prelude.{slice_index_or}
 use Rattle.std.proofs.lemmas.Result.{on_ok_weaker}
 use Rattle.sv_links.specs.KeptChannels.{Channel, is_prepared}
 use Rattle.sv_links.proofs.Acts.{at_set}
+use Rattle.std.proofs.lemmas.Grind.{common_steps}
 use Rattle.sv_links.proofs.intr.Intr.prepare.Goals as goal
 
 pub returns-clause-others : goal.returns-clause-others
@@ -18,3 +19,15 @@ returns-clause-others g c =
     ∙ (subst (λ k. (other : Channel) → is_prepared (slice_index_or items k other).stage ≡ true) same (rw (← c.self.view_is) at ready)) old))
     (λ apart. (rw (← c.self.view_is) at ready) other))
     c.prepare.ensures.stays
+
+pub returns-clause-ready : goal.returns-clause-ready
+returns-clause-ready g c = search rules
+
+pub returns-clause-stands : goal.returns-clause-stands
+returns-clause-stands g c = search rules
+
+pub returns-clause-enabled : goal.returns-clause-enabled
+returns-clause-enabled g c = search rules
+
+pub returns-clause-err : goal.returns-clause-err
+returns-clause-err g c = grind (arith, common_steps)

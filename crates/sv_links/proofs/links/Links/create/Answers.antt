@@ -1,4 +1,4 @@
-use Rattle.std.proofs.Common.{arith, ◌∙◌, sym, ap, refl, ℕ, ◌+◌, List, Option, None}
+use Rattle.std.proofs.Common.{arith, ◌∙◌, sym, ap, refl, ℕ, ◌+◌, List, Option, None, rules}
 use Rattle.std.specs.Prelude.{slice_index_or}
 use Rattle.slab.specs.Slab.{Slab}
 use Rattle.sv_links.specs.declared.links.Link.{Link}
@@ -39,3 +39,6 @@ returns-clause-refused g c acts is =
     let old = rw (← c.self.view_is) at is in
     let can = has_place _ acts old (omega (arith, c.if-len-ge-MOST.false, c.len.ensures)) c.if-self-ge-LAST.false in
     (λ e. absurd (made≢resources _ e), λ k. absurd (false≢true (sym k ∙ can)))
+
+pub returns-then-is_err-clause-err : goal.returns-then-is_err-clause-err
+returns-then-is_err-clause-err g c = search rules

@@ -1,0 +1,165 @@
+-- The links that ask for service requests, over acts.
+use Rattle.std.proofs.Common.{◌≡◌, ◌≢◌, ℕ, zero, suc, ◌+◌, ◌<◌, ◌≤◌, eqb, List, [], ◌∷◌, ◌++◌, Option, Some, None, refl, sym, ap, subst, ◌∙◌, eq-eqb, arith, inl, inr}
+use Rattle.std.specs.Prelude.{max}
+use Rattle.std.specs.List.{AllByRecursion, filter_map, range_with_len, cons_option}
+use Rattle.std.proofs.lemmas.Bool.{cases_Bool, cases_eq, cond_both, ne_eqb, lt-ltb, le-ltb}
+use Rattle.sv_links.specs.declared.enabled.Enabled.{Enabled}
+use Rattle.sv_links.specs.Channels.{ChannelAct, SrqEnabled, SrqDisabled, ChannelOpened, ChannelClosed, Requested, ChannelTaken, asked, past, enabled}
+use Rattle.sv_links.specs.KeptChannels.{IsSorted, below, above}
+use Rattle.sv_links.proofs.Asking.{other_links, none_below, all_above}
+
+-- those of n numbers, from a on
+abbrev among : ℕ → ℕ → List ChannelAct → List Enabled
+among a n acts = filter_map (λ lid. asked lid acts) (range_with_len a n)
+
+-- ---- one number
+
+-- A link, if there is one, has this number.
+abbrev IsAt : ℕ → Option Enabled → Type 0
+IsAt a link = (x : Enabled) → link ≡ Some x → x.lid ≡ a
+
+some_is : (x y : Enabled) → Some x ≡ Some y → x ≡ y
+some_is x y e = cc
+
+asked-at : (lid : ℕ) (acts : List ChannelAct) → IsAt lid (asked lid acts)
+asked-at lid [] x h = absurd cc
+asked-at lid (SrqEnabled other conn handle ∷ acts) x h = elim (cases_Bool (eqb other lid)) [
+  | inl e ↦
+      let one : Enabled = record { lid = lid; conn = conn; handle = handle } in
+      ap (λ (link : Enabled). link.lid) (sym (some_is one x (rw e at h)))
+  | inr e ↦ asked-at lid acts x (rw e at h)
+]
+asked-at lid (SrqDisabled other ∷ acts) x h = elim (cases_Bool (eqb other lid)) [
+  | inl e ↦ absurd (let none : None ≡ Some x = rw e at h in cc)
+  | inr e ↦ asked-at lid acts x (rw e at h)
+]
+asked-at lid (ChannelOpened conn peer ∷ acts) x h = asked-at lid acts x h
+asked-at lid (ChannelClosed conn ∷ acts) x h = asked-at lid acts x h
+asked-at lid (Requested ∷ acts) x h = asked-at lid acts x h
+asked-at lid (ChannelTaken conn count ∷ acts) x h = asked-at lid acts x h
+
+-- none past all numbers asks
+asked-past : (lid : ℕ) (acts : List ChannelAct) → past acts ≤ lid → asked lid acts ≡ None
+asked-past lid [] h = refl
+asked-past lid (SrqEnabled other conn handle ∷ acts) h =
+    rw (ne_eqb other lid (λ e. absurd (omega (arith, e, h)))) (asked-past lid acts (omega (arith, h)))
+asked-past lid (SrqDisabled other ∷ acts) h = cond_both (eqb other lid) None (asked lid acts) (λ link. link ≡ None)
+    (λ _. refl) (λ _. asked-past lid acts h)
+asked-past lid (ChannelOpened conn peer ∷ acts) h = asked-past lid acts h
+asked-past lid (ChannelClosed conn ∷ acts) h = asked-past lid acts h
+asked-past lid (Requested ∷ acts) h = asked-past lid acts h
+asked-past lid (ChannelTaken conn count ∷ acts) h = asked-past lid acts h
+
+-- ---- they stand by rising number
+
+all_behind : (k a : ℕ) (first : Option Enabled) (xs : List Enabled) → IsAt a first → k < a → AllByRecursion (λ x. k < x.lid) xs
+    → AllByRecursion (λ x. k < x.lid) (cons_option first xs)
+all_behind k a None xs is lt h = h
+all_behind k a (Some x) xs is lt h = (rw (is x refl) lt, h)
+
+behind : (k a n : ℕ) (acts : List ChannelAct) → k < a → AllByRecursion (λ x. k < x.lid) (among a n acts)
+behind k a zero acts lt = tt
+behind k a (suc n) acts lt =
+    all_behind k a (asked a acts) (among (a + 1) n acts) (asked-at a acts) lt (behind k (a + 1) n acts (omega (arith, lt)))
+
+sorted_with : (a : ℕ) (first : Option Enabled) (xs : List Enabled) → IsAt a first → AllByRecursion (λ x. a < x.lid) xs → IsSorted xs
+    → IsSorted (cons_option first xs)
+sorted_with a None xs is h sorted = sorted
+sorted_with a (Some x) xs is h sorted = (rw (is x refl) h, sorted)
+
+sorted : (a n : ℕ) (acts : List ChannelAct) → IsSorted (among a n acts)
+sorted a zero acts = tt
+sorted a (suc n) acts =
+    sorted_with a (asked a acts) (among (a + 1) n acts) (asked-at a acts) (behind a (a + 1) n acts (omega arith)) (sorted (a + 1) n acts)
+
+pub enabled-sorted : (acts : List ChannelAct) → IsSorted (enabled acts)
+enabled-sorted acts = sorted 0 (past acts) acts
+
+-- ---- a link asks no more
+
+without_it : (lid a : ℕ) (first : Option Enabled) (xs : List Enabled) → IsAt a first → lid ≡ a
+    → other_links lid xs ≡ other_links lid (cons_option first xs)
+without_it lid a None xs is e = refl
+without_it lid a (Some x) xs is e = rw (eq-eqb x.lid lid (is x refl ∙ sym e)) refl
+
+with_other : (lid a : ℕ) (first : Option Enabled) (xs : List Enabled) → IsAt a first → lid ≢ a
+    → cons_option first (other_links lid xs) ≡ other_links lid (cons_option first xs)
+with_other lid a None xs is apart = refl
+with_other lid a (Some x) xs is apart = rw (ne_eqb x.lid lid (λ e. apart (sym e ∙ is x refl))) refl
+
+less : (lid a n : ℕ) (acts : List ChannelAct) → among a n (SrqDisabled lid ∷ acts) ≡ other_links lid (among a n acts)
+less lid a zero acts = refl
+less lid a (suc n) acts =
+    let rest = among (a + 1) n acts in
+    elim (cases_eq lid a) [
+      | inl e ↦ rw (eq-eqb lid a e) (less lid (a + 1) n acts ∙ without_it lid a (asked a acts) rest (asked-at a acts) e)
+      | inr e ↦
+          rw (ne_eqb lid a e) (ap (cons_option (asked a acts)) (less lid (a + 1) n acts)
+          ∙ with_other lid a (asked a acts) rest (asked-at a acts) e)
+    ]
+
+pub enabled-disabled : (lid : ℕ) (acts : List ChannelAct) → enabled (SrqDisabled lid ∷ acts) ≡ other_links lid (enabled acts)
+enabled-disabled lid acts = less lid 0 (past acts) acts
+
+-- ---- a link asks
+
+-- the links, with this one at its place
+abbrev pub with_link : Enabled → List Enabled → List Enabled
+with_link link xs = below link.lid xs ++ link ∷ above link.lid xs
+
+in_front : (link : Enabled) (first : Option Enabled) (xs : List Enabled) → IsAt link.lid first
+    → AllByRecursion (λ x. link.lid < x.lid) xs → link ∷ xs ≡ with_link link (cons_option first xs)
+in_front link None xs is h =
+    rw (none_below link.lid link.lid xs (omega arith) h, all_above link.lid link.lid xs (omega arith) h) refl
+in_front link (Some x) xs is h =
+    let same = is x refl in
+    rw (
+      le-ltb x.lid link.lid (omega (arith, same)),
+      le-ltb link.lid x.lid (omega (arith, same)),
+      none_below link.lid link.lid xs (omega arith) h,
+      all_above link.lid link.lid xs (omega arith) h,
+    ) refl
+
+further : (link : Enabled) (a : ℕ) (first : Option Enabled) (xs : List Enabled) → IsAt a first → a < link.lid
+    → cons_option first (with_link link xs) ≡ with_link link (cons_option first xs)
+further link a None xs is lt = refl
+further link a (Some x) xs is lt =
+    let same = is x refl in
+    rw (lt-ltb x.lid link.lid (omega (arith, same, lt)), le-ltb link.lid x.lid (omega (arith, same, lt))) refl
+
+-- those behind it are as before
+same : (link : Enabled) (a n : ℕ) (acts : List ChannelAct) → link.lid < a
+    → among a n (SrqEnabled link.lid link.conn link.handle ∷ acts) ≡ among a n acts
+same link a zero acts lt = refl
+same link a (suc n) acts lt =
+    rw (ne_eqb link.lid a (λ e. absurd (omega (arith, e, lt))))
+    (ap (cons_option (asked a acts)) (same link (a + 1) n acts (omega (arith, lt))))
+
+more : (link : Enabled) (a n : ℕ) (acts : List ChannelAct) → a ≤ link.lid → link.lid < a + n
+    → among a n (SrqEnabled link.lid link.conn link.handle ∷ acts) ≡ with_link link (among a n acts)
+more link a zero acts le lt = absurd (omega (arith, le, lt))
+more link a (suc n) acts le lt = elim (cases_eq link.lid a) [
+  | inl e ↦ subst (λ a. among a (suc n) (SrqEnabled link.lid link.conn link.handle ∷ acts) ≡ with_link link (among a (suc n) acts)) e
+      (rw (eq-eqb link.lid link.lid refl) (ap (λ (xs : List Enabled). link ∷ xs) (same link (link.lid + 1) n acts (omega arith))
+      ∙ in_front link (asked link.lid acts) (among (link.lid + 1) n acts) (asked-at link.lid acts)
+      (behind link.lid (link.lid + 1) n acts (omega arith))))
+  | inr e ↦ rw (ne_eqb link.lid a e) (ap (cons_option (asked a acts))
+      (more link (a + 1) n acts (omega (arith, e, le)) (omega (arith, lt)))
+      ∙ further link a (asked a acts) (among (a + 1) n acts) (asked-at a acts) (omega (arith, e, le)))
+]
+
+-- more numbers bring no link more
+longer : (a n m : ℕ) (acts : List ChannelAct) → past acts ≤ a + n → n ≤ m → among a n acts ≡ among a m acts
+longer a zero zero acts all le = refl
+longer a zero (suc m) acts all le =
+    rw (asked-past a acts (omega (arith, all))) (longer (a + 1) zero m acts (omega (arith, all)) (omega arith))
+longer a (suc n) zero acts all le = absurd (omega (arith, le))
+longer a (suc n) (suc m) acts all le =
+    ap (cons_option (asked a acts)) (longer (a + 1) n m acts (omega (arith, all)) (omega (arith, le)))
+
+pub enabled-enabled : (link : Enabled) (acts : List ChannelAct)
+    → enabled (SrqEnabled link.lid link.conn link.handle ∷ acts) ≡ with_link link (enabled acts)
+enabled-enabled link acts =
+    let n = max (link.lid + 1) (past acts) in
+    more link 0 n acts (omega arith) (omega arith)
+    ∙ ap (with_link link) (sym (longer 0 (past acts) n acts (omega arith) (omega arith)))
