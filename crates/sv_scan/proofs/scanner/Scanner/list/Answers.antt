@@ -1,0 +1,8 @@
+use Rattle.std.proofs.Common.{rules}
+use Rattle.sv_scan.proofs.scanner.Scanner.list.Goals as goal
+
+pub returns-clause-answer : goal.returns-clause-answer
+returns-clause-answer g c = search rules
+
+pub returns-clause-bounded : goal.returns-clause-bounded
+returns-clause-bounded g c = search rules
