@@ -3,6 +3,3 @@ use Rattle.sv_scan.proofs.scan_list.ScanList.channels.Goals as goal
 
 pub returns-clause-same : goal.returns-clause-same
 returns-clause-same c = search rules
-
-pub returns-clause-few : goal.returns-clause-few
-returns-clause-few c = search rules

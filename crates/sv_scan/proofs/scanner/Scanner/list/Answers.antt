@@ -3,6 +3,3 @@ use Rattle.sv_scan.proofs.scanner.Scanner.list.Goals as goal
 
 pub returns-clause-answer : goal.returns-clause-answer
 returns-clause-answer g c = search rules
-
-pub returns-clause-bounded : goal.returns-clause-bounded
-returns-clause-bounded g c = search rules

@@ -6,6 +6,3 @@ returns-then-not-is_idle-clause-answer g c = search rules
 
 pub returns-clause-answer : goal.returns-clause-answer
 returns-clause-answer g c = search rules
-
-pub returns-clause-possible : goal.returns-clause-possible
-returns-clause-possible g c = search rules

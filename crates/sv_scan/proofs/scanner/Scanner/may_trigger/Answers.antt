@@ -3,6 +3,3 @@ use Rattle.sv_scan.proofs.scanner.Scanner.may_trigger.Goals as goal
 
 pub returns-clause-answer : goal.returns-clause-answer
 returns-clause-answer g c = search rules
-
-pub returns-clause-waiting : goal.returns-clause-waiting
-returns-clause-waiting g c = search rules

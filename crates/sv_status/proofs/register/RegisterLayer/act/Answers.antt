@@ -3,6 +3,3 @@ use Rattle.sv_status.proofs.register.RegisterLayer.act.Goals as goal
 
 pub returns-in-ReadEvent-clause-answer : goal.returns-in-ReadEvent-clause-answer
 returns-in-ReadEvent-clause-answer c = search rules
-
-pub returns-in-SetFilter-clause-stands : goal.returns-in-SetFilter-clause-stands
-returns-in-SetFilter-clause-stands c = search rules

@@ -3,6 +3,3 @@ use Rattle.sv_status.proofs.standard_event.StandardEventLayer.act.Goals as goal
 
 pub returns-in-Read-clause-answer : goal.returns-in-Read-clause-answer
 returns-in-Read-clause-answer c = search rules
-
-pub returns-in-SetEnable-clause-stands : goal.returns-in-SetEnable-clause-stands
-returns-in-SetEnable-clause-stands c = search rules
