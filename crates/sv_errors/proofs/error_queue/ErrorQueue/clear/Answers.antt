@@ -1,0 +1,5 @@
+use Rattle.std.proofs.Common.{rules}
+use Rattle.sv_errors.proofs.error_queue.ErrorQueue.clear.Goals as goal
+
+pub returns : goal.returns
+returns g c = search rules

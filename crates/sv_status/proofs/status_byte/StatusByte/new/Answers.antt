@@ -1,0 +1,5 @@
+use Rattle.std.proofs.Common.{rules}
+use Rattle.sv_status.proofs.status_byte.StatusByte.new.Goals as goal
+
+pub returns : goal.returns
+returns c = search rules
