@@ -6,7 +6,7 @@ use Rattle.std.specs.Int.{bit_at}
 use Rattle.sv_errors.specs.declared.code.Code.{Code}
 use Rattle.sv_errors.specs.declared.code.Code.TheVariants.{NoError}
 use Rattle.sv_errors.specs.ErrorQueue.{entries, oldest}
-use Rattle.sv_value.specs.Written.{voltage_text}
+use Rattle.sv_value.specs.PrintedVoltage.{voltage_text}
 use Rattle.sv_value.specs.Printing.{overload_text, channels_text, error_text, switch_text, source_text}
 use Rattle.sv_scan.specs.declared.setting.Reading.{Reading}
 use Rattle.sv_scan.specs.declared.setting.Reading.TheVariants.{Value, Over, Under}

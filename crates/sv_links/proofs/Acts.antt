@@ -7,7 +7,7 @@ use Rattle.std.proofs.lemmas.List.{get_or-set_same, get_or-set_other}
 use Rattle.sv_links.specs.declared.enabled.Enabled.{Enabled}
 use Rattle.sv_links.specs.declared.request.Peer.{Peer}
 use Rattle.sv_links.specs.Channels.{ChannelAct, SrqEnabled, SrqDisabled, Requested, enabled, peer, taken, calls, called, handles_of}
-use Rattle.sv_links.specs.KeptChannels.{Channel, Channels, AreChannels, disabled, IsChannel, IsChannelFor, IsQueued, opened_for}
+use Rattle.sv_links.specs.ChannelRepresentation.{Channel, Channels, AreChannels, disabled, IsChannel, IsChannelFor, IsQueued, opened_for}
 use Rattle.sv_links.proofs.Asking.{other_links}
 use Rattle.sv_links.proofs.Rising.{with_link, enabled-enabled, enabled-disabled}
 

@@ -5,7 +5,7 @@ use Rattle.std.specs.List.{AllByRecursion, insert}
 use Rattle.std.proofs.lemmas.Bool.{cases_Bool, cond_both, eqb-true, eqb-false, ltb-true, ltb-false, lt-ltb, le-ltb}
 use Rattle.std.proofs.lemmas.List.Elements.{All-filter, All-from_recursion, recursion_from_All}
 use Rattle.sv_links.specs.declared.enabled.Enabled.{Enabled}
-use Rattle.sv_links.specs.KeptChannels.{IsSorted, below, above}
+use Rattle.sv_links.specs.ChannelRepresentation.{IsSorted, below, above}
 
 -- the links without this one
 abbrev pub other_links : ℕ → List Enabled → List Enabled

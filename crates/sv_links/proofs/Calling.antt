@@ -9,7 +9,7 @@ use Rattle.sv_links.specs.declared.request.Peer.{Peer}
 use Rattle.sv_links.specs.declared.channel.Stage.{Stage}
 use Rattle.sv_links.specs.declared.channel.Stage.TheVariants.{Open}
 use Rattle.sv_links.specs.Channels.{called, handles_of}
-use Rattle.sv_links.specs.KeptChannels.{opened_for}
+use Rattle.sv_links.specs.ChannelRepresentation.{opened_for}
 
 handles_own : (conn : ℕ) (links : List Enabled) (link : Enabled) → eqb link.conn conn ≡ true
     → handles_of conn (links ++ link ∷ []) ≡ handles_of conn links ++ link.handle ∷ []

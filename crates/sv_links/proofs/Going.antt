@@ -4,7 +4,7 @@ use Rattle.std.specs.Prelude.{slice_get, slice_set}
 use Rattle.std.specs.List.{refill}
 use Rattle.std.proofs.lemmas.Bool.{lt-ltb, le-ltb}
 use Rattle.std.proofs.lemmas.List.{take_at}
-use Rattle.sv_links.specs.KeptChannels.{left_in}
+use Rattle.sv_links.specs.ChannelRepresentation.{left_in}
 
 -- the first keeps a part
 pub first-part : (sizes lent : List ℕ) (left size : ℕ) → lent ≡ sizes → Some size ≡ slice_get sizes 0 → left < size

@@ -6,7 +6,7 @@ use Rattle.std.proofs.lemmas.Bool.{cases_Bool, ltb-true, ltb-false, lt-ltb, le-l
 use Rattle.std.proofs.lemmas.List.{length-append, length-drop, drop_at, drop-drop, drop-append-le}
 use Rattle.std.proofs.lemmas.List.Sums.{sum_by-cons}
 use Rattle.sv_links.specs.Channels.{left_of}
-use Rattle.sv_links.specs.KeptChannels.{left_in}
+use Rattle.sv_links.specs.ChannelRepresentation.{left_in}
 
 -- the sizes of what is left of calls are what is left of their sizes
 pub left-sizes : (count : ℕ) (calls : List (List ℕ)) → map length (left_of count calls) ≡ left_in count (map length calls)

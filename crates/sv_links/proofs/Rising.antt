@@ -5,7 +5,7 @@ use Rattle.std.specs.List.{AllByRecursion, filter_map, range_with_len, cons_opti
 use Rattle.std.proofs.lemmas.Bool.{cases_Bool, cases_eq, cond_both, ne_eqb, lt-ltb, le-ltb}
 use Rattle.sv_links.specs.declared.enabled.Enabled.{Enabled}
 use Rattle.sv_links.specs.Channels.{ChannelAct, SrqEnabled, SrqDisabled, ChannelOpened, ChannelClosed, Requested, ChannelTaken, asked, past, enabled}
-use Rattle.sv_links.specs.KeptChannels.{IsSorted, below, above}
+use Rattle.sv_links.specs.ChannelRepresentation.{IsSorted, below, above}
 use Rattle.sv_links.proofs.Asking.{other_links, none_below, all_above}
 
 -- those of n numbers, from a on

@@ -10,7 +10,7 @@ use Rattle.sv_links.specs.declared.channel.Stage.TheVariants.{Closed, Open}
 use Rattle.sv_links.specs.declared.request.Peer.{Peer}
 use Rattle.sv_links.specs.Request.{request}
 use Rattle.sv_links.specs.Channels.{left_of, may_call, called}
-use Rattle.sv_links.specs.KeptChannels.{Channel, IsQueued, left_in}
+use Rattle.sv_links.specs.ChannelRepresentation.{Channel, IsQueued, left_in}
 use Rattle.sv_links.proofs.Left.{left-sizes, left-bytes, left-left, left-push}
 use Rattle.sv_links.proofs.Requests.{request_is_some}
 

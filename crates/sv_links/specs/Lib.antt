@@ -4,4 +4,4 @@ pub mod Waiting
 pub mod Queue
 pub mod Request
 pub mod Channels
-pub mod KeptChannels
+pub mod ChannelRepresentation

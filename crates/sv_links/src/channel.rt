@@ -3,7 +3,7 @@
 ghost use Rattle.std.specs.Prelude.{◌≡◌, ◌+◌, ◌≤◌, ℕ, List, [], length, OnOk, OnErr, is_some, Some, None, true, false};
 ghost use Rattle.std.specs.List.{fold};
 ghost use Rattle.sv_links.specs.Channels.{called, handles_of};
-ghost use Rattle.sv_links.specs.KeptChannels.{opened_for, is_prepared, IsQueued, left_in};
+ghost use Rattle.sv_links.specs.ChannelRepresentation.{opened_for, is_prepared, IsQueued, left_in};
 
 use crate::enabled::Enabled;
 use crate::request::{LONGEST_CALL, Peer, put_request};
@@ -39,7 +39,7 @@ pub(crate) struct Channel<A: Allocator> {
 }
 
 impl<A: Allocator> Model for Channel<A> {
-    ghost use Rattle.sv_links.specs.KeptChannels.{Channel};
+    ghost use Rattle.sv_links.specs.ChannelRepresentation.{Channel};
 
     ghost Value = { Channel };
 

@@ -3,7 +3,7 @@
 
 ghost use Rattle.std.specs.Prelude.{◌≡◌, ◌<◌, ◌≤◌, ◌==◌, ◌++◌, ℕ, List, [], ◌∷◌, map, length, filter, not, IfOk, OnOk, OnErr, false, true};
 ghost use Rattle.sv_links.specs.Channels.{ChannelAct, SrqEnabled, SrqDisabled, ChannelOpened, ChannelClosed, Requested, ChannelTaken, is_channel_open, waiting};
-ghost use Rattle.sv_links.specs.KeptChannels.{AreChannels, IsReady, HasRoomFor, bytes_of, disabled, of_others};
+ghost use Rattle.sv_links.specs.ChannelRepresentation.{AreChannels, IsReady, HasRoomFor, bytes_of, disabled, of_others};
 
 use crate::channel::Channel;
 use crate::enabled::Enabled;
@@ -25,12 +25,12 @@ pub struct Intr<A: Allocator = Global> {
 }
 
 impl<A: Allocator> Model for Intr<A> {
-    ghost use Rattle.sv_links.specs.KeptChannels.{Channels};
+    ghost use Rattle.sv_links.specs.ChannelRepresentation.{Channels};
 
     ghost Value = { Channels };
 
     ghost use Rattle.std.specs.Prelude.{◌≡◌, ◌≤◌, length, vec_capacity};
-    ghost use Rattle.sv_links.specs.KeptChannels.{IsSorted};
+    ghost use Rattle.sv_links.specs.ChannelRepresentation.{IsSorted};
 
     ghost view = { λ a. record { enabled = a.enabled.items; channels = a.channels.items } };
 

@@ -8,7 +8,7 @@ use Rattle.sv_rpc.specs.Record.{Tail, Header, Data, TooLong, Splits, header_of}
 use Rattle.sv_rpc.specs.RecordBuf.{Records, StandsFor}
 use Rattle.sv_rpc.specs.declared.record_buf.Place.{Place}
 use Rattle.sv_rpc.specs.declared.record_buf.Place.TheVariants as place
-use Rattle.sv_rpc.specs.Kept.{IsPlace, IsInHeader, held_of, tail_of, cut, GoesOn, after_byte, after_header, after_data}
+use Rattle.sv_rpc.specs.Representation.{IsPlace, IsInHeader, held_of, tail_of, cut, GoesOn, after_byte, after_header, after_data}
 use Rattle.sv_rpc.proofs.Steps.{header_grows, header_ends, empty_ends, empty_last_ends, header_too_long, data_grows, data_ends, data_last_ends, too_long_stays}
 
 abbrev held : List (List ℕ) → Tail → Records

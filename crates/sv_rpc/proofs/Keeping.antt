@@ -3,7 +3,7 @@ use Rattle.std.proofs.Common.{◌≡◌, ℕ, ◌+◌, ◌-◌, ◌%◌, ◌^◌
 use Rattle.std.specs.Int.{w32, from_be_bytes}
 use Rattle.sv_rpc.specs.Record.{Tail, Header, Data, TooLong}
 use Rattle.sv_rpc.specs.RecordBuf.{Records}
-use Rattle.sv_rpc.specs.Kept.{Keeps, payload_of, after_byte, after_header, after_data, finished}
+use Rattle.sv_rpc.specs.Representation.{Keeps, payload_of, after_byte, after_header, after_data, finished}
 
 abbrev held : List (List ℕ) → Tail → Records
 held records tail = record { records = records; tail = tail }

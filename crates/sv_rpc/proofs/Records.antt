@@ -7,7 +7,7 @@ use Rattle.sv_rpc.specs.declared.record_buf.Place.{Place}
 use Rattle.sv_rpc.specs.declared.record_buf.Place.TheVariants as place
 use Rattle.sv_rpc.specs.Record.{Header, Data}
 use Rattle.sv_rpc.specs.RecordBuf.{Records, StandsFor, IsRoom, used_by, room_of}
-use Rattle.sv_rpc.specs.Kept.{IsValid, InRoom, IsPlace, IsBeforeHeader, IsInData, held_of, cut, tail_of, finished, begun_of, after_data}
+use Rattle.sv_rpc.specs.Representation.{IsValid, InRoom, IsPlace, IsBeforeHeader, IsInData, held_of, cut, tail_of, finished, begun_of, after_data}
 use Rattle.sv_rpc.proofs.Cuts.{sum-push, cut-append, cut-push, used_at_header, used_in_data}
 
 -- the room of a value is the room of the stream

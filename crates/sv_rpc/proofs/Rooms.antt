@@ -6,7 +6,7 @@ use Rattle.std.proofs.lemmas.List.{length-append}
 use Rattle.std.proofs.lemmas.List.Sums.{sum_by-append, sum_by-cons}
 use Rattle.sv_rpc.specs.Record.{Tail, Header, Data, TooLong}
 use Rattle.sv_rpc.specs.RecordBuf.{Records}
-use Rattle.sv_rpc.specs.Kept.{InRoom, Fits, IsInHeader, spare_of, after_byte, after_header}
+use Rattle.sv_rpc.specs.Representation.{InRoom, Fits, IsInHeader, spare_of, after_byte, after_header}
 
 -- what records count, with one more
 counted-push : (records : List (List ℕ)) (r : List ℕ)

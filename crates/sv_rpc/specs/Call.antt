@@ -73,6 +73,6 @@ call_at bytes = do
     if version.0 == 2 then body_at xid.0 version.1 else Err (Version xid.0)) else Err BadHeader
 
 -- what was read, as plain data
-abbrev pub seen : Result Call CallFault → Result PlainCall CallFault
-seen (Ok call) = Ok (plain_call call)
-seen (Err fault) = Err fault
+abbrev pub plain_call_result : Result Call CallFault → Result PlainCall CallFault
+plain_call_result (Ok call) = Ok (plain_call call)
+plain_call_result (Err fault) = Err fault

@@ -1,7 +1,7 @@
 pub mod Record
 pub mod Stream
 pub mod RecordBuf
-pub mod Kept
+pub mod Representation
 pub mod Call
 pub mod Reply
 pub mod Ports

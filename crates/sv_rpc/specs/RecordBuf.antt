@@ -52,6 +52,6 @@ IsRoom stream dropped room = (all : List (List ℕ)) × (tail : Tail) × Splits 
     × (room ≡ 16384 - used_by (drop dropped all) tail)
 
 -- the answer as plain data
-abbrev pub seen : Result (Option (Bor (List ℕ))) RpcFault → Result (Option (List ℕ)) RpcFault
-seen (Ok found) = Ok (option_map (λ r. r.now) found)
-seen (Err fault) = Err fault
+abbrev pub plain_record : Result (Option (Bor (List ℕ))) RpcFault → Result (Option (List ℕ)) RpcFault
+plain_record (Ok found) = Ok (option_map (λ r. r.now) found)
+plain_record (Err fault) = Err fault

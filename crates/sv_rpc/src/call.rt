@@ -2,7 +2,7 @@
 
 ghost use Rattle.std.specs.Prelude.{◌≡◌, Result};
 ghost use Rattle.sv_rpc.specs.declared.call.CallFault.{CallFault};
-ghost use Rattle.sv_rpc.specs.Call.{PlainCall, CallIs, plain_call, body_at, call_at, seen};
+ghost use Rattle.sv_rpc.specs.Call.{PlainCall, CallIs, plain_call, body_at, call_at, plain_call_result};
 
 use sv_xdr::{Reader, XdrFault};
 use thiserror::Error;
@@ -55,19 +55,19 @@ impl From<XdrFault> for CallFault {
 /// looked at.
 pub fn read_call(bytes: &[u8]) -> Result<Call<'_>, CallFault>
     // What is read is spelled there.
-    ensures found { CallIs bytes.now (seen result) }
+    ensures found { CallIs bytes.now (plain_call_result result) }
     // What is spelled there is read.
     ensures only { (outcome : Result PlainCall CallFault) → CallIs bytes.now outcome
-        → seen result ≡ outcome }
+        → plain_call_result result ≡ outcome }
     // Which of the three it is, as a function of the bytes.
-    ensures exact { seen result ≡ call_at bytes.now }
+    ensures exact { plain_call_result result ≡ call_at bytes.now }
 {
     call_of(bytes)
 }
 
 #[tactic(auto, unfolding(crate::specs::Call::call_at))]
 fn call_of(bytes: &[u8]) -> Result<Call<'_>, CallFault>
-    ensures { seen result ≡ call_at bytes.now }
+    ensures { plain_call_result result ≡ call_at bytes.now }
 {
     let mut reader = Reader::new(bytes);
     let xid = reader.u32()?;
@@ -83,7 +83,7 @@ fn call_of(bytes: &[u8]) -> Result<Call<'_>, CallFault>
 /// Reads what follows the version.
 #[tactic(auto, unfolding(crate::specs::Call::body_at))]
 fn body_of(xid: u32, bytes: &[u8]) -> Result<Call<'_>, CallFault>
-    ensures { seen result ≡ body_at xid bytes.now }
+    ensures { plain_call_result result ≡ body_at xid bytes.now }
 {
     let mut reader = Reader::new(bytes);
     let prog = reader.u32()?;

@@ -3,8 +3,8 @@
 ghost use Rattle.std.specs.Prelude.{◌≡◌, ◌≢◌, ℕ, ◌+◌, ◌-◌, ◌%◌, ◌<◌, ◌≤◌, ◌^◌, List, [], ◌∷◌, ◌++◌, length, take, drop, nat_le, vec_len, vec_capacity, IfOk};
 ghost use Rattle.std.specs.Int.{w32, from_be_bytes};
 ghost use Rattle.sv_rpc.specs.Record.{header_of};
-ghost use Rattle.sv_rpc.specs.RecordBuf.{Records, StandsFor, IsNext, IsRoom, no_records, room_of, next_among, used_by, seen};
-ghost use Rattle.sv_rpc.specs.Kept.{InRoom, GoesOn, Keeps, IsInHeader, IsBeforeHeader, IsInData, after_byte, after_header, after_data, finished};
+ghost use Rattle.sv_rpc.specs.RecordBuf.{Records, StandsFor, IsNext, IsRoom, no_records, room_of, next_among, used_by, plain_record};
+ghost use Rattle.sv_rpc.specs.Representation.{InRoom, GoesOn, Keeps, IsInHeader, IsBeforeHeader, IsInData, after_byte, after_header, after_data, finished};
 
 use crate::NoMemory;
 use std::alloc::{Allocator, Global};
@@ -61,7 +61,7 @@ impl<A: Allocator> Model for RecordBuf<A> {
     ghost Value = { Records };
 
     ghost use Rattle.std.specs.Prelude.{take, vec_capacity};
-    ghost use Rattle.sv_rpc.specs.Kept.{held_of, IsValid};
+    ghost use Rattle.sv_rpc.specs.Representation.{held_of, IsValid};
 
     ghost view = { λ a. held_of a.bytes.items a.lengths.items
         (take a.header_len a.header) a.place };
@@ -106,9 +106,9 @@ impl<A: Allocator> RecordBuf<A> {
     /// The first record that wasn't dropped, a slice of the buffer; or none yet. Behind the last
     /// record in front of one that is too long, that fault.
     pub fn next(&self) -> Result<Option<&[u8]>, RpcFault>
-        ensures value { seen result ≡ next_among self.now.records self.now.tail }
+        ensures value { plain_record result ≡ next_among self.now.records self.now.tail }
         ensures answer { (stream : List ℕ) (dropped : ℕ) → StandsFor self.now stream dropped
-            → IsNext stream dropped (seen result) }
+            → IsNext stream dropped (plain_record result) }
     {
         if let Some(size) = self.lengths.first() {
             return Ok(Some(&self.bytes[..usize::from(*size)]));

@@ -15,7 +15,7 @@ use Rattle.sv_errors.specs.Limits.{is_channel, is_channel_list}
 use Rattle.sv_scan.specs.Scan.{channel_at, state_by, is_bounded}
 use Rattle.sv_scan.specs.Counted.{is_scanning}
 use Rattle.sv_scan.specs.Stands.{Run, Contents}
-use Rattle.sv_scan.specs.Kept.{IsValid, IsRun, IsRunOf, run_state}
+use Rattle.sv_scan.specs.Representation.{IsValid, IsRun, IsRunOf, run_state}
 
 -- a list that may be scanned
 size_is : (n : ℕ) → nat_le 1 n ≡ true → nat_le n 32 ≡ true → (1 ≤ n) × (n ≤ 32)

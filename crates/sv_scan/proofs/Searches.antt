@@ -9,7 +9,7 @@ use Rattle.sv_scan.specs.declared.acts.ScanAct.TheVariants.{Input, Configure, In
 use Rattle.sv_scan.specs.Setting.{scan_list, count}
 use Rattle.sv_scan.specs.Scan.{before_init, triggers, samples, state, state_since, complete_since, is_complete, list_since, readings, reading, last_reading}
 use Rattle.sv_scan.specs.Stands.{Run, Contents, Holds, run}
-use Rattle.sv_scan.specs.Kept.{run_state, run_complete}
+use Rattle.sv_scan.specs.Representation.{run_state, run_complete}
 
 -- there are as many readings as samples
 pub length-readings : (log : List ScanAct) → length (readings log) ≡ samples log

@@ -15,7 +15,7 @@ use Rattle.sv_scan.specs.Scan.{before_init, samples, readings, reading, reading_
 use Rattle.sv_scan.specs.Counted.{kept, counts}
 use Rattle.sv_scan.specs.Answered.{refused_by}
 use Rattle.sv_scan.specs.Stands.{Run, Contents, Holds, StandsFor}
-use Rattle.sv_scan.specs.Kept.{contents_of}
+use Rattle.sv_scan.specs.Representation.{contents_of}
 use Rattle.sv_scan.proofs.Searches.{length-readings, list_is}
 
 -- ---- acts that count

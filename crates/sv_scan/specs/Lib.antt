@@ -3,5 +3,5 @@ pub mod Scan
 pub mod Counted
 pub mod Condition
 pub mod Stands
-pub mod Kept
+pub mod Representation
 pub mod Answered

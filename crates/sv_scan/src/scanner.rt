@@ -10,7 +10,7 @@ ghost use Rattle.sv_scan.specs.Counted.{kept, setting_fault, init_fault, trigger
 ghost use Rattle.sv_scan.specs.Condition.{operation, questionable, is_outside as lies_outside};
 ghost use Rattle.sv_scan.specs.Answered.{refused_by};
 ghost use Rattle.sv_scan.specs.Stands.{StandsFor};
-ghost use Rattle.sv_scan.specs.Kept.{run_state};
+ghost use Rattle.sv_scan.specs.Representation.{run_state};
 
 use crate::acts::{ScanAct, ScanAnswer};
 use crate::possible::{is_fixed, is_possible};
@@ -47,7 +47,7 @@ impl<A: Allocator> Model for Scanner<A> {
     ghost Value = { Contents };
 
     ghost use Rattle.std.specs.Prelude.{vec_capacity};
-    ghost use Rattle.sv_scan.specs.Kept.{contents_of, IsValid};
+    ghost use Rattle.sv_scan.specs.Representation.{contents_of, IsValid};
 
     ghost view = { λ a. contents_of a.inputs a.settings a.run a.readings.items };
 

@@ -2,7 +2,7 @@
 
 ghost use Rattle.std.specs.Prelude.{◌≡◌};
 ghost use Rattle.sv_scan.specs.Counted.{is_idle as idles, is_waiting as waits, is_scanning as scans, same_source};
-ghost use Rattle.sv_scan.specs.Kept.{run_state, run_complete};
+ghost use Rattle.sv_scan.specs.Representation.{run_state, run_complete};
 
 use crate::run::Run;
 use crate::setting::State;

@@ -14,7 +14,7 @@ use Rattle.sv_links.specs.declared.links.CreateRefused.TheVariants.{OutOfResourc
 use Rattle.sv_links.specs.Table.{Table, IsTable, IsRising}
 use Rattle.sv_links.specs.declared.enabled.Enabled.{Enabled}
 use Rattle.sv_links.specs.Channels.{ChannelAct, SrqDisabled}
-use Rattle.sv_links.specs.KeptChannels.{Channels, Channel, AreChannels, IsReady, is_prepared, disabled, of_others}
+use Rattle.sv_links.specs.ChannelRepresentation.{Channels, Channel, AreChannels, IsReady, is_prepared, disabled, of_others}
 use Rattle.sv_links.proofs.Rising.{enabled-disabled}
 use Rattle.sv_links.specs.Waiting.{WaitAct, Entered, Again, Left, waits}
 use Rattle.sv_links.specs.Queue.{IsQueue, creates, creations, without}

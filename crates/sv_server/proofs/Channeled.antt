@@ -9,7 +9,7 @@ use Rattle.sv_links.specs.Links.{LinkAct, owner, is_of}
 use Rattle.sv_links.specs.Waiting.{WaitAct, Entered, Left}
 use Rattle.sv_links.specs.Queue.{IsQueue}
 use Rattle.sv_links.specs.Channels.{ChannelAct, SrqEnabled, SrqDisabled}
-use Rattle.sv_links.specs.KeptChannels.{Channels, AreChannels, IsReady, HasRoomFor}
+use Rattle.sv_links.specs.ChannelRepresentation.{Channels, AreChannels, IsReady, HasRoomFor}
 use Rattle.sv_links.proofs.Rising.{with_link, enabled-enabled, enabled-disabled, enabled-sorted}
 use Rattle.sv_history.specs.declared.event.Config.{Config}
 use Rattle.sv_history.specs.Act.{BenchAct, Linked, Waited, Channel, link_acts, wait_acts}

@@ -5,7 +5,7 @@ use Rattle.std.specs.List.{concat}
 use Rattle.std.proofs.lemmas.Bool.{lt-ltb, le-ltb, ne_eqb, cases_lt}
 use Rattle.sv_links.specs.declared.request.Peer.{Peer}
 use Rattle.sv_links.specs.Channels.{ChannelAct, ChannelTaken, is_channel_open, taken, calls, left_of, waiting as channel_waiting}
-use Rattle.sv_links.specs.KeptChannels.{AreChannels}
+use Rattle.sv_links.specs.ChannelRepresentation.{AreChannels}
 use Rattle.sv_history.specs.declared.event.Config.{Config}
 use Rattle.sv_history.specs.Act.{Act, BenchAct, of, bench, wait_acts}
 use Rattle.sv_history.specs.Requests.{Tells}

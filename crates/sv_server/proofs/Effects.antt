@@ -4,7 +4,7 @@ use Rattle.std.specs.Prelude.{map}
 use Rattle.sv_links.specs.Links.{LinkAct, live}
 use Rattle.sv_links.specs.Table.{Table, IsTable}
 use Rattle.sv_links.specs.Queue.{creations}
-use Rattle.sv_links.specs.KeptChannels.{Channels, IsReady}
+use Rattle.sv_links.specs.ChannelRepresentation.{Channels, IsReady}
 use Rattle.sv_layers.specs.Act.{Act as InstrumentAct}
 use Rattle.sv_instrument.specs.Kept.{Kept, StandsFor}
 use Rattle.sv_history.specs.declared.event.Config.{Config}

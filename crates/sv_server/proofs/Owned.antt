@@ -9,7 +9,7 @@ use Rattle.sv_links.specs.declared.enabled.Enabled.{Enabled}
 use Rattle.sv_links.specs.Links.{LinkAct, Made, Destroyed, live, owner, is_of, links_of, closing}
 use Rattle.sv_links.specs.Table.{IsRising}
 use Rattle.sv_links.specs.Channels.{ChannelAct, SrqDisabled}
-use Rattle.sv_links.specs.KeptChannels.{IsSorted, disabled, of_others, below, above}
+use Rattle.sv_links.specs.ChannelRepresentation.{IsSorted, disabled, of_others, below, above}
 use Rattle.sv_links.proofs.Asking.{sorted-filter}
 use Rattle.sv_links.proofs.Tables.{Below, above-filter, other_than}
 use Rattle.sv_history.specs.Act.{BenchAct, Linked, link_acts}

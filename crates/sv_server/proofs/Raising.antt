@@ -3,7 +3,7 @@ use Rattle.std.proofs.Common.{◌≡◌, ℕ, false, List, ◌++◌, Option, Som
 use Rattle.std.specs.Prelude.{map, is_some, IfNone}
 use Rattle.std.proofs.lemmas.List.{append_cancel_right}
 use Rattle.sv_links.specs.Channels.{ChannelAct}
-use Rattle.sv_links.specs.KeptChannels.{Channels, AreChannels, IsReady}
+use Rattle.sv_links.specs.ChannelRepresentation.{Channels, AreChannels, IsReady}
 use Rattle.sv_layers.specs.Act.{Act as InstrumentAct}
 use Rattle.sv_instrument.specs.Kept.{Kept, StandsFor, Ran, Takes}
 use Rattle.sv_instrument.specs.Raised.{Raise}

@@ -8,7 +8,7 @@ use Rattle.sv_links.specs.Table.{Table, IsTable}
 use Rattle.sv_links.specs.Waiting.{WaitAct}
 use Rattle.sv_links.specs.Queue.{IsQueue, creations}
 use Rattle.sv_links.specs.Channels.{ChannelAct}
-use Rattle.sv_links.specs.KeptChannels.{Channels, AreChannels, IsReady}
+use Rattle.sv_links.specs.ChannelRepresentation.{Channels, AreChannels, IsReady}
 use Rattle.sv_instrument.specs.Kept.{Kept, StandsFor}
 use Rattle.sv_history.specs.declared.event.Config.{Config}
 use Rattle.sv_layers.specs.Act.{Act as InstrumentAct}

@@ -3,7 +3,7 @@ use Rattle.std.proofs.Common.{◌≡◌, ℕ, zero, suc, ◌+◌, ◌-◌, ◌/�
 use Rattle.std.specs.Prelude.{decimal, replicate}
 use Rattle.std.proofs.lemmas.List.{append_assoc, length-append, length-replicate, drop-drop, take_all}
 use Rattle.std.proofs.lemmas.Fmt.{length-decimal-le}
-use Rattle.sv_value.specs.Written.{six_digits}
+use Rattle.sv_value.specs.PrintedVoltage.{six_digits}
 
 -- a number below a million has at most six digits, and up to a thousand volts at most four
 pub six_short : (n : ℕ) → n < 1000000 → length (decimal n) ≤ 6

@@ -15,7 +15,7 @@ use Rattle.sv_errors.specs.declared.code.Code.TheVariants.{InvalidSuffix}
 use Rattle.sv_value.specs.Decimal.{Parts, digits_in, behind_digits, fraction_in, behind_fraction, is_down, exponent_in, behind_exponent}
 use Rattle.sv_value.specs.Number.{magnitude, nearest, significant, signed, read_with}
 use Rattle.sv_value.specs.Value.{power_of_volts, within_volts}
-use Rattle.sv_value.specs.Written.{PrintedIsRead, six_digits}
+use Rattle.sv_value.specs.PrintedVoltage.{PrintedIsRead, six_digits}
 use Rattle.sv_value.proofs.Pieces.{digits-joined, behind-joined}
 use Rattle.sv_value.proofs.Rounding.{value-join, after-moves, nearest-right}
 use Rattle.sv_value.proofs.Printed.{length-six, volts_short}

@@ -7,7 +7,7 @@ use Rattle.std.proofs.lemmas.Bool.{and_parts, eqb-true}
 use Rattle.std.proofs.lemmas.Bool.Decides.{nat_tests}
 use Rattle.std.proofs.lemmas.List.{append_assoc, append-nil}
 use Rattle.sv_text.specs.White.{is_white, trim_start}
-use Rattle.sv_value.specs.Decimal.{Parts, parts, is_spelled, begins_well, digits_in, behind_digits, behind_sign, fraction_in, behind_fraction, behind_letter, behind_mark, exponent_in, is_down, behind_exponent, behind_whole, behind_mantissa}
+use Rattle.sv_value.specs.Decimal.{Parts, number_parts, is_spelled, begins_well, digits_in, behind_digits, behind_sign, fraction_in, behind_fraction, behind_letter, behind_mark, exponent_in, is_down, behind_exponent, behind_whole, behind_mantissa}
 use Rattle.sv_value.specs.Spelling.{AreDigits, IsSpace, IsSign, IsFraction, IsExponent, NoExponent, IsSuffix, IsTail, Spells, ReadAsSpelled}
 use Rattle.sv_value.proofs.Pieces.{begins, is_sign, is_point, digits-joined, behind-joined, digits-none, behind-none, trim-joined, trim-none, digits-apart, digits-all, trim-apart, sign-joined, sign-apart, fraction-joined, fraction-apart}
 
@@ -227,7 +227,7 @@ same-parts : (number : Parts) (negative down : Bool) (whole fraction exponent su
 same-parts number negative down whole fraction exponent suffix n w f d x s = rw (n, w, f, d, x, s) refl
 
 -- what is spelled is read
-spelled-read : (text : List ℕ) (number : Parts) → Spells text number → (is_spelled (parts text) ≡ true) × (parts text ≡ number)
+spelled-read : (text : List ℕ) (number : Parts) → Spells text number → (is_spelled (number_parts text) ≡ true) × (number_parts text ≡ number)
 spelled-read text number s =
     let (sign, fraction, tail, e, isSign, isWhole, isFraction, some, isTail) = s in
     let t = tail-read tail number isTail in
@@ -242,14 +242,14 @@ spelled-read text number s =
     ap behind_digits behind ∙ behind-joined number.whole (fraction ++ tail) isWhole ∙ behind-none (fraction ++ tail) plain in
     let f = fraction-joined fraction number.fraction tail isFraction t.4.0 t.4.1 in
     let rest : behind_mantissa text ≡ tail = ap behind_fraction mantissa ∙ f.1 in
-    let same : parts text ≡ number = same-parts number _ _ _ _ _ _ (ap has_minus e ∙ signed.0) whole (ap fraction_in mantissa ∙ f.0)
+    let same : number_parts text ≡ number = same-parts number _ _ _ _ _ _ (ap has_minus e ∙ signed.0) whole (ap fraction_in mantissa ∙ f.0)
     (ap is_down rest ∙ t.0) (ap exponent_in rest ∙ t.1)
     (ap (λ xs. trim_start (behind_exponent xs)) rest ∙ t.2) in
     let found : is_spelled number ≡ true = rw (digits-there number.whole number.fraction some) t.3 in
     (subst (λ n. is_spelled n ≡ true) (sym same) found, same)
 
 -- what is read is spelled
-read-spelled : (text : List ℕ) → is_spelled (parts text) ≡ true → Spells text (parts text)
+read-spelled : (text : List ℕ) → is_spelled (number_parts text) ≡ true → Spells text (number_parts text)
 read-spelled text h =
     let b = and_parts _ _ h in
     let s = sign-apart text in
@@ -262,8 +262,8 @@ read-spelled text h =
       s.2,
       digits-all (behind_sign text),
       f.2,
-      there-digits (parts text).whole (parts text).fraction b.0,
-      tail-spelled (behind_mantissa text) (parts text) refl refl refl b.1,
+      there-digits (number_parts text).whole (number_parts text).fraction b.0,
+      tail-spelled (behind_mantissa text) (number_parts text) refl refl refl b.1,
     )
 
 pub spelled : ReadAsSpelled

@@ -48,7 +48,7 @@ is_down text = not (is_empty (exponent_in text)) && has_minus (behind_mark text)
 abbrev pub behind_exponent : List ℕ → List ℕ
 behind_exponent text = if is_empty (exponent_in text) then text else behind_digits (behind_sign (behind_mark text))
 
--- the parts of a number
+-- the number_parts of a number
 pub record Parts : Type 0 where
   pub negative : Bool
   pub whole : List ℕ
@@ -63,8 +63,8 @@ behind_whole text = behind_digits (behind_sign text)
 abbrev pub behind_mantissa : List ℕ → List ℕ
 behind_mantissa text = behind_fraction (behind_whole text)
 
-abbrev pub parts : List ℕ → Parts
-parts text = record {
+abbrev pub number_parts : List ℕ → Parts
+number_parts text = record {
   negative = has_minus text;
   whole = digits_in (behind_sign text);
   fraction = fraction_in (behind_whole text);

@@ -6,5 +6,5 @@ pub mod Choice
 pub mod Channels
 pub mod Plain
 pub mod Value
-pub mod Written
+pub mod PrintedVoltage
 pub mod Printing

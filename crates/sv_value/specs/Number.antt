@@ -4,7 +4,7 @@ use Rattle.std.specs.List.{position_or_len}
 use Rattle.std.specs.Str.Parse.{digits_value}
 use Rattle.sv_errors.specs.declared.code.Code.{Code}
 use Rattle.sv_errors.specs.declared.code.Code.TheVariants.{InvalidCharacterInNumber, TooManyDigits, ExponentTooLarge}
-use Rattle.sv_value.specs.Decimal.{Parts, parts, is_spelled}
+use Rattle.sv_value.specs.Decimal.{Parts, number_parts, is_spelled}
 
 -- the whole number nearest to a fraction; half is rounded up
 abbrev pub nearest : ℕ → ℕ → ℕ
@@ -49,4 +49,4 @@ read_with (Some power) suffix_code number =
     else Ok (value power number)
 
 abbrev pub read_decimal : (List ℕ → Option ℕ) → Code → List ℕ → Result ℤ Code
-read_decimal power_of suffix_code text = read_with (power_of (parts text).suffix) suffix_code (parts text)
+read_decimal power_of suffix_code text = read_with (power_of (number_parts text).suffix) suffix_code (number_parts text)

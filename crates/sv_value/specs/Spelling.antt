@@ -3,7 +3,7 @@ use Rattle.std.specs.Prelude.{◌≡◌, ◌≢◌, ◌↔◌, ◌⊎◌, ℕ, B
 use Rattle.std.specs.List.{list_all}
 use Rattle.std.specs.Char.{is_ascii_digit}
 use Rattle.sv_text.specs.White.{is_white}
-use Rattle.sv_value.specs.Decimal.{Parts, parts, begins_well, is_spelled}
+use Rattle.sv_value.specs.Decimal.{Parts, number_parts, begins_well, is_spelled}
 
 abbrev pub AreDigits : List ℕ → Type 0
 AreDigits text = list_all is_ascii_digit text ≡ true
@@ -46,4 +46,4 @@ Spells text number = (sign fraction tail : List ℕ) × (text ≡ sign ++ (numbe
 
 -- A text spells a number exactly if it is found to be spelled as one, and its parts are then the pieces.
 abbrev pub ReadAsSpelled : Type 0
-ReadAsSpelled = (text : List ℕ) (number : Parts) → Spells text number ↔ ((is_spelled (parts text) ≡ true) × (parts text ≡ number))
+ReadAsSpelled = (text : List ℕ) (number : Parts) → Spells text number ↔ ((is_spelled (number_parts text) ≡ true) × (number_parts text ≡ number))

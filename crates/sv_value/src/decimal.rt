@@ -4,7 +4,7 @@ ghost use Rattle.std.specs.Prelude.{◌≡◌, true};
 ghost use Rattle.sv_text.specs.Front.{has_minus};
 ghost use Rattle.std.specs.Char.{is_ascii_digit};
 ghost use Rattle.std.specs.List.{list_all};
-ghost use Rattle.sv_value.specs.Decimal.{behind_exponent, behind_fraction, behind_mark as mark_behind, behind_sign, exponent_in, fraction_in, is_down, begins_well as begins_well_text, is_spelled as is_spelled_number, parts as parts_of};
+ghost use Rattle.sv_value.specs.Decimal.{behind_exponent, behind_fraction, behind_mark as mark_behind, behind_sign, exponent_in, fraction_in, is_down, begins_well as begins_well_text, is_spelled as is_spelled_number, number_parts as parts_of};
 ghost use Rattle.sv_value.specs.Plain.{plain};
 
 use crate::digits::digits;

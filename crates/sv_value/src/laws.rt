@@ -2,7 +2,7 @@
 
 ghost use Rattle.sv_value.specs.Value.{ReadIsChannelList};
 ghost use Rattle.sv_value.specs.Spelling.{ReadAsSpelled};
-ghost use Rattle.sv_value.specs.Written.{PrintedIsRead};
+ghost use Rattle.sv_value.specs.PrintedVoltage.{PrintedIsRead};
 
 /// What is printed of a voltage up to 1,000 V in magnitude is read as that voltage.
 pub fn printed_is_read()

@@ -5,7 +5,7 @@ ghost use Rattle.std.specs.Fmt.{signed_decimal};
 ghost use Rattle.std.specs.List.{join_by};
 ghost use Rattle.sv_errors.specs.Code.{text_of};
 ghost use Rattle.sv_value.specs.Printing.{channels_text, error_text, overload_text, source_text, switch_text, whole_text};
-ghost use Rattle.sv_value.specs.Written.{voltage_text};
+ghost use Rattle.sv_value.specs.PrintedVoltage.{voltage_text};
 
 use crate::writing::write_microvolts;
 use itoa::Buffer;

@@ -1,7 +1,7 @@
 //! Printing voltages.
 
 ghost use Rattle.std.specs.Prelude.{◌≡◌, ◌≤◌, ◌<◌, ◌+◌, ◌++◌, ℕ, List, length, drop, unsigned_abs};
-ghost use Rattle.sv_value.specs.Written.{sign, six_digits, voltage_text};
+ghost use Rattle.sv_value.specs.PrintedVoltage.{sign, six_digits, voltage_text};
 
 use itoa::Buffer;
 

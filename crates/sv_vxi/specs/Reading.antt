@@ -141,6 +141,6 @@ plain_arguments (args.CreateIntrChan host_addr host_port prog_num prog_vers prog
     CreateIntrChan host_addr host_port prog_num prog_vers prog_family
 plain_arguments args.DestroyIntrChan = DestroyIntrChan
 
-abbrev pub seen : Result Args Garbage → Result Arguments Garbage
-seen (Ok arguments) = Ok (plain_arguments arguments)
-seen (Err garbage) = Err garbage
+abbrev pub plain_reading : Result Args Garbage → Result Arguments Garbage
+plain_reading (Ok arguments) = Ok (plain_arguments arguments)
+plain_reading (Err garbage) = Err garbage

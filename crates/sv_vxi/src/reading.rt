@@ -3,7 +3,7 @@
 ghost use Rattle.std.specs.Prelude.{◌≡◌, ◌++◌, Result, true};
 ghost use Rattle.sv_xdr.specs.declared.garbage.Garbage.{Garbage};
 ghost use Rattle.sv_vxi.specs.Arguments.{Arguments, ArgumentsAre, core_calls, abort_calls, is_one_of};
-ghost use Rattle.sv_vxi.specs.Reading.{arguments_at, create_link_at, device_write_at, device_read_at, generic_at, device_lock_at, device_enable_srq_at, device_docmd_at, create_intr_chan_at, link_at, seen};
+ghost use Rattle.sv_vxi.specs.Reading.{arguments_at, create_link_at, device_write_at, device_read_at, generic_at, device_lock_at, device_enable_srq_at, device_docmd_at, create_intr_chan_at, link_at, plain_reading};
 
 use crate::arguments::{Args, GenericParms};
 use crate::flags::Flags;
@@ -23,17 +23,17 @@ const MAX_HANDLE: u32 = 40;
 pub fn read_args(proc: u32, bytes: &[u8]) -> Result<Args<'_>, Garbage>
     requires { is_one_of (core_calls ++ abort_calls) proc ≡ true }
     // What is read is spelled there, and is garbage only if nothing is.
-    ensures found { ArgumentsAre proc bytes.now (seen result) }
+    ensures found { ArgumentsAre proc bytes.now (plain_reading result) }
     // There is no other reading.
     ensures only { (outcome : Result Arguments Garbage) → ArgumentsAre proc bytes.now outcome
-        → seen result ≡ outcome }
-    ensures exact { seen result ≡ arguments_at proc bytes.now }
+        → plain_reading result ≡ outcome }
+    ensures exact { plain_reading result ≡ arguments_at proc bytes.now }
 {
     args_of(proc, bytes)
 }
 
 fn args_of(proc: u32, bytes: &[u8]) -> Result<Args<'_>, Garbage>
-    ensures { seen result ≡ arguments_at proc bytes.now }
+    ensures { plain_reading result ≡ arguments_at proc bytes.now }
 {
     match proc {
         CREATE_LINK => create_link(bytes),
@@ -53,7 +53,7 @@ fn args_of(proc: u32, bytes: &[u8]) -> Result<Args<'_>, Garbage>
 
 #[tactic(auto, unfolding(crate::specs::Reading::create_link_at))]
 fn create_link(bytes: &[u8]) -> Result<Args<'_>, Garbage>
-    ensures { seen result ≡ create_link_at bytes.now }
+    ensures { plain_reading result ≡ create_link_at bytes.now }
 {
     let mut reader = Reader::new(bytes);
     Ok(Args::CreateLink {
@@ -66,7 +66,7 @@ fn create_link(bytes: &[u8]) -> Result<Args<'_>, Garbage>
 
 #[tactic(auto, unfolding(crate::specs::Reading::device_write_at))]
 fn device_write(bytes: &[u8]) -> Result<Args<'_>, Garbage>
-    ensures { seen result ≡ device_write_at bytes.now }
+    ensures { plain_reading result ≡ device_write_at bytes.now }
 {
     let mut reader = Reader::new(bytes);
     Ok(Args::DeviceWrite {
@@ -80,7 +80,7 @@ fn device_write(bytes: &[u8]) -> Result<Args<'_>, Garbage>
 
 #[tactic(auto, unfolding(crate::specs::Reading::device_read_at))]
 fn device_read(bytes: &[u8]) -> Result<Args<'_>, Garbage>
-    ensures { seen result ≡ device_read_at bytes.now }
+    ensures { plain_reading result ≡ device_read_at bytes.now }
 {
     let mut reader = Reader::new(bytes);
     Ok(Args::DeviceRead {
@@ -96,7 +96,7 @@ fn device_read(bytes: &[u8]) -> Result<Args<'_>, Garbage>
 /// Reads the arguments of one of the calls that name a link and say how long to wait.
 #[tactic(auto, unfolding(crate::specs::Reading::generic_at))]
 fn generic(proc: u32, bytes: &[u8]) -> Result<Args<'_>, Garbage>
-    ensures { seen result ≡ generic_at proc bytes.now }
+    ensures { plain_reading result ≡ generic_at proc bytes.now }
 {
     let mut reader = Reader::new(bytes);
     let parms = GenericParms {
@@ -116,7 +116,7 @@ fn generic(proc: u32, bytes: &[u8]) -> Result<Args<'_>, Garbage>
 
 #[tactic(auto, unfolding(crate::specs::Reading::device_lock_at))]
 fn device_lock(bytes: &[u8]) -> Result<Args<'_>, Garbage>
-    ensures { seen result ≡ device_lock_at bytes.now }
+    ensures { plain_reading result ≡ device_lock_at bytes.now }
 {
     let mut reader = Reader::new(bytes);
     Ok(Args::DeviceLock {
@@ -128,7 +128,7 @@ fn device_lock(bytes: &[u8]) -> Result<Args<'_>, Garbage>
 
 #[tactic(auto, unfolding(crate::specs::Reading::device_enable_srq_at))]
 fn device_enable_srq(bytes: &[u8]) -> Result<Args<'_>, Garbage>
-    ensures { seen result ≡ device_enable_srq_at bytes.now }
+    ensures { plain_reading result ≡ device_enable_srq_at bytes.now }
 {
     let mut reader = Reader::new(bytes);
     Ok(Args::DeviceEnableSrq {
@@ -140,7 +140,7 @@ fn device_enable_srq(bytes: &[u8]) -> Result<Args<'_>, Garbage>
 
 #[tactic(auto, unfolding(crate::specs::Reading::device_docmd_at))]
 fn device_docmd(bytes: &[u8]) -> Result<Args<'_>, Garbage>
-    ensures { seen result ≡ device_docmd_at bytes.now }
+    ensures { plain_reading result ≡ device_docmd_at bytes.now }
 {
     let mut reader = Reader::new(bytes);
     Ok(Args::DeviceDocmd {
@@ -157,7 +157,7 @@ fn device_docmd(bytes: &[u8]) -> Result<Args<'_>, Garbage>
 
 #[tactic(auto, unfolding(crate::specs::Reading::create_intr_chan_at))]
 fn create_intr_chan(bytes: &[u8]) -> Result<Args<'_>, Garbage>
-    ensures { seen result ≡ create_intr_chan_at bytes.now }
+    ensures { plain_reading result ≡ create_intr_chan_at bytes.now }
 {
     let mut reader = Reader::new(bytes);
     Ok(Args::CreateIntrChan {
@@ -172,7 +172,7 @@ fn create_intr_chan(bytes: &[u8]) -> Result<Args<'_>, Garbage>
 /// Reads the arguments of one of the calls that name a link alone.
 #[tactic(auto, unfolding(crate::specs::Reading::link_at))]
 fn link(proc: u32, bytes: &[u8]) -> Result<Args<'_>, Garbage>
-    ensures { seen result ≡ link_at proc bytes.now }
+    ensures { plain_reading result ≡ link_at proc bytes.now }
 {
     let mut reader = Reader::new(bytes);
     let lid = reader.i32()?;

@@ -13,9 +13,9 @@ abbrev pub ◌>>=◌ : {A B : Type 0} → Result A XdrFault → (A → Result B 
 (Err fault) >>= f = Err fault
 
 -- What a call returned and the place after it are what reading gives; a fault leaves the place.
-abbrev pub Gives : {X Y : Type 0} → (X → Y) → Result X XdrFault → List ℕ → List ℕ → Result (Y × List ℕ) XdrFault → Type 0
-Gives view (Ok x) old new read = read ≡ Ok (view x, new)
-Gives view (Err fault) old new read = (read ≡ Err fault) × (new ≡ old)
+abbrev pub IsRead : {X Y : Type 0} → (X → Y) → Result X XdrFault → List ℕ → List ℕ → Result (Y × List ℕ) XdrFault → Type 0
+IsRead view (Ok x) old new read = read ≡ Ok (view x, new)
+IsRead view (Err fault) old new read = (read ≡ Err fault) × (new ≡ old)
 
 abbrev pub unsigned_at : List ℕ → Result (ℕ × List ℕ) XdrFault
 unsigned_at bytes = if nat_lt (length bytes) 4 then Err Short else Ok (from_be_bytes w32 (take 4 bytes), drop 4 bytes)

@@ -3,7 +3,7 @@
 ghost use Rattle.std.specs.Prelude.{◌≡◌, ◌==◌, ◌<◌, ◌≤◌, ◌^◌, ℕ, ℤ, Bool, List, length, IfOk, IsOkAnd};
 ghost use Rattle.std.specs.List.{list_all};
 ghost use Rattle.sv_xdr.specs.Spelling.{Begins, Unsigned, Signed, Boolean, Opaque, pad_len as pad_len_of};
-ghost use Rattle.sv_xdr.specs.Reader.{Gives, unsigned_at, signed_at, boolean_at, opaque_at, padded_at};
+ghost use Rattle.sv_xdr.specs.Reader.{IsRead, unsigned_at, signed_at, boolean_at, opaque_at, padded_at};
 
 use crate::fault::XdrFault;
 use std::marker::Model;
@@ -46,7 +46,7 @@ impl<'a> Reader<'a> {
         ensures only { (n : ℕ) (after : List ℕ) → Begins self.old (Unsigned n) after
             → (result ≡ Ok n) × (self.new ≡ after) }
         // Which fault it is, and that it leaves the place.
-        ensures exact { Gives (λ n. n) result self.old self.new (unsigned_at self.old) }
+        ensures exact { IsRead (λ n. n) result self.old self.new (unsigned_at self.old) }
     {
         if self.rest.len() < 4 {
             return Err(XdrFault::Short);
@@ -62,7 +62,7 @@ impl<'a> Reader<'a> {
         ensures found { IfOk result (λ z. Begins self.old (Signed z) self.new) }
         ensures only { (z : ℤ) (after : List ℕ) → Begins self.old (Signed z) after
             → (result ≡ Ok z) × (self.new ≡ after) }
-        ensures exact { Gives (λ z. z) result self.old self.new (signed_at self.old) }
+        ensures exact { IsRead (λ z. z) result self.old self.new (signed_at self.old) }
     {
         let word = self.u32()?;
         Ok(word.cast_signed())
@@ -74,7 +74,7 @@ impl<'a> Reader<'a> {
         ensures found { IfOk result (λ b. Begins self.old (Boolean b) self.new) }
         ensures only { (b : Bool) (after : List ℕ) → Begins self.old (Boolean b) after
             → (result ≡ Ok b) × (self.new ≡ after) }
-        ensures exact { Gives (λ b. b) result self.old self.new (boolean_at self.old) }
+        ensures exact { IsRead (λ b. b) result self.old self.new (boolean_at self.old) }
     {
         let mut ahead = Reader { rest: self.rest };
         let value = match ahead.u32()? {
@@ -97,7 +97,7 @@ impl<'a> Reader<'a> {
         ensures only { (text after : List ℕ) → Begins self.old (Opaque text) after
             → length text ≤ max
             → IsOkAnd result (λ found. found.now ≡ text) × (self.new ≡ after) }
-        ensures exact { Gives (λ text. text.now) result self.old self.new (opaque_at max self.old) }
+        ensures exact { IsRead (λ text. text.now) result self.old self.new (opaque_at max self.old) }
     {
         let mut ahead = Reader { rest: self.rest };
         let size = ahead.u32()?;
@@ -113,7 +113,7 @@ impl<'a> Reader<'a> {
     #[tactic(auto, unfolding(crate::specs::Reader::padded_at))]
     fn padded(&mut self, size: usize) -> Result<&'a [u8], XdrFault>
         requires { size < 2 ^ 32 }
-        ensures { Gives (λ text. text.now) result self.old self.new (padded_at size self.old) }
+        ensures { IsRead (λ text. text.now) result self.old self.new (padded_at size self.old) }
     {
         let pad = pad_len(size);
         if self.rest.len() < size + pad {

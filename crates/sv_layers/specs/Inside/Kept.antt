@@ -9,7 +9,7 @@ use Rattle.sv_status.specs.declared.status_byte.StatusAct.TheVariants.{Update, P
 use Rattle.sv_status.specs.StatusByte.{Latches as StatusLatches, IsRaised as IsRaisedAsTold, StandsFor as Statuses}
 use Rattle.sv_scan.specs.declared.setting.State.{State}
 use Rattle.sv_scan.specs.Condition.{bit}
-use Rattle.sv_scan.specs.Kept.{run_state}
+use Rattle.sv_scan.specs.Representation.{run_state}
 use Rattle.sv_scan.specs.Stands.{Contents as ScanContents, StandsFor as Scans}
 use Rattle.sv_exchange.specs.Exchange.{response, is_something}
 use Rattle.sv_exchange.specs.Contents.{Contents, StandsFor as Exchanges}

@@ -1,5 +1,5 @@
 use Rattle.std.proofs.Common.{◌≡◌, length}
-use Rattle.sv_links.specs.KeptChannels.{left_in}
+use Rattle.sv_links.specs.ChannelRepresentation.{left_in}
 use Rattle.sv_links.proofs.channel.let_go.Given as goal
 
 abbrev pub invariant-loop-size : goal.invariant-loop-size

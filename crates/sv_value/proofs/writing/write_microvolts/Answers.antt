@@ -2,7 +2,7 @@ use Rattle.std.proofs.Common.{◌≡◌, ◌∙◌, ◌+◌, ◌/◌, ◌%◌, �
 use Rattle.std.proofs.lemmas.Int.{to_z-of_z}
 use Rattle.std.specs.Prelude.{decimal, unsigned_abs}
 use Rattle.std.proofs.lemmas.List.{append_assoc, length-append}
-use Rattle.sv_value.specs.Written.{six_digits, sign}
+use Rattle.sv_value.specs.PrintedVoltage.{six_digits, sign}
 use Rattle.sv_value.proofs.Printed.{length-six, all-behind, voltage-same, voltage-size}
 use Rattle.sv_value.proofs.writing.write_microvolts.Goals as goal
 

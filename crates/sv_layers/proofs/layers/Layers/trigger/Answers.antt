@@ -1,6 +1,6 @@
 use Rattle.std.proofs.Common.{rules, refl, ap, ◌∙◌, length}
 use Rattle.sv_scan.specs.declared.acts.ScanAct.TheVariants.{Trigger}
-use Rattle.sv_scan.specs.Kept.{run_state}
+use Rattle.sv_scan.specs.Representation.{run_state}
 use Rattle.sv_scan.specs.Stands.{Contents}
 use Rattle.sv_layers.specs.Act.{Scanned, scan_acts}
 use Rattle.sv_layers.proofs.Lent.{lent_scanner}

@@ -1,7 +1,7 @@
 use Rattle.std.proofs.Common.{◌+◌, ◌-◌, length, refl, ap, arith}
 use Rattle.std.proofs.lemmas.List.{length-append}
 use Rattle.sv_links.specs.Request.{request}
-use Rattle.sv_links.specs.KeptChannels.{Channel}
+use Rattle.sv_links.specs.ChannelRepresentation.{Channel}
 use Rattle.sv_links.proofs.Left.{sum-bounded}
 use Rattle.sv_links.proofs.Sent.{IsQueued-sent, open≢closed}
 use Rattle.sv_links.proofs.channel.Channel.request.Goals as goal

@@ -5,7 +5,7 @@ use Rattle.std.proofs.lemmas.List.{take_all}
 use Rattle.sv_links.specs.declared.request.Peer.{Peer}
 use Rattle.sv_links.specs.declared.enabled.Enabled.{Enabled}
 use Rattle.sv_links.specs.Channels.{called, handles_of}
-use Rattle.sv_links.specs.KeptChannels.{Channel, IsQueued}
+use Rattle.sv_links.specs.ChannelRepresentation.{Channel, IsQueued}
 use Rattle.sv_links.proofs.Calling.{called_for, called_own, called_other, open_for}
 use Rattle.sv_links.proofs.channel.Channel.request_each.Goals as goal
 use Rattle.sv_links.proofs.channel.Channel.request_each.Goals.{then-link-conn, else-link-conn}

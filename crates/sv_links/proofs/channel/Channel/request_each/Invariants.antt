@@ -1,6 +1,6 @@
 use Rattle.std.proofs.Common.{◌≡◌, ℕ, List}
 use Rattle.sv_links.specs.declared.channel.Stage.TheVariants.{Open}
-use Rattle.sv_links.specs.KeptChannels.{IsQueued}
+use Rattle.sv_links.specs.ChannelRepresentation.{IsQueued}
 use Rattle.sv_links.proofs.Calling.{called_for}
 use Rattle.sv_links.proofs.channel.Channel.request_each.Given as goal
 

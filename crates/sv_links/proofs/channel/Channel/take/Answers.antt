@@ -1,6 +1,6 @@
 use Rattle.std.proofs.Common.{length, refl, ap, arith}
 use Rattle.std.proofs.lemmas.List.{length-drop}
-use Rattle.sv_links.specs.KeptChannels.{Channel}
+use Rattle.sv_links.specs.ChannelRepresentation.{Channel}
 use Rattle.sv_links.proofs.Left.{sum-left, all-left, length-left}
 use Rattle.sv_links.proofs.Sent.{IsQueued-taken}
 use Rattle.sv_links.proofs.channel.Channel.take.Goals as goal

@@ -2,7 +2,7 @@ use Rattle.std.proofs.Common.{◌≡◌, ◌<◌, true, length, sym, ap, subst, 
 use Rattle.std.specs.Prelude.{slice_index_or, slice_set}
 use Rattle.std.proofs.lemmas.Bool.{false≢true}
 use Rattle.std.proofs.lemmas.List.{get_or-set_same}
-use Rattle.sv_links.specs.KeptChannels.{Channel, is_prepared}
+use Rattle.sv_links.specs.ChannelRepresentation.{Channel, is_prepared}
 use Rattle.sv_links.proofs.intr.Intr.cancel.Goals as goal
 
 pub returns-clause-unready : goal.returns-clause-unready

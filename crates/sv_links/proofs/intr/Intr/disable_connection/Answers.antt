@@ -3,7 +3,7 @@ use Rattle.std.specs.Prelude.{not, map}
 use Rattle.std.proofs.lemmas.Fn.{filter_same}
 use Rattle.sv_links.specs.declared.enabled.Enabled.{Enabled}
 use Rattle.sv_links.specs.Channels.{SrqDisabled}
-use Rattle.sv_links.specs.KeptChannels.{Channels, AreChannels}
+use Rattle.sv_links.specs.ChannelRepresentation.{Channels, AreChannels}
 use Rattle.sv_links.proofs.Asking.{sorted-filter}
 use Rattle.sv_links.proofs.Acts.{AreChannels-without}
 use Rattle.sv_links.proofs.intr.Intr.disable_connection.Goals as goal

@@ -8,7 +8,7 @@ use Rattle.std.proofs.lemmas.Bool.{cond-true}
 use Rattle.std.proofs.lemmas.List.Edits.{length-insert}
 use Rattle.std.proofs.lemmas.List.Filters.{length-filter_both}
 use Rattle.sv_links.specs.declared.enabled.Enabled.{Enabled}
-use Rattle.sv_links.specs.KeptChannels.{Channel, Channels, AreChannels, IsSorted, below, above}
+use Rattle.sv_links.specs.ChannelRepresentation.{Channel, Channels, AreChannels, IsSorted, below, above}
 use Rattle.sv_links.proofs.Asking.{other_links, sorted-inserted, inserted}
 use Rattle.sv_links.proofs.Acts.{AreChannels-enabled}
 use Rattle.sv_links.proofs.intr.Intr.enable.Goals as goal

@@ -1,5 +1,5 @@
 use Rattle.std.proofs.Common.{refl, arith, ap}
-use Rattle.sv_links.specs.KeptChannels.{opened_for}
+use Rattle.sv_links.specs.ChannelRepresentation.{opened_for}
 use Rattle.sv_links.proofs.intr.Intr.new.Goals as goal
 
 pub returns : goal.returns

@@ -1,7 +1,7 @@
 use Rattle.std.proofs.Common.{◌≡◌, ◌<◌, ℕ, length}
 use Rattle.std.specs.Prelude.{slice_index_or}
 use Rattle.sv_links.specs.declared.channel.Stage.TheVariants.{Closed}
-use Rattle.sv_links.specs.KeptChannels.{Channel}
+use Rattle.sv_links.specs.ChannelRepresentation.{Channel}
 use Rattle.sv_links.proofs.intr.Intr.new.Given as goal
 
 -- there are so many channels, and none is open

@@ -1,7 +1,7 @@
 use Rattle.std.proofs.Common.{◌≡◌, true, arith, ap, subst, ◌∙◌, rules}
 use Rattle.std.specs.Prelude.{slice_index_or}
 use Rattle.std.proofs.lemmas.Result.{on_ok_weaker}
-use Rattle.sv_links.specs.KeptChannels.{Channel, is_prepared}
+use Rattle.sv_links.specs.ChannelRepresentation.{Channel, is_prepared}
 use Rattle.sv_links.proofs.Acts.{at_set}
 use Rattle.std.proofs.lemmas.Grind.{common_steps}
 use Rattle.sv_links.proofs.intr.Intr.prepare.Goals as goal

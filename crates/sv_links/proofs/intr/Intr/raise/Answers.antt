@@ -3,7 +3,7 @@ use Rattle.std.specs.Prelude.{slice_index_or}
 use Rattle.std.proofs.lemmas.List.{length-set}
 use Rattle.sv_links.specs.declared.enabled.Enabled.{Enabled}
 use Rattle.sv_links.specs.Channels.{Requested}
-use Rattle.sv_links.specs.KeptChannels.{Channel, Channels, IsChannel, IsReady, is_prepared}
+use Rattle.sv_links.specs.ChannelRepresentation.{Channel, Channels, IsChannel, IsReady, is_prepared}
 use Rattle.sv_links.proofs.Acts.{IsChannel-requested, at_set}
 use Rattle.sv_links.proofs.intr.Intr.raise.Goals as goal
 

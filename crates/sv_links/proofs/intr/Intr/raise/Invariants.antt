@@ -1,7 +1,7 @@
 use Rattle.std.proofs.Common.{◌≡◌, ◌<◌, ◌≤◌, ℕ, List, ◌∷◌, length, true}
 use Rattle.std.specs.Prelude.{slice_index_or}
 use Rattle.sv_links.specs.Channels.{ChannelAct, Requested}
-use Rattle.sv_links.specs.KeptChannels.{Channel, AreChannels, IsChannel, IsReady, is_prepared}
+use Rattle.sv_links.specs.ChannelRepresentation.{Channel, AreChannels, IsChannel, IsReady, is_prepared}
 use Rattle.sv_links.proofs.intr.Intr.raise.Given as goal
 
 -- the channels in front of the index were sent their calls, and the others are as they were

@@ -1,6 +1,6 @@
 use Rattle.std.proofs.Common.{◌≡◌, ℕ, ◌-◌, List, ◌++◌, length, take, sym, ap, subst, ◌∙◌, append_assoc, arith}
 use Rattle.std.proofs.lemmas.List.{take-append-drop}
-use Rattle.sv_rpc.specs.Kept.{InRoom}
+use Rattle.sv_rpc.specs.Representation.{InRoom}
 use Rattle.sv_rpc.proofs.Goes.{GoesOn-then}
 use Rattle.sv_rpc.proofs.Keeping.{keeps_then}
 use Rattle.sv_rpc.proofs.record_buf.RecordBuf.push.Goals as goal

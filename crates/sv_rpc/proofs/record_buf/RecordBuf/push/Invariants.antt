@@ -1,5 +1,5 @@
 use Rattle.std.proofs.Common.{◌≡◌, ℕ, ◌<◌, List, ◌++◌, length}
-use Rattle.sv_rpc.specs.Kept.{InRoom, GoesOn, Keeps}
+use Rattle.sv_rpc.specs.Representation.{InRoom, GoesOn, Keeps}
 use Rattle.sv_rpc.proofs.record_buf.RecordBuf.push.Given as goal
 
 -- what was taken in stands in front of the rest, which fits

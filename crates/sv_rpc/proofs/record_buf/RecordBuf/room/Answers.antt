@@ -1,6 +1,6 @@
 use Rattle.std.proofs.Common.{◌≡◌, ◌+◌, ◌*◌, length, ◌∙◌, arith}
 use Rattle.sv_rpc.specs.RecordBuf.{room_of}
-use Rattle.sv_rpc.specs.Kept.{begun_of}
+use Rattle.sv_rpc.specs.Representation.{begun_of}
 use Rattle.sv_rpc.proofs.Records.{room_answer, room_by_parts}
 use Rattle.sv_rpc.proofs.record_buf.RecordBuf.room.Given.{Over}
 use Rattle.sv_rpc.proofs.record_buf.RecordBuf.room.Goals as goal

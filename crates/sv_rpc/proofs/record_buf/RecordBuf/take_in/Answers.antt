@@ -1,6 +1,6 @@
 use Rattle.std.proofs.Common.{◌≡◌, ℕ, ◌+◌, ◌-◌, length, sym, subst, arith}
 use Rattle.std.proofs.lemmas.List.{length-take}
-use Rattle.sv_rpc.specs.Kept.{InRoom, Keeps}
+use Rattle.sv_rpc.specs.Representation.{InRoom, Keeps}
 use Rattle.sv_rpc.specs.RecordBuf.{Records}
 use Rattle.sv_rpc.proofs.Keeping.{byte_keeps, data_keeps}
 use Rattle.sv_rpc.proofs.Rooms.{byte_room}

@@ -1,6 +1,6 @@
 use Rattle.std.proofs.Common.{◌∙◌, ap, sym, refl}
 use Rattle.sv_scan.specs.Counted.{kept}
-use Rattle.sv_scan.specs.Kept.{run_complete}
+use Rattle.sv_scan.specs.Representation.{run_complete}
 use Rattle.sv_scan.proofs.Searches.{complete_is}
 use Rattle.sv_scan.proofs.scanner.Scanner.readings.Goals as goal
 

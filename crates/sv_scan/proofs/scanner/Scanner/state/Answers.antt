@@ -1,6 +1,6 @@
 use Rattle.std.proofs.Common.{◌∙◌, ap}
 use Rattle.sv_scan.specs.Counted.{kept}
-use Rattle.sv_scan.specs.Kept.{run_state}
+use Rattle.sv_scan.specs.Representation.{run_state}
 use Rattle.sv_scan.proofs.Searches.{state_is}
 use Rattle.sv_scan.proofs.scanner.Scanner.state.Goals as goal
 

@@ -1,6 +1,6 @@
 use Rattle.std.proofs.Common.{List, subst}
 use Rattle.sv_links.specs.Channels.{ChannelAct}
-use Rattle.sv_links.specs.KeptChannels.{AreChannels}
+use Rattle.sv_links.specs.ChannelRepresentation.{AreChannels}
 use Rattle.sv_history.proofs.Telling.{tells_once}
 use Rattle.sv_server.proofs.bench.Bench.channel_waiting.Goals as goal
 

@@ -1,5 +1,5 @@
 use Rattle.std.proofs.Common.{◌≡◌, ℕ, true, refl, sym, subst, ◌∙◌, arith}
-use Rattle.sv_links.specs.KeptChannels.{AreChannels}
+use Rattle.sv_links.specs.ChannelRepresentation.{AreChannels}
 use Rattle.sv_history.proofs.Telling.{requests, requests_one}
 use Rattle.sv_server.proofs.Raising.{Tolls, bench_raised}
 use Rattle.sv_server.proofs.bench.Bench.raise.Goals as goal

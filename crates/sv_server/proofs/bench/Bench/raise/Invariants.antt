@@ -1,5 +1,5 @@
 use Rattle.std.proofs.Common.{◌≡◌, ℕ}
-use Rattle.sv_links.specs.KeptChannels.{IsReady}
+use Rattle.sv_links.specs.ChannelRepresentation.{IsReady}
 use Rattle.sv_server.proofs.Raising.{Tolls}
 use Rattle.sv_server.proofs.bench.Bench.raise.Given as goal
 
