@@ -92,15 +92,15 @@ impl Path {
         match parts.lead {
             Lead::Root => {
                 self.mnemonics.clear();
-                self.go_on(parts.body);
+                self.walk(parts.body);
             }
-            Lead::Onward => self.go_on(parts.body),
+            Lead::Onward => self.walk(parts.body),
             Lead::Common => {}
         }
     }
 
     /// The mnemonics but the last come behind the path.
-    fn go_on(&mut self, body: &[u8])
+    fn walk(&mut self, body: &[u8])
         requires few { length self.old + length (cut_at 58 body.now) ≤ 5 }
         requires short { list_all is_short (cut_at 58 body.now) ≡ true }
         ensures { self.new ≡ but_last (self.old ++ cut_at 58 body.now) }

@@ -4,7 +4,7 @@ use Rattle.sv_layers.specs.StatusByte.{PolledBit}
 use Rattle.sv_layers.proofs.PolledByte.{one_word}
 use Rattle.sv_history.specs.declared.event.Config.{Config}
 use Rattle.sv_history.specs.Act.{Act, bench, instrument_acts}
-use Rattle.sv_history.specs.Polled.{IsPolled}
+use Rattle.sv_history.specs.PolledStatus.{IsPolled}
 use Rattle.sv_history.specs.Settling.{SettlesIn, Settles}
 use Rattle.sv_history.specs.History.{own_acts}
 use Rattle.sv_history.specs.Laws.{OneLog}

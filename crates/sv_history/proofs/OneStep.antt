@@ -8,12 +8,12 @@ use Rattle.sv_links.proofs.OneOldest.{one_oldest}
 use Rattle.sv_layers.specs.Act.{Act as InstrumentAct}
 use Rattle.sv_layers.specs.StatusByte.{PolledBit}
 use Rattle.sv_layers.proofs.PolledByte.{one_word}
-use Rattle.sv_instrument.specs.Happened.{IsFired}
+use Rattle.sv_instrument.specs.Stimulus.{IsFired}
 use Rattle.sv_instrument.specs.Step.{IsStep}
 use Rattle.sv_instrument.proofs.OneStep.{one_step}
 use Rattle.sv_history.specs.declared.event.Config.{Config}
 use Rattle.sv_history.specs.Act.{Act, BenchAct, Happened, Bench, of, bench, wait_acts, instrument_acts, ticks}
-use Rattle.sv_history.specs.Polled.{IsPolled}
+use Rattle.sv_history.specs.PolledStatus.{IsPolled}
 use Rattle.sv_history.specs.Settling.{First, Happens, CanGoOn, GoesOn, GivesUp, IsNext}
 use Rattle.sv_history.specs.Connection.{unanswered}
 use Rattle.sv_history.specs.Request.{core_call_in}

@@ -4,11 +4,11 @@ use Rattle.std.specs.Prelude.{map}
 use Rattle.sv_links.specs.Waiting.{waits, IsOldest, IsExpired}
 use Rattle.sv_links.specs.Channels.{ChannelAct}
 use Rattle.sv_layers.specs.Act.{Act as InstrumentAct}
-use Rattle.sv_instrument.specs.Happened.{IsFired}
+use Rattle.sv_instrument.specs.Stimulus.{IsFired}
 use Rattle.sv_instrument.specs.Step.{IsStep}
 use Rattle.sv_history.specs.declared.event.Config.{Config}
 use Rattle.sv_history.specs.Act.{Act, ConnAct, BenchAct, Channel, Happened, On, Bench, bench, wait_acts, instrument_acts, ticks}
-use Rattle.sv_history.specs.Polled.{IsPolled}
+use Rattle.sv_history.specs.PolledStatus.{IsPolled}
 use Rattle.sv_history.specs.Settling.{First, Happens, CanGoOn, GoesOn, GivesUp, IsNext, IsSettled}
 use Rattle.sv_history.proofs.OneStep.{went_on, gave_up}
 

@@ -7,7 +7,7 @@ use Rattle.sv_links.specs.Links.{LinkAct, Made, Destroyed, Locked, Unlocked}
 use Rattle.sv_links.specs.Channels.{ChannelAct, SrqEnabled, SrqDisabled, ChannelOpened, ChannelClosed, Requested, ChannelTaken, peer, is_channel_open}
 use Rattle.sv_layers.specs.Act.{Act as InstrumentAct}
 use Rattle.sv_layers.specs.StatusByte.{IsRaised}
-use Rattle.sv_instrument.specs.Raised.{Raise}
+use Rattle.sv_instrument.specs.RequestCount.{Raise}
 use Rattle.sv_history.specs.Act.{BenchAct, Linked, Waited, Channel, Happened, Ticked, channel_acts, instrument_acts}
 use Rattle.sv_history.specs.Requests.{Tells, link_told, request_told}
 use Rattle.sv_history.specs.Interrupts.{has_channel}

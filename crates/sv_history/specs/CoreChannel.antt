@@ -13,7 +13,7 @@ use Rattle.sv_exchange.specs.Read.{read_count, ends_at_term}
 use Rattle.sv_history.specs.declared.event.Config.{Config}
 use Rattle.sv_layers.specs.Act.{Exchanged, Reported, Purged, Polled}
 use Rattle.sv_instrument.specs.Step.{is_answerable}
-use Rattle.sv_instrument.specs.Happened.{trigger_acts}
+use Rattle.sv_instrument.specs.Stimulus.{trigger_acts}
 use Rattle.sv_history.specs.Act.{BenchAct, Linked, Happened, link_acts, instrument_acts, exchange_acts}
 use Rattle.sv_history.specs.CallOutcome.{CallOutcome, answered, only}
 use Rattle.sv_history.specs.CoreCall.{lid_of, no_bytes, failure}

@@ -14,9 +14,9 @@ pub mod AbortChannel
 pub mod Execution
 pub mod Refusing
 pub mod Resuming
-pub mod Polled
+pub mod PolledStatus
 pub mod Settling
 pub mod History
-pub mod Asking
+pub mod Queries
 pub mod Print
 pub mod Laws

@@ -5,12 +5,12 @@ use Rattle.sv_links.specs.Links.{holder}
 use Rattle.sv_links.specs.Waiting.{waits, IsAble, IsExpired, IsOldest}
 use Rattle.sv_exchange.specs.Exchange.{has_ended}
 use Rattle.sv_layers.specs.Act.{Act as InstrumentAct}
-use Rattle.sv_instrument.specs.Happened.{IsFired}
+use Rattle.sv_instrument.specs.Stimulus.{IsFired}
 use Rattle.sv_instrument.specs.Step.{IsStep, is_answerable}
 use Rattle.sv_history.specs.declared.event.Config.{Config}
 use Rattle.sv_history.specs.Act.{Act, BenchAct, Happened, Bench, of, bench, link_acts, wait_acts, instrument_acts, exchange_acts, ticks}
 use Rattle.sv_history.specs.Connection.{unanswered}
-use Rattle.sv_history.specs.Polled.{IsPolled}
+use Rattle.sv_history.specs.PolledStatus.{IsPolled}
 use Rattle.sv_history.specs.Request.{core_call_in}
 use Rattle.sv_history.specs.Effect.{acts_of}
 use Rattle.sv_history.specs.Resuming.{resumed, failed, late}

@@ -11,9 +11,9 @@ use Rattle.sv_command.proofs.OneReading.{one_reading}
 use Rattle.sv_layers.specs.declared.change.Awaited.{Awaited}
 use Rattle.sv_layers.specs.Act.{Act, exchange_acts}
 use Rattle.sv_layers.proofs.PolledByte.{one_word}
-use Rattle.sv_instrument.specs.Held.{held}
-use Rattle.sv_instrument.specs.Said.{Says, IsWord}
-use Rattle.sv_instrument.specs.Performed.{Performs, Replies, question_fault, answered, done, taken}
+use Rattle.sv_instrument.specs.HeldUnit.{held}
+use Rattle.sv_instrument.specs.QueryResponse.{Says, IsWord}
+use Rattle.sv_instrument.specs.CommandEffect.{Performs, Replies, question_fault, answered, done, taken}
 use Rattle.sv_instrument.specs.Path.{Leaves}
 use Rattle.sv_instrument.specs.Step.{StepOf, Starts, Does, interrupted}
 use Rattle.sv_instrument.specs.Laws.{OneStep}

@@ -14,9 +14,9 @@ use Rattle.sv_layers.specs.declared.change.Awaited.{Awaited}
 use Rattle.sv_layers.specs.Act.{Act, Exchanged, exchange_acts}
 use Rattle.sv_layers.specs.Inside.Kept.{Layered}
 use Rattle.sv_layers.proofs.Projected.{projected}
-use Rattle.sv_instrument.specs.Held.{held}
-use Rattle.sv_instrument.specs.Path.{IsPath, Leaves, begun, one_if_held}
-use Rattle.sv_instrument.specs.Kept.{Kept, StandsFor, IsHeldRight}
+use Rattle.sv_instrument.specs.HeldUnit.{held}
+use Rattle.sv_instrument.specs.Path.{IsPath, Leaves, units_begun, one_if_held}
+use Rattle.sv_instrument.specs.Representation.{Kept, StandsFor, IsHeldRight}
 use Rattle.sv_instrument.specs.Inside.Acted.{BeginsOne}
 
 same_root : (n : ℕ) (us vs : List (List ℕ)) (path : List (List ℕ)) → n ≡ 0 → Leaves (reverse (take n us)) path
@@ -38,7 +38,7 @@ none_held (Some awaited) layers right unended =
 -- so none of it began
 pub none_begun : (kept : Kept) (log : List Act) → StandsFor kept log → IsHeldRight kept.held kept.layers
     → IsTrue (is_open kept.layers.exchange)
-    → begun log ≡ 0
+    → units_begun log ≡ 0
 none_begun kept log s right open_now =
     let unended = not_true kept.layers.exchange.ended open_now in
     let exchange = subst (λ (acts : List ExchangeAct). Exchanges kept.layers.exchange acts) (projected log).0 s.layers.joined.exchange in
@@ -50,12 +50,12 @@ none_begun kept log s right open_now =
 pub accepted_path : (kept : Kept) (log : List Act) (bytes : List ℕ) (ended : Bool) → StandsFor kept log → IsHeldRight kept.held kept.layers
     → IsTrue (is_open kept.layers.exchange) → IsPath (Exchanged (Accepted bytes ended) ∷ log) kept.path
 accepted_path kept log bytes ended s right open_now =
-    same_root (begun log) _ _ kept.path (none_begun kept log s right open_now) s.path
+    same_root (units_begun log) _ _ kept.path (none_begun kept log s right open_now) s.path
 
 -- a message that is finished leaves the root
 pub finished_path : (log : List Act) → None ≡ held log → IsPath (Exchanged Finished ∷ log) []
 finished_path log free =
-    let none : begun (Exchanged Finished ∷ log) ≡ 0 = ap (λ (n : ℕ). 0 + n) (ap one_if_held (sym free)) in
+    let none : units_begun (Exchanged Finished ∷ log) ≡ 0 = ap (λ (n : ℕ). 0 + n) (ap one_if_held (sym free)) in
     subst (λ (n : ℕ). Leaves (reverse (take n (units (message (exchange_acts (Exchanged Finished ∷ log)))))) []) (sym none) refl
 
 -- so many units, and one more
@@ -79,10 +79,10 @@ pub started_path : (log new : List Act) (unit : List ℕ) (front behind : List (
 started_path log new unit front behind outcome free begins next before read =
     let n = units_done (current (exchange_acts log)) in
     let us = units (message (exchange_acts log)) in
-    let none : begun log ≡ n = ap (λ (k : ℕ). n + k) (ap one_if_held (sym free)) ∙ omega arith in
-    let more : begun new ≡ suc n = begins.begun ∙ omega arith in
+    let none : units_begun log ≡ n = ap (λ (k : ℕ). n + k) (ap one_if_held (sym free)) ∙ omega arith in
+    let more : units_begun new ≡ suc n = begins.begun ∙ omega arith in
     let here : slice_get us n ≡ Some unit = of_cond _ _ unit next in
-    let are : reverse (take (begun new) (units (message (exchange_acts new)))) ≡ unit ∷ reverse (take n us) =
+    let are : reverse (take (units_begun new) (units (message (exchange_acts new)))) ≡ unit ∷ reverse (take n us) =
     ap (λ (k : ℕ). reverse (take k (units (message (exchange_acts new))))) more
     ∙ ap (λ (text : List ℕ). reverse (take (suc n) (units text))) begins.message ∙ one_more us n unit here in
     let all = subst (λ (k : ℕ). Leaves (reverse (take k us)) front) none before in
@@ -93,6 +93,6 @@ pub released_path : (log new : List Act) (awaited : Awaited) (path : List (List 
     → IsPath log path → IsPath new path
 released_path log new awaited path is begins before =
     let n = units_done (current (exchange_acts log)) in
-    let same : begun log ≡ begun new = ap (λ (k : ℕ). n + k) (ap one_if_held (sym is)) ∙ sym begins.begun in
-    let there = subst (λ (text : List ℕ). Leaves (reverse (take (begun log) (units text))) path) (sym begins.message) before in
+    let same : units_begun log ≡ units_begun new = ap (λ (k : ℕ). n + k) (ap one_if_held (sym is)) ∙ sym begins.begun in
+    let there = subst (λ (text : List ℕ). Leaves (reverse (take (units_begun log) (units text))) path) (sym begins.message) before in
     subst (λ (k : ℕ). Leaves (reverse (take k (units (message (exchange_acts new))))) path) same there

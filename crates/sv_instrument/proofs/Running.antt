@@ -5,10 +5,10 @@ use Rattle.sv_scan.specs.Condition.{bit}
 use Rattle.sv_layers.specs.Act.{Act}
 use Rattle.sv_layers.specs.StatusByte.{IsRaised}
 use Rattle.sv_layers.specs.Inside.Kept.{Layered, Happens, StandsFor as Layers}
-use Rattle.sv_instrument.specs.Held.{held}
+use Rattle.sv_instrument.specs.HeldUnit.{held}
 use Rattle.sv_instrument.specs.Path.{IsPath}
-use Rattle.sv_instrument.specs.Raised.{Raise, Raises}
-use Rattle.sv_instrument.specs.Kept.{Kept, Ran}
+use Rattle.sv_instrument.specs.RequestCount.{Raise, Raises}
+use Rattle.sv_instrument.specs.Representation.{Kept, Ran}
 use Rattle.sv_instrument.specs.Inside.Acted.{Acted}
 
 -- one act more

@@ -10,12 +10,12 @@ use Rattle.sv_layers.specs.declared.change.Awaited.{Awaited}
 use Rattle.sv_layers.specs.Act.{Act, exchange_acts}
 use Rattle.sv_layers.specs.Condition.{is_idle}
 use Rattle.sv_layers.specs.Inside.Kept.{Layered, state_by}
-use Rattle.sv_instrument.specs.declared.outcome.Outcome.{Outcome}
-use Rattle.sv_instrument.specs.Held.{held}
+use Rattle.sv_instrument.specs.declared.unit_outcome.Outcome.{Outcome}
+use Rattle.sv_instrument.specs.HeldUnit.{held}
 use Rattle.sv_instrument.specs.Path.{IsPath}
-use Rattle.sv_instrument.specs.Raised.{Raises}
+use Rattle.sv_instrument.specs.RequestCount.{Raises}
 use Rattle.sv_instrument.specs.Step.{StepOf, IsStep, Starts}
-use Rattle.sv_instrument.specs.Kept.{Kept, Ran, IsHeldRight, unheld, waits}
+use Rattle.sv_instrument.specs.Representation.{Kept, Ran, IsHeldRight, unheld, waits}
 use Rattle.sv_instrument.specs.Inside.Acted.{Acted, Behaves, Follows, StartsUnit}
 use Rattle.sv_instrument.proofs.Running.{raises_then}
 use Rattle.sv_instrument.proofs.Paths.{started_path}

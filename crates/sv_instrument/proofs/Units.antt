@@ -14,10 +14,10 @@ use Rattle.sv_layers.specs.declared.change.Change.TheVariants as changes
 use Rattle.sv_layers.specs.Act.{Act, Exchanged, Held, Reported, exchange_acts}
 use Rattle.sv_layers.specs.Change.{act_of}
 use Rattle.sv_layers.specs.Inside.Kept.{Layered}
-use Rattle.sv_instrument.specs.declared.outcome.Outcome.{Outcome}
-use Rattle.sv_instrument.specs.Held.{held}
-use Rattle.sv_instrument.specs.Performed.{done, answered, unless, configured, taken, Replies}
-use Rattle.sv_instrument.specs.Said.{Says}
+use Rattle.sv_instrument.specs.declared.unit_outcome.Outcome.{Outcome}
+use Rattle.sv_instrument.specs.HeldUnit.{held}
+use Rattle.sv_instrument.specs.CommandEffect.{done, answered, unless, configured, taken, Replies}
+use Rattle.sv_instrument.specs.QueryResponse.{Says}
 use Rattle.sv_instrument.specs.Step.{Does}
 use Rattle.sv_instrument.specs.Inside.Acted.{Acted, IsApart, BeginsOne, Behaves, Follows}
 

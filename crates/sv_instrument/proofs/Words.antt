@@ -2,7 +2,7 @@
 use Rattle.std.proofs.Common.{◌≡◌, ℕ, ◌<◌, ◌++◌, List, [], ◌∙◌, ap}
 use Rattle.std.specs.Prelude.{◌↔◌, decimal}
 use Rattle.std.specs.Int.{bit_at}
-use Rattle.sv_instrument.specs.Said.{IsWord}
+use Rattle.sv_instrument.specs.QueryResponse.{IsWord}
 
 -- where nothing was, a word as a number of more bits
 pub word_printed : (Bit : ℕ → Type 0) (word wide : ℕ) (before text : List ℕ) → word < 65536 → before ≡ [] → wide ≡ word

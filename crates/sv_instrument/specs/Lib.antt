@@ -1,10 +1,10 @@
-pub mod Held
-pub mod Performed
-pub mod Said
+pub mod HeldUnit
+pub mod CommandEffect
+pub mod QueryResponse
 pub mod Step
-pub mod Raised
+pub mod RequestCount
 pub mod Path
-pub mod Kept
-pub mod Happened
+pub mod Representation
+pub mod Stimulus
 pub mod Inside
 pub mod Laws

@@ -7,7 +7,7 @@ use Rattle.sv_command.specs.declared.order.Order.{Order}
 use Rattle.sv_command.specs.Unit.{IsReadAs}
 use Rattle.sv_layers.specs.declared.change.Awaited.{Awaited}
 use Rattle.sv_layers.specs.Act.{Act, exchange_acts}
-use Rattle.sv_instrument.specs.Held.{held}
+use Rattle.sv_instrument.specs.HeldUnit.{held}
 
 -- Units, the last first, leave this path.
 abbrev pub Leaves : List (List ℕ) → List (List ℕ) → Type 0
@@ -20,9 +20,9 @@ one_if_held None = 0
 one_if_held (Some awaited) = 1
 
 -- how many units of the current message began: those that were done, and one that is held
-abbrev pub begun : List Act → ℕ
-begun log = units_done (current (exchange_acts log)) + one_if_held (held log)
+abbrev pub units_begun : List Act → ℕ
+units_begun log = units_done (current (exchange_acts log)) + one_if_held (held log)
 
 -- The units of the current message that began leave this path.
 abbrev pub IsPath : List Act → List (List ℕ) → Type 0
-IsPath log path = Leaves (reverse (take (begun log) (units (message (exchange_acts log))))) path
+IsPath log path = Leaves (reverse (take (units_begun log) (units (message (exchange_acts log))))) path

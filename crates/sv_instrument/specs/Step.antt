@@ -1,5 +1,5 @@
 -- The step of message exchange that is due (IEEE 488.2, 6.1.4 and 6.3): a held unit ends, or the next unit starts, or a message that is
--- too long is reported, or one that has ended is finished.
+-- too long is reported, or one that has released is finished.
 use Rattle.std.specs.Prelude.{◌≡◌, ℕ, Bool, true, false, not, ◌&&◌, ◌||◌, List, ◌∷◌, Option, Some, None, Result, Ok, Err, codes}
 use Rattle.sv_errors.specs.declared.code.Code.{Code}
 use Rattle.sv_errors.specs.declared.code.Code.TheVariants.{InputBufferOverrun, QueryInterrupted}
@@ -11,16 +11,16 @@ use Rattle.sv_layers.specs.declared.change.Awaited.{Awaited}
 use Rattle.sv_layers.specs.declared.change.Awaited.TheVariants.{Nothing, One, Readings}
 use Rattle.sv_layers.specs.Act.{Act, Exchanged, Reported, exchange_acts}
 use Rattle.sv_layers.specs.Condition.{counted, is_idle}
-use Rattle.sv_instrument.specs.Held.{held}
+use Rattle.sv_instrument.specs.HeldUnit.{held}
 use Rattle.sv_instrument.specs.Path.{IsPath}
-use Rattle.sv_instrument.specs.Said.{readings_text}
-use Rattle.sv_instrument.specs.Performed.{Performs, done, answered}
+use Rattle.sv_instrument.specs.QueryResponse.{readings_text}
+use Rattle.sv_instrument.specs.CommandEffect.{Performs, done, answered}
 
 -- the end of a unit that is held
-abbrev pub ended : Awaited → List Act → List Act
-ended Nothing log = done log
-ended One log = answered (codes "1") (done log)
-ended Readings log = answered (readings_text (readings (counted log))) (done log)
+abbrev pub released : Awaited → List Act → List Act
+released Nothing log = done log
+released One log = answered (codes "1") (done log)
+released Readings log = answered (readings_text (readings (counted log))) (done log)
 
 -- A unit does what it asks for, or its fault is reported.
 abbrev pub Does : Result Order Code → List Act → List Act → Type 0
@@ -37,7 +37,7 @@ abbrev pub interrupted : List Act → List Act
 interrupted log = Reported QueryInterrupted ∷ Exchanged Interrupted ∷ log
 
 abbrev pub StepOf : Option Awaited → Due → List Act → List Act → Type 0
-StepOf (Some awaited) next log new = (is_idle log ≡ true) × (new ≡ ended awaited log)
+StepOf (Some awaited) next log new = (is_idle log ≡ true) × (new ≡ released awaited log)
 StepOf None NothingDue log new = ⊥
 StepOf None OverrunDue log new = new ≡ Reported InputBufferOverrun ∷ Exchanged Overran ∷ log
 StepOf None InterruptDue log new = (unit : List ℕ) × (next_unit (exchange_acts log) ≡ Some unit) × Starts unit (interrupted log) new

@@ -1,7 +1,7 @@
 //! The instrument, and what it keeps.
 
 ghost use Rattle.std.specs.Prelude.{[], IfOk};
-ghost use Rattle.sv_instrument.specs.Kept.{StandsFor};
+ghost use Rattle.sv_instrument.specs.Representation.{StandsFor};
 
 use std::alloc::{AllocError, Allocator, Global};
 use std::marker::Model;
@@ -27,12 +27,12 @@ pub struct Instrument<A: Allocator = Global> {
 }
 
 impl<A: Allocator> Model for Instrument<A> {
-    ghost use Rattle.sv_instrument.specs.Kept.{Kept};
+    ghost use Rattle.sv_instrument.specs.Representation.{Kept};
 
     ghost Value = { Kept };
 
     ghost use Rattle.std.specs.Prelude.{◌≤◌, vec_capacity};
-    ghost use Rattle.sv_instrument.specs.Kept.{IsHeldRight};
+    ghost use Rattle.sv_instrument.specs.Representation.{IsHeldRight};
 
     ghost view = { λ a. record { layers = a.layers; held = a.held; path = a.path } };
 

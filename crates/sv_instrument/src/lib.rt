@@ -6,21 +6,19 @@
 //! takes any. Each call that changes something tells how many requests for service it raised.
 #![tactic(auto)]
 
-mod acting;
-mod answering;
-mod asking;
-mod counting;
-mod happenings;
 mod instrument;
 pub mod laws;
-mod messages;
-mod outcome;
-mod performing;
+mod message_io;
+mod orders;
 mod polling;
+mod queries;
 mod readings;
 mod scanning;
-mod starting;
-mod stepping;
+mod steps;
+mod stimuli;
+mod unit_effects;
+mod unit_outcome;
+mod unit_start;
 
 pub use instrument::Instrument;
 pub use polling::Polled;

@@ -5,10 +5,10 @@ ghost use Rattle.std.specs.Int.{bit_at};
 ghost use Rattle.sv_layers.specs.Act.{Act};
 ghost use Rattle.sv_layers.specs.Act.{Polled as PolledAct};
 ghost use Rattle.sv_layers.specs.StatusByte.{PolledBit};
-ghost use Rattle.sv_instrument.specs.Kept.{StandsFor, Ran};
+ghost use Rattle.sv_instrument.specs.Representation.{StandsFor, Ran};
 
-use crate::counting::one;
 use crate::instrument::Instrument;
+use crate::unit_outcome::one;
 use std::alloc::Allocator;
 
 /// What a poll gives.

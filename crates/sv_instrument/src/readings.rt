@@ -3,7 +3,7 @@
 ghost use Rattle.std.specs.Prelude.{◌≡◌, ◌≤◌, ◌+◌, ◌*◌, ◌++◌, true, length, vec_len, vec_capacity};
 ghost use Rattle.std.specs.List.{list_all};
 ghost use Rattle.sv_scan.specs.Scan.{is_bounded};
-ghost use Rattle.sv_instrument.specs.Said.{reading_text, readings_text};
+ghost use Rattle.sv_instrument.specs.QueryResponse.{reading_text, readings_text};
 
 use std::alloc::Allocator;
 use sv_scan::Reading;

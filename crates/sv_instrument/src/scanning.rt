@@ -6,12 +6,11 @@ ghost use Rattle.sv_command.specs.declared.order.Order.TheVariants.{Trigger, Set
 ghost use Rattle.sv_scan.specs.declared.acts.ScanAct.TheVariants.{Configure};
 ghost use Rattle.sv_layers.specs.Act.{Act, Scanned};
 ghost use Rattle.sv_layers.specs.Inside.Kept.{StandsFor as Stands};
-ghost use Rattle.sv_instrument.specs.Performed.{Performs, configured, set_list as with_list};
+ghost use Rattle.sv_instrument.specs.CommandEffect.{Performs, configured, set_list as with_list};
 ghost use Rattle.sv_instrument.specs.Inside.Acted.{Acted, Behaves, Advances};
 
-use crate::acting::{carry_out, change, end, hold};
-use crate::counting::one;
-use crate::outcome::Outcome;
+use crate::unit_effects::{carry_out, change, end, hold};
+use crate::unit_outcome::{Outcome, one};
 use std::alloc::Allocator;
 use sv_errors::Source;
 use sv_layers::{Awaited, Change, Layers};

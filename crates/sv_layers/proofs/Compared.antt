@@ -1,9 +1,9 @@
 -- An act that does nothing to a register itself ends where the conditions were compared.
 use Rattle.std.proofs.Common.{◌≡◌, true, refl}
 use Rattle.sv_layers.specs.Act.{Act, Exchanged, Purged, Scanned, Held, Reported, EntryTaken, Cleared, Preset, OpcAsked, StandardRead, StandardEnabled, EventRead, Enabled, RiseSet, FallSet, ServiceEnabled, Polled}
-use Rattle.sv_layers.specs.Inside.Seen.{Seen, ended, is_plain}
+use Rattle.sv_layers.specs.Inside.Seen.{Seen, after_compared, is_plain}
 
-pub plain_ended : (act : Act) (at : Seen) → is_plain act ≡ true → at ≡ ended act at
+pub plain_ended : (act : Act) (at : Seen) → is_plain act ≡ true → at ≡ after_compared act at
 plain_ended (Exchanged act) at plain = refl
 plain_ended Purged at plain = refl
 plain_ended (Scanned act) at plain = refl

@@ -5,19 +5,19 @@
 #![tactic(auto)]
 
 mod change;
-mod exchanging;
-mod happening;
+mod changing;
 mod laws;
 mod layers;
+mod message_exchange;
 mod polling;
 mod status;
 mod words;
 
 pub use change::{Awaited, Change};
-pub use exchanging::Response;
 pub use laws::{
     one_account, own_acts, same_completion, same_enable, same_events, same_raising, same_requests,
     same_standard_events, same_status, same_summaries, same_waiting, same_words,
 };
 pub use layers::Layers;
+pub use message_exchange::Response;
 pub use polling::Poll;

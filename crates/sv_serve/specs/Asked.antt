@@ -8,7 +8,7 @@ use Rattle.sv_history.specs.Act.{of}
 use Rattle.sv_history.specs.Connection.{room, is_idle, is_faulted}
 use Rattle.sv_history.specs.Interrupts.{dial_of}
 use Rattle.sv_history.specs.History.{is_port_shut}
-use Rattle.sv_history.specs.Asking.{Answered, WaitOn}
+use Rattle.sv_history.specs.Queries.{Answered, WaitOn}
 use Rattle.sv_serve.specs.Moment.{Moment}
 
 -- whether a connection or an interrupt channel is open

@@ -22,7 +22,7 @@ use Rattle.sv_links.proofs.Counted.{creations-without, creations-push, creations
 use Rattle.sv_links.proofs.Live.{closing-live, destroyed-live}
 use Rattle.sv_history.specs.declared.event.Config.{Config}
 use Rattle.sv_history.specs.Act.{BenchAct, Linked, Waited, link_acts, wait_acts}
-use Rattle.sv_instrument.specs.Kept.{Kept, StandsFor}
+use Rattle.sv_instrument.specs.Representation.{Kept, StandsFor}
 use Rattle.sv_history.specs.CoreChannel.{make_link, device_lock, device_unlock}
 use Rattle.sv_server.specs.KeptBench.{Bench, IsBench, HasPlace, AreTold, AreOwned, AreReady}
 use Rattle.sv_history.specs.Requests.{link_told}

@@ -6,7 +6,7 @@ use Rattle.sv_links.specs.Table.{Table, IsTable}
 use Rattle.sv_links.specs.Queue.{creations}
 use Rattle.sv_links.specs.ChannelRepresentation.{Channels, IsReady}
 use Rattle.sv_layers.specs.Act.{Act as InstrumentAct}
-use Rattle.sv_instrument.specs.Kept.{Kept, StandsFor}
+use Rattle.sv_instrument.specs.Representation.{Kept, StandsFor}
 use Rattle.sv_history.specs.declared.event.Config.{Config}
 use Rattle.sv_history.specs.Act.{Act, ConnAct, BenchAct, CallTaken, Linked, On, of, bench, link_acts, instrument_acts}
 use Rattle.sv_history.specs.Effect.{Effect, acts_of}

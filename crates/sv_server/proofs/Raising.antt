@@ -5,8 +5,8 @@ use Rattle.std.proofs.lemmas.List.{append_cancel_right}
 use Rattle.sv_links.specs.Channels.{ChannelAct}
 use Rattle.sv_links.specs.ChannelRepresentation.{Channels, AreChannels, IsReady}
 use Rattle.sv_layers.specs.Act.{Act as InstrumentAct}
-use Rattle.sv_instrument.specs.Kept.{Kept, StandsFor, Ran, Takes}
-use Rattle.sv_instrument.specs.Raised.{Raise}
+use Rattle.sv_instrument.specs.Representation.{Kept, StandsFor, Ran, Takes}
+use Rattle.sv_instrument.specs.RequestCount.{Raise}
 use Rattle.sv_history.specs.declared.event.Config.{Config}
 use Rattle.sv_history.specs.Act.{BenchAct, Happened, instrument_acts}
 use Rattle.sv_server.specs.KeptBench.{Bench, IsBench, HasDone}

@@ -13,7 +13,7 @@ use Rattle.sv_links.specs.Channels.{ChannelAct, ChannelTaken, waiting as channel
 use Rattle.sv_history.specs.Act.{Act, On, BytesTaken, Bench, Channel, of, bench}
 use Rattle.sv_history.specs.Requests.{Tells}
 use Rattle.sv_history.specs.Interrupts.{has_channel}
-use Rattle.sv_history.specs.Polled.{IsPolled}
+use Rattle.sv_history.specs.PolledStatus.{IsPolled}
 use Rattle.sv_history.proofs.StillSettled.{still_settled, channel_settled}
 use Rattle.sv_server.proofs.Steps.{polled_now}
 use Rattle.sv_history.proofs.Telling.{has_channel_told}

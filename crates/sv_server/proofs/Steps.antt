@@ -5,7 +5,7 @@ use Rattle.sv_layers.proofs.PolledByte.{polled_byte}
 use Rattle.sv_history.specs.declared.event.Config.{Config}
 use Rattle.sv_history.specs.Act.{Act, BenchAct, instrument_acts}
 use Rattle.sv_history.specs.Requests.{Tells}
-use Rattle.sv_history.specs.Polled.{IsPolled}
+use Rattle.sv_history.specs.PolledStatus.{IsPolled}
 use Rattle.sv_history.specs.Settling.{First, IsNext, IsSettled, SettlesIn}
 use Rattle.sv_server.specs.Inside.Acting.{Reaches}
 use Rattle.sv_server.specs.KeptBench.{IsBench, Bench as KeptBench}

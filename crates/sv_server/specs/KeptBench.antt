@@ -9,7 +9,7 @@ use Rattle.sv_links.specs.Waiting.{WaitAct}
 use Rattle.sv_links.specs.Queue.{IsQueue, creations}
 use Rattle.sv_links.specs.Channels.{ChannelAct}
 use Rattle.sv_links.specs.ChannelRepresentation.{Channels, AreChannels, IsReady}
-use Rattle.sv_instrument.specs.Kept.{Kept, StandsFor}
+use Rattle.sv_instrument.specs.Representation.{Kept, StandsFor}
 use Rattle.sv_history.specs.declared.event.Config.{Config}
 use Rattle.sv_layers.specs.Act.{Act as InstrumentAct}
 use Rattle.sv_history.specs.Act.{BenchAct, link_acts, wait_acts, instrument_acts, ticks}

@@ -5,7 +5,7 @@ ghost use Rattle.sv_vxi.specs.Reading.{plain_arguments};
 ghost use Rattle.sv_vxi.specs.declared.error_code.ErrorCode.TheVariants.{NoError};
 ghost use Rattle.sv_vxi.specs.Results.{Link, Status, Plain, plain_result, data_of};
 ghost use Rattle.sv_layers.specs.Act.{Polled, Purged};
-ghost use Rattle.sv_instrument.specs.Happened.{trigger_acts};
+ghost use Rattle.sv_instrument.specs.Stimulus.{trigger_acts};
 ghost use Rattle.sv_history.specs.declared.event.Config.{Config as Configured};
 ghost use Rattle.sv_links.specs.Links.{holder, is_locked_out};
 ghost use Rattle.sv_history.specs.Act.{BenchAct, Happened, link_acts, instrument_acts};

@@ -11,7 +11,7 @@ ghost use Rattle.sv_history.specs.Act.{Act, bench};
 ghost use Rattle.sv_history.specs.Requests.{Tells};
 ghost use Rattle.sv_history.specs.Interrupts.{dial_by as called_by, dial_of};
 ghost use Rattle.sv_history.specs.History.{is_channel_shut};
-ghost use Rattle.sv_history.specs.Asking.{Answered};
+ghost use Rattle.sv_history.specs.Queries.{Answered};
 ghost use Rattle.sv_server.specs.State.{Represents, StandsFor};
 ghost use Rattle.sv_server.specs.Inside.Acting.{Acts};
 

@@ -9,7 +9,7 @@ ghost use Rattle.sv_history.specs.Act.{Act, of, bench, wait_acts};
 ghost use Rattle.sv_history.specs.Connection.{is_open, waiting_on, room, is_idle, is_faulted};
 ghost use Rattle.sv_history.specs.History.{abort_acts, is_shut, is_port_shut, IsLogOf, Answers, history_after};
 ghost use Rattle.sv_history.specs.Requests.{Tells};
-ghost use Rattle.sv_history.specs.Asking.{Answered, WaitOn};
+ghost use Rattle.sv_history.specs.Queries.{Answered, WaitOn};
 ghost use Rattle.sv_server.specs.KeptConnection.{Connection as KeptConnection, IsConnection};
 ghost use Rattle.sv_server.specs.State.{Represents, StandsFor};
 ghost use Rattle.sv_server.specs.Inside.Acting.{Acts};

@@ -3,14 +3,14 @@
 ghost use Rattle.std.specs.Prelude.{◌≡◌, ◌≢◌, ◌<◌, ◌≤◌, ◌++◌, ℕ, List, Some, None, true, false, IsTrue};
 ghost use Rattle.sv_links.specs.Waiting.{waits};
 ghost use Rattle.sv_links.specs.Queue.{IsEntry, creates, creations, without, rank};
-ghost use Rattle.sv_instrument.specs.Happened.{IsFired};
+ghost use Rattle.sv_instrument.specs.Stimulus.{IsFired};
 ghost use Rattle.sv_instrument.specs.Step.{IsStep};
-ghost use Rattle.sv_instrument.specs.Kept.{left_of};
+ghost use Rattle.sv_instrument.specs.Representation.{left_of};
 ghost use Rattle.sv_history.specs.declared.event.Config.{Config};
 ghost use Rattle.sv_history.specs.Act.{Act, of, bench, wait_acts};
 ghost use Rattle.sv_history.specs.Connection.{unanswered};
 ghost use Rattle.sv_history.specs.Request.{core_call_in};
-ghost use Rattle.sv_history.specs.Polled.{IsPolled};
+ghost use Rattle.sv_history.specs.PolledStatus.{IsPolled};
 ghost use Rattle.sv_history.specs.Effect.{acts_of};
 ghost use Rattle.sv_history.specs.Resuming.{resumed, failed, late as late_error};
 ghost use Rattle.sv_history.specs.Settling.{CanGoOn, Happens, GoesOn, GivesUp, IsSettled};

@@ -10,7 +10,7 @@
 //! | `input CHANNEL MICROVOLTS`, `external`, `trigger`, `clear` | nothing |
 
 ghost use Rattle.std.specs.Prelude.{◌<◌, OnSome};
-ghost use Rattle.sv_instrument.specs.Kept.{left_of};
+ghost use Rattle.sv_instrument.specs.Representation.{left_of};
 
 use crate::line::{Fault, cut, put, put_text, value_of};
 use bstr::ByteVec;

@@ -8,12 +8,12 @@ use Rattle.sv_command.specs.Unit.{IsReadAs}
 use Rattle.sv_layers.specs.declared.change.Awaited.{Awaited}
 use Rattle.sv_layers.specs.Act.{Act, exchange_acts}
 use Rattle.sv_layers.specs.Inside.Kept.{Layered, StandsFor as Layers}
-use Rattle.sv_instrument.specs.declared.outcome.Outcome.{Outcome}
-use Rattle.sv_instrument.specs.Held.{held}
-use Rattle.sv_instrument.specs.Path.{begun}
-use Rattle.sv_instrument.specs.Raised.{Raises}
+use Rattle.sv_instrument.specs.declared.unit_outcome.Outcome.{Outcome}
+use Rattle.sv_instrument.specs.HeldUnit.{held}
+use Rattle.sv_instrument.specs.Path.{units_begun}
+use Rattle.sv_instrument.specs.RequestCount.{Raises}
 use Rattle.sv_instrument.specs.Step.{Does, Starts}
-use Rattle.sv_instrument.specs.Kept.{Kept, Ran, unheld, IsHeldRight}
+use Rattle.sv_instrument.specs.Representation.{Kept, Ran, unheld, IsHeldRight}
 
 -- The layers stand for the new log, and so many requests for service were raised on the way to it.
 pub record Acted (layers : Layered) (count : ℕ) (log new : List Act) : Type 0 where
@@ -27,7 +27,7 @@ IsApart log new = exchange_acts new ≡ exchange_acts log
 -- Of the message, which is the same, so many units began as were done before, and one more.
 pub record BeginsOne (log new : List Act) : Type 0 where
   pub message : message (exchange_acts new) ≡ message (exchange_acts log)
-  pub begun : begun new ≡ units_done (current (exchange_acts log)) + 1
+  pub units_begun : units_begun new ≡ units_done (current (exchange_acts log)) + 1
 
 -- A unit made this of a log.
 pub record Behaves (Makes : List Act → Type 0) (layers : Layered) (outcome : Outcome) (log : List Act) : Type 0 where

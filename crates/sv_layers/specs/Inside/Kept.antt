@@ -15,7 +15,7 @@ use Rattle.sv_exchange.specs.Exchange.{response, is_something}
 use Rattle.sv_exchange.specs.Contents.{Contents, StandsFor as Exchanges}
 use Rattle.sv_layers.specs.Act.{Act, Polled}
 use Rattle.sv_layers.specs.StatusByte.{IsRaised}
-use Rattle.sv_layers.specs.Inside.Seen.{Seen, begun, seen}
+use Rattle.sv_layers.specs.Inside.Seen.{Seen, before_compared, seen}
 
 pub record Layered : Type 0 where
   pub exchange : Contents
@@ -76,7 +76,7 @@ pub record StandsFor (layered : Layered) (log : List Act) : Type 0 where
 pub record Begun (layered : Layered) (act : Act) (log : List Act) : Type 0 where
   pub told : List StatusAct
   pub are : IsStatus log told
-  pub joined : Joined layered (begun act (seen log)) (own_status act told)
+  pub joined : Joined layered (before_compared act (seen log)) (own_status act told)
 
 -- What is kept stands for the log, and a request was raised at its newest act exactly if this says so.
 pub record Happens (layered : Layered) (raised : Bool) (log : List Act) : Type 0 where

@@ -40,19 +40,19 @@ abbrev pub report_bits : Code → Bool → List StandardAct → List StandardAct
 report_bits code overflow acts = standard.Occur (bit 3 overflow) ∷ standard.Occur (standard_event_of code) ∷ acts
 
 -- what an act does to its own layer
-abbrev pub begun : Act → Seen → Seen
-begun (Exchanged act) at = record at { exchange = act ∷ at.exchange }
-begun Purged at = record at { exchange = Interrupted ∷ TextDropped ∷ at.exchange; waits = false }
-begun (Scanned act) at = record at { scanner = act ∷ at.scanner; waits = at.waits && not (resets act) }
-begun (Reported code) at = record at {
+abbrev pub before_compared : Act → Seen → Seen
+before_compared (Exchanged act) at = record at { exchange = act ∷ at.exchange }
+before_compared Purged at = record at { exchange = Interrupted ∷ TextDropped ∷ at.exchange; waits = false }
+before_compared (Scanned act) at = record at { scanner = act ∷ at.scanner; waits = at.waits && not (resets act) }
+before_compared (Reported code) at = record at {
   errors = queue.Report code ∷ at.errors;
   standard = report_bits code (is_full at.errors) at.standard;
 }
-begun EntryTaken at = record at { errors = queue.Take ∷ at.errors }
-begun Cleared at = record at { errors = queue.Clear ∷ at.errors; waits = false }
-begun OpcAsked at = record at { waits = true }
-begun (ServiceEnabled mask) at = record at { service = mask }
-begun _ at = at
+before_compared EntryTaken at = record at { errors = queue.Take ∷ at.errors }
+before_compared Cleared at = record at { errors = queue.Clear ∷ at.errors; waits = false }
+before_compared OpcAsked at = record at { waits = true }
+before_compared (ServiceEnabled mask) at = record at { service = mask }
+before_compared _ at = at
 
 -- no measurement is under way
 abbrev pub idles : Seen → Bool
@@ -80,16 +80,16 @@ abbrev pub both_registers : RegisterAct → Seen → Seen
 both_registers act at = record at { operation = act ∷ at.operation; questionable = act ∷ at.questionable }
 
 -- what an act does to registers itself
-abbrev pub ended : Act → Seen → Seen
-ended Cleared at = record (both_registers register.Clear at) { standard = standard.Clear ∷ at.standard }
-ended Preset at = both_registers register.Preset at
-ended StandardRead at = record at { standard = standard.Read ∷ at.standard }
-ended (StandardEnabled mask) at = record at { standard = standard.SetEnable mask ∷ at.standard }
-ended (EventRead name) at = on_register name register.ReadEvent at
-ended (Enabled name mask) at = on_register name (register.SetEnable mask) at
-ended (RiseSet name mask) at = on_register name (register.SetFilter mask (fall (register_acts name at))) at
-ended (FallSet name mask) at = on_register name (register.SetFilter (rise (register_acts name at)) mask) at
-ended _ at = at
+abbrev pub after_compared : Act → Seen → Seen
+after_compared Cleared at = record (both_registers register.Clear at) { standard = standard.Clear ∷ at.standard }
+after_compared Preset at = both_registers register.Preset at
+after_compared StandardRead at = record at { standard = standard.Read ∷ at.standard }
+after_compared (StandardEnabled mask) at = record at { standard = standard.SetEnable mask ∷ at.standard }
+after_compared (EventRead name) at = on_register name register.ReadEvent at
+after_compared (Enabled name mask) at = on_register name (register.SetEnable mask) at
+after_compared (RiseSet name mask) at = on_register name (register.SetFilter mask (fall (register_acts name at))) at
+after_compared (FallSet name mask) at = on_register name (register.SetFilter (rise (register_acts name at)) mask) at
+after_compared _ at = at
 
 -- what all layers see of the acts
 abbrev pub seen : List Act → Seen
@@ -103,7 +103,7 @@ seen [] = record {
   service = 0;
   waits = false;
 }
-seen (act ∷ log) = ended act (compared (begun act (seen log)))
+seen (act ∷ log) = after_compared act (compared (before_compared act (seen log)))
 
 -- whether an act does nothing to a register itself
 abbrev pub is_plain : Act → Bool

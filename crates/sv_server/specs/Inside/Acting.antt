@@ -21,7 +21,7 @@ use Rattle.sv_history.specs.Request.{Request, core_call, next_request}
 use Rattle.sv_history.specs.Effect.{Effect}
 use Rattle.sv_history.specs.Execution.{request_effect, aborts}
 use Rattle.sv_history.specs.Connection.{next_call, is_idle}
-use Rattle.sv_history.specs.Polled.{IsPolled}
+use Rattle.sv_history.specs.PolledStatus.{IsPolled}
 use Rattle.sv_history.specs.Settling.{IsNext, IsSettled, SettlesIn, Settles}
 use Rattle.sv_history.specs.Refusing.{refusable, refused_reply}
 use Rattle.sv_history.specs.History.{refusal, turn_refusal, refuse_refusal, own_acts, did, wants_memory, is_beyond, input_refusal}

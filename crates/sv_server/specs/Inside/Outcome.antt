@@ -25,7 +25,7 @@ use Rattle.sv_history.specs.CoreChannel.{reads, own_call}
 use Rattle.sv_history.specs.Admission.{Stop, Fails, Awaits, stop_of, begun}
 use Rattle.sv_history.specs.Execution.{request_effect}
 use Rattle.sv_history.specs.Resuming.{continued}
-use Rattle.sv_history.specs.Polled.{IsPolled}
+use Rattle.sv_history.specs.PolledStatus.{IsPolled}
 use Rattle.sv_history.specs.History.{wants_memory}
 use Rattle.sv_server.specs.declared.reply.Answer.{Answer}
 use Rattle.sv_server.specs.declared.reply.Answer.TheVariants as answers

@@ -2,7 +2,7 @@ use Rattle.std.proofs.Common.{◌≡◌, ◌≤◌, ◌+◌, ◌*◌, ◌++◌, 
 use Rattle.std.specs.Prelude.{codes}
 use Rattle.std.specs.List.{flat_map, list_all}
 use Rattle.sv_scan.specs.Scan.{is_bounded}
-use Rattle.sv_instrument.specs.Said.{reading_text, readings_text}
+use Rattle.sv_instrument.specs.QueryResponse.{reading_text, readings_text}
 use Rattle.sv_instrument.proofs.readings.put_readings.Given as goal
 
 -- what is put so far, and the readings from here on, each behind a comma

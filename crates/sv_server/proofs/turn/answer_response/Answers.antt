@@ -3,7 +3,7 @@ use Rattle.sv_rpc.specs.declared.reply.Reply.TheVariants.{Success}
 use Rattle.sv_vxi.specs.Results.{Outcome, result_fields}
 use Rattle.sv_exchange.specs.Exchange.{ResponseRead}
 use Rattle.sv_layers.specs.Act.{Exchanged}
-use Rattle.sv_instrument.specs.Kept.{Ran}
+use Rattle.sv_instrument.specs.Representation.{Ran}
 use Rattle.sv_history.specs.Act.{Replied, instrument_acts}
 use Rattle.sv_history.specs.Reply.{reply_record}
 use Rattle.sv_server.specs.KeptConnection.{IsConnection}

@@ -1,7 +1,7 @@
 use Rattle.std.proofs.Common.{sym}
 use Rattle.sv_history.specs.Act.{instrument_acts}
 use Rattle.sv_server.proofs.Raising.{bench_ran}
-use Rattle.sv_instrument.specs.Happened.{trigger_acts}
+use Rattle.sv_instrument.specs.Stimulus.{trigger_acts}
 use Rattle.sv_server.proofs.bench.Bench.device_trigger.Goals as goal
 
 pub returns-clause-ends : goal.returns-clause-ends

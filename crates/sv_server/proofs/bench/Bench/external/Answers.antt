@@ -1,6 +1,6 @@
 use Rattle.sv_history.specs.Act.{instrument_acts}
 use Rattle.sv_server.proofs.Raising.{bench_ran}
-use Rattle.sv_instrument.specs.Happened.{external_acts}
+use Rattle.sv_instrument.specs.Stimulus.{external_acts}
 use Rattle.sv_server.proofs.bench.Bench.external.Goals as goal
 
 pub returns-clause-stands : goal.returns-clause-stands

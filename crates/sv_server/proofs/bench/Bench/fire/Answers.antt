@@ -1,6 +1,6 @@
 use Rattle.sv_history.specs.Act.{instrument_acts}
 use Rattle.sv_server.proofs.Raising.{instrument_steps, idle_as}
-use Rattle.sv_instrument.specs.Happened.{IsFired}
+use Rattle.sv_instrument.specs.Stimulus.{IsFired}
 use Rattle.sv_server.proofs.bench.Bench.fire.Goals as goal
 
 pub returns-clause-steps : goal.returns-clause-steps

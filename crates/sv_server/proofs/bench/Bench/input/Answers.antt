@@ -3,7 +3,7 @@ use Rattle.sv_history.specs.Act.{instrument_acts}
 use Rattle.sv_server.proofs.Raising.{bench_ran}
 use Rattle.sv_scan.specs.declared.acts.ScanAct.TheVariants.{Input}
 use Rattle.sv_layers.specs.Act.{Scanned}
-use Rattle.sv_instrument.specs.Kept.{Ran}
+use Rattle.sv_instrument.specs.Representation.{Ran}
 use Rattle.sv_server.proofs.bench.Bench.input.Goals as goal
 
 pub returns-clause-stands : goal.returns-clause-stands

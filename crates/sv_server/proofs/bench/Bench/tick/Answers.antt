@@ -1,5 +1,5 @@
 use Rattle.std.proofs.Common.{◌+◌, ◌∷◌, ◌≡◌, arith}
-use Rattle.sv_instrument.specs.Happened.{tick_acts}
+use Rattle.sv_instrument.specs.Stimulus.{tick_acts}
 use Rattle.sv_history.specs.Act.{Ticked, instrument_acts, ticks}
 use Rattle.sv_server.specs.KeptBench.{Bench}
 use Rattle.sv_server.proofs.Raising.{ran_raised}

@@ -1,4 +1,4 @@
-use Rattle.sv_instrument.specs.Happened.{IsFired}
+use Rattle.sv_instrument.specs.Stimulus.{IsFired}
 use Rattle.sv_history.specs.Act.{bench}
 use Rattle.sv_server.proofs.Going.{happens_step}
 use Rattle.sv_server.proofs.server.Server.fire.Goals as goal

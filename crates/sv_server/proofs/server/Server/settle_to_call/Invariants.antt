@@ -1,5 +1,5 @@
 use Rattle.std.proofs.Common.{◌≡◌}
-use Rattle.sv_instrument.specs.Kept.{left_of}
+use Rattle.sv_instrument.specs.Representation.{left_of}
 use Rattle.sv_server.proofs.Settled.{AnyGone}
 use Rattle.sv_server.proofs.server.Server.settle_to_call.Given as goal
 

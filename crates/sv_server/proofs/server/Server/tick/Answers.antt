@@ -1,7 +1,7 @@
 use Rattle.std.proofs.Common.{sym, refl}
 use Rattle.std.specs.Prelude.{map}
 use Rattle.sv_history.specs.Act.{Happened, bench, instrument_acts}
-use Rattle.sv_instrument.specs.Happened.{tick_acts}
+use Rattle.sv_instrument.specs.Stimulus.{tick_acts}
 use Rattle.sv_server.proofs.Logs.{ticked}
 use Rattle.sv_server.proofs.server.Server.tick.Goals as goal
 

@@ -1,0 +1,16 @@
+use Rattle.std.proofs.Common.{◌≡◌, ◌≤◌, ◌+◌, ◌++◌, ◌∷◌, length, true}
+use Rattle.std.specs.List.{list_all}
+use Rattle.sv_header.specs.Plain.{is_short, sent_of}
+use Rattle.sv_text.specs.Cut.{cut_at}
+use Rattle.sv_header.proofs.path.Path.walk.Given as goal
+
+-- the path and the mnemonics behind it are what they were
+abbrev pub invariant-loop-behind : goal.invariant-loop-behind
+invariant-loop-behind l = record {
+  same : l.self-inside.mnemonics.items ++ l.first ∷ sent_of l.behind ≡ l.fn.self ++ cut_at 58 l.fn.body;
+  few : length l.self-inside.mnemonics.items + 1 + length (sent_of l.behind) ≤ 5;
+  short : list_all is_short (l.first ∷ sent_of l.behind) ≡ true;
+}
+
+abbrev pub decreases-loop-behind : goal.decreases-loop-behind
+decreases-loop-behind l = length (sent_of l.behind)

@@ -1,0 +1,46 @@
+use Rattle.std.proofs.Common.{arith, Ok, Err}
+use Rattle.sv_layers.specs.Act.{exchange_acts}
+use Rattle.sv_instrument.proofs.Units.{behaves_follows}
+use Rattle.sv_instrument.proofs.Dues.{unit_is_next}
+use Rattle.sv_instrument.proofs.unit_start.start.Goals as goal
+
+pub returns-in-Ok-clause-behaves : goal.returns-in-Ok-clause-behaves
+returns-in-Ok-clause-behaves g c = λ log h. (
+  c.in-Unit.text.now,
+  unit_is_next (exchange_acts log) _ (c.in-Unit.ensures.answer (exchange_acts log) (c.exchange.ensures.stands log h)),
+  behaves_follows c.in-Unit.text.now _ _ (Ok c.in-Ok.order) log c.in-Ok.ensures (c.perform.ensures.behaves log h),
+)
+
+pub returns-in-Err-clause-behaves : goal.returns-in-Err-clause-behaves
+returns-in-Err-clause-behaves g c = λ log h. (
+  c.in-Unit.text.now,
+  unit_is_next (exchange_acts log) _ (c.in-Unit.ensures.answer (exchange_acts log) (c.exchange.ensures.stands log h)),
+  behaves_follows c.in-Unit.text.now _ _ (Err c.in-Err.code) log c.in-Err.ensures (c.carry_out.ensures.behaves log h),
+)
+
+pub perform-requires-clause-due : goal.perform-requires-clause-due
+perform-requires-clause-due g c = c.requires.due
+
+pub perform-requires-clause-room : goal.perform-requires-clause-room
+perform-requires-clause-room g c = c.requires.room
+
+pub carry_out-requires : goal.carry_out-requires
+carry_out-requires g c = c.requires.due
+
+pub returns-in-Ok-clause-advances : goal.returns-in-Ok-clause-advances
+returns-in-Ok-clause-advances g c = c.perform.ensures.advances
+
+pub returns-in-Ok-clause-few : goal.returns-in-Ok-clause-few
+returns-in-Ok-clause-few g c = c.perform.ensures.few
+
+pub returns-in-Ok-clause-capacity : goal.returns-in-Ok-clause-capacity
+returns-in-Ok-clause-capacity g c = c.perform.ensures.capacity
+
+pub returns-in-Err-clause-advances : goal.returns-in-Err-clause-advances
+returns-in-Err-clause-advances g c = c.carry_out.ensures.advances
+
+pub returns-in-Err-clause-few : goal.returns-in-Err-clause-few
+returns-in-Err-clause-few g c = omega (arith, c.carry_out.ensures.few)
+
+pub returns-in-Err-clause-capacity : goal.returns-in-Err-clause-capacity
+returns-in-Err-clause-capacity g c = c.requires.room

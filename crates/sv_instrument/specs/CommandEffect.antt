@@ -1,0 +1,83 @@
+-- What an order does (IEEE 488.2, chapter 10; SCPI-1999, volume 2): its acts, in their order, and then the unit is done and its answer is
+-- given. An order that the state refuses reports that, and does nothing else.
+use Rattle.std.specs.Prelude.{◌≡◌, ℕ, List, ◌∷◌, Option, Some, None, pos, if◌then◌else◌}
+use Rattle.sv_errors.specs.declared.code.Code.{Code}
+use Rattle.sv_errors.specs.declared.code.Code.TheVariants.{QueryDeadlocked, DataCorruptOrStale}
+use Rattle.sv_errors.specs.declared.source.Source.TheVariants.{Immediate, Bus}
+use Rattle.sv_scan.specs.declared.acts.ScanAct.TheVariants as scan
+use Rattle.sv_scan.specs.declared.setting.Setting.TheVariants as setting
+use Rattle.sv_scan.specs.Counted.{setting_fault, init_fault, trigger_fault, read_fault}
+use Rattle.sv_scan.specs.Scan.{is_complete}
+use Rattle.sv_exchange.specs.Exchange.{UnitDone, Answered, AnswersDropped, answers, fits_response}
+use Rattle.sv_command.specs.declared.order.Order.{Order}
+use Rattle.sv_command.specs.declared.order.Order.TheVariants as order
+use Rattle.sv_command.specs.declared.order.Question.{Question}
+use Rattle.sv_command.specs.declared.order.Question.TheVariants as question
+use Rattle.sv_layers.specs.declared.change.Awaited.TheVariants as awaited
+use Rattle.sv_layers.specs.Act.{Act, Exchanged, Scanned, Held, Reported, EntryTaken, Cleared, Preset, OpcAsked, StandardRead, StandardEnabled, EventRead, Enabled, RiseSet, FallSet, ServiceEnabled, exchange_acts}
+use Rattle.sv_layers.specs.Condition.{counted}
+use Rattle.sv_instrument.specs.QueryResponse.{Says}
+
+-- the unit is done
+abbrev pub done : List Act → List Act
+done log = Exchanged UnitDone ∷ log
+
+-- an answer is given, or, where it has no room, all answers of the message are dropped
+abbrev pub answered : List ℕ → List Act → List Act
+answered text log =
+    if fits_response (answers (exchange_acts log)) text then Exchanged (Answered text) ∷ log
+    else Reported QueryDeadlocked ∷ Exchanged AnswersDropped ∷ log
+
+-- where there is a fault, that is reported, and the unit is done
+abbrev pub unless : Option Code → List Act → List Act → List Act
+unless (Some code) acts log = done (Reported code ∷ log)
+unless None acts log = acts
+
+-- a measurement is configured: it is aborted, and range, source and count take their defaults, and the list is set if one is given
+abbrev pub set_list : Option (List ℕ) → List Act → List Act
+set_list None log = log
+set_list (Some channels) log = Scanned (scan.Configure (setting.List channels)) ∷ log
+
+abbrev pub configured : Option (List ℕ) → List Act → List Act
+configured list log = set_list list
+    (Scanned (scan.Configure (setting.Count 1)) ∷ Scanned (scan.Configure (setting.Source Immediate))
+    ∷ Scanned (scan.Configure (setting.Range (pos 10000000))) ∷ Scanned scan.Abort ∷ log)
+
+-- what a query takes or clears
+abbrev pub taken : Question → List Act → List Act
+taken question.StandardEvents log = StandardRead ∷ log
+taken question.Error log = EntryTaken ∷ log
+taken (question.Events name) log = EventRead name ∷ log
+taken asked log = log
+
+-- readings that aren't complete, or were aborted, can't be fetched
+abbrev pub question_fault : Question → List Act → Option Code
+question_fault question.Readings log = if is_complete (counted log) then None else Some DataCorruptOrStale
+question_fault asked log = None
+
+abbrev pub Replies : Option Code → Question → List Act → List Act → Type 0
+Replies (Some code) asked log new = new ≡ done (Reported code ∷ log)
+Replies None asked log new = (text : List ℕ) × Says asked log text × (new ≡ answered text (done (taken asked log)))
+
+-- What an order makes of a log.
+abbrev pub Performs : Order → List Act → List Act → Type 0
+Performs order.ClearStatus log new = new ≡ done (Cleared ∷ log)
+Performs order.Reset log new = new ≡ done (Scanned scan.Reset ∷ log)
+Performs order.TellComplete log new = new ≡ done (OpcAsked ∷ log)
+Performs order.Wait log new = new ≡ Held awaited.Nothing ∷ log
+Performs order.WaitAndTell log new = new ≡ Held awaited.One ∷ log
+Performs order.Trigger log new = new ≡ unless (trigger_fault (counted log) Bus) (done (Scanned (scan.Trigger Bus) ∷ log)) log
+Performs order.Preset log new = new ≡ done (Preset ∷ log)
+Performs (order.EnableStandard mask) log new = new ≡ done (StandardEnabled mask ∷ log)
+Performs (order.EnableService mask) log new = new ≡ done (ServiceEnabled mask ∷ log)
+Performs (order.Enable name mask) log new = new ≡ done (Enabled name mask ∷ log)
+Performs (order.SetRise name mask) log new = new ≡ done (RiseSet name mask ∷ log)
+Performs (order.SetFall name mask) log new = new ≡ done (FallSet name mask ∷ log)
+Performs (order.Set given) log new = new ≡ unless (setting_fault (counted log) given) (done (Scanned (scan.Configure given) ∷ log)) log
+Performs order.Initiate log new = new ≡ unless (init_fault (counted log)) (done (Scanned scan.Init ∷ log)) log
+Performs order.Abort log new = new ≡ done (Scanned scan.Abort ∷ log)
+Performs (order.Configure list) log new = new ≡ done (configured list log)
+Performs order.Read log new = new ≡ unless (read_fault (counted log))
+    (Held awaited.Readings ∷ Scanned scan.Init ∷ Scanned scan.Abort ∷ log) log
+Performs (order.Measure list) log new = new ≡ Held awaited.Readings ∷ Scanned scan.Init ∷ configured list log
+Performs (order.Ask asked) log new = Replies (question_fault asked log) asked log new

@@ -1,0 +1,53 @@
+-- What the instrument keeps, and that it stands for a log.
+use Rattle.std.specs.Prelude.{◌≡◌, ℕ, ◌+◌, ◌*◌, ⊤, List, Option, Some, None}
+use Rattle.sv_scan.specs.declared.setting.State.{State}
+use Rattle.sv_scan.specs.declared.setting.State.TheVariants.{Idle, Waiting, Scanning}
+use Rattle.sv_exchange.specs.Contents.{IsUnitDue, next_of, work_of}
+use Rattle.sv_layers.specs.declared.change.Awaited.{Awaited}
+use Rattle.sv_layers.specs.Act.{Act}
+use Rattle.sv_layers.specs.Inside.Kept.{Layered, StandsFor as Layers, state_by}
+use Rattle.sv_instrument.specs.HeldUnit.{held}
+use Rattle.sv_instrument.specs.Path.{IsPath}
+use Rattle.sv_instrument.specs.RequestCount.{Raises}
+
+pub record Kept : Type 0 where
+  pub layers : Layered
+  pub held : Option Awaited
+  pub path : List (List ℕ)
+
+-- What is kept stands for the log.
+pub record StandsFor (kept : Kept) (log : List Act) : Type 0 where
+  pub layers : Layers kept.layers log
+  pub held : kept.held ≡ held log
+  pub path : IsPath log kept.path
+
+-- What is kept stands for the new log, and so many requests for service were raised on the way to it.
+pub record Ran (kept : Kept) (count : ℕ) (log new : List Act) : Type 0 where
+  pub stands : StandsFor kept new
+  pub raises : Raises log new count
+
+-- A step that is due was taken, or none is due.
+abbrev pub Takes : (List Act → List Act → Type 0) → Kept → Option ℕ → List Act → Type 0
+Takes IsNext kept None log = (new : List Act) → IsNext log new → ⊥
+Takes IsNext kept (Some count) log = (new : List Act) × IsNext log new × Ran kept count log new
+
+-- one where no unit is held, which starts then
+abbrev pub unheld : Option Awaited → ℕ
+unheld None = 1
+unheld (Some awaited) = 0
+
+-- one where a trigger is waited for
+abbrev pub waits : State → ℕ
+waits Waiting = 1
+waits Idle = 0
+waits Scanning = 0
+
+-- how much is left to be done, so that whoever triggers and steps comes to an end
+abbrev pub left_of : Kept → ℕ
+left_of kept = 2 * (2 * work_of kept.layers.exchange + unheld kept.held)
+    + waits (state_by kept.layers)
+
+-- Where a unit is held, it is the one that is due.
+abbrev pub IsHeldRight : Option Awaited → Layered → Type 0
+IsHeldRight None layers = ⊤
+IsHeldRight (Some awaited) layers = IsUnitDue (next_of layers.exchange)

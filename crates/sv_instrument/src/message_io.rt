@@ -1,0 +1,106 @@
+//! Messages to the instrument, and its responses.
+
+ghost use Rattle.std.specs.Prelude.{◌≡◌, ◌≤◌, ◌||◌, not, List, ◌∷◌, length, IsTrue};
+ghost use Rattle.sv_errors.specs.declared.code.Code.TheVariants.{QueryUnterminated};
+ghost use Rattle.sv_exchange.specs.Exchange.{Accepted, TextDropped, ResponseRead, has_ended, response, is_something};
+ghost use Rattle.sv_exchange.specs.Contents.{is_open, shown_by};
+ghost use Rattle.sv_exchange.specs.ReadGiven.{IsReadOf};
+ghost use Rattle.sv_layers.specs.Act.{Act, Exchanged, Reported, Purged, exchange_acts};
+ghost use Rattle.sv_instrument.specs.Step.{is_answerable};
+ghost use Rattle.sv_instrument.specs.Representation.{StandsFor, Ran};
+
+use crate::instrument::Instrument;
+use crate::unit_effects::change;
+use crate::unit_outcome::one;
+use std::alloc::Allocator;
+use sv_errors::Code;
+use sv_exchange::Read;
+use sv_header::Path;
+use sv_layers::Change;
+
+impl<A: Allocator> Instrument<A> {
+    /// Whether a write is taken now: no message that has ended waits to be finished.
+    pub fn can_write(&self) -> bool
+        ensures value { result ≡ is_open self.now.layers.exchange }
+        ensures answer { (log : List Act) → StandsFor self.now log
+            → result ≡ not (has_ended (exchange_acts log)) }
+    {
+        self.layers.exchange().open_for_write()
+    }
+
+    /// Takes in the bytes of a write, and whether END came with the last of them (VXI-11,
+    /// device_write). A write has to be taken now, of at most 4,096 bytes. It tells how many
+    /// requests for service were raised, as all calls here do that change something.
+    pub fn write(&mut self, bytes: &[u8], ended: bool) -> u8
+        requires open { IsTrue (is_open self.old.layers.exchange) }
+        requires short { length bytes.now ≤ 4096 }
+        ensures { (log : List Act) → StandsFor self.old log
+            → Ran self.new result log (Exchanged (Accepted bytes.now ended) ∷ log) }
+    {
+        one(self.layers.accept(bytes, ended))
+    }
+
+    /// Whether there is a response to read.
+    pub fn readable(&self) -> bool
+        ensures value { result ≡ is_something (shown_by self.now.layers.exchange) }
+        ensures answer { (log : List Act) → StandsFor self.now log
+            → result ≡ is_something (response (exchange_acts log)) }
+    {
+        self.layers.exchange().readable()
+    }
+
+    /// Whether a read is answered now: there is a response, or none is to be waited for.
+    pub fn can_read(&self) -> bool
+        ensures value { result ≡ (is_something (shown_by self.now.layers.exchange)
+            || is_open self.now.layers.exchange) }
+        ensures answer { (log : List Act) → StandsFor self.now log → result ≡ is_answerable log }
+    {
+        self.layers.exchange().readable() || self.can_write()
+    }
+
+    /// The next bytes of the response: at most as many as asked for, and no further than to the
+    /// first termination character (VXI-11, device_read). There are none where there is no
+    /// response.
+    pub fn peek(&self, most: u32, term: Option<u8>) -> Read<'_>
+        ensures value { IsReadOf result (shown_by self.now.layers.exchange) most term }
+        ensures answer { (log : List Act) → StandsFor self.now log
+            → IsReadOf result (response (exchange_acts log)) most term }
+    {
+        self.layers.exchange().peek(most, term)
+    }
+
+    /// Drops so many bytes of the response, which were read (VXI-11, device_read).
+    pub fn take(&mut self, count: usize) -> u8
+        requires { count ≤ length (shown_by self.old.layers.exchange) }
+        ensures { (log : List Act) → StandsFor self.old log
+            → Ran self.new result log (Exchanged (ResponseRead count) ∷ log) }
+    {
+        one(self.layers.take(count))
+    }
+
+    /// Drops the text of a message that hasn't ended, and reports that a response was asked for
+    /// where there is none (IEEE 488.2, 6.3.2.2). No message that has ended may wait to be
+    /// finished.
+    pub fn unterminated(&mut self) -> u8
+        requires { IsTrue (is_open self.old.layers.exchange) }
+        ensures { (log : List Act) → StandsFor self.old log → Ran self.new result log
+            (Reported QueryUnterminated ∷ Exchanged TextDropped ∷ log) }
+    {
+        self.held = None;
+        self.path = Path::root();
+        let dropped = one(self.layers.drop_unfinished());
+        let told = change(&mut self.layers, Change::Report(Code::QueryUnterminated));
+        dropped + told
+    }
+
+    /// Drops program text, the held unit and the response, and cancels an `*OPC` (VXI-11,
+    /// device_clear; IEEE 488.2, 5.8).
+    pub fn clear(&mut self) -> u8
+        ensures { (log : List Act) → StandsFor self.old log
+            → Ran self.new result log (Purged ∷ log) }
+    {
+        self.held = None;
+        self.path = Path::root();
+        one(self.layers.purge())
+    }
+}

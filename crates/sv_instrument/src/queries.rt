@@ -1,0 +1,106 @@
+//! Answering a query.
+
+ghost use Rattle.std.specs.Prelude.{◌≡◌, ◌≤◌, List, vec_capacity, None};
+ghost use Rattle.sv_exchange.specs.Contents.{IsUnitDue, next_of};
+ghost use Rattle.sv_layers.specs.Act.{Act};
+ghost use Rattle.sv_layers.specs.Inside.Kept.{StandsFor as Stands};
+ghost use Rattle.sv_instrument.specs.CommandEffect.{question_fault, taken, Replies};
+ghost use Rattle.sv_instrument.specs.Inside.Acted.{Acted, Behaves, Advances};
+ghost use Rattle.sv_instrument.specs.QueryResponse.{Says};
+
+use crate::readings::put_readings;
+use crate::unit_effects::{carry_out, change, reply};
+use crate::unit_outcome::Outcome;
+use std::alloc::Allocator;
+use sv_command::Question;
+use sv_errors::Code;
+use sv_layers::{Change, Layers};
+use sv_text::append;
+use sv_value::printing::{put_channels, put_error, put_source, put_switch, put_voltage, put_whole};
+
+/// Answers the query that is due; the answer is put into a vector on the way.
+pub(crate) fn ask<A: Allocator>(
+    layers: &mut Layers<A>,
+    answer: &mut Vec<u8, A>,
+    question: Question,
+) -> Outcome
+    requires due { IsUnitDue (next_of layers.old.exchange) }
+    requires room { 8192 ≤ vec_capacity answer.old }
+    ensures behaves { (log : List Act) → Stands layers.old log
+        → Behaves (Replies (question_fault question log) question log) layers.new result log }
+    ensures advances { Advances layers.old layers.new result.held }
+    ensures few { result.raised ≤ 7 }
+    ensures capacity { 8192 ≤ vec_capacity answer.new }
+{
+    match refused(layers, question) {
+        Some(code) => carry_out(layers, Change::Report(code)),
+        None => {
+            put_answer(answer, layers, question);
+            let raised = take(layers, question);
+            reply(layers, raised, answer.as_slice())
+        }
+    }
+}
+
+/// What a query is refused with: readings that aren't complete, or were aborted, can't be fetched.
+fn refused<A: Allocator>(layers: &Layers<A>, question: Question) -> Option<Code>
+    ensures { (log : List Act) → Stands layers.now log → result ≡ question_fault question log }
+{
+    match question {
+        Question::Readings => layers.scanner().readings().err(),
+        _ => None,
+    }
+}
+
+/// What a query asks for is taken, or cleared.
+fn take<A: Allocator>(layers: &mut Layers<A>, question: Question) -> u8
+    ensures acts { (log : List Act) → Stands layers.old log
+        → Acted layers.new result log (taken question log) }
+    ensures few { result ≤ 1 }
+    ensures exchange { layers.new.exchange ≡ layers.old.exchange }
+{
+    match question {
+        Question::StandardEvents => change(layers, Change::ReadStandard),
+        Question::Error => change(layers, Change::TakeEntry),
+        Question::Events(name) => change(layers, Change::ReadEvent(name)),
+        _ => 0,
+    }
+}
+
+/// Puts the answer of a query, as it is now, in the place of what is there. Readings that can't be
+/// fetched aren't put.
+pub(crate) fn put_answer<A: Allocator>(out: &mut Vec<u8, A>, layers: &Layers<A>, question: Question)
+    requires { 8192 ≤ vec_capacity out.old }
+    ensures says { (log : List Act) → Stands layers.now log → question_fault question log ≡ None
+        → Says question log out.new.items }
+    ensures capacity { 8192 ≤ vec_capacity out.new }
+{
+    out.clear();
+    let scanner = layers.scanner();
+    let word = match question {
+        Question::Identification => return append(out, b"SCANVOLT,SV32,0,1.0"),
+        Question::SelfTest => return append(out, b"0"),
+        Question::Version => return append(out, b"1999.0"),
+        Question::StandardEvents => u16::from(layers.standard_events()),
+        Question::StandardEnable => u16::from(layers.standard_enable()),
+        Question::ServiceEnable => u16::from(layers.service()),
+        Question::StatusByte => u16::from(layers.status_byte()),
+        Question::Error => return put_error(out, layers.errors().oldest().unwrap_or(Code::NoError)),
+        Question::ErrorCount => u16::from(layers.errors().count()),
+        Question::Events(name) => layers.events(name),
+        Question::Condition(name) => layers.condition(name),
+        Question::Enable(name) => layers.enabled(name),
+        Question::Rise(name) => layers.rise(name),
+        Question::Fall(name) => layers.fall(name),
+        Question::ScanList => return put_channels(out, scanner.list()),
+        Question::Monitor => return put_channels(out, &[scanner.monitor()]),
+        Question::Range => return put_voltage(out, scanner.range()),
+        Question::UpperLimit => return put_voltage(out, scanner.upper()),
+        Question::LowerLimit => return put_voltage(out, scanner.lower()),
+        Question::Limits => return put_switch(out, scanner.limits()),
+        Question::Source => return put_source(out, scanner.source()),
+        Question::Count => u16::from(scanner.count()),
+        Question::Readings => return put_readings(out, scanner.readings_so_far()),
+    };
+    put_whole(out, u32::from(word));
+}

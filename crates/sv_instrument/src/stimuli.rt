@@ -1,0 +1,66 @@
+//! What happens to the instrument from outside of messages: inputs, triggers and time.
+
+ghost use Rattle.std.specs.Prelude.{List, ◌∷◌, ◌++◌};
+ghost use Rattle.sv_scan.specs.declared.acts.ScanAct.TheVariants.{Input};
+ghost use Rattle.sv_layers.specs.Act.{Act, Scanned};
+ghost use Rattle.sv_instrument.specs.Stimulus.{trigger_acts, external_acts, tick_acts};
+ghost use Rattle.sv_instrument.specs.Representation.{StandsFor, Ran};
+
+use crate::instrument::Instrument;
+use crate::unit_effects::change;
+use crate::unit_outcome::one;
+use std::alloc::Allocator;
+use sv_errors::Source;
+use sv_layers::Change;
+use sv_scan::{ScanAct, State};
+
+impl<A: Allocator> Instrument<A> {
+    /// The voltage of a channel's input is this from now on, in microvolts. A channel that isn't 1
+    /// to 32 has no input: nothing changes. It tells how many requests for service were raised, as
+    /// all calls below do.
+    pub fn input(&mut self, channel: u8, microvolts: i64) -> u8
+        ensures { (log : List Act) → StandsFor self.old log
+            → Ran self.new result log (Scanned (Input channel microvolts) ∷ log) }
+    {
+        change(
+            &mut self.layers,
+            Change::Scan(ScanAct::Input(channel, microvolts)),
+        )
+    }
+
+    /// A trigger comes in at the trigger input: the next scan begins where an external trigger is
+    /// waited for; else nothing happens.
+    pub fn external(&mut self) -> u8
+        ensures { (log : List Act) → StandsFor self.old log
+            → Ran self.new result log (external_acts log ++ log) }
+    {
+        match self.layers.trigger(Source::External) {
+            Ok(raised) => one(raised),
+            Err(_ignored) => 0,
+        }
+    }
+
+    /// A trigger comes from the controller: the next scan begins where one from there is waited
+    /// for; else that is reported (VXI-11, device_trigger).
+    pub fn trigger(&mut self) -> u8
+        ensures { (log : List Act) → StandsFor self.old log
+            → Ran self.new result log (trigger_acts log ++ log) }
+    {
+        match self.layers.trigger(Source::Bus) {
+            Ok(raised) => one(raised),
+            Err(ignored) => change(&mut self.layers, Change::Report(ignored)),
+        }
+    }
+
+    /// A millisecond goes by: in a scan the next channel is read.
+    pub fn tick(&mut self) -> u8
+        ensures { (log : List Act) → StandsFor self.old log
+            → Ran self.new result log (tick_acts log ++ log) }
+    {
+        match self.layers.scanner().state() {
+            State::Scanning => change(&mut self.layers, Change::Scan(ScanAct::Sample)),
+            State::Idle => 0,
+            State::Waiting => 0,
+        }
+    }
+}

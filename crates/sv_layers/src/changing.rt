@@ -1,0 +1,181 @@
+//! What a change does to its own layer, and what follows.
+
+ghost use Rattle.std.specs.Prelude.{◌≡◌, List, ◌∷◌, Some, None, OnOk, OnErr, MatchResult};
+ghost use Rattle.sv_status.specs.declared.status_byte.StatusAct.{StatusAct};
+ghost use Rattle.sv_scan.specs.declared.acts.ScanAct.TheVariants.{Trigger};
+ghost use Rattle.sv_scan.specs.declared.setting.State.TheVariants.{Waiting, Scanning};
+ghost use Rattle.sv_scan.specs.Counted.{trigger_fault};
+ghost use Rattle.sv_layers.specs.Condition.{counted};
+ghost use Rattle.sv_layers.specs.Act.{Act, Scanned, Reported};
+ghost use Rattle.sv_layers.specs.Change.{act_of};
+ghost use Rattle.sv_layers.specs.Inside.Seen.{Seen, before_compared, after_compared, on_register, both_registers, resets};
+ghost use Rattle.sv_layers.specs.Inside.Kept.{StandsFor, Happens, Joined, state_by};
+
+use crate::change::Change;
+use crate::layers::Layers;
+use crate::status::mask_where;
+use std::alloc::Allocator;
+use sv_errors::{Code, Layer, Source};
+use sv_scan::ScanAct;
+use sv_status::{RegisterAct, RegisterName};
+
+/// Device-specific error, of the standard events, which an overflow of the error queue is.
+const DEVICE: u8 = 1 << 3;
+
+impl<A: Allocator> Layers<A> {
+    /// Lets a change happen, and tells whether it raises a request for service.
+    pub fn happen(&mut self, change: Change) -> bool
+        ensures happens { (log : List Act) → StandsFor self.old log
+            → Happens self.new result (act_of change ∷ log) }
+        ensures exchange { self.new.exchange ≡ self.old.exchange }
+    {
+        self.before_compare(&change);
+        self.compare();
+        self.after_compare(&change);
+        self.tell()
+    }
+
+    /// What a change does to its own layer.
+    fn before_compare(&mut self, change: &Change)
+        ensures stands { (at : Seen) (told : List StatusAct) → Joined self.old at told
+            → Joined self.new (before_compared (act_of change.now) at) told }
+        ensures exchange { self.new.exchange ≡ self.old.exchange }
+    {
+        match change {
+            Change::Scan(act) => self.scan(*act),
+            Change::Report(code) => self.report(*code),
+            Change::TakeEntry => {
+                self.errors.take();
+            }
+            Change::ClearStatus => {
+                self.errors.clear();
+                self.waits = false;
+            }
+            Change::AskComplete => self.waits = true,
+            Change::EnableService(mask) => self.service = *mask,
+            Change::Hold(_awaited) => (),
+            Change::Preset => (),
+            Change::ReadStandard => (),
+            Change::EnableStandard(_mask) => (),
+            Change::ReadEvent(_name) => (),
+            Change::Enable(_name, _mask) => (),
+            Change::SetRise(_name, _mask) => (),
+            Change::SetFall(_name, _mask) => (),
+        }
+    }
+
+    /// Something happens to the scanner; a reset cancels an `*OPC`.
+    fn scan(&mut self, act: ScanAct)
+        ensures stands { (at : Seen) (told : List StatusAct) → Joined self.old at told
+            → Joined self.new (before_compared (Scanned act) at) told }
+        ensures exchange { self.new.exchange ≡ self.old.exchange }
+    {
+        self.waits &= !is_reset(&act);
+        self.scanner.act(act);
+    }
+
+    /// An error is reported, with the standard event of its class, and that of an overflow.
+    fn report(&mut self, code: Code)
+        ensures stands { (at : Seen) (told : List StatusAct) → Joined self.old at told
+            → Joined self.new (before_compared (Reported code) at) told }
+        ensures exchange { self.new.exchange ≡ self.old.exchange }
+    {
+        let overflows = self.errors.report(code);
+        self.standard.occur(code.standard_event());
+        self.standard.occur(mask_where(DEVICE, overflows));
+    }
+
+    /// What a change does to registers, behind the comparison of the conditions.
+    fn after_compare(&mut self, change: &Change)
+        ensures stands { (at : Seen) (told : List StatusAct) → Joined self.old at told
+            → Joined self.new (after_compared (act_of change.now) at) told }
+        ensures exchange { self.new.exchange ≡ self.old.exchange }
+    {
+        match change {
+            Change::ClearStatus => {
+                self.on_both(RegisterAct::Clear);
+                self.standard.clear();
+            }
+            Change::Preset => self.on_both(RegisterAct::Preset),
+            Change::ReadStandard => {
+                self.standard.read();
+            }
+            Change::EnableStandard(mask) => self.standard.set_enable(*mask),
+            Change::ReadEvent(name) => self.on_register(*name, RegisterAct::ReadEvent),
+            Change::Enable(name, mask) => self.on_register(*name, RegisterAct::SetEnable(*mask)),
+            Change::SetRise(name, mask) => {
+                let fall = self.register(*name).fall();
+                self.on_register(*name, RegisterAct::SetFilter { rise: *mask, fall });
+            }
+            Change::SetFall(name, mask) => {
+                let rise = self.register(*name).rise();
+                self.on_register(*name, RegisterAct::SetFilter { rise, fall: *mask });
+            }
+            Change::Scan(_act) => (),
+            Change::Report(_code) => (),
+            Change::TakeEntry => (),
+            Change::AskComplete => (),
+            Change::EnableService(_mask) => (),
+            Change::Hold(_awaited) => (),
+        }
+    }
+
+    /// Something happens to one of the two registers.
+    fn on_register(&mut self, name: RegisterName, act: RegisterAct)
+        ensures stands { (at : Seen) (told : List StatusAct) → Joined self.old at told
+            → Joined self.new (on_register name act at) told }
+        ensures exchange { self.new.exchange ≡ self.old.exchange }
+    {
+        match name {
+            RegisterName::Operation => self.operation.act(act),
+            RegisterName::Questionable => self.questionable.act(act),
+        };
+    }
+
+    /// The same happens to both registers.
+    fn on_both(&mut self, act: RegisterAct)
+        ensures stands { (at : Seen) (told : List StatusAct) → Joined self.old at told
+            → Joined self.new (both_registers act at) told }
+        ensures exchange { self.new.exchange ≡ self.old.exchange }
+    {
+        self.operation.act(act);
+        self.questionable.act(act);
+    }
+
+    /// A trigger from this source, where one from there is waited for; it tells whether a request
+    /// for service is raised.
+    ///
+    /// # Errors
+    /// [`Code::TriggerIgnored`] where none is waited for, or one from another source; then nothing
+    /// happens.
+    pub fn trigger(&mut self, source: Source) -> Result<bool, Code>
+        ensures happens { (log : List Act) → StandsFor self.old log
+            → MatchResult result (λ raised. (trigger_fault (counted log) source ≡ None)
+            × Happens self.new raised (Scanned (Trigger source) ∷ log))
+            (λ code. trigger_fault (counted log) source ≡ Some code) }
+        ensures exchange { self.new.exchange ≡ self.old.exchange }
+        ensures scanning { OnOk result ((state_by self.old ≡ Waiting)
+            × (state_by self.new ≡ Scanning)) }
+        ensures refused { OnErr result (self.new ≡ self.old) }
+    {
+        match self.scanner.trigger(source) {
+            Ok(()) => Ok(self.settle()),
+            Err(ignored) => Err(ignored),
+        }
+    }
+}
+
+/// Whether every setting takes its default.
+fn is_reset(act: &ScanAct) -> bool
+    ensures { result ≡ resets act.now }
+{
+    match act {
+        ScanAct::Reset => true,
+        ScanAct::Input(_channel, _microvolts) => false,
+        ScanAct::Configure(_setting) => false,
+        ScanAct::Init => false,
+        ScanAct::Abort => false,
+        ScanAct::Trigger(_source) => false,
+        ScanAct::Sample => false,
+    }
+}
