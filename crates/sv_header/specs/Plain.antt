@@ -12,12 +12,12 @@ use Rattle.sv_header.specs.Pattern.{Part, Row, Fits, is_common, has_sign}
 abbrev pub part : Node → Part
 part node = record { short = node.short.now; long = node.long.now; optional = node.optional }
 
-abbrev pub pattern_parts : List Node → List Part
-pattern_parts nodes = map part nodes
+abbrev pub parts : List Node → List Part
+parts nodes = map part nodes
 
 -- a row of it
 abbrev pub row_of : Pattern → Row
-row_of pattern = record { form = pattern.0; pattern_parts = pattern_parts pattern.1.now; command = pattern.2 }
+row_of pattern = record { form = pattern.0; parts = parts pattern.1.now; command = pattern.2 }
 
 -- the mnemonics of a text, where there is one
 abbrev pub sent_of : Option (Bor (List ℕ)) → List (List ℕ)

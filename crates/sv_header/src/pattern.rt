@@ -2,7 +2,7 @@
 
 ghost use Rattle.std.specs.Prelude.{◌≡◌, ◌↔◌, true, IsTrue};
 ghost use Rattle.sv_header.specs.Pattern.{Fits, IsForm, is_common as is_common_form, has_sign as has_sign_of};
-ghost use Rattle.sv_header.specs.Plain.{FitsSent, part, pattern_parts, left_of, row_of};
+ghost use Rattle.sv_header.specs.Plain.{FitsSent, part, parts, left_of, row_of};
 
 use crate::command::CommandId;
 use crate::left::Mnemonics;
@@ -74,7 +74,7 @@ impl Pattern {
 
 /// Whether mnemonics fit nodes: each node is there, or absent where it may be.
 pub(crate) fn fits(left: Mnemonics<'_>, nodes: &[Node]) -> bool
-    ensures { IsTrue result ↔ Fits (left_of left.entry) (pattern_parts nodes.now) }
+    ensures { IsTrue result ↔ Fits (left_of left.entry) (parts nodes.now) }
 {
     let [node, behind @ ..] = nodes else {
         return left.is_empty();

@@ -3,7 +3,7 @@ use Rattle.std.proofs.Common.{◌≡◌, ℕ, zero, suc, List, [], ◌∷◌, �
 use Rattle.sv_layers.specs.StatusByte.{PolledBit}
 use Rattle.sv_layers.proofs.PolledByte.{one_word}
 use Rattle.sv_history.specs.declared.event.Config.{Config}
-use Rattle.sv_history.specs.Act.{Act, bench, instrument_acts}
+use Rattle.sv_history.specs.Act.{Act, device_acts, instrument_acts}
 use Rattle.sv_history.specs.PolledStatus.{IsPolled}
 use Rattle.sv_history.specs.Settling.{SettlesIn, Settles}
 use Rattle.sv_history.specs.History.{own_acts}
@@ -23,8 +23,8 @@ pub one_log : OneLog
 one_log config [] a b x y = x.1 ∙ sym y.1
 one_log config (event ∷ history) a b x y =
     let before = one_log config history x.0 y.0 x.4 y.4 in
-    let said = subst (λ (log : List Act). IsPolled y.1 (bench log)) (sym before) y.7 in
-    let polled = one_word (λ k. PolledBit k (instrument_acts (bench x.0))) y.1 x.1 said x.7 in
+    let said = subst (λ (log : List Act). IsPolled y.1 (device_acts log)) (sym before) y.7 in
+    let polled = one_word (λ k. PolledBit k (instrument_acts (device_acts x.0))) y.1 x.1 said x.7 in
     let there = subst (λ (log : List Act). Settles config (own_acts config y.1 event log ++ log) b) (sym before) y.8 in
     let settled = subst (λ (word : ℕ). Settles config (own_acts config word event x.0 ++ x.0) b) polled there in
     one_end x.8.0 settled.0 config (own_acts config x.1 event x.0 ++ x.0) a b x.8.1 settled.1

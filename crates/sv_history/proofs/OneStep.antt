@@ -12,9 +12,9 @@ use Rattle.sv_instrument.specs.Stimulus.{IsFired}
 use Rattle.sv_instrument.specs.Step.{IsStep}
 use Rattle.sv_instrument.proofs.OneStep.{one_step}
 use Rattle.sv_history.specs.declared.event.Config.{Config}
-use Rattle.sv_history.specs.Act.{Act, BenchAct, Happened, Bench, of, bench, wait_acts, instrument_acts, ticks}
+use Rattle.sv_history.specs.Act.{Act, DeviceAct, Happened, OnDevice, of, device_acts, wait_acts, instrument_acts, ticks}
 use Rattle.sv_history.specs.PolledStatus.{IsPolled}
-use Rattle.sv_history.specs.Settling.{First, Happens, CanGoOn, GoesOn, GivesUp, IsNext}
+use Rattle.sv_history.specs.Settling.{First, InstrumentDoes, CanGoOn, GoesOn, GivesUp, IsNext}
 use Rattle.sv_history.specs.Connection.{unanswered}
 use Rattle.sv_history.specs.Request.{core_call_in}
 use Rattle.sv_history.specs.Effect.{acts_of}
@@ -32,15 +32,15 @@ fires_once log a b x y = x.1 ∙ sym y.1
 
 happens_once : (IsSuch : List InstrumentAct → List InstrumentAct → Type 0)
     → ((log a b : List InstrumentAct) → IsSuch log a → IsSuch log b → a ≡ b)
-    → (log x y : List Act) → Happens IsSuch log x → Happens IsSuch log y → x ≡ y
+    → (log x y : List Act) → InstrumentDoes IsSuch log x → InstrumentDoes IsSuch log y → x ≡ y
 happens_once IsSuch once log x y (first, a, is) (second, b, same) =
-    let one = append_cancel_right first second (instrument_acts (bench log)) (once (instrument_acts (bench log)) _ _ a b) in
-    is ∙ ap (λ (adds : List InstrumentAct). map Bench (map Happened adds) ++ log) one ∙ sym same
+    let one = append_cancel_right first second (instrument_acts (device_acts log)) (once (instrument_acts (device_acts log)) _ _ a b) in
+    is ∙ ap (λ (adds : List InstrumentAct). map OnDevice (map Happened adds) ++ log) one ∙ sym same
 
 -- what a step of a call leaves
 abbrev pub went_on : Config → List Act → ℕ → ℕ → Wait → List Act
 went_on config log polled c wait =
-    acts_of c (resumed config polled c wait (core_call_in (unanswered (of c log))) (bench log)) ++ log
+    acts_of c (resumed config polled c wait (core_call_in (unanswered (of c log))) (device_acts log)) ++ log
 
 abbrev pub gave_up : List Act → ℕ → Wait → List Act
 gave_up log c wait = acts_of c (failed (late wait) c (core_call_in (unanswered (of c log)))) ++ log
@@ -52,11 +52,11 @@ some_of a b e = cc
 wait_of : (a b : Wait) → Some a ≡ Some b → a ≡ b
 wait_of a b e = cc
 
-word_of : (acts : List BenchAct) (a b : ℕ) → IsPolled a acts → IsPolled b acts → a ≡ b
+word_of : (acts : List DeviceAct) (a b : ℕ) → IsPolled a acts → IsPolled b acts → a ≡ b
 word_of acts a b x y = one_word (λ k. PolledBit k (instrument_acts acts)) a b x y
 
 -- what can go on waits
-able_waits : (acts : List BenchAct) (c : ℕ) → CanGoOn acts c → waits c (wait_acts acts) ≡ None → ⊥
+able_waits : (acts : List DeviceAct) (c : ℕ) → CanGoOn acts c → waits c (wait_acts acts) ≡ None → ⊥
 able_waits acts c able none = absurd (let z = rw none at able in cc)
 
 expired_waits : (clock : ℕ) (acts : List WaitAct) (c : ℕ) → IsExpired clock acts c → waits c acts ≡ None → ⊥
@@ -71,18 +71,18 @@ same_call acts c d for what f one x y =
 
 goes_once : (config : Config) (log x y : List Act) → GoesOn config log x → GoesOn config log y → x ≡ y
 goes_once config log x y (c, wait, polled, oldest, for, said, is) (d, other, byte, first, what, told, same) =
-    let one : c ≡ d = some_of c d (one_oldest (wait_acts (bench log)) (CanGoOn (bench log)) (Some c) (Some d)
-    (able_waits (bench log)) oldest first) in
-    let word : polled ≡ byte = word_of (bench log) polled byte said told in
-    is ∙ same_call (wait_acts (bench log)) c d wait other (λ e w. went_on config log polled e w) one for what
+    let one : c ≡ d = some_of c d (one_oldest (wait_acts (device_acts log)) (CanGoOn (device_acts log)) (Some c) (Some d)
+    (able_waits (device_acts log)) oldest first) in
+    let word : polled ≡ byte = word_of (device_acts log) polled byte said told in
+    is ∙ same_call (wait_acts (device_acts log)) c d wait other (λ e w. went_on config log polled e w) one for what
     ∙ ap (λ (b : ℕ). went_on config log b d other) word ∙ sym same
 
 gives_once : (config : Config) (log x y : List Act) → GivesUp config log x → GivesUp config log y → x ≡ y
 gives_once config log x y (c, wait, oldest, for, is) (d, other, first, what, same) =
-    let clock = config.clock + ticks (bench log) in
-    let one : c ≡ d = some_of c d (one_oldest (wait_acts (bench log)) (IsExpired clock (wait_acts (bench log))) (Some c) (Some d)
-    (expired_waits clock (wait_acts (bench log))) oldest first) in
-    is ∙ same_call (wait_acts (bench log)) c d wait other (λ e w. gave_up log e w) one for what ∙ sym same
+    let clock = config.clock + ticks (device_acts log) in
+    let one : c ≡ d = some_of c d (one_oldest (wait_acts (device_acts log)) (IsExpired clock (wait_acts (device_acts log))) (Some c) (Some d)
+    (expired_waits clock (wait_acts (device_acts log))) oldest first) in
+    is ∙ same_call (wait_acts (device_acts log)) c d wait other (λ e w. gave_up log e w) one for what ∙ sym same
 
 pub next_once : (config : Config) (log a b : List Act) → IsNext config log a → IsNext config log b → a ≡ b
 next_once config log = first_once _ _ (happens_once IsFired fires_once log)

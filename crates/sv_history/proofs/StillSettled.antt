@@ -7,19 +7,19 @@ use Rattle.sv_layers.specs.Act.{Act as InstrumentAct}
 use Rattle.sv_instrument.specs.Stimulus.{IsFired}
 use Rattle.sv_instrument.specs.Step.{IsStep}
 use Rattle.sv_history.specs.declared.event.Config.{Config}
-use Rattle.sv_history.specs.Act.{Act, ConnAct, BenchAct, Channel, Happened, On, Bench, bench, wait_acts, instrument_acts, ticks}
+use Rattle.sv_history.specs.Act.{Act, ConnAct, DeviceAct, Channel, Happened, On, OnDevice, device_acts, wait_acts, instrument_acts, ticks}
 use Rattle.sv_history.specs.PolledStatus.{IsPolled}
-use Rattle.sv_history.specs.Settling.{First, Happens, CanGoOn, GoesOn, GivesUp, IsNext, IsSettled}
+use Rattle.sv_history.specs.Settling.{First, InstrumentDoes, CanGoOn, GoesOn, GivesUp, IsNext, IsSettled}
 use Rattle.sv_history.proofs.OneStep.{went_on, gave_up}
 
-happens_back : (IsSuch : List InstrumentAct → List InstrumentAct → Type 0) (log other new : List Act) → bench other ≡ bench log
-    → Happens IsSuch other new → (there : List Act) × Happens IsSuch log there
+happens_back : (IsSuch : List InstrumentAct → List InstrumentAct → Type 0) (log other new : List Act) → device_acts other ≡ device_acts log
+    → InstrumentDoes IsSuch other new → (there : List Act) × InstrumentDoes IsSuch log there
 happens_back IsSuch log other new same (adds, such, is) = (
-  map Bench (map Happened adds) ++ log,
-  (adds, subst (λ (acts : List BenchAct). IsSuch (instrument_acts acts) (adds ++ instrument_acts acts)) same such, refl),
+  map OnDevice (map Happened adds) ++ log,
+  (adds, subst (λ (acts : List DeviceAct). IsSuch (instrument_acts acts) (adds ++ instrument_acts acts)) same such, refl),
 )
 
-goes_back : (config : Config) (log other new : List Act) → bench other ≡ bench log → GoesOn config other new
+goes_back : (config : Config) (log other new : List Act) → device_acts other ≡ device_acts log → GoesOn config other new
     → (there : List Act) × GoesOn config log there
 goes_back config log other new same (c, wait, polled, oldest, for, said, is) = (
   went_on config log polled c wait,
@@ -27,23 +27,23 @@ goes_back config log other new same (c, wait, polled, oldest, for, said, is) = (
     c,
     wait,
     polled,
-    subst (λ (acts : List BenchAct). IsOldest (wait_acts acts) (CanGoOn acts) (Some c)) same oldest,
-    subst (λ (acts : List BenchAct). waits c (wait_acts acts) ≡ Some wait) same for,
-    subst (λ (acts : List BenchAct). IsPolled polled acts) same said,
+    subst (λ (acts : List DeviceAct). IsOldest (wait_acts acts) (CanGoOn acts) (Some c)) same oldest,
+    subst (λ (acts : List DeviceAct). waits c (wait_acts acts) ≡ Some wait) same for,
+    subst (λ (acts : List DeviceAct). IsPolled polled acts) same said,
     refl,
   ),
 )
 
-gives_back : (config : Config) (log other new : List Act) → bench other ≡ bench log → GivesUp config other new
+gives_back : (config : Config) (log other new : List Act) → device_acts other ≡ device_acts log → GivesUp config other new
     → (there : List Act) × GivesUp config log there
 gives_back config log other new same (c, wait, oldest, for, is) = (
   gave_up log c wait,
   (
     c,
     wait,
-    subst (λ (acts : List BenchAct). IsOldest (wait_acts acts) (IsExpired (config.clock + ticks acts) (wait_acts acts)) (Some c))
+    subst (λ (acts : List DeviceAct). IsOldest (wait_acts acts) (IsExpired (config.clock + ticks acts) (wait_acts acts)) (Some c))
         same oldest,
-    subst (λ (acts : List BenchAct). waits c (wait_acts acts) ≡ Some wait) same for,
+    subst (λ (acts : List DeviceAct). waits c (wait_acts acts) ≡ Some wait) same for,
     refl,
   ),
 )
@@ -57,7 +57,7 @@ first_back A B C D to from on new (inl a) = ((to new a).0, inl (to new a).1)
 first_back A B C D to from on new (inr b) =
     ((on new b.1).0, inr ((λ one c. b.0 (from one c).0 (from one c).1), (on new b.1).1))
 
-next_back : (config : Config) (log other : List Act) → bench other ≡ bench log → Back (IsNext config other) (IsNext config log)
+next_back : (config : Config) (log other : List Act) → device_acts other ≡ device_acts log → Back (IsNext config other) (IsNext config log)
 next_back config log other same = first_back _ _ _ _ (λ new. happens_back IsFired log other new same)
     (λ new. happens_back IsFired other log new (sym same))
     (first_back _ _ _ _ (λ new. goes_back config log other new same) (λ new. goes_back config other log new (sym same))
@@ -70,29 +70,29 @@ still_settled c act config log none = λ new next.
 
 -- nor does an act of an interrupt channel
 channel_happens : (act : ChannelAct) (IsSuch : List InstrumentAct → List InstrumentAct → Type 0) (log new : List Act)
-    → Happens IsSuch (Bench (Channel act) ∷ log) new → (there : List Act) × Happens IsSuch log there
-channel_happens act IsSuch log new (adds, such, is) = (map Bench (map Happened adds) ++ log, (adds, such, refl))
+    → InstrumentDoes IsSuch (OnDevice (Channel act) ∷ log) new → (there : List Act) × InstrumentDoes IsSuch log there
+channel_happens act IsSuch log new (adds, such, is) = (map OnDevice (map Happened adds) ++ log, (adds, such, refl))
 
 happens_channel : (act : ChannelAct) (IsSuch : List InstrumentAct → List InstrumentAct → Type 0) (log new : List Act)
-    → Happens IsSuch log new → (there : List Act) × Happens IsSuch (Bench (Channel act) ∷ log) there
-happens_channel act IsSuch log new (adds, such, is) = (map Bench (map Happened adds) ++ Bench (Channel act) ∷ log, (adds, such, refl))
+    → InstrumentDoes IsSuch log new → (there : List Act) × InstrumentDoes IsSuch (OnDevice (Channel act) ∷ log) there
+happens_channel act IsSuch log new (adds, such, is) = (map OnDevice (map Happened adds) ++ OnDevice (Channel act) ∷ log, (adds, such, refl))
 
-channel_goes : (act : ChannelAct) (config : Config) (log new : List Act) → GoesOn config (Bench (Channel act) ∷ log) new
+channel_goes : (act : ChannelAct) (config : Config) (log new : List Act) → GoesOn config (OnDevice (Channel act) ∷ log) new
     → (there : List Act) × GoesOn config log there
 channel_goes act config log new (c, wait, polled, oldest, for, said, is) =
     (went_on config log polled c wait, (c, wait, polled, oldest, for, said, refl))
 
 goes_channel : (act : ChannelAct) (config : Config) (log new : List Act) → GoesOn config log new
-    → (there : List Act) × GoesOn config (Bench (Channel act) ∷ log) there
+    → (there : List Act) × GoesOn config (OnDevice (Channel act) ∷ log) there
 goes_channel act config log new (c, wait, polled, oldest, for, said, is) =
-    (went_on config (Bench (Channel act) ∷ log) polled c wait, (c, wait, polled, oldest, for, said, refl))
+    (went_on config (OnDevice (Channel act) ∷ log) polled c wait, (c, wait, polled, oldest, for, said, refl))
 
-channel_gives : (act : ChannelAct) (config : Config) (log new : List Act) → GivesUp config (Bench (Channel act) ∷ log) new
+channel_gives : (act : ChannelAct) (config : Config) (log new : List Act) → GivesUp config (OnDevice (Channel act) ∷ log) new
     → (there : List Act) × GivesUp config log there
 channel_gives act config log new (c, wait, oldest, for, is) = (gave_up log c wait, (c, wait, oldest, for, refl))
 
 pub channel_settled : (act : ChannelAct) (config : Config) (log : List Act) → IsSettled config log
-    → IsSettled config (Bench (Channel act) ∷ log)
+    → IsSettled config (OnDevice (Channel act) ∷ log)
 channel_settled act config log none = λ new next.
     let there = first_back _ _ _ _ (λ new. channel_happens act IsFired log new) (λ new. happens_channel act IsFired log new)
     (first_back _ _ _ _ (λ new. channel_goes act config log new) (λ new. goes_channel act config log new)

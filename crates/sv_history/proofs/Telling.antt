@@ -8,8 +8,8 @@ use Rattle.sv_links.specs.Channels.{ChannelAct, SrqEnabled, SrqDisabled, Channel
 use Rattle.sv_layers.specs.Act.{Act as InstrumentAct}
 use Rattle.sv_layers.specs.StatusByte.{IsRaised}
 use Rattle.sv_instrument.specs.RequestCount.{Raise}
-use Rattle.sv_history.specs.Act.{BenchAct, Linked, Waited, Channel, Happened, Ticked, channel_acts, instrument_acts}
-use Rattle.sv_history.specs.Requests.{Tells, link_told, request_told}
+use Rattle.sv_history.specs.Act.{DeviceAct, Linked, Waited, Channel, Happened, Ticked, channel_acts, instrument_acts}
+use Rattle.sv_history.specs.Requests.{HearsOf, link_told, request_told}
 use Rattle.sv_history.specs.Interrupts.{has_channel}
 use Rattle.sv_history.proofs.Projections.{instrument_acts-happened}
 
@@ -20,7 +20,7 @@ same_flag true false P x y = absurd (let z : false ≡ true = y.1 (x.0 refl) in 
 same_flag false true P x y = absurd (let z : false ≡ true = x.1 (y.0 refl) in cc)
 
 -- one list is told
-pub tells_once : (acts : List BenchAct) (a b : List ChannelAct) → Tells acts a → Tells acts b → a ≡ b
+pub tells_once : (acts : List DeviceAct) (a b : List ChannelAct) → HearsOf acts a → HearsOf acts b → a ≡ b
 tells_once [] a b x y = x ∙ sym y
 tells_once (Channel act ∷ acts) a b (s, told, x) (t, other, y) =
     x ∙ ap (λ (l : List ChannelAct). act ∷ l) (tells_once acts s t told other) ∙ sym y
@@ -52,7 +52,7 @@ peer_requested : (c : ℕ) (raised : Bool) (told : List ChannelAct) → peer c (
 peer_requested c true told = refl
 peer_requested c false told = refl
 
-pub peer_told : (c : ℕ) (acts : List BenchAct) (told : List ChannelAct) → Tells acts told → peer c told ≡ peer c (channel_acts acts)
+pub peer_told : (c : ℕ) (acts : List DeviceAct) (told : List ChannelAct) → HearsOf acts told → peer c told ≡ peer c (channel_acts acts)
 peer_told c [] told x = ap (peer c) x
 peer_told c (Channel act ∷ acts) told (before, is, x) =
     ap (peer c) x ∙ peer_more c act before (channel_acts acts) (peer_told c acts before is)
@@ -62,7 +62,7 @@ peer_told c (Happened act ∷ acts) told (before, raised, is, so, x) =
 peer_told c (Waited act ∷ acts) told x = peer_told c acts told x
 peer_told c (Ticked ∷ acts) told x = peer_told c acts told x
 
-pub has_channel_told : (c : ℕ) (acts : List BenchAct) (told : List ChannelAct) → Tells acts told
+pub has_channel_told : (c : ℕ) (acts : List DeviceAct) (told : List ChannelAct) → HearsOf acts told
     → is_channel_open c told ≡ has_channel c acts
 has_channel_told c acts told x = ap (λ (o : Option Peer). is_some o) (peer_told c acts told x)
 
@@ -78,9 +78,9 @@ pub requests_one : (n : ℕ) (raised : Bool) (told : List ChannelAct)
 requests_one n true told = ap (λ (m : ℕ). requests m told) (let e : n + 1 ≡ suc n = omega arith in e)
 requests_one n false told = ap (λ (m : ℕ). requests m told) (let e : n + 0 ≡ n = omega arith in e)
 
-pub tells_raised : (adds : List InstrumentAct) (acts : List BenchAct) (told : List ChannelAct) (n : ℕ)
-    → Raise adds (instrument_acts acts) n → Tells acts told → Tells (map Happened adds ++ acts) (requests n told)
-tells_raised [] acts told n raise tells = subst (λ (m : ℕ). Tells acts (requests m told)) (sym raise) tells
+pub tells_raised : (adds : List InstrumentAct) (acts : List DeviceAct) (told : List ChannelAct) (n : ℕ)
+    → Raise adds (instrument_acts acts) n → HearsOf acts told → HearsOf (map Happened adds ++ acts) (requests n told)
+tells_raised [] acts told n raise tells = subst (λ (m : ℕ). HearsOf acts (requests m told)) (sym raise) tells
 tells_raised (act ∷ adds) acts told n (raised, before, so, rest, is) tells = (
   requests before told,
   raised,

@@ -4,25 +4,25 @@ use Rattle.sv_vxi.specs.declared.error_code.ErrorCode.TheVariants.{NoError, Inva
 use Rattle.sv_vxi.specs.Results.{Outcome, Plain}
 use Rattle.sv_links.specs.Links.{owner, is_this}
 use Rattle.sv_links.specs.Waiting.{waits, link}
-use Rattle.sv_history.specs.Act.{BenchAct, link_acts, wait_acts}
+use Rattle.sv_history.specs.Act.{DeviceAct, link_acts, wait_acts}
 
 -- the connection that made a link, while it lives
-abbrev pub owner_of : Option ℕ → List BenchAct → Option ℕ
+abbrev pub owner_of : Option ℕ → List DeviceAct → Option ℕ
 owner_of (Some lid) acts = owner lid (link_acts acts)
 owner_of None acts = None
 
 -- whether the call of a connection waits and names this link
-abbrev pub waits_with : ℕ → Option ℕ → List BenchAct → Bool
+abbrev pub waits_with : ℕ → Option ℕ → List DeviceAct → Bool
 waits_with c (Some lid) acts = is_some (waits c (wait_acts acts)) && is_this lid (link c (wait_acts acts))
 waits_with c None acts = false
 
 -- the connection whose call is ended
-abbrev pub where_waiting : Option ℕ → Option ℕ → List BenchAct → Option ℕ
+abbrev pub where_waiting : Option ℕ → Option ℕ → List DeviceAct → Option ℕ
 where_waiting (Some c) lid acts = if waits_with c lid acts then Some c else None
 where_waiting None lid acts = None
 
-abbrev pub aborted : Option ℕ → List BenchAct → Option ℕ
+abbrev pub aborted : Option ℕ → List DeviceAct → Option ℕ
 aborted lid acts = where_waiting (owner_of lid acts) lid acts
 
-abbrev pub abort_result : Option ℕ → List BenchAct → Outcome
+abbrev pub abort_result : Option ℕ → List DeviceAct → Outcome
 abort_result lid acts = Plain (if is_some (owner_of lid acts) then NoError else InvalidLink)

@@ -20,55 +20,55 @@ pub data ConnAct : Type 0 where
   PortClosed : ConnAct
 
 -- of what all connections share
-pub data BenchAct : Type 0 where
-  Linked : (act : LinkAct) → BenchAct
-  Waited : (act : WaitAct) → BenchAct
-  Channel : (act : ChannelAct) → BenchAct
-  Happened : (act : InstrumentAct) → BenchAct
-  Ticked : BenchAct
+pub data DeviceAct : Type 0 where
+  Linked : (act : LinkAct) → DeviceAct
+  Waited : (act : WaitAct) → DeviceAct
+  Channel : (act : ChannelAct) → DeviceAct
+  Happened : (act : InstrumentAct) → DeviceAct
+  Ticked : DeviceAct
 
 pub data Act : Type 0 where
   On : (conn : ℕ) (act : ConnAct) → Act
-  Bench : (act : BenchAct) → Act
+  OnDevice : (act : DeviceAct) → Act
 
 -- the acts of one connection, and those of what all share
 abbrev pub of : ℕ → List Act → List ConnAct
 of c [] = []
 of c (On d act ∷ log) = if d == c then act ∷ of c log else of c log
-of c (Bench act ∷ log) = of c log
+of c (OnDevice act ∷ log) = of c log
 
-abbrev pub bench : List Act → List BenchAct
-bench [] = []
-bench (On c act ∷ log) = bench log
-bench (Bench act ∷ log) = act ∷ bench log
+abbrev pub device_acts : List Act → List DeviceAct
+device_acts [] = []
+device_acts (On c act ∷ log) = device_acts log
+device_acts (OnDevice act ∷ log) = act ∷ device_acts log
 
 -- of these the acts of links, those of calls that wait, those of interrupt channels, those of the instrument, and the milliseconds that
 -- passed
-abbrev pub link_acts : List BenchAct → List LinkAct
+abbrev pub link_acts : List DeviceAct → List LinkAct
 link_acts [] = []
 link_acts (Linked act ∷ acts) = act ∷ link_acts acts
 link_acts (_ ∷ acts) = link_acts acts
 
-abbrev pub wait_acts : List BenchAct → List WaitAct
+abbrev pub wait_acts : List DeviceAct → List WaitAct
 wait_acts [] = []
 wait_acts (Waited act ∷ acts) = act ∷ wait_acts acts
 wait_acts (_ ∷ acts) = wait_acts acts
 
-abbrev pub channel_acts : List BenchAct → List ChannelAct
+abbrev pub channel_acts : List DeviceAct → List ChannelAct
 channel_acts [] = []
 channel_acts (Channel act ∷ acts) = act ∷ channel_acts acts
 channel_acts (_ ∷ acts) = channel_acts acts
 
-abbrev pub instrument_acts : List BenchAct → List InstrumentAct
+abbrev pub instrument_acts : List DeviceAct → List InstrumentAct
 instrument_acts [] = []
 instrument_acts (Happened act ∷ acts) = act ∷ instrument_acts acts
 instrument_acts (_ ∷ acts) = instrument_acts acts
 
 -- what of it happens to messages
-abbrev pub exchange_acts : List BenchAct → List ExchangeAct
+abbrev pub exchange_acts : List DeviceAct → List ExchangeAct
 exchange_acts acts = exchanged (instrument_acts acts)
 
-abbrev pub ticks : List BenchAct → ℕ
+abbrev pub ticks : List DeviceAct → ℕ
 ticks [] = 0
 ticks (Ticked ∷ acts) = ticks acts + 1
 ticks (_ ∷ acts) = ticks acts

@@ -14,7 +14,7 @@ use Rattle.sv_links.specs.Waiting.{Entered, creating}
 use Rattle.sv_exchange.specs.Exchange.{has_ended}
 use Rattle.sv_instrument.specs.Step.{is_answerable}
 use Rattle.sv_history.specs.declared.event.Config.{Config}
-use Rattle.sv_history.specs.Act.{BenchAct, link_acts, wait_acts, instrument_acts, exchange_acts, ticks}
+use Rattle.sv_history.specs.Act.{DeviceAct, link_acts, wait_acts, instrument_acts, exchange_acts, ticks}
 use Rattle.sv_history.specs.CallOutcome.{CallOutcome, only, suspended}
 use Rattle.sv_history.specs.CoreCall.{lid_of, is_too_long, failure}
 use Rattle.sv_history.specs.Interrupts.{has_channel, channel_fault}
@@ -26,12 +26,12 @@ pub data Stop : Type 0 where
   Awaits : (wait : Wait) (timeout : Option ℕ) → Stop
 
 -- whether a call names a link that isn't one of its connection
-abbrev pub names_another : ℕ → Option ℤ → List BenchAct → Bool
+abbrev pub names_another : ℕ → Option ℤ → List DeviceAct → Bool
 names_another c (Some lid) acts = not (owns c (lid_of (Some lid)) acts)
 names_another c None acts = false
 
 -- where another link holds the lock, a call that minds it waits for it or fails
-abbrev pub is_kept_out : Arguments → List BenchAct → Bool
+abbrev pub is_kept_out : Arguments → List DeviceAct → Bool
 is_kept_out arguments acts = is_some (lock_wait arguments) && is_locked_out (holder (link_acts acts)) (lid_of (link arguments))
 
 abbrev pub lock_stop : Option LockWait → Stop
@@ -40,18 +40,18 @@ lock_stop None = Fails DeviceLocked
 
 -- what a call waits for that isn't kept out: a write until no ended message waits to be finished, a read until there is something to
 -- answer
-abbrev pub device_wait : Arguments → List BenchAct → Option Wait
+abbrev pub device_wait : Arguments → List DeviceAct → Option Wait
 device_wait (DeviceWrite lid io_timeout lock_timeout flags bytes) acts = if has_ended (exchange_acts acts) then Some Input else None
 device_wait (DeviceRead lid request_size io_timeout lock_timeout flags term_char) acts =
     if is_answerable (instrument_acts acts) then None else Some Response
 device_wait _ acts = None
 
 -- whether a link more may be made, with those for which create_links wait: of 32, and while there are numbers
-abbrev pub may_make_more : List BenchAct → Bool
+abbrev pub may_make_more : List DeviceAct → Bool
 may_make_more acts = nat_lt (length (live (link_acts acts)) + creating (wait_acts acts)) 32 && lids_left (link_acts acts)
 
 -- a link has the name inst0, is made while one more may be, and, where it asks for the lock, once no link has it
-abbrev pub link_stop : Bool → ℕ → List ℕ → List BenchAct → Option Stop
+abbrev pub link_stop : Bool → ℕ → List ℕ → List DeviceAct → Option Stop
 link_stop lock_device timeout device acts =
     if not (bytes_eq device (codes "inst0")) then Some (Fails NotAccessible)
     else (if not (may_make_more acts) then Some (Fails OutOfResources)
@@ -62,30 +62,30 @@ abbrev pub channel_stop : Option ErrorCode → Stop
 channel_stop (Some error) = Fails error
 channel_stop None = Awaits Dial None
 
-abbrev pub device_stop : Arguments → List BenchAct → Option Stop
+abbrev pub device_stop : Arguments → List DeviceAct → Option Stop
 device_stop arguments acts = option_map (λ wait. Awaits wait (io_timeout arguments)) (device_wait arguments acts)
 
 -- what stops a call by what it is
-abbrev pub own_stop : ℕ → Arguments → List BenchAct → Option Stop
+abbrev pub own_stop : ℕ → Arguments → List DeviceAct → Option Stop
 own_stop c (CreateLink client_id lock_device lock_timeout device) acts = link_stop lock_device lock_timeout device acts
 own_stop c (CreateIntrChan host_addr host_port prog_num prog_vers prog_family) acts =
     Some (channel_stop (channel_fault (has_channel c acts) host_addr host_port prog_family))
 own_stop c arguments acts = device_stop arguments acts
 
 -- What stops a call: the link that it names is looked at first, then how much a write brings, then the lock.
-abbrev pub stop_of : ℕ → Arguments → List BenchAct → Option Stop
+abbrev pub stop_of : ℕ → Arguments → List DeviceAct → Option Stop
 stop_of c arguments acts =
     if names_another c (link arguments) acts then Some (Fails InvalidLink)
     else (if is_too_long arguments then Some (Fails ParameterError)
     else (if is_kept_out arguments acts then Some (lock_stop (lock_wait arguments)) else own_stop c arguments acts))
 
 -- so many milliseconds from now
-abbrev pub deadline : Config → Option ℕ → List BenchAct → Option ℕ
+abbrev pub deadline : Config → Option ℕ → List DeviceAct → Option ℕ
 deadline config timeout acts = option_map (λ milliseconds. config.clock + ticks acts + milliseconds) timeout
 
 -- A call is done, unless something stops it.
-abbrev pub begun : Config → ℕ → ℕ → Arguments → Option Stop → List BenchAct → CallOutcome
-begun config polled c arguments None acts = own_call config polled c arguments acts
-begun config polled c arguments (Some (Fails error)) acts = only (failure arguments error)
-begun config polled c arguments (Some (Awaits wait timeout)) acts =
+abbrev pub admitted : Config → ℕ → ℕ → Arguments → Option Stop → List DeviceAct → CallOutcome
+admitted config polled c arguments None acts = own_call config polled c arguments acts
+admitted config polled c arguments (Some (Fails error)) acts = only (failure arguments error)
+admitted config polled c arguments (Some (Awaits wait timeout)) acts =
     suspended (Entered c (lid_of (link arguments)) wait (deadline config timeout acts))

@@ -42,13 +42,13 @@ abbrev pub is_busy : List ConnAct → Bool
 is_busy acts = is_some (unanswered acts)
 
 -- how many of its records came to their end: by an answer, or since they are no call
-abbrev pub ended : List ConnAct → ℕ
-ended [] = 0
-ended (Opened role ∷ acts) = 0
-ended (PortClosed ∷ acts) = 0
-ended (Faulted ∷ acts) = ended acts + 1
-ended (Replied bytes ∷ acts) = ended acts + 1
-ended (_ ∷ acts) = ended acts
+abbrev pub completed : List ConnAct → ℕ
+completed [] = 0
+completed (Opened role ∷ acts) = 0
+completed (PortClosed ∷ acts) = 0
+completed (Faulted ∷ acts) = completed acts + 1
+completed (Replied bytes ∷ acts) = completed acts + 1
+completed (_ ∷ acts) = completed acts
 
 -- whether a record that is no call was taken on it
 abbrev pub took_no_call : List ConnAct → Bool
@@ -88,7 +88,7 @@ waiting_on told (Intr c) log = channel_waiting c told
 
 -- The call to take next: the first record that didn't come to its end, unless it was taken already, or a record was no call.
 abbrev pub next_call : List ConnAct → Option (List ℕ)
-next_call acts = if took_no_call acts || is_busy acts then None else slice_get (records_of (stream acts)) (ended acts)
+next_call acts = if took_no_call acts || is_busy acts then None else slice_get (records_of (stream acts)) (completed acts)
 
 -- whether there is none
 abbrev pub is_idle : List ConnAct → Bool
@@ -101,11 +101,11 @@ is_too_long TooLong = true
 
 -- whether a record that is no call was taken, or all records in front of one that is too long came to their end
 abbrev pub is_faulted : List ConnAct → Bool
-is_faulted acts = took_no_call acts || (is_too_long (tail_of (stream acts)) && (ended acts == length (records_of (stream acts))))
+is_faulted acts = took_no_call acts || (is_too_long (tail_of (stream acts)) && (completed acts == length (records_of (stream acts))))
 
 -- how many bytes may come: a record counts until it comes to its end
 abbrev pub room : List ConnAct → ℕ
-room acts = if is_open acts then 16384 - used_by (drop (ended acts) (records_of (stream acts))) (tail_of (stream acts)) else 0
+room acts = if is_open acts then 16384 - used_by (drop (completed acts) (records_of (stream acts))) (tail_of (stream acts)) else 0
 
 -- how many outgoing bytes are free
 abbrev pub free : List ConnAct → ℕ

@@ -14,18 +14,18 @@ use Rattle.sv_history.specs.declared.event.Config.{Config}
 use Rattle.sv_layers.specs.Act.{Exchanged, Reported, Purged, Polled}
 use Rattle.sv_instrument.specs.Step.{is_answerable}
 use Rattle.sv_instrument.specs.Stimulus.{trigger_acts}
-use Rattle.sv_history.specs.Act.{BenchAct, Linked, Happened, link_acts, instrument_acts, exchange_acts}
+use Rattle.sv_history.specs.Act.{DeviceAct, Linked, Happened, link_acts, instrument_acts, exchange_acts}
 use Rattle.sv_history.specs.CallOutcome.{CallOutcome, answered, only}
 use Rattle.sv_history.specs.CoreCall.{lid_of, no_bytes, failure}
 use Rattle.sv_history.specs.Interrupts.{device_enable_srq, destroy_channel}
 
 -- whether a link is one of this connection: it lives, and this one made it
-abbrev pub owns : ℕ → Option ℕ → List BenchAct → Bool
+abbrev pub owns : ℕ → Option ℕ → List DeviceAct → Bool
 owns c (Some lid) acts = is_of c (owner lid (link_acts acts))
 owns c None acts = false
 
 -- a link is made, with the lock where it asks for it, while there are numbers
-abbrev pub make_link : Config → ℕ → Bool → List BenchAct → CallOutcome
+abbrev pub make_link : Config → ℕ → Bool → List DeviceAct → CallOutcome
 make_link config c lock_device acts =
     if not (lids_left (link_acts acts)) then only (Link OutOfResources (pos 0) 0 0)
     else (let lid = made (link_acts acts) + 1 in
@@ -38,19 +38,19 @@ destroy_link (Some lid) = answered (Linked (Destroyed lid) ∷ []) (Plain NoErro
 destroy_link None = only (Plain InvalidLink)
 
 -- a link gets the lock, also where it has it, unless another has it
-abbrev pub device_lock : Option ℕ → List BenchAct → CallOutcome
+abbrev pub device_lock : Option ℕ → List DeviceAct → CallOutcome
 device_lock (Some lid) acts = if is_locked_out (holder (link_acts acts)) (Some lid) then only (Plain DeviceLocked)
     else answered (Linked (Locked lid) ∷ []) (Plain NoError)
 device_lock None acts = only (Plain InvalidLink)
 
 -- the lock is free, where this link had it
-abbrev pub device_unlock : Option ℕ → List BenchAct → CallOutcome
+abbrev pub device_unlock : Option ℕ → List DeviceAct → CallOutcome
 device_unlock (Some lid) acts = if is_this lid (holder (link_acts acts)) then answered (Linked (Unlocked lid) ∷ []) (Plain NoError)
     else only (Plain NoLock)
 device_unlock None acts = only (Plain InvalidLink)
 
 -- the bytes of a write are accepted where no message waits to be executed
-abbrev pub device_write : ℕ → List ℕ → List BenchAct → CallOutcome
+abbrev pub device_write : ℕ → List ℕ → List DeviceAct → CallOutcome
 device_write flags bytes acts =
     if nat_lt 4096 (length bytes) then only (Size ParameterError 0)
     else (if has_ended (exchange_acts acts) then only (Size IoTimeout 0)
@@ -71,7 +71,7 @@ abbrev pub reads : List ℕ → ℕ → Option ℕ → CallOutcome
 reads bytes most term = answered (Happened (Exchanged (ResponseRead (read_count bytes most term))) ∷ []) (read_of bytes most term)
 
 -- a read gives what stands of the response; without one, where none can come, the unfinished text is dropped, and that is reported
-abbrev pub device_read : ℕ → Option ℕ → List BenchAct → CallOutcome
+abbrev pub device_read : ℕ → Option ℕ → List DeviceAct → CallOutcome
 device_read most term acts =
     if is_something (response (exchange_acts acts)) then reads (response (exchange_acts acts)) most term
     else (if not (is_answerable (instrument_acts acts)) then only (no_bytes IoTimeout)
@@ -79,7 +79,7 @@ device_read most term acts =
 
 -- A call by what it is, once it needn't wait, where a poll of the status byte would give this. device_docmd isn't supported; nor, here, are
 -- device_abort, which is none of this channel, and create_intr_chan, which waits until its peer was called (Interrupts).
-abbrev pub own_call : Config → ℕ → ℕ → Arguments → List BenchAct → CallOutcome
+abbrev pub own_call : Config → ℕ → ℕ → Arguments → List DeviceAct → CallOutcome
 own_call config polled c (CreateLink client_id lock_device lock_timeout device) acts = make_link config c lock_device acts
 own_call config polled c (DeviceWrite lid io_timeout lock_timeout flags bytes) acts = device_write flags bytes acts
 own_call config polled c (DeviceRead lid request_size io_timeout lock_timeout flags term_char) acts =

@@ -2,18 +2,18 @@
 use Rattle.std.specs.Prelude.{ℕ, List, [], ◌∷◌, ◌++◌, map, Option, Some, None}
 use Rattle.sv_rpc.specs.declared.reply.Reply.TheVariants.{Success}
 use Rattle.sv_vxi.specs.Results.{Outcome, result_fields}
-use Rattle.sv_history.specs.Act.{Act, ConnAct, BenchAct, Replied, On, Bench}
+use Rattle.sv_history.specs.Act.{Act, ConnAct, DeviceAct, Replied, On, OnDevice}
 use Rattle.sv_history.specs.Reply.{reply_record}
 use Rattle.sv_history.specs.CallOutcome.{CallOutcome}
 
 -- acts of its connection, and of what all connections share
 pub record Effect : Type 0 where
   pub own : List ConnAct
-  pub adds : List BenchAct
+  pub adds : List DeviceAct
 
 -- in the order of the log, for the connection of this number
 abbrev pub acts_of : ℕ → Effect → List Act
-acts_of c effect = map (On c) effect.own ++ map Bench effect.adds
+acts_of c effect = map (On c) effect.own ++ map OnDevice effect.adds
 
 -- a reply that tells a result
 abbrev pub result_reply : ℕ → Outcome → List ℕ

@@ -6,12 +6,12 @@ use Rattle.sv_rpc.specs.declared.reply.Reply.TheVariants.{Success, GarbageArgs}
 use Rattle.sv_rpc.specs.declared.ports.Ports.{Ports}
 use Rattle.sv_rpc.specs.Ports.{port_at}
 use Rattle.sv_history.specs.declared.event.Config.{Config}
-use Rattle.sv_history.specs.Act.{BenchAct, Faulted}
+use Rattle.sv_history.specs.Act.{DeviceAct, Faulted}
 use Rattle.sv_history.specs.Reply.{reply_record}
 use Rattle.sv_history.specs.Effect.{Effect, result_reply, call_effect, replied}
 use Rattle.sv_history.specs.Request.{Request, NoCall, Decided, CoreRequest, AbortRequest, PortRequest}
 use Rattle.sv_history.specs.CoreCall.{lid_of}
-use Rattle.sv_history.specs.Admission.{stop_of, begun}
+use Rattle.sv_history.specs.Admission.{stop_of, admitted}
 use Rattle.sv_history.specs.AbortChannel.{aborted, abort_result}
 
 -- what the port mapper tells (RFC 1833, section 3): the ports of the configuration
@@ -23,15 +23,15 @@ port_reply xid (Ok port) = reply_record xid Success (Unsigned port ∷ [])
 port_reply xid (Err garbage) = reply_record xid GarbageArgs []
 
 -- What a request does, where a poll of the status byte would give this. A record that is no call faults its connection.
-abbrev pub request_effect : Config → ℕ → ℕ → Request → List BenchAct → Effect
+abbrev pub request_effect : Config → ℕ → ℕ → Request → List DeviceAct → Effect
 request_effect config polled c NoCall acts = record { own = Faulted ∷ []; adds = [] }
 request_effect config polled c (Decided xid reply) acts = replied (reply_record xid reply [])
 request_effect config polled c (CoreRequest call) acts =
-    call_effect call.xid (begun config polled c call.arguments (stop_of c call.arguments acts) acts)
+    call_effect call.xid (admitted config polled c call.arguments (stop_of c call.arguments acts) acts)
 request_effect config polled c (AbortRequest xid lid) acts = replied (result_reply xid (abort_result (lid_of (Some lid)) acts))
 request_effect config polled c (PortRequest xid args) acts = replied (port_reply xid (port_at (ports_of config) args))
 
 -- the connection whose suspended call it ends beside
-abbrev pub aborts : Request → List BenchAct → Option ℕ
+abbrev pub aborts : Request → List DeviceAct → Option ℕ
 aborts (AbortRequest xid lid) acts = aborted (lid_of (Some lid)) acts
 aborts _ acts = None

@@ -17,11 +17,11 @@ use Rattle.sv_history.specs.declared.event.Did.TheVariants.{Done, Idle}
 use Rattle.sv_history.specs.declared.event.Refused.{Refused}
 use Rattle.sv_history.specs.declared.event.Refused.TheVariants.{NoMemory, ConnInUse, NoConn, NoRoom, NotSent, NoDial, NotRefusable, BadChannel, BadInput, TimeOver}
 use Rattle.sv_history.specs.Event.{IsEvent, IsConfig, PlainEvent, Open, Bytes, Turn, Refuse, Took, Close, Dialed, Input, External, Tick}
-use Rattle.sv_history.specs.Act.{Act, ConnAct, BenchAct, Opened, Piece, CallTaken, Replied, BytesTaken, PortClosed, Linked, Waited, Channel, Happened, Ticked, On, Bench, of, bench, link_acts, wait_acts, instrument_acts, ticks}
+use Rattle.sv_history.specs.Act.{Act, ConnAct, DeviceAct, Opened, Piece, CallTaken, Replied, BytesTaken, PortClosed, Linked, Waited, Channel, Happened, Ticked, On, OnDevice, of, device_acts, link_acts, wait_acts, instrument_acts, ticks}
 use Rattle.sv_history.specs.Connection.{is_open, unanswered, waiting, next_call, is_idle, room, free}
 use Rattle.sv_history.specs.CoreCall.{CoreCall}
 use Rattle.sv_history.specs.Request.{Request, core_call_in, next_request}
-use Rattle.sv_history.specs.Requests.{Tells}
+use Rattle.sv_history.specs.Requests.{HearsOf}
 use Rattle.sv_history.specs.Interrupts.{has_channel, is_dialing, dialing}
 use Rattle.sv_history.specs.Refusing.{refusable, refused_reply}
 use Rattle.sv_history.specs.Effect.{Effect, acts_of}
@@ -43,7 +43,7 @@ taken_acts c bytes effect aborts log =
 -- the acts of a Turn: those of what the connection's next call asks for, where there is one to take
 abbrev pub turn_acts : Config → ℕ → ℕ → Option (List ℕ) → Option Request → List Act → List Act
 turn_acts config polled c (Some bytes) (Some request) log =
-    taken_acts c bytes (request_effect config polled c request (bench log)) (aborts request (bench log)) log
+    taken_acts c bytes (request_effect config polled c request (device_acts log)) (aborts request (device_acts log)) log
 turn_acts config polled c _ _ log = []
 
 -- the acts of a Refuse: the call is taken, and answered at once
@@ -59,14 +59,14 @@ own_acts config polled (Bytes c piece) log = On c (Piece piece) ∷ []
 own_acts config polled (Turn c) log = turn_acts config polled c (next_call (of c log)) (next_request (of c log)) log
 own_acts config polled (Refuse c) log = refuse_acts c (next_call (of c log)) (refusable (of c log))
 own_acts config polled (Took (Conn c) count) log = On c (BytesTaken count) ∷ []
-own_acts config polled (Took (Intr c) count) log = Bench (Channel (ChannelTaken c count)) ∷ []
+own_acts config polled (Took (Intr c) count) log = OnDevice (Channel (ChannelTaken c count)) ∷ []
 own_acts config polled (Close (Conn c)) log =
-    map Bench (Channel (ChannelClosed c) ∷ map Linked (closing c (link_acts (bench log))) ++ Waited (Left c) ∷ []) ++ On c PortClosed ∷ []
-own_acts config polled (Close (Intr c)) log = Bench (Channel (ChannelClosed c)) ∷ []
+    map OnDevice (Channel (ChannelClosed c) ∷ map Linked (closing c (link_acts (device_acts log))) ++ Waited (Left c) ∷ []) ++ On c PortClosed ∷ []
+own_acts config polled (Close (Intr c)) log = OnDevice (Channel (ChannelClosed c)) ∷ []
 own_acts config polled (Dialed c ok) log = acts_of c (connected c ok (core_call_in (unanswered (of c log))))
-own_acts config polled (Input channel microvolts) log = Bench (Happened (Scanned (InputTo channel microvolts))) ∷ []
-own_acts config polled External log = map Bench (map Happened (external_acts (instrument_acts (bench log))))
-own_acts config polled Tick log = map Bench (map Happened (tick_acts (instrument_acts (bench log)))) ++ Bench Ticked ∷ []
+own_acts config polled (Input channel microvolts) log = OnDevice (Happened (Scanned (InputTo channel microvolts))) ∷ []
+own_acts config polled External log = map OnDevice (map Happened (external_acts (instrument_acts (device_acts log))))
+own_acts config polled Tick log = map OnDevice (map Happened (tick_acts (instrument_acts (device_acts log)))) ++ OnDevice Ticked ∷ []
 
 -- whether a number isn't that of an open connection
 abbrev pub is_shut : ℕ → List Act → Bool
@@ -74,7 +74,7 @@ is_shut c log = nat_lt 15 c || not (is_open (of c log))
 
 -- whether the interrupt channel of this number isn't open
 abbrev pub is_channel_shut : ℕ → List Act → Bool
-is_channel_shut c log = nat_lt 15 c || not (has_channel c (bench log))
+is_channel_shut c log = nat_lt 15 c || not (has_channel c (device_acts log))
 
 -- and of either
 abbrev pub is_port_shut : Port → List Act → Bool
@@ -121,16 +121,16 @@ refusal config told (Took (Intr c) count) log =
     if is_channel_shut c log then Some NoConn else took_refusal count (channel_waiting c told)
 refusal config told (Close (Conn c)) log = unless_shut c log None
 refusal config told (Close (Intr c)) log = if is_channel_shut c log then Some NoConn else None
-refusal config told (Dialed c ok) log = unless_shut c log (if is_dialing c (wait_acts (bench log)) then None else Some NoDial)
+refusal config told (Dialed c ok) log = unless_shut c log (if is_dialing c (wait_acts (device_acts log)) then None else Some NoDial)
 refusal config told (Input channel microvolts) log = input_refusal channel microvolts
 refusal config told External log = None
-refusal config told Tick log = if config.clock + ticks (bench log) == last_clock then Some TimeOver else None
+refusal config told Tick log = if config.clock + ticks (device_acts log) == last_clock then Some TimeOver else None
 
 -- The log of a history: each event's own acts, and then the steps that are due. Each number of a history lies in its range.
 abbrev pub IsLogOf : Config → List PlainEvent → List Act → Type 0
 IsLogOf config [] log = IsConfig config × (log ≡ [])
 IsLogOf config (event ∷ history) log = (before : List Act) × (polled : ℕ) × (told : List ChannelAct) × IsEvent event
-    × IsLogOf config history before × Tells (bench before) told × (refusal config told event before ≡ None) × IsPolled polled (bench before)
+    × IsLogOf config history before × HearsOf (device_acts before) told × (refusal config told event before ≡ None) × IsPolled polled (device_acts before)
     × Settles config (own_acts config polled event before ++ before) log
 
 -- what an event that wasn't refused does: a Turn that finds no call to take is idle
@@ -139,19 +139,19 @@ did (Turn c) log = if is_idle (of c log) then Idle else Done
 did _ log = Done
 
 -- whether acts make a link, or let a create_link or a create_intr_chan wait: what alone wants memory
-abbrev pub wants_memory : List BenchAct → Bool
+abbrev pub wants_memory : List DeviceAct → Bool
 wants_memory acts = nat_lt 0 (made (link_acts acts)) || (nat_lt 0 (creating (wait_acts acts)) || nat_lt 0 (dialing (wait_acts acts)))
 
 -- What a call of the server answers: what the event does, or what refuses it. Memory may be wanting only for an event that nothing else
 -- refuses, and that makes a link, or lets a create_link or a create_intr_chan wait.
 abbrev pub AnswersBy : Config → List ChannelAct → PlainEvent → List Act → Result Did Refused → Type 0
 AnswersBy config told event log (Ok what) = (refusal config told event log ≡ None) × (what ≡ did event log)
-AnswersBy config told event log (Err NoMemory) = (refusal config told event log ≡ None) × (polled : ℕ) × IsPolled polled (bench log)
-    × (wants_memory (bench (own_acts config polled event log)) ≡ true)
+AnswersBy config told event log (Err NoMemory) = (refusal config told event log ≡ None) × (polled : ℕ) × IsPolled polled (device_acts log)
+    × (wants_memory (device_acts (own_acts config polled event log)) ≡ true)
 AnswersBy config told event log (Err refused) = refusal config told event log ≡ Some refused
 
 abbrev pub Answers : Config → PlainEvent → List Act → Result Did Refused → Type 0
-Answers config event log result = (told : List ChannelAct) × Tells (bench log) told × AnswersBy config told event log result
+Answers config event log result = (told : List ChannelAct) × HearsOf (device_acts log) told × AnswersBy config told event log result
 
 -- the history with the event, unless it was refused
 abbrev pub history_after : PlainEvent → Result Did Refused → List PlainEvent → List PlainEvent

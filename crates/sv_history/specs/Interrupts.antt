@@ -10,14 +10,14 @@ use Rattle.sv_links.specs.declared.waiting.Wait.TheVariants.{Dial as Dialing}
 use Rattle.sv_links.specs.Waiting.{WaitAct, waits, connections}
 use Rattle.sv_links.specs.Channels.{SrqEnabled, SrqDisabled, ChannelOpened, ChannelClosed, is_channel_open}
 use Rattle.sv_history.specs.declared.event.Dial.{Dial}
-use Rattle.sv_history.specs.Act.{Act, BenchAct, Channel, of, bench, wait_acts, channel_acts}
+use Rattle.sv_history.specs.Act.{Act, DeviceAct, Channel, of, device_acts, wait_acts, channel_acts}
 use Rattle.sv_history.specs.Connection.{unanswered}
 use Rattle.sv_history.specs.CallOutcome.{CallOutcome, answered, only}
 use Rattle.sv_history.specs.CoreCall.{CoreCall, failure}
 use Rattle.sv_history.specs.Request.{core_call_in}
 
 -- whether the interrupt channel of a connection is open
-abbrev pub has_channel : ℕ → List BenchAct → Bool
+abbrev pub has_channel : ℕ → List DeviceAct → Bool
 has_channel c acts = is_channel_open c (channel_acts acts)
 
 -- a link asks for service requests, with a handle of at most 40 bytes, or asks no more
@@ -42,7 +42,7 @@ channel_fault there host_addr host_port prog_family =
     else (if not (is_peer host_addr host_port) then Some InvalidAddress else None))
 
 -- the channel is closed, where one is open
-abbrev pub destroy_channel : ℕ → List BenchAct → CallOutcome
+abbrev pub destroy_channel : ℕ → List DeviceAct → CallOutcome
 destroy_channel c acts = if has_channel c acts then answered (Channel (ChannelClosed c) ∷ []) (Plain NoError)
     else only (Plain NotEstablished)
 
@@ -70,7 +70,7 @@ dial_in None = None
 
 -- of the call of a connection that waits for it
 abbrev pub dial_of : ℕ → List Act → Option Dial
-dial_of c log = if is_dialing c (wait_acts (bench log)) then dial_in (core_call_in (unanswered (of c log))) else None
+dial_of c log = if is_dialing c (wait_acts (device_acts log)) then dial_in (core_call_in (unanswered (of c log))) else None
 
 -- The peer was called, and the channel is open; or it can't be.
 abbrev pub end_channel : ℕ → Bool → Peer → CallOutcome

@@ -4,14 +4,14 @@ use Rattle.sv_links.specs.Channels.{ChannelAct}
 use Rattle.sv_history.specs.declared.event.Config.{Config}
 use Rattle.sv_history.specs.declared.event.Port.{Port}
 use Rattle.sv_history.specs.Event.{PlainEvent}
-use Rattle.sv_history.specs.Act.{Act, bench}
+use Rattle.sv_history.specs.Act.{Act, device_acts}
 use Rattle.sv_history.specs.Connection.{waiting_on}
-use Rattle.sv_history.specs.Requests.{Tells}
+use Rattle.sv_history.specs.Requests.{HearsOf}
 use Rattle.sv_history.specs.History.{IsLogOf}
 
 -- These are the bytes that wait on a port, by the history's log and what it tells to interrupt channels.
 abbrev pub WaitOn : Port → Config → List PlainEvent → List ℕ → Type 0
-WaitOn port config history bytes = (log : List Act) × (told : List ChannelAct) × IsLogOf config history log × Tells (bench log) told
+WaitOn port config history bytes = (log : List Act) × (told : List ChannelAct) × IsLogOf config history log × HearsOf (device_acts log) told
     × (bytes ≡ waiting_on told port log)
 
 -- The result is this function of the history's log.

@@ -4,7 +4,7 @@ use Rattle.std.specs.Prelude.{◌≡◌, ◌↔◌, Bool, true, false, List, [],
 use Rattle.sv_links.specs.Links.{LinkAct, Made, Destroyed, Locked, Unlocked}
 use Rattle.sv_links.specs.Channels.{ChannelAct, SrqDisabled, Requested}
 use Rattle.sv_layers.specs.StatusByte.{IsRaised}
-use Rattle.sv_history.specs.Act.{BenchAct, Linked, Waited, Channel, Happened, Ticked, instrument_acts}
+use Rattle.sv_history.specs.Act.{DeviceAct, Linked, Waited, Channel, Happened, Ticked, instrument_acts}
 
 -- what a link's act is to them
 abbrev pub link_told : LinkAct → List ChannelAct → List ChannelAct
@@ -19,11 +19,11 @@ request_told true told = Requested ∷ told
 request_told false told = told
 
 -- The acts tell them this.
-abbrev pub Tells : List BenchAct → List ChannelAct → Type 0
-Tells [] told = told ≡ []
-Tells (Channel act ∷ acts) told = (before : List ChannelAct) × Tells acts before × (told ≡ act ∷ before)
-Tells (Linked act ∷ acts) told = (before : List ChannelAct) × Tells acts before × (told ≡ link_told act before)
-Tells (Happened act ∷ acts) told = (before : List ChannelAct) × (raised : Bool) × Tells acts before
+abbrev pub HearsOf : List DeviceAct → List ChannelAct → Type 0
+HearsOf [] told = told ≡ []
+HearsOf (Channel act ∷ acts) told = (before : List ChannelAct) × HearsOf acts before × (told ≡ act ∷ before)
+HearsOf (Linked act ∷ acts) told = (before : List ChannelAct) × HearsOf acts before × (told ≡ link_told act before)
+HearsOf (Happened act ∷ acts) told = (before : List ChannelAct) × (raised : Bool) × HearsOf acts before
     × ((raised ≡ true) ↔ IsRaised (act ∷ instrument_acts acts)) × (told ≡ request_told raised before)
-Tells (Waited act ∷ acts) told = Tells acts told
-Tells (Ticked ∷ acts) told = Tells acts told
+HearsOf (Waited act ∷ acts) told = HearsOf acts told
+HearsOf (Ticked ∷ acts) told = HearsOf acts told

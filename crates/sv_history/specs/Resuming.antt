@@ -8,7 +8,7 @@ use Rattle.sv_links.specs.declared.waiting.Wait.{Wait}
 use Rattle.sv_links.specs.declared.waiting.Wait.TheVariants.{Lock, Input, Response, Dial}
 use Rattle.sv_links.specs.Waiting.{Again, Left}
 use Rattle.sv_history.specs.declared.event.Config.{Config}
-use Rattle.sv_history.specs.Act.{BenchAct, Waited}
+use Rattle.sv_history.specs.Act.{DeviceAct, Waited}
 use Rattle.sv_history.specs.CallOutcome.{CallOutcome, only, suspended}
 use Rattle.sv_history.specs.Effect.{Effect, call_effect}
 use Rattle.sv_history.specs.CoreCall.{CoreCall, failure}
@@ -21,13 +21,13 @@ abbrev pub leaving : ℕ → CallOutcome → CallOutcome
 leaving c outcome = record outcome { adds = outcome.adds ++ Waited (Left c) ∷ [] }
 
 -- what a call waits for next that waited for the lock; one that waited for something else is done
-abbrev pub next_wait : Wait → Arguments → List BenchAct → Option Wait
+abbrev pub next_wait : Wait → Arguments → List DeviceAct → Option Wait
 next_wait Lock arguments acts = device_wait arguments acts
 next_wait Input arguments acts = None
 next_wait Response arguments acts = None
 next_wait Dial arguments acts = None
 
-abbrev pub continued : Config → ℕ → ℕ → Arguments → Option Wait → List BenchAct → CallOutcome
+abbrev pub continued : Config → ℕ → ℕ → Arguments → Option Wait → List DeviceAct → CallOutcome
 continued config polled c arguments (Some wait) acts = suspended (Again c wait (deadline config (io_timeout arguments) acts))
 continued config polled c arguments None acts = leaving c (own_call config polled c arguments (Waited (Left c) ∷ acts))
 
@@ -38,7 +38,7 @@ effect_of c does None = record { own = []; adds = Waited (Left c) ∷ [] }
 
 -- A call that waited for this resumes: it is done, or waits anew with its place kept, from now on. The link and the lock aren't looked at
 -- again.
-abbrev pub resumed : Config → ℕ → ℕ → Wait → Option CoreCall → List BenchAct → Effect
+abbrev pub resumed : Config → ℕ → ℕ → Wait → Option CoreCall → List DeviceAct → Effect
 resumed config polled c wait call acts =
     effect_of c (λ arguments. continued config polled c arguments (next_wait wait arguments acts) acts) call
 

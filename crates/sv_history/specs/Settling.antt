@@ -8,7 +8,7 @@ use Rattle.sv_layers.specs.Act.{Act as InstrumentAct}
 use Rattle.sv_instrument.specs.Stimulus.{IsFired}
 use Rattle.sv_instrument.specs.Step.{IsStep, is_answerable}
 use Rattle.sv_history.specs.declared.event.Config.{Config}
-use Rattle.sv_history.specs.Act.{Act, BenchAct, Happened, Bench, of, bench, link_acts, wait_acts, instrument_acts, exchange_acts, ticks}
+use Rattle.sv_history.specs.Act.{Act, DeviceAct, Happened, OnDevice, of, device_acts, link_acts, wait_acts, instrument_acts, exchange_acts, ticks}
 use Rattle.sv_history.specs.Connection.{unanswered}
 use Rattle.sv_history.specs.PolledStatus.{IsPolled}
 use Rattle.sv_history.specs.Request.{core_call_in}
@@ -16,26 +16,26 @@ use Rattle.sv_history.specs.Effect.{acts_of}
 use Rattle.sv_history.specs.Resuming.{resumed, failed, late}
 
 -- The instrument does what is due of this kind.
-abbrev pub Happens : (List InstrumentAct → List InstrumentAct → Type 0) → List Act → List Act → Type 0
-Happens IsSuch log new = (adds : List InstrumentAct) × IsSuch (instrument_acts (bench log)) (adds ++ instrument_acts (bench log))
-    × (new ≡ map Bench (map Happened adds) ++ log)
+abbrev pub InstrumentDoes : (List InstrumentAct → List InstrumentAct → Type 0) → List Act → List Act → Type 0
+InstrumentDoes IsSuch log new = (adds : List InstrumentAct) × IsSuch (instrument_acts (device_acts log)) (adds ++ instrument_acts (device_acts log))
+    × (new ≡ map OnDevice (map Happened adds) ++ log)
 
 -- The call of a connection can go on.
-abbrev pub CanGoOn : List BenchAct → ℕ → Type 0
+abbrev pub CanGoOn : List DeviceAct → ℕ → Type 0
 CanGoOn acts = IsAble (holder (link_acts acts)) (not (has_ended (exchange_acts acts))) (is_answerable (instrument_acts acts))
     (wait_acts acts)
 
 -- The oldest call that can go on does.
 abbrev pub GoesOn : Config → List Act → List Act → Type 0
-GoesOn config log new = (c : ℕ) × (wait : Wait) × (polled : ℕ) × IsOldest (wait_acts (bench log)) (CanGoOn (bench log)) (Some c)
-    × (waits c (wait_acts (bench log)) ≡ Some wait) × IsPolled polled (bench log)
-    × (new ≡ acts_of c (resumed config polled c wait (core_call_in (unanswered (of c log))) (bench log)) ++ log)
+GoesOn config log new = (c : ℕ) × (wait : Wait) × (polled : ℕ) × IsOldest (wait_acts (device_acts log)) (CanGoOn (device_acts log)) (Some c)
+    × (waits c (wait_acts (device_acts log)) ≡ Some wait) × IsPolled polled (device_acts log)
+    × (new ≡ acts_of c (resumed config polled c wait (core_call_in (unanswered (of c log))) (device_acts log)) ++ log)
 
 -- The oldest call whose deadline has come is given up.
 abbrev pub GivesUp : Config → List Act → List Act → Type 0
 GivesUp config log new = (c : ℕ) × (wait : Wait)
-    × IsOldest (wait_acts (bench log)) (IsExpired (config.clock + ticks (bench log)) (wait_acts (bench log))) (Some c)
-    × (waits c (wait_acts (bench log)) ≡ Some wait)
+    × IsOldest (wait_acts (device_acts log)) (IsExpired (config.clock + ticks (device_acts log)) (wait_acts (device_acts log))) (Some c)
+    × (waits c (wait_acts (device_acts log)) ≡ Some wait)
     × (new ≡ acts_of c (failed (late wait) c (core_call_in (unanswered (of c log)))) ++ log)
 
 -- The first step is taken, or, where there is none, the second.
@@ -45,7 +45,7 @@ First IsOne IsOther new = IsOne new ⊎ (((one : List Act) → IsOne one → ⊥
 -- The step that is due in a log makes another of it: a trigger that comes at once; else a call that waits goes on; else a step of message
 -- exchange; else a call that waits is given up.
 abbrev pub IsNext : Config → List Act → List Act → Type 0
-IsNext config log = First (Happens IsFired log) (First (GoesOn config log) (First (Happens IsStep log) (GivesUp config log)))
+IsNext config log = First (InstrumentDoes IsFired log) (First (GoesOn config log) (First (InstrumentDoes IsStep log) (GivesUp config log)))
 
 -- No step is due in a log.
 abbrev pub IsSettled : Config → List Act → Type 0

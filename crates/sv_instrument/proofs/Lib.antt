@@ -3,5 +3,5 @@ pub mod Paths
 pub mod Units
 pub mod Words
 pub mod Dues
-pub mod Steps
+pub mod NextStep
 pub mod OneStep

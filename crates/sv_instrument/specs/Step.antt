@@ -1,5 +1,5 @@
 -- The step of message exchange that is due (IEEE 488.2, 6.1.4 and 6.3): a held unit ends, or the next unit starts, or a message that is
--- too long is reported, or one that has released is finished.
+-- too long is reported, or one that has ended is finished.
 use Rattle.std.specs.Prelude.{◌≡◌, ℕ, Bool, true, false, not, ◌&&◌, ◌||◌, List, ◌∷◌, Option, Some, None, Result, Ok, Err, codes}
 use Rattle.sv_errors.specs.declared.code.Code.{Code}
 use Rattle.sv_errors.specs.declared.code.Code.TheVariants.{InputBufferOverrun, QueryInterrupted}

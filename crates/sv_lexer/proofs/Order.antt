@@ -6,23 +6,23 @@ use Rattle.sv_text.specs.White.{trim, is_white}
 use Rattle.sv_text.proofs.Places.{place_within}
 use Rattle.sv_lexer.specs.Order.{InOrder}
 use Rattle.sv_lexer.specs.Unit.{white_size, header_size, header, rest}
-use Rattle.sv_lexer.specs.Parameters.{part_place, parameter_parts}
+use Rattle.sv_lexer.specs.Parameters.{part_place, parts}
 use Rattle.sv_lexer.proofs.Standing.{stands_trim, stands_within}
 
 -- the part in front counts with its comma
-place_cons : (k : ℕ) (part : List ℕ) (parameter_parts : List (List ℕ)) → part_place (suc k) (part ∷ parameter_parts) ≡ length part + 1 + part_place k parameter_parts
-place_cons k part parameter_parts = sum_by-append (λ p. length p + 1) (part ∷ []) (take k parameter_parts) ∙ omega arith
+place_cons : (k : ℕ) (part : List ℕ) (parts : List (List ℕ)) → part_place (suc k) (part ∷ parts) ≡ length part + 1 + part_place k parts
+place_cons k part parts = sum_by-append (λ p. length p + 1) (part ∷ []) (take k parts) ∙ omega arith
 
 -- a later part stands behind an earlier one and its comma
-parts_in_order : (i j : ℕ) (parameter_parts : List (List ℕ)) → i < j → j < length parameter_parts
-    → part_place i parameter_parts + length (slice_index_or parameter_parts i []) < part_place j parameter_parts
-parts_in_order i zero parameter_parts lt within = absurd (omega (arith, lt))
+parts_in_order : (i j : ℕ) (parts : List (List ℕ)) → i < j → j < length parts
+    → part_place i parts + length (slice_index_or parts i []) < part_place j parts
+parts_in_order i zero parts lt within = absurd (omega (arith, lt))
 parts_in_order i (suc j) [] lt within = absurd (omega (arith, within))
-parts_in_order zero (suc j) (part ∷ parameter_parts) lt within = let next = place_cons j part parameter_parts in omega (arith, next)
-parts_in_order (suc i) (suc j) (part ∷ parameter_parts) lt within =
-    let here = place_cons i part parameter_parts in
-    let there = place_cons j part parameter_parts in
-    let behind = parts_in_order i j parameter_parts (omega (arith, lt)) (omega (arith, within)) in
+parts_in_order zero (suc j) (part ∷ parts) lt within = let next = place_cons j part parts in omega (arith, next)
+parts_in_order (suc i) (suc j) (part ∷ parts) lt within =
+    let here = place_cons i part parts in
+    let there = place_cons j part parts in
+    let behind = parts_in_order i j parts (omega (arith, lt)) (omega (arith, within)) in
     omega (arith, here, there, behind)
 
 pub in_order : InOrder
@@ -30,9 +30,9 @@ in_order = (
   (λ unit index. (let short : length (header unit) ≡ header_size unit =
       length-take-le (header_size unit) (trim unit) (place_within is_white (trim unit)) in omega (arith, short))),
   (λ unit first second lt within.
-      (let part : List ℕ = slice_index_or (parameter_parts (rest unit)) first [] in
+      (let part : List ℕ = slice_index_or (parts (rest unit)) first [] in
       let inner : white_size part + length (trim part) ≤ length part =
       stands_within part (trim part) (white_size part) (stands_trim part) in
-      let order = parts_in_order first second (parameter_parts (rest unit)) lt within in
+      let order = parts_in_order first second (parts (rest unit)) lt within in
       omega (arith, inner, order))),
 )

@@ -6,7 +6,7 @@ use Rattle.sv_text.proofs.Places.{place_within}
 use Rattle.sv_lexer.specs.declared.token.Token.{Token}
 use Rattle.sv_lexer.specs.Token.{StandsAt, IsToken, kind_of, told}
 use Rattle.sv_lexer.specs.Unit.{white_size, header_size, header, header_place, rest, rest_place}
-use Rattle.sv_lexer.specs.Parameters.{cut_outside, parameter_parts, part_place, count, parameter, parameter_place}
+use Rattle.sv_lexer.specs.Parameters.{cut_outside, parts, part_place, count, parameter, parameter_place}
 use Rattle.sv_lexer.proofs.Standing.{stands_in, stands_take, stands_drop, stands_start, stands_trim}
 
 -- at an equal place
@@ -48,7 +48,7 @@ split_holds unit stripped text begin size space token inner first at behind skip
     )
 
 -- where there is a part, there is text
-parts_some : (text : List ℕ) (index : ℕ) → index < length (parameter_parts text) → parameter_parts text ≡ cut_outside [] text
+parts_some : (text : List ℕ) (index : ℕ) → index < length (parts text) → parts text ≡ cut_outside [] text
 parts_some [] index lt = absurd (omega (arith, lt))
 parts_some (b ∷ text) index lt = refl
 
@@ -60,10 +60,10 @@ pub parameter_holds : (unit text part : List ℕ) (base index place space : ℕ)
     → space ≡ white_size part → token.text.now ≡ trim part → token.start ≡ told (base + place + space) → token.kind ≡ kind_of (trim part)
     → (index < count unit) × IsToken unit (parameter_place unit index) (parameter unit index) token
 parameter_holds unit text part base index place space token whole at stands lt part_is place_is inner space_is slice start kind =
-    let cut : cut_outside [] text ≡ parameter_parts (rest unit) = ap (cut_outside []) whole ∙ sym (parts_some (rest unit) index lt) in
-    let same : part ≡ slice_index_or (parameter_parts (rest unit)) index [] = part_is ∙ ap (λ ps. slice_index_or ps index []) cut in
-    let begins : place ≡ part_place index (parameter_parts (rest unit)) = place_is ∙ ap (part_place index) cut in
-    let white : space ≡ white_size (slice_index_or (parameter_parts (rest unit)) index []) = space_is ∙ ap white_size same in
+    let cut : cut_outside [] text ≡ parts (rest unit) = ap (cut_outside []) whole ∙ sym (parts_some (rest unit) index lt) in
+    let same : part ≡ slice_index_or (parts (rest unit)) index [] = part_is ∙ ap (λ ps. slice_index_or ps index []) cut in
+    let begins : place ≡ part_place index (parts (rest unit)) = place_is ∙ ap (part_place index) cut in
+    let white : space ≡ white_size (slice_index_or (parts (rest unit)) index []) = space_is ∙ ap white_size same in
     let place_all : base + place + space ≡ parameter_place unit index = omega (arith, at, begins, white) in
     let there : StandsAt unit (base + place + space) (trim part) =
     stands_same unit (trim part) (base + place + white_size part) (base + place + space) (omega (arith, space_is))

@@ -19,21 +19,21 @@ cut_outside before [] = [] ∷ []
 cut_outside before (b ∷ bytes) = if b == 44 && not (is_open before) then []
     ∷ cut_outside (b ∷ before) bytes else onto b (cut_outside (b ∷ before) bytes)
 
--- the parameter_parts between these commas; none where there is no text
-abbrev pub parameter_parts : List ℕ → List (List ℕ)
-parameter_parts [] = []
-parameter_parts (b ∷ text) = cut_outside [] (b ∷ text)
+-- the parts between these commas; none where there is no text
+abbrev pub parts : List ℕ → List (List ℕ)
+parts [] = []
+parts (b ∷ text) = cut_outside [] (b ∷ text)
 
--- where a part stands: behind the parameter_parts before it, and their commas
+-- where a part stands: behind the parts before it, and their commas
 abbrev pub part_place : ℕ → List (List ℕ) → ℕ
-part_place index parameter_parts = sum_by (λ part. length part + 1) (take index parameter_parts)
+part_place index parts = sum_by (λ part. length part + 1) (take index parts)
 
 -- how many parameters a unit has
 abbrev pub count : List ℕ → ℕ
-count unit = length (parameter_parts (rest unit))
+count unit = length (parts (rest unit))
 
 abbrev part : List ℕ → ℕ → List ℕ
-part unit index = slice_index_or (parameter_parts (rest unit)) index []
+part unit index = slice_index_or (parts (rest unit)) index []
 
 -- a parameter: a part without white space around it
 abbrev pub parameter : List ℕ → ℕ → List ℕ
@@ -41,7 +41,7 @@ parameter unit index = trim (part unit index)
 
 -- and where it stands
 abbrev pub parameter_place : List ℕ → ℕ → ℕ
-parameter_place unit index = rest_place unit + part_place index (parameter_parts (rest unit)) + white_size (part unit index)
+parameter_place unit index = rest_place unit + part_place index (parts (rest unit)) + white_size (part unit index)
 
 abbrev pub is_blank : List ℕ → Bool
 is_blank part = is_empty (trim part)
@@ -50,7 +50,7 @@ is_blank part = is_empty (trim part)
 abbrev pub parameters_fault : List ℕ → Option Code
 parameters_fault unit =
     if is_open (reverse (rest unit)) then Some InvalidExpression
-    else if list_any is_blank (parameter_parts (rest unit)) then Some SyntaxError
+    else if list_any is_blank (parts (rest unit)) then Some SyntaxError
     else None
 
 -- whether a parenthesis is open behind a byte, if one was in front of it

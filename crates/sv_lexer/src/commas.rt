@@ -3,7 +3,7 @@
 ghost use Rattle.std.specs.Prelude.{◌≡◌, ◌<◌, ◌≤◌, ◌+◌, ◌++◌, [], ◌∷◌, true, false, reverse, length, slice_index_or, MatchOption};
 ghost use Rattle.std.specs.List.{list_any};
 ghost use Rattle.sv_lexer.specs.Token.{StandsAt};
-ghost use Rattle.sv_lexer.specs.Parameters.{cut_outside, first_size, is_blank as is_blank_part, is_open as is_open_behind, opens, part_place, parameter_parts};
+ghost use Rattle.sv_lexer.specs.Parameters.{cut_outside, first_size, is_blank as is_blank_part, is_open as is_open_behind, opens, part_place, parts};
 
 use sv_text::trim;
 
@@ -24,9 +24,9 @@ pub(crate) fn is_open(text: &[u8]) -> bool
 
 /// How many parts there are between commas; none where one of them is blank.
 pub(crate) fn filled(text: &[u8]) -> Option<usize>
-    ensures { MatchOption result (list_any is_blank_part (parameter_parts text.now) ≡ true)
-        (λ count. (list_any is_blank_part (parameter_parts text.now) ≡ false)
-        × (count ≡ length (parameter_parts text.now))) }
+    ensures { MatchOption result (list_any is_blank_part (parts text.now) ≡ true)
+        (λ count. (list_any is_blank_part (parts text.now) ≡ false)
+        × (count ≡ length (parts text.now))) }
 {
     if text.is_empty() {
         return Some(0);
@@ -73,7 +73,7 @@ fn is_blank(part: &[u8]) -> bool
 /// The part in front of the first comma outside of parentheses, and what stands behind that; none
 /// where there is no such comma, and then the part is all of the text.
 fn first_outside(text: &[u8]) -> (&[u8], Option<&[u8]>)
-    ensures parameter_parts { MatchOption result.1 (cut_outside [] text.now ≡ result.0.now ∷ [])
+    ensures parts { MatchOption result.1 (cut_outside [] text.now ≡ result.0.now ∷ [])
         (λ behind. cut_outside [] text.now ≡ result.0.now ∷ cut_outside [] behind.now) }
     ensures whole { MatchOption result.1 (result.0.now ≡ text.now)
         (λ behind. text.now ≡ result.0.now ++ 44 ∷ behind.now) }

@@ -7,20 +7,20 @@ use Rattle.sv_links.specs.declared.request.Peer.{Peer}
 use Rattle.sv_links.specs.Channels.{ChannelAct, ChannelTaken, is_channel_open, taken, calls, left_of, waiting as channel_waiting}
 use Rattle.sv_links.specs.ChannelRepresentation.{AreChannels}
 use Rattle.sv_history.specs.declared.event.Config.{Config}
-use Rattle.sv_history.specs.Act.{Act, BenchAct, of, bench, wait_acts}
-use Rattle.sv_history.specs.Requests.{Tells}
+use Rattle.sv_history.specs.Act.{Act, DeviceAct, of, device_acts, wait_acts}
+use Rattle.sv_history.specs.Requests.{HearsOf}
 use Rattle.sv_history.specs.Interrupts.{has_channel, is_dial, is_dialing, dial_of, dial_in}
 use Rattle.sv_history.specs.Connection.{unanswered}
 use Rattle.sv_history.specs.Request.{core_call_in}
 use Rattle.sv_history.specs.declared.event.Refused.TheVariants.{NotSent}
 use Rattle.sv_links.specs.Waiting.{WaitAct, waits}
-use Rattle.sv_server.specs.KeptBench.{Bench as KeptBench, IsBench}
+use Rattle.sv_server.specs.DeviceRepresentation.{Device as KeptDevice, IsDevice}
 use Rattle.sv_history.specs.History.{is_channel_shut, took_refusal}
 use Rattle.sv_history.proofs.Telling.{tells_once}
 
 -- what is kept of them, by what the acts tell
-channels_of : (kept : KeptBench) (config : Config) (acts : List BenchAct) (told : List ChannelAct) → IsBench kept config acts
-    → Tells acts told → AreChannels kept.intr told
+channels_of : (kept : KeptDevice) (config : Config) (acts : List DeviceAct) (told : List ChannelAct) → IsDevice kept config acts
+    → HearsOf acts told → AreChannels kept.intr told
 channels_of kept config acts told is tells =
     subst (λ (l : List ChannelAct). AreChannels kept.intr l) (tells_once acts is.6.0 told is.6.1 tells) is.6.2
 
@@ -36,26 +36,26 @@ pub channel_open : (c : ℕ) (told : List ChannelAct) → 0 < length (channel_wa
 channel_open c told some = waits_where (is_channel_open c told) (concat (left_of (taken c told) (calls c told))) some
 
 -- and none is open whose number is above 15
-beyond_shut : (kept : KeptBench) (config : Config) (acts : List BenchAct) (told : List ChannelAct) (c : ℕ) → IsBench kept config acts
-    → Tells acts told → 16 ≤ c → is_channel_open c told ≡ false
+beyond_shut : (kept : KeptDevice) (config : Config) (acts : List DeviceAct) (told : List ChannelAct) (c : ℕ) → IsDevice kept config acts
+    → HearsOf acts told → 16 ≤ c → is_channel_open c told ≡ false
 beyond_shut kept config acts told c is tells above =
     ap (λ (o : Option Peer). is_some o) ((channels_of kept config acts told is tells).beyond c above)
 
-pub none_beyond : (kept : KeptBench) (config : Config) (acts : List BenchAct) (told : List ChannelAct) (c : ℕ) → IsBench kept config acts
-    → Tells acts told → 16 ≤ c → channel_waiting c told ≡ []
+pub none_beyond : (kept : KeptDevice) (config : Config) (acts : List DeviceAct) (told : List ChannelAct) (c : ℕ) → IsDevice kept config acts
+    → HearsOf acts told → 16 ≤ c → channel_waiting c told ≡ []
 none_beyond kept config acts told c is tells above =
     waits_nowhere (is_channel_open c told) (concat (left_of (taken c told) (calls c told)))
     (beyond_shut kept config acts told c is tells above)
 
-pub channel_within : (kept : KeptBench) (config : Config) (acts : List BenchAct) (told : List ChannelAct) (c : ℕ)
-    → IsBench kept config acts → Tells acts told → is_channel_open c told ≡ true → c ≤ 15
+pub channel_within : (kept : KeptDevice) (config : Config) (acts : List DeviceAct) (told : List ChannelAct) (c : ℕ)
+    → IsDevice kept config acts → HearsOf acts told → is_channel_open c told ≡ true → c ≤ 15
 channel_within kept config acts told c is tells there = elim (cases_lt c 16) [
   | inl below_it ↦ omega arith
   | inr above ↦ absurd (let z : true ≡ false = sym there ∙ beyond_shut kept config acts told c is tells above in cc)
 ]
 
 -- whether the channel of a number is shut
-pub channel_shut_is : (c : ℕ) (log : List Act) (b : Bool) → c < 16 → has_channel c (bench log) ≡ b → is_channel_shut c log ≡ not b
+pub channel_shut_is : (c : ℕ) (log : List Act) (b : Bool) → c < 16 → has_channel c (device_acts log) ≡ b → is_channel_shut c log ≡ not b
 channel_shut_is c log b lt e = rw (le-ltb 15 c (omega arith), e) refl
 
 pub channel_beyond : (c : ℕ) (log : List Act) → 16 ≤ c → is_channel_shut c log ≡ true
@@ -77,9 +77,9 @@ pub dialing_waits : (c : ℕ) (acts : List WaitAct) → is_dialing c acts ≡ tr
 dialing_waits c acts e none = absurd (let z : false ≡ true = sym (ap is_dial none) ∙ e in cc)
 
 -- whom it asks to be called
-pub dial_is : (c : ℕ) (log : List Act) (call : Option (List ℕ)) → is_dialing c (wait_acts (bench log)) ≡ true
+pub dial_is : (c : ℕ) (log : List Act) (call : Option (List ℕ)) → is_dialing c (wait_acts (device_acts log)) ≡ true
     → unanswered (of c log) ≡ call → dial_of c log ≡ dial_in (core_call_in call)
 dial_is c log call dialing known = rw dialing (ap (λ (found : Option (List ℕ)). dial_in (core_call_in found)) known)
 
-pub no_dial : (c : ℕ) (log : List Act) → is_dialing c (wait_acts (bench log)) ≡ false → dial_of c log ≡ None
+pub no_dial : (c : ℕ) (log : List Act) → is_dialing c (wait_acts (device_acts log)) ≡ false → dial_of c log ≡ None
 no_dial c log idle = rw idle refl

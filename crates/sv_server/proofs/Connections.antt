@@ -10,8 +10,8 @@ use Rattle.sv_rpc.specs.RecordBuf.{room_of, used_by, next_among}
 use Rattle.sv_rpc.specs.Stream.{read, records_of, tail_of}
 use Rattle.sv_rpc.proofs.OneReading.{read_alone}
 use Rattle.sv_history.specs.Act.{ConnAct, CallTaken}
-use Rattle.sv_history.specs.Connection.{is_open, stream, ended, took_no_call, is_busy, next_call, is_idle, is_too_long, is_faulted, room}
-use Rattle.sv_server.specs.KeptConnection.{Connection, IsConnection}
+use Rattle.sv_history.specs.Connection.{is_open, stream, completed, took_no_call, is_busy, next_call, is_idle, is_too_long, is_faulted, room}
+use Rattle.sv_server.specs.ConnectionRepresentation.{Connection, IsConnection}
 use Rattle.sv_server.specs.Inside.Kept.{kept_next}
 
 -- ---- lists
@@ -53,13 +53,13 @@ some_stay (x ∷ xs) ys zs e some = λ none. absurd (let z = sym none ∙ e in c
 -- ---- the input
 
 pub records_are : (kept : Connection) (acts : List ConnAct) → IsConnection kept acts
-    → kept.input.records ≡ drop (ended acts) (records_of (stream acts))
-records_are kept acts is = is.input.kept ∙ ap (drop (ended acts)) (read_alone (stream acts) is.input.all kept.input.tail is.input.splits).0
+    → kept.input.records ≡ drop (completed acts) (records_of (stream acts))
+records_are kept acts is = is.input.kept ∙ ap (drop (completed acts)) (read_alone (stream acts) is.input.all kept.input.tail is.input.splits).0
 
 pub tail_is : (kept : Connection) (acts : List ConnAct) → IsConnection kept acts → kept.input.tail ≡ tail_of (stream acts)
 tail_is kept acts is = (read_alone (stream acts) is.input.all kept.input.tail is.input.splits).1
 
-few_ended : (kept : Connection) (acts : List ConnAct) → IsConnection kept acts → ended acts ≤ length (records_of (stream acts))
+few_ended : (kept : Connection) (acts : List ConnAct) → IsConnection kept acts → completed acts ≤ length (records_of (stream acts))
 few_ended kept acts is =
     omega (arith, is.input.bounded, ap length (read_alone (stream acts) is.input.all kept.input.tail is.input.splits).0)
 
@@ -69,7 +69,7 @@ next_is kept acts is =
     ap (λ (b : Bool). cond (b || kept.busy) None (slice_get kept.input.records 0)) is.faulted
     ∙ ap (λ (b : Bool). cond (took_no_call acts || b) None (slice_get kept.input.records 0)) is.busy
     ∙ ap (cond (took_no_call acts || is_busy acts) None)
-    (ap (λ (rs : List (List ℕ)). slice_get rs 0) (records_are kept acts is) ∙ first_left (records_of (stream acts)) (ended acts))
+    (ap (λ (rs : List (List ℕ)). slice_get rs 0) (records_are kept acts is) ∙ first_left (records_of (stream acts)) (completed acts))
 
 -- a fault that the buffer tells
 abbrev pub is_fault : Result (Option (List ℕ)) RpcFault → Bool
@@ -94,13 +94,13 @@ turned false false = refl
 pub faulted_is : (kept : Connection) (acts : List ConnAct) → IsConnection kept acts
     → (is_fault (next_among kept.input.records kept.input.tail) || kept.faulted) ≡ is_faulted acts
 faulted_is kept acts is =
-    let left : none_left kept.input.records ≡ eqb (ended acts) (length (records_of (stream acts))) =
-    ap none_left (records_are kept acts is) ∙ all_dropped (records_of (stream acts)) (ended acts) (few_ended kept acts is) in
+    let left : none_left kept.input.records ≡ eqb (completed acts) (length (records_of (stream acts))) =
+    ap none_left (records_are kept acts is) ∙ all_dropped (records_of (stream acts)) (completed acts) (few_ended kept acts is) in
     turned (is_fault (next_among kept.input.records kept.input.tail)) kept.faulted
     ∙ ap (λ (b : Bool). b || is_fault (next_among kept.input.records kept.input.tail)) is.faulted
     ∙ ap (λ (b : Bool). took_no_call acts || b) (fault_among kept.input.records kept.input.tail
     ∙ ap (λ (b : Bool). is_too_long kept.input.tail && b) left
-    ∙ ap (λ (t : Tail). is_too_long t && eqb (ended acts) (length (records_of (stream acts)))) (tail_is kept acts is))
+    ∙ ap (λ (t : Tail). is_too_long t && eqb (completed acts) (length (records_of (stream acts)))) (tail_is kept acts is))
 
 -- the one fault there is
 one_fault : (fault : RpcFault) (answer : Result (Option (List ℕ)) RpcFault) → answer ≡ Err fault → is_fault answer ≡ true
@@ -116,7 +116,7 @@ pub room_is : (kept : Connection) (acts : List ConnAct) → IsConnection kept ac
 room_is kept acts is opened =
     let open_now : is_open acts ≡ true = ap is_some (sym is.role) ∙ opened in
     rw open_now (ap (λ (rs : List (List ℕ)). 16384 - used_by rs kept.input.tail) (records_are kept acts is)
-    ∙ ap (λ (t : Tail). 16384 - used_by (drop (ended acts) (records_of (stream acts))) t) (tail_is kept acts is))
+    ∙ ap (λ (t : Tail). 16384 - used_by (drop (completed acts) (records_of (stream acts))) t) (tail_is kept acts is))
 
 pub no_room : (kept : Connection) (acts : List ConnAct) → IsConnection kept acts → kept.role ≡ None → 0 ≡ room acts
 no_room kept acts is shut =

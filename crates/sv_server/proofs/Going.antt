@@ -11,13 +11,13 @@ use Rattle.sv_links.specs.Waiting.{WaitAct, waits, is_there, is_lock}
 use Rattle.sv_links.specs.Queue.{IsEntry, entry_of, creates, creations, without}
 use Rattle.sv_layers.specs.Act.{Act as InstrumentAct}
 use Rattle.sv_history.specs.declared.event.Config.{Config}
-use Rattle.sv_history.specs.Act.{Act, Happened, Bench, of, bench, link_acts, wait_acts, instrument_acts}
+use Rattle.sv_history.specs.Act.{Act, Happened, OnDevice, of, device_acts, link_acts, wait_acts, instrument_acts}
 use Rattle.sv_history.specs.Connection.{unanswered}
 use Rattle.sv_history.specs.Request.{core_call}
 use Rattle.sv_history.specs.Effect.{Effect, acts_of}
-use Rattle.sv_history.specs.Settling.{CanGoOn, Happens}
-use Rattle.sv_server.specs.KeptConnection.{Connection}
-use Rattle.sv_server.specs.KeptBench.{Bench as KeptBench}
+use Rattle.sv_history.specs.Settling.{CanGoOn, InstrumentDoes}
+use Rattle.sv_server.specs.ConnectionRepresentation.{Connection}
+use Rattle.sv_server.specs.DeviceRepresentation.{Device as KeptDevice}
 use Rattle.sv_server.specs.State.{State, Represents, IsTaken, creates_link}
 use Rattle.sv_server.specs.Inside.Acting.{Concludes, WentOn, TakesStep, InstrumentSteps}
 use Rattle.sv_server.specs.Inside.Outcome.{MayGoOn, WaitsOn}
@@ -45,15 +45,15 @@ entry_there c acts None all does = absurd (does all)
 entry_there c acts (Some entry) all does = (entry, refl)
 
 pub taken_of : (state : State) (config : Config) (log : List Act) (c : ℕ) → Represents state config log
-    → (waits c (wait_acts (bench log)) ≡ None → ⊥) → (call : List ℕ) × (unanswered (of c log) ≡ Some call)
+    → (waits c (wait_acts (device_acts log)) ≡ None → ⊥) → (call : List ℕ) × (unanswered (of c log) ≡ Some call)
 taken_of state config log c rep does =
-    let (entry, found) = entry_there c (wait_acts (bench log)) (entry_of c state.bench.waiting) (rep.shared.4.all c) does in
-    let (call, known, makes) = taken_one (IsTaken log) c state.bench.waiting entry rep.taken found in
-    (call, subst (λ (d : ℕ). unanswered (of d log) ≡ Some call) (entry_conn c state.bench.waiting entry found) known)
+    let (entry, found) = entry_there c (wait_acts (device_acts log)) (entry_of c state.device.waiting) (rep.device.4.all c) does in
+    let (call, known, makes) = taken_one (IsTaken log) c state.device.waiting entry rep.taken found in
+    (call, subst (λ (d : ℕ). unanswered (of d log) ≡ Some call) (entry_conn c state.device.waiting entry found) known)
 
 -- it is on a connection that there may be
 pub within_of : (state : State) (config : Config) (log : List Act) (c : ℕ) → Represents state config log
-    → (waits c (wait_acts (bench log)) ≡ None → ⊥) → 16 ≤ c → ⊥
+    → (waits c (wait_acts (device_acts log)) ≡ None → ⊥) → 16 ≤ c → ⊥
 within_of state config log c rep does above =
     let (call, known) = taken_of state config log c rep does in
     let none : unanswered (of c log) ≡ None = ap unanswered (rep.beyond c above) in
@@ -61,13 +61,13 @@ within_of state config log c rep does above =
 
 -- ---- it is given up
 
-pub gave_up_stands : (state : State) (config : Config) (log : List Act) (c : ℕ) (effect : Effect) (kept : Connection) (shared : KeptBench)
+pub gave_up_stands : (state : State) (config : Config) (log : List Act) (c : ℕ) (effect : Effect) (kept : Connection) (device : KeptDevice)
     → Represents state config log → length state.connections ≡ 16 → c < 16
-    → Concludes effect config (of c log) (bench log) kept shared → shared.waiting ≡ without c state.bench.waiting
-    → Represents (record { connections = set state.connections c kept; bench = shared }) config (acts_of c effect ++ log)
-gave_up_stands state config log c effect kept shared rep sixteen lt done left =
-    resumed state config log c effect kept shared rep sixteen lt done
-    (rw left (taken_without c log (acts_of c effect ++ log) state.bench.waiting (λ d ne. others_effect c d effect log ne) rep.taken))
+    → Concludes effect config (of c log) (device_acts log) kept device → device.waiting ≡ without c state.device.waiting
+    → Represents (record { connections = set state.connections c kept; device = device }) config (acts_of c effect ++ log)
+gave_up_stands state config log c effect kept device rep sixteen lt done left =
+    resumed state config log c effect kept device rep sixteen lt done
+    (rw left (taken_without c log (acts_of c effect ++ log) state.device.waiting (λ d ne. others_effect c d effect log ne) rep.taken))
 
 -- ---- it goes on
 
@@ -85,13 +85,13 @@ went_taken c log call effect old new known (inr (none, wait, deadline, is, other
     one_call a b e = cc
 
 pub went_on_stands : (state : State) (config : Config) (log : List Act) (c : ℕ) (call : List ℕ) (effect : Effect) (kept : Connection)
-    (shared : KeptBench)
+    (device : KeptDevice)
     → Represents state config log → length state.connections ≡ 16 → c < 16 → unanswered (of c log) ≡ Some call
-    → WentOn effect c (core_call call) config (of c log) (bench log) state.bench.waiting kept shared
-    → Represents (record { connections = set state.connections c kept; bench = shared }) config (acts_of c effect ++ log)
-went_on_stands state config log c call effect kept shared rep sixteen lt known (done, waits) =
-    resumed state config log c effect kept shared rep sixteen lt done
-    (went_taken c log call effect state.bench.waiting shared.waiting known waits rep.taken)
+    → WentOn effect c (core_call call) config (of c log) (device_acts log) state.device.waiting kept device
+    → Represents (record { connections = set state.connections c kept; device = device }) config (acts_of c effect ++ log)
+went_on_stands state config log c call effect kept device rep sixteen lt known (done, waits) =
+    resumed state config log c effect kept device rep sixteen lt done
+    (went_taken c log call effect state.device.waiting device.waiting known waits rep.taken)
 
 -- a create_link that can go on finds the lock free
 free_for : (locked : Option ℕ) (can_write can_read : Bool) (wait : Wait) (lid : Option ℕ)
@@ -117,34 +117,34 @@ creates_for Input lid e = absurd cc
 creates_for Response lid e = absurd cc
 creates_for Dial lid e = absurd cc
 
-pub may_go_on : (kept : KeptBench) (entry : Entry) (log : List Act) (call : List ℕ)
-    → CanGoOn (bench log) entry.conn → IsEntry (wait_acts (bench log)) entry
+pub may_go_on : (kept : KeptDevice) (entry : Entry) (log : List Act) (call : List ℕ)
+    → CanGoOn (device_acts log) entry.conn → IsEntry (wait_acts (device_acts log)) entry
     → (creates entry ≡ true → creations (without entry.conn kept.waiting) < creations kept.waiting)
     → (creates_link (core_call call) ≡ true → creates entry ≡ true)
-    → MayGoOn entry (core_call call) kept (bench log)
+    → MayGoOn entry (core_call call) kept (device_acts log)
 may_go_on kept entry log call able is fewer makes = (
   λ none. let z : Some entry.wait ≡ None = sym is.0 ∙ none in cc,
   λ creates_it.
       let so = makes creates_it in
       let (w, l) = creates_for entry.wait entry.lid so in (
         fewer so,
-        free_for (holder (link_acts (bench log))) _ _ entry.wait entry.lid
-            (there_as (holder (link_acts (bench log))) _ _ entry.wait entry.lid _ _ is.0 is.2 able) w l,
+        free_for (holder (link_acts (device_acts log))) _ _ entry.wait entry.lid
+            (there_as (holder (link_acts (device_acts log))) _ _ entry.wait entry.lid _ _ is.0 is.2 able) w l,
       ),
 )
 
 -- ---- the instrument does what is due
 
 happens_none : (IsSuch : List InstrumentAct → List InstrumentAct → Type 0) (log : List Act)
-    → ((new : List InstrumentAct) → IsSuch (instrument_acts (bench log)) new → ⊥) → (new : List Act) → Happens IsSuch log new → ⊥
-happens_none IsSuch log none new (adds, such, is) = none (adds ++ instrument_acts (bench log)) such
+    → ((new : List InstrumentAct) → IsSuch (instrument_acts (device_acts log)) new → ⊥) → (new : List Act) → InstrumentDoes IsSuch log new → ⊥
+happens_none IsSuch log none new (adds, such, is) = none (adds ++ instrument_acts (device_acts log)) such
 
-pub happens_step : (IsSuch : List InstrumentAct → List InstrumentAct → Type 0) (state : State) (shared : KeptBench) (config : Config)
+pub happens_step : (IsSuch : List InstrumentAct → List InstrumentAct → Type 0) (state : State) (device : KeptDevice) (config : Config)
     (log : List Act) (done : Bool)
-    → Represents state config log → InstrumentSteps IsSuch done config (bench log) state.bench shared
-    → shared.waiting ≡ state.bench.waiting
-    → TakesStep (λ k. Happens IsSuch) done config log state (record state { bench = shared })
-happens_step IsSuch state shared config log false rep (none, same) kept =
-    (happens_none IsSuch log none, ap (λ (b : KeptBench). record state { bench = b }) same)
-happens_step IsSuch state shared config log true rep (adds, such, held) kept =
-    (map Bench (map Happened adds) ++ log, (adds, such, refl), shared_acts state config log shared (map Happened adds) rep held kept)
+    → Represents state config log → InstrumentSteps IsSuch done config (device_acts log) state.device device
+    → device.waiting ≡ state.device.waiting
+    → TakesStep (λ k. InstrumentDoes IsSuch) done config log state (record state { device = device })
+happens_step IsSuch state device config log false rep (none, same) kept =
+    (happens_none IsSuch log none, ap (λ (b : KeptDevice). record state { device = b }) same)
+happens_step IsSuch state device config log true rep (adds, such, held) kept =
+    (map OnDevice (map Happened adds) ++ log, (adds, such, refl), shared_acts state config log device (map Happened adds) rep held kept)

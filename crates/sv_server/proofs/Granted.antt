@@ -13,16 +13,16 @@ use Rattle.sv_links.specs.Links.{holder, is_locked_out, is_this, lids_left}
 use Rattle.sv_links.specs.Waiting.{Entered, Left, creating, waits, link as link_of_wait, is_lock}
 use Rattle.sv_links.specs.Queue.{IsEntry, creations, without, rank_of}
 use Rattle.sv_history.specs.declared.event.Config.{Config}
-use Rattle.sv_history.specs.Act.{BenchAct, Waited, link_acts, wait_acts}
+use Rattle.sv_history.specs.Act.{DeviceAct, Waited, link_acts, wait_acts}
 use Rattle.sv_history.specs.CoreCall.{lid_of, is_too_long}
 use Rattle.sv_history.specs.Interrupts.{channel_fault, dialing, has_channel}
 use Rattle.sv_history.specs.CoreChannel.{make_link}
-use Rattle.sv_history.specs.Admission.{Stop, Fails, Awaits, names_another, is_kept_out, lock_stop, device_wait, may_make_more, channel_stop, device_stop, own_stop, stop_of, begun}
+use Rattle.sv_history.specs.Admission.{Stop, Fails, Awaits, names_another, is_kept_out, lock_stop, device_wait, may_make_more, channel_stop, device_stop, own_stop, stop_of, admitted}
 use Rattle.sv_history.specs.AbortChannel.{waits_with}
 use Rattle.sv_history.specs.History.{wants_memory}
-use Rattle.sv_server.specs.KeptBench.{Bench, IsBench, HasPlace}
+use Rattle.sv_server.specs.DeviceRepresentation.{Device, IsDevice, HasPlace}
 use Rattle.sv_server.specs.Inside.Outcome.{IsGranted, MayMake, Admits, AdmitsAt}
-use Rattle.sv_server.specs.declared.outcomes.CallOutcome.{CallOutcome as Outcome}
+use Rattle.sv_server.specs.declared.device.call_outcome.CallOutcome.{CallOutcome as Outcome}
 use Rattle.sv_history.specs.Refusing.{takes_memory}
 
 pub both_true : (a b : Bool) → (a && b) ≡ true → (a ≡ true) × (b ≡ true)
@@ -69,7 +69,7 @@ link_waits true true true false timeout wait until e = absurd cc
 link_waits true true false locked timeout wait until e = absurd cc
 
 -- one that nothing stops has its place, and finds the lock free where it asks for it
-pub granted_start : (c : ℕ) (arguments : Arguments) (kept : Bench) (acts : List BenchAct) → stop_of c arguments acts ≡ None
+pub granted_start : (c : ℕ) (arguments : Arguments) (kept : Device) (acts : List DeviceAct) → stop_of c arguments acts ≡ None
     → (is_create_link arguments ≡ true → may_make_more acts ≡ true → HasPlace kept acts) → IsGranted arguments kept acts
 granted_start c (CreateLink client_id lock_device lock_timeout device) kept acts free place =
     let known = link_free _ (may_make_more acts) lock_device _ lock_timeout free in (place refl known.0, known.1)
@@ -83,7 +83,7 @@ stop_named : (other : Bool) (rest : Option Stop) (wait : Wait) (until : Option �
 stop_named true rest wait until e = absurd cc
 stop_named false rest wait until e = refl
 
-named_some : (c : ℕ) (named : Option ℤ) (acts : List BenchAct) → is_none named ≡ false → names_another c named acts ≡ false
+named_some : (c : ℕ) (named : Option ℤ) (acts : List DeviceAct) → is_none named ≡ false → names_another c named acts ≡ false
     → is_none (lid_of named) ≡ false
 named_some c None acts some own = absurd cc
 named_some c (Some (pos lid)) acts some own = refl
@@ -98,7 +98,7 @@ some_stop : (a b : Stop) → Some a ≡ Some b → a ≡ b
 some_stop a b e = cc
 
 -- where it waits for the lock and isn't a create_link, it names a link
-names_link : (c : ℕ) (arguments : Arguments) (acts : List BenchAct) (until : Option ℕ) → stop_of c arguments acts ≡ Some (Awaits Lock until)
+names_link : (c : ℕ) (arguments : Arguments) (acts : List DeviceAct) (until : Option ℕ) → stop_of c arguments acts ≡ Some (Awaits Lock until)
     → is_create_link arguments ≡ false → is_none (link arguments) ≡ false
 names_link c (CreateLink client_id lock_device lock_timeout device) acts until e other = absurd cc
 names_link c (CreateIntrChan host_addr host_port prog_num prog_vers prog_family) acts until e other =
@@ -113,7 +113,7 @@ lock_both Response b e = absurd cc
 lock_both Dial b e = absurd cc
 
 -- so one that waits for the lock and names none is a create_link, and may make a link
-pub lock_place : (c : ℕ) (arguments : Arguments) (acts : List BenchAct) (wait : Wait) (until : Option ℕ)
+pub lock_place : (c : ℕ) (arguments : Arguments) (acts : List DeviceAct) (wait : Wait) (until : Option ℕ)
     → stop_of c arguments acts ≡ Some (Awaits wait until) → (is_lock (Some wait) && is_none (lid_of (link arguments))) ≡ true
     → (is_create_link arguments ≡ true) × (may_make_more acts ≡ true)
 lock_place c (CreateLink client_id lock_device lock_timeout device) acts wait until e both =
@@ -126,7 +126,7 @@ lock_place c arguments acts wait until e both =
     absurd (let z : true ≡ false = sym none ∙ some in cc)
 
 -- and a create_link waits for the lock as such
-pub link_lock : (c : ℕ) (arguments : Arguments) (acts : List BenchAct) (wait : Wait) (until : Option ℕ)
+pub link_lock : (c : ℕ) (arguments : Arguments) (acts : List DeviceAct) (wait : Wait) (until : Option ℕ)
     → stop_of c arguments acts ≡ Some (Awaits wait until) → is_create_link arguments ≡ true
     → (is_lock (Some wait) && is_none (lid_of (link arguments))) ≡ true
 link_lock c (CreateLink client_id lock_device lock_timeout device) acts wait until e makes =
@@ -164,12 +164,12 @@ one_of : (b : Bool) (a c : Option Wait) → (a ≡ Some Dial → ⊥) → (c ≡
 one_of true a c never other e = never e
 one_of false a c never other e = other e
 
-not_dial : (arguments : Arguments) (acts : List BenchAct) → device_wait arguments acts ≡ Some Dial → ⊥
+not_dial : (arguments : Arguments) (acts : List DeviceAct) → device_wait arguments acts ≡ Some Dial → ⊥
 not_dial (DeviceWrite lid timeout lock_timeout flags bytes) acts e = one_of _ (Some Input) None (λ z. cc) (λ z. cc) e
 not_dial (DeviceRead lid request_size timeout lock_timeout flags term_char) acts e = one_of _ None (Some Response) (λ z. cc) (λ z. cc) e
 not_dial _ acts e = absurd (let z : None ≡ Some Dial = e in cc)
 
-pub dials : (c : ℕ) (arguments : Arguments) (acts : List BenchAct) (until : Option ℕ) → stop_of c arguments acts ≡ Some (Awaits Dial until)
+pub dials : (c : ℕ) (arguments : Arguments) (acts : List DeviceAct) (until : Option ℕ) → stop_of c arguments acts ≡ Some (Awaits Dial until)
     → (has_channel c acts ≡ false) × (is_create_link arguments ≡ false)
 dials c (CreateLink client_id lock_device lock_timeout device) acts until e =
     absurd (let z : Dial ≡ Lock = (link_waits _ (may_make_more acts) lock_device _ lock_timeout Dial until e).1 in cc)
@@ -180,17 +180,17 @@ dials c arguments acts until e = absurd (dial_never (names_another c (link argum
     (not_dial arguments acts) e)
 
 -- a call that is none of these is stopped by the device alone
-pub own_device : (c : ℕ) (arguments : Arguments) (acts : List BenchAct) → takes_memory arguments ≡ false
+pub own_device : (c : ℕ) (arguments : Arguments) (acts : List DeviceAct) → takes_memory arguments ≡ false
     → own_stop c arguments acts ≡ device_stop arguments acts
 own_device c (CreateLink client_id lock_device lock_timeout device) acts e = absurd cc
 own_device c (CreateIntrChan host_addr host_port prog_num prog_vers prog_family) acts e = absurd cc
 own_device c _ acts e = refl
 
 -- a call begins as what stops it says
-pub admitted : (stop : Option Stop) {E : Type 0} (result : Result Outcome E) (c : ℕ) (arguments : Arguments) (old new : Bench)
-    → ((config : Config) (acts : List BenchAct) → IsBench old config acts → stop_of c arguments acts ≡ stop)
+pub admits_as : (stop : Option Stop) {E : Type 0} (result : Result Outcome E) (c : ℕ) (arguments : Arguments) (old new : Device)
+    → ((config : Config) (acts : List DeviceAct) → IsDevice old config acts → stop_of c arguments acts ≡ stop)
     → AdmitsAt stop result c arguments old new → Admits result c arguments old new
-admitted stop {E} result c arguments old new is at = record {
+admits_as stop {E} result c arguments old new is at = record {
   does = λ config polled acts known. if_ok result _ _ (at.does config polled acts known) (λ outcome so always. so (is config acts known.0));
   lacks = λ config polled acts known. on_err_then result _ _ (at.lacks config polled acts known) (λ wants always. wants (is config acts known.0));
   brief = at.brief;
@@ -200,15 +200,15 @@ admitted stop {E} result c arguments old new is at = record {
 -- ---- a call that waited
 
 -- what waited for the lock as a create_link has its place
-pub granted_left : (arguments : Arguments) (kept : Bench) (waiting : List Entry) (config : Config) (acts : List BenchAct) (c : ℕ)
-    → IsBench kept config acts → waiting ≡ without c kept.waiting → MayMake arguments c kept acts
+pub granted_left : (arguments : Arguments) (kept : Device) (waiting : List Entry) (config : Config) (acts : List DeviceAct) (c : ℕ)
+    → IsDevice kept config acts → waiting ≡ without c kept.waiting → MayMake arguments c kept acts
     → IsGranted arguments (record kept { waiting = waiting }) (Waited (Left c) ∷ acts)
 granted_left (CreateLink client_id lock_device lock_timeout device) kept waiting config acts c is left may =
     rw left ((omega (arith, is.5.0, may.0), omega (arith, is.5.1, may.0)), λ asks. may.1)
 granted_left _ kept waiting config acts c is left may = tt
 
 -- whether a call makes a link tells what it may
-pub may_make_link : (arguments : Arguments) (kept : Bench) (acts : List BenchAct) (c : ℕ)
+pub may_make_link : (arguments : Arguments) (kept : Device) (acts : List DeviceAct) (c : ℕ)
     → (is_create_link arguments ≡ true
     → (creations (without c kept.waiting) < creations kept.waiting) × (is_locked_out (holder (link_acts acts)) None ≡ false))
     → MayMake arguments c kept acts
@@ -234,7 +234,7 @@ free_lock (Some other) lid e = absurd cc
 free_lock None lid e = refl
 
 -- a call that waits tells which link it names
-pub waits_told : (c lid : ℕ) (entry : Entry) (acts : List BenchAct) → entry.conn ≡ c → IsEntry (wait_acts acts) entry
+pub waits_told : (c lid : ℕ) (entry : Entry) (acts : List DeviceAct) → entry.conn ≡ c → IsEntry (wait_acts acts) entry
     → is_this lid entry.lid ≡ waits_with c (Some lid) acts
 waits_told c lid entry acts same is =
     subst (λ (d : ℕ). is_this lid entry.lid ≡ (is_some (waits d (wait_acts acts)) && is_this lid (link_of_wait d (wait_acts acts)))) same
@@ -273,19 +273,19 @@ first : (a b : Bool) → a ≡ true → (a || b) ≡ true
 first true b e = refl
 first false b e = absurd cc
 
-made_wants : (config : Config) (c : ℕ) (lock_device : Bool) (acts : List BenchAct) → lids_left (link_acts acts) ≡ true
+made_wants : (config : Config) (c : ℕ) (lock_device : Bool) (acts : List DeviceAct) → lids_left (link_acts acts) ≡ true
     → wants_memory (make_link config c lock_device acts).adds ≡ true
 made_wants config c true acts left = rw left refl
 made_wants config c false acts left = rw left refl
 
-pub start_wants : (config : Config) (polled c : ℕ) (arguments : Arguments) (acts : List BenchAct) → stop_of c arguments acts ≡ None
-    → is_create_link arguments ≡ true → wants_memory (begun config polled c arguments None acts).adds ≡ true
+pub start_wants : (config : Config) (polled c : ℕ) (arguments : Arguments) (acts : List DeviceAct) → stop_of c arguments acts ≡ None
+    → is_create_link arguments ≡ true → wants_memory (admitted config polled c arguments None acts).adds ≡ true
 start_wants config polled c (CreateLink client_id lock_device lock_timeout device) acts free makes =
     made_wants config c lock_device acts (both_true _ (lids_left (link_acts acts)) (link_free _ (may_make_more acts) lock_device _ lock_timeout
     free).0).1
 start_wants config polled c _ acts free makes = absurd (let z : false ≡ true = makes in cc)
 
-pub lock_wants : (c : ℕ) (arguments : Arguments) (acts : List BenchAct) (wait : Wait) (until deadline : Option ℕ) → c < 16
+pub lock_wants : (c : ℕ) (arguments : Arguments) (acts : List DeviceAct) (wait : Wait) (until deadline : Option ℕ) → c < 16
     → stop_of c arguments acts ≡ Some (Awaits wait until) → is_create_link arguments ≡ true
     → wants_memory (Waited (Entered c (lid_of (link arguments)) wait deadline) ∷ []) ≡ true
 lock_wants c (CreateLink client_id lock_device lock_timeout device) acts wait until deadline lt e makes =

@@ -4,7 +4,7 @@ pub mod Effects
 pub mod Owned
 pub mod Raising
 pub mod Taken
-pub mod Benches
+pub mod Parts
 pub mod Channeled
 pub mod Granted
 pub mod Aborting

@@ -12,16 +12,16 @@ use Rattle.sv_links.specs.Queue.{without}
 use Rattle.sv_history.specs.declared.event.Config.{Config}
 use Rattle.sv_server.specs.Inside.Acting.{Concludes}
 use Rattle.sv_server.specs.Inside.Outcome.{HeldAs}
-use Rattle.sv_history.specs.Act.{Act, ConnAct, BenchAct, CallTaken, PortClosed, Linked, Waited, Channel, Ticked, On, Bench, of, bench, link_acts}
+use Rattle.sv_history.specs.Act.{Act, ConnAct, DeviceAct, CallTaken, PortClosed, Linked, Waited, Channel, Ticked, On, OnDevice, of, device_acts, link_acts}
 use Rattle.sv_history.specs.Connection.{is_open, is_busy, unanswered}
 use Rattle.sv_history.specs.Request.{core_call}
 use Rattle.sv_history.specs.Effect.{Effect, acts_of}
-use Rattle.sv_server.specs.KeptConnection.{Connection, IsConnection}
-use Rattle.sv_server.specs.KeptBench.{IsBench, Bench as KeptBench}
+use Rattle.sv_server.specs.ConnectionRepresentation.{Connection, IsConnection}
+use Rattle.sv_server.specs.DeviceRepresentation.{IsDevice, Device as KeptDevice}
 use Rattle.sv_server.specs.State.{State, Represents, IsTaken}
 use Rattle.sv_history.specs.History.{is_shut}
-use Rattle.sv_history.proofs.Projections.{of_mine, of_other, of_shared, bench_shared, of_effect, others_effect, bench_effect}
-use Rattle.sv_server.proofs.Effects.{of_taken, others_taken, bench_taken}
+use Rattle.sv_history.proofs.Projections.{of_mine, of_other, of_shared, device_shared, of_effect, others_effect, device_effect}
+use Rattle.sv_server.proofs.Effects.{of_taken, others_taken, device_taken}
 use Rattle.sv_server.proofs.Taken.{taken_acted, taken_without, taken_push}
 
 -- the connection of a number
@@ -51,12 +51,12 @@ open_known state config log c b rep is = elim (cases_lt c 16) [
 ]
 
 -- one connection acts, and what all share
-pub acted : (state : State) (config : Config) (log new : List Act) (c : ℕ) (kept : Connection) (shared : KeptBench)
+pub acted : (state : State) (config : Config) (log new : List Act) (c : ℕ) (kept : Connection) (device : KeptDevice)
     → Represents state config log → length state.connections ≡ 16 → c < 16
-    → IsConnection kept (of c new) → IsBench shared config (bench new) → ((d : ℕ) → d ≢ c → of d new ≡ of d log)
-    → AllByRecursion (IsTaken new) shared.waiting
-    → Represents (record { connections = set state.connections c kept; bench = shared }) config new
-acted state config log new c kept shared rep sixteen lt mine all others taken = record {
+    → IsConnection kept (of c new) → IsDevice device config (device_acts new) → ((d : ℕ) → d ≢ c → of d new ≡ of d log)
+    → AllByRecursion (IsTaken new) device.waiting
+    → Represents (record { connections = set state.connections c kept; device = device }) config new
+acted state config log new c kept device rep sixteen lt mine all others taken = record {
   each = λ d other below. elim (cases_eq d c) [
     | inl e ↦
         let at : get_or (set state.connections c kept) d other ≡ kept =
@@ -68,7 +68,7 @@ acted state config log new c kept shared rep sixteen lt mine all others taken = 
         rw (at, others d ne) (rep.each d other below)
   ];
   beyond = λ d h. others d (λ e. absurd (omega arith)) ∙ rep.beyond d h;
-  shared = all;
+  device = all;
   taken = taken;
 }
 
@@ -79,9 +79,9 @@ pub one_act : (state : State) (config : Config) (log : List Act) (c : ℕ) (old 
     → ((call : List ℕ) → unanswered (of c log) ≡ Some call → unanswered (act ∷ of c log) ≡ Some call)
     → Represents (record state { connections = set state.connections c new }) config (On c act ∷ log)
 one_act state config log c old new act rep sixteen lt e goes known =
-    acted state config log (On c act ∷ log) c new state.bench rep sixteen lt
-    (rw of_mine (goes (connection_of state config log c old rep lt e))) rep.shared (λ d ne. of_other c d act log ne)
-    (taken_acted c log (On c act ∷ log) state.bench.waiting (λ d ne. of_other c d act log ne)
+    acted state config log (On c act ∷ log) c new state.device rep sixteen lt
+    (rw of_mine (goes (connection_of state config log c old rep lt e))) rep.device (λ d ne. of_other c d act log ne)
+    (taken_acted c log (On c act ∷ log) state.device.waiting (λ d ne. of_other c d act log ne)
     (λ call h. ap unanswered (of_mine c act log) ∙ known call h) rep.taken)
 
 -- no call of a connection that is shut waits
@@ -90,47 +90,47 @@ pub none_taken : (kept : Connection) (acts : List ConnAct) (call : List ℕ) →
 none_taken kept acts call is idle known = let z : false ≡ true = sym idle ∙ is.busy ∙ ap is_some known in absurd cc
 
 -- what all connections share acts
-pub shared_acts : (state : State) (config : Config) (log : List Act) (shared : KeptBench) (adds : List BenchAct)
-    → Represents state config log → IsBench shared config (adds ++ bench log) → shared.waiting ≡ state.bench.waiting
-    → Represents (record state { bench = shared }) config (map Bench adds ++ log)
-shared_acts state config log shared adds rep all same = record {
+pub shared_acts : (state : State) (config : Config) (log : List Act) (device : KeptDevice) (adds : List DeviceAct)
+    → Represents state config log → IsDevice device config (adds ++ device_acts log) → device.waiting ≡ state.device.waiting
+    → Represents (record state { device = device }) config (map OnDevice adds ++ log)
+shared_acts state config log device adds rep all same = record {
   each = λ c other below. rw (of_shared c adds log) (rep.each c other below);
   beyond = λ c above. of_shared c adds log ∙ rep.beyond c above;
-  shared = rw (bench_shared adds log) all;
-  taken = rw same (taken_acted 0 log (map Bench adds ++ log) state.bench.waiting (λ d ne. of_shared d adds log)
+  device = rw (device_shared adds log) all;
+  taken = rw same (taken_acted 0 log (map OnDevice adds ++ log) state.device.waiting (λ d ne. of_shared d adds log)
       (λ call known. ap unanswered (of_shared 0 adds log) ∙ known) rep.taken);
 }
 
 -- a millisecond passes, and what it brings
-pub ticked : (state : State) (config : Config) (log : List Act) (shared : KeptBench) (adds : List BenchAct)
-    → Represents state config log → IsBench shared config (adds ++ Ticked ∷ bench log) → shared.waiting ≡ state.bench.waiting
-    → Represents (record state { bench = shared }) config ((map Bench adds ++ Bench Ticked ∷ []) ++ log)
-ticked state config log shared adds rep all same =
-    let parts : (map Bench adds ++ Bench Ticked ∷ []) ++ log ≡ map Bench (adds ++ Ticked ∷ []) ++ log =
-    ap (λ (l : List Act). l ++ log) (sym (map-append Bench adds (Ticked ∷ []))) in
-    rw parts (shared_acts state config log shared (adds ++ Ticked ∷ []) rep
-    (rw (append_assoc adds (Ticked ∷ []) (bench log)) all) same)
+pub ticked : (state : State) (config : Config) (log : List Act) (device : KeptDevice) (adds : List DeviceAct)
+    → Represents state config log → IsDevice device config (adds ++ Ticked ∷ device_acts log) → device.waiting ≡ state.device.waiting
+    → Represents (record state { device = device }) config ((map OnDevice adds ++ OnDevice Ticked ∷ []) ++ log)
+ticked state config log device adds rep all same =
+    let parts : (map OnDevice adds ++ OnDevice Ticked ∷ []) ++ log ≡ map OnDevice (adds ++ Ticked ∷ []) ++ log =
+    ap (λ (l : List Act). l ++ log) (sym (map-append Device adds (Ticked ∷ []))) in
+    rw parts (shared_acts state config log device (adds ++ Ticked ∷ []) rep
+    (rw (append_assoc adds (Ticked ∷ []) (device_acts log)) all) same)
 
 -- a connection that closes, with its links
-pub closes : (state : State) (config : Config) (log : List Act) (c : ℕ) (old new : Connection) (shared : KeptBench)
+pub closes : (state : State) (config : Config) (log : List Act) (c : ℕ) (old new : Connection) (device : KeptDevice)
     → Represents state config log → length state.connections ≡ 16 → c < 16 → old ≡ get_or state.connections c old
     → (IsConnection old (of c log) → IsConnection new (PortClosed ∷ of c log))
-    → ((acts : List BenchAct) → IsBench state.bench config acts
-    → IsBench shared config (Channel (ChannelClosed c) ∷ map Linked (closing c (link_acts acts)) ++ Waited (Left c) ∷ acts))
-    → shared.waiting ≡ without c state.bench.waiting
-    → let adds = Channel (ChannelClosed c) ∷ map Linked (closing c (link_acts (bench log))) ++ Waited (Left c) ∷ [] in
-    Represents (record { connections = set state.connections c new; bench = shared }) config (map Bench adds ++ On c PortClosed ∷ log)
-closes state config log c old new shared rep sixteen lt e goes freed left =
-    let links = map Linked (closing c (link_acts (bench log))) in
+    → ((acts : List DeviceAct) → IsDevice state.device config acts
+    → IsDevice device config (Channel (ChannelClosed c) ∷ map Linked (closing c (link_acts acts)) ++ Waited (Left c) ∷ acts))
+    → device.waiting ≡ without c state.device.waiting
+    → let adds = Channel (ChannelClosed c) ∷ map Linked (closing c (link_acts (device_acts log))) ++ Waited (Left c) ∷ [] in
+    Represents (record { connections = set state.connections c new; device = device }) config (map OnDevice adds ++ On c PortClosed ∷ log)
+closes state config log c old new device rep sixteen lt e goes freed left =
+    let links = map Linked (closing c (link_acts (device_acts log))) in
     let adds = Channel (ChannelClosed c) ∷ links ++ Waited (Left c) ∷ [] in
     let others = λ (d : ℕ) (ne : d ≢ c). of_shared d adds (On c PortClosed ∷ log) ∙ of_other c d PortClosed log ne in
-    acted state config log (map Bench adds ++ On c PortClosed ∷ log) c new shared rep sixteen lt
+    acted state config log (map OnDevice adds ++ On c PortClosed ∷ log) c new device rep sixteen lt
     (rw (of_shared c adds (On c PortClosed ∷ log), of_mine) (goes (connection_of state config log c old rep lt e)))
-    (subst (λ (acts : List BenchAct). IsBench shared config acts)
-    (sym (bench_shared adds (On c PortClosed ∷ log)
-    ∙ append_assoc (Channel (ChannelClosed c) ∷ links) (Waited (Left c) ∷ []) (bench log))) (freed (bench log) rep.shared))
+    (subst (λ (acts : List DeviceAct). IsDevice device config acts)
+    (sym (device_shared adds (On c PortClosed ∷ log)
+    ∙ append_assoc (Channel (ChannelClosed c) ∷ links) (Waited (Left c) ∷ []) (device_acts log))) (freed (device_acts log) rep.device))
     others
-    (rw left (taken_without c log (map Bench adds ++ On c PortClosed ∷ log) state.bench.waiting others rep.taken))
+    (rw left (taken_without c log (map OnDevice adds ++ On c PortClosed ∷ log) state.device.waiting others rep.taken))
 
 -- a call that is busy isn't idle
 pub busy_idle : (acts : List ConnAct) (call : List ℕ) → unanswered acts ≡ Some call → is_busy acts ≡ false → ⊥
@@ -152,23 +152,23 @@ held_taken c log call effect old new idle taken (inr (none, (entry, mine, is, ma
 
 -- a Turn of an open connection
 pub turned : (state : State) (config : Config) (log : List Act) (c : ℕ) (call : List ℕ) (effect : Effect) (kept : Connection)
-    (shared : KeptBench)
+    (device : KeptDevice)
     → Represents state config log → length state.connections ≡ 16 → c < 16 → is_busy (of c log) ≡ false
-    → Concludes effect config (CallTaken call ∷ of c log) (bench log) kept shared
-    → HeldAs effect c (core_call call) state.bench.waiting shared.waiting
-    → Represents (record { connections = set state.connections c kept; bench = shared }) config
+    → Concludes effect config (CallTaken call ∷ of c log) (device_acts log) kept device
+    → HeldAs effect c (core_call call) state.device.waiting device.waiting
+    → Represents (record { connections = set state.connections c kept; device = device }) config
     ((acts_of c effect ++ On c (CallTaken call) ∷ []) ++ log)
-turned state config log c call effect kept shared rep sixteen lt idle (mine, all) held =
-    acted state config log _ c kept shared rep sixteen lt (rw (of_taken c effect call log) mine) (rw (bench_taken c effect call log) all)
+turned state config log c call effect kept device rep sixteen lt idle (mine, all) held =
+    acted state config log _ c kept device rep sixteen lt (rw (of_taken c effect call log) mine) (rw (device_taken c effect call log) all)
     (λ d ne. others_taken c d effect call log ne)
-    (held_taken c log call effect state.bench.waiting shared.waiting idle rep.taken held)
+    (held_taken c log call effect state.device.waiting device.waiting idle rep.taken held)
 
 -- a call that waited, and was given up or went on
-pub resumed : (state : State) (config : Config) (log : List Act) (c : ℕ) (effect : Effect) (kept : Connection) (shared : KeptBench)
+pub resumed : (state : State) (config : Config) (log : List Act) (c : ℕ) (effect : Effect) (kept : Connection) (device : KeptDevice)
     → Represents state config log → length state.connections ≡ 16 → c < 16
-    → Concludes effect config (of c log) (bench log) kept shared
-    → AllByRecursion (IsTaken (acts_of c effect ++ log)) shared.waiting
-    → Represents (record { connections = set state.connections c kept; bench = shared }) config (acts_of c effect ++ log)
-resumed state config log c effect kept shared rep sixteen lt (mine, all) taken =
-    acted state config log _ c kept shared rep sixteen lt (rw (of_effect c effect log) mine) (rw (bench_effect c effect log) all)
+    → Concludes effect config (of c log) (device_acts log) kept device
+    → AllByRecursion (IsTaken (acts_of c effect ++ log)) device.waiting
+    → Represents (record { connections = set state.connections c kept; device = device }) config (acts_of c effect ++ log)
+resumed state config log c effect kept device rep sixteen lt (mine, all) taken =
+    acted state config log _ c kept device rep sixteen lt (rw (of_effect c effect log) mine) (rw (device_effect c effect log) all)
     (λ d ne. others_effect c d effect log ne) taken

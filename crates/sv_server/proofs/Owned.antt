@@ -12,9 +12,9 @@ use Rattle.sv_links.specs.Channels.{ChannelAct, SrqDisabled}
 use Rattle.sv_links.specs.ChannelRepresentation.{IsSorted, disabled, of_others, below, above}
 use Rattle.sv_links.proofs.Asking.{sorted-filter}
 use Rattle.sv_links.proofs.Tables.{Below, above-filter, other_than}
-use Rattle.sv_history.specs.Act.{BenchAct, Linked, link_acts}
-use Rattle.sv_server.specs.KeptBench.{AreOwned}
-use Rattle.sv_history.specs.Requests.{Tells}
+use Rattle.sv_history.specs.Act.{DeviceAct, Linked, link_acts}
+use Rattle.sv_server.specs.DeviceRepresentation.{AreOwned}
+use Rattle.sv_history.specs.Requests.{HearsOf}
 
 -- what holds of all holds of those that pass a test, and may use that they do
 all_passing : (P Q : Enabled → Type 0) (test : Enabled → Bool) (links : List Enabled)
@@ -180,14 +180,14 @@ pub owned_closed : (links : List Enabled) (acts : List LinkAct) (c last : ℕ) �
 owned_closed links acts c last rising owned = rw (← closed_disabled links acts c last rising owned, closing_numbers c acts)
     (owned_gone (reverse (links_of c acts)) links acts owned)
 
-tells_gone : (numbers : List ℕ) (acts : List BenchAct) (told : List ChannelAct) → Tells acts told
-    → Tells (map Linked (map Destroyed numbers) ++ acts) (map SrqDisabled numbers ++ told)
+tells_gone : (numbers : List ℕ) (acts : List DeviceAct) (told : List ChannelAct) → HearsOf acts told
+    → HearsOf (map Linked (map Destroyed numbers) ++ acts) (map SrqDisabled numbers ++ told)
 tells_gone [] acts told tells = tells
 tells_gone (number ∷ numbers) acts told tells = (map SrqDisabled numbers ++ told, tells_gone numbers acts told tells, refl)
 
 -- and tells that each of its links asks no more
-pub tells_closed : (c : ℕ) (acts : List BenchAct) (told : List ChannelAct) → Tells acts told
-    → Tells (map Linked (closing c (link_acts acts)) ++ acts) (map SrqDisabled (reverse (links_of c (link_acts acts))) ++ told)
+pub tells_closed : (c : ℕ) (acts : List DeviceAct) (told : List ChannelAct) → HearsOf acts told
+    → HearsOf (map Linked (closing c (link_acts acts)) ++ acts) (map SrqDisabled (reverse (links_of c (link_acts acts))) ++ told)
 tells_closed c acts told tells = rw (closing_numbers c (link_acts acts))
     (tells_gone (reverse (links_of c (link_acts acts))) acts told tells)
 

@@ -8,10 +8,10 @@ use Rattle.sv_layers.specs.Act.{Act as InstrumentAct}
 use Rattle.sv_instrument.specs.Representation.{Kept, StandsFor, Ran, Takes}
 use Rattle.sv_instrument.specs.RequestCount.{Raise}
 use Rattle.sv_history.specs.declared.event.Config.{Config}
-use Rattle.sv_history.specs.Act.{BenchAct, Happened, instrument_acts}
-use Rattle.sv_server.specs.KeptBench.{Bench, IsBench, HasDone}
+use Rattle.sv_history.specs.Act.{DeviceAct, Happened, instrument_acts}
+use Rattle.sv_server.specs.DeviceRepresentation.{Device, IsDevice, HasDone}
 use Rattle.sv_history.proofs.Projections.{link_acts-happened, instrument_acts-happened, ticks-happened, wait_acts-happened}
-use Rattle.sv_server.proofs.Effects.{bench_done}
+use Rattle.sv_server.proofs.Effects.{device_done}
 use Rattle.sv_server.specs.Inside.Acting.{InstrumentSteps}
 use Rattle.sv_history.proofs.Telling.{requests, tells_raised}
 
@@ -20,11 +20,11 @@ abbrev pub Tolls : Channels → Channels → ℕ → Type 0
 Tolls old new n = (told : List ChannelAct) → AreChannels old told → AreChannels new (requests n told)
 
 -- requests that were raised are told
-pub bench_raised : (kept : Bench) (intr : Channels) (config : Config) (acts : List BenchAct) (adds : List InstrumentAct) (n : ℕ)
+pub device_raised : (kept : Device) (intr : Channels) (config : Config) (acts : List DeviceAct) (adds : List InstrumentAct) (n : ℕ)
     → HasDone adds kept config acts → Raise adds (instrument_acts acts) n → Tolls kept.intr intr n → intr.enabled ≡ kept.intr.enabled
     → ((c : ℕ) → IsReady kept.intr c → IsReady intr c)
-    → IsBench (record kept { intr = intr }) config (map Happened adds ++ acts)
-bench_raised kept intr config acts adds n (links, instrument, set_up, clock, waiting, reserved, was, ready) raise tolls same still = (
+    → IsDevice (record kept { intr = intr }) config (map Happened adds ++ acts)
+device_raised kept intr config acts adds n (links, instrument, set_up, clock, waiting, reserved, was, ready) raise tolls same still = (
   rw (link_acts-happened adds acts) links,
   rw (instrument_acts-happened adds acts) instrument,
   set_up,
@@ -44,21 +44,21 @@ pub ran_raised : (kept : Kept) (n : ℕ) (log adds : List InstrumentAct) → Ran
 ran_raised kept n log adds ran = raise_of log adds ran.raises.acts n ran.raises.new_is ran.raises.count_is
 
 -- what is told after the instrument ran
-abbrev pub RaisesInto : Bench → Bench → ℕ → Type 0
-RaisesInto old new n = (config : Config) (acts : List BenchAct) (adds : List InstrumentAct)
-    → HasDone adds old config acts → Raise adds (instrument_acts acts) n → IsBench new config (map Happened adds ++ acts)
+abbrev pub RaisesInto : Device → Device → ℕ → Type 0
+RaisesInto old new n = (config : Config) (acts : List DeviceAct) (adds : List InstrumentAct)
+    → HasDone adds old config acts → Raise adds (instrument_acts acts) n → IsDevice new config (map Happened adds ++ acts)
 
-pub bench_ran : (kept : Bench) (instrument : Kept) (new : Bench) (config : Config) (acts : List BenchAct) (adds : List InstrumentAct)
-    (n : ℕ) → IsBench kept config acts → Ran instrument n (instrument_acts acts) (adds ++ instrument_acts acts)
+pub device_ran : (kept : Device) (instrument : Kept) (new : Device) (config : Config) (acts : List DeviceAct) (adds : List InstrumentAct)
+    (n : ℕ) → IsDevice kept config acts → Ran instrument n (instrument_acts acts) (adds ++ instrument_acts acts)
     → RaisesInto (record kept { instrument = instrument }) new n
-    → IsBench new config (map Happened adds ++ acts)
-bench_ran kept instrument new config acts adds n is ran raises = raises config acts adds
-    (bench_done kept instrument config acts adds is ran.stands) (ran_raised instrument n (instrument_acts acts) adds ran)
+    → IsDevice new config (map Happened adds ++ acts)
+device_ran kept instrument new config acts adds n is ran raises = raises config acts adds
+    (device_done kept instrument config acts adds is ran.stands) (ran_raised instrument n (instrument_acts acts) adds ran)
 
 -- the same of a step that is taken where one is due
-pub instrument_steps : (IsSuch : List InstrumentAct → List InstrumentAct → Type 0) (kept new : Bench) (instrument : Kept)
-    (config : Config) (acts : List BenchAct) (raised : Option ℕ)
-    → IsBench kept config acts → Takes IsSuch instrument raised (instrument_acts acts) → IfNone raised (instrument ≡ kept.instrument)
+pub instrument_steps : (IsSuch : List InstrumentAct → List InstrumentAct → Type 0) (kept new : Device) (instrument : Kept)
+    (config : Config) (acts : List DeviceAct) (raised : Option ℕ)
+    → IsDevice kept config acts → Takes IsSuch instrument raised (instrument_acts acts) → IfNone raised (instrument ≡ kept.instrument)
     → ((count : ℕ) → raised ≡ Some count → RaisesInto (record kept { instrument = instrument }) new count)
     → (raised ≡ None → new ≡ record kept { instrument = instrument })
     → InstrumentSteps IsSuch (is_some raised) config acts kept new
@@ -69,11 +69,11 @@ instrument_steps IsSuch kept new instrument config acts (Some count) is (after, 
       adds,
       subst (λ (l : List InstrumentAct). IsSuch (instrument_acts acts) l) ran.raises.new_is such,
       raises count refl config acts adds
-          (bench_done kept instrument config acts adds is
+          (device_done kept instrument config acts adds is
           (subst (λ (l : List InstrumentAct). StandsFor instrument l) ran.raises.new_is ran.stands)) ran.raises.count_is,
     )
 
-pub idle_as : (kept new : Bench) (instrument : Kept) (raised : Option ℕ) → IfNone raised (instrument ≡ kept.instrument)
+pub idle_as : (kept new : Device) (instrument : Kept) (raised : Option ℕ) → IfNone raised (instrument ≡ kept.instrument)
     → (raised ≡ None → new ≡ record kept { instrument = instrument }) → is_some raised ≡ false → new ≡ kept
 idle_as kept new instrument None same stays e = stays refl ∙ ap (λ (k : Kept). record kept { instrument = k }) same
 idle_as kept new instrument (Some count) same stays e = absurd cc

@@ -14,7 +14,7 @@ use Rattle.sv_history.specs.CoreCall.{CoreCall}
 use Rattle.sv_history.specs.Refusing.{refusable, refusable_call, refused_reply}
 use Rattle.sv_history.specs.Request.{asked}
 use Rattle.sv_history.specs.History.{refuse_refusal, refuse_acts, is_shut, is_beyond}
-use Rattle.sv_server.specs.KeptConnection.{Connection}
+use Rattle.sv_server.specs.ConnectionRepresentation.{Connection}
 use Rattle.sv_server.specs.State.{State, Represents}
 use Rattle.sv_server.specs.Inside.Acting.{Acts, Refuses, IsInput}
 use Rattle.sv_history.proofs.Projections.{of_mine, of_other}
@@ -76,8 +76,8 @@ refuse_done state config log c kept rep sixteen lt open_now (none, bytes, call, 
       λ polled said. subst
           (λ (adds : List Act). Represents (record state { connections = set state.connections c kept }) config (adds ++ log))
           (sym (ap (λ (found : Option (List ℕ)). refuse_acts c found (refusable (of c log))) next ∙ ap (refuse_acts c (Some bytes)) known))
-          (acted state config log (On c answered ∷ mid) c kept state.bench rep sixteen lt (rw here mine) rep.shared others
-          (taken_acted c log (On c answered ∷ mid) state.bench.waiting others
+          (acted state config log (On c answered ∷ mid) c kept state.device rep sixteen lt (rw here mine) rep.device others
+          (taken_acted c log (On c answered ∷ mid) state.device.waiting others
           (λ other waits. absurd {0} (busy_idle (of c log) other waits (not_busy c log bytes next))) rep.taken)),
     )
 

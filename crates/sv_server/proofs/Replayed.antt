@@ -6,17 +6,17 @@ use Rattle.sv_history.specs.declared.event.Config.{Config}
 use Rattle.sv_history.specs.declared.event.Did.{Did}
 use Rattle.sv_history.specs.declared.event.Refused.{Refused}
 use Rattle.sv_history.specs.declared.event.Refused.TheVariants as refused
-use Rattle.sv_server.specs.declared.print.WriteFault.{WriteFault}
+use Rattle.sv_server.specs.declared.replay.print.WriteFault.{WriteFault}
 use Rattle.sv_server.specs.declared.replay.ReplayFault.{ReplayFault}
 use Rattle.sv_server.specs.declared.replay.ReplayFault.TheVariants.{NoMemory, Write}
 use Rattle.sv_history.specs.Event.{PlainEvent}
 use Rattle.sv_links.specs.Channels.{ChannelAct}
-use Rattle.sv_history.specs.Act.{Act, bench}
+use Rattle.sv_history.specs.Act.{Act, device_acts}
 use Rattle.sv_history.specs.History.{IsLogOf, Answers, history_after}
 use Rattle.sv_server.specs.State.{State, StandsFor}
-use Rattle.sv_server.specs.Written.{Takes}
+use Rattle.sv_server.specs.TakenByWriter.{IsTakenByWriter}
 use Rattle.sv_history.specs.Print.{ports, ports_after, with_tooks, head_of, refusal_line, is_no_memory}
-use Rattle.sv_server.specs.Replay.{Writes, Replays}
+use Rattle.sv_server.specs.Replay.{IsReplayWritten, Replays}
 use Rattle.sv_server.specs.Inside.Showing.{StandsBy, ShowsAll}
 use Rattle.sv_server.proofs.Steps.{told_now}
 use Rattle.sv_server.proofs.Taking.{appends_then}
@@ -40,7 +40,7 @@ writes_all : (did : Result Did Refused) (told : List ChannelAct) (log : List Act
     (fault : Result ⊤ ReplayFault)
     (config : Config) (new : State) (head text : List ℕ)
     → did ≢ Err refused.NoMemory → ports_after did ≡ ports → head ≡ head_of did → Told r fault → ShowsAll config history told log r new text
-    → (after : List PlainEvent) × (so : List ChannelAct) × (now : List Act) × Writes did told log history fault (head ++ text) after
+    → (after : List PlainEvent) × (so : List ChannelAct) × (now : List Act) × IsReplayWritten did told log history fault (head ++ text) after
     × StandsBy new config after so now
 writes_all did told log history (Ok all) fault config new head text some shown is came (lines, so, now, stands) =
     (with_tooks told ports log history, so, now, rw (came, is, lines, shown) (some, refl, refl), stands)
@@ -69,7 +69,7 @@ pub replay_shown : (config : Config) (history : List PlainEvent) (event : PlainE
     → ((h : List PlainEvent) (told : List ChannelAct) (log : List Act) → StandsBy mid config h told log
     → (text : List ℕ) × Appends put last text × ShowsAll config h told log r new text) → Left config history event fault new first last
 replay_shown config history event did mid new head first put last r fault some shown is came answers s begun shows =
-    let (told, tells) = told_now mid.bench config (bench s.log) s.represents.shared in
+    let (told, tells) = told_now mid.device config (device_acts s.log) s.represents.device in
     let (text, more, all) = shows (history_after event did history) told s.log (s.is_log, s.represents, s.settled, tells) in
     let (after, so, now, writes, stands) = writes_all did told s.log
     (history_after event did history) r fault config new head text some shown is came all in (
@@ -94,7 +94,7 @@ replay_shown config history event did mid new head first put last r fault some s
 pub replay_stopped : (config : Config) (history : List PlainEvent) (event : PlainEvent) (refusal : Refused) (mid : State)
     (first last : Option (List ℕ)) (e : WriteFault) (fault : Result ⊤ ReplayFault)
     → fault ≡ Err Write → AnswersNow config history event (Err refusal) → StandsFor mid config history
-    → Takes first last (Err e) (refusal_line refusal) → Left config history event fault mid first last
+    → IsTakenByWriter first last (Err e) (refusal_line refusal) → Left config history event fault mid first last
 replay_stopped config history event refusal mid first last e fault came answers s (part, front, begun) = (
   part,
   history,
@@ -105,8 +105,8 @@ replay_stopped config history event refusal mid first last e fault came answers 
     answers = answers.2;
     log = s.log;
     is_log = s.is_log;
-    told = (told_now mid.bench config (bench s.log) s.represents.shared).0;
-    tells = (told_now mid.bench config (bench s.log) s.represents.shared).1;
+    told = (told_now mid.device config (device_acts s.log) s.represents.device).0;
+    tells = (told_now mid.device config (device_acts s.log) s.represents.device).1;
     writes = rw came (inl (front, refl));
   },
   s,
@@ -129,8 +129,8 @@ replay_no_memory config history event refusal mid first last is answered s took 
         answers = answers.2;
         log = s.log;
         is_log = s.is_log;
-        told = (told_now mid.bench config (bench s.log) s.represents.shared).0;
-        tells = (told_now mid.bench config (bench s.log) s.represents.shared).1;
+        told = (told_now mid.device config (device_acts s.log) s.represents.device).0;
+        tells = (told_now mid.device config (device_acts s.log) s.represents.device).1;
         writes = (refl, sym (append-nil (refusal_line refused.NoMemory)), refl);
       },
       s,

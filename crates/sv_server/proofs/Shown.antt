@@ -10,8 +10,8 @@ use Rattle.sv_history.specs.declared.event.Port.{Port}
 use Rattle.sv_history.specs.declared.event.Port.TheVariants.{Conn, Intr}
 use Rattle.sv_history.specs.Event.{PlainEvent, Took}
 use Rattle.sv_links.specs.Channels.{ChannelAct, ChannelTaken, waiting as channel_waiting}
-use Rattle.sv_history.specs.Act.{Act, On, BytesTaken, Bench, Channel, of, bench}
-use Rattle.sv_history.specs.Requests.{Tells}
+use Rattle.sv_history.specs.Act.{Act, On, BytesTaken, OnDevice, Channel, of, device_acts}
+use Rattle.sv_history.specs.Requests.{HearsOf}
 use Rattle.sv_history.specs.Interrupts.{has_channel}
 use Rattle.sv_history.specs.PolledStatus.{IsPolled}
 use Rattle.sv_history.proofs.StillSettled.{still_settled, channel_settled}
@@ -22,10 +22,10 @@ use Rattle.sv_history.specs.Connection.{is_open, untaken, waiting, waiting_on}
 use Rattle.sv_history.specs.History.{refusal, took_refusal, own_acts, wants_memory, is_shut, is_channel_shut}
 use Rattle.sv_server.specs.State.{State, Represents}
 use Rattle.sv_server.specs.Inside.Acting.{Acts, IsRefusal}
-use Rattle.sv_server.specs.declared.print.WriteFault.{WriteFault}
+use Rattle.sv_server.specs.declared.replay.print.WriteFault.{WriteFault}
 use Rattle.std.specs.Io.KnownBytes.{Appends}
 use Rattle.sv_history.specs.Print.{with_took, port_line}
-use Rattle.sv_server.specs.Written.{IsFront, Takes}
+use Rattle.sv_server.specs.TakenByWriter.{IsFront, IsTakenByWriter}
 use Rattle.sv_server.specs.Inside.Showing.{StandsBy, ShowsPort, log_with_took, told_with_took}
 
 if_false : {A : Type 0} (b : Bool) (x y : A) → b ≡ false → cond b x y ≡ y
@@ -58,7 +58,7 @@ took_free c count config told log within o e =
     let shut : is_shut c log ≡ false = ap (λ (b : Bool). b || not (is_open (of c log))) (le-ltb 15 c within) ∙ ap not o in
     if_false (is_shut c log) _ _ shut ∙ few_taken count (waiting (of c log)) e
 
-channel_free : (c count : ℕ) (config : Config) (told : List ChannelAct) (log : List Act) → c ≤ 15 → has_channel c (bench log) ≡ true
+channel_free : (c count : ℕ) (config : Config) (told : List ChannelAct) (log : List Act) → c ≤ 15 → has_channel c (device_acts log) ≡ true
     → count ≡ length (channel_waiting c told) → refusal config told (Took (Intr c) count) log ≡ None
 channel_free c count config told log within there e =
     if_false (is_channel_shut c log) _ _ (channel_shut_is c log true (omega arith) there)
@@ -66,18 +66,18 @@ channel_free c count config told log within there e =
 
 -- so it is done
 never_refused : (config : Config) (event : PlainEvent) (told : List ChannelAct) (log : List Act) (r : Refused)
-    → Tells (bench log) told → refusal config told event log ≡ None → IsRefusal config event log (Some r) → ⊥
+    → HearsOf (device_acts log) told → refusal config told event log ≡ None → IsRefusal config event log (Some r) → ⊥
 never_refused config event told log r tells none why = absurd (let z : None ≡ Some r = sym none ∙ why told tells in cc)
 
 makes_none : (port : Port) (count : ℕ) (config : Config) (log : List Act) (polled : ℕ) (result : Result Did Refused) (new : State)
-    → IsPolled polled (bench log) → wants_memory (bench (own_acts config polled (Took port count) log)) ≡ false
+    → IsPolled polled (device_acts log) → wants_memory (device_acts (own_acts config polled (Took port count) log)) ≡ false
     → Acts config (Took port count) log result new → result ≢ Err NoMemory
 makes_none port count config log polled result new said none acts e = absurd (let z : true ≡ false =
     sym ((subst (λ (r : Result Did Refused). Acts config (Took port count) log r new) e acts).1 polled said) ∙ none in cc)
 
 took_done : (event : PlainEvent) (config : Config) (told : List ChannelAct) (log : List Act) (polled : ℕ) (result : Result Did Refused)
     (new : State)
-    → IsPolled polled (bench log) → Tells (bench log) told → refusal config told event log ≡ None → Acts config event log result new
+    → IsPolled polled (device_acts log) → HearsOf (device_acts log) told → refusal config told event log ≡ None → Acts config event log result new
     → result ≢ Err NoMemory → Represents new config (own_acts config polled event log ++ log)
 took_done event config told log polled (Ok what) new said tells none (free_of, done, rep) other = rep polled said
 took_done event config told log polled (Err NoMemory) new said tells none h other = absurd (other refl)
@@ -116,7 +116,7 @@ told_with_conn c [] told = refl
 told_with_conn c (byte ∷ bytes) told = refl
 
 log_with_channel : (c : ℕ) (bytes : List ℕ) (log : List Act) → 0 < length bytes
-    → log_with_took (Intr c) bytes log ≡ Bench (Channel (ChannelTaken c (length bytes))) ∷ log
+    → log_with_took (Intr c) bytes log ≡ Device (Channel (ChannelTaken c (length bytes))) ∷ log
 log_with_channel c [] log some = absurd (omega arith)
 log_with_channel c (byte ∷ bytes) log some = refl
 
@@ -135,10 +135,10 @@ stands_taken (Intr c) bytes config history told log old new result (is_log, rep,
     let act = ChannelTaken c (length bytes) in
     let some_wait : 0 < length (channel_waiting c told) = rw (← is) some in
     let o = channel_open c told some_wait in
-    let within = channel_within old.bench config (bench log) told c rep.shared tells o in
-    let there : has_channel c (bench log) ≡ true = sym (has_channel_told c (bench log) told tells) ∙ o in
+    let within = channel_within old.device config (device_acts log) told c rep.device tells o in
+    let there : has_channel c (device_acts log) ≡ true = sym (has_channel_told c (device_acts log) told tells) ∙ o in
     let none = channel_free c (length bytes) config told log within there (ap (λ (l : List ℕ). length l) is) in
-    let (polled, said) = polled_now old.bench config (bench log) rep.shared in
+    let (polled, said) = polled_now old.device config (device_acts log) rep.device in
     let makes = makes_none (Intr c) (length bytes) config log polled result new said refl acts in
     let new_rep = took_done (Took (Intr c) (length bytes)) config told log polled result new said tells none acts makes in
     let still = channel_settled act config log settled in
@@ -158,7 +158,7 @@ stands_taken (Conn c) bytes config history told log old new result (is_log, rep,
     let o = waits_open c log some_wait in
     let within = waits_within c old config log rep o in
     let none = took_free c (length bytes) config told log within o (ap (λ (l : List ℕ). length l) is) in
-    let (polled, said) = polled_now old.bench config (bench log) rep.shared in
+    let (polled, said) = polled_now old.device config (device_acts log) rep.device in
     let makes = makes_none (Conn c) (length bytes) config log polled result new said refl acts in
     let new_rep = took_done (Took (Conn c) (length bytes)) config told log polled result new said tells none acts makes in
     let still = still_settled c (BytesTaken (length bytes)) config log settled in
@@ -187,7 +187,7 @@ nothing_shown port (byte ∷ bytes) config history told log state first last s i
 -- where the writer failed
 pub show_stopped : (port : Port) (bytes : List ℕ) (config : Config) (history : List PlainEvent) (told : List ChannelAct) (log : List Act)
     (state : State) (first last : Option (List ℕ)) (e : WriteFault) (r : Result ⊤ WriteFault) → StandsBy state config history told log
-    → bytes ≡ waiting_on told port log → IsErr r → Takes first last (Err e) (port_line port bytes)
+    → bytes ≡ waiting_on told port log → IsErr r → IsTakenByWriter first last (Err e) (port_line port bytes)
     → (line : List ℕ) × Appends first last line × ShowsPort port config history told log r state line
 show_stopped port bytes config history told log state first last e (Ok all) s is failed taken = absurd cc
 show_stopped port bytes config history told log state first last e (Err f) s is failed (part, front, put) =

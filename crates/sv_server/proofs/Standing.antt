@@ -6,10 +6,10 @@ use Rattle.sv_history.specs.declared.event.Did.{Did}
 use Rattle.sv_history.specs.declared.event.Refused.{Refused}
 use Rattle.sv_history.specs.declared.event.Refused.TheVariants.{NoMemory, ConnInUse, NoConn, NoRoom, NotSent, NoDial, NotRefusable, BadChannel, BadInput, TimeOver}
 use Rattle.sv_history.specs.Event.{PlainEvent, IsEvent}
-use Rattle.sv_history.specs.Act.{Act, bench}
+use Rattle.sv_history.specs.Act.{Act, device_acts}
 use Rattle.sv_history.specs.Settling.{IsSettled, SettlesIn}
 use Rattle.sv_links.specs.Channels.{ChannelAct}
-use Rattle.sv_history.specs.Requests.{Tells}
+use Rattle.sv_history.specs.Requests.{HearsOf}
 use Rattle.sv_history.specs.History.{own_acts, refusal, Answers}
 use Rattle.sv_server.specs.State.{State, Represents, StandsFor}
 use Rattle.sv_server.specs.Inside.Acting.{Acts, IsRefusal, Settled}
@@ -26,8 +26,8 @@ pub stands_after : (config : Config) (history : List PlainEvent) (event : PlainE
     → StandsFor new config (event ∷ history)
 stands_after config history event old mid new did s is_event acts settles =
     let (free, done, makes) = acts config s.log s.represents in
-    let (polled, said) = polled_now old.bench config (bench s.log) s.represents.shared in
-    let (told, tells) = told_now old.bench config (bench s.log) s.represents.shared in
+    let (polled, said) = polled_now old.device config (device_acts s.log) s.represents.device in
+    let (told, tells) = told_now old.device config (device_acts s.log) s.represents.device in
     let (last, steps, held) = settles config (own_acts config polled event s.log ++ s.log) (makes polled said) in
     record {
       log = last;
@@ -48,9 +48,9 @@ none_due config new (inr (none, inr (still, inr (idle, gives)))) = absurd (let z
 -- what refuses it by what was told
 told_so : (config : Config) (event : PlainEvent) (log : List Act) (what : Option Refused) (old : State) → Represents old config log
     → IsRefusal config event log what
-    → (told : List ChannelAct) × Tells (bench log) told × (refusal config told event log ≡ what)
+    → (told : List ChannelAct) × HearsOf (device_acts log) told × (refusal config told event log ≡ what)
 told_so config event log what old rep why =
-    let (told, tells) = told_now old.bench config (bench log) rep.shared in (told, tells, why told tells)
+    let (told, tells) = told_now old.device config (device_acts log) rep.device in (told, tells, why told tells)
 
 -- what a private function leaves says what is answered
 pub answered : (config : Config) (event : PlainEvent) (log : List Act) (r : Result Did Refused) (old new : State)
@@ -59,7 +59,7 @@ answered config event log (Ok what) old new rep (none, does, more) =
     let (told, tells, free) = told_so config event log None old rep none in (told, tells, (free, does))
 answered config event log (Err NoMemory) old new rep (none, wants) =
     let (told, tells, free) = told_so config event log None old rep none in
-    let (polled, said) = polled_now old.bench config (bench log) rep.shared in (told, tells, (free, polled, said, wants polled said))
+    let (polled, said) = polled_now old.device config (device_acts log) rep.device in (told, tells, (free, polled, said, wants polled said))
 answered config event log (Err ConnInUse) old new rep why = told_so config event log (Some ConnInUse) old rep why
 answered config event log (Err NoConn) old new rep why = told_so config event log (Some NoConn) old rep why
 answered config event log (Err NoRoom) old new rep why = told_so config event log (Some NoRoom) old rep why

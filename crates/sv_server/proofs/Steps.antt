@@ -3,21 +3,21 @@ use Rattle.std.proofs.Common.{ℕ, suc, zero, List, refl, inl, inr}
 use Rattle.sv_links.specs.Channels.{ChannelAct}
 use Rattle.sv_layers.proofs.PolledByte.{polled_byte}
 use Rattle.sv_history.specs.declared.event.Config.{Config}
-use Rattle.sv_history.specs.Act.{Act, BenchAct, instrument_acts}
-use Rattle.sv_history.specs.Requests.{Tells}
+use Rattle.sv_history.specs.Act.{Act, DeviceAct, instrument_acts}
+use Rattle.sv_history.specs.Requests.{HearsOf}
 use Rattle.sv_history.specs.PolledStatus.{IsPolled}
 use Rattle.sv_history.specs.Settling.{First, IsNext, IsSettled, SettlesIn}
 use Rattle.sv_server.specs.Inside.Acting.{Reaches}
-use Rattle.sv_server.specs.KeptBench.{IsBench, Bench as KeptBench}
+use Rattle.sv_server.specs.DeviceRepresentation.{IsDevice, Device as KeptDevice}
 
 -- what a poll would give
-pub polled_now : (kept : KeptBench) (config : Config) (acts : List BenchAct) → IsBench kept config acts
+pub polled_now : (kept : KeptDevice) (config : Config) (acts : List DeviceAct) → IsDevice kept config acts
     → (polled : ℕ) × IsPolled polled acts
 polled_now kept config acts is = polled_byte kept.instrument.layers (instrument_acts acts) is.1.layers
 
 -- what is told to interrupt channels
-pub told_now : (kept : KeptBench) (config : Config) (acts : List BenchAct) → IsBench kept config acts
-    → (told : List ChannelAct) × Tells acts told
+pub told_now : (kept : KeptDevice) (config : Config) (acts : List DeviceAct) → IsDevice kept config acts
+    → (told : List ChannelAct) × HearsOf acts told
 told_now kept config acts is = (is.6.0, is.6.1)
 
 -- none is due where there is none of either kind

@@ -8,14 +8,14 @@ use Rattle.sv_vxi.specs.Results.{Read as ReadResult}
 use Rattle.sv_history.specs.CoreChannel.{read_of}
 use Rattle.sv_history.specs.declared.event.Config.{Config}
 use Rattle.sv_links.specs.declared.waiting.Entry.{Entry}
-use Rattle.sv_history.specs.Act.{BenchAct, ConnAct}
+use Rattle.sv_history.specs.Act.{DeviceAct, ConnAct}
 use Rattle.sv_history.specs.Connection.{free, is_idle, open_role, next_call}
 use Rattle.sv_history.specs.declared.event.Refused.TheVariants.{NoRoom}
 use Rattle.sv_history.specs.History.{turn_refusal}
 use Rattle.sv_history.specs.CoreCall.{CoreCall}
-use Rattle.sv_server.specs.KeptBench.{Bench}
+use Rattle.sv_server.specs.DeviceRepresentation.{Device}
 use Rattle.sv_server.specs.Inside.Outcome.{EndsAs, Holds, HeldAs, xid_of}
-use Rattle.sv_server.specs.declared.outcomes.CallOutcome.{CallOutcome as Outcome}
+use Rattle.sv_server.specs.declared.device.call_outcome.CallOutcome.{CallOutcome as Outcome}
 use Rattle.sv_history.specs.Effect.{Effect}
 use Rattle.sv_history.specs.Request.{Request, NoCall, Decided, CoreRequest, PortRequest, abort_request, unless_decided, header_reply, request_of, core_call_of, core_call, asked, next_request}
 use Rattle.sv_history.specs.declared.event.Role.{Role}
@@ -63,12 +63,12 @@ core_alone role (Err (Version xid)) call e = absurd (let z : Decided xid Mismatc
 core_alone role (Err BadHeader) call e = absurd (let z : NoCall ≡ CoreRequest call = e in cc)
 
 -- what waits is held as is said
-pub held_as : (outcome : Outcome) (c : ℕ) (role : Role) (bytes : List ℕ) (request : Request) (shared : Bench) (config : Config)
-    (acts : List BenchAct) (effect : Effect) (old new : List Entry)
-    → request ≡ request_of role (call_at bytes) → EndsAs outcome (xid_of request) shared config acts effect
+pub held_as : (outcome : Outcome) (c : ℕ) (role : Role) (bytes : List ℕ) (request : Request) (device : Device) (config : Config)
+    (acts : List DeviceAct) (effect : Effect) (old new : List Entry)
+    → request ≡ request_of role (call_at bytes) → EndsAs outcome (xid_of request) device config acts effect
     → Holds outcome c request old new → HeldAs effect c (core_call bytes) old new
-held_as outcome c role bytes request shared config acts effect old new asks ends (inl same) = inl same
-held_as outcome c role bytes request shared config acts effect old new asks ends (inr (is, call, core, behind)) =
+held_as outcome c role bytes request device config acts effect old new asks ends (inl same) = inl same
+held_as outcome c role bytes request device config acts effect old new asks ends (inr (is, call, core, behind)) =
     let known = sym asks ∙ core in
     let read : core_call bytes ≡ Some call =
     ap (λ (r : Role). core_call_of (request_of r (call_at bytes))) (sym (core_alone role (call_at bytes) call known)) ∙ ap core_call_of known in

@@ -1,6 +1,6 @@
-pub mod Written
+pub mod TakenByWriter
 pub mod Replay
-pub mod KeptConnection
-pub mod KeptBench
+pub mod ConnectionRepresentation
+pub mod DeviceRepresentation
 pub mod State
 pub mod Inside

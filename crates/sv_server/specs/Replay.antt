@@ -9,22 +9,22 @@ use Rattle.sv_server.specs.declared.replay.ReplayFault.{ReplayFault}
 use Rattle.sv_server.specs.declared.replay.ReplayFault.TheVariants.{NoMemory, Write}
 use Rattle.sv_history.specs.Event.{PlainEvent}
 use Rattle.sv_links.specs.Channels.{ChannelAct}
-use Rattle.sv_history.specs.Act.{Act, bench}
-use Rattle.sv_history.specs.Requests.{Tells}
+use Rattle.sv_history.specs.Act.{Act, device_acts}
+use Rattle.sv_history.specs.Requests.{HearsOf}
 use Rattle.sv_history.specs.History.{IsLogOf, Answers, history_after}
 use Rattle.sv_history.specs.Print.{head_of, ports_after, lines_of, with_tooks, print_of}
-use Rattle.sv_server.specs.Written.{IsFront}
+use Rattle.sv_server.specs.TakenByWriter.{IsFront}
 
 -- The print was written, and then the peer took all that it shows; where memory was refused the print is that alone. Where the writer
 -- failed, it failed in the refusal's line; or the lines of some first ports were written, and the peer took what they show, and of the
 -- others' lines a front was written.
-abbrev pub Writes : Result Did Refused → List ChannelAct → List Act → List PlainEvent → Result ⊤ ReplayFault → List ℕ → List PlainEvent
+abbrev pub IsReplayWritten : Result Did Refused → List ChannelAct → List Act → List PlainEvent → Result ⊤ ReplayFault → List ℕ → List PlainEvent
     → Type 0
-Writes did told log history (Ok all) text after = (did ≢ Err refused.NoMemory) × (text ≡ print_of did told log)
+IsReplayWritten did told log history (Ok all) text after = (did ≢ Err refused.NoMemory) × (text ≡ print_of did told log)
     × (after ≡ with_tooks told (ports_after did) log history)
-Writes did told log history (Err NoMemory) text after =
+IsReplayWritten did told log history (Err NoMemory) text after =
     (did ≡ Err refused.NoMemory) × (text ≡ print_of did told log) × (after ≡ history)
-Writes did told log history (Err Write) text after = (IsFront text (head_of did) × (after ≡ history))
+IsReplayWritten did told log history (Err Write) text after = (IsFront text (head_of did) × (after ≡ history))
     ⊎ ((shown others : List Port) × (part : List ℕ) × (ports_after did ≡ shown ++ others) × IsFront part (lines_of told others log)
     × (text ≡ head_of did ++ (lines_of told shown log ++ part)) × (after ≡ with_tooks told shown log history))
 
@@ -38,5 +38,5 @@ pub record Replays (config : Config) (history : List PlainEvent) (event : PlainE
   pub log : List Act
   pub is_log : IsLogOf config (history_after event did history) log
   pub told : List ChannelAct
-  pub tells : Tells (bench log) told
-  pub writes : Writes did told log (history_after event did history) result text after
+  pub tells : HearsOf (device_acts log) told
+  pub writes : IsReplayWritten did told log (history_after event did history) result text after

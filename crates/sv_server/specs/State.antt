@@ -5,19 +5,19 @@ use Rattle.sv_history.specs.Event.{PlainEvent}
 use Rattle.std.specs.List.{AllByRecursion}
 use Rattle.sv_links.specs.declared.waiting.Entry.{Entry}
 use Rattle.sv_links.specs.Queue.{creates}
-use Rattle.sv_history.specs.Act.{Act, of, bench}
+use Rattle.sv_history.specs.Act.{Act, of, device_acts}
 use Rattle.sv_history.specs.Connection.{unanswered}
 use Rattle.sv_history.specs.CoreCall.{CoreCall}
 use Rattle.sv_history.specs.Request.{core_call}
 use Rattle.sv_vxi.specs.Arguments.{is_create_link}
-use Rattle.sv_server.specs.KeptConnection.{Connection, IsConnection}
-use Rattle.sv_server.specs.KeptBench.{Bench, IsBench}
+use Rattle.sv_server.specs.ConnectionRepresentation.{Connection, IsConnection}
+use Rattle.sv_server.specs.DeviceRepresentation.{Device, IsDevice}
 use Rattle.sv_history.specs.Settling.{IsSettled}
 use Rattle.sv_history.specs.History.{IsLogOf}
 
 pub record State : Type 0 where
   pub connections : List Connection
-  pub bench : Bench
+  pub device : Device
 
 -- whether a call of the core channel is a create_link
 abbrev pub creates_link : Option CoreCall → Bool
@@ -33,8 +33,8 @@ IsTaken log entry = (call : List ℕ) × (unanswered (of entry.conn log) ≡ Som
 pub record Represents (state : State) (config : Config) (log : List Act) : Type 0 where
   pub each : (c : ℕ) (other : Connection) → c < 16 → IsConnection (slice_index_or state.connections c other) (of c log)
   pub beyond : (c : ℕ) → 16 ≤ c → of c log ≡ []
-  pub shared : IsBench state.bench config (bench log)
-  pub taken : AllByRecursion (IsTaken log) state.bench.waiting
+  pub device : IsDevice state.device config (device_acts log)
+  pub taken : AllByRecursion (IsTaken log) state.device.waiting
 
 -- The server stands for a history: it keeps what the history's log says, and nothing is due.
 pub record StandsFor (state : State) (config : Config) (history : List PlainEvent) : Type 0 where

@@ -1,14 +1,18 @@
-//! What the server keeps of a connection.
+//! A connection: its bytes in and out, what its next record asks for, and replies as they are sent.
+//! It knows nothing of the device, nor of other connections.
 
 ghost use Rattle.std.specs.Prelude.{◌≡◌, ◌≢◌, ◌+◌, ◌≤◌, ◌||◌, not, ◌&&◌, ℕ, List, [], ◌∷◌, length, IfOk, IsSome, Some, None, true, false, is_some, nat_lt, option_map, if◌then◌else◌};
 ghost use Rattle.sv_rpc.specs.RecordBuf.{StandsFor, room_of, no_records};
 ghost use Rattle.sv_history.specs.Act.{ConnAct, Opened, Piece, CallTaken, Faulted, Replied, BytesTaken, PortClosed};
 ghost use Rattle.sv_history.specs.Connection.{is_open, unanswered, is_busy, next_call, is_idle, is_faulted, room, free, waiting};
-ghost use Rattle.sv_server.specs.KeptConnection.{IsConnection};
+ghost use Rattle.sv_server.specs.ConnectionRepresentation.{IsConnection};
 ghost use Rattle.sv_server.specs.Inside.Kept.{kept_next};
 ghost use Rattle.sv_server.specs.Inside.Outcome.{answer_bytes, IsShort};
 
-use crate::reply::{Answer, LONGEST_REPLY, put_reply};
+pub mod reply;
+pub mod request;
+
+use crate::connection::reply::{Answer, LONGEST_REPLY, put_reply};
 use std::alloc::{AllocError, Allocator};
 use std::marker::Model;
 use sv_history::Role;
@@ -32,7 +36,7 @@ pub struct Connection<A: Allocator> {
 }
 
 impl<A: Allocator> Model for Connection<A> {
-    ghost use Rattle.sv_server.specs.KeptConnection.{Connection};
+    ghost use Rattle.sv_server.specs.ConnectionRepresentation.{Connection};
 
     ghost Value = { Connection };
 

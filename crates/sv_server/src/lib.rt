@@ -1,28 +1,16 @@
 //! The server: events in, and out the bytes of every reply.
+//!
+//! Four rooms, each with a first file that says what it is for: [`device`] is what all connections
+//! share, [`connection`] is one connection, [`server`] joins them, [`replay`] prints. What the
+//! server is to do says the crate `sv_history`.
 #![tactic(auto)]
 
-mod abort_channel;
-mod admission;
-mod bench;
 mod connection;
-mod core_call;
-mod core_channel;
-mod dialing;
-mod execution;
-mod inputs;
-mod interrupts;
-mod outcomes;
-mod print;
-mod refusing;
+mod device;
 mod replay;
-mod reply;
-mod request;
-mod resuming;
 mod server;
-mod settling;
-mod turn;
 
-pub use inputs::input_refusal;
 pub use replay::ReplayFault;
 pub use server::Server;
+pub use server::input_check::input_refusal;
 pub use sv_history::{Config, Dial, Did, Event, Port, Refused, Role, laws};

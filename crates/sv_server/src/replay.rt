@@ -1,4 +1,5 @@
-//! The replay of an event: it is done, and what then waits is written and taken.
+//! The replay of an event: it is done, and what then waits is written and taken. It asks of the
+//! server what any caller may.
 
 ghost use Rattle.std.specs.Prelude.{◌≡◌, ℕ, List};
 ghost use Rattle.std.specs.Io.KnownBytes.{Appends};
@@ -12,7 +13,9 @@ ghost use Rattle.sv_history.specs.Print.{port_of, is_no_memory};
 ghost use Rattle.sv_server.specs.Replay.{Replays};
 ghost use Rattle.sv_server.specs.Inside.Showing.{StandsBy, ShowsPort, ShowsAll};
 
-use crate::print::{WriteFault, put_line, put_refusal};
+pub mod print;
+
+use crate::replay::print::{WriteFault, put_line, put_refusal};
 use crate::server::Server;
 use std::alloc::Allocator;
 use std::io::Write;

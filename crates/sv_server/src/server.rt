@@ -1,24 +1,33 @@
-//! The server: connections, links and the instrument behind them.
+//! The server: it joins the connections and the device. An event is refused or done, and then the
+//! steps that are due are taken.
 
 ghost use Rattle.std.specs.Prelude.{◌≡◌, ◌<◌, ◌≤◌, ◌++◌, ℕ, not, List, [], length, slice_index_or, true, false, if◌then◌else◌, MatchOption, Some, None, IfOk, OnErr};
 ghost use Rattle.sv_history.specs.declared.event.Config.{Config};
 ghost use Rattle.sv_links.specs.Channels.{ChannelAct};
 ghost use Rattle.sv_history.specs.Event.{PlainEvent, Open, Bytes, Turn, Refuse, Took, Close, Input, External, Tick, plain, IsEvent};
 ghost use Rattle.sv_links.specs.Waiting.{waits};
-ghost use Rattle.sv_history.specs.Act.{Act, of, bench, wait_acts};
+ghost use Rattle.sv_history.specs.Act.{Act, of, device_acts, wait_acts};
 ghost use Rattle.sv_history.specs.Connection.{is_open, waiting_on, room, is_idle, is_faulted};
 ghost use Rattle.sv_history.specs.History.{abort_acts, is_shut, is_port_shut, IsLogOf, Answers, history_after};
-ghost use Rattle.sv_history.specs.Requests.{Tells};
+ghost use Rattle.sv_history.specs.Requests.{HearsOf};
 ghost use Rattle.sv_history.specs.Queries.{Answered, WaitOn};
-ghost use Rattle.sv_server.specs.KeptConnection.{Connection as KeptConnection, IsConnection};
+ghost use Rattle.sv_server.specs.ConnectionRepresentation.{Connection as KeptConnection, IsConnection};
 ghost use Rattle.sv_server.specs.State.{Represents, StandsFor};
 ghost use Rattle.sv_server.specs.Inside.Acting.{Acts};
 
-use crate::bench::Bench;
+pub mod dialing;
+pub mod execution;
+pub mod input_check;
+pub mod refusing;
+pub mod resuming;
+pub mod settling;
+pub mod turn;
+
 use crate::connection::Connection;
-use crate::inputs::may_input;
-use crate::refusing::refuse;
-use crate::turn::{Turned, turn};
+use crate::device::Device;
+use crate::server::input_check::may_input;
+use crate::server::refusing::refuse;
+use crate::server::turn::{Turned, turn};
 use std::alloc::{AllocError, Allocator, Global};
 use std::marker::Model;
 use sv_history::{Config, Did, Event, Port, Refused, Role};
@@ -31,7 +40,7 @@ pub(crate) const CONNECTIONS: usize = 16;
 #[derive(Drop)]
 pub struct Server<A: Allocator = Global> {
     pub(crate) connections: Vec<Connection<A>, A>,
-    pub(crate) bench: Bench<A>,
+    pub(crate) device: Device<A>,
 }
 
 impl<A: Allocator> Model for Server<A> {
@@ -41,7 +50,7 @@ impl<A: Allocator> Model for Server<A> {
 
     ghost use Rattle.std.specs.Prelude.{◌≡◌, length};
 
-    ghost view = { λ a. record { connections = a.connections.items; bench = a.bench } };
+    ghost view = { λ a. record { connections = a.connections.items; device = a.device } };
 
     ghost invariant = { λ a. length a.connections.items ≡ 16 };
 }
@@ -55,7 +64,7 @@ impl<A: Allocator + Copy> Server<A> {
     {
         Ok(Server {
             connections: connections(alloc)?,
-            bench: Bench::new(alloc, config)?,
+            device: Device::new(alloc, config)?,
         })
     }
 }
@@ -87,7 +96,7 @@ impl<A: Allocator> Server<A> {
     /// The bytes that wait on a port.
     pub(crate) fn outgoing(&self, port: Port) -> &[u8]
         ensures exact { (config : Config) (log : List Act) (told : List ChannelAct)
-            → Represents self.now config log → Tells (bench log) told
+            → Represents self.now config log → HearsOf (device_acts log) told
             → result.now ≡ waiting_on told port log }
         ensures bounded { length result.now ≤ 16384 }
     {
@@ -243,7 +252,7 @@ impl<A: Allocator> Server<A> {
             return Err(Refused::NoConn);
         }
         connection.close();
-        self.bench.close_connection(conn);
+        self.device.close_connection(conn);
         Ok(Did::Done)
     }
 
@@ -253,10 +262,10 @@ impl<A: Allocator> Server<A> {
             → Acts config Tick log result self.new }
         ensures err { OnErr result (self.new ≡ self.old) }
     {
-        if self.bench.is_at_end() {
+        if self.device.is_at_end() {
             return Err(Refused::TimeOver);
         }
-        self.bench.tick();
+        self.device.tick();
         Ok(Did::Done)
     }
 
@@ -268,7 +277,7 @@ impl<A: Allocator> Server<A> {
     {
         match may_input(channel, microvolts) {
             Ok(did) => {
-                self.bench.input(channel, microvolts);
+                self.device.input(channel, microvolts);
                 Ok(did)
             }
             Err(refused) => Err(refused),
@@ -281,7 +290,7 @@ impl<A: Allocator> Server<A> {
             → Acts config External log result self.new }
         ensures err { OnErr result (self.new ≡ self.old) }
     {
-        self.bench.external();
+        self.device.external();
         Ok(Did::Done)
     }
 
@@ -298,7 +307,7 @@ impl<A: Allocator> Server<A> {
         let Some(role) = connection.role() else {
             return Err(Refused::NoConn);
         };
-        match turn(connection, &mut self.bench, conn, role) {
+        match turn(connection, &mut self.device, conn, role) {
             Ok(Turned::Idle) => Ok(Did::Idle),
             Ok(Turned::Done { aborts }) => {
                 self.abort(aborts);
@@ -330,7 +339,7 @@ impl<A: Allocator> Server<A> {
     /// Ends the call of a connection, which waits, by device_abort; of none where there is none.
     fn abort(&mut self, aborts: Option<u8>)
         ensures { (config : Config) (log : List Act) → Represents self.old config log
-            → ((conn : ℕ) → aborts ≡ Some conn → waits conn (wait_acts (bench log)) ≡ None → ⊥)
+            → ((conn : ℕ) → aborts ≡ Some conn → waits conn (wait_acts (device_acts log)) ≡ None → ⊥)
             → Represents self.new config (abort_acts aborts log ++ log) }
     {
         match aborts {
@@ -342,7 +351,7 @@ impl<A: Allocator> Server<A> {
     /// Ends the call of a connection, which waits, by device_abort.
     fn abort_call(&mut self, conn: u8)
         ensures { (config : Config) (log : List Act) → Represents self.old config log
-            → (waits conn (wait_acts (bench log)) ≡ None → ⊥)
+            → (waits conn (wait_acts (device_acts log)) ≡ None → ⊥)
             → Represents self.new config (abort_acts (Some conn) log ++ log) }
     {
         if usize::from(conn) < CONNECTIONS {

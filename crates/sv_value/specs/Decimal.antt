@@ -48,7 +48,7 @@ is_down text = not (is_empty (exponent_in text)) && has_minus (behind_mark text)
 abbrev pub behind_exponent : List ℕ → List ℕ
 behind_exponent text = if is_empty (exponent_in text) then text else behind_digits (behind_sign (behind_mark text))
 
--- the number_parts of a number
+-- the parts of a number
 pub record Parts : Type 0 where
   pub negative : Bool
   pub whole : List ℕ

@@ -7,15 +7,15 @@ use Rattle.sv_history.specs.declared.event.Did.{Did}
 use Rattle.sv_history.specs.declared.event.Did.TheVariants.{Done as DidSo}
 use Rattle.sv_history.specs.declared.event.Refused.{Refused}
 use Rattle.sv_history.specs.declared.event.Refused.TheVariants.{NoMemory}
-use Rattle.sv_server.specs.declared.turn.Turned.{Turned}
-use Rattle.sv_server.specs.declared.turn.Turned.TheVariants.{Idle, Done}
-use Rattle.sv_server.specs.declared.settling.Stepped.{Stepped}
-use Rattle.sv_server.specs.declared.settling.Stepped.TheVariants.{Nothing, Instrument, Call}
+use Rattle.sv_server.specs.declared.server.turn.Turned.{Turned}
+use Rattle.sv_server.specs.declared.server.turn.Turned.TheVariants.{Idle, Done}
+use Rattle.sv_server.specs.declared.server.settling.Stepped.{Stepped}
+use Rattle.sv_server.specs.declared.server.settling.Stepped.TheVariants.{Nothing, Instrument, Call}
 use Rattle.sv_links.specs.Channels.{ChannelAct}
 use Rattle.sv_history.specs.Event.{PlainEvent}
-use Rattle.sv_history.specs.Requests.{Tells}
+use Rattle.sv_history.specs.Requests.{HearsOf}
 use Rattle.sv_layers.specs.Act.{Act as InstrumentAct}
-use Rattle.sv_history.specs.Act.{Act, ConnAct, BenchAct, CallTaken, Replied, Happened, of, bench, instrument_acts}
+use Rattle.sv_history.specs.Act.{Act, ConnAct, DeviceAct, CallTaken, Replied, Happened, of, device_acts, instrument_acts}
 use Rattle.sv_history.specs.CoreCall.{CoreCall}
 use Rattle.sv_history.specs.Request.{Request, core_call, next_request}
 use Rattle.sv_history.specs.Effect.{Effect}
@@ -25,48 +25,48 @@ use Rattle.sv_history.specs.PolledStatus.{IsPolled}
 use Rattle.sv_history.specs.Settling.{IsNext, IsSettled, SettlesIn, Settles}
 use Rattle.sv_history.specs.Refusing.{refusable, refused_reply}
 use Rattle.sv_history.specs.History.{refusal, turn_refusal, refuse_refusal, own_acts, did, wants_memory, is_beyond, input_refusal}
-use Rattle.sv_server.specs.KeptConnection.{Connection, IsConnection}
-use Rattle.sv_server.specs.KeptBench.{Bench, IsBench}
+use Rattle.sv_server.specs.ConnectionRepresentation.{Connection, IsConnection}
+use Rattle.sv_server.specs.DeviceRepresentation.{Device, IsDevice}
 use Rattle.sv_server.specs.State.{State, Represents}
 use Rattle.sv_server.specs.Inside.Outcome.{HeldAs, WaitsOn}
 
 -- This is what refuses an event.
 abbrev pub IsRefusal : Config → PlainEvent → List Act → Option Refused → Type 0
-IsRefusal config event log what = (told : List ChannelAct) → Tells (bench log) told → refusal config told event log ≡ what
+IsRefusal config event log what = (told : List ChannelAct) → HearsOf (device_acts log) told → refusal config told event log ≡ what
 
 -- An event that isn't refused adds its own acts.
 abbrev pub Acts : Config → PlainEvent → List Act → Result Did Refused → State → Type 0
 Acts config event log (Ok what) new = IsRefusal config event log None × (what ≡ did event log)
-    × ((polled : ℕ) → IsPolled polled (bench log) → Represents new config (own_acts config polled event log ++ log))
+    × ((polled : ℕ) → IsPolled polled (device_acts log) → Represents new config (own_acts config polled event log ++ log))
 Acts config event log (Err NoMemory) new = IsRefusal config event log None
-    × ((polled : ℕ) → IsPolled polled (bench log) → wants_memory (bench (own_acts config polled event log)) ≡ true)
+    × ((polled : ℕ) → IsPolled polled (device_acts log) → wants_memory (device_acts (own_acts config polled event log)) ≡ true)
 Acts config event log (Err refused) new = IsRefusal config event log (Some refused)
 
 -- The call that was taken comes to this.
-abbrev pub Concludes : Effect → Config → List ConnAct → List BenchAct → Connection → Bench → Type 0
-Concludes effect config acts before connection shared =
-    IsConnection connection (effect.own ++ acts) × IsBench shared config (effect.adds ++ before)
+abbrev pub Concludes : Effect → Config → List ConnAct → List DeviceAct → Connection → Device → Type 0
+Concludes effect config acts before connection device =
+    IsConnection connection (effect.own ++ acts) × IsDevice device config (effect.adds ++ before)
 
 -- A call that waited went on so.
-abbrev pub WentOn : Effect → ℕ → Option CoreCall → Config → List ConnAct → List BenchAct → List Entry → Connection → Bench → Type 0
-WentOn effect c call config acts before old connection shared =
-    Concludes effect config acts before connection shared × WaitsOn effect c call old shared.waiting
+abbrev pub WentOn : Effect → ℕ → Option CoreCall → Config → List ConnAct → List DeviceAct → List Entry → Connection → Device → Type 0
+WentOn effect c call config acts before old connection device =
+    Concludes effect config acts before connection device × WaitsOn effect c call old device.waiting
 
 -- A Turn of an open connection takes its next call, where there is one.
 abbrev pub TakesCall : Config → ℕ → List Act → List ℕ → Request → (Effect → Type 0) → Type 0
 TakesCall config c log call request IsSo = (next_call (of c log) ≡ Some call) × (next_request (of c log) ≡ Some request)
-    × ((polled : ℕ) → IsPolled polled (bench log) → IsSo (request_effect config polled c request (bench log)))
+    × ((polled : ℕ) → IsPolled polled (device_acts log) → IsSo (request_effect config polled c request (device_acts log)))
 
-abbrev pub Turns : Config → ℕ → List Act → List Entry → Result Turned Refused → Connection → Bench → Type 0
-Turns config c log old (Ok Idle) connection shared = (turn_refusal (of c log) ≡ None) × (is_idle (of c log) ≡ true)
-    × IsConnection connection (of c log) × IsBench shared config (bench log) × (shared.waiting ≡ old)
-Turns config c log old (Ok (Done aborted)) connection shared = (turn_refusal (of c log) ≡ None) × (is_idle (of c log) ≡ false)
-    × (call : List ℕ) × (request : Request) × (aborted ≡ aborts request (bench log))
-    × TakesCall config c log call request (λ effect. Concludes effect config (CallTaken call ∷ of c log) (bench log) connection shared
-    × HeldAs effect c (core_call call) old shared.waiting)
-Turns config c log old (Err NoMemory) connection shared = (turn_refusal (of c log) ≡ None) × (call : List ℕ) × (request : Request)
+abbrev pub Turns : Config → ℕ → List Act → List Entry → Result Turned Refused → Connection → Device → Type 0
+Turns config c log old (Ok Idle) connection device = (turn_refusal (of c log) ≡ None) × (is_idle (of c log) ≡ true)
+    × IsConnection connection (of c log) × IsDevice device config (device_acts log) × (device.waiting ≡ old)
+Turns config c log old (Ok (Done aborted)) connection device = (turn_refusal (of c log) ≡ None) × (is_idle (of c log) ≡ false)
+    × (call : List ℕ) × (request : Request) × (aborted ≡ aborts request (device_acts log))
+    × TakesCall config c log call request (λ effect. Concludes effect config (CallTaken call ∷ of c log) (device_acts log) connection device
+    × HeldAs effect c (core_call call) old device.waiting)
+Turns config c log old (Err NoMemory) connection device = (turn_refusal (of c log) ≡ None) × (call : List ℕ) × (request : Request)
     × TakesCall config c log call request (λ effect. wants_memory effect.adds ≡ true)
-Turns config c log old (Err refused) connection shared = turn_refusal (of c log) ≡ Some refused
+Turns config c log old (Err refused) connection device = turn_refusal (of c log) ≡ Some refused
 
 -- A Refuse of an open connection takes and answers its next call, or is refused.
 abbrev pub Refuses : List ConnAct → Result ⊤ Refused → Connection → Type 0
@@ -86,9 +86,9 @@ TakesStep IsStep true config log old new = (next : List Act) × IsStep config lo
 TakesStep IsStep false config log old new = ((next : List Act) → IsStep config log next → ⊥) × (new ≡ old)
 
 -- The same of the instrument alone.
-abbrev pub InstrumentSteps : (List InstrumentAct → List InstrumentAct → Type 0) → Bool → Config → List BenchAct → Bench → Bench → Type 0
+abbrev pub InstrumentSteps : (List InstrumentAct → List InstrumentAct → Type 0) → Bool → Config → List DeviceAct → Device → Device → Type 0
 InstrumentSteps IsSuch true config acts old new = (adds : List InstrumentAct)
-    × IsSuch (instrument_acts acts) (adds ++ instrument_acts acts) × IsBench new config (map Happened adds ++ acts)
+    × IsSuch (instrument_acts acts) (adds ++ instrument_acts acts) × IsDevice new config (map Happened adds ++ acts)
 InstrumentSteps IsSuch false config acts old new =
     ((next : List InstrumentAct) → IsSuch (instrument_acts acts) next → ⊥) × (new ≡ old)
 

@@ -2,7 +2,7 @@
 use Rattle.std.specs.Prelude.{◌≡◌, ◌||◌, ℕ, ◌+◌, ◌<◌, ◌≤◌, List, Option, Some, None, slice_get, if◌then◌else◌}
 use Rattle.sv_links.specs.declared.waiting.Entry.{Entry}
 use Rattle.sv_links.specs.Queue.{entry_of, without, rank_of, rank}
-use Rattle.sv_server.specs.KeptConnection.{Connection}
+use Rattle.sv_server.specs.ConnectionRepresentation.{Connection}
 
 -- the call to take next
 abbrev pub kept_next : Connection → Option (List ℕ)

@@ -15,28 +15,28 @@ use Rattle.sv_links.specs.Waiting.{Left, waits}
 use Rattle.sv_links.specs.Queue.{creates, creations, without, anew}
 use Rattle.sv_exchange.specs.Exchange.{response}
 use Rattle.sv_history.specs.declared.event.Config.{Config}
-use Rattle.sv_history.specs.Act.{BenchAct, Waited, Faulted, Replied, link_acts, wait_acts, exchange_acts}
+use Rattle.sv_history.specs.Act.{DeviceAct, Waited, Faulted, Replied, link_acts, wait_acts, exchange_acts}
 use Rattle.sv_history.specs.Reply.{reply_record}
 use Rattle.sv_history.specs.CallOutcome.{CallOutcome}
 use Rattle.sv_history.specs.Effect.{Effect, call_effect}
 use Rattle.sv_history.specs.CoreCall.{CoreCall}
 use Rattle.sv_history.specs.Request.{Request, NoCall, Decided, CoreRequest, AbortRequest, PortRequest}
 use Rattle.sv_history.specs.CoreChannel.{reads, own_call}
-use Rattle.sv_history.specs.Admission.{Stop, Fails, Awaits, stop_of, begun}
+use Rattle.sv_history.specs.Admission.{Stop, Fails, Awaits, stop_of, admitted}
 use Rattle.sv_history.specs.Execution.{request_effect}
 use Rattle.sv_history.specs.Resuming.{continued}
 use Rattle.sv_history.specs.PolledStatus.{IsPolled}
 use Rattle.sv_history.specs.History.{wants_memory}
-use Rattle.sv_server.specs.declared.reply.Answer.{Answer}
-use Rattle.sv_server.specs.declared.reply.Answer.TheVariants as answers
-use Rattle.sv_server.specs.declared.outcomes.CallOutcome.{CallOutcome as Outcome}
-use Rattle.sv_server.specs.declared.outcomes.CallOutcome.TheVariants as outcomes
-use Rattle.sv_server.specs.declared.core_call.CoreCall.{CoreCall as TakenCall}
-use Rattle.sv_server.specs.declared.request.Request.{Request as Asked}
-use Rattle.sv_server.specs.declared.request.Request.TheVariants as requests
-use Rattle.sv_server.specs.declared.admission.Stop.{Stop as StoppedBy}
-use Rattle.sv_server.specs.declared.admission.Stop.TheVariants as stops
-use Rattle.sv_server.specs.KeptBench.{Bench, IsBench, HasPlace}
+use Rattle.sv_server.specs.declared.connection.reply.Answer.{Answer}
+use Rattle.sv_server.specs.declared.connection.reply.Answer.TheVariants as answers
+use Rattle.sv_server.specs.declared.device.call_outcome.CallOutcome.{CallOutcome as Outcome}
+use Rattle.sv_server.specs.declared.device.call_outcome.CallOutcome.TheVariants as outcomes
+use Rattle.sv_server.specs.declared.device.core_call.CoreCall.{CoreCall as TakenCall}
+use Rattle.sv_server.specs.declared.connection.request.Request.{Request as Asked}
+use Rattle.sv_server.specs.declared.connection.request.Request.TheVariants as requests
+use Rattle.sv_server.specs.declared.device.admission.Stop.{Stop as StoppedBy}
+use Rattle.sv_server.specs.declared.device.admission.Stop.TheVariants as stops
+use Rattle.sv_server.specs.DeviceRepresentation.{Device, IsDevice, HasPlace}
 use Rattle.sv_server.specs.State.{creates_link}
 
 -- ---- values of the code as plain data
@@ -92,9 +92,9 @@ plain_stop (stops.Awaits wait timeout) = Awaits wait timeout
 
 -- ---- what comes of a call
 
--- The bench keeps what its acts say, and a poll would give this.
-abbrev pub IsBenchAt : Bench → Config → ℕ → List BenchAct → Type 0
-IsBenchAt kept config polled acts = IsBench kept config acts × IsPolled polled acts
+-- The device keeps what its acts say, and a poll would give this.
+abbrev pub IsDeviceAt : Device → Config → ℕ → List DeviceAct → Type 0
+IsDeviceAt kept config polled acts = IsDevice kept config acts × IsPolled polled acts
 
 -- A result has no data, but for what is to be read of the response.
 abbrev pub IsBrief : Outcome → Type 0
@@ -107,26 +107,26 @@ IsResult (Some told) result = told ≡ result
 IsResult None result = ⊥
 
 -- A call comes to this. What it reads of the response is still to be read.
-abbrev pub OutcomeIs : Outcome → Bench → Config → List BenchAct → CallOutcome → Type 0
-OutcomeIs (outcomes.Result given) shared config acts what = IsResult what.result (plain_result given)
-    × IsBench shared config (what.adds ++ acts)
-OutcomeIs (outcomes.Reads most term) shared config acts what = (what ≡ reads (response (exchange_acts acts)) most term)
-    × IsBench shared config acts
-OutcomeIs outcomes.Suspended shared config acts what = (what.result ≡ None) × IsBench shared config (what.adds ++ acts)
-OutcomeIs _ shared config acts what = ⊥
+abbrev pub OutcomeIs : Outcome → Device → Config → List DeviceAct → CallOutcome → Type 0
+OutcomeIs (outcomes.Result given) device config acts what = IsResult what.result (plain_result given)
+    × IsDevice device config (what.adds ++ acts)
+OutcomeIs (outcomes.Reads most term) device config acts what = (what ≡ reads (response (exchange_acts acts)) most term)
+    × IsDevice device config acts
+OutcomeIs outcomes.Suspended device config acts what = (what.result ≡ None) × IsDevice device config (what.adds ++ acts)
+OutcomeIs _ device config acts what = ⊥
 
 -- And so does a record.
-abbrev pub EndsAs : Outcome → ℕ → Bench → Config → List BenchAct → Effect → Type 0
-EndsAs outcomes.NoCall xid shared config acts effect = (effect.own ≡ Faulted ∷ []) × IsBench shared config (effect.adds ++ acts)
-EndsAs (outcomes.Header reply) xid shared config acts effect = (effect.own ≡ Replied (answer_bytes xid (answers.Header reply)) ∷ [])
-    × IsBench shared config (effect.adds ++ acts)
-EndsAs (outcomes.Port port) xid shared config acts effect = (effect.own ≡ Replied (answer_bytes xid (answers.Port port)) ∷ [])
-    × IsBench shared config (effect.adds ++ acts)
-EndsAs (outcomes.Result given) xid shared config acts effect = (effect.own ≡ Replied (answer_bytes xid (answers.Result given)) ∷ [])
-    × IsBench shared config (effect.adds ++ acts)
-EndsAs (outcomes.Reads most term) xid shared config acts effect =
-    (effect ≡ call_effect xid (reads (response (exchange_acts acts)) most term)) × IsBench shared config acts
-EndsAs outcomes.Suspended xid shared config acts effect = (effect.own ≡ []) × IsBench shared config (effect.adds ++ acts)
+abbrev pub EndsAs : Outcome → ℕ → Device → Config → List DeviceAct → Effect → Type 0
+EndsAs outcomes.NoCall xid device config acts effect = (effect.own ≡ Faulted ∷ []) × IsDevice device config (effect.adds ++ acts)
+EndsAs (outcomes.Header reply) xid device config acts effect = (effect.own ≡ Replied (answer_bytes xid (answers.Header reply)) ∷ [])
+    × IsDevice device config (effect.adds ++ acts)
+EndsAs (outcomes.Port port) xid device config acts effect = (effect.own ≡ Replied (answer_bytes xid (answers.Port port)) ∷ [])
+    × IsDevice device config (effect.adds ++ acts)
+EndsAs (outcomes.Result given) xid device config acts effect = (effect.own ≡ Replied (answer_bytes xid (answers.Result given)) ∷ [])
+    × IsDevice device config (effect.adds ++ acts)
+EndsAs (outcomes.Reads most term) xid device config acts effect =
+    (effect ≡ call_effect xid (reads (response (exchange_acts acts)) most term)) × IsDevice device config acts
+EndsAs outcomes.Suspended xid device config acts effect = (effect.own ≡ []) × IsDevice device config (effect.adds ++ acts)
 
 -- GETPORT is answered so.
 abbrev pub IsPortReply : Outcome → ℕ → List ℕ → Type 0
@@ -135,7 +135,7 @@ IsPortReply (outcomes.Port port) xid bytes = bytes ≡ answer_bytes xid (answers
 IsPortReply _ xid bytes = ⊥
 
 -- Where a call makes a link, there is a place for it, and the lock is free where it asks for it.
-abbrev pub IsGranted : Arguments → Bench → List BenchAct → Type 0
+abbrev pub IsGranted : Arguments → Device → List DeviceAct → Type 0
 IsGranted (CreateLink client_id lock_device lock_timeout device) kept acts =
     HasPlace kept acts × (lock_device ≡ true → is_locked_out (holder (link_acts acts)) None ≡ false)
 IsGranted _ kept acts = ⊤
@@ -162,32 +162,32 @@ HeldAs effect c call old new = (new ≡ old) ⊎ ((effect.own ≡ []) × IsBehin
 -- ---- a call that begins
 
 -- A call or a record comes to this, or memory is wanting and nothing changed.
-pub record Does (IsSo : Config → ℕ → List BenchAct → Outcome → Type 0) (Wants : Config → ℕ → List BenchAct → Type 0)
-    {E : Type 0} (result : Result Outcome E) (old new : Bench) : Type 0 where
-  pub does : (config : Config) (polled : ℕ) (acts : List BenchAct) → IsBenchAt old config polled acts
+pub record Does (IsSo : Config → ℕ → List DeviceAct → Outcome → Type 0) (Wants : Config → ℕ → List DeviceAct → Type 0)
+    {E : Type 0} (result : Result Outcome E) (old new : Device) : Type 0 where
+  pub does : (config : Config) (polled : ℕ) (acts : List DeviceAct) → IsDeviceAt old config polled acts
       → IfOk result (λ outcome. IsSo config polled acts outcome)
-  pub lacks : (config : Config) (polled : ℕ) (acts : List BenchAct) → IsBenchAt old config polled acts
+  pub lacks : (config : Config) (polled : ℕ) (acts : List DeviceAct) → IsDeviceAt old config polled acts
       → OnErr result (Wants config polled acts)
   pub brief : IfOk result (λ outcome. IsBrief outcome)
   pub err : OnErr result (new ≡ old)
 
 -- The call begins, where at these acts it is stopped so.
-abbrev pub Begins : (List BenchAct → Type 0) → {E : Type 0} → Result Outcome E → ℕ → Arguments → Bench → Bench → Type 0
+abbrev pub Begins : (List DeviceAct → Type 0) → {E : Type 0} → Result Outcome E → ℕ → Arguments → Device → Device → Type 0
 Begins IsAt result c arguments old new =
     Does (λ config polled acts outcome. IsAt acts
-    → OutcomeIs outcome new config acts (begun config polled c arguments (stop_of c arguments acts) acts)
+    → OutcomeIs outcome new config acts (admitted config polled c arguments (stop_of c arguments acts) acts)
     × Enters outcome c (is_create_link arguments) old.waiting new.waiting)
-    (λ config polled acts. IsAt acts → wants_memory (begun config polled c arguments (stop_of c arguments acts) acts).adds ≡ true)
+    (λ config polled acts. IsAt acts → wants_memory (admitted config polled c arguments (stop_of c arguments acts) acts).adds ≡ true)
     result old new
 
-abbrev pub Admits : {E : Type 0} → Result Outcome E → ℕ → Arguments → Bench → Bench → Type 0
+abbrev pub Admits : {E : Type 0} → Result Outcome E → ℕ → Arguments → Device → Device → Type 0
 Admits result c arguments old new = Begins (λ acts. ⊤) result c arguments old new
 
-abbrev pub AdmitsAt : Option Stop → {E : Type 0} → Result Outcome E → ℕ → Arguments → Bench → Bench → Type 0
+abbrev pub AdmitsAt : Option Stop → {E : Type 0} → Result Outcome E → ℕ → Arguments → Device → Device → Type 0
 AdmitsAt stop result c arguments old new = Begins (λ acts. stop_of c arguments acts ≡ stop) result c arguments old new
 
 -- What a record asks for is done.
-abbrev pub Executes : Request → {E : Type 0} → Result Outcome E → ℕ → Bench → Bench → Type 0
+abbrev pub Executes : Request → {E : Type 0} → Result Outcome E → ℕ → Device → Device → Type 0
 Executes request result c old new =
     Does (λ config polled acts outcome. EndsAs outcome (xid_of request) new config acts (request_effect config polled c request acts)
     × Holds outcome c request old.waiting new.waiting)
@@ -196,17 +196,17 @@ Executes request result c old new =
 -- ---- a call that was suspended
 
 -- Where a call that waits makes a link, its place is there, and the lock is free.
-abbrev pub MayMake : Arguments → ℕ → Bench → List BenchAct → Type 0
+abbrev pub MayMake : Arguments → ℕ → Device → List DeviceAct → Type 0
 MayMake (CreateLink client_id lock_device lock_timeout device) c kept acts =
     (creations (without c kept.waiting) < creations kept.waiting) × (is_locked_out (holder (link_acts acts)) None ≡ false)
 MayMake _ c kept acts = ⊤
 
 -- It waits anew for this; or it is done, once it waits no more.
-abbrev pub ResumedAs : Option Wait → Outcome → Bench → Config → ℕ → ℕ → Arguments → List BenchAct → Type 0
-ResumedAs (Some wait) outcome shared config polled c arguments acts =
-    OutcomeIs outcome shared config acts (continued config polled c arguments (Some wait) acts)
-ResumedAs None outcome shared config polled c arguments acts =
-    OutcomeIs outcome shared config (Waited (Left c) ∷ acts) (own_call config polled c arguments (Waited (Left c) ∷ acts))
+abbrev pub ResumedAs : Option Wait → Outcome → Device → Config → ℕ → ℕ → Arguments → List DeviceAct → Type 0
+ResumedAs (Some wait) outcome device config polled c arguments acts =
+    OutcomeIs outcome device config acts (continued config polled c arguments (Some wait) acts)
+ResumedAs None outcome device config polled c arguments acts =
+    OutcomeIs outcome device config (Waited (Left c) ∷ acts) (own_call config polled c arguments (Waited (Left c) ∷ acts))
 
 -- It stands among those that wait no more; or it waits for something else, and makes no link.
 abbrev pub Resumes : Outcome → ℕ → Bool → List Entry → List Entry → Type 0
@@ -214,7 +214,7 @@ Resumes outcome c makes old new = (new ≡ without c old)
     ⊎ ((outcome ≡ outcomes.Suspended) × (wait : Wait) × (deadline : Option ℕ) × (new ≡ map (anew c wait deadline) old) × (makes ≡ false))
 
 -- A call that waits can go on: what it waits for is there, and where it makes a link, it waits for the lock as such.
-abbrev pub MayGoOn : Entry → Option CoreCall → Bench → List BenchAct → Type 0
+abbrev pub MayGoOn : Entry → Option CoreCall → Device → List DeviceAct → Type 0
 MayGoOn entry call kept acts = (waits entry.conn (wait_acts acts) ≡ None → ⊥)
     × (creates_link call ≡ true → (creations (without entry.conn kept.waiting) < creations kept.waiting)
     × (is_locked_out (holder (link_acts acts)) None ≡ false))

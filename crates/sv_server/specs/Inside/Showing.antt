@@ -2,29 +2,29 @@
 use Rattle.std.specs.Prelude.{◌≡◌, ℕ, List, [], ◌∷◌, ◌++◌, length, Result, Ok, Err, ⊤}
 use Rattle.sv_history.specs.declared.event.Config.{Config}
 use Rattle.sv_history.specs.declared.event.Port.{Port}
-use Rattle.sv_server.specs.declared.print.WriteFault.{WriteFault}
+use Rattle.sv_server.specs.declared.replay.print.WriteFault.{WriteFault}
 use Rattle.sv_history.specs.Event.{PlainEvent}
 use Rattle.sv_history.specs.declared.event.Port.TheVariants.{Conn, Intr}
 use Rattle.sv_links.specs.Channels.{ChannelAct, ChannelTaken}
-use Rattle.sv_history.specs.Act.{Act, On, BytesTaken, Bench, Channel, bench}
-use Rattle.sv_history.specs.Requests.{Tells}
+use Rattle.sv_history.specs.Act.{Act, On, BytesTaken, OnDevice, Channel, device_acts}
+use Rattle.sv_history.specs.Requests.{HearsOf}
 use Rattle.sv_history.specs.Connection.{waiting_on}
 use Rattle.sv_history.specs.Settling.{IsSettled}
 use Rattle.sv_history.specs.History.{IsLogOf}
 use Rattle.sv_server.specs.State.{State, Represents}
 use Rattle.sv_history.specs.Print.{ports, port_line, lines_of, with_took, with_tooks}
-use Rattle.sv_server.specs.Written.{IsFront}
+use Rattle.sv_server.specs.TakenByWriter.{IsFront}
 
 -- The server stands for a history by this log, which tells this to interrupt channels.
 abbrev pub StandsBy : State → Config → List PlainEvent → List ChannelAct → List Act → Type 0
 StandsBy state config history told log =
-    IsLogOf config history log × Represents state config log × IsSettled config log × Tells (bench log) told
+    IsLogOf config history log × Represents state config log × IsSettled config log × HearsOf (device_acts log) told
 
 -- the log in which the peer took these bytes from a port
 abbrev pub log_with_took : Port → List ℕ → List Act → List Act
 log_with_took port [] log = log
 log_with_took (Conn c) (byte ∷ bytes) log = On c (BytesTaken (length (byte ∷ bytes))) ∷ log
-log_with_took (Intr c) (byte ∷ bytes) log = Bench (Channel (ChannelTaken c (length (byte ∷ bytes)))) ∷ log
+log_with_took (Intr c) (byte ∷ bytes) log = OnDevice (Channel (ChannelTaken c (length (byte ∷ bytes)))) ∷ log
 
 abbrev pub told_with_took : Port → List ℕ → List ChannelAct → List ChannelAct
 told_with_took port [] told = told

@@ -1,7 +1,7 @@
 use Rattle.std.proofs.Common.{sym, subst}
 use Rattle.sv_layers.specs.Inside.Kept.{Layered, StandsFor as Stands}
 use Rattle.sv_instrument.proofs.Running.{acted_none, ran_one}
-use Rattle.sv_instrument.proofs.Steps.{ran_of}
+use Rattle.sv_instrument.proofs.NextStep.{ran_of}
 use Rattle.sv_instrument.proofs.instrument.Instrument.external.Goals.{in-Ok, in-Err}
 use Rattle.sv_instrument.proofs.instrument.Instrument.external.Goals as goal
 

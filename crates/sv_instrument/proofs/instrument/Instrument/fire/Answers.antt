@@ -2,7 +2,7 @@ use Rattle.std.proofs.Common.{refl, ap}
 use Rattle.sv_layers.specs.Inside.Kept.{Layered}
 use Rattle.sv_instrument.specs.Representation.{Kept}
 use Rattle.sv_instrument.proofs.Running.{ran_one}
-use Rattle.sv_instrument.proofs.Steps.{fired_less, refused_none}
+use Rattle.sv_instrument.proofs.NextStep.{fired_less, refused_none}
 use Rattle.sv_instrument.proofs.instrument.Instrument.fire.Goals.{in-Ok, in-Err}
 use Rattle.sv_instrument.proofs.instrument.Instrument.fire.Goals as goal
 

@@ -1,5 +1,5 @@
 use Rattle.std.proofs.Math.Facts.{to_z-of_z}
-use Rattle.sv_instrument.proofs.Steps.{ran_of}
+use Rattle.sv_instrument.proofs.NextStep.{ran_of}
 use Rattle.sv_instrument.proofs.instrument.Instrument.input.Goals as goal
 
 pub returns : goal.returns

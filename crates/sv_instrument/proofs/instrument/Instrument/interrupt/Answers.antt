@@ -2,7 +2,7 @@ use Rattle.sv_exchange.specs.Contents.{Contents, IsUnitDue, next_of}
 use Rattle.std.proofs.Common.{◌∙◌, sym, refl, arith, subst}
 use Rattle.sv_instrument.specs.Step.{interrupted}
 use Rattle.sv_instrument.proofs.Running.{acted_one, acted_then}
-use Rattle.sv_instrument.proofs.Steps.{started}
+use Rattle.sv_instrument.proofs.NextStep.{started}
 use Rattle.sv_instrument.proofs.instrument.Instrument.interrupt.Goals as goal
 
 pub returns-clause-ran : goal.returns-clause-ran

@@ -2,7 +2,7 @@ use Rattle.std.proofs.Common.{◌∙◌, sym, ap, refl}
 use Rattle.sv_exchange.specs.Exchange.{InterruptDue, OverrunDue, FinishDue}
 use Rattle.sv_exchange.specs.Contents.{next_of}
 use Rattle.sv_layers.specs.Act.{exchange_acts}
-use Rattle.sv_instrument.proofs.Steps.{step_of, unit_step, nothing_due}
+use Rattle.sv_instrument.proofs.NextStep.{step_of, unit_step, nothing_due}
 use Rattle.sv_instrument.proofs.instrument.Instrument.next_step.Goals as goal
 
 pub returns-in-Interrupt-clause-steps : goal.returns-in-Interrupt-clause-steps

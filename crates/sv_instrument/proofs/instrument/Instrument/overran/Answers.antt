@@ -1,6 +1,6 @@
 use Rattle.std.proofs.Common.{refl}
 use Rattle.sv_instrument.proofs.Running.{acted_one, acted_then}
-use Rattle.sv_instrument.proofs.Steps.{ran_of}
+use Rattle.sv_instrument.proofs.NextStep.{ran_of}
 use Rattle.sv_instrument.proofs.instrument.Instrument.overran.Goals as goal
 
 pub returns-clause-ran : goal.returns-clause-ran

@@ -4,7 +4,7 @@ use Rattle.sv_scan.specs.Counted.{is_idle}
 use Rattle.sv_layers.specs.Act.{scan_acts, exchange_acts}
 use Rattle.sv_exchange.specs.Exchange.{due}
 use Rattle.sv_instrument.proofs.Paths.{released_path}
-use Rattle.sv_instrument.proofs.Steps.{ran_of, step_of, none_while_busy}
+use Rattle.sv_instrument.proofs.NextStep.{ran_of, step_of, none_while_busy}
 use Rattle.sv_instrument.proofs.instrument.Instrument.release.Goals as goal
 
 pub returns-in-Idle-clause-steps : goal.returns-in-Idle-clause-steps

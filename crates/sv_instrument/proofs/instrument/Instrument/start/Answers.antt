@@ -1,6 +1,6 @@
 use Rattle.std.proofs.Common.{◌∙◌, sym, refl, arith}
 use Rattle.sv_instrument.proofs.Running.{raises_none}
-use Rattle.sv_instrument.proofs.Steps.{started}
+use Rattle.sv_instrument.proofs.NextStep.{started}
 use Rattle.sv_instrument.proofs.instrument.Instrument.start.Goals as goal
 
 pub returns-clause-ran : goal.returns-clause-ran

@@ -1,5 +1,5 @@
 use Rattle.sv_instrument.proofs.Running.{ran_one}
-use Rattle.sv_instrument.proofs.Steps.{take_right}
+use Rattle.sv_instrument.proofs.NextStep.{take_right}
 use Rattle.sv_instrument.proofs.instrument.Instrument.take.Goals as goal
 
 pub invariant_of-self : goal.invariant_of-self

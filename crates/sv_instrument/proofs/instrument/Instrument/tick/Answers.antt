@@ -1,6 +1,6 @@
 use Rattle.sv_instrument.proofs.Running.{raises_none}
 use Rattle.sv_layers.specs.Act.{scan_acts}
-use Rattle.sv_instrument.proofs.Steps.{ran_of}
+use Rattle.sv_instrument.proofs.NextStep.{ran_of}
 use Rattle.sv_instrument.proofs.instrument.Instrument.tick.Goals as goal
 
 pub returns-in-Scanning : goal.returns-in-Scanning

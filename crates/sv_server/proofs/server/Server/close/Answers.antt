@@ -3,7 +3,7 @@ use Rattle.std.specs.Prelude.{map}
 use Rattle.sv_links.specs.Links.{closing}
 use Rattle.sv_links.specs.Waiting.{Left}
 use Rattle.sv_links.specs.Channels.{ChannelClosed}
-use Rattle.sv_history.specs.Act.{PortClosed, Linked, Waited, Channel, On, Bench, of, bench, link_acts}
+use Rattle.sv_history.specs.Act.{PortClosed, Linked, Waited, Channel, On, OnDevice, of, device_acts, link_acts}
 use Rattle.sv_server.proofs.Logs.{connection_of, open_is, shut_is, closes}
 use Rattle.sv_server.proofs.server.Server.close.Goals as goal
 
@@ -13,11 +13,11 @@ returns-clause-acts g c = λ config log rep.
     let state = rw (← c.self.view_is) at rep in
     let is = connection_of _ config log c.args.conn c.index_mut-connection.result.now state (omega arith) at in
     let opened = open_is c.index_mut-connection.result.now _ _ is (sym c.is_open.ensures.value ∙ c.if-not-is_open.false) in
-    let adds = Channel (ChannelClosed c.args.conn) ∷ map Linked (closing c.args.conn (link_acts (bench log)))
+    let adds = Channel (ChannelClosed c.args.conn) ∷ map Linked (closing c.args.conn (link_acts (device_acts log)))
     ++ Waited (Left c.args.conn) ∷ [] in (
       λ told tells. rw (shut_is c.args.conn log _ (omega arith) opened) refl,
       refl,
-      λ polled said. rw (c.from-2.ensures, append_assoc (map Bench adds) (On c.args.conn PortClosed ∷ []) log)
+      λ polled said. rw (c.from-2.ensures, append_assoc (map OnDevice adds) (On c.args.conn PortClosed ∷ []) log)
           (closes _ config log c.args.conn c.index_mut-connection.result.now c.close.new.self c.close_connection.new.self state
           c.self.invariant (omega arith) at (c.close.ensures (of c.args.conn log)) (c.close_connection.ensures.stands config)
           c.close_connection.ensures.waiting),

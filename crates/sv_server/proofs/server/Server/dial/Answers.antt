@@ -1,5 +1,5 @@
 use Rattle.std.proofs.Common.{◌≡◌, Some, None, sym, ap, ◌∙◌}
-use Rattle.sv_history.specs.Act.{of, bench}
+use Rattle.sv_history.specs.Act.{of, device_acts}
 use Rattle.sv_history.specs.Connection.{unanswered}
 use Rattle.sv_history.specs.Interrupts.{dial_in}
 use Rattle.sv_server.proofs.Channels.{dial_is, no_dial}
@@ -8,19 +8,19 @@ use Rattle.sv_server.proofs.server.Server.dial.Goals as goal
 pub returns-then-not-is_dialing : goal.returns-then-not-is_dialing
 returns-then-not-is_dialing g c = λ config history s.
     let state = rw (← c.self.view_is) at s.represents in
-    (s.log, s.is_log, sym (no_dial c.args.conn s.log (sym (c.if-not-is_dialing.ensures config (bench s.log) state.shared))))
+    (s.log, s.is_log, sym (no_dial c.args.conn s.log (sym (c.if-not-is_dialing.ensures config (device_acts s.log) state.device))))
 
 pub returns-in_err-connection : goal.returns-in_err-connection
 returns-in_err-connection g c = λ config history s.
     let state = rw (← c.self.view_is) at s.represents in
-    let dialing = sym (c.if-not-is_dialing.ensures config (bench s.log) state.shared) in
+    let dialing = sym (c.if-not-is_dialing.ensures config (device_acts s.log) state.device) in
     let none : unanswered (of c.args.conn s.log) ≡ None = ap unanswered (c.in_err-connection.ensures config s.log s.represents) in
     (s.log, s.is_log, c.from_residual.ensures ∙ sym (dial_is c.args.conn s.log None dialing none))
 
 pub returns-in_err-taken : goal.returns-in_err-taken
 returns-in_err-taken g c = λ config history s.
     let state = rw (← c.self.view_is) at s.represents in
-    let dialing = sym (c.if-not-is_dialing.ensures config (bench s.log) state.shared) in
+    let dialing = sym (c.if-not-is_dialing.ensures config (device_acts s.log) state.device) in
     let is = c.in_ok-connection.ensures config s.log s.represents in
     let none : unanswered (of c.args.conn s.log) ≡ None = sym (c.in_err-taken.ensures (of c.args.conn s.log) is) in
     (s.log, s.is_log, c.from_residual-in_err-taken.ensures ∙ sym (dial_is c.args.conn s.log None dialing none))
@@ -28,7 +28,7 @@ returns-in_err-taken g c = λ config history s.
 pub returns-in_err-call : goal.returns-in_err-call
 returns-in_err-call g c = λ config history s.
     let state = rw (← c.self.view_is) at s.represents in
-    let dialing = sym (c.if-not-is_dialing.ensures config (bench s.log) state.shared) in
+    let dialing = sym (c.if-not-is_dialing.ensures config (device_acts s.log) state.device) in
     let is = c.in_ok-connection.ensures config s.log s.represents in
     let bytes = Some c.in_ok-taken.field-0.now in
     let known : unanswered (of c.args.conn s.log) ≡ bytes = sym (c.in_ok-taken.ensures (of c.args.conn s.log) is) in (
@@ -41,7 +41,7 @@ returns-in_err-call g c = λ config history s.
 pub returns : goal.returns
 returns g c = λ config history s.
     let state = rw (← c.self.view_is) at s.represents in
-    let dialing = sym (c.if-not-is_dialing.ensures config (bench s.log) state.shared) in
+    let dialing = sym (c.if-not-is_dialing.ensures config (device_acts s.log) state.device) in
     let is = c.in_ok-connection.ensures config s.log s.represents in
     let bytes = Some c.in_ok-taken.field-0.now in
     let known : unanswered (of c.args.conn s.log) ≡ bytes = sym (c.in_ok-taken.ensures (of c.args.conn s.log) is) in

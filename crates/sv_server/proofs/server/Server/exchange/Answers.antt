@@ -1,5 +1,5 @@
 use Rattle.sv_instrument.specs.Step.{IsStep}
-use Rattle.sv_history.specs.Act.{bench}
+use Rattle.sv_history.specs.Act.{device_acts}
 use Rattle.sv_server.proofs.Going.{happens_step}
 use Rattle.sv_server.proofs.server.Server.exchange.Goals as goal
 
@@ -7,4 +7,4 @@ pub returns-clause-steps : goal.returns-clause-steps
 returns-clause-steps g c = λ config log rep.
     let state = rw (← c.self.view_is) at rep in
     rw (← c.self.view_is) (happens_step IsStep _ c.exchange.new.self config log c.exchange.result state
-    (c.exchange.ensures.steps config (bench log) state.shared) c.exchange.ensures.waiting)
+    (c.exchange.ensures.steps config (device_acts log) state.device) c.exchange.ensures.waiting)

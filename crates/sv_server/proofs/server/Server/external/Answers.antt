@@ -1,5 +1,5 @@
 use Rattle.std.proofs.Common.{refl}
-use Rattle.sv_history.specs.Act.{bench}
+use Rattle.sv_history.specs.Act.{device_acts}
 use Rattle.sv_server.proofs.Logs.{shared_acts}
 use Rattle.sv_server.proofs.server.Server.external.Goals as goal
 
@@ -9,5 +9,5 @@ returns-clause-acts g c = λ config log rep.
       λ told tells. refl,
       refl,
       λ polled said. shared_acts _ config log c.external.new.self _ state
-          (c.external.ensures.stands config (bench log) state.shared) c.external.ensures.waiting,
+          (c.external.ensures.stands config (device_acts log) state.device) c.external.ensures.waiting,
     )

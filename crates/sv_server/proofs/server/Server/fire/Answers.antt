@@ -1,5 +1,5 @@
 use Rattle.sv_instrument.specs.Stimulus.{IsFired}
-use Rattle.sv_history.specs.Act.{bench}
+use Rattle.sv_history.specs.Act.{device_acts}
 use Rattle.sv_server.proofs.Going.{happens_step}
 use Rattle.sv_server.proofs.server.Server.fire.Goals as goal
 
@@ -7,4 +7,4 @@ pub returns-clause-steps : goal.returns-clause-steps
 returns-clause-steps g c = λ config log rep.
     let state = rw (← c.self.view_is) at rep in
     rw (← c.self.view_is) (happens_step IsFired _ c.fire.new.self config log c.fire.result state
-    (c.fire.ensures.steps config (bench log) state.shared) c.fire.ensures.waiting)
+    (c.fire.ensures.steps config (device_acts log) state.device) c.fire.ensures.waiting)

@@ -1,6 +1,6 @@
 use Rattle.std.proofs.Common.{ap}
 use Rattle.std.specs.Prelude.{is_some}
-use Rattle.sv_history.specs.Act.{of, bench}
+use Rattle.sv_history.specs.Act.{of, device_acts}
 use Rattle.sv_server.proofs.Logs.{connection_of}
 use Rattle.sv_server.proofs.Going.{taken_of, gave_up_stands}
 use Rattle.sv_server.proofs.server.Server.give_up.Goals as goal
@@ -11,6 +11,6 @@ returns-clause-stands g c = λ config log rep does.
     let state = rw (← c.self.view_is) at rep in
     let is = connection_of _ config log c.args.conn c.index_mut-connection.result.now state c.requires at in
     let (call, known) = taken_of _ config log c.args.conn state does in
-    rw c.from.ensures (gave_up_stands _ config log c.args.conn _ c.give_up.new.connection c.give_up.new.shared state c.self.invariant
+    rw c.from.ensures (gave_up_stands _ config log c.args.conn _ c.give_up.new.connection c.give_up.new.device state c.self.invariant
     c.requires
-    (c.give_up.ensures.concludes config (of c.args.conn log) (bench log) is (ap is_some known) state.shared) c.give_up.ensures.waiting)
+    (c.give_up.ensures.concludes config (of c.args.conn log) (device_acts log) is (ap is_some known) state.device) c.give_up.ensures.waiting)

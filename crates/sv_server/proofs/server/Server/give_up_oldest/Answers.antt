@@ -1,6 +1,6 @@
 use Rattle.std.proofs.Common.{refl, sym, ap, ◌∙◌, ◌≡◌, ◌++◌, Some, None}
 use Rattle.sv_vxi.specs.declared.error_code.ErrorCode.{ErrorCode}
-use Rattle.sv_history.specs.Act.{of, bench}
+use Rattle.sv_history.specs.Act.{of, device_acts}
 use Rattle.sv_history.specs.Connection.{unanswered}
 use Rattle.sv_history.specs.Request.{core_call_in}
 use Rattle.sv_history.specs.Effect.{acts_of}
@@ -11,8 +11,8 @@ pub returns-in-Some-clause-steps : goal.returns-in-Some-clause-steps
 returns-in-Some-clause-steps g c = λ config log rep.
     let state = rw (← c.self.view_is) at rep in
     let entry = c.in-Some.entry in
-    let oldest = c.in-Some.ensures.answer config (bench log) state.shared in
-    let is = c.in-Some.ensures.entry config (bench log) state.shared in (
+    let oldest = c.in-Some.ensures.answer config (device_acts log) state.device in
+    let is = c.in-Some.ensures.entry config (device_acts log) state.device in (
       _,
       (
         entry.conn,
@@ -28,5 +28,5 @@ returns-in-Some-clause-steps g c = λ config log rep.
 pub returns-in-None-clause-steps : goal.returns-in-None-clause-steps
 returns-in-None-clause-steps g c = λ config log rep.
     let state = rw (← c.self.view_is) at rep in
-    let none = c.in-None.ensures.answer config (bench log) state.shared in
+    let none = c.in-None.ensures.answer config (device_acts log) state.device in
     (λ next step. none step.0 step.2.0, refl)

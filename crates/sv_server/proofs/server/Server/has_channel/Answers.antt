@@ -1,5 +1,5 @@
 use Rattle.std.proofs.Common.{sym, ap, arith, not, ◌∙◌}
-use Rattle.sv_history.specs.Act.{bench}
+use Rattle.sv_history.specs.Act.{device_acts}
 use Rattle.sv_server.proofs.Logs.{not_not}
 use Rattle.sv_server.proofs.Channels.{channel_shut_is, channel_beyond}
 use Rattle.sv_server.proofs.server.Server.has_channel.Goals as goal
@@ -10,5 +10,5 @@ returns-then-from-ge-CONNECTIONS g c = λ config log rep. sym (ap not (channel_b
 pub returns : goal.returns
 returns g c = λ config log rep.
     let state = rw (← c.self.view_is) at rep in
-    let there = c.has_channel.ensures config (bench log) state.shared in
+    let there = c.has_channel.ensures config (device_acts log) state.device in
     not_not c.has_channel.result ∙ sym (ap not (channel_shut_is c.args.conn log c.has_channel.result (omega arith) (sym there)))

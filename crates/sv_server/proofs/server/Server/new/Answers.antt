@@ -9,7 +9,7 @@ returns g c = record {
   represents = record {
     each = λ k other lt. c.in_ok-connections.ensures.1 k other lt;
     beyond = λ k h. refl;
-    shared = c.in_ok-new.ensures.stands;
+    device = c.in_ok-new.ensures.stands;
     taken = rw c.in_ok-new.ensures.waiting tt;
   };
   settled = none_due c.args.config;

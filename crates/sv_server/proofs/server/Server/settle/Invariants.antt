@@ -7,4 +7,4 @@ abbrev pub invariant-loop : goal.invariant-loop
 invariant-loop g l = AnyGone l.initial.self l.self
 
 abbrev pub decreases-loop : goal.decreases-loop
-decreases-loop g l = rank l.self.bench.waiting
+decreases-loop g l = rank l.self.device.waiting

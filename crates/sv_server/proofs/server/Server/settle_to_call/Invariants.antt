@@ -5,7 +5,7 @@ use Rattle.sv_server.proofs.server.Server.settle_to_call.Given as goal
 
 -- what the steps until now made of any log, and that no call went on
 abbrev pub invariant-loop : goal.invariant-loop
-invariant-loop g l = AnyGone l.initial.self l.self × (l.self.bench.waiting ≡ l.initial.self.bench.waiting)
+invariant-loop g l = AnyGone l.initial.self l.self × (l.self.device.waiting ≡ l.initial.self.device.waiting)
 
 abbrev pub decreases-loop : goal.decreases-loop
-decreases-loop g l = left_of l.self.bench.instrument
+decreases-loop g l = left_of l.self.device.instrument

@@ -7,33 +7,33 @@ pub returns-then-fire-clause-steps : goal.returns-then-fire-clause-steps
 returns-then-fire-clause-steps g c = λ config log rep.
     let (next, fires, held) = c.if-fire.ensures.steps config log rep in (next, inl fires, held)
 
-pub returns-then-go_on_oldest-clause-steps : goal.returns-then-go_on_oldest-clause-steps
-returns-then-go_on_oldest-clause-steps g c = λ config log rep.
+pub returns-then-resume_oldest-clause-steps : goal.returns-then-resume_oldest-clause-steps
+returns-then-resume_oldest-clause-steps g c = λ config log rep.
     let (none, same) = c.if-fire.ensures.steps config log rep in
-    let (next, goes, held) = c.if-go_on_oldest.ensures.steps config log (subst (λ (s : State). Represents s config log) (sym same) rep) in
+    let (next, goes, held) = c.if-resume_oldest.ensures.steps config log (subst (λ (s : State). Represents s config log) (sym same) rep) in
     (next, inr (none, inl goes), held)
 
 pub returns-then-exchange-clause-steps : goal.returns-then-exchange-clause-steps
 returns-then-exchange-clause-steps g c = λ config log rep.
     let (none, same) = c.if-fire.ensures.steps config log rep in
     let first = subst (λ (s : State). Represents s config log) (sym same) rep in
-    let (still, alike) = c.if-go_on_oldest.ensures.steps config log first in
+    let (still, alike) = c.if-resume_oldest.ensures.steps config log first in
     let (next, steps, held) = c.if-exchange.ensures.steps config log (subst (λ (s : State). Represents s config log) (sym alike) first) in
     (next, inr (none, inr (still, inl steps)), held)
 
 pub returns-then-exchange-clause-instrument : goal.returns-then-exchange-clause-instrument
 returns-then-exchange-clause-instrument g c = λ e.
-    rw (← (c.if-go_on_oldest.ensures.idle refl ∙ c.if-fire.ensures.idle refl)) (c.if-exchange.ensures.measure refl)
+    rw (← (c.if-resume_oldest.ensures.idle refl ∙ c.if-fire.ensures.idle refl)) (c.if-exchange.ensures.measure refl)
 
 pub returns-then-exchange-clause-waiting : goal.returns-then-exchange-clause-waiting
 returns-then-exchange-clause-waiting g c = λ e.
-    c.if-exchange.ensures.waiting ∙ ap (λ (s : State). s.bench.waiting) (c.if-go_on_oldest.ensures.idle refl ∙ c.if-fire.ensures.idle refl)
+    c.if-exchange.ensures.waiting ∙ ap (λ (s : State). s.device.waiting) (c.if-resume_oldest.ensures.idle refl ∙ c.if-fire.ensures.idle refl)
 
 pub returns-then-give_up_oldest-clause-steps : goal.returns-then-give_up_oldest-clause-steps
 returns-then-give_up_oldest-clause-steps g c = λ config log rep.
     let (none, same) = c.if-fire.ensures.steps config log rep in
     let first = subst (λ (s : State). Represents s config log) (sym same) rep in
-    let (still, alike) = c.if-go_on_oldest.ensures.steps config log first in
+    let (still, alike) = c.if-resume_oldest.ensures.steps config log first in
     let second = subst (λ (s : State). Represents s config log) (sym alike) first in
     let (idle, equal) = c.if-exchange.ensures.steps config log second in
     let (next, gives, held) = c.if-give_up_oldest.ensures.steps config log
@@ -42,14 +42,14 @@ returns-then-give_up_oldest-clause-steps g c = λ config log rep.
 
 pub returns-then-give_up_oldest-clause-call : goal.returns-then-give_up_oldest-clause-call
 returns-then-give_up_oldest-clause-call g c = λ e.
-    rw (← (c.if-exchange.ensures.idle refl ∙ c.if-go_on_oldest.ensures.idle refl ∙ c.if-fire.ensures.idle refl))
+    rw (← (c.if-exchange.ensures.idle refl ∙ c.if-resume_oldest.ensures.idle refl ∙ c.if-fire.ensures.idle refl))
     (c.if-give_up_oldest.ensures.measure refl)
 
 pub returns-clause-steps : goal.returns-clause-steps
 returns-clause-steps g c = λ config log rep.
     let (none, same) = c.if-fire.ensures.steps config log rep in
     let first = subst (λ (s : State). Represents s config log) (sym same) rep in
-    let (still, alike) = c.if-go_on_oldest.ensures.steps config log first in
+    let (still, alike) = c.if-resume_oldest.ensures.steps config log first in
     let second = subst (λ (s : State). Represents s config log) (sym alike) first in
     let (idle, equal) = c.if-exchange.ensures.steps config log second in
     let third = subst (λ (s : State). Represents s config log) (sym equal) second in
@@ -59,6 +59,6 @@ returns-clause-steps g c = λ config log rep.
     )
 
 pub returns-clause-waiting : goal.returns-clause-waiting
-returns-clause-waiting g c = λ e. ap (λ (s : State). s.bench.waiting)
-    (c.if-give_up_oldest.ensures.idle refl ∙ c.if-exchange.ensures.idle refl ∙ c.if-go_on_oldest.ensures.idle refl
+returns-clause-waiting g c = λ e. ap (λ (s : State). s.device.waiting)
+    (c.if-give_up_oldest.ensures.idle refl ∙ c.if-exchange.ensures.idle refl ∙ c.if-resume_oldest.ensures.idle refl
     ∙ c.if-fire.ensures.idle refl)

@@ -11,8 +11,8 @@ returns-in-Err-clause-acts g c = λ config log rep.
     let is = connection_of _ config log c.args.conn c.index_mut-connection.result.now state (omega arith) at in
     let role = sym is.role ∙ sym c.role.ensures ∙ c.in-Some.is in
     let shut = shut_is c.args.conn log _ (omega arith) (ap is_some role) in
-    turn_refused config c.args.conn log c.self.inside.bench.waiting c.in-Err.refused c.turn.new.connection c.turn.new.shared _ shut
-    (c.in-Err.ensures.acts config log is state.shared)
+    turn_refused config c.args.conn log c.self.inside.device.waiting c.in-Err.refused c.turn.new.connection c.turn.new.device _ shut
+    (c.in-Err.ensures.acts config log is state.device)
 
 pub returns-in-Ok-Idle-clause-acts : goal.returns-in-Ok-Idle-clause-acts
 returns-in-Ok-Idle-clause-acts g c = λ config log rep.
@@ -21,9 +21,9 @@ returns-in-Ok-Idle-clause-acts g c = λ config log rep.
     let is = connection_of _ config log c.args.conn c.index_mut-connection.result.now state (omega arith) at in
     let role = sym is.role ∙ sym c.role.ensures ∙ c.in-Some.is in
     let shut = shut_is c.args.conn log _ (omega arith) (ap is_some role) in
-    rw c.from-2.ensures (turn_idle _ config log c.args.conn c.turn.new.connection c.turn.new.shared state c.self.invariant
+    rw c.from-2.ensures (turn_idle _ config log c.args.conn c.turn.new.connection c.turn.new.device state c.self.invariant
     (omega arith) shut
-    (rw c.in-Ok-Idle.field-0-is at (c.in-Ok-Idle.ensures.acts config log is state.shared)))
+    (rw c.in-Ok-Idle.field-0-is at (c.in-Ok-Idle.ensures.acts config log is state.device)))
 
 pub returns-in-Ok-Done-clause-acts : goal.returns-in-Ok-Done-clause-acts
 returns-in-Ok-Done-clause-acts g c = λ config log rep.
@@ -32,6 +32,6 @@ returns-in-Ok-Done-clause-acts g c = λ config log rep.
     let is = connection_of _ config log c.args.conn c.index_mut-connection.result.now state (omega arith) at in
     let role = sym is.role ∙ sym c.role.ensures ∙ c.in-Some.is in
     let shut = shut_is c.args.conn log _ (omega arith) (ap is_some role) in
-    turn_done _ c.abort.new.self config log c.args.conn c.in-Ok-Done.aborts c.turn.new.connection c.turn.new.shared state
-    c.self.invariant (omega arith) shut (rw c.in-Ok-Done.field-0-is at (c.in-Ok-Done.ensures.acts config log is state.shared))
+    turn_done _ c.abort.new.self config log c.args.conn c.in-Ok-Done.aborts c.turn.new.connection c.turn.new.device state
+    c.self.invariant (omega arith) shut (rw c.in-Ok-Done.field-0-is at (c.in-Ok-Done.ensures.acts config log is state.device))
     (rw c.from-2.ensures at c.abort.ensures)

@@ -1,9 +1,0 @@
-use Rattle.std.proofs.Common.{◌∙◌}
-use Rattle.sv_history.proofs.Telling.{has_channel_told}
-use Rattle.sv_server.proofs.bench.Bench.has_channel.Goals as goal
-
-pub returns : goal.returns
-returns g c = λ config acts old.
-    let is = rw (← c.self.view_is) at old in
-    let (told, tells, are, owned) = is.6 in
-    c.is_open.ensures told are ∙ has_channel_told c.args.conn acts told tells

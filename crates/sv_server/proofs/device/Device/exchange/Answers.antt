@@ -1,0 +1,16 @@
+use Rattle.sv_history.specs.Act.{instrument_acts}
+use Rattle.sv_server.proofs.Raising.{instrument_steps, idle_as}
+use Rattle.sv_instrument.specs.Step.{IsStep}
+use Rattle.sv_server.proofs.device.Device.exchange.Goals as goal
+
+pub returns-clause-steps : goal.returns-clause-steps
+returns-clause-steps g c = λ config acts old.
+    let is = rw (← c.self.view_is) at old in
+    rw (← c.self.view_is, c.raise_where.ensures.answer)
+    (instrument_steps IsStep _ _ c.step-stepped.new.self config acts c.step-stepped.result is
+    (c.step-stepped.ensures.steps (instrument_acts acts) is.1) c.step-stepped.ensures.idle
+    c.raise_where.ensures.some c.raise_where.ensures.none)
+
+pub returns-clause-idle : goal.returns-clause-idle
+returns-clause-idle g c = rw (← c.self.view_is, c.raise_where.ensures.answer)
+    (λ e. idle_as _ _ c.step-stepped.new.self c.step-stepped.result c.step-stepped.ensures.idle c.raise_where.ensures.none e)

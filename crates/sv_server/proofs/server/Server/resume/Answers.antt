@@ -1,0 +1,22 @@
+use Rattle.std.proofs.Common.{ap}
+use Rattle.std.specs.Prelude.{is_some}
+use Rattle.sv_history.specs.Act.{of, device_acts}
+use Rattle.sv_server.specs.State.{IsTaken}
+use Rattle.sv_server.proofs.Logs.{connection_of}
+use Rattle.sv_server.proofs.Taken.{taken_one}
+use Rattle.sv_server.proofs.Going.{went_on_stands, may_go_on}
+use Rattle.sv_server.proofs.server.Server.resume.Goals as goal
+
+pub returns-clause-stands : goal.returns-clause-stands
+returns-clause-stands g c = λ config polled log rep said able is_entry fewer.
+    let entry = c.args.entry in
+    let at = rw c.from.ensures at c.index_mut-connection.ensures.value in
+    let state = rw (← c.self.view_is) at rep in
+    let is = connection_of _ config log entry.conn c.index_mut-connection.result.now state c.requires.0 at in
+    let (call, known, makes) = taken_one (IsTaken log) entry.conn _ entry state.taken (rw (← c.self.view_is) at c.requires.1) in
+    let may = may_go_on c.self.inside.device entry log call able is_entry (rw (← c.self.view_is) at fewer) makes in
+    let gone = c.resume.ensures.concludes config polled (of entry.conn log) (device_acts log) is (ap is_some known) (state.device, said)
+    (rw known may) in
+    rw (c.from.ensures, known)
+    (went_on_stands _ config log entry.conn call _ c.resume.new.connection c.resume.new.device state c.self.invariant
+    c.requires.0 known (rw known at gone))

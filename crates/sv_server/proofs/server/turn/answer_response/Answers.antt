@@ -1,0 +1,25 @@
+use Rattle.std.proofs.Common.{ℕ, [], ◌∷◌, subst}
+use Rattle.sv_rpc.specs.declared.reply.Reply.TheVariants.{Success}
+use Rattle.sv_vxi.specs.Results.{Outcome, result_fields}
+use Rattle.sv_exchange.specs.Exchange.{ResponseRead}
+use Rattle.sv_layers.specs.Act.{Exchanged}
+use Rattle.sv_instrument.specs.Representation.{Ran}
+use Rattle.sv_history.specs.Act.{Replied, instrument_acts}
+use Rattle.sv_history.specs.Reply.{reply_record}
+use Rattle.sv_server.specs.ConnectionRepresentation.{IsConnection}
+use Rattle.sv_server.proofs.Turned.{read_is}
+use Rattle.sv_server.proofs.Raising.{device_ran}
+use Rattle.sv_server.proofs.server.turn.answer_response.Goals as goal
+
+pub returns-clause-ends : goal.returns-clause-ends
+returns-clause-ends g c = λ config acts before is busy old.
+    let device = rw (← c.device.view_is) at old in
+    let log = instrument_acts before in
+    let given = c.peek-read.ensures.answer log device.1 in
+    let ran = subst (λ (n : ℕ). Ran c.take-raised.new.self c.take-raised.result log (Exchanged (ResponseRead n) ∷ log)) given.size
+    (c.take-raised.ensures log device.1) in (
+      subst (λ (o : Outcome). IsConnection c.answer.new.self (Replied (reply_record c.args.xid Success (result_fields o)) ∷ acts))
+          (read_is c.peek-read.result _ c.args.most c.args.term given) (c.answer.ensures acts is busy),
+      device_ran _ c.take-raised.new.self _ config before (Exchanged (ResponseRead _) ∷ []) c.take-raised.result device ran
+          c.raise.ensures.stands,
+    )

@@ -1,0 +1,56 @@
+-- What the server keeps of what all connections share, and what of its acts that stands for.
+use Rattle.std.specs.Prelude.{◌≡◌, ℕ, ◌+◌, ◌<◌, ◌≤◌, true, List, [], ◌++◌, length, Some}
+use Rattle.std.specs.List.{AllByRecursion}
+use Rattle.sv_links.specs.declared.waiting.Entry.{Entry}
+use Rattle.sv_links.specs.declared.enabled.Enabled.{Enabled}
+use Rattle.sv_links.specs.Links.{LinkAct, live, owner}
+use Rattle.sv_links.specs.Table.{Table, IsTable}
+use Rattle.sv_links.specs.Waiting.{WaitAct}
+use Rattle.sv_links.specs.Queue.{IsQueue, creations}
+use Rattle.sv_links.specs.Channels.{ChannelAct}
+use Rattle.sv_links.specs.ChannelRepresentation.{Channels, AreChannels, IsReady}
+use Rattle.sv_instrument.specs.Representation.{Kept, StandsFor}
+use Rattle.sv_history.specs.declared.event.Config.{Config}
+use Rattle.sv_layers.specs.Act.{Act as InstrumentAct}
+use Rattle.sv_history.specs.Act.{DeviceAct, link_acts, wait_acts, instrument_acts, ticks}
+use Rattle.sv_history.specs.Requests.{HearsOf}
+use Rattle.sv_history.specs.Interrupts.{is_dialing}
+
+pub record Device : Type 0 where
+  pub links : Table
+  pub waiting : List Entry
+  pub intr : Channels
+  pub instrument : Kept
+  pub config : Config
+  pub clock : ℕ
+
+-- There are places, and memory, for the links of all create_links that wait.
+abbrev pub IsReserved : Device → List DeviceAct → Type 0
+IsReserved kept acts = (length (live (link_acts acts)) + creations kept.waiting ≤ 32) × (creations kept.waiting ≤ kept.links.spare)
+
+-- There are those for one more.
+abbrev pub HasPlace : Device → List DeviceAct → Type 0
+HasPlace kept acts = (length (live (link_acts acts)) + creations kept.waiting < 32) × (creations kept.waiting < kept.links.spare)
+
+-- Each link that asks for service requests lives, on the connection that it is of.
+abbrev pub AreOwned : List Enabled → List LinkAct → Type 0
+AreOwned links acts = AllByRecursion (λ link. owner link.lid acts ≡ Some link.conn) links
+
+-- The interrupt channels keep what they were told.
+abbrev pub AreTold : Channels → List DeviceAct → Type 0
+AreTold kept acts = (told : List ChannelAct) × HearsOf acts told × AreChannels kept told × AreOwned kept.enabled (link_acts acts)
+
+-- One that a create_intr_chan waits for can be opened.
+abbrev pub AreReady : Channels → List WaitAct → Type 0
+AreReady kept acts = (c : ℕ) → is_dialing c acts ≡ true → IsReady kept c
+
+-- The device keeps what its acts say, under a configuration; and the instrument has done these more, with which requests may have been
+-- raised that weren't told yet.
+abbrev pub HasDone : List InstrumentAct → Device → Config → List DeviceAct → Type 0
+HasDone adds kept config acts = IsTable kept.links (link_acts acts) × StandsFor kept.instrument (adds ++ instrument_acts acts)
+    × (kept.config ≡ config) × (kept.clock ≡ config.clock + ticks acts) × IsQueue kept.waiting (wait_acts acts) × IsReserved kept acts
+    × AreTold kept.intr acts × AreReady kept.intr (wait_acts acts)
+
+-- The device keeps what its acts say.
+abbrev pub IsDevice : Device → Config → List DeviceAct → Type 0
+IsDevice kept config acts = HasDone [] kept config acts

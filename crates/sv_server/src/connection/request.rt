@@ -1,0 +1,246 @@
+//! What a record asks for: its header is looked at, and then it is a call of the program that its
+//! connection serves.
+
+ghost use Rattle.std.specs.Prelude.{◌≡◌, Option, Ok, None, option_map, true};
+ghost use Rattle.sv_rpc.specs.Call.{plain_call, call_at};
+ghost use Rattle.sv_vxi.specs.Arguments.{core_calls, abort_calls, is_one_of};
+ghost use Rattle.sv_vxi.specs.Reading.{arguments_at};
+ghost use Rattle.sv_history.specs.Request.{program_of as program_for, version_of as version_for, procedures_of, header_reply as reply_to, core_request as core_request_for, link_in, abort_request as abort_request_for, procedure_request as procedure_request_for, unless_decided, request_of as request_for, core_call as core_call_in_record};
+ghost use Rattle.sv_server.specs.Inside.Outcome.{plain_request, plain_core_call, xid_of};
+
+use crate::device::core_call::CoreCall;
+use sv_history::Role;
+use sv_rpc::{Call, CallFault, Reply, read_call};
+use sv_vxi::procedure::{
+    CREATE_INTR_CHAN, CREATE_LINK, DESTROY_INTR_CHAN, DESTROY_LINK, DEVICE_ABORT, DEVICE_CLEAR,
+    DEVICE_DOCMD, DEVICE_ENABLE_SRQ, DEVICE_LOCAL, DEVICE_LOCK, DEVICE_READ, DEVICE_READSTB,
+    DEVICE_REMOTE, DEVICE_TRIGGER, DEVICE_UNLOCK, DEVICE_WRITE,
+};
+use sv_vxi::read_args;
+
+/// The procedure that does nothing, of every program.
+const NULL: u32 = 0;
+/// GETPORT of the port mapper.
+const GETPORT: u32 = 3;
+
+/// What a record asks for.
+#[derive(Clone, Copy)]
+pub enum Request<'a> {
+    /// Nothing: it is no call.
+    NoCall,
+    /// A reply that its header or its arguments alone decide.
+    Decided {
+        /// Its transaction.
+        xid: u32,
+        /// The reply.
+        reply: Reply,
+    },
+    /// A call of the core channel.
+    Core(CoreCall<'a>),
+    /// device_abort.
+    Abort {
+        /// Its transaction.
+        xid: u32,
+        /// The link whose call is aborted.
+        lid: i32,
+    },
+    /// GETPORT.
+    Port {
+        /// Its transaction.
+        xid: u32,
+        /// Its arguments.
+        args: &'a [u8],
+    },
+}
+
+impl Request<'_> {
+    /// Its transaction; 0 if it is no call.
+    pub fn xid(&self) -> u32
+        ensures { result ≡ xid_of (plain_request self.now) }
+    {
+        match *self {
+            Request::NoCall => 0,
+            Request::Decided { xid, .. } => xid,
+            Request::Core(call) => call.xid,
+            Request::Abort { xid, .. } => xid,
+            Request::Port { xid, .. } => xid,
+        }
+    }
+}
+
+/// The program that a connection serves.
+fn program_of(role: Role) -> u32
+    ensures { result ≡ program_for role }
+{
+    match role {
+        Role::Core => 0x0607AF,
+        Role::Abort => 0x0607B0,
+        Role::Portmap => 100_000,
+    }
+}
+
+/// Its version.
+fn version_of(role: Role) -> u32
+    ensures { result ≡ version_for role }
+{
+    match role {
+        Role::Core | Role::Abort => 1,
+        Role::Portmap => 2,
+    }
+}
+
+/// Whether it is a procedure of the program, beside the one that does nothing.
+fn has_procedure(role: Role, proc: u32) -> bool
+    ensures { result ≡ is_one_of (procedures_of role) proc }
+{
+    match role {
+        Role::Core => is_core_call(proc),
+        Role::Abort => proc == DEVICE_ABORT,
+        Role::Portmap => proc == GETPORT,
+    }
+}
+
+/// Whether it is a call of the core channel.
+fn is_core_call(proc: u32) -> bool
+    ensures { result ≡ is_one_of (procedures_of Role.Core) proc }
+{
+    matches!(
+        proc,
+        CREATE_LINK
+            | DEVICE_WRITE
+            | DEVICE_READ
+            | DEVICE_READSTB
+            | DEVICE_TRIGGER
+            | DEVICE_CLEAR
+            | DEVICE_REMOTE
+            | DEVICE_LOCAL
+            | DEVICE_LOCK
+            | DEVICE_UNLOCK
+            | DEVICE_ENABLE_SRQ
+            | DEVICE_DOCMD
+            | DESTROY_LINK
+            | CREATE_INTR_CHAN
+            | DESTROY_INTR_CHAN
+    )
+}
+
+/// The reply that the header of a call alone decides, where it does.
+fn header_reply(role: Role, call: &Call<'_>) -> Option<Reply>
+    ensures { result ≡ reply_to role (plain_call call.now) }
+{
+    if call.prog != program_of(role) {
+        return Some(Reply::ProgUnavail);
+    }
+    let version = version_of(role);
+    if call.vers != version {
+        return Some(Reply::ProgMismatch {
+            low: version,
+            high: version,
+        });
+    }
+    if call.proc == NULL {
+        return Some(Reply::Success);
+    }
+    if !has_procedure(role, call.proc) {
+        return Some(Reply::ProcUnavail);
+    }
+    None
+}
+
+/// What a call of the core channel asks for.
+fn core_request<'a>(call: &Call<'a>) -> Request<'a>
+    requires { is_one_of core_calls call.now.proc ≡ true }
+    ensures { plain_request result
+        ≡ core_request_for call.now.xid (arguments_at call.now.proc call.now.args.now) }
+{
+    match read_args(call.proc, call.args) {
+        Ok(args) => Request::Core(CoreCall {
+            xid: call.xid,
+            args,
+        }),
+        Err(_) => Request::Decided {
+            xid: call.xid,
+            reply: Reply::GarbageArgs,
+        },
+    }
+}
+
+/// The link that a call of the abort channel names, where its arguments can be read.
+fn aborted_link(call: &Call<'_>) -> Option<i32>
+    requires { is_one_of abort_calls call.now.proc ≡ true }
+    ensures { result ≡ link_in (arguments_at call.now.proc call.now.args.now) }
+{
+    match read_args(call.proc, call.args) {
+        Ok(args) => args.link(),
+        Err(_) => None,
+    }
+}
+
+/// What a call of the abort channel asks for.
+fn abort_request<'a>(call: &Call<'a>) -> Request<'a>
+    requires { is_one_of abort_calls call.now.proc ≡ true }
+    ensures { plain_request result ≡ abort_request_for call.now.xid
+        (link_in (arguments_at call.now.proc call.now.args.now)) }
+{
+    match aborted_link(call) {
+        Some(lid) => Request::Abort { xid: call.xid, lid },
+        None => Request::Decided {
+            xid: call.xid,
+            reply: Reply::GarbageArgs,
+        },
+    }
+}
+
+/// What a call of one of its program's procedures asks for.
+fn procedure_request<'a>(role: Role, call: &Call<'a>) -> Request<'a>
+    requires { reply_to role (plain_call call.now) ≡ None }
+    ensures { plain_request result ≡ procedure_request_for role (plain_call call.now) }
+{
+    match role {
+        Role::Core => core_request(call),
+        Role::Abort => abort_request(call),
+        Role::Portmap => Request::Port {
+            xid: call.xid,
+            args: call.args,
+        },
+    }
+}
+
+/// What a call asks for, unless its header alone decides the reply.
+fn call_request<'a>(role: Role, call: &Call<'a>) -> Request<'a>
+    ensures { plain_request result
+        ≡ unless_decided role (plain_call call.now) (reply_to role (plain_call call.now)) }
+{
+    if let Some(reply) = header_reply(role, call) {
+        return Request::Decided {
+            xid: call.xid,
+            reply,
+        };
+    }
+    procedure_request(role, call)
+}
+
+/// What a record asks for on a connection of this role.
+pub fn request_of(role: Role, bytes: &[u8]) -> Request<'_>
+    ensures { plain_request result ≡ request_for role (call_at bytes.now) }
+{
+    match read_call(bytes) {
+        Ok(call) => call_request(role, &call),
+        Err(CallFault::BadHeader) => Request::NoCall,
+        Err(CallFault::Version(xid)) => Request::Decided {
+            xid,
+            reply: Reply::Mismatch,
+        },
+    }
+}
+
+/// The call of the core channel that a record is, where it is one.
+pub fn core_call(bytes: &[u8]) -> Option<CoreCall<'_>>
+    ensures { option_map plain_core_call result ≡ core_call_in_record bytes.now }
+{
+    match request_of(Role::Core, bytes) {
+        Request::Core(call) => Some(call),
+        Request::NoCall | Request::Decided { .. } | Request::Abort { .. } | Request::Port { .. } =>
+            None,
+    }
+}

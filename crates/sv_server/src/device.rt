@@ -1,0 +1,244 @@
+//! The device: what all connections share, which is links, the lock, suspended calls, interrupt
+//! channels, the instrument and the clock, and what each call does to them. It knows no connection
+//! but by its number, and no bytes of a call but its arguments.
+
+ghost use Rattle.std.specs.Prelude.{◌≡◌, ◌+◌, ◌<◌, ◌≤◌, ℕ, List, [], ◌∷◌, ◌++◌, length, map, option_map, Some, None, is_some, IfOk, IfSome, IsTrue, ◌==◌, true, false};
+ghost use Rattle.sv_links.specs.Links.{closing};
+ghost use Rattle.sv_links.specs.Waiting.{Left, IsExpired, IsOldest};
+ghost use Rattle.sv_links.specs.Queue.{IsEntry, creates, creations, without};
+ghost use Rattle.sv_scan.specs.declared.acts.ScanAct.TheVariants.{Input};
+ghost use Rattle.sv_layers.specs.Act.{Scanned};
+ghost use Rattle.sv_instrument.specs.Stimulus.{IsFired, external_acts, tick_acts};
+ghost use Rattle.sv_instrument.specs.Step.{IsStep};
+ghost use Rattle.sv_instrument.specs.Representation.{left_of};
+ghost use Rattle.sv_history.specs.declared.event.Config.{Config};
+ghost use Rattle.sv_links.specs.Channels.{ChannelClosed};
+ghost use Rattle.sv_history.specs.Act.{DeviceAct, Linked, Waited, Channel, Happened, Ticked, link_acts, wait_acts, instrument_acts, ticks};
+ghost use Rattle.sv_history.specs.Settling.{CanGoOn};
+ghost use Rattle.sv_server.specs.Inside.Kept.{IsKept};
+ghost use Rattle.sv_server.specs.Inside.Acting.{InstrumentSteps};
+ghost use Rattle.sv_layers.specs.Act.{Act as InstrumentAct};
+ghost use Rattle.sv_instrument.specs.RequestCount.{Raise};
+ghost use Rattle.sv_server.specs.DeviceRepresentation.{IsDevice, HasDone};
+
+pub mod abort_channel;
+pub mod admission;
+pub mod call_outcome;
+pub mod core_call;
+pub mod core_channel;
+pub mod error_results;
+pub mod interrupts;
+
+use std::alloc::{AllocError, Allocator};
+use std::marker::Model;
+use sv_history::Config;
+use sv_instrument::Instrument;
+use sv_links::{Entry, Intr, Links, Waiting};
+
+/// The last value of the clock, in milliseconds.
+const LAST_CLOCK: u64 = 9_223_372_036_854_775_807;
+
+/// What all connections share.
+#[derive(Drop)]
+pub struct Device<A: Allocator> {
+    pub links: Links<A>,
+    pub waiting: Waiting<A>,
+    pub intr: Intr<A>,
+    pub instrument: Instrument<A>,
+    pub config: Config,
+    clock: u64,
+}
+
+impl<A: Allocator> Model for Device<A> {
+    ghost use Rattle.sv_server.specs.DeviceRepresentation.{Device};
+
+    ghost Value = { Device };
+
+    ghost use Rattle.std.specs.Prelude.{◌≤◌};
+
+    ghost view = { λ a. record {
+      links = a.links;
+      waiting = a.waiting;
+      intr = a.intr;
+      instrument = a.instrument;
+      config = a.config;
+      clock = a.clock;
+    } };
+
+    ghost invariant = { λ a. a.clock ≤ 9223372036854775807 };
+}
+
+impl<A: Allocator + Copy> Device<A> {
+    /// No link, no call that waits, no interrupt channel, no text, and the clock at its start.
+    pub fn new(alloc: A, config: Config) -> Result<Device<A>, AllocError>
+        requires { config.clock ≤ 9223372036854775807 }
+        ensures stands { IfOk result (λ device. IsDevice device config []) }
+        ensures waiting { IfOk result (λ device. device.waiting ≡ []) }
+    {
+        Ok(Device {
+            links: Links::new(alloc),
+            waiting: Waiting::new(alloc)?,
+            intr: Intr::new(alloc)?,
+            instrument: Instrument::new(alloc)?,
+            config,
+            clock: config.clock,
+        })
+    }
+}
+
+impl<A: Allocator> Device<A> {
+    /// The clock, in milliseconds.
+    pub fn clock(&self) -> u64
+        ensures value { result ≡ self.now.clock }
+        ensures bounded { result ≤ 9223372036854775807 }
+    {
+        self.clock
+    }
+
+    /// Whether the clock is at its last value.
+    pub fn is_at_end(&self) -> bool
+        ensures value { result ≡ (self.now.clock == 9223372036854775807) }
+        ensures answer { (config : Config) (acts : List DeviceAct) → IsDevice self.now config acts
+            → result ≡ (config.clock + ticks acts == 9223372036854775807) }
+    {
+        self.clock == LAST_CLOCK
+    }
+
+    /// A millisecond passes, and in a scan the next channel is read.
+    pub fn tick(&mut self)
+        requires { (self.old.clock == 9223372036854775807) ≡ false }
+        ensures stands { (config : Config) (acts : List DeviceAct) → IsDevice self.old config acts
+            → IsDevice self.new config
+            (map Happened (tick_acts (instrument_acts acts)) ++ Ticked ∷ acts) }
+        ensures waiting { self.new.waiting ≡ self.old.waiting }
+    {
+        self.clock += 1;
+        let raised = self.instrument.tick();
+        self.raise(raised);
+    }
+
+    /// The voltage of a channel's input is another from now on.
+    pub fn input(&mut self, channel: u8, microvolts: i64)
+        ensures stands { (config : Config) (acts : List DeviceAct) → IsDevice self.old config acts
+            → IsDevice self.new config (Happened (Scanned (Input channel microvolts)) ∷ acts) }
+        ensures waiting { self.new.waiting ≡ self.old.waiting }
+    {
+        let raised = self.instrument.input(channel, microvolts);
+        self.raise(raised);
+    }
+
+    /// A trigger comes in at the trigger input.
+    pub fn external(&mut self)
+        ensures stands { (config : Config) (acts : List DeviceAct) → IsDevice self.old config acts
+            → IsDevice self.new config
+            (map Happened (external_acts (instrument_acts acts)) ++ acts) }
+        ensures waiting { self.new.waiting ≡ self.old.waiting }
+    {
+        let raised = self.instrument.external();
+        self.raise(raised);
+    }
+
+    /// Ends the wait of a connection's call, destroys its links, and closes its interrupt channel.
+    pub fn close_connection(&mut self, conn: u8)
+        requires { conn < 16 }
+        ensures stands { (config : Config) (acts : List DeviceAct) → IsDevice self.old config acts
+            → IsDevice self.new config
+            (Channel (ChannelClosed conn) ∷ map Linked (closing conn (link_acts acts))
+            ++ Waited (Left conn) ∷ acts) }
+        ensures waiting { self.new.waiting ≡ without conn self.old.waiting }
+    {
+        self.waiting.leave(conn);
+        self.intr.disable_connection(conn);
+        self.links.close_connection(conn);
+        self.intr.cancel(conn);
+        self.close_channel(conn);
+    }
+
+    /// The oldest call that waits and can go on; none where none can.
+    pub fn oldest_able(&self) -> Option<Entry>
+        ensures answer { (config : Config) (acts : List DeviceAct) → IsDevice self.now config acts
+            → IsOldest (wait_acts acts) (CanGoOn acts) (option_map (λ entry. entry.conn) result) }
+        ensures entry { (config : Config) (acts : List DeviceAct) → IsDevice self.now config acts
+            → IfSome result (λ entry. IsEntry (wait_acts acts) entry) }
+        ensures kept { IfSome result (λ entry. IsKept entry self.now.waiting) }
+        ensures fewer { IfSome result (λ entry. creates entry ≡ true
+            → creations (without entry.conn self.now.waiting) < creations self.now.waiting) }
+    {
+        self.waiting.oldest_able(
+            self.links.holder(),
+            self.instrument.can_write(),
+            self.instrument.can_read(),
+        )
+    }
+
+    /// The oldest call that waits and whose deadline has come; none where none's has.
+    pub fn expired(&self) -> Option<Entry>
+        ensures answer { (config : Config) (acts : List DeviceAct) → IsDevice self.now config acts
+            → IsOldest (wait_acts acts) (IsExpired (config.clock + ticks acts) (wait_acts acts))
+            (option_map (λ entry. entry.conn) result) }
+        ensures entry { (config : Config) (acts : List DeviceAct) → IsDevice self.now config acts
+            → IfSome result (λ entry. IsEntry (wait_acts acts) entry) }
+        ensures kept { IfSome result (λ entry. IsKept entry self.now.waiting) }
+    {
+        self.waiting.expired(self.clock)
+    }
+
+    /// So many requests for service were raised by what the instrument did.
+    pub fn raise(&mut self, raised: u8)
+        ensures stands { (config : Config) (acts : List DeviceAct) (adds : List InstrumentAct)
+            → HasDone adds self.old config acts → Raise adds (instrument_acts acts) raised
+            → IsDevice self.new config (map Happened adds ++ acts) }
+        ensures waiting { self.new.waiting ≡ self.old.waiting }
+        ensures instrument { self.new.instrument ≡ self.old.instrument }
+    {
+        for _ in 0..raised {
+            self.intr.raise();
+        }
+    }
+
+    /// The same, where the instrument did something; tells whether it did.
+    fn raise_where(&mut self, raised: Option<u8>) -> bool
+        ensures some { (count : ℕ) → raised ≡ Some count → (config : Config)
+            (acts : List DeviceAct) (adds : List InstrumentAct)
+            → HasDone adds self.old config acts → Raise adds (instrument_acts acts) count
+            → IsDevice self.new config (map Happened adds ++ acts) }
+        ensures none { raised ≡ None → self.new ≡ self.old }
+        ensures answer { result ≡ is_some raised }
+        ensures waiting { self.new.waiting ≡ self.old.waiting }
+        ensures instrument { self.new.instrument ≡ self.old.instrument }
+    {
+        match raised {
+            Some(count) => {
+                self.raise(count);
+                true
+            }
+            None => false,
+        }
+    }
+
+    /// A trigger that comes at once, where one is due; tells whether one was.
+    pub fn fire(&mut self) -> bool
+        ensures steps { (config : Config) (acts : List DeviceAct) → IsDevice self.old config acts
+            → InstrumentSteps IsFired result config acts self.old self.new }
+        ensures idle { result ≡ false → self.new ≡ self.old }
+        ensures measure { IsTrue result
+            → left_of self.new.instrument < left_of self.old.instrument }
+        ensures waiting { self.new.waiting ≡ self.old.waiting }
+    {
+        let fired = self.instrument.fire();
+        self.raise_where(fired)
+    }
+
+    /// A step of message exchange, where one is due; tells whether one was.
+    pub fn exchange(&mut self) -> bool
+        ensures steps { (config : Config) (acts : List DeviceAct) → IsDevice self.old config acts
+            → InstrumentSteps IsStep result config acts self.old self.new }
+        ensures idle { result ≡ false → self.new ≡ self.old }
+        ensures measure { IsTrue result
+            → left_of self.new.instrument < left_of self.old.instrument }
+        ensures waiting { self.new.waiting ≡ self.old.waiting }
+    {
+        let stepped = self.instrument.step();
+        self.raise_where(stepped)
+    }
+}

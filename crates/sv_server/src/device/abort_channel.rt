@@ -1,0 +1,87 @@
+//! The abort channel (VXI-11 revision 1.0, section B.6).
+
+ghost use Rattle.std.specs.Prelude.{◌≡◌, List, [], Some};
+ghost use Rattle.sv_vxi.specs.Results.{plain_result, data_of};
+ghost use Rattle.sv_links.specs.Links.{is_this as is_this_link};
+ghost use Rattle.sv_history.specs.declared.event.Config.{Config};
+ghost use Rattle.sv_history.specs.Act.{DeviceAct};
+ghost use Rattle.sv_server.specs.DeviceRepresentation.{IsDevice};
+ghost use Rattle.sv_history.specs.AbortChannel.{owner_of as owner_for, waits_with as waits_with_link, where_waiting as where_waiting_with, aborted as aborted_by, abort_result as result_of};
+
+use crate::device::Device;
+use crate::device::error_results::plain;
+use std::alloc::Allocator;
+use sv_vxi::{ErrorCode, VxiResult};
+
+/// Whether a link is this one.
+fn is_this(lid: u32, named: Option<u32>) -> bool
+    ensures { result ≡ is_this_link lid named }
+{
+    match named {
+        Some(named) => named == lid,
+        None => false,
+    }
+}
+
+impl<A: Allocator> Device<A> {
+    /// The connection that made a link, while it lives.
+    fn owner_of(&self, lid: Option<u32>) -> Option<u8>
+        ensures { (config : Config) (acts : List DeviceAct) → IsDevice self.now config acts
+            → result ≡ owner_for lid acts }
+    {
+        match lid {
+            Some(lid) => self.links.owner(lid),
+            None => None,
+        }
+    }
+
+    /// Whether the call of a connection waits and names this link.
+    fn waits_with(&self, conn: u8, lid: u32) -> bool
+        ensures { (config : Config) (acts : List DeviceAct) → IsDevice self.now config acts
+            → result ≡ waits_with_link conn (Some lid) acts }
+    {
+        match self.waiting.of(conn) {
+            Some(entry) => is_this(lid, entry.lid),
+            None => false,
+        }
+    }
+
+    /// The connection, where its call waits and names this link.
+    fn where_waiting(&self, conn: u8, lid: Option<u32>) -> Option<u8>
+        ensures { (config : Config) (acts : List DeviceAct) → IsDevice self.now config acts
+            → result ≡ where_waiting_with (Some conn) lid acts }
+    {
+        match lid {
+            Some(lid) => if self.waits_with(conn, lid) {
+                Some(conn)
+            } else {
+                None
+            },
+            None => None,
+        }
+    }
+
+    /// The connection whose waiting call device_abort ends: the one that names the link.
+    pub fn aborted(&self, lid: Option<u32>) -> Option<u8>
+        ensures { (config : Config) (acts : List DeviceAct) → IsDevice self.now config acts
+            → result ≡ aborted_by lid acts }
+    {
+        match self.owner_of(lid) {
+            Some(conn) => self.where_waiting(conn, lid),
+            None => None,
+        }
+    }
+
+    /// The result of device_abort.
+    pub fn abort_result(&self, lid: Option<u32>) -> VxiResult<'static>
+        ensures answer { (config : Config) (acts : List DeviceAct) → IsDevice self.now config acts
+            → plain_result result ≡ result_of lid acts }
+        ensures short { data_of (plain_result result) ≡ [] }
+    {
+        if self.owner_of(lid).is_some() {
+            plain(ErrorCode::NoError)
+        } else {
+            plain(ErrorCode::InvalidLink)
+        }
+    }
+}

@@ -1,0 +1,394 @@
+//! What stands in front of a call of the core channel (VXI-11 revision 1.0, B.4.4 and B.6):
+//! its link, the lock, and what it waits for.
+
+ghost use Rattle.std.specs.Prelude.{◌≡◌, ◌<◌, ◌&&◌, ℕ, List, ◌∷◌, Some, None, option_map, is_none, IfSome, OnOk, OnErr, Option, true, false, Bool, if◌then◌else◌};
+ghost use Rattle.sv_vxi.specs.Arguments.{is_create_link as makes_link};
+ghost use Rattle.sv_vxi.specs.Reading.{plain_arguments};
+ghost use Rattle.sv_links.specs.Waiting.{Entered, is_lock};
+ghost use Rattle.sv_links.specs.Queue.{rank_of};
+ghost use Rattle.sv_exchange.specs.Exchange.{has_ended};
+ghost use Rattle.sv_instrument.specs.Step.{is_answerable};
+ghost use Rattle.sv_history.specs.declared.event.Config.{Config as Configured};
+ghost use Rattle.sv_history.specs.Act.{DeviceAct, Waited, instrument_acts, exchange_acts};
+ghost use Rattle.sv_history.specs.Interrupts.{is_dial};
+ghost use Rattle.sv_history.specs.Admission.{names_another, is_kept_out, lock_stop as lock_stop_for, device_wait, may_make_more as may_make, link_stop as link_stop_for, channel_stop as channel_stop_for, device_stop as device_stop_for, own_stop as own_stop_for, stop_of, deadline as deadline_for, Awaits};
+ghost use Rattle.sv_server.specs.DeviceRepresentation.{IsDevice, HasPlace};
+ghost use Rattle.sv_server.specs.Inside.Outcome.{plain_stop, IsBehind, Admits, AdmitsAt};
+
+use crate::device::Device;
+use crate::device::call_outcome::CallOutcome;
+use crate::device::core_call::{is_too_long, lid_of};
+use crate::device::error_results::failure;
+use crate::device::interrupts::channel_fault;
+use std::alloc::{AllocError, Allocator};
+use sv_links::{Entry, Wait, is_locked_out};
+use sv_vxi::{Args, ErrorCode, LockWait};
+
+/// How many links may live or be waited for.
+const MOST_LINKS: u8 = 32;
+
+/// What stops a call.
+#[derive(Clone, Copy)]
+pub enum Stop {
+    /// It fails.
+    Fails(ErrorCode),
+    /// It waits.
+    Awaits {
+        /// What for.
+        wait: Wait,
+        /// How long at most, in milliseconds.
+        timeout: Option<u32>,
+    },
+}
+
+/// What the lock of another link makes of a call that minds it.
+fn lock_stop(lock_wait: Option<LockWait>) -> Stop
+    ensures { plain_stop result ≡ lock_stop_for lock_wait }
+{
+    match lock_wait {
+        Some(wait) => if wait.waits {
+            Stop::Awaits {
+                wait: Wait::Lock,
+                timeout: Some(wait.timeout),
+            }
+        } else {
+            Stop::Fails(ErrorCode::Locked)
+        },
+        None => Stop::Fails(ErrorCode::Locked),
+    }
+}
+
+/// An interrupt channel can't be opened, or waits until its peer was called.
+fn channel_stop(fault: Option<ErrorCode>) -> Stop
+    ensures { plain_stop result ≡ channel_stop_for fault }
+{
+    match fault {
+        Some(error) => Stop::Fails(error),
+        None => Stop::Awaits {
+            wait: Wait::Dial,
+            timeout: None,
+        },
+    }
+}
+
+impl<A: Allocator> Device<A> {
+    /// Whether a call names a link that isn't one of its connection.
+    fn names_another(&self, conn: u8, named: Option<i32>) -> bool
+        ensures { (config : Configured) (acts : List DeviceAct) → IsDevice self.now config acts
+            → result ≡ names_another conn named acts }
+    {
+        match named {
+            Some(_) => !self.owns(conn, lid_of(named)),
+            None => false,
+        }
+    }
+
+    /// Whether another link holds the lock, and a call minds it.
+    fn is_kept_out(&self, args: &Args<'_>) -> bool
+        ensures { (config : Configured) (acts : List DeviceAct) → IsDevice self.now config acts
+            → result ≡ is_kept_out (plain_arguments args.now) acts }
+    {
+        match args.lock_wait() {
+            Some(_) => is_locked_out(self.links.holder(), lid_of(args.link())),
+            None => false,
+        }
+    }
+
+    /// What a call waits for that isn't kept out: a write until no ended message waits to be
+    /// finished, a read until there is something to answer.
+    pub fn device_wait(&self, args: &Args<'_>) -> Option<Wait>
+        ensures answer { (config : Configured) (acts : List DeviceAct) → IsDevice self.now config acts
+            → result ≡ device_wait (plain_arguments args.now) acts }
+        ensures measure { IfSome result (λ wait. rank_of wait ≡ 1) }
+        ensures plain { IfSome result (λ wait. is_dial (Some wait) ≡ false) }
+        ensures other { IfSome result (λ wait. makes_link (plain_arguments args.now) ≡ false) }
+    {
+        match *args {
+            Args::DeviceWrite { .. } => self.input_wait(),
+            Args::DeviceRead { .. } => self.response_wait(),
+            Args::DeviceAbort { .. }
+            | Args::CreateLink { .. }
+            | Args::DeviceReadstb(_)
+            | Args::DeviceTrigger(_)
+            | Args::DeviceClear(_)
+            | Args::DeviceRemote(_)
+            | Args::DeviceLocal(_)
+            | Args::DeviceLock { .. }
+            | Args::DeviceUnlock { .. }
+            | Args::DeviceEnableSrq { .. }
+            | Args::DeviceDocmd { .. }
+            | Args::DestroyLink { .. }
+            | Args::CreateIntrChan { .. }
+            | Args::DestroyIntrChan => None,
+        }
+    }
+
+    /// What a write waits for.
+    fn input_wait(&self) -> Option<Wait>
+        ensures answer { (config : Configured) (acts : List DeviceAct) → IsDevice self.now config acts
+            → result ≡ (if has_ended (exchange_acts acts) then Some Wait.Input else None) }
+        ensures measure { IfSome result (λ wait. rank_of wait ≡ 1) }
+        ensures plain { IfSome result (λ wait. is_dial (Some wait) ≡ false) }
+    {
+        if self.instrument.can_write() {
+            return None;
+        }
+        Some(Wait::Input)
+    }
+
+    /// What a read waits for.
+    fn response_wait(&self) -> Option<Wait>
+        ensures answer { (config : Configured) (acts : List DeviceAct) → IsDevice self.now config acts
+            → result ≡ (if is_answerable (instrument_acts acts) then None else Some Wait.Response) }
+        ensures measure { IfSome result (λ wait. rank_of wait ≡ 1) }
+        ensures plain { IfSome result (λ wait. is_dial (Some wait) ≡ false) }
+    {
+        if self.instrument.can_read() {
+            return None;
+        }
+        Some(Wait::Response)
+    }
+
+    /// Whether a link more may be made, with those for which create_links wait.
+    fn may_make_more(&self) -> bool
+        ensures { (config : Configured) (acts : List DeviceAct) → IsDevice self.now config acts
+            → result ≡ may_make acts }
+    {
+        self.links.count() + self.waiting.creating() < MOST_LINKS && self.links.lids_left()
+    }
+
+    /// What stops create_link: its name, the number of links, and, where it asks for the lock, a
+    /// link that has it.
+    fn link_stop(&self, lock_device: bool, timeout: u32, device: &[u8]) -> Option<Stop>
+        ensures { (config : Configured) (acts : List DeviceAct) → IsDevice self.now config acts
+            → option_map plain_stop result ≡ link_stop_for lock_device timeout device.now acts }
+    {
+        if device != b"inst0".as_slice() {
+            return Some(Stop::Fails(ErrorCode::NotAccessible));
+        }
+        if !self.may_make_more() {
+            return Some(Stop::Fails(ErrorCode::OutOfResources));
+        }
+        if lock_device && is_locked_out(self.links.holder(), None) {
+            return Some(Stop::Awaits {
+                wait: Wait::Lock,
+                timeout: Some(timeout),
+            });
+        }
+        None
+    }
+
+    /// What stops a call that has to wait for the device.
+    fn device_stop(&self, args: &Args<'_>) -> Option<Stop>
+        ensures { (config : Configured) (acts : List DeviceAct) → IsDevice self.now config acts
+            → option_map plain_stop result ≡ device_stop_for (plain_arguments args.now) acts }
+    {
+        match self.device_wait(args) {
+            Some(wait) => Some(Stop::Awaits {
+                wait,
+                timeout: args.io_timeout(),
+            }),
+            None => None,
+        }
+    }
+
+    /// What stops a call by what it is.
+    fn own_stop(&self, conn: u8, args: &Args<'_>) -> Option<Stop>
+        requires { conn < 16 }
+        ensures { (config : Configured) (acts : List DeviceAct) → IsDevice self.now config acts
+            → option_map plain_stop result ≡ own_stop_for conn (plain_arguments args.now) acts }
+    {
+        match *args {
+            Args::CreateLink {
+                lock_device,
+                lock_timeout,
+                device,
+                ..
+            } => self.link_stop(lock_device, lock_timeout, device),
+            Args::CreateIntrChan {
+                host_addr,
+                host_port,
+                prog_family,
+                ..
+            } => Some(channel_stop(channel_fault(
+                self.has_channel(conn),
+                host_addr,
+                host_port,
+                prog_family,
+            ))),
+            Args::DeviceAbort { .. }
+            | Args::DeviceWrite { .. }
+            | Args::DeviceRead { .. }
+            | Args::DeviceReadstb(_)
+            | Args::DeviceTrigger(_)
+            | Args::DeviceClear(_)
+            | Args::DeviceRemote(_)
+            | Args::DeviceLocal(_)
+            | Args::DeviceLock { .. }
+            | Args::DeviceUnlock { .. }
+            | Args::DeviceEnableSrq { .. }
+            | Args::DeviceDocmd { .. }
+            | Args::DestroyLink { .. }
+            | Args::DestroyIntrChan => self.device_stop(args),
+        }
+    }
+
+    /// What stops a call: the link that it names is looked at first, then how much a write brings,
+    /// then the lock.
+    fn stop(&self, conn: u8, args: &Args<'_>) -> Option<Stop>
+        requires { conn < 16 }
+        ensures { (config : Configured) (acts : List DeviceAct) → IsDevice self.now config acts
+            → option_map plain_stop result ≡ stop_of conn (plain_arguments args.now) acts }
+    {
+        if self.names_another(conn, args.link()) {
+            return Some(Stop::Fails(ErrorCode::InvalidLink));
+        }
+        if is_too_long(args) {
+            return Some(Stop::Fails(ErrorCode::ParameterError));
+        }
+        if self.is_kept_out(args) {
+            return Some(lock_stop(args.lock_wait()));
+        }
+        self.own_stop(conn, args)
+    }
+
+    /// The clock, so many milliseconds from now.
+    pub fn deadline(&self, timeout: Option<u32>) -> Option<u64>
+        ensures { (config : Configured) (acts : List DeviceAct) → IsDevice self.now config acts
+            → result ≡ deadline_for config timeout acts }
+    {
+        match timeout {
+            Some(milliseconds) => Some(self.clock() + u64::from(milliseconds)),
+            None => None,
+        }
+    }
+
+    /// Takes the memory of a link that a call makes, if it may make one more.
+    fn reserve(&mut self, args: &Args<'_>) -> Result<(), AllocError>
+        ensures ok { (config : Configured) (acts : List DeviceAct) → IsDevice self.old config acts
+            → OnOk result (IsDevice self.new config acts
+            × (makes_link (plain_arguments args.now) ≡ true → may_make acts ≡ true
+            → HasPlace self.new acts)) }
+        ensures waiting { OnOk result (self.new.waiting ≡ self.old.waiting) }
+        ensures err { OnErr result ((self.new ≡ self.old)
+            × (makes_link (plain_arguments args.now) ≡ true)) }
+    {
+        if !args.is_create_link() {
+            return Ok(());
+        }
+        self.links.reserve(self.waiting.creating() + 1)
+    }
+
+    /// A call begins to wait, for something else than its peer.
+    fn enter(&mut self, conn: u8, lid: Option<u32>, wait: Wait, timeout: Option<u32>)
+        requires within { conn < 16 }
+        requires plain { is_dial (Some wait) ≡ false }
+        ensures stands { (config : Configured) (acts : List DeviceAct) → IsDevice self.old config acts
+            → ((is_lock (Some wait) && is_none lid) ≡ true → HasPlace self.old acts)
+            → IsDevice self.new config (Waited (Entered conn lid wait
+            (deadline_for config timeout acts)) ∷ acts) }
+        ensures waits { (makes : Bool)
+            → (makes ≡ true → (is_lock (Some wait) && is_none lid) ≡ true)
+            → IsBehind conn makes self.old.waiting self.new.waiting }
+    {
+        let deadline = self.deadline(timeout);
+        self.waiting.enter(Entry {
+            conn,
+            lid,
+            wait,
+            deadline,
+        });
+    }
+
+    /// A create_intr_chan waits until its peer was called; there is no channel.
+    fn await_peer(
+        &mut self,
+        conn: u8,
+        args: &Args<'_>,
+        timeout: Option<u32>,
+    ) -> Result<CallOutcome, AllocError>
+        requires { conn < 16 }
+        ensures { AdmitsAt (Some (Awaits Wait.Dial timeout)) result conn (plain_arguments args.now)
+            self.old self.new }
+    {
+        self.intr.prepare(conn)?;
+        let deadline = self.deadline(timeout);
+        self.waiting.enter(Entry {
+            conn,
+            lid: lid_of(args.link()),
+            wait: Wait::Dial,
+            deadline,
+        });
+        Ok(CallOutcome::Suspended)
+    }
+
+    /// A call waits for the lock or for the device.
+    fn await_device(
+        &mut self,
+        conn: u8,
+        args: &Args<'_>,
+        wait: Wait,
+        timeout: Option<u32>,
+    ) -> Result<CallOutcome, AllocError>
+        requires within { conn < 16 }
+        requires plain { is_dial (Some wait) ≡ false }
+        ensures { AdmitsAt (Some (Awaits wait timeout)) result conn (plain_arguments args.now)
+            self.old self.new }
+    {
+        self.reserve(args)?;
+        self.enter(conn, lid_of(args.link()), wait, timeout);
+        Ok(CallOutcome::Suspended)
+    }
+
+    /// A call waits.
+    fn suspend(
+        &mut self,
+        conn: u8,
+        args: &Args<'_>,
+        wait: Wait,
+        timeout: Option<u32>,
+    ) -> Result<CallOutcome, AllocError>
+        requires { conn < 16 }
+        ensures { AdmitsAt (Some (Awaits wait timeout)) result conn (plain_arguments args.now)
+            self.old self.new }
+    {
+        match wait {
+            Wait::Dial => self.await_peer(conn, args, timeout),
+            Wait::Lock => self.await_device(conn, args, Wait::Lock, timeout),
+            Wait::Input => self.await_device(conn, args, Wait::Input, timeout),
+            Wait::Response => self.await_device(conn, args, Wait::Response, timeout),
+        }
+    }
+
+    /// A call that this stops fails, or waits.
+    fn halt(&mut self, conn: u8, args: &Args<'_>, stop: Stop) -> Result<CallOutcome, AllocError>
+        requires { conn < 16 }
+        ensures { AdmitsAt (Some (plain_stop stop)) result conn (plain_arguments args.now)
+            self.old self.new }
+    {
+        match stop {
+            Stop::Fails(error) => Ok(CallOutcome::Result(failure(args, error))),
+            Stop::Awaits { wait, timeout } => self.suspend(conn, args, wait, timeout),
+        }
+    }
+
+    /// A call that nothing stops is done.
+    fn start(&mut self, conn: u8, args: &Args<'_>) -> Result<CallOutcome, AllocError>
+        requires { conn < 16 }
+        ensures { AdmitsAt None result conn (plain_arguments args.now) self.old self.new }
+    {
+        self.reserve(args)?;
+        Ok(self.own_call(conn, args))
+    }
+
+    /// Does a call whose arguments were read, unless something stops it.
+    pub fn admit(&mut self, conn: u8, args: &Args<'_>) -> Result<CallOutcome, AllocError>
+        requires { conn < 16 }
+        ensures { Admits result conn (plain_arguments args.now) self.old self.new }
+    {
+        match self.stop(conn, args) {
+            Some(stop) => self.halt(conn, args, stop),
+            None => self.start(conn, args),
+        }
+    }
+}

@@ -1,0 +1,258 @@
+//! What each call of the core channel does, once it needn't wait (VXI-11 revision 1.0, B.6).
+
+ghost use Rattle.std.specs.Prelude.{◌≡◌, ◌<◌, ◌^◌, ℕ, pos, List, [], ◌∷◌, map, None, true, false};
+ghost use Rattle.sv_vxi.specs.Reading.{plain_arguments};
+ghost use Rattle.sv_vxi.specs.declared.error_code.ErrorCode.TheVariants.{NoError};
+ghost use Rattle.sv_vxi.specs.Results.{Link, Status, Plain, plain_result, data_of};
+ghost use Rattle.sv_layers.specs.Act.{Polled, Purged};
+ghost use Rattle.sv_instrument.specs.Stimulus.{trigger_acts};
+ghost use Rattle.sv_history.specs.declared.event.Config.{Config as Configured};
+ghost use Rattle.sv_links.specs.Links.{holder, is_locked_out};
+ghost use Rattle.sv_history.specs.Act.{DeviceAct, Happened, link_acts, instrument_acts};
+ghost use Rattle.sv_history.specs.CallOutcome.{answered};
+ghost use Rattle.sv_server.specs.DeviceRepresentation.{IsDevice, HasPlace};
+ghost use Rattle.sv_history.specs.CoreChannel.{owns, make_link, destroy_link, device_lock, device_unlock, device_write, device_read, own_call};
+ghost use Rattle.sv_server.specs.Inside.Outcome.{IsDeviceAt, IsGranted, OutcomeIs, IsBrief};
+
+use crate::device::Device;
+use crate::device::call_outcome::CallOutcome;
+use crate::device::core_call::{MAX_WRITE, lid_of, term_of};
+use crate::device::error_results::{failure, no_link, nothing_read, plain, written};
+use std::alloc::Allocator;
+use sv_vxi::{Args, ErrorCode, Flags, VxiResult};
+
+impl<A: Allocator> Device<A> {
+    /// Whether a link is one of this connection.
+    pub fn owns(&self, conn: u8, lid: Option<u32>) -> bool
+        ensures { (config : Configured) (acts : List DeviceAct) → IsDevice self.now config acts
+            → result ≡ owns conn lid acts }
+    {
+        match lid {
+            Some(lid) => self.links.owner(lid) == Some(conn),
+            None => false,
+        }
+    }
+
+    /// A link that was made, as it is told.
+    fn told_link(&self, lid: u32) -> VxiResult<'static>
+        requires { lid < 2 ^ 31 }
+        ensures told { plain_result result ≡ Link NoError (pos lid) self.now.config.abort 4096 }
+        ensures short { data_of (plain_result result) ≡ [] }
+    {
+        VxiResult::Link {
+            error: ErrorCode::NoError,
+            lid: lid as i32,
+            abort_port: self.config.abort,
+            max_recv_size: MAX_WRITE as u32,
+        }
+    }
+
+    /// Makes a link. There are a place and memory for it.
+    pub fn make_free(&mut self, conn: u8) -> CallOutcome
+        ensures ends { (config : Configured) (acts : List DeviceAct) → IsDevice self.old config acts
+            → HasPlace self.old acts
+            → OutcomeIs result self.new config acts (make_link config conn false acts) }
+        ensures short { IsBrief result }
+        ensures waiting { self.new.waiting ≡ self.old.waiting }
+    {
+        let Ok(lid) = self.links.create(conn) else {
+            return CallOutcome::Result(no_link(ErrorCode::OutOfResources));
+        };
+        CallOutcome::Result(self.told_link(lid))
+    }
+
+    /// Makes a link that has the lock, which no link has. There are a place and memory for it.
+    pub fn make_locked(&mut self, conn: u8) -> CallOutcome
+        ensures ends { (config : Configured) (acts : List DeviceAct) → IsDevice self.old config acts
+            → HasPlace self.old acts → is_locked_out (holder (link_acts acts)) None ≡ false
+            → OutcomeIs result self.new config acts (make_link config conn true acts) }
+        ensures short { IsBrief result }
+        ensures waiting { self.new.waiting ≡ self.old.waiting }
+    {
+        let Ok(lid) = self.links.create(conn) else {
+            return CallOutcome::Result(no_link(ErrorCode::OutOfResources));
+        };
+        let _ = self.links.lock(lid);
+        CallOutcome::Result(self.told_link(lid))
+    }
+
+    /// Makes a link, with the lock where it asks for it.
+    fn make_link(&mut self, conn: u8, lock_device: bool) -> CallOutcome
+        ensures ends { (config : Configured) (acts : List DeviceAct) → IsDevice self.old config acts
+            → HasPlace self.old acts
+            → (lock_device ≡ true → is_locked_out (holder (link_acts acts)) None ≡ false)
+            → OutcomeIs result self.new config acts (make_link config conn lock_device acts) }
+        ensures short { IsBrief result }
+        ensures waiting { self.new.waiting ≡ self.old.waiting }
+    {
+        if lock_device {
+            return self.make_locked(conn);
+        }
+        self.make_free(conn)
+    }
+
+    /// destroy_link.
+    fn destroy_link(&mut self, lid: Option<u32>) -> CallOutcome
+        ensures ends { (config : Configured) (acts : List DeviceAct) → IsDevice self.old config acts
+            → OutcomeIs result self.new config acts (destroy_link lid) }
+        ensures short { IsBrief result }
+        ensures waiting { self.new.waiting ≡ self.old.waiting }
+    {
+        let Some(lid) = lid else {
+            return CallOutcome::Result(plain(ErrorCode::InvalidLink));
+        };
+        self.links.destroy(lid);
+        self.intr.disable(lid);
+        CallOutcome::Result(plain(ErrorCode::NoError))
+    }
+
+    /// device_lock: the link gets the lock, unless another has it.
+    fn device_lock(&mut self, lid: Option<u32>) -> CallOutcome
+        ensures ends { (config : Configured) (acts : List DeviceAct) → IsDevice self.old config acts
+            → OutcomeIs result self.new config acts (device_lock lid acts) }
+        ensures short { IsBrief result }
+        ensures waiting { self.new.waiting ≡ self.old.waiting }
+    {
+        let Some(lid) = lid else {
+            return CallOutcome::Result(plain(ErrorCode::InvalidLink));
+        };
+        if !self.links.lock(lid) {
+            return CallOutcome::Result(plain(ErrorCode::Locked));
+        }
+        CallOutcome::Result(plain(ErrorCode::NoError))
+    }
+
+    /// device_unlock: the lock is free, where the link had it.
+    fn device_unlock(&mut self, lid: Option<u32>) -> CallOutcome
+        ensures ends { (config : Configured) (acts : List DeviceAct) → IsDevice self.old config acts
+            → OutcomeIs result self.new config acts (device_unlock lid acts) }
+        ensures short { IsBrief result }
+        ensures waiting { self.new.waiting ≡ self.old.waiting }
+    {
+        let Some(lid) = lid else {
+            return CallOutcome::Result(plain(ErrorCode::InvalidLink));
+        };
+        if !self.links.unlock(lid) {
+            return CallOutcome::Result(plain(ErrorCode::NoLock));
+        }
+        CallOutcome::Result(plain(ErrorCode::NoError))
+    }
+
+    /// device_write: the bytes are accepted, and END ends their message.
+    fn device_write(&mut self, flags: Flags, bytes: &[u8]) -> CallOutcome
+        ensures ends { (config : Configured) (acts : List DeviceAct) → IsDevice self.old config acts
+            → OutcomeIs result self.new config acts (device_write flags.0 bytes.now acts) }
+        ensures short { IsBrief result }
+        ensures waiting { self.new.waiting ≡ self.old.waiting }
+    {
+        if bytes.len() > MAX_WRITE {
+            return CallOutcome::Result(written(ErrorCode::ParameterError, 0));
+        }
+        if !self.instrument.can_write() {
+            return CallOutcome::Result(written(ErrorCode::IoTimeout, 0));
+        }
+        let raised = self.instrument.write(bytes, flags.has_end());
+        self.raise(raised);
+        CallOutcome::Result(written(ErrorCode::NoError, bytes.len() as u32))
+    }
+
+    /// device_read: what stands of the response; without one the unfinished text is dropped, and
+    /// nothing comes in time.
+    fn device_read(&mut self, most: u32, term: Option<u8>) -> CallOutcome
+        ensures ends { (config : Configured) (acts : List DeviceAct) → IsDevice self.old config acts
+            → OutcomeIs result self.new config acts (device_read most term acts) }
+        ensures short { IsBrief result }
+        ensures waiting { self.new.waiting ≡ self.old.waiting }
+    {
+        if self.instrument.readable() {
+            return CallOutcome::Reads { most, term };
+        }
+        if !self.instrument.can_read() {
+            return CallOutcome::Result(nothing_read(ErrorCode::IoTimeout));
+        }
+        let raised = self.instrument.unterminated();
+        self.raise(raised);
+        CallOutcome::Result(nothing_read(ErrorCode::IoTimeout))
+    }
+
+    /// device_readstb: the status byte, whose request for service ends thereby.
+    fn device_readstb(&mut self) -> CallOutcome
+        ensures ends { (config : Configured) (polled : ℕ) (acts : List DeviceAct)
+            → IsDeviceAt self.old config polled acts
+            → OutcomeIs result self.new config acts (answered (Happened Polled ∷ []) (Status NoError polled)) }
+        ensures short { IsBrief result }
+        ensures waiting { self.new.waiting ≡ self.old.waiting }
+    {
+        let poll = self.instrument.poll();
+        self.raise(poll.raised);
+        CallOutcome::Result(VxiResult::Status {
+            error: ErrorCode::NoError,
+            stb: poll.status,
+        })
+    }
+
+    /// device_trigger: a trigger from the controller.
+    fn device_trigger(&mut self) -> CallOutcome
+        ensures ends { (config : Configured) (acts : List DeviceAct) → IsDevice self.old config acts
+            → OutcomeIs result self.new config acts (answered (map Happened (trigger_acts (instrument_acts acts))) (Plain NoError)) }
+        ensures short { IsBrief result }
+        ensures waiting { self.new.waiting ≡ self.old.waiting }
+    {
+        let raised = self.instrument.trigger();
+        self.raise(raised);
+        CallOutcome::Result(plain(ErrorCode::NoError))
+    }
+
+    /// device_clear: text, held unit and response are dropped.
+    fn device_clear(&mut self) -> CallOutcome
+        ensures ends { (config : Configured) (acts : List DeviceAct) → IsDevice self.old config acts
+            → OutcomeIs result self.new config acts
+            (answered (Happened Purged ∷ []) (Plain NoError)) }
+        ensures short { IsBrief result }
+        ensures waiting { self.new.waiting ≡ self.old.waiting }
+    {
+        let raised = self.instrument.clear();
+        self.raise(raised);
+        CallOutcome::Result(plain(ErrorCode::NoError))
+    }
+
+    /// Does a call that needn't wait.
+    pub fn own_call(&mut self, conn: u8, args: &Args<'_>) -> CallOutcome
+        requires { conn < 16 }
+        ensures ends { (config : Configured) (polled : ℕ) (acts : List DeviceAct)
+            → IsDeviceAt self.old config polled acts
+            → IsGranted (plain_arguments args.now) self.old acts
+            → OutcomeIs result self.new config acts
+            (own_call config polled conn (plain_arguments args.now) acts) }
+        ensures short { IsBrief result }
+        ensures waiting { self.new.waiting ≡ self.old.waiting }
+    {
+        match *args {
+            Args::CreateLink { lock_device, .. } => self.make_link(conn, lock_device),
+            Args::DeviceWrite { flags, bytes, .. } => self.device_write(flags, bytes),
+            Args::DeviceRead {
+                request_size,
+                flags,
+                term_char,
+                ..
+            } => self.device_read(request_size, term_of(flags, term_char)),
+            Args::DestroyLink { lid } => self.destroy_link(lid_of(Some(lid))),
+            Args::DeviceRemote(_) => CallOutcome::Result(plain(ErrorCode::NoError)),
+            Args::DeviceLocal(_) => CallOutcome::Result(plain(ErrorCode::NoError)),
+            Args::DeviceReadstb(_) => self.device_readstb(),
+            Args::DeviceTrigger(_) => self.device_trigger(),
+            Args::DeviceClear(_) => self.device_clear(),
+            Args::DeviceLock { lid, .. } => self.device_lock(lid_of(Some(lid))),
+            Args::DeviceUnlock { lid } => self.device_unlock(lid_of(Some(lid))),
+            Args::DeviceEnableSrq {
+                lid,
+                enable,
+                handle,
+            } => self.device_enable_srq(conn, lid_of(Some(lid)), enable, handle),
+            Args::DestroyIntrChan => self.destroy_channel(conn),
+            Args::DeviceAbort { .. } | Args::DeviceDocmd { .. } | Args::CreateIntrChan { .. } => {
+                CallOutcome::Result(failure(args, ErrorCode::NotSupported))
+            }
+        }
+    }
+}

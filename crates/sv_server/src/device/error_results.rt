@@ -1,0 +1,75 @@
+//! Results of calls that fail, or that tell little, in the shape of each.
+
+ghost use Rattle.std.specs.Prelude.{◌≡◌, pos, []};
+ghost use Rattle.sv_vxi.specs.Reading.{plain_arguments};
+ghost use Rattle.sv_vxi.specs.Results.{Link, Size, Plain, plain_result, data_of};
+ghost use Rattle.sv_history.specs.CoreCall.{failure as failed, no_bytes};
+
+use sv_vxi::{Args, ErrorCode, Reason, VxiResult};
+
+/// The result of a call that fails, in the shape of that call's.
+pub fn failure(args: &Args<'_>, error: ErrorCode) -> VxiResult<'static>
+    ensures result_is { plain_result result ≡ failed (plain_arguments args.now) error }
+    ensures short { data_of (plain_result result) ≡ [] }
+{
+    match *args {
+        Args::CreateLink { .. } => no_link(error),
+        Args::DeviceWrite { .. } => written(error, 0),
+        Args::DeviceRead { .. } => nothing_read(error),
+        Args::DeviceReadstb(_) => VxiResult::Status { error, stb: 0 },
+        Args::DeviceDocmd { .. } => VxiResult::Data { error, bytes: &[] },
+        Args::DeviceAbort { .. }
+        | Args::DeviceTrigger(_)
+        | Args::DeviceClear(_)
+        | Args::DeviceRemote(_)
+        | Args::DeviceLocal(_)
+        | Args::DeviceLock { .. }
+        | Args::DeviceUnlock { .. }
+        | Args::DeviceEnableSrq { .. }
+        | Args::DestroyLink { .. }
+        | Args::CreateIntrChan { .. }
+        | Args::DestroyIntrChan => plain(error),
+    }
+}
+
+/// The result of a call that tells nothing but whether it failed.
+pub fn plain(error: ErrorCode) -> VxiResult<'static>
+    ensures { plain_result result ≡ Plain error }
+{
+    VxiResult::Plain { error }
+}
+
+/// The result of a create_link that made none.
+pub fn no_link(error: ErrorCode) -> VxiResult<'static>
+    ensures { plain_result result ≡ Link error (pos 0) 0 0 }
+{
+    VxiResult::Link {
+        error,
+        lid: 0,
+        abort_port: 0,
+        max_recv_size: 0,
+    }
+}
+
+/// The result of a device_write.
+pub fn written(error: ErrorCode, size: u32) -> VxiResult<'static>
+    ensures { plain_result result ≡ Size error size }
+{
+    VxiResult::Size { error, size }
+}
+
+/// The result of a device_read that gives nothing.
+pub fn nothing_read(error: ErrorCode) -> VxiResult<'static>
+    ensures result_is { plain_result result ≡ no_bytes error }
+    ensures short { data_of (plain_result result) ≡ [] }
+{
+    VxiResult::Read {
+        error,
+        reason: Reason {
+            request_count: false,
+            character: false,
+            end: false,
+        },
+        bytes: &[],
+    }
+}

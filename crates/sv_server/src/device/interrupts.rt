@@ -1,0 +1,252 @@
+//! Interrupt channels, and the links that ask for service requests (VXI-11 revision 1.0, section
+//! B.6: device_enable_srq, create_intr_chan, destroy_intr_chan).
+
+ghost use Rattle.std.specs.Prelude.{◌≡◌, ◌<◌, ◌≤◌, ℕ, List, length, ◌∷◌, Some, None, IfOk, IfSome, OnErr, false, true};
+ghost use Rattle.sv_vxi.specs.declared.error_code.ErrorCode.TheVariants.{NoError};
+ghost use Rattle.sv_vxi.specs.Results.{Plain};
+ghost use Rattle.sv_links.specs.Waiting.{Left};
+ghost use Rattle.sv_links.specs.Queue.{without};
+ghost use Rattle.sv_links.specs.Channels.{ChannelOpened};
+ghost use Rattle.sv_history.specs.declared.event.Config.{Config as Configured};
+ghost use Rattle.sv_history.specs.Act.{DeviceAct, Waited, Channel, wait_acts};
+ghost use Rattle.sv_server.specs.DeviceRepresentation.{IsDevice};
+ghost use Rattle.sv_history.specs.Interrupts.{has_channel as channel_there, enable_srq as enabled_srq, device_enable_srq as done_enable_srq, is_peer as may_call, channel_fault as fault_of, destroy_channel as destroyed_channel, is_dialing, peer_by as asked_peer, end_channel as ended_channel, dialed};
+ghost use Rattle.sv_vxi.specs.Reading.{plain_arguments};
+ghost use Rattle.sv_links.specs.Channels.{ChannelAct, ChannelClosed, ChannelTaken, waiting as channel_bytes};
+ghost use Rattle.sv_links.specs.ChannelRepresentation.{bytes_of};
+ghost use Rattle.sv_history.specs.Requests.{HearsOf};
+ghost use Rattle.sv_history.specs.CoreChannel.{owns};
+ghost use Rattle.sv_server.specs.Inside.Outcome.{OutcomeIs, IsBrief};
+
+use crate::device::Device;
+use crate::device::call_outcome::CallOutcome;
+use crate::device::error_results::{failure, plain};
+use std::alloc::Allocator;
+use sv_links::{Peer, Wait};
+use sv_vxi::{Args, ErrorCode};
+
+/// The longest handle of a link, in bytes.
+const MAX_HANDLE: usize = 40;
+
+/// Whether an interrupt channel may be opened to there: an address in 127.0.0.0/8, and a port of 1
+/// to 65535.
+fn is_peer(host_addr: u32, host_port: u32) -> bool
+    ensures { result ≡ may_call host_addr host_port }
+{
+    host_addr / 0x0100_0000 == 127 && host_port > 0 && host_port < 65536
+}
+
+/// Why no interrupt channel can be opened: one is there, it isn't over TCP (0), or it can't be
+/// opened to there.
+pub fn channel_fault(
+    there: bool,
+    host_addr: u32,
+    host_port: u32,
+    prog_family: u32,
+) -> Option<ErrorCode>
+    ensures { result ≡ fault_of there host_addr host_port prog_family }
+{
+    if there {
+        return Some(ErrorCode::AlreadyEstablished);
+    }
+    if prog_family != 0 {
+        return Some(ErrorCode::NotSupported);
+    }
+    if !is_peer(host_addr, host_port) {
+        return Some(ErrorCode::InvalidAddress);
+    }
+    None
+}
+
+/// Which peer a call asks for, where it asks for one.
+fn peer_by(args: &Args<'_>) -> Option<Peer>
+    ensures { result ≡ asked_peer (plain_arguments args.now) }
+{
+    if let Args::CreateIntrChan {
+        prog_num,
+        prog_vers,
+        ..
+    } = *args
+    {
+        return Some(Peer {
+            prog: prog_num,
+            vers: prog_vers,
+        });
+    }
+    None
+}
+
+impl<A: Allocator> Device<A> {
+    /// Whether the interrupt channel of a connection is open.
+    pub fn has_channel(&self, conn: u8) -> bool
+        requires { conn < 16 }
+        ensures { (config : Configured) (acts : List DeviceAct) → IsDevice self.now config acts
+            → result ≡ channel_there conn acts }
+    {
+        self.intr.is_open(conn)
+    }
+
+    /// device_enable_srq of a link, where it is one of the connection.
+    pub fn device_enable_srq(
+        &mut self,
+        conn: u8,
+        lid: Option<u32>,
+        enable: bool,
+        handle: &[u8],
+    ) -> CallOutcome
+        ensures ends { (config : Configured) (acts : List DeviceAct) → IsDevice self.old config acts
+            → OutcomeIs result self.new config acts
+            (done_enable_srq conn (owns conn lid acts) enable lid handle.now) }
+        ensures short { IsBrief result }
+        ensures waiting { self.new.waiting ≡ self.old.waiting }
+    {
+        let owned = self.owns(conn, lid);
+        let Some(lid) = lid else {
+            return CallOutcome::Result(plain(ErrorCode::InvalidLink));
+        };
+        if !owned {
+            return CallOutcome::Result(plain(ErrorCode::InvalidLink));
+        }
+        self.enable_srq(conn, enable, lid, handle)
+    }
+
+    /// A link of the connection asks for service requests, or asks no more.
+    fn enable_srq(&mut self, conn: u8, enable: bool, lid: u32, handle: &[u8]) -> CallOutcome
+        ensures ends { (config : Configured) (acts : List DeviceAct) → IsDevice self.old config acts
+            → owns conn (Some lid) acts ≡ true
+            → OutcomeIs result self.new config acts (enabled_srq conn enable lid handle.now) }
+        ensures short { IsBrief result }
+        ensures waiting { self.new.waiting ≡ self.old.waiting }
+    {
+        if !enable {
+            self.intr.disable(lid);
+            return CallOutcome::Result(plain(ErrorCode::NoError));
+        }
+        if handle.len() > MAX_HANDLE {
+            return CallOutcome::Result(plain(ErrorCode::ParameterError));
+        }
+        self.intr.enable(lid, conn, handle);
+        CallOutcome::Result(plain(ErrorCode::NoError))
+    }
+
+    /// destroy_intr_chan: the channel is closed, where one is open.
+    pub fn destroy_channel(&mut self, conn: u8) -> CallOutcome
+        requires { conn < 16 }
+        ensures ends { (config : Configured) (acts : List DeviceAct) → IsDevice self.old config acts
+            → OutcomeIs result self.new config acts (destroyed_channel conn acts) }
+        ensures short { IsBrief result }
+        ensures waiting { self.new.waiting ≡ self.old.waiting }
+    {
+        if self.has_channel(conn) {
+            self.close_channel(conn);
+            CallOutcome::Result(plain(ErrorCode::NoError))
+        } else {
+            CallOutcome::Result(plain(ErrorCode::NotEstablished))
+        }
+    }
+
+    /// Whether a create_intr_chan of a connection waits for its peer to be called.
+    pub fn is_dialing(&self, conn: u8) -> bool
+        ensures { (config : Configured) (acts : List DeviceAct) → IsDevice self.now config acts
+            → result ≡ is_dialing conn (wait_acts acts) }
+    {
+        matches!(self.waiting.waits(conn), Some(Wait::Dial))
+    }
+
+    /// The peer was called for whose answer a call waits: its channel is open, or can't be. The
+    /// call waits no more.
+    pub fn end_dial(&mut self, conn: u8, ok: bool, args: &Args<'_>) -> CallOutcome
+        requires { conn < 16 }
+        ensures ends { (config : Configured) (acts : List DeviceAct)
+            → IsDevice self.old config acts → is_dialing conn (wait_acts acts) ≡ true
+            → OutcomeIs result self.new config (Waited (Left conn) ∷ acts)
+            (dialed conn ok (plain_arguments args.now)) }
+        ensures short { IsBrief result }
+        ensures waiting { self.new.waiting ≡ without conn self.old.waiting }
+    {
+        match peer_by(args) {
+            Some(peer) => self.end_channel(conn, ok, peer),
+            None => {
+                self.give_up_channel(conn);
+                CallOutcome::Result(failure(args, ErrorCode::NotEstablished))
+            }
+        }
+    }
+
+    /// The same for this peer.
+    fn end_channel(&mut self, conn: u8, ok: bool, peer: Peer) -> CallOutcome
+        requires { conn < 16 }
+        ensures ends { (config : Configured) (acts : List DeviceAct)
+            → IsDevice self.old config acts → is_dialing conn (wait_acts acts) ≡ true
+            → OutcomeIs result self.new config (Waited (Left conn) ∷ acts)
+            (ended_channel conn ok peer) }
+        ensures short { IsBrief result }
+        ensures waiting { self.new.waiting ≡ without conn self.old.waiting }
+    {
+        if !ok {
+            self.give_up_channel(conn);
+            return CallOutcome::Result(plain(ErrorCode::NotEstablished));
+        }
+        self.open_channel(conn, peer);
+        CallOutcome::Result(plain(ErrorCode::NoError))
+    }
+
+    /// The channel for which a create_intr_chan waits is open: the call waits no more.
+    fn open_channel(&mut self, conn: u8, peer: Peer)
+        requires { conn < 16 }
+        ensures stands { (config : Configured) (acts : List DeviceAct)
+            → IsDevice self.old config acts → is_dialing conn (wait_acts acts) ≡ true
+            → IsDevice self.new config
+            (Channel (ChannelOpened conn peer) ∷ Waited (Left conn) ∷ acts) }
+        ensures waiting { self.new.waiting ≡ without conn self.old.waiting }
+    {
+        self.waiting.leave(conn);
+        self.intr.open(conn, peer);
+    }
+
+    /// It can't be opened: the call waits no more.
+    pub fn give_up_channel(&mut self, conn: u8)
+        requires { conn < 16 }
+        ensures stands { (config : Configured) (acts : List DeviceAct)
+            → IsDevice self.old config acts
+            → IsDevice self.new config (Waited (Left conn) ∷ acts) }
+        ensures waiting { self.new.waiting ≡ without conn self.old.waiting }
+    {
+        self.waiting.leave(conn);
+        self.intr.cancel(conn);
+    }
+    /// The bytes that wait on the interrupt channel of a connection; none where it isn't open.
+    pub fn channel_waiting(&self, conn: u8) -> &[u8]
+        requires { conn < 16 }
+        ensures same { result.now ≡ bytes_of self.now.intr conn }
+        ensures answer { (config : Configured) (acts : List DeviceAct) (told : List ChannelAct)
+            → IsDevice self.now config acts → HearsOf acts told
+            → result.now ≡ channel_bytes conn told }
+        ensures bounded { length result.now ≤ 2816 }
+    {
+        self.intr.waiting(conn)
+    }
+
+    /// Lets bytes of the open interrupt channel of a connection go that the peer took.
+    pub fn channel_took(&mut self, conn: u8, count: usize)
+        requires within { conn < 16 }
+        requires waits { count ≤ length (bytes_of self.old.intr conn) }
+        ensures stands { (config : Configured) (acts : List DeviceAct)
+            → IsDevice self.old config acts → channel_there conn acts ≡ true
+            → IsDevice self.new config (Channel (ChannelTaken conn count) ∷ acts) }
+        ensures waiting { self.new.waiting ≡ self.old.waiting }
+    {
+        self.intr.take(conn, count);
+    }
+
+    /// Closes the interrupt channel of a connection.
+    pub fn close_channel(&mut self, conn: u8)
+        requires { conn < 16 }
+        ensures stands { (config : Configured) (acts : List DeviceAct)
+            → IsDevice self.old config acts
+            → IsDevice self.new config (Channel (ChannelClosed conn) ∷ acts) }
+        ensures waiting { self.new.waiting ≡ self.old.waiting }
+    {
+        let _ = self.intr.close(conn);
+    }
+}

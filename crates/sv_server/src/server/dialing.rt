@@ -1,0 +1,148 @@
+//! Interrupt channels of the server: which are to be dialed, and what is sent on those that are
+//! open.
+
+ghost use Rattle.std.specs.Prelude.{◌≡◌, ◌≤◌, not, List, length, OnErr, Some, None, nat_lt, if◌then◌else◌};
+ghost use Rattle.sv_vxi.specs.Reading.{plain_arguments};
+ghost use Rattle.sv_links.specs.Channels.{ChannelAct, waiting as channel_bytes};
+ghost use Rattle.sv_history.specs.declared.event.Config.{Config};
+ghost use Rattle.sv_history.specs.declared.event.Port.TheVariants.{Intr};
+ghost use Rattle.sv_history.specs.Event.{PlainEvent, Took, Close, Dialed};
+ghost use Rattle.sv_history.specs.Act.{Act, device_acts};
+ghost use Rattle.sv_history.specs.Requests.{HearsOf};
+ghost use Rattle.sv_history.specs.Interrupts.{dial_by as called_by, dial_of};
+ghost use Rattle.sv_history.specs.History.{is_channel_shut};
+ghost use Rattle.sv_history.specs.Queries.{Answered};
+ghost use Rattle.sv_server.specs.State.{Represents, StandsFor};
+ghost use Rattle.sv_server.specs.Inside.Acting.{Acts};
+
+use crate::connection::request::core_call;
+use crate::server::resuming::dialed;
+use crate::server::{CONNECTIONS, Server};
+use std::alloc::Allocator;
+use sv_history::{Dial, Did, Refused};
+use sv_vxi::Args;
+
+/// Whom a call asks to be called, where it does.
+fn dial_by(args: &Args<'_>) -> Option<Dial>
+    ensures { result ≡ called_by (plain_arguments args.now) }
+{
+    if let Args::CreateIntrChan {
+        host_addr,
+        host_port,
+        ..
+    } = *args
+    {
+        return dial_to(host_addr, host_port);
+    }
+    None
+}
+
+/// An address and a port, where it is one.
+fn dial_to(addr: u32, port: u32) -> Option<Dial>
+    ensures { result ≡ (if nat_lt port 65536
+        then Some (record { addr = addr; port = port }) else None) }
+{
+    if port < 65536 {
+        Some(Dial {
+            addr,
+            port: port as u16,
+        })
+    } else {
+        None
+    }
+}
+
+impl<A: Allocator> Server<A> {
+    /// Where an interrupt channel of the connection is to be opened, until a Dialed says what came
+    /// of it; none where no create_intr_chan waits.
+    pub fn dial(&self, conn: u8) -> Option<Dial>
+        ensures { (config : Config) (history : List PlainEvent) → StandsFor self.now config history
+            → Answered (λ log. dial_of conn log) config history result }
+    {
+        if !self.device.is_dialing(conn) {
+            return None;
+        }
+        let connection = self.connection(conn)?;
+        let call = core_call(connection.taken()?)?;
+        dial_by(&call.args)
+    }
+
+    /// Whether the interrupt channel of the connection of this number is open.
+    pub(crate) fn has_channel(&self, conn: u8) -> bool
+        ensures { (config : Config) (log : List Act) → Represents self.now config log
+            → result ≡ not (is_channel_shut conn log) }
+    {
+        if usize::from(conn) >= CONNECTIONS {
+            return false;
+        }
+        self.device.has_channel(conn)
+    }
+
+    /// The bytes that wait on an interrupt channel; none where it isn't open.
+    pub(crate) fn sent(&self, conn: u8) -> &[u8]
+        ensures exact { (config : Config) (log : List Act) (told : List ChannelAct)
+            → Represents self.now config log → HearsOf (device_acts log) told
+            → result.now ≡ channel_bytes conn told }
+        ensures bounded { length result.now ≤ 16384 }
+    {
+        if usize::from(conn) >= CONNECTIONS {
+            return &[];
+        }
+        self.device.channel_waiting(conn)
+    }
+
+    /// An interrupt channel was dialed.
+    pub(crate) fn dialed(&mut self, conn: u8, ok: bool) -> Result<Did, Refused>
+        ensures acts { (config : Config) (log : List Act) → Represents self.old config log
+            → Acts config (Dialed conn ok) log result self.new }
+        ensures err { OnErr result (self.new ≡ self.old) }
+    {
+        if usize::from(conn) >= CONNECTIONS {
+            return Err(Refused::NoConn);
+        }
+        let connection = &mut self.connections[usize::from(conn)];
+        if !connection.is_open() {
+            return Err(Refused::NoConn);
+        }
+        if !self.device.is_dialing(conn) {
+            return Err(Refused::NoDial);
+        }
+        dialed(connection, &mut self.device, conn, ok);
+        Ok(Did::Done)
+    }
+
+    /// Lets bytes of an interrupt channel go that the peer took.
+    pub(crate) fn channel_took(&mut self, conn: u8, count: u32) -> Result<Did, Refused>
+        ensures acts { (config : Config) (log : List Act) → Represents self.old config log
+            → Acts config (Took (Intr conn) count) log result self.new }
+        ensures err { OnErr result (self.new ≡ self.old) }
+    {
+        if usize::from(conn) >= CONNECTIONS {
+            return Err(Refused::NoConn);
+        }
+        if !self.device.has_channel(conn) {
+            return Err(Refused::NoConn);
+        }
+        if self.device.channel_waiting(conn).len() < count as usize {
+            return Err(Refused::NotSent);
+        }
+        self.device.channel_took(conn, count as usize);
+        Ok(Did::Done)
+    }
+
+    /// Closes an interrupt channel.
+    pub(crate) fn close_channel(&mut self, conn: u8) -> Result<Did, Refused>
+        ensures acts { (config : Config) (log : List Act) → Represents self.old config log
+            → Acts config (Close (Intr conn)) log result self.new }
+        ensures err { OnErr result (self.new ≡ self.old) }
+    {
+        if usize::from(conn) >= CONNECTIONS {
+            return Err(Refused::NoConn);
+        }
+        if !self.device.has_channel(conn) {
+            return Err(Refused::NoConn);
+        }
+        self.device.close_channel(conn);
+        Ok(Did::Done)
+    }
+}

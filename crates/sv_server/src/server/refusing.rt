@@ -1,0 +1,76 @@
+//! Refusing a connection's next call for want of resources.
+
+ghost use Rattle.std.specs.Prelude.{◌≡◌, List, Some, OnErr, option_map};
+ghost use Rattle.sv_rpc.specs.Call.{call_at};
+ghost use Rattle.sv_vxi.specs.Reading.{plain_arguments};
+ghost use Rattle.sv_history.specs.Act.{ConnAct};
+ghost use Rattle.sv_history.specs.Refusing.{takes_memory as makes_more, refusable_call};
+ghost use Rattle.sv_history.specs.Request.{CoreRequest, request_of as request_for};
+ghost use Rattle.sv_server.specs.ConnectionRepresentation.{IsConnection};
+ghost use Rattle.sv_server.specs.Inside.Outcome.{plain_core_call};
+ghost use Rattle.sv_server.specs.Inside.Acting.{Refuses};
+
+use crate::connection::Connection;
+use crate::connection::reply::Answer;
+use crate::connection::request::{Request, request_of};
+use crate::device::core_call::CoreCall;
+use crate::device::error_results::failure;
+use std::alloc::Allocator;
+use sv_history::{Refused, Role};
+use sv_vxi::{Args, ErrorCode};
+
+/// Whether a call makes a link or an interrupt channel.
+fn takes_memory(args: &Args<'_>) -> bool
+    ensures { result ≡ makes_more (plain_arguments args.now) }
+{
+    matches!(*args, Args::CreateLink { .. } | Args::CreateIntrChan { .. })
+}
+
+/// The call that may be refused: one that would take memory, and passes the checks in front of its
+/// own.
+fn refusable(role: Role, bytes: &[u8]) -> Option<CoreCall<'_>>
+    ensures { option_map plain_core_call result
+        ≡ refusable_call (Some (request_for role (call_at bytes.now))) }
+{
+    match request_of(role, bytes) {
+        Request::Core(call) => unless_modest(call),
+        Request::NoCall | Request::Decided { .. } | Request::Abort { .. } | Request::Port { .. } =>
+            None,
+    }
+}
+
+/// A call that would take memory; `None` if it wouldn't.
+fn unless_modest(call: CoreCall<'_>) -> Option<CoreCall<'_>>
+    ensures { option_map plain_core_call result
+        ≡ refusable_call (Some (CoreRequest (plain_core_call call.entry))) }
+{
+    if takes_memory(&call.args) {
+        Some(call)
+    } else {
+        None
+    }
+}
+
+/// Takes the next call of an open connection, where it may be refused and there is room for its
+/// reply, and answers that resources are wanting.
+pub fn refuse<A: Allocator>(connection: &mut Connection<A>, role: Role) -> Result<(), Refused>
+    requires { connection.old.role ≡ Some role }
+    ensures acts { (acts : List ConnAct) → IsConnection connection.old acts
+        → Refuses acts result connection.new }
+    ensures err { OnErr result (connection.new ≡ connection.old) }
+{
+    let Some(bytes) = connection.next_call() else {
+        return Err(Refused::NotRefusable);
+    };
+    let Some(call) = refusable(role, bytes) else {
+        return Err(Refused::NotRefusable);
+    };
+    if !connection.has_reply_room() {
+        return Err(Refused::NoRoom);
+    }
+    let result = failure(&call.args, ErrorCode::OutOfResources);
+    let xid = call.xid;
+    connection.take_call();
+    connection.answer(xid, &Answer::Result(result));
+    Ok(())
+}

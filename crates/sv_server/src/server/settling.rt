@@ -1,0 +1,185 @@
+//! The steps that follow an event.
+
+ghost use Rattle.std.specs.Prelude.{◌≡◌, ◌≢◌, ◌<◌, ◌≤◌, ◌++◌, ℕ, List, Some, None, true, false, IsTrue};
+ghost use Rattle.sv_links.specs.Waiting.{waits};
+ghost use Rattle.sv_links.specs.Queue.{IsEntry, creates, creations, without, rank};
+ghost use Rattle.sv_instrument.specs.Stimulus.{IsFired};
+ghost use Rattle.sv_instrument.specs.Step.{IsStep};
+ghost use Rattle.sv_instrument.specs.Representation.{left_of};
+ghost use Rattle.sv_history.specs.declared.event.Config.{Config};
+ghost use Rattle.sv_history.specs.Act.{Act, of, device_acts, wait_acts};
+ghost use Rattle.sv_history.specs.Connection.{unanswered};
+ghost use Rattle.sv_history.specs.Request.{core_call_in};
+ghost use Rattle.sv_history.specs.PolledStatus.{IsPolled};
+ghost use Rattle.sv_history.specs.Effect.{acts_of};
+ghost use Rattle.sv_history.specs.Resuming.{resumed, failed, late as late_error};
+ghost use Rattle.sv_history.specs.Settling.{CanGoOn, InstrumentDoes, GoesOn, GivesUp, IsSettled};
+ghost use Rattle.sv_server.specs.State.{Represents};
+ghost use Rattle.sv_server.specs.Inside.Kept.{IsKept};
+ghost use Rattle.sv_server.specs.Inside.Acting.{TakesStep, Steps, GoesTo, Settled};
+
+use crate::server::Server;
+use crate::server::resuming::{give_up, resume};
+use std::alloc::Allocator;
+use sv_links::{Entry, Wait};
+use sv_vxi::ErrorCode;
+
+/// The step that was taken.
+#[derive(Clone, Copy)]
+enum Stepped {
+    /// None was due.
+    Nothing,
+    /// The instrument did something.
+    Instrument,
+    /// A call that waited went on or was given up.
+    Call,
+}
+
+/// The error of a call that waited too long for this.
+fn late(wait: Wait) -> ErrorCode
+    ensures { result ≡ late_error wait }
+{
+    match wait {
+        Wait::Lock => ErrorCode::Locked,
+        Wait::Input | Wait::Response | Wait::Dial => ErrorCode::IoTimeout,
+    }
+}
+
+impl<A: Allocator> Server<A> {
+    /// A call that waits goes on: it is done, or it waits anew.
+    fn resume(&mut self, entry: Entry)
+        requires { IsKept entry self.old.device.waiting }
+        ensures stands { (config : Config) (polled : ℕ) (log : List Act)
+            → Represents self.old config log → IsPolled polled (device_acts log)
+            → CanGoOn (device_acts log) entry.conn → IsEntry (wait_acts (device_acts log)) entry
+            → (creates entry ≡ true → creations (without entry.conn self.old.device.waiting)
+            < creations self.old.device.waiting)
+            → Represents self.new config (acts_of entry.conn (resumed config polled entry.conn
+            entry.wait (core_call_in (unanswered (of entry.conn log))) (device_acts log)) ++ log) }
+        ensures measure { rank self.new.device.waiting < rank self.old.device.waiting }
+    {
+        let connection = &mut self.connections[usize::from(entry.conn)];
+        resume(connection, &mut self.device, entry);
+    }
+
+    /// A call that waits is given up, with this error.
+    pub(crate) fn give_up(&mut self, conn: u8, error: ErrorCode)
+        requires { conn < 16 }
+        ensures stands { (config : Config) (log : List Act) → Represents self.old config log
+            → (waits conn (wait_acts (device_acts log)) ≡ None → ⊥)
+            → Represents self.new config (acts_of conn
+            (failed error conn (core_call_in (unanswered (of conn log)))) ++ log) }
+        ensures waiting { self.new.device.waiting ≡ without conn self.old.device.waiting }
+    {
+        let connection = &mut self.connections[usize::from(conn)];
+        give_up(connection, &mut self.device, conn, error);
+    }
+
+    /// A trigger that comes at once, where one is due.
+    fn fire(&mut self) -> bool
+        ensures steps { (config : Config) (log : List Act) → Represents self.old config log
+            → TakesStep (λ config. InstrumentDoes IsFired) result config log self.old self.new }
+        ensures idle { result ≡ false → self.new ≡ self.old }
+        ensures measure { IsTrue result
+            → left_of self.new.device.instrument < left_of self.old.device.instrument }
+        ensures waiting { self.new.device.waiting ≡ self.old.device.waiting }
+    {
+        self.device.fire()
+    }
+
+    /// A step of message exchange, where one is due.
+    fn exchange(&mut self) -> bool
+        ensures steps { (config : Config) (log : List Act) → Represents self.old config log
+            → TakesStep (λ config. InstrumentDoes IsStep) result config log self.old self.new }
+        ensures idle { result ≡ false → self.new ≡ self.old }
+        ensures measure { IsTrue result
+            → left_of self.new.device.instrument < left_of self.old.device.instrument }
+        ensures waiting { self.new.device.waiting ≡ self.old.device.waiting }
+    {
+        self.device.exchange()
+    }
+
+    /// The oldest call that can go on does, where one can.
+    fn resume_oldest(&mut self) -> bool
+        ensures steps { (config : Config) (log : List Act) → Represents self.old config log
+            → TakesStep GoesOn result config log self.old self.new }
+        ensures idle { result ≡ false → self.new ≡ self.old }
+        ensures measure { IsTrue result
+            → rank self.new.device.waiting < rank self.old.device.waiting }
+    {
+        match self.device.oldest_able() {
+            Some(entry) => {
+                self.resume(entry);
+                true
+            }
+            None => false,
+        }
+    }
+
+    /// The oldest call whose deadline has come is given up, where one's has.
+    fn give_up_oldest(&mut self) -> bool
+        ensures steps { (config : Config) (log : List Act) → Represents self.old config log
+            → TakesStep GivesUp result config log self.old self.new }
+        ensures idle { result ≡ false → self.new ≡ self.old }
+        ensures measure { IsTrue result
+            → rank self.new.device.waiting < rank self.old.device.waiting }
+    {
+        match self.device.expired() {
+            Some(entry) => {
+                self.give_up(entry.conn, late(entry.wait));
+                true
+            }
+            None => false,
+        }
+    }
+
+    /// Takes the step that is due.
+    fn step(&mut self) -> Stepped
+        ensures steps { (config : Config) (log : List Act) → Represents self.old config log
+            → Steps result config log self.new }
+        ensures instrument { result ≡ Stepped.Instrument
+            → left_of self.new.device.instrument < left_of self.old.device.instrument }
+        ensures waiting { (result ≡ Stepped.Call → ⊥)
+            → self.new.device.waiting ≡ self.old.device.waiting }
+        ensures call { result ≡ Stepped.Call
+            → rank self.new.device.waiting < rank self.old.device.waiting }
+    {
+        if self.fire() {
+            return Stepped::Instrument;
+        }
+        if self.resume_oldest() {
+            return Stepped::Call;
+        }
+        if self.exchange() {
+            return Stepped::Instrument;
+        }
+        if self.give_up_oldest() {
+            return Stepped::Call;
+        }
+        Stepped::Nothing
+    }
+
+    /// Takes the steps that are due until a call went on or was given up; tells whether one did.
+    fn settle_to_call(&mut self) -> bool
+        ensures goes { (config : Config) (log : List Act) → Represents self.old config log
+            → GoesTo config log (λ mid. result ≡ false → IsSettled config mid) self.new }
+        ensures measure { IsTrue result
+            → rank self.new.device.waiting < rank self.old.device.waiting }
+    {
+        loop {
+            match self.step() {
+                Stepped::Instrument => {}
+                Stepped::Call => return true,
+                Stepped::Nothing => return false,
+            }
+        }
+    }
+
+    /// Takes the steps that are due, until none is.
+    pub(crate) fn settle(&mut self)
+        ensures { (config : Config) (log : List Act) → Represents self.old config log
+            → Settled config log self.new }
+    {
+        while self.settle_to_call() {}
+    }
+}

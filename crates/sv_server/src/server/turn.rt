@@ -1,0 +1,123 @@
+//! A connection's next call is taken and done.
+
+ghost use Rattle.std.specs.Prelude.{◌≡◌, ◌<◌, ℕ, List, Some, OnErr, true};
+ghost use Rattle.sv_exchange.specs.Exchange.{response};
+ghost use Rattle.sv_history.specs.declared.event.Config.{Config};
+ghost use Rattle.sv_history.specs.Act.{Act, ConnAct, DeviceAct, of, device_acts, exchange_acts};
+ghost use Rattle.sv_history.specs.Connection.{is_busy};
+ghost use Rattle.sv_history.specs.Effect.{Effect, call_effect};
+ghost use Rattle.sv_history.specs.CoreChannel.{reads};
+ghost use Rattle.sv_server.specs.ConnectionRepresentation.{IsConnection};
+ghost use Rattle.sv_server.specs.DeviceRepresentation.{IsDevice};
+ghost use Rattle.sv_server.specs.Inside.Acting.{Turns, Concludes};
+ghost use Rattle.sv_server.specs.Inside.Outcome.{EndsAs, IsBrief};
+
+use crate::connection::Connection;
+use crate::connection::reply::Answer;
+use crate::connection::request::request_of;
+use crate::device::Device;
+use crate::device::call_outcome::CallOutcome;
+use crate::server::execution::{aborts, execute};
+use std::alloc::Allocator;
+use sv_history::{Refused, Role};
+use sv_vxi::{ErrorCode, Reason, VxiResult};
+
+/// What a Turn of an open connection did.
+#[derive(Clone, Copy)]
+pub enum Turned {
+    /// Nothing: there was no call to take.
+    Idle,
+    /// A call was taken and done, or waits.
+    Done {
+        /// The connection whose waiting call it ends, where it ends one.
+        aborts: Option<u8>,
+    },
+}
+
+/// Takes the next call of an open connection and does it, where there is one, and room for its
+/// reply.
+pub fn turn<A: Allocator>(
+    connection: &mut Connection<A>,
+    device: &mut Device<A>,
+    conn: u8,
+    role: Role,
+) -> Result<Turned, Refused>
+    requires within { conn < 16 }
+    requires open { connection.old.role ≡ Some role }
+    ensures acts { (config : Config) (log : List Act) → IsConnection connection.old (of conn log)
+        → IsDevice device.old config (device_acts log)
+        → Turns config conn log device.old.waiting result connection.new device.new }
+    ensures err { OnErr result ((connection.new ≡ connection.old) × (device.new ≡ device.old)) }
+{
+    let Some(call) = connection.next_call() else {
+        return Ok(Turned::Idle);
+    };
+    if !connection.has_reply_room() {
+        return Err(Refused::NoRoom);
+    }
+    let request = request_of(role, call);
+    let xid = request.xid();
+    let aborts = aborts(device, &request);
+    let Ok(outcome) = execute(device, conn, &request) else {
+        return Err(Refused::NoMemory);
+    };
+    connection.take_call();
+    conclude(xid, outcome, connection, device);
+    Ok(Turned::Done { aborts })
+}
+
+/// Ends the record that was taken: by its answer, or as one that is no call; or lets it wait.
+pub fn conclude<A: Allocator>(
+    xid: u32,
+    outcome: CallOutcome,
+    connection: &mut Connection<A>,
+    device: &mut Device<A>,
+)
+    requires { IsBrief outcome }
+    ensures ends { (config : Config) (acts : List ConnAct) (before : List DeviceAct)
+        (effect : Effect)
+        → IsConnection connection.old acts → is_busy acts ≡ true
+        → EndsAs outcome xid device.old config before effect
+        → Concludes effect config acts before connection.new device.new }
+    ensures waiting { device.new.waiting ≡ device.old.waiting }
+{
+    match outcome {
+        CallOutcome::NoCall => connection.fault(),
+        CallOutcome::Header(reply) => connection.answer(xid, &Answer::Header(reply)),
+        CallOutcome::Port(port) => connection.answer(xid, &Answer::Port(port)),
+        CallOutcome::Result(told) => connection.answer(xid, &Answer::Result(told)),
+        CallOutcome::Reads { most, term } => answer_response(xid, most, term, connection, device),
+        CallOutcome::Suspended => {}
+    }
+}
+
+/// Answers the call that was taken with what it is to read of the response.
+fn answer_response<A: Allocator>(
+    xid: u32,
+    most: u32,
+    term: Option<u8>,
+    connection: &mut Connection<A>,
+    device: &mut Device<A>,
+)
+    ensures ends { (config : Config) (acts : List ConnAct) (before : List DeviceAct)
+        → IsConnection connection.old acts → is_busy acts ≡ true
+        → IsDevice device.old config before
+        → Concludes (call_effect xid (reads (response (exchange_acts before)) most term)) config
+        acts before connection.new device.new }
+    ensures waiting { device.new.waiting ≡ device.old.waiting }
+{
+    let read = device.instrument.peek(most, term);
+    let count = read.bytes.len();
+    let given = VxiResult::Read {
+        error: ErrorCode::NoError,
+        reason: Reason {
+            request_count: read.request_count,
+            character: read.character,
+            end: read.end,
+        },
+        bytes: read.bytes,
+    };
+    connection.answer(xid, &Answer::Result(given));
+    let raised = device.instrument.take(count);
+    device.raise(raised);
+}
