@@ -27,7 +27,7 @@ IsApart log new = exchange_acts new ≡ exchange_acts log
 -- Of the message, which is the same, so many units began as were done before, and one more.
 pub record BeginsOne (log new : List Act) : Type 0 where
   pub message : message (exchange_acts new) ≡ message (exchange_acts log)
-  pub units_begun : units_begun new ≡ units_done (current (exchange_acts log)) + 1
+  pub begun : units_begun new ≡ units_done (current (exchange_acts log)) + 1
 
 -- A unit made this of a log.
 pub record Behaves (Makes : List Act → Type 0) (layers : Layered) (outcome : Outcome) (log : List Act) : Type 0 where
