@@ -107,7 +107,7 @@ pub ticked : (state : State) (config : Config) (log : List Act) (device : KeptDe
     → Represents (record state { device = device }) config ((map OnDevice adds ++ OnDevice Ticked ∷ []) ++ log)
 ticked state config log device adds rep all same =
     let parts : (map OnDevice adds ++ OnDevice Ticked ∷ []) ++ log ≡ map OnDevice (adds ++ Ticked ∷ []) ++ log =
-    ap (λ (l : List Act). l ++ log) (sym (map-append Device adds (Ticked ∷ []))) in
+    ap (λ (l : List Act). l ++ log) (sym (map-append OnDevice adds (Ticked ∷ []))) in
     rw parts (shared_acts state config log device (adds ++ Ticked ∷ []) rep
     (rw (append_assoc adds (Ticked ∷ []) (device_acts log)) all) same)
 

@@ -116,7 +116,7 @@ told_with_conn c [] told = refl
 told_with_conn c (byte ∷ bytes) told = refl
 
 log_with_channel : (c : ℕ) (bytes : List ℕ) (log : List Act) → 0 < length bytes
-    → log_with_took (Intr c) bytes log ≡ Device (Channel (ChannelTaken c (length bytes))) ∷ log
+    → log_with_took (Intr c) bytes log ≡ OnDevice (Channel (ChannelTaken c (length bytes))) ∷ log
 log_with_channel c [] log some = absurd (omega arith)
 log_with_channel c (byte ∷ bytes) log some = refl
 
