@@ -80,7 +80,8 @@ goes_once config log x y (c, wait, polled, oldest, for, said, is) (d, other, byt
 gives_once : (config : Config) (log x y : List Act) → GivesUp config log x → GivesUp config log y → x ≡ y
 gives_once config log x y (c, wait, oldest, for, is) (d, other, first, what, same) =
     let clock = config.clock + ticks (device_acts log) in
-    let one : c ≡ d = some_of c d (one_oldest (wait_acts (device_acts log)) (IsExpired clock (wait_acts (device_acts log))) (Some c) (Some d)
+    let one : c ≡ d = some_of c d (one_oldest (wait_acts (device_acts log)) (IsExpired clock (wait_acts (device_acts log))) (Some c)
+    (Some d)
     (expired_waits clock (wait_acts (device_acts log))) oldest first) in
     is ∙ same_call (wait_acts (device_acts log)) c d wait other (λ e w. gave_up log e w) one for what ∙ sym same
 

@@ -61,7 +61,8 @@ own_acts config polled (Refuse c) log = refuse_acts c (next_call (of c log)) (re
 own_acts config polled (Took (Conn c) count) log = On c (BytesTaken count) ∷ []
 own_acts config polled (Took (Intr c) count) log = OnDevice (Channel (ChannelTaken c count)) ∷ []
 own_acts config polled (Close (Conn c)) log =
-    map OnDevice (Channel (ChannelClosed c) ∷ map Linked (closing c (link_acts (device_acts log))) ++ Waited (Left c) ∷ []) ++ On c PortClosed ∷ []
+    map OnDevice (Channel (ChannelClosed c) ∷ map Linked (closing c (link_acts (device_acts log))) ++ Waited (Left c) ∷ [])
+    ++ On c PortClosed ∷ []
 own_acts config polled (Close (Intr c)) log = OnDevice (Channel (ChannelClosed c)) ∷ []
 own_acts config polled (Dialed c ok) log = acts_of c (connected c ok (core_call_in (unanswered (of c log))))
 own_acts config polled (Input channel microvolts) log = OnDevice (Happened (Scanned (InputTo channel microvolts))) ∷ []
@@ -130,7 +131,8 @@ refusal config told Tick log = if config.clock + ticks (device_acts log) == last
 abbrev pub IsLogOf : Config → List PlainEvent → List Act → Type 0
 IsLogOf config [] log = IsConfig config × (log ≡ [])
 IsLogOf config (event ∷ history) log = (before : List Act) × (polled : ℕ) × (told : List ChannelAct) × IsEvent event
-    × IsLogOf config history before × HearsOf (device_acts before) told × (refusal config told event before ≡ None) × IsPolled polled (device_acts before)
+    × IsLogOf config history before × HearsOf (device_acts before) told × (refusal config told event before ≡ None)
+    × IsPolled polled (device_acts before)
     × Settles config (own_acts config polled event before ++ before) log
 
 -- what an event that wasn't refused does: a Turn that finds no call to take is idle

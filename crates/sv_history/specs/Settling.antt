@@ -17,7 +17,8 @@ use Rattle.sv_history.specs.Resuming.{resumed, failed, late}
 
 -- The instrument does what is due of this kind.
 abbrev pub InstrumentDoes : (List InstrumentAct → List InstrumentAct → Type 0) → List Act → List Act → Type 0
-InstrumentDoes IsSuch log new = (adds : List InstrumentAct) × IsSuch (instrument_acts (device_acts log)) (adds ++ instrument_acts (device_acts log))
+InstrumentDoes IsSuch log new = (adds : List InstrumentAct)
+    × IsSuch (instrument_acts (device_acts log)) (adds ++ instrument_acts (device_acts log))
     × (new ≡ map OnDevice (map Happened adds) ++ log)
 
 -- The call of a connection can go on.

@@ -45,7 +45,8 @@ standard_own : (name : RegisterName) (acts : List StandardAct) (at : Seen)
 standard_own Operation acts at = refl
 standard_own Questionable acts at = refl
 
-ended_own : (name : RegisterName) (act : Act) (at : Seen) → register_acts name (after_compared act at) ≡ own name act (register_acts name at)
+ended_own : (name : RegisterName) (act : Act) (at : Seen) → register_acts name (after_compared act at)
+    ≡ own name act (register_acts name at)
 ended_own name (Exchanged act) at = refl
 ended_own name Purged at = refl
 ended_own name (Scanned act) at = refl
@@ -65,10 +66,12 @@ ended_own name (ServiceEnabled mask) at = refl
 ended_own name Polled at = refl
 
 compared_register : (name : RegisterName) (act : Act) (log : List Act)
-    → register_acts name (compared (before_compared act (seen log))) ≡ register.Condition (condition name (act ∷ log)) ∷ register_acts name (seen log)
+    → register_acts name (compared (before_compared act (seen log)))
+    ≡ register.Condition (condition name (act ∷ log)) ∷ register_acts name (seen log)
 compared_register Operation act log = rw (begun_scanner act log, begun_register Operation act log) refl
 compared_register Questionable act log = rw (begun_scanner act log, begun_register Questionable act log) refl
 
 pub seen_register : (name : RegisterName) (act : Act) (log : List Act) → register_acts name (seen (act ∷ log))
     ≡ own name act (register.Condition (condition name (act ∷ log)) ∷ register_acts name (seen log))
-seen_register name act log = ended_own name act (compared (before_compared act (seen log))) ∙ ap (own name act) (compared_register name act log)
+seen_register name act log = ended_own name act (compared (before_compared act (seen log)))
+    ∙ ap (own name act) (compared_register name act log)

@@ -20,7 +20,8 @@ use Rattle.sv_server.proofs.Parts.{dials_left}
 use Rattle.sv_server.proofs.Owned.{room_for, owned_enabled}
 
 -- an act of a channel
-pub device_channel : (kept : Device) (intr : Channels) (config : Config) (acts : List DeviceAct) (act : ChannelAct) → IsDevice kept config acts
+pub device_channel : (kept : Device) (intr : Channels) (config : Config) (acts : List DeviceAct) (act : ChannelAct)
+    → IsDevice kept config acts
     → ((told : List ChannelAct) → HearsOf acts told → AreChannels kept.intr told → AreChannels intr (act ∷ told))
     → AreOwned intr.enabled (link_acts acts) → AreReady intr (wait_acts acts)
     → IsDevice (record kept { intr = intr }) config (Channel act ∷ acts)

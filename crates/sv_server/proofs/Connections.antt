@@ -54,7 +54,8 @@ some_stay (x ∷ xs) ys zs e some = λ none. absurd (let z = sym none ∙ e in c
 
 pub records_are : (kept : Connection) (acts : List ConnAct) → IsConnection kept acts
     → kept.input.records ≡ drop (completed acts) (records_of (stream acts))
-records_are kept acts is = is.input.kept ∙ ap (drop (completed acts)) (read_alone (stream acts) is.input.all kept.input.tail is.input.splits).0
+records_are kept acts is = is.input.kept ∙ ap (drop (completed acts))
+    (read_alone (stream acts) is.input.all kept.input.tail is.input.splits).0
 
 pub tail_is : (kept : Connection) (acts : List ConnAct) → IsConnection kept acts → kept.input.tail ≡ tail_of (stream acts)
 tail_is kept acts is = (read_alone (stream acts) is.input.all kept.input.tail is.input.splits).1

@@ -136,7 +136,8 @@ may_go_on kept entry log call able is fewer makes = (
 -- ---- the instrument does what is due
 
 happens_none : (IsSuch : List InstrumentAct → List InstrumentAct → Type 0) (log : List Act)
-    → ((new : List InstrumentAct) → IsSuch (instrument_acts (device_acts log)) new → ⊥) → (new : List Act) → InstrumentDoes IsSuch log new → ⊥
+    → ((new : List InstrumentAct) → IsSuch (instrument_acts (device_acts log)) new → ⊥) → (new : List Act) → InstrumentDoes IsSuch log new
+    → ⊥
 happens_none IsSuch log none new (adds, such, is) = none (adds ++ instrument_acts (device_acts log)) such
 
 pub happens_step : (IsSuch : List InstrumentAct → List InstrumentAct → Type 0) (state : State) (device : KeptDevice) (config : Config)

@@ -98,7 +98,8 @@ some_stop : (a b : Stop) → Some a ≡ Some b → a ≡ b
 some_stop a b e = cc
 
 -- where it waits for the lock and isn't a create_link, it names a link
-names_link : (c : ℕ) (arguments : Arguments) (acts : List DeviceAct) (until : Option ℕ) → stop_of c arguments acts ≡ Some (Awaits Lock until)
+names_link : (c : ℕ) (arguments : Arguments) (acts : List DeviceAct) (until : Option ℕ) → stop_of c arguments acts
+    ≡ Some (Awaits Lock until)
     → is_create_link arguments ≡ false → is_none (link arguments) ≡ false
 names_link c (CreateLink client_id lock_device lock_timeout device) acts until e other = absurd cc
 names_link c (CreateIntrChan host_addr host_port prog_num prog_vers prog_family) acts until e other =
@@ -192,7 +193,8 @@ pub admits_as : (stop : Option Stop) {E : Type 0} (result : Result Outcome E) (c
     → AdmitsAt stop result c arguments old new → Admits result c arguments old new
 admits_as stop {E} result c arguments old new is at = record {
   does = λ config polled acts known. if_ok result _ _ (at.does config polled acts known) (λ outcome so always. so (is config acts known.0));
-  lacks = λ config polled acts known. on_err_then result _ _ (at.lacks config polled acts known) (λ wants always. wants (is config acts known.0));
+  lacks = λ config polled acts known. on_err_then result _ _ (at.lacks config polled acts known)
+      (λ wants always. wants (is config acts known.0));
   brief = at.brief;
   err = at.err;
 }
@@ -281,7 +283,8 @@ made_wants config c false acts left = rw left refl
 pub start_wants : (config : Config) (polled c : ℕ) (arguments : Arguments) (acts : List DeviceAct) → stop_of c arguments acts ≡ None
     → is_create_link arguments ≡ true → wants_memory (admitted config polled c arguments None acts).adds ≡ true
 start_wants config polled c (CreateLink client_id lock_device lock_timeout device) acts free makes =
-    made_wants config c lock_device acts (both_true _ (lids_left (link_acts acts)) (link_free _ (may_make_more acts) lock_device _ lock_timeout
+    made_wants config c lock_device acts (both_true _ (lids_left (link_acts acts))
+    (link_free _ (may_make_more acts) lock_device _ lock_timeout
     free).0).1
 start_wants config polled c _ acts free makes = absurd (let z : false ≡ true = makes in cc)
 

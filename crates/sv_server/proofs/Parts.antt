@@ -105,7 +105,8 @@ device_entered kept waiting config acts entry (links, instrument, set_up, clock,
           (links, instrument, set_up, clock, queue, (omega (arith, reserved.0, less), omega (arith, reserved.1, less)), told, ready)
     ]
 
-pub device_again : (kept : Device) (waiting : List Entry) (config : Config) (acts : List DeviceAct) (c : ℕ) (wait : Wait) (deadline : Option ℕ)
+pub device_again : (kept : Device) (waiting : List Entry) (config : Config) (acts : List DeviceAct) (c : ℕ) (wait : Wait)
+    (deadline : Option ℕ)
     → IsDevice kept config acts → IsQueue waiting (Again c wait deadline ∷ wait_acts acts)
     → creations waiting ≤ creations (without c kept.waiting) → is_dial (Some wait) ≡ false
     → IsDevice (record kept { waiting = waiting }) config (Waited (Again c wait deadline) ∷ acts)

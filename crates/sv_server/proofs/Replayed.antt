@@ -40,7 +40,8 @@ writes_all : (did : Result Did Refused) (told : List ChannelAct) (log : List Act
     (fault : Result ⊤ ReplayFault)
     (config : Config) (new : State) (head text : List ℕ)
     → did ≢ Err refused.NoMemory → ports_after did ≡ ports → head ≡ head_of did → Told r fault → ShowsAll config history told log r new text
-    → (after : List PlainEvent) × (so : List ChannelAct) × (now : List Act) × IsReplayWritten did told log history fault (head ++ text) after
+    → (after : List PlainEvent) × (so : List ChannelAct) × (now : List Act)
+    × IsReplayWritten did told log history fault (head ++ text) after
     × StandsBy new config after so now
 writes_all did told log history (Ok all) fault config new head text some shown is came (lines, so, now, stands) =
     (with_tooks told ports log history, so, now, rw (came, is, lines, shown) (some, refl, refl), stands)

@@ -77,7 +77,8 @@ makes_none port count config log polled result new said none acts e = absurd (le
 
 took_done : (event : PlainEvent) (config : Config) (told : List ChannelAct) (log : List Act) (polled : ℕ) (result : Result Did Refused)
     (new : State)
-    → IsPolled polled (device_acts log) → HearsOf (device_acts log) told → refusal config told event log ≡ None → Acts config event log result new
+    → IsPolled polled (device_acts log) → HearsOf (device_acts log) told → refusal config told event log ≡ None
+    → Acts config event log result new
     → result ≢ Err NoMemory → Represents new config (own_acts config polled event log ++ log)
 took_done event config told log polled (Ok what) new said tells none (free_of, done, rep) other = rep polled said
 took_done event config told log polled (Err NoMemory) new said tells none h other = absurd (other refl)

@@ -25,13 +25,15 @@ appends_then (Some xs) None new a b x y = elim x [ ]
 appends_then (Some xs) (Some ys) None a b x y = elim y [ ]
 
 -- a front of the first text is one of both
-pub takes_stop : {E F : Type 0} (old new : Option (List ℕ)) (a b : List ℕ) (e : E) (r : Result ⊤ F) → IsErr r → IsTakenByWriter old new (Err e) a
+pub takes_stop : {E F : Type 0} (old new : Option (List ℕ)) (a b : List ℕ) (e : E) (r : Result ⊤ F) → IsErr r
+    → IsTakenByWriter old new (Err e) a
     → IsTakenByWriter old new r (a ++ b)
 takes_stop old new a b e (Ok all) h x = absurd cc
 takes_stop old new a b e (Err f) h x = (x.0, (x.1.0 ++ b, ap (λ (l : List ℕ). l ++ b) x.1.1 ∙ append_assoc x.0 x.1.0 b), x.2)
 
 -- all of the first text was taken, and then of the second
-pub takes_then : {E : Type 0} (old mid new : Option (List ℕ)) (a b : List ℕ) (r : Result ⊤ E) → Appends old mid a → IsTakenByWriter mid new r b
+pub takes_then : {E : Type 0} (old mid new : Option (List ℕ)) (a b : List ℕ) (r : Result ⊤ E) → Appends old mid a
+    → IsTakenByWriter mid new r b
     → IsTakenByWriter old new r (a ++ b)
 takes_then old mid new a b (Ok all) x y = appends_then old mid new a b x y
 takes_then old mid new a b (Err e) x y = (
@@ -78,7 +80,8 @@ hex_more bytes done rest piece others old mid new e f x y = (
 -- or a part of it
 pub hex_stop : {E F : Type 0} (bytes done rest piece others : List ℕ) (old mid new : Option (List ℕ)) (e : E) (r : Result ⊤ F)
     → bytes ≡ done ++ rest → rest ≡ piece ++ others → IsErr r
-    → Appends old mid (encode_lower done) → IsTakenByWriter mid new (Err e) (encode_lower piece) → IsTakenByWriter old new r (encode_lower bytes)
+    → Appends old mid (encode_lower done) → IsTakenByWriter mid new (Err e) (encode_lower piece)
+    → IsTakenByWriter old new r (encode_lower bytes)
 hex_stop bytes done rest piece others old mid new e r is split h x y =
     let whole : encode_lower bytes ≡ (encode_lower done ++ encode_lower piece) ++ encode_lower others =
     ap encode_lower (is ∙ ap (λ (l : List ℕ). done ++ l) split ∙ sym (append_assoc done piece others))

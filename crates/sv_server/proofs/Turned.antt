@@ -71,7 +71,8 @@ held_as outcome c role bytes request device config acts effect old new asks ends
 held_as outcome c role bytes request device config acts effect old new asks ends (inr (is, call, core, behind)) =
     let known = sym asks ∙ core in
     let read : core_call bytes ≡ Some call =
-    ap (λ (r : Role). core_call_of (request_of r (call_at bytes))) (sym (core_alone role (call_at bytes) call known)) ∙ ap core_call_of known in
+    ap (λ (r : Role). core_call_of (request_of r (call_at bytes))) (sym (core_alone role (call_at bytes) call known))
+    ∙ ap core_call_of known in
     inr ((rw is at ends).0, rw read behind)
 
 -- a Turn that finds room is not refused

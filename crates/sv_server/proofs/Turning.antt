@@ -81,7 +81,8 @@ idle_of false false found call e = refl
 pub not_busy : (c : ℕ) (log : List Act) (call : List ℕ) → next_call (of c log) ≡ Some call → is_busy (of c log) ≡ false
 not_busy c log call e = idle_of _ (is_busy (of c log)) _ call e
 
-pub turn_done : (state new : State) (config : Config) (log : List Act) (c : ℕ) (aborted : Option ℕ) (kept : Connection) (device : KeptDevice)
+pub turn_done : (state new : State) (config : Config) (log : List Act) (c : ℕ) (aborted : Option ℕ) (kept : Connection)
+    (device : KeptDevice)
     → Represents state config log → length state.connections ≡ 16 → c < 16 → is_shut c log ≡ false
     → Turns config c log state.device.waiting (Ok (Done aborted)) kept device
     → ((k : Config) (mid : List Act) → Represents (record { connections = set state.connections c kept; device = device }) k mid

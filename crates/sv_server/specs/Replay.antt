@@ -18,7 +18,8 @@ use Rattle.sv_server.specs.TakenByWriter.{IsFront}
 -- The print was written, and then the peer took all that it shows; where memory was refused the print is that alone. Where the writer
 -- failed, it failed in the refusal's line; or the lines of some first ports were written, and the peer took what they show, and of the
 -- others' lines a front was written.
-abbrev pub IsReplayWritten : Result Did Refused → List ChannelAct → List Act → List PlainEvent → Result ⊤ ReplayFault → List ℕ → List PlainEvent
+abbrev pub IsReplayWritten : Result Did Refused → List ChannelAct → List Act → List PlainEvent → Result ⊤ ReplayFault → List ℕ
+    → List PlainEvent
     → Type 0
 IsReplayWritten did told log history (Ok all) text after = (did ≢ Err refused.NoMemory) × (text ≡ print_of did told log)
     × (after ≡ with_tooks told (ports_after did) log history)

@@ -339,7 +339,8 @@ impl<A: Allocator> Server<A> {
     /// Ends the call of a connection, which waits, by device_abort; of none where there is none.
     fn abort(&mut self, aborts: Option<u8>)
         ensures { (config : Config) (log : List Act) → Represents self.old config log
-            → ((conn : ℕ) → aborts ≡ Some conn → waits conn (wait_acts (device_acts log)) ≡ None → ⊥)
+            → ((conn : ℕ) → aborts ≡ Some conn → waits conn (wait_acts (device_acts log)) ≡ None
+            → ⊥)
             → Represents self.new config (abort_acts aborts log ++ log) }
     {
         match aborts {

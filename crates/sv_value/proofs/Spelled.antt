@@ -227,7 +227,8 @@ same-parts : (number : Parts) (negative down : Bool) (whole fraction exponent su
 same-parts number negative down whole fraction exponent suffix n w f d x s = rw (n, w, f, d, x, s) refl
 
 -- what is spelled is read
-spelled-read : (text : List ℕ) (number : Parts) → Spells text number → (is_spelled (number_parts text) ≡ true) × (number_parts text ≡ number)
+spelled-read : (text : List ℕ) (number : Parts) → Spells text number → (is_spelled (number_parts text) ≡ true)
+    × (number_parts text ≡ number)
 spelled-read text number s =
     let (sign, fraction, tail, e, isSign, isWhole, isFraction, some, isTail) = s in
     let t = tail-read tail number isTail in

@@ -46,4 +46,5 @@ Spells text number = (sign fraction tail : List ℕ) × (text ≡ sign ++ (numbe
 
 -- A text spells a number exactly if it is found to be spelled as one, and its parts are then the pieces.
 abbrev pub ReadAsSpelled : Type 0
-ReadAsSpelled = (text : List ℕ) (number : Parts) → Spells text number ↔ ((is_spelled (number_parts text) ≡ true) × (number_parts text ≡ number))
+ReadAsSpelled = (text : List ℕ) (number : Parts) → Spells text number ↔ ((is_spelled (number_parts text) ≡ true)
+    × (number_parts text ≡ number))

@@ -97,7 +97,8 @@ impl<'a> Reader<'a> {
         ensures only { (text after : List ℕ) → Begins self.old (Opaque text) after
             → length text ≤ max
             → IsOkAnd result (λ found. found.now ≡ text) × (self.new ≡ after) }
-        ensures exact { IsRead (λ text. text.now) result self.old self.new (opaque_at max self.old) }
+        ensures exact { IsRead (λ text. text.now) result self.old self.new
+            (opaque_at max self.old) }
     {
         let mut ahead = Reader { rest: self.rest };
         let size = ahead.u32()?;

@@ -153,7 +153,8 @@ Enters outcome c makes old new = (new ≡ old) ⊎ ((outcome ≡ outcomes.Suspen
 -- the same of what a record asks for
 abbrev pub Holds : Outcome → ℕ → Request → List Entry → List Entry → Type 0
 Holds outcome c request old new = (new ≡ old)
-    ⊎ ((outcome ≡ outcomes.Suspended) × (call : CoreCall) × (request ≡ CoreRequest call) × IsBehind c (is_create_link call.arguments) old new)
+    ⊎ ((outcome ≡ outcomes.Suspended) × (call : CoreCall) × (request ≡ CoreRequest call)
+    × IsBehind c (is_create_link call.arguments) old new)
 
 -- and of what the definitions say
 abbrev pub HeldAs : Effect → ℕ → Option CoreCall → List Entry → List Entry → Type 0

@@ -97,7 +97,8 @@ impl<A: Allocator> Device<A> {
     /// What a call waits for that isn't kept out: a write until no ended message waits to be
     /// finished, a read until there is something to answer.
     pub fn device_wait(&self, args: &Args<'_>) -> Option<Wait>
-        ensures answer { (config : Configured) (acts : List DeviceAct) → IsDevice self.now config acts
+        ensures answer { (config : Configured) (acts : List DeviceAct)
+            → IsDevice self.now config acts
             → result ≡ device_wait (plain_arguments args.now) acts }
         ensures measure { IfSome result (λ wait. rank_of wait ≡ 1) }
         ensures plain { IfSome result (λ wait. is_dial (Some wait) ≡ false) }
@@ -125,7 +126,8 @@ impl<A: Allocator> Device<A> {
 
     /// What a write waits for.
     fn input_wait(&self) -> Option<Wait>
-        ensures answer { (config : Configured) (acts : List DeviceAct) → IsDevice self.now config acts
+        ensures answer { (config : Configured) (acts : List DeviceAct)
+            → IsDevice self.now config acts
             → result ≡ (if has_ended (exchange_acts acts) then Some Wait.Input else None) }
         ensures measure { IfSome result (λ wait. rank_of wait ≡ 1) }
         ensures plain { IfSome result (λ wait. is_dial (Some wait) ≡ false) }
@@ -138,7 +140,8 @@ impl<A: Allocator> Device<A> {
 
     /// What a read waits for.
     fn response_wait(&self) -> Option<Wait>
-        ensures answer { (config : Configured) (acts : List DeviceAct) → IsDevice self.now config acts
+        ensures answer { (config : Configured) (acts : List DeviceAct)
+            → IsDevice self.now config acts
             → result ≡ (if is_answerable (instrument_acts acts) then None else Some Wait.Response) }
         ensures measure { IfSome result (λ wait. rank_of wait ≡ 1) }
         ensures plain { IfSome result (λ wait. is_dial (Some wait) ≡ false) }
@@ -283,7 +286,8 @@ impl<A: Allocator> Device<A> {
     fn enter(&mut self, conn: u8, lid: Option<u32>, wait: Wait, timeout: Option<u32>)
         requires within { conn < 16 }
         requires plain { is_dial (Some wait) ≡ false }
-        ensures stands { (config : Configured) (acts : List DeviceAct) → IsDevice self.old config acts
+        ensures stands { (config : Configured) (acts : List DeviceAct)
+            → IsDevice self.old config acts
             → ((is_lock (Some wait) && is_none lid) ≡ true → HasPlace self.old acts)
             → IsDevice self.new config (Waited (Entered conn lid wait
             (deadline_for config timeout acts)) ∷ acts) }

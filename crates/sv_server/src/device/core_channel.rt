@@ -179,7 +179,8 @@ impl<A: Allocator> Device<A> {
     fn device_readstb(&mut self) -> CallOutcome
         ensures ends { (config : Configured) (polled : ℕ) (acts : List DeviceAct)
             → IsDeviceAt self.old config polled acts
-            → OutcomeIs result self.new config acts (answered (Happened Polled ∷ []) (Status NoError polled)) }
+            → OutcomeIs result self.new config acts
+            (answered (Happened Polled ∷ []) (Status NoError polled)) }
         ensures short { IsBrief result }
         ensures waiting { self.new.waiting ≡ self.old.waiting }
     {
@@ -194,7 +195,8 @@ impl<A: Allocator> Device<A> {
     /// device_trigger: a trigger from the controller.
     fn device_trigger(&mut self) -> CallOutcome
         ensures ends { (config : Configured) (acts : List DeviceAct) → IsDevice self.old config acts
-            → OutcomeIs result self.new config acts (answered (map Happened (trigger_acts (instrument_acts acts))) (Plain NoError)) }
+            → OutcomeIs result self.new config acts
+            (answered (map Happened (trigger_acts (instrument_acts acts))) (Plain NoError)) }
         ensures short { IsBrief result }
         ensures waiting { self.new.waiting ≡ self.old.waiting }
     {

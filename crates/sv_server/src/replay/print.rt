@@ -76,14 +76,16 @@ fn put_hex<W: Write>(writer: &mut W, bytes: &[u8]) -> Result<(), WriteFault>
 
 /// Writes a number in decimal.
 fn put_number<W: Write>(writer: &mut W, number: u8) -> Result<(), WriteFault>
-    ensures { IsTakenByWriter (W.contents writer.old) (W.contents writer.new) result (decimal number) }
+    ensures { IsTakenByWriter (W.contents writer.old) (W.contents writer.new) result
+        (decimal number) }
 {
     put(writer, itoa::Buffer::new().format(number).as_bytes())
 }
 
 /// Writes the letter and the number of a port.
 fn put_name<W: Write>(writer: &mut W, port: Port) -> Result<(), WriteFault>
-    ensures { IsTakenByWriter (W.contents writer.old) (W.contents writer.new) result (port_name port) }
+    ensures { IsTakenByWriter (W.contents writer.old) (W.contents writer.new) result
+        (port_name port) }
 {
     match port {
         Port::Conn(conn) => {
@@ -113,7 +115,8 @@ pub fn put_line<W: Write>(writer: &mut W, port: Port, bytes: &[u8]) -> Result<()
 
 /// Writes the line of a refusal.
 pub fn put_refusal<W: Write>(writer: &mut W, refused: Refused) -> Result<(), WriteFault>
-    ensures { IsTakenByWriter (W.contents writer.old) (W.contents writer.new) result (refusal_line refused) }
+    ensures { IsTakenByWriter (W.contents writer.old) (W.contents writer.new) result
+        (refusal_line refused) }
 {
     put(writer, b"refused ")?;
     put_number(writer, refused.number())?;

@@ -27,7 +27,8 @@ returns-then-exchange-clause-instrument g c = λ e.
 
 pub returns-then-exchange-clause-waiting : goal.returns-then-exchange-clause-waiting
 returns-then-exchange-clause-waiting g c = λ e.
-    c.if-exchange.ensures.waiting ∙ ap (λ (s : State). s.device.waiting) (c.if-resume_oldest.ensures.idle refl ∙ c.if-fire.ensures.idle refl)
+    c.if-exchange.ensures.waiting ∙ ap (λ (s : State). s.device.waiting) (c.if-resume_oldest.ensures.idle refl
+    ∙ c.if-fire.ensures.idle refl)
 
 pub returns-then-give_up_oldest-clause-steps : goal.returns-then-give_up_oldest-clause-steps
 returns-then-give_up_oldest-clause-steps g c = λ config log rep.
