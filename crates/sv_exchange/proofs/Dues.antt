@@ -1,6 +1,6 @@
 -- What is held says what is due by the acts.
 use Rattle.std.proofs.Common.{◌≡◌, ℕ, zero, suc, ◌+◌, ◌-◌, ◌==◌, Bool, true, false, not, ◌&&◌, cond, List, [], ◌∷◌, ◌++◌, length, drop, Option, Some, None, refl, sym, ap, ◌∙◌, nat_lt, slice_get, slice_index_or, get_or, arith}
-use Rattle.std.proofs.lemmas.Bool.{lt-ltb, le-ltb, ne_eqb}
+use Rattle.std.proofs.lemmas.Bool.{lt-ltb, le-ltb}
 use Rattle.std.proofs.lemmas.List.{length-drop, get_or-drop}
 use Rattle.sv_exchange.specs.Exchange.{ExchangeAct, text, messages, message, finished, current, units, units_done, has_ended, is_long, has_overrun, has_dropped, next_unit, answers, response, is_something, Due, OverrunDue, InterruptDue, UnitDue, FinishDue, due, due_unit}
 use Rattle.sv_exchange.specs.Contents.{Contents, StandsFor, IsShown, IsUnitDue, symbols, following, shown, shown_by, next_of, unit_of}
@@ -82,11 +82,6 @@ unit_is contents acts s =
     (slice_get (units (message acts)) (units_done (current acts))) None)
     s.answers_dropped
     ∙ same_unit contents.ended contents.overlong contents.answers_dropped _ _ found
-
--- whether there is something, by the length
-pub something_by_length : (bytes : List ℕ) → not (length bytes == 0) ≡ is_something bytes
-something_by_length [] = refl
-something_by_length (b ∷ bytes) = ap not (ne_eqb (suc (length bytes)) 0 (λ e. omega arith))
 
 -- a response stands only before the first unit
 interrupts_is : (first : Bool) (readable : List ℕ) → (first ≡ false → readable ≡ [])

@@ -1,5 +1,5 @@
 -- One step is due at most.
-use Rattle.std.proofs.Common.{◌≡◌, ℕ, ◌+◌, List, ◌++◌, Some, None, refl, sym, ap, ◌∙◌, inl, inr}
+use Rattle.std.proofs.Common.{◌≡◌, ℕ, ◌+◌, List, ◌++◌, Some, None, sym, ap, ◌∙◌, inl, inr}
 use Rattle.std.specs.Prelude.{map}
 use Rattle.std.proofs.lemmas.List.{append_cancel_right}
 use Rattle.sv_links.specs.declared.waiting.Wait.{Wait}
@@ -14,7 +14,7 @@ use Rattle.sv_instrument.proofs.OneStep.{one_step}
 use Rattle.sv_history.specs.declared.event.Config.{Config}
 use Rattle.sv_history.specs.Act.{Act, DeviceAct, Happened, OnDevice, of, device_acts, wait_acts, instrument_acts, ticks}
 use Rattle.sv_history.specs.PolledStatus.{IsPolled}
-use Rattle.sv_history.specs.Settling.{First, InstrumentDoes, CanGoOn, GoesOn, GivesUp, IsNext}
+use Rattle.sv_history.specs.Settling.{First, InstrumentDoes, CanResume, Resumes, TimesOut, IsNext}
 use Rattle.sv_history.specs.Connection.{unanswered}
 use Rattle.sv_history.specs.Request.{core_call_in}
 use Rattle.sv_history.specs.Effect.{acts_of}
@@ -56,7 +56,7 @@ word_of : (acts : List DeviceAct) (a b : ℕ) → IsPolled a acts → IsPolled b
 word_of acts a b x y = one_word (λ k. PolledBit k (instrument_acts acts)) a b x y
 
 -- what can go on waits
-able_waits : (acts : List DeviceAct) (c : ℕ) → CanGoOn acts c → waits c (wait_acts acts) ≡ None → ⊥
+able_waits : (acts : List DeviceAct) (c : ℕ) → CanResume acts c → waits c (wait_acts acts) ≡ None → ⊥
 able_waits acts c able none = absurd (let z = rw none at able in cc)
 
 expired_waits : (clock : ℕ) (acts : List WaitAct) (c : ℕ) → IsExpired clock acts c → waits c acts ≡ None → ⊥
@@ -69,15 +69,15 @@ same_call acts c d for what f one x y =
     let same : for ≡ what = wait_of for what (sym x ∙ ap (λ (e : ℕ). waits e acts) one ∙ y) in
     ap (λ (e : ℕ). f e for) one ∙ ap (f d) same
 
-goes_once : (config : Config) (log x y : List Act) → GoesOn config log x → GoesOn config log y → x ≡ y
+goes_once : (config : Config) (log x y : List Act) → Resumes config log x → Resumes config log y → x ≡ y
 goes_once config log x y (c, wait, polled, oldest, for, said, is) (d, other, byte, first, what, told, same) =
-    let one : c ≡ d = some_of c d (one_oldest (wait_acts (device_acts log)) (CanGoOn (device_acts log)) (Some c) (Some d)
+    let one : c ≡ d = some_of c d (one_oldest (wait_acts (device_acts log)) (CanResume (device_acts log)) (Some c) (Some d)
     (able_waits (device_acts log)) oldest first) in
     let word : polled ≡ byte = word_of (device_acts log) polled byte said told in
     is ∙ same_call (wait_acts (device_acts log)) c d wait other (λ e w. went_on config log polled e w) one for what
     ∙ ap (λ (b : ℕ). went_on config log b d other) word ∙ sym same
 
-gives_once : (config : Config) (log x y : List Act) → GivesUp config log x → GivesUp config log y → x ≡ y
+gives_once : (config : Config) (log x y : List Act) → TimesOut config log x → TimesOut config log y → x ≡ y
 gives_once config log x y (c, wait, oldest, for, is) (d, other, first, what, same) =
     let clock = config.clock + ticks (device_acts log) in
     let one : c ≡ d = some_of c d (one_oldest (wait_acts (device_acts log)) (IsExpired clock (wait_acts (device_acts log))) (Some c)

@@ -9,7 +9,7 @@ use Rattle.sv_instrument.specs.Step.{IsStep}
 use Rattle.sv_history.specs.declared.event.Config.{Config}
 use Rattle.sv_history.specs.Act.{Act, ConnAct, DeviceAct, Channel, Happened, On, OnDevice, device_acts, wait_acts, instrument_acts, ticks}
 use Rattle.sv_history.specs.PolledStatus.{IsPolled}
-use Rattle.sv_history.specs.Settling.{First, InstrumentDoes, CanGoOn, GoesOn, GivesUp, IsNext, IsSettled}
+use Rattle.sv_history.specs.Settling.{First, InstrumentDoes, CanResume, Resumes, TimesOut, IsNext, IsSettled}
 use Rattle.sv_history.proofs.OneStep.{went_on, gave_up}
 
 happens_back : (IsSuch : List InstrumentAct → List InstrumentAct → Type 0) (log other new : List Act) → device_acts other ≡ device_acts log
@@ -19,23 +19,23 @@ happens_back IsSuch log other new same (adds, such, is) = (
   (adds, subst (λ (acts : List DeviceAct). IsSuch (instrument_acts acts) (adds ++ instrument_acts acts)) same such, refl),
 )
 
-goes_back : (config : Config) (log other new : List Act) → device_acts other ≡ device_acts log → GoesOn config other new
-    → (there : List Act) × GoesOn config log there
+goes_back : (config : Config) (log other new : List Act) → device_acts other ≡ device_acts log → Resumes config other new
+    → (there : List Act) × Resumes config log there
 goes_back config log other new same (c, wait, polled, oldest, for, said, is) = (
   went_on config log polled c wait,
   (
     c,
     wait,
     polled,
-    subst (λ (acts : List DeviceAct). IsOldest (wait_acts acts) (CanGoOn acts) (Some c)) same oldest,
+    subst (λ (acts : List DeviceAct). IsOldest (wait_acts acts) (CanResume acts) (Some c)) same oldest,
     subst (λ (acts : List DeviceAct). waits c (wait_acts acts) ≡ Some wait) same for,
     subst (λ (acts : List DeviceAct). IsPolled polled acts) same said,
     refl,
   ),
 )
 
-gives_back : (config : Config) (log other new : List Act) → device_acts other ≡ device_acts log → GivesUp config other new
-    → (there : List Act) × GivesUp config log there
+gives_back : (config : Config) (log other new : List Act) → device_acts other ≡ device_acts log → TimesOut config other new
+    → (there : List Act) × TimesOut config log there
 gives_back config log other new same (c, wait, oldest, for, is) = (
   gave_up log c wait,
   (
@@ -77,18 +77,18 @@ happens_channel : (act : ChannelAct) (IsSuch : List InstrumentAct → List Instr
     → InstrumentDoes IsSuch log new → (there : List Act) × InstrumentDoes IsSuch (OnDevice (Channel act) ∷ log) there
 happens_channel act IsSuch log new (adds, such, is) = (map OnDevice (map Happened adds) ++ OnDevice (Channel act) ∷ log, (adds, such, refl))
 
-channel_goes : (act : ChannelAct) (config : Config) (log new : List Act) → GoesOn config (OnDevice (Channel act) ∷ log) new
-    → (there : List Act) × GoesOn config log there
+channel_goes : (act : ChannelAct) (config : Config) (log new : List Act) → Resumes config (OnDevice (Channel act) ∷ log) new
+    → (there : List Act) × Resumes config log there
 channel_goes act config log new (c, wait, polled, oldest, for, said, is) =
     (went_on config log polled c wait, (c, wait, polled, oldest, for, said, refl))
 
-goes_channel : (act : ChannelAct) (config : Config) (log new : List Act) → GoesOn config log new
-    → (there : List Act) × GoesOn config (OnDevice (Channel act) ∷ log) there
+goes_channel : (act : ChannelAct) (config : Config) (log new : List Act) → Resumes config log new
+    → (there : List Act) × Resumes config (OnDevice (Channel act) ∷ log) there
 goes_channel act config log new (c, wait, polled, oldest, for, said, is) =
     (went_on config (OnDevice (Channel act) ∷ log) polled c wait, (c, wait, polled, oldest, for, said, refl))
 
-channel_gives : (act : ChannelAct) (config : Config) (log new : List Act) → GivesUp config (OnDevice (Channel act) ∷ log) new
-    → (there : List Act) × GivesUp config log there
+channel_gives : (act : ChannelAct) (config : Config) (log new : List Act) → TimesOut config (OnDevice (Channel act) ∷ log) new
+    → (there : List Act) × TimesOut config log there
 channel_gives act config log new (c, wait, oldest, for, is) = (gave_up log c wait, (c, wait, oldest, for, refl))
 
 pub channel_settled : (act : ChannelAct) (config : Config) (log : List Act) → IsSettled config log

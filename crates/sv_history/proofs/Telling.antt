@@ -3,8 +3,8 @@ use Rattle.std.proofs.Common.{◌≡◌, ℕ, ◌+◌, zero, suc, Bool, true, fa
 use Rattle.std.specs.Prelude.{map, ◌↔◌, ◌==◌, is_some, if◌then◌else◌}
 use Rattle.sv_scan.specs.Condition.{bit}
 use Rattle.sv_links.specs.declared.request.Peer.{Peer}
-use Rattle.sv_links.specs.Links.{LinkAct, Made, Destroyed, Locked, Unlocked}
-use Rattle.sv_links.specs.Channels.{ChannelAct, SrqEnabled, SrqDisabled, ChannelOpened, ChannelClosed, Requested, ChannelTaken, peer, is_channel_open}
+use Rattle.sv_links.specs.Links.{LinkAct, Destroyed}
+use Rattle.sv_links.specs.Channels.{ChannelAct, ChannelOpened, ChannelClosed, Requested, peer, is_channel_open}
 use Rattle.sv_layers.specs.Act.{Act as InstrumentAct}
 use Rattle.sv_layers.specs.StatusByte.{IsRaised}
 use Rattle.sv_instrument.specs.RequestCount.{Raise}
@@ -35,18 +35,13 @@ tells_once (Ticked ∷ acts) a b x y = tells_once acts a b x y
 -- ---- which channels are open
 
 peer_more : (c : ℕ) (act : ChannelAct) (a b : List ChannelAct) → peer c a ≡ peer c b → peer c (act ∷ a) ≡ peer c (act ∷ b)
-peer_more c (SrqEnabled lid conn handle) a b same = same
-peer_more c (SrqDisabled lid) a b same = same
 peer_more c (ChannelOpened conn what) a b same = ap (λ (o : Option Peer). if conn == c then Some what else o) same
 peer_more c (ChannelClosed conn) a b same = ap (λ (o : Option Peer). if conn == c then None else o) same
-peer_more c Requested a b same = same
-peer_more c (ChannelTaken conn count) a b same = same
+peer_more c _ a b same = same
 
 peer_linked : (c : ℕ) (act : LinkAct) (told : List ChannelAct) → peer c (link_told act told) ≡ peer c told
-peer_linked c (Made lid conn) told = refl
 peer_linked c (Destroyed lid) told = refl
-peer_linked c (Locked lid) told = refl
-peer_linked c (Unlocked lid) told = refl
+peer_linked c _ told = refl
 
 peer_requested : (c : ℕ) (raised : Bool) (told : List ChannelAct) → peer c (request_told raised told) ≡ peer c told
 peer_requested c true told = refl

@@ -1,6 +1,6 @@
 -- What stands in front of a call of the core channel (VXI-11 revision 1.0, sections B.4.4 and B.6): its link, the lock, and what it waits
 -- for.
-use Rattle.std.specs.Prelude.{ℕ, ◌+◌, not, pos, negsuc, ℤ, Bool, true, false, List, length, Option, Some, None, option_map, is_some, codes, nat_lt, ◌&&◌, if◌then◌else◌}
+use Rattle.std.specs.Prelude.{ℕ, ◌+◌, not, ℤ, Bool, false, List, length, Option, Some, None, option_map, is_some, codes, nat_lt, ◌&&◌, if◌then◌else◌}
 use Rattle.std.specs.Str.{bytes_eq}
 use Rattle.sv_vxi.specs.declared.error_code.ErrorCode.{ErrorCode}
 use Rattle.sv_vxi.specs.declared.error_code.ErrorCode.TheVariants.{InvalidLink, ParameterError, NotAccessible, OutOfResources}

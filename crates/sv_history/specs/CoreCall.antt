@@ -1,13 +1,18 @@
 -- The calls of the core channel (VXI-11 revision 1.0, section B.6), as their arguments say them.
-use Rattle.std.specs.Prelude.{ℕ, ℤ, pos, negsuc, Bool, false, List, [], length, Option, Some, None, nat_lt}
+use Rattle.std.specs.Prelude.{ℕ, ℤ, pos, negsuc, Bool, false, [], length, Option, Some, None, nat_lt}
 use Rattle.sv_vxi.specs.declared.error_code.ErrorCode.{ErrorCode}
-use Rattle.sv_vxi.specs.Arguments.{Arguments, CreateLink, DeviceWrite, DeviceRead, DeviceReadstb, DeviceDocmd}
+use Rattle.sv_vxi.specs.Arguments.{Arguments, is_create_link, CreateLink, DeviceWrite, DeviceRead, DeviceReadstb, DeviceDocmd}
 use Rattle.sv_vxi.specs.Results.{Outcome, Link, Size, Read, Status, Plain, Data}
 
 -- a call of the core channel: its transaction and its arguments
 pub record CoreCall : Type 0 where
   pub xid : ℕ
   pub arguments : Arguments
+
+-- whether a call is a create_link
+abbrev pub creates_link : Option CoreCall → Bool
+creates_link (Some call) = is_create_link call.arguments
+creates_link None = false
 
 -- the number of the link that is named; none has a negative one
 abbrev pub lid_of : Option ℤ → Option ℕ

@@ -1,6 +1,6 @@
 -- What each call of the core channel does, once it needn't wait (VXI-11 revision 1.0, section B.6). What it waits for stands in front
 -- (Admission); a write or a read for which that isn't there finds nothing in time.
-use Rattle.std.specs.Prelude.{ℕ, ◌+◌, ◌%◌, ◌==◌, not, ℤ, pos, Bool, false, List, [], ◌∷◌, ◌++◌, length, map, take, Option, Some, None, nat_lt, if◌then◌else◌}
+use Rattle.std.specs.Prelude.{ℕ, ◌+◌, ◌%◌, ◌==◌, not, pos, Bool, false, List, [], ◌∷◌, ◌++◌, length, map, take, Option, Some, None, nat_lt, if◌then◌else◌}
 use Rattle.std.specs.Int.{bit_at}
 use Rattle.sv_errors.specs.declared.code.Code.TheVariants.{QueryUnterminated}
 use Rattle.sv_vxi.specs.declared.error_code.ErrorCode.TheVariants.{NoError, InvalidLink, ParameterError, NotSupported, OutOfResources, NoLock, IoTimeout}

@@ -8,7 +8,6 @@ use Rattle.sv_links.specs.Channels.{ChannelAct, ChannelClosed, ChannelTaken, wai
 use Rattle.sv_scan.specs.declared.acts.ScanAct.TheVariants.{Input as InputTo}
 use Rattle.sv_layers.specs.Act.{Scanned}
 use Rattle.sv_instrument.specs.Stimulus.{external_acts, tick_acts}
-use Rattle.sv_history.specs.declared.event.Role.{Role}
 use Rattle.sv_history.specs.declared.event.Port.{Port}
 use Rattle.sv_history.specs.declared.event.Port.TheVariants.{Conn, Intr}
 use Rattle.sv_history.specs.declared.event.Config.{Config}

@@ -21,20 +21,20 @@ InstrumentDoes IsSuch log new = (adds : List InstrumentAct)
     × IsSuch (instrument_acts (device_acts log)) (adds ++ instrument_acts (device_acts log))
     × (new ≡ map OnDevice (map Happened adds) ++ log)
 
--- The call of a connection can go on.
-abbrev pub CanGoOn : List DeviceAct → ℕ → Type 0
-CanGoOn acts = IsAble (holder (link_acts acts)) (not (has_ended (exchange_acts acts))) (is_answerable (instrument_acts acts))
+-- The suspended call of a connection can resume.
+abbrev pub CanResume : List DeviceAct → ℕ → Type 0
+CanResume acts = IsAble (holder (link_acts acts)) (not (has_ended (exchange_acts acts))) (is_answerable (instrument_acts acts))
     (wait_acts acts)
 
--- The oldest call that can go on does.
-abbrev pub GoesOn : Config → List Act → List Act → Type 0
-GoesOn config log new = (c : ℕ) × (wait : Wait) × (polled : ℕ) × IsOldest (wait_acts (device_acts log)) (CanGoOn (device_acts log)) (Some c)
+-- The oldest suspended call that can resume does.
+abbrev pub Resumes : Config → List Act → List Act → Type 0
+Resumes config log new = (c : ℕ) × (wait : Wait) × (polled : ℕ) × IsOldest (wait_acts (device_acts log)) (CanResume (device_acts log)) (Some c)
     × (waits c (wait_acts (device_acts log)) ≡ Some wait) × IsPolled polled (device_acts log)
     × (new ≡ acts_of c (resumed config polled c wait (core_call_in (unanswered (of c log))) (device_acts log)) ++ log)
 
--- The oldest call whose deadline has come is given up.
-abbrev pub GivesUp : Config → List Act → List Act → Type 0
-GivesUp config log new = (c : ℕ) × (wait : Wait)
+-- The oldest suspended call whose deadline has come times out.
+abbrev pub TimesOut : Config → List Act → List Act → Type 0
+TimesOut config log new = (c : ℕ) × (wait : Wait)
     × IsOldest (wait_acts (device_acts log)) (IsExpired (config.clock + ticks (device_acts log)) (wait_acts (device_acts log))) (Some c)
     × (waits c (wait_acts (device_acts log)) ≡ Some wait)
     × (new ≡ acts_of c (failed (late wait) c (core_call_in (unanswered (of c log)))) ++ log)
@@ -43,10 +43,10 @@ GivesUp config log new = (c : ℕ) × (wait : Wait)
 abbrev pub First : (List Act → Type 0) → (List Act → Type 0) → List Act → Type 0
 First IsOne IsOther new = IsOne new ⊎ (((one : List Act) → IsOne one → ⊥) × IsOther new)
 
--- The step that is due in a log makes another of it: a trigger that comes at once; else a call that waits goes on; else a step of message
--- exchange; else a call that waits is given up.
+-- The step that is due in a log makes another of it: a trigger that comes at once; else a suspended call resumes; else a step of
+-- message exchange; else a suspended call times out.
 abbrev pub IsNext : Config → List Act → List Act → Type 0
-IsNext config log = First (InstrumentDoes IsFired log) (First (GoesOn config log) (First (InstrumentDoes IsStep log) (GivesUp config log)))
+IsNext config log = First (InstrumentDoes IsFired log) (First (Resumes config log) (First (InstrumentDoes IsStep log) (TimesOut config log)))
 
 -- No step is due in a log.
 abbrev pub IsSettled : Config → List Act → Type 0

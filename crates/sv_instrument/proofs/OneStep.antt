@@ -27,29 +27,10 @@ word_once Bit a b first second =
     first.text_is ∙ ap decimal (one_word Bit first.word second.word first.bits second.bits) ∙ sym second.text_is
 
 says_once : (asked : Question) (log : List Act) (a b : List ℕ) → Says asked log a → Says asked log b → a ≡ b
-says_once question.Identification log a b = both_are
-says_once question.SelfTest log a b = both_are
-says_once question.Version log a b = both_are
 says_once question.StandardEvents log a b = word_once _ a b
-says_once question.StandardEnable log a b = both_are
-says_once question.ServiceEnable log a b = both_are
 says_once question.StatusByte log a b = word_once _ a b
-says_once question.Error log a b = both_are
-says_once question.ErrorCount log a b = both_are
 says_once (question.Events name) log a b = word_once _ a b
-says_once (question.Condition name) log a b = both_are
-says_once (question.Enable name) log a b = both_are
-says_once (question.Rise name) log a b = both_are
-says_once (question.Fall name) log a b = both_are
-says_once question.ScanList log a b = both_are
-says_once question.Monitor log a b = both_are
-says_once question.Range log a b = both_are
-says_once question.UpperLimit log a b = both_are
-says_once question.LowerLimit log a b = both_are
-says_once question.Limits log a b = both_are
-says_once question.Source log a b = both_are
-says_once question.Count log a b = both_are
-says_once question.Readings log a b = both_are
+says_once _ log a b = both_are
 
 replies_once : (fault : Option Code) (asked : Question) (log a b : List Act) → Replies fault asked log a → Replies fault asked log b → a ≡ b
 replies_once (Some code) asked log a b x y = both_are x y
@@ -57,25 +38,8 @@ replies_once None asked log a b x y =
     x.2 ∙ ap (λ (text : List ℕ). answered text (done (taken asked log))) (says_once asked log x.0 y.0 x.1 y.1) ∙ sym y.2
 
 performs_once : (ordered : Order) (log a b : List Act) → Performs ordered log a → Performs ordered log b → a ≡ b
-performs_once order.ClearStatus log a b = both_are
-performs_once order.Reset log a b = both_are
-performs_once order.TellComplete log a b = both_are
-performs_once order.Wait log a b = both_are
-performs_once order.WaitAndTell log a b = both_are
-performs_once order.Trigger log a b = both_are
-performs_once order.Preset log a b = both_are
-performs_once (order.EnableStandard mask) log a b = both_are
-performs_once (order.EnableService mask) log a b = both_are
-performs_once (order.Enable name mask) log a b = both_are
-performs_once (order.SetRise name mask) log a b = both_are
-performs_once (order.SetFall name mask) log a b = both_are
-performs_once (order.Set setting) log a b = both_are
-performs_once order.Initiate log a b = both_are
-performs_once order.Abort log a b = both_are
-performs_once (order.Configure list) log a b = both_are
-performs_once order.Read log a b = both_are
-performs_once (order.Measure list) log a b = both_are
 performs_once (order.Ask asked) log a b = replies_once (question_fault asked log) asked log a b
+performs_once _ log a b = both_are
 
 does_once : (outcome : Result Order Code) (log a b : List Act) → Does outcome log a → Does outcome log b → a ≡ b
 does_once (Ok ordered) log a b = performs_once ordered log a b

@@ -24,45 +24,12 @@ use Rattle.sv_instrument.specs.Inside.Acted.{Acted, IsApart, BeginsOne, Behaves,
 -- the exchange doesn't see a change
 pub change_apart : (change : Change) (log : List Act) → IsApart log (act_of change ∷ log)
 change_apart (changes.Scan act) log = refl
-change_apart (changes.Hold awaited) log = refl
-change_apart (changes.Report code) log = refl
-change_apart changes.TakeEntry log = refl
-change_apart changes.ClearStatus log = refl
-change_apart changes.Preset log = refl
-change_apart changes.AskComplete log = refl
-change_apart changes.ReadStandard log = refl
-change_apart (changes.EnableStandard mask) log = refl
-change_apart (changes.ReadEvent name) log = refl
-change_apart (changes.Enable name mask) log = refl
-change_apart (changes.SetRise name mask) log = refl
-change_apart (changes.SetFall name mask) log = refl
-change_apart (changes.EnableService mask) log = refl
+change_apart _ log = refl
 
 -- nor what a query takes or clears
 pub taken_apart : (asked : Question) (log : List Act) → IsApart log (taken asked log)
 taken_apart question.Identification log = refl
-taken_apart question.SelfTest log = refl
-taken_apart question.Version log = refl
-taken_apart question.StandardEvents log = refl
-taken_apart question.StandardEnable log = refl
-taken_apart question.ServiceEnable log = refl
-taken_apart question.StatusByte log = refl
-taken_apart question.Error log = refl
-taken_apart question.ErrorCount log = refl
-taken_apart (question.Events name) log = refl
-taken_apart (question.Condition name) log = refl
-taken_apart (question.Enable name) log = refl
-taken_apart (question.Rise name) log = refl
-taken_apart (question.Fall name) log = refl
-taken_apart question.ScanList log = refl
-taken_apart question.Monitor log = refl
-taken_apart question.Range log = refl
-taken_apart question.UpperLimit log = refl
-taken_apart question.LowerLimit log = refl
-taken_apart question.Limits log = refl
-taken_apart question.Source log = refl
-taken_apart question.Count log = refl
-taken_apart question.Readings log = refl
+taken_apart _ log = refl
 
 pub configured_apart : (list : Option (List ℕ)) (log : List Act) → IsApart log (configured list log)
 configured_apart None log = refl

@@ -21,4 +21,3 @@ mod unit_outcome;
 mod unit_start;
 
 pub use instrument::Instrument;
-pub use polling::Polled;

@@ -3,10 +3,10 @@ use Rattle.std.proofs.Common.{◌≡◌, Bool, true, false, List, ◌∷◌, ref
 use Rattle.std.specs.Prelude.{◌↔◌, not, ◌&&◌}
 use Rattle.sv_errors.proofs.Since.{since_unique, step_kept, step_same, step_ended, then_same}
 use Rattle.sv_scan.specs.declared.acts.ScanAct.{ScanAct}
-use Rattle.sv_scan.specs.declared.acts.ScanAct.TheVariants.{Input, Configure, Init, Abort, Reset, Trigger, Sample}
+use Rattle.sv_scan.specs.declared.acts.ScanAct.TheVariants.{Reset}
 use Rattle.sv_scan.specs.Scan.{state}
 use Rattle.sv_scan.specs.Counted.{kept, is_idle as idle_state}
-use Rattle.sv_layers.specs.Act.{Act, Exchanged, Purged, Scanned, Held, Reported, EntryTaken, Cleared, Preset, OpcAsked, StandardRead, StandardEnabled, EventRead, Enabled, RiseSet, FallSet, ServiceEnabled, Polled}
+use Rattle.sv_layers.specs.Act.{Act, Purged, Scanned, Cleared, OpcAsked}
 use Rattle.sv_layers.specs.Condition.{is_idle}
 use Rattle.sv_layers.specs.Standard.{IsAsked, IsPending, Completes, cancels}
 use Rattle.sv_layers.specs.Inside.Seen.{Seen, before_compared, compared, resets, idles, seen}
@@ -18,35 +18,18 @@ use Rattle.sv_layers.proofs.Projected.{begun_scanner, ended_others}
 -- a reset cancels an `*OPC`, and no other act of the scanner does
 scanned_waits : (act : ScanAct) (log : List Act) (b : Bool)
     → ((b && not (resets act)) ≡ true) ↔ ((cancels (Scanned act) ≡ false) × (IsAsked (Scanned act ∷ log) ⊎ (b ≡ true)))
-scanned_waits (Input channel microvolts) log b = step_same refl (λ none. none) (then_same (and_not b false) ((λ h. h.1), (λ e. (refl, e))))
-scanned_waits (Configure setting) log b = step_same refl (λ none. none) (then_same (and_not b false) ((λ h. h.1), (λ e. (refl, e))))
-scanned_waits Init log b = step_same refl (λ none. none) (then_same (and_not b false) ((λ h. h.1), (λ e. (refl, e))))
-scanned_waits Abort log b = step_same refl (λ none. none) (then_same (and_not b false) ((λ h. h.1), (λ e. (refl, e))))
 scanned_waits Reset log b = step_ended (λ e. absurd cc) (λ e. absurd (let h = (and_not b true).0 e in cc))
-scanned_waits (Trigger source) log b = step_same refl (λ none. none) (then_same (and_not b false) ((λ h. h.1), (λ e. (refl, e))))
-scanned_waits Sample log b = step_same refl (λ none. none) (then_same (and_not b false) ((λ h. h.1), (λ e. (refl, e))))
+scanned_waits _ log b = step_same refl (λ none. none) (then_same (and_not b false) ((λ h. h.1), (λ e. (refl, e))))
 
 -- before the conditions are compared; and an `*OPC` cancels none
 begun_waits : (act : Act) (log : List Act) (at : Seen)
     → (((before_compared act at).waits ≡ true) ↔ ((cancels act ≡ false) × (IsAsked (act ∷ log) ⊎ (at.waits ≡ true))))
     × (IsAsked (act ∷ log) → cancels act ≡ false)
-begun_waits (Exchanged act) log at = (step_same refl (λ none. none) unchanged, λ asked. refl)
 begun_waits Purged log at = (step_ended (λ e. absurd cc) (λ e. absurd cc), λ asked. absurd asked)
 begun_waits (Scanned act) log at = (scanned_waits act log at.waits, λ asked. absurd asked)
-begun_waits (Held awaited) log at = (step_same refl (λ none. none) unchanged, λ asked. refl)
-begun_waits (Reported code) log at = (step_same refl (λ none. none) unchanged, λ asked. refl)
-begun_waits EntryTaken log at = (step_same refl (λ none. none) unchanged, λ asked. refl)
 begun_waits Cleared log at = (step_ended (λ e. absurd cc) (λ e. absurd cc), λ asked. absurd asked)
-begun_waits Preset log at = (step_same refl (λ none. none) unchanged, λ asked. refl)
 begun_waits OpcAsked log at = (step_kept refl ((λ e. inl tt), (λ h. refl)), λ asked. refl)
-begun_waits StandardRead log at = (step_same refl (λ none. none) unchanged, λ asked. refl)
-begun_waits (StandardEnabled mask) log at = (step_same refl (λ none. none) unchanged, λ asked. refl)
-begun_waits (EventRead name) log at = (step_same refl (λ none. none) unchanged, λ asked. refl)
-begun_waits (Enabled name mask) log at = (step_same refl (λ none. none) unchanged, λ asked. refl)
-begun_waits (RiseSet name mask) log at = (step_same refl (λ none. none) unchanged, λ asked. refl)
-begun_waits (FallSet name mask) log at = (step_same refl (λ none. none) unchanged, λ asked. refl)
-begun_waits (ServiceEnabled mask) log at = (step_same refl (λ none. none) unchanged, λ asked. refl)
-begun_waits Polled log at = (step_same refl (λ none. none) unchanged, λ asked. refl)
+begun_waits _ log at = (step_same refl (λ none. none) unchanged, λ asked. refl)
 
 -- whether no measurement is under way where an act began
 begun_idle : (act : Act) (log : List Act) → idles (before_compared act (seen log)) ≡ is_idle (act ∷ log)

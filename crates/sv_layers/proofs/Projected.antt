@@ -7,7 +7,7 @@ use Rattle.sv_status.specs.declared.register_name.RegisterName.TheVariants.{Oper
 use Rattle.sv_status.specs.declared.register.RegisterAct.{RegisterAct}
 use Rattle.sv_scan.specs.declared.acts.ScanAct.{ScanAct}
 use Rattle.sv_exchange.specs.Exchange.{ExchangeAct, TextDropped, Interrupted}
-use Rattle.sv_layers.specs.Act.{Act, Exchanged, Purged, Scanned, Held, Reported, EntryTaken, Cleared, Preset, OpcAsked, StandardRead, StandardEnabled, EventRead, Enabled, RiseSet, FallSet, ServiceEnabled, Polled, exchange_acts, queue_acts, scan_acts}
+use Rattle.sv_layers.specs.Act.{Act, Exchanged, Purged, Scanned, Reported, EntryTaken, Cleared, EventRead, Enabled, RiseSet, FallSet, ServiceEnabled, exchange_acts, queue_acts, scan_acts}
 use Rattle.sv_layers.specs.StatusByte.{service}
 use Rattle.sv_layers.specs.Inside.Seen.{Seen, before_compared, compared, after_compared, on_register, register_acts, seen}
 use Rattle.sv_layers.specs.Laws.{OwnActs}
@@ -22,23 +22,11 @@ on_register_others Questionable act at = refl
 
 -- What an act does to a register itself leaves all others.
 pub ended_others : (act : Act) (at : Seen) → others (after_compared act at) ≡ others at
-ended_others (Exchanged act) at = refl
-ended_others Purged at = refl
-ended_others (Scanned act) at = refl
-ended_others (Held awaited) at = refl
-ended_others (Reported code) at = refl
-ended_others EntryTaken at = refl
-ended_others Cleared at = refl
-ended_others Preset at = refl
-ended_others OpcAsked at = refl
-ended_others StandardRead at = refl
-ended_others (StandardEnabled mask) at = refl
 ended_others (EventRead name) at = on_register_others name _ at
 ended_others (Enabled name mask) at = on_register_others name _ at
 ended_others (RiseSet name mask) at = on_register_others name _ at
 ended_others (FallSet name mask) at = on_register_others name _ at
-ended_others (ServiceEnabled mask) at = refl
-ended_others Polled at = refl
+ended_others _ at = refl
 
 -- these layers see what is theirs of the log
 abbrev Projects : Seen → List Act → Type 0
@@ -54,20 +42,11 @@ begins : (act : Act) (log : List Act) (at : Seen) → Begins act log at
 begins (Exchanged act) log at h = ((ap (λ (acts : List ExchangeAct). act ∷ acts) h.0, h.1, h.2, h.3), refl, refl)
 begins Purged log at h = ((ap (λ (acts : List ExchangeAct). Interrupted ∷ TextDropped ∷ acts) h.0, h.1, h.2, h.3), refl, refl)
 begins (Scanned act) log at h = ((h.0, h.1, ap (λ (acts : List ScanAct). act ∷ acts) h.2, h.3), refl, refl)
-begins (Held awaited) log at h = (h, refl, refl)
 begins (Reported code) log at h = ((h.0, ap (λ (acts : List QueueAct). queue.Report code ∷ acts) h.1, h.2, h.3), refl, refl)
 begins EntryTaken log at h = ((h.0, ap (λ (acts : List QueueAct). queue.Take ∷ acts) h.1, h.2, h.3), refl, refl)
 begins Cleared log at h = ((h.0, ap (λ (acts : List QueueAct). queue.Clear ∷ acts) h.1, h.2, h.3), refl, refl)
-begins Preset log at h = (h, refl, refl)
-begins OpcAsked log at h = (h, refl, refl)
-begins StandardRead log at h = (h, refl, refl)
-begins (StandardEnabled mask) log at h = (h, refl, refl)
-begins (EventRead name) log at h = (h, refl, refl)
-begins (Enabled name mask) log at h = (h, refl, refl)
-begins (RiseSet name mask) log at h = (h, refl, refl)
-begins (FallSet name mask) log at h = (h, refl, refl)
 begins (ServiceEnabled mask) log at h = ((h.0, h.1, h.2, refl), refl, refl)
-begins Polled log at h = (h, refl, refl)
+begins _ log at h = (h, refl, refl)
 
 pub projected : OwnActs
 projected [] = (refl, refl, refl, refl)

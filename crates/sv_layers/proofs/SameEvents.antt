@@ -8,7 +8,7 @@ use Rattle.sv_status.specs.declared.register.RegisterAct.{RegisterAct}
 use Rattle.sv_status.specs.declared.register.RegisterAct.TheVariants as register
 use Rattle.sv_status.specs.Register as stands
 use Rattle.sv_status.proofs.Registers.{event-none, event-condition, event-read, event-cleared, event-filter, event-enable, event-preset}
-use Rattle.sv_layers.specs.Act.{Act, Exchanged, Purged, Scanned, Held, Reported, EntryTaken, Cleared, Preset, OpcAsked, StandardRead, StandardEnabled, EventRead, Enabled, RiseSet, FallSet, ServiceEnabled, Polled}
+use Rattle.sv_layers.specs.Act.{Act, Cleared, Preset, EventRead, Enabled, RiseSet, FallSet}
 use Rattle.sv_layers.specs.Condition.{condition}
 use Rattle.sv_layers.specs.Event.{is_same, Passes, NotCleared}
 use Rattle.sv_layers.specs.Inside.Seen.{seen, register_acts}
@@ -40,23 +40,13 @@ where_read false k acts h = step_kept refl h
 own_event : (name : RegisterName) (k : ℕ) (act : Act) (log : List Act) (acts : List RegisterAct) (Q : Type 0)
     → stands.EventStands k acts ↔ (Passes name k (act ∷ log) ⊎ Q)
     → stands.EventStands k (own name act acts) ↔ (NotCleared name (act ∷ log) × (Passes name k (act ∷ log) ⊎ Q))
-own_event name k (Exchanged act) log acts Q h = step_kept tt h
-own_event name k Purged log acts Q h = step_kept tt h
-own_event name k (Scanned act) log acts Q h = step_kept tt h
-own_event name k (Held awaited) log acts Q h = step_kept tt h
-own_event name k (Reported code) log acts Q h = step_kept tt h
-own_event name k EntryTaken log acts Q h = step_kept tt h
 own_event name k Cleared log acts Q h = step_ended (λ kept. kept) (event-cleared k acts)
 own_event name k Preset log acts Q h = step_kept tt (then_same (event-preset k acts) h)
-own_event name k OpcAsked log acts Q h = step_kept tt h
-own_event name k StandardRead log acts Q h = step_kept tt h
-own_event name k (StandardEnabled mask) log acts Q h = step_kept tt h
 own_event name k (EventRead other) log acts Q h = where_read (is_same name other) k acts h
 own_event name k (Enabled other mask) log acts Q h = step_kept tt (where_event (is_same name other) k _ acts (event-enable k _ acts) h)
 own_event name k (RiseSet other mask) log acts Q h = step_kept tt (where_event (is_same name other) k _ acts (event-filter k _ _ acts) h)
 own_event name k (FallSet other mask) log acts Q h = step_kept tt (where_event (is_same name other) k _ acts (event-filter k _ _ acts) h)
-own_event name k (ServiceEnabled mask) log acts Q h = step_kept tt h
-own_event name k Polled log acts Q h = step_kept tt h
+own_event name k _ log acts Q h = step_kept tt h
 
 event_step : (name : RegisterName) (k : ℕ) (act : Act) (log : List Act) → stands.EventStands k (register_acts name (seen (act ∷ log)))
     ↔ (NotCleared name (act ∷ log) × (Passes name k (act ∷ log) ⊎ stands.EventStands k (register_acts name (seen log))))

@@ -7,7 +7,7 @@ use Rattle.sv_status.specs.declared.status_byte.StatusAct.{StatusAct}
 use Rattle.sv_status.specs.declared.status_byte.StatusAct.TheVariants.{Update, Poll}
 use Rattle.sv_status.specs.StatusByte as status
 use Rattle.sv_status.proofs.StatusBytes.{request-none, request-updated, request-polled}
-use Rattle.sv_layers.specs.Act.{Act, Exchanged, Purged, Scanned, Held, Reported, EntryTaken, Cleared, Preset, OpcAsked, StandardRead, StandardEnabled, EventRead, Enabled, RiseSet, FallSet, ServiceEnabled, Polled}
+use Rattle.sv_layers.specs.Act.{Act, Polled}
 use Rattle.sv_layers.specs.StatusByte.{SummaryBit, service, Asks, Master, Reason, Lasts, Request, IsRaised}
 use Rattle.sv_layers.specs.Inside.Seen.{seen}
 use Rattle.sv_layers.specs.Inside.Kept.{IsSummary, IsStatus, own_status}
@@ -22,23 +22,8 @@ IsOther act = ((told : List StatusAct) → own_status act told ≡ told) × ((lo
 
 -- what is so of a poll and of every other act is so
 by_kind : (P : Act → Type 0) → P Polled → ((act : Act) → IsOther act → P act) → (act : Act) → P act
-by_kind P polled other (Exchanged act) = other _ ((λ told. refl), (λ log. ((λ m. m), (λ m. m))))
-by_kind P polled other Purged = other _ ((λ told. refl), (λ log. ((λ m. m), (λ m. m))))
-by_kind P polled other (Scanned act) = other _ ((λ told. refl), (λ log. ((λ m. m), (λ m. m))))
-by_kind P polled other (Held awaited) = other _ ((λ told. refl), (λ log. ((λ m. m), (λ m. m))))
-by_kind P polled other (Reported code) = other _ ((λ told. refl), (λ log. ((λ m. m), (λ m. m))))
-by_kind P polled other EntryTaken = other _ ((λ told. refl), (λ log. ((λ m. m), (λ m. m))))
-by_kind P polled other Cleared = other _ ((λ told. refl), (λ log. ((λ m. m), (λ m. m))))
-by_kind P polled other Preset = other _ ((λ told. refl), (λ log. ((λ m. m), (λ m. m))))
-by_kind P polled other OpcAsked = other _ ((λ told. refl), (λ log. ((λ m. m), (λ m. m))))
-by_kind P polled other StandardRead = other _ ((λ told. refl), (λ log. ((λ m. m), (λ m. m))))
-by_kind P polled other (StandardEnabled mask) = other _ ((λ told. refl), (λ log. ((λ m. m), (λ m. m))))
-by_kind P polled other (EventRead name) = other _ ((λ told. refl), (λ log. ((λ m. m), (λ m. m))))
-by_kind P polled other (Enabled name mask) = other _ ((λ told. refl), (λ log. ((λ m. m), (λ m. m))))
-by_kind P polled other (RiseSet name mask) = other _ ((λ told. refl), (λ log. ((λ m. m), (λ m. m))))
-by_kind P polled other (FallSet name mask) = other _ ((λ told. refl), (λ log. ((λ m. m), (λ m. m))))
-by_kind P polled other (ServiceEnabled mask) = other _ ((λ told. refl), (λ log. ((λ m. m), (λ m. m))))
 by_kind P polled other Polled = polled
+by_kind P polled other _ = other _ ((λ told. refl), (λ log. ((λ m. m), (λ m. m))))
 
 -- the summary bits and the enable that were told last
 told_bits : (log : List Act) (told : List StatusAct) → IsStatus log told → (k : ℕ) → (bit_at (status.bits told) k ≡ 1) ↔ SummaryBit k log

@@ -9,7 +9,7 @@ use Rattle.sv_status.specs.declared.register.RegisterAct.TheVariants.{Condition,
 use Rattle.sv_status.specs.declared.register.RegisterAct.TheVariants as register
 use Rattle.sv_status.specs.Register as register_words
 use Rattle.sv_status.specs.Register.{masked}
-use Rattle.sv_layers.specs.Act.{Act, Exchanged, Purged, Scanned, Held, Reported, EntryTaken, Cleared, Preset, OpcAsked, StandardRead, StandardEnabled, EventRead, Enabled, RiseSet, FallSet, ServiceEnabled, Polled}
+use Rattle.sv_layers.specs.Act.{Act, Preset, EventRead, Enabled, RiseSet, FallSet}
 use Rattle.sv_layers.specs.Condition.{condition}
 use Rattle.sv_layers.specs.Event.{is_same, rise, fall, enable}
 use Rattle.sv_layers.specs.Inside.Seen.{seen, register_acts}
@@ -59,23 +59,12 @@ fall_words false mask acts c r f e h = h
 own_words : (name : RegisterName) (act : Act) (log : List Act) (acts : List RegisterAct)
     → Words acts (condition name (act ∷ log)) (rise name log) (fall name log) (enable name log)
     → WordsOf name (own name act acts) (act ∷ log)
-own_words name (Exchanged act) log acts h = h
-own_words name Purged log acts h = h
-own_words name (Scanned act) log acts h = h
-own_words name (Held awaited) log acts h = h
-own_words name (Reported code) log acts h = h
-own_words name EntryTaken log acts h = h
-own_words name Cleared log acts h = h
 own_words name Preset log acts h = (h.0, refl, refl, refl)
-own_words name OpcAsked log acts h = h
-own_words name StandardRead log acts h = h
-own_words name (StandardEnabled mask) log acts h = h
 own_words name (EventRead other) log acts h = read_words (is_same name other) acts _ _ _ _ h
 own_words name (Enabled other mask) log acts h = enabled_words (is_same name other) mask acts _ _ _ _ h
 own_words name (RiseSet other mask) log acts h = rise_words (is_same name other) mask acts _ _ _ _ h
 own_words name (FallSet other mask) log acts h = fall_words (is_same name other) mask acts _ _ _ _ h
-own_words name (ServiceEnabled mask) log acts h = h
-own_words name Polled log acts h = h
+own_words name _ log acts h = h
 
 pub same_words : SameWords
 same_words Operation [] = (refl, refl, refl, refl)

@@ -20,4 +20,3 @@ pub use laws::{
 };
 pub use layers::Layers;
 pub use message_exchange::Response;
-pub use polling::Poll;

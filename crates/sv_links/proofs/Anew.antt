@@ -4,7 +4,7 @@ use Rattle.std.specs.Prelude.{not, filter, map}
 use Rattle.std.proofs.lemmas.Bool.{cases_Bool, eqb-true, true≢false, false≢true}
 use Rattle.sv_links.specs.declared.waiting.Entry.{Entry}
 use Rattle.sv_links.specs.declared.waiting.Wait.{Wait}
-use Rattle.sv_links.specs.declared.waiting.Wait.TheVariants.{Lock, Input, Response, Dial}
+use Rattle.sv_links.specs.declared.waiting.Wait.TheVariants.{Lock}
 use Rattle.sv_links.specs.Waiting.{is_lock}
 use Rattle.sv_links.specs.Queue.{IsFree, IsOnce, anew, creates, creations, without, rank, rank_of}
 use Rattle.sv_links.proofs.Queues.{anew_none, kept_free}
@@ -21,9 +21,7 @@ rank-anew conn wait last (x ∷ xs) once = elim (cases_Bool (eqb x.conn conn)) [
 
 not_lock : (wait : Wait) → (wait ≡ Lock → ⊥) → is_lock (Some wait) ≡ false
 not_lock Lock other = absurd (other refl)
-not_lock Input other = refl
-not_lock Response other = refl
-not_lock Dial other = refl
+not_lock _ other = refl
 
 not_creates : (conn : ℕ) (wait : Wait) (last : Option ℕ) (x : Entry) → (wait ≡ Lock → ⊥)
     → creates (record x { wait = wait; deadline = last }) ≡ false

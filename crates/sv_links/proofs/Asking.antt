@@ -5,7 +5,14 @@ use Rattle.std.specs.List.{AllByRecursion, insert}
 use Rattle.std.proofs.lemmas.Bool.{cases_Bool, cond_both, eqb-true, eqb-false, ltb-true, ltb-false, lt-ltb, le-ltb}
 use Rattle.std.proofs.lemmas.List.Elements.{All-filter, All-from_recursion, recursion_from_All}
 use Rattle.sv_links.specs.declared.enabled.Enabled.{Enabled}
-use Rattle.sv_links.specs.ChannelRepresentation.{IsSorted, below, above}
+use Rattle.sv_links.specs.ChannelRepresentation.{IsSorted}
+
+-- the links of lower numbers, and those of higher ones
+abbrev pub below : ℕ → List Enabled → List Enabled
+below lid = filter (λ other. ltb other.lid lid)
+
+abbrev pub above : ℕ → List Enabled → List Enabled
+above lid = filter (λ other. ltb lid other.lid)
 
 -- the links without this one
 abbrev pub other_links : ℕ → List Enabled → List Enabled

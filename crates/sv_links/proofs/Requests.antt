@@ -44,9 +44,6 @@ text_is_short xid peer handle h = omega (
   handle_is_short handle h,
 )
 
-pub request_is_short : (xid : ℕ) (peer : Peer) (handle : List ℕ) → length handle ≤ 40 → length (request xid peer handle) ≤ 88
-request_is_short xid peer handle h = omega (arith, text_is_short xid peer handle h)
-
 pub request_is_some : (xid : ℕ) (peer : Peer) (handle : List ℕ) → 0 < length (request xid peer handle)
 request_is_some xid peer handle = omega arith
 

@@ -52,10 +52,6 @@ pub may_be_sent : (kept : Channel) (count : ℕ) (calls : List (List ℕ)) → I
 may_be_sent kept count calls is h k =
     rw (← sizes_are kept count calls is, ← is.0, lt-ltb (length kept.sizes) 32 h, lt-ltb kept.made 4294967295 k) refl
 
-pub is_crowded : (kept : Channel) (count : ℕ) (calls : List (List ℕ)) → IsQueued kept count calls → 32 ≤ length kept.sizes
-    → may_call count calls ≡ false
-is_crowded kept count calls is h = rw (← sizes_are kept count calls is, le-ltb (length kept.sizes) 32 h) refl
-
 and_false : (b : Bool) (m : ℕ) → 4294967295 ≤ m → (b && nat_lt m 4294967295) ≡ false
 and_false true m h = rw (le-ltb m 4294967295 h) refl
 and_false false m h = refl

@@ -47,13 +47,6 @@ IsChannelFor None kept count calls = ⊤
 abbrev pub IsChannel : Channel → ℕ → List ChannelAct → Type 0
 IsChannel kept c acts = (opened_for kept.stage ≡ peer c acts) × IsChannelFor (peer c acts) kept (taken c acts) (calls c acts)
 
--- the links of lower numbers, and those of higher ones
-abbrev pub below : ℕ → List Enabled → List Enabled
-below lid = filter (λ other. nat_lt other.lid lid)
-
-abbrev pub above : ℕ → List Enabled → List Enabled
-above lid = filter (λ other. nat_lt lid other.lid)
-
 -- The links stand by rising number.
 abbrev pub IsSorted : List Enabled → Type 0
 IsSorted [] = ⊤

@@ -3,8 +3,8 @@ use Rattle.std.proofs.Common.{◌≡◌, ℕ, ◌+◌, ◌<◌, true, false, Boo
 use Rattle.std.specs.Prelude.{◌⊎◌, Result, Ok, Err, ⊤, IsErr, IsErrAnd, OnOk}
 use Rattle.std.proofs.lemmas.List.{take_all}
 use Rattle.std.specs.Io.KnownBytes.{Consumes, Appends, Keeps, IsAtEnd}
-use Rattle.sv_server.specs.State.{State, StandsFor}
-use Rattle.sv_server.proofs.Taking.{appends_none, appends_keeps, appends_then}
+use Rattle.sv_server.specs.Server.State.{State, StandsFor}
+use Rattle.sv_server.proofs.OnReplay.Taking.{appends_none, appends_keeps, appends_then}
 use Rattle.sv_replay.specs.declared.fault.RunFault.{RunFault}
 use Rattle.sv_replay.specs.declared.fault.RunFault.TheVariants.{BadLine, Input, Output, Memory}
 use Rattle.sv_replay.specs.Text.{first_end}

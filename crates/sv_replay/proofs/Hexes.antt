@@ -1,6 +1,6 @@
 -- What is read as bytes is what the hexadecimal digits spell.
 use Rattle.std.proofs.Common.{◌≡◌, ℕ, ◌+◌, ◌-◌, ◌*◌, ◌<◌, ◌≤◌, true, false, eqb, leb, ◌&&◌, List, [], ◌∷◌, Some, option_map, refl, sym, subst, ap, ◌∙◌, ◌⊎◌, inl, inr, arith}
-use Rattle.std.proofs.lemmas.Bool.{and_from, and_parts, and_left, and_right, le-leb, lt-leb, leb-true, eqb-true, ne_eqb}
+use Rattle.std.proofs.lemmas.Bool.{and_from, and_parts, and_right, le-leb, lt-leb, leb-true, eqb-true, ne_eqb}
 use Rattle.std.proofs.lemmas.Option.{none-some, same_Some, option_and_then_some}
 use Rattle.sv_replay.specs.Line.{IsHexDigit, IsPair, IsHex}
 use Rattle.sv_replay.specs.Reading.{hex_digit_at, pair_at, hex_at}
@@ -9,10 +9,6 @@ use Rattle.sv_replay.proofs.Options.{map_some, chosen}
 -- a number between two is between them
 within : (low high n : ℕ) → low ≤ n → n ≤ high → (leb low n && leb n high) ≡ true
 within low high n below above = and_from (leb low n) (leb n high) (le-leb low n below) (le-leb n high above)
-
--- a number is not between two that are both above it
-beneath : (low high n : ℕ) → n < low → (leb low n && leb n high) ≡ false
-beneath low high n below = and_left (leb low n) (leb n high) (lt-leb low n below)
 
 -- nor between two that are both below it
 beyond : (low high n : ℕ) → high < n → (leb low n && leb n high) ≡ false

@@ -55,8 +55,7 @@ numbered_takes {P} text x e then =
 role_reads : (role : Role) → role_at (role_word role) ≡ Some role
 unfolding role_at
 role_reads Core = refl
-role_reads Abort = refl
-role_reads Portmap = refl
+role_reads _ = refl
 
 -- a role that is read is that of the word
 role_takes : (word : List ℕ) (role : Role) → role_at word ≡ Some role → word ≡ role_word role

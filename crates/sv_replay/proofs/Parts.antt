@@ -22,9 +22,6 @@ parts_found text len e =
     let (is, less) = found_is text len e in
     part_ended 10 len text (sym is) less
 
-pub found_within : (text : List ℕ) (len : ℕ) → first_end text ≡ Some len → len < length text
-found_within text len e = let (is, less) = found_is text len e in less
-
 pub parts_none : (text : List ℕ) → first_end text ≡ None → parts text ≡ text ∷ []
 parts_none text e = elim (cases_lt (line_size text) (length text)) [
   | inl less ↦ absurd (let z : Some (line_size text) ≡ None =

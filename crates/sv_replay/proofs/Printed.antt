@@ -5,7 +5,7 @@ use Rattle.std.specs.Prelude.{Result, Ok, Err, ⊤, IsErr, IsErrAnd}
 use Rattle.sv_history.specs.declared.event.Config.{Config}
 use Rattle.sv_server.specs.declared.replay.ReplayFault.{ReplayFault}
 use Rattle.sv_history.specs.Event.{PlainEvent, Tick}
-use Rattle.sv_server.specs.Replay.{Replays}
+use Rattle.sv_server.specs.Replay.Replays.{Replays}
 use Rattle.sv_replay.specs.Line.{Line, Says}
 use Rattle.sv_replay.specs.Script.{events_of, IsScript, Prints, Stops, Performs}
 

@@ -70,10 +70,6 @@ one_telling least (line ∷ lines) a b (inr (x, xs, says_x, tells_x, a_is)) (inr
     let rest : xs ≡ ys = one_telling x.tick lines xs ys tells_x (subst (λ (e : Entry). Tells e.tick lines ys) (sym same) tells_y) in
     a_is ∙ ap (λ (e : Entry). e ∷ xs) same ∙ ap (λ (es : List Entry). y ∷ es) rest ∙ sym b_is
 
--- at the start no line is read
-pub read_start : (text : List ℕ) → IsRead text 0 [] 0 text
-read_start text = ([], refl, refl, refl, refl)
-
 -- one line more behind those that were read
 front_more : (text left line : List ℕ) (front behind : List (List ℕ)) → parts text ≡ front ++ parts left → parts left ≡ line ∷ behind
     → parts text ≡ (front ++ line ∷ []) ++ behind

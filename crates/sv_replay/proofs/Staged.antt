@@ -7,7 +7,7 @@ use Rattle.sv_replay.specs.Line.{Line, Says}
 use Rattle.std.proofs.lemmas.List.{length-append}
 use Rattle.std.specs.Io.KnownBytes.{Appends, IsAtEnd}
 use Rattle.sv_history.specs.Event.{PlainEvent}
-use Rattle.sv_server.specs.State.{State, StandsFor}
+use Rattle.sv_server.specs.Server.State.{State, StandsFor}
 use Rattle.sv_replay.specs.declared.fault.RunFault.{RunFault}
 use Rattle.sv_replay.specs.declared.fault.RunFault.TheVariants.{BadLine, Input, Output, Memory}
 use Rattle.sv_replay.specs.Text.{first_end}

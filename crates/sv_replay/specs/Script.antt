@@ -4,7 +4,7 @@ use Rattle.sv_text.specs.Cut.{cut_at}
 use Rattle.sv_history.specs.declared.event.Config.{Config}
 use Rattle.sv_server.specs.declared.replay.ReplayFault.{ReplayFault}
 use Rattle.sv_history.specs.Event.{PlainEvent, Tick}
-use Rattle.sv_server.specs.Replay.{Replays}
+use Rattle.sv_server.specs.Replay.Replays.{Replays}
 use Rattle.sv_replay.specs.Line.{Line, Blank, One, Ticks, Says}
 
 -- the text cut at each new line: the last part is what stands behind the last one

@@ -4,7 +4,7 @@ ghost use Rattle.std.specs.Prelude.{◌≡◌, ℕ, List, replicate};
 ghost use Rattle.std.specs.Io.KnownBytes.{Appends};
 ghost use Rattle.sv_history.specs.declared.event.Config.{Config};
 ghost use Rattle.sv_history.specs.Event.{PlainEvent, Tick};
-ghost use Rattle.sv_server.specs.State.{StandsFor};
+ghost use Rattle.sv_server.specs.Server.State.{StandsFor};
 ghost use Rattle.sv_replay.specs.PlainLine.{plain_line};
 ghost use Rattle.sv_replay.specs.Script.{events_of, Performs};
 

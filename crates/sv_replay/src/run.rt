@@ -4,7 +4,7 @@ ghost use Rattle.std.specs.Prelude.{◌≡◌, ◌≢◌, ◌⊎◌, ℕ, ◌+�
 ghost use Rattle.std.specs.Io.Buffered.{writer_buffer, writer_contents};
 ghost use Rattle.std.specs.Io.KnownBytes.{Consumes, Appends, Keeps, IsAtEnd};
 ghost use Rattle.sv_history.specs.Event.{PlainEvent};
-ghost use Rattle.sv_server.specs.State.{StandsFor};
+ghost use Rattle.sv_server.specs.Server.State.{StandsFor};
 ghost use Rattle.sv_replay.specs.Text.{nothing_held, first_end};
 ghost use Rattle.sv_replay.specs.Run.{set_up, Runs};
 ghost use Rattle.sv_replay.specs.Stage.{IsStage, LineRuns, Goes, WhileGoing};

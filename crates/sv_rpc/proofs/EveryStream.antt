@@ -79,13 +79,10 @@ part_of front last size rest less =
 -- four bytes in front are a header
 header_in_front : (bytes : List ℕ) → 4 ≤ length bytes → IsBytes bytes
     → bytes ≡ header_of (leb (2 ^ 31) (from_be_bytes w32 bytes)) (from_be_bytes w32 bytes % 2 ^ 31) ++ drop 4 bytes
-header_in_front [] four fits = absurd (omega arith)
-header_in_front (a ∷ []) four fits = absurd (omega arith)
-header_in_front (a ∷ b ∷ []) four fits = absurd (omega arith)
-header_in_front (a ∷ b ∷ c ∷ []) four fits = absurd (omega arith)
 header_in_front (a ∷ b ∷ c ∷ d ∷ rest) four fits =
     ap (λ (l : List ℕ). l ++ rest) (header_read (a ∷ b ∷ c ∷ d ∷ []) (from_be_bytes w32 (a ∷ b ∷ c ∷ d ∷ rest)) refl
     (first_four a b c d (fits 0) (fits 1) (fits 2) (fits 3)) refl (word_small a b c d rest (fits 0) (fits 1) (fits 2) (fits 3)))
+header_in_front _ four fits = absurd (omega arith)
 
 -- what is read behind a header splits
 data_splits : (n : ℕ) (front : List (List ℕ)) (last : Bool) (size : ℕ) (rest : List ℕ)

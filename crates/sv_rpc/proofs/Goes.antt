@@ -9,7 +9,7 @@ use Rattle.sv_rpc.specs.RecordBuf.{Records, StandsFor}
 use Rattle.sv_rpc.specs.declared.record_buf.Place.{Place}
 use Rattle.sv_rpc.specs.declared.record_buf.Place.TheVariants as place
 use Rattle.sv_rpc.specs.Representation.{IsPlace, IsInHeader, held_of, tail_of, cut, GoesOn, after_byte, after_header, after_data}
-use Rattle.sv_rpc.proofs.Steps.{header_grows, header_ends, empty_ends, empty_last_ends, header_too_long, data_grows, data_ends, data_last_ends, too_long_stays}
+use Rattle.sv_rpc.proofs.Steps.{header_grows, header_ends, empty_ends, empty_last_ends, header_too_long, data_grows, data_ends, data_last_ends}
 
 abbrev held : List (List ℕ) → Tail → Records
 held records tail = record { records = records; tail = tail }
@@ -93,11 +93,6 @@ data_goes records payload piece missing last within stream dropped st =
     ends false e st = same_records records (Data payload missing false) (Header (payload ++ piece) []) stream piece dropped st
         (data_ends stream piece st.all payload missing st.splits e)
 
--- bytes behind the fault
-pub too_long_goes : (records : List (List ℕ)) (piece : List ℕ) → GoesOn (held records TooLong) (held records TooLong) piece
-too_long_goes records piece stream dropped st = same_records records TooLong TooLong stream piece dropped st
-    (too_long_stays stream piece st.all st.splits)
-
 -- one stretch after the other
 pub GoesOn-then : (old mid new : Records) (a b : List ℕ) → GoesOn old mid a → GoesOn mid new b → GoesOn old new (a ++ b)
 GoesOn-then old mid new a b first second stream dropped st =
@@ -122,12 +117,8 @@ header_goes_on bytes lengths header spot old new byte is in_header value whole =
 
 -- the last byte of a header in its place
 set_last : (header : List ℕ) (n byte : ℕ) → length header ≡ 4 → n ≡ 3 → set header n byte ≡ take n header ++ byte ∷ []
-set_last [] n byte four is = absurd (omega arith)
-set_last (a ∷ []) n byte four is = absurd (omega arith)
-set_last (a ∷ b ∷ []) n byte four is = absurd (omega arith)
-set_last (a ∷ b ∷ c ∷ []) n byte four is = absurd (omega arith)
 set_last (a ∷ b ∷ c ∷ d ∷ []) n byte four is = rw is refl
-set_last (a ∷ b ∷ c ∷ d ∷ e ∷ header) n byte four is = absurd (omega arith)
+set_last _ n byte four is = absurd (omega arith)
 
 -- the word of a header that is whole with its last byte
 pub whole_word : (header : List ℕ) (n byte word : ℕ) → length header ≡ 4 → n ≡ 3 → word ≡ from_be_bytes w32 (set header n byte)

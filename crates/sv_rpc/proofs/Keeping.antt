@@ -8,9 +8,6 @@ use Rattle.sv_rpc.specs.Representation.{Keeps, payload_of, after_byte, after_hea
 abbrev held : List (List ℕ) → Tail → Records
 held records tail = record { records = records; tail = tail }
 
-pub keeps_all : (old : Records) → Keeps old old
-keeps_all old = ([], sym (append-nil old.records))
-
 pub keeps_then : (old mid new : Records) → Keeps old mid → Keeps mid new → Keeps old new
 keeps_then old mid new a b =
     (a.0 ++ b.0, b.1 ∙ ap (λ (rs : List (List ℕ)). rs ++ b.0) a.1 ∙ append_assoc old.records a.0 b.0)

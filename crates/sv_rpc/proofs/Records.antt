@@ -49,13 +49,6 @@ room_by_parts bytes lengths header space slots payload header_len begun (place.D
     omega (arith, used_in_data lengths bytes payload missing last k.whole)
 room_by_parts bytes lengths header space slots payload header_len begun place.TooLong k e = omega arith
 
--- where a header begins, none of it came
-pub before_header : (spot : Place) (payload header : List ℕ) → IsBeforeHeader (tail_of spot payload header)
-    → (spot ≡ place.Header) × (header ≡ [])
-before_header place.Header payload header h = (refl, h)
-before_header (place.Data missing last) payload header h = absurd h
-before_header place.TooLong payload header h = absurd h
-
 -- where a record ends, there is a slot for its length
 pub finish_room : (bytes lengths header : List ℕ) (space slots payload header_len : ℕ) (spot : Place)
     → IsValid bytes lengths header space slots payload header_len spot

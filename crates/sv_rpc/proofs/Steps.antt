@@ -39,18 +39,6 @@ one_more stream piece all text s splits sent is text_is taken = record {
   behind = ([], refl, refl, omega arith, omega arith);
 }
 
--- the empty stream is no record, and no byte of a header
-pub nothing_splits : Splits [] [] (Header [] [])
-nothing_splits = record {
-  sent = [];
-  rest = [];
-  whole = refl;
-  records_are = refl;
-  taken = tt;
-  behind =
-      ([], refl, refl, omega arith, omega arith);
-}
-
 -- a byte that does not complete the header
 pub header_grows : (stream : List ℕ) (all : List (List ℕ)) (payload header : List ℕ) (byte : ℕ) → Splits stream all (Header payload header)
     → length header + 1 < 4

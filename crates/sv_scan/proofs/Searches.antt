@@ -33,14 +33,11 @@ last_of xs x =
 
 -- the last reading is the newest
 last_is : (log : List ScanAct) → slice_get (readings log) (length (readings log) - 1) ≡ last_reading log
-last_is [] = refl
 last_is (Sample ∷ log) = last_of (readings log) (reading log)
-last_is (Init ∷ log) = refl
-last_is (Abort ∷ log) = refl
-last_is (Reset ∷ log) = refl
 last_is (Input channel microvolts ∷ log) = last_is log
 last_is (Configure setting ∷ log) = last_is log
 last_is (Trigger source ∷ log) = last_is log
+last_is _ = refl
 
 pub last_found : (found kept : List Reading) (log : List ScanAct) → found ≡ kept → kept ≡ readings log
     → slice_get found (length found - 1) ≡ last_reading log

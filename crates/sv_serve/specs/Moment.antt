@@ -3,7 +3,7 @@ use Rattle.std.specs.Prelude.{◌≡◌, ℕ, zero, suc, List, Option}
 use Rattle.sv_history.specs.declared.event.Config.{Config}
 use Rattle.sv_history.specs.declared.event.Dial.{Dial}
 use Rattle.sv_history.specs.Event.{PlainEvent}
-use Rattle.sv_server.specs.State.{State, StandsFor}
+use Rattle.sv_server.specs.Server.State.{State, StandsFor}
 use Rattle.sv_replay.specs.declared.entry.Entry.{Entry}
 
 -- What a driver has: a server, a wire, whom it called for the interrupt channel of each connection, the entries of the scenario that are

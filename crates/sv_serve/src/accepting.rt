@@ -3,7 +3,7 @@
 ghost use Rattle.std.specs.Prelude.{◌≡◌, ◌<◌, List, IfSome};
 ghost use Rattle.sv_history.specs.declared.event.Config.{Config};
 ghost use Rattle.sv_history.specs.Event.{PlainEvent};
-ghost use Rattle.sv_server.specs.State.{StandsFor};
+ghost use Rattle.sv_server.specs.Server.State.{StandsFor};
 ghost use Rattle.sv_serve.specs.Asked.{IsLowest};
 ghost use Rattle.sv_serve.specs.Heard.{WasAccepted};
 ghost use Rattle.sv_serve.specs.Moment.{Goes, moment};

@@ -1,6 +1,4 @@
-pub mod TakenByWriter
+pub mod Connection
+pub mod Device
+pub mod Server
 pub mod Replay
-pub mod ConnectionRepresentation
-pub mod DeviceRepresentation
-pub mod State
-pub mod Inside

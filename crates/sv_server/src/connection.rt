@@ -5,9 +5,9 @@ ghost use Rattle.std.specs.Prelude.{◌≡◌, ◌≢◌, ◌+◌, ◌≤◌, �
 ghost use Rattle.sv_rpc.specs.RecordBuf.{StandsFor, room_of, no_records};
 ghost use Rattle.sv_history.specs.Act.{ConnAct, Opened, Piece, CallTaken, Faulted, Replied, BytesTaken, PortClosed};
 ghost use Rattle.sv_history.specs.Connection.{is_open, unanswered, is_busy, next_call, is_idle, is_faulted, room, free, waiting};
-ghost use Rattle.sv_server.specs.ConnectionRepresentation.{IsConnection};
-ghost use Rattle.sv_server.specs.Inside.Kept.{kept_next};
-ghost use Rattle.sv_server.specs.Inside.Outcome.{answer_bytes, IsShort};
+ghost use Rattle.sv_server.specs.Connection.Representation.{IsConnection};
+ghost use Rattle.sv_server.specs.Connection.Inside.NextCall.{kept_next};
+ghost use Rattle.sv_server.specs.Device.Inside.Outcome.{answer_bytes, IsShort};
 
 pub mod reply;
 pub mod request;
@@ -36,7 +36,7 @@ pub struct Connection<A: Allocator> {
 }
 
 impl<A: Allocator> Model for Connection<A> {
-    ghost use Rattle.sv_server.specs.ConnectionRepresentation.{Connection};
+    ghost use Rattle.sv_server.specs.Connection.Representation.{Connection};
 
     ghost Value = { Connection };
 

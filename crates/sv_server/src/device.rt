@@ -14,12 +14,12 @@ ghost use Rattle.sv_instrument.specs.Representation.{left_of};
 ghost use Rattle.sv_history.specs.declared.event.Config.{Config};
 ghost use Rattle.sv_links.specs.Channels.{ChannelClosed};
 ghost use Rattle.sv_history.specs.Act.{DeviceAct, Linked, Waited, Channel, Happened, Ticked, link_acts, wait_acts, instrument_acts, ticks};
-ghost use Rattle.sv_history.specs.Settling.{CanGoOn};
-ghost use Rattle.sv_server.specs.Inside.Kept.{IsKept};
-ghost use Rattle.sv_server.specs.Inside.Acting.{InstrumentSteps};
+ghost use Rattle.sv_history.specs.Settling.{CanResume};
+ghost use Rattle.sv_server.specs.Device.Inside.WaitingCall.{IsKept};
+ghost use Rattle.sv_server.specs.Server.Inside.Acting.{InstrumentSteps};
 ghost use Rattle.sv_layers.specs.Act.{Act as InstrumentAct};
 ghost use Rattle.sv_instrument.specs.RequestCount.{Raise};
-ghost use Rattle.sv_server.specs.DeviceRepresentation.{IsDevice, HasDone};
+ghost use Rattle.sv_server.specs.Device.Representation.{IsDevice, HasDone};
 
 pub mod abort_channel;
 pub mod admission;
@@ -50,7 +50,7 @@ pub struct Device<A: Allocator> {
 }
 
 impl<A: Allocator> Model for Device<A> {
-    ghost use Rattle.sv_server.specs.DeviceRepresentation.{Device};
+    ghost use Rattle.sv_server.specs.Device.Representation.{Device};
 
     ghost Value = { Device };
 
@@ -154,10 +154,10 @@ impl<A: Allocator> Device<A> {
         self.close_channel(conn);
     }
 
-    /// The oldest call that waits and can go on; none where none can.
+    /// The oldest suspended call that can resume; none where none can.
     pub fn oldest_able(&self) -> Option<Entry>
         ensures answer { (config : Config) (acts : List DeviceAct) → IsDevice self.now config acts
-            → IsOldest (wait_acts acts) (CanGoOn acts) (option_map (λ entry. entry.conn) result) }
+            → IsOldest (wait_acts acts) (CanResume acts) (option_map (λ entry. entry.conn) result) }
         ensures entry { (config : Config) (acts : List DeviceAct) → IsDevice self.now config acts
             → IfSome result (λ entry. IsEntry (wait_acts acts) entry) }
         ensures kept { IfSome result (λ entry. IsKept entry self.now.waiting) }

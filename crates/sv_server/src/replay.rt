@@ -8,10 +8,10 @@ ghost use Rattle.sv_history.specs.declared.event.Did.{Did};
 ghost use Rattle.sv_history.specs.Event.{PlainEvent, plain};
 ghost use Rattle.sv_links.specs.Channels.{ChannelAct};
 ghost use Rattle.sv_history.specs.Act.{Act};
-ghost use Rattle.sv_server.specs.State.{StandsFor};
+ghost use Rattle.sv_server.specs.Server.State.{StandsFor};
 ghost use Rattle.sv_history.specs.Print.{port_of, is_no_memory};
-ghost use Rattle.sv_server.specs.Replay.{Replays};
-ghost use Rattle.sv_server.specs.Inside.Showing.{StandsBy, ShowsPort, ShowsAll};
+ghost use Rattle.sv_server.specs.Replay.Replays.{Replays};
+ghost use Rattle.sv_server.specs.Replay.Inside.Showing.{StandsBy, ShowsPort, ShowsAll};
 
 pub mod print;
 

@@ -11,9 +11,9 @@ ghost use Rattle.sv_history.specs.Connection.{is_open, waiting_on, room, is_idle
 ghost use Rattle.sv_history.specs.History.{abort_acts, is_shut, is_port_shut, IsLogOf, Answers, history_after};
 ghost use Rattle.sv_history.specs.Requests.{HearsOf};
 ghost use Rattle.sv_history.specs.Queries.{Answered, WaitOn};
-ghost use Rattle.sv_server.specs.ConnectionRepresentation.{Connection as KeptConnection, IsConnection};
-ghost use Rattle.sv_server.specs.State.{Represents, StandsFor};
-ghost use Rattle.sv_server.specs.Inside.Acting.{Acts};
+ghost use Rattle.sv_server.specs.Connection.Representation.{Connection as KeptConnection, IsConnection};
+ghost use Rattle.sv_server.specs.Server.State.{Represents, StandsFor};
+ghost use Rattle.sv_server.specs.Server.Inside.Acting.{Acts};
 
 pub mod dialing;
 pub mod execution;
@@ -44,7 +44,7 @@ pub struct Server<A: Allocator = Global> {
 }
 
 impl<A: Allocator> Model for Server<A> {
-    ghost use Rattle.sv_server.specs.State.{State};
+    ghost use Rattle.sv_server.specs.Server.State.{State};
 
     ghost Value = { State };
 

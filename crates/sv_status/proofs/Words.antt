@@ -95,15 +95,9 @@ within_byte w k fits h = elim (cases_lt k 8) [ inl lt ↦ lt | inr le ↦ absurd
 
 -- the byte without bit 6 has the others
 others_of_mask : (k : ℕ) → k < 8 → k ≢ 6 → bit_at 191 k ≡ 1
-others_of_mask zero lt ne = refl
-others_of_mask (suc zero) lt ne = refl
-others_of_mask (suc (suc zero)) lt ne = refl
-others_of_mask (suc (suc (suc zero))) lt ne = refl
-others_of_mask (suc (suc (suc (suc zero)))) lt ne = refl
-others_of_mask (suc (suc (suc (suc (suc zero))))) lt ne = refl
 others_of_mask (suc (suc (suc (suc (suc (suc zero)))))) lt ne = absurd (ne refl)
-others_of_mask (suc (suc (suc (suc (suc (suc (suc zero))))))) lt ne = refl
 others_of_mask (suc (suc (suc (suc (suc (suc (suc (suc k)))))))) lt ne = absurd (omega arith)
+others_of_mask _ lt ne = refl
 
 -- bits of a byte without bit 6
 pub without_six : (w k : ℕ) → w < 256 → (bit_at (bit_and w 191) k ≡ 1) ↔ ((k ≢ 6) × (bit_at w k ≡ 1))

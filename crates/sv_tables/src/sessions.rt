@@ -36,7 +36,10 @@ pub(crate) fn put_session(
         ("say", text) => tell(alloc, out, instrument, text, false)?,
         ("read", "") => read(out, instrument, None)?,
         ("read", most) => read(out, instrument, Some(value_of(most)?))?,
-        ("poll", "") => poll(out, instrument)?,
+        ("poll", "") => {
+            put(out, instrument.poll())?;
+            0
+        }
         ("ticks", count) => tick(instrument, value_of(count)?),
         (name, words) => happen(instrument, name, words)?,
     };
@@ -123,13 +126,6 @@ fn put_reasons(out: &mut String, read: &Read<'_>) -> Result<(), Fault> {
         }
     }
     Ok(())
-}
-
-/// Polls the status byte, and tells it.
-fn poll(out: &mut String, instrument: &mut Instrument) -> Result<u64, Fault> {
-    let polled = instrument.poll();
-    put(out, polled.status)?;
-    Ok(u64::from(polled.raised))
 }
 
 /// So many milliseconds go by, and behind each all is done that is due.

@@ -15,9 +15,7 @@ ok_is x y e = cc
 
 same_kind : (x : Field) → SameKind x x
 same_kind (Unsigned n) = tt
-same_kind (Signed z) = tt
-same_kind (Boolean b) = tt
-same_kind (Opaque text) = tt
+same_kind _ = tt
 
 same_kinds : (xs : List Field) → SameKinds xs xs
 same_kinds [] = tt

@@ -113,7 +113,7 @@ ArgumentsAre proc bytes (Ok arguments) = (procedure_of arguments ≡ proc) × (a
 ArgumentsAre proc bytes (Err garbage) = (arguments : Arguments) (after : List ℕ) → procedure_of arguments ≡ proc
     → BeginsWith bytes arguments after → ⊥
 
--- the link that a call names, where it names one
+-- the link that a call names; `None` if it names none
 abbrev pub link : Arguments → Option ℤ
 link (DeviceAbort lid) = Some lid
 link (CreateLink client_id lock_device lock_timeout device) = None
@@ -136,7 +136,7 @@ link DestroyIntrChan = None
 abbrev pub flagged : ℕ → ℕ → Option LockWait
 flagged flags timeout = Some (record { waits = bit_at flags 0 == 1; timeout = timeout })
 
--- what a call does while another link holds the lock (section B.4.4); none of those that are executed all the same
+-- what a call does while another link holds the lock (section B.4.4); `None` for calls that are executed all the same
 abbrev pub lock_wait : Arguments → Option LockWait
 lock_wait (DeviceWrite lid io_timeout lock_timeout flags bytes) = flagged flags lock_timeout
 lock_wait (DeviceRead lid request_size io_timeout lock_timeout flags term_char) = flagged flags lock_timeout
@@ -149,7 +149,7 @@ lock_wait (DeviceLock lid flags lock_timeout) = flagged flags lock_timeout
 lock_wait (DeviceDocmd lid flags io_timeout lock_timeout cmd network_order datasize bytes) = flagged flags lock_timeout
 lock_wait _ = None
 
--- how long a write or a read waits for the device, in milliseconds
+-- how long a write or a read waits for the device, in milliseconds; `None` for the other calls, which don't wait for it
 abbrev pub io_timeout : Arguments → Option ℕ
 io_timeout (DeviceWrite lid timeout lock_timeout flags bytes) = Some timeout
 io_timeout (DeviceRead lid request_size timeout lock_timeout flags term_char) = Some timeout

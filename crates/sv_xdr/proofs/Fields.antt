@@ -101,15 +101,11 @@ padded_again text pad after h =
     ) refl
 
 pub unsigned_again : (front after : List ℕ) (n : ℕ) → IsWord front n → unsigned_at (front ++ after) ≡ Ok (n, after)
-unsigned_again [] after n h = absurd h
-unsigned_again (a ∷ []) after n h = absurd h
-unsigned_again (a ∷ b ∷ []) after n h = absurd h
-unsigned_again (a ∷ b ∷ c ∷ []) after n h = absurd h
 unsigned_again (a ∷ b ∷ c ∷ d ∷ []) after n h =
     let value : from_be_bytes w32 (a ∷ b ∷ c ∷ d ∷ []) ≡ n = omega (arith, h.4) in
     let long : 4 ≤ length (a ∷ b ∷ c ∷ d ∷ after) = omega arith in
     rw (le-ltb (length (a ∷ b ∷ c ∷ d ∷ after)) 4 long) (ap (λ (k : ℕ). let r : Result (ℕ × List ℕ) XdrFault = Ok (k, after) in r) value)
-unsigned_again (a ∷ b ∷ c ∷ d ∷ e ∷ front) after n h = absurd h
+unsigned_again _ after n h = absurd h
 
 -- opaque data that are spelled are read
 pub opaque_again : (max : ℕ) (bytes text after : List ℕ) → Begins bytes (Opaque text) after → length text ≤ max
@@ -169,14 +165,11 @@ unsigned_begins bytes after n b = ap unsigned_at b.2 ∙ unsigned_again b.0 afte
 
 -- an unsigned integer that is read is spelled so
 pub unsigned_takes : (bytes after : List ℕ) (n : ℕ) → IsBytes bytes → unsigned_at bytes ≡ Ok (n, after) → Begins bytes (Unsigned n) after
-unsigned_takes [] after n fits e = absurd cc
-unsigned_takes (a ∷ []) after n fits e = absurd cc
-unsigned_takes (a ∷ b ∷ []) after n fits e = absurd cc
-unsigned_takes (a ∷ b ∷ c ∷ []) after n fits e = absurd cc
 unsigned_takes (a ∷ b ∷ c ∷ d ∷ rest) after n fits e =
     let long = guard_ok (ltb (length (a ∷ b ∷ c ∷ d ∷ rest)) 4) Short _ (n, after) e in
     let parts = pair_parts (from_be_bytes w32 (a ∷ b ∷ c ∷ d ∷ [])) n rest after long.1 in
     (a ∷ b ∷ c ∷ d ∷ [], (fits 0, fits 1, fits 2, fits 3, omega (arith, parts.0)), ap (λ (l : List ℕ). a ∷ b ∷ c ∷ d ∷ l) parts.1)
+unsigned_takes _ after n fits e = absurd cc
 
 -- opaque data that are read are spelled so, their length before them
 pub opaque_at-takes : (max : ℕ) (bytes text after : List ℕ) → IsBytes bytes → opaque_at max bytes ≡ Ok (text, after)
@@ -191,12 +184,8 @@ opaque_at-takes max bytes text after fits e =
 
 -- a word is below 2 ^ 32
 pub word_fits : (bytes : List ℕ) (n : ℕ) → IsWord bytes n → n < 2 ^ 32
-word_fits [] n h = absurd h
-word_fits (a ∷ []) n h = absurd h
-word_fits (a ∷ b ∷ []) n h = absurd h
-word_fits (a ∷ b ∷ c ∷ []) n h = absurd h
 word_fits (a ∷ b ∷ c ∷ d ∷ []) n h = omega arith
-word_fits (a ∷ b ∷ c ∷ d ∷ e ∷ bytes) n h = absurd h
+word_fits _ n h = absurd h
 
 -- a signed integer is in two's complement in the word that it is cast to
 complement_of : (z : ℤ) → FitsSigned w32 z → IsTwosComplement (cast_unsigned w32 z) z

@@ -47,18 +47,7 @@ prefix_free (Boolean c) (Boolean d) a b after behind kind h k e =
     let w = words a b after behind (from_bool c) (from_bool d) h k e in
     (w.0, ap Boolean (truths c d w.1))
 prefix_free (Opaque s) (Opaque t) a b after behind kind h k e = let w = texts s t a b after behind h k e in (w.0, ap Opaque w.1)
-prefix_free (Unsigned m) (Signed z) a b after behind kind h k e = absurd kind
-prefix_free (Unsigned m) (Boolean d) a b after behind kind h k e = absurd kind
-prefix_free (Unsigned m) (Opaque t) a b after behind kind h k e = absurd kind
-prefix_free (Signed y) (Unsigned n) a b after behind kind h k e = absurd kind
-prefix_free (Signed y) (Boolean d) a b after behind kind h k e = absurd kind
-prefix_free (Signed y) (Opaque t) a b after behind kind h k e = absurd kind
-prefix_free (Boolean c) (Unsigned n) a b after behind kind h k e = absurd kind
-prefix_free (Boolean c) (Signed z) a b after behind kind h k e = absurd kind
-prefix_free (Boolean c) (Opaque t) a b after behind kind h k e = absurd kind
-prefix_free (Opaque s) (Unsigned n) a b after behind kind h k e = absurd kind
-prefix_free (Opaque s) (Signed z) a b after behind kind h k e = absurd kind
-prefix_free (Opaque s) (Boolean d) a b after behind kind h k e = absurd kind
+prefix_free _ _ a b after behind kind h k e = absurd kind
 
 -- two fields of one kind that begin the same bytes are one, and so is what follows them
 pub one_field : (x y : Field) (bytes after behind : List ℕ) → SameKind x y → Begins bytes x after → Begins bytes y behind

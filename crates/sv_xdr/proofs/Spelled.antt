@@ -30,24 +30,17 @@ opaque_spelled text h = (
 
 -- the front of three zeros
 pub take_zeros : (n : ℕ) → n < 4 → take {A = ℕ} n (0 ∷ 0 ∷ 0 ∷ []) ≡ replicate n 0
-take_zeros zero h = refl
-take_zeros (suc zero) h = refl
-take_zeros (suc (suc zero)) h = refl
-take_zeros (suc (suc (suc zero))) h = refl
 take_zeros (suc (suc (suc (suc n)))) h = absurd (omega arith)
+take_zeros _ h = refl
 
 word_is : (bytes : List ℕ) (n : ℕ) → IsWord bytes n → bytes ≡ to_be_bytes w32 n
-word_is [] n h = absurd h
-word_is (a ∷ []) n h = absurd h
-word_is (a ∷ b ∷ []) n h = absurd h
-word_is (a ∷ b ∷ c ∷ []) n h = absurd h
 word_is (a ∷ b ∷ c ∷ d ∷ []) n h =
     let first : a ≡ n / 16777216 % 256 = omega arith in
     let second : b ≡ n / 65536 % 256 = omega arith in
     let third : c ≡ n / 256 % 256 = omega arith in
     let fourth : d ≡ n % 256 = omega arith in
     cc
-word_is (a ∷ b ∷ c ∷ d ∷ e ∷ bytes) n h = absurd h
+word_is _ n h = absurd h
 
 zeros_are : (bytes : List ℕ) → AllByRecursion (λ byte. byte ≡ 0) bytes → bytes ≡ replicate (length bytes) 0
 zeros_are [] h = refl

@@ -6,7 +6,7 @@ ghost use Rattle.sv_rpc.specs.Call.{plain_call, call_at};
 ghost use Rattle.sv_vxi.specs.Arguments.{core_calls, abort_calls, is_one_of};
 ghost use Rattle.sv_vxi.specs.Reading.{arguments_at};
 ghost use Rattle.sv_history.specs.Request.{program_of as program_for, version_of as version_for, procedures_of, header_reply as reply_to, core_request as core_request_for, link_in, abort_request as abort_request_for, procedure_request as procedure_request_for, unless_decided, request_of as request_for, core_call as core_call_in_record};
-ghost use Rattle.sv_server.specs.Inside.Outcome.{plain_request, plain_core_call, xid_of};
+ghost use Rattle.sv_server.specs.Device.Inside.Outcome.{plain_request, plain_core_call, xid_of};
 
 use crate::device::core_call::CoreCall;
 use sv_history::Role;

@@ -5,7 +5,7 @@ ghost use Rattle.sv_vxi.specs.Results.{plain_result, data_of};
 ghost use Rattle.sv_links.specs.Links.{is_this as is_this_link};
 ghost use Rattle.sv_history.specs.declared.event.Config.{Config};
 ghost use Rattle.sv_history.specs.Act.{DeviceAct};
-ghost use Rattle.sv_server.specs.DeviceRepresentation.{IsDevice};
+ghost use Rattle.sv_server.specs.Device.Representation.{IsDevice};
 ghost use Rattle.sv_history.specs.AbortChannel.{owner_of as owner_for, waits_with as waits_with_link, where_waiting as where_waiting_with, aborted as aborted_by, abort_result as result_of};
 
 use crate::device::Device;

@@ -12,8 +12,8 @@ ghost use Rattle.sv_history.specs.declared.event.Config.{Config as Configured};
 ghost use Rattle.sv_history.specs.Act.{DeviceAct, Waited, instrument_acts, exchange_acts};
 ghost use Rattle.sv_history.specs.Interrupts.{is_dial};
 ghost use Rattle.sv_history.specs.Admission.{names_another, is_kept_out, lock_stop as lock_stop_for, device_wait, may_make_more as may_make, link_stop as link_stop_for, channel_stop as channel_stop_for, device_stop as device_stop_for, own_stop as own_stop_for, stop_of, deadline as deadline_for, Awaits};
-ghost use Rattle.sv_server.specs.DeviceRepresentation.{IsDevice, HasPlace};
-ghost use Rattle.sv_server.specs.Inside.Outcome.{plain_stop, IsBehind, Admits, AdmitsAt};
+ghost use Rattle.sv_server.specs.Device.Representation.{IsDevice, HasPlace};
+ghost use Rattle.sv_server.specs.Device.Inside.Outcome.{plain_stop, IsBehind, Admits, AdmitsAt};
 
 use crate::device::Device;
 use crate::device::call_outcome::CallOutcome;

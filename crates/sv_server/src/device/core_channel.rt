@@ -10,9 +10,9 @@ ghost use Rattle.sv_history.specs.declared.event.Config.{Config as Configured};
 ghost use Rattle.sv_links.specs.Links.{holder, is_locked_out};
 ghost use Rattle.sv_history.specs.Act.{DeviceAct, Happened, link_acts, instrument_acts};
 ghost use Rattle.sv_history.specs.CallOutcome.{answered};
-ghost use Rattle.sv_server.specs.DeviceRepresentation.{IsDevice, HasPlace};
+ghost use Rattle.sv_server.specs.Device.Representation.{IsDevice, HasPlace};
 ghost use Rattle.sv_history.specs.CoreChannel.{owns, make_link, destroy_link, device_lock, device_unlock, device_write, device_read, own_call};
-ghost use Rattle.sv_server.specs.Inside.Outcome.{IsDeviceAt, IsGranted, OutcomeIs, IsBrief};
+ghost use Rattle.sv_server.specs.Device.Inside.Outcome.{IsDeviceAt, IsGranted, OutcomeIs, IsBrief};
 
 use crate::device::Device;
 use crate::device::call_outcome::CallOutcome;
@@ -184,11 +184,9 @@ impl<A: Allocator> Device<A> {
         ensures short { IsBrief result }
         ensures waiting { self.new.waiting ≡ self.old.waiting }
     {
-        let poll = self.instrument.poll();
-        self.raise(poll.raised);
         CallOutcome::Result(VxiResult::Status {
             error: ErrorCode::NoError,
-            stb: poll.status,
+            stb: self.instrument.poll(),
         })
     }
 

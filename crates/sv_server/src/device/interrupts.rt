@@ -9,14 +9,14 @@ ghost use Rattle.sv_links.specs.Queue.{without};
 ghost use Rattle.sv_links.specs.Channels.{ChannelOpened};
 ghost use Rattle.sv_history.specs.declared.event.Config.{Config as Configured};
 ghost use Rattle.sv_history.specs.Act.{DeviceAct, Waited, Channel, wait_acts};
-ghost use Rattle.sv_server.specs.DeviceRepresentation.{IsDevice};
+ghost use Rattle.sv_server.specs.Device.Representation.{IsDevice};
 ghost use Rattle.sv_history.specs.Interrupts.{has_channel as channel_there, enable_srq as enabled_srq, device_enable_srq as done_enable_srq, is_peer as may_call, channel_fault as fault_of, destroy_channel as destroyed_channel, is_dialing, peer_by as asked_peer, end_channel as ended_channel, dialed};
 ghost use Rattle.sv_vxi.specs.Reading.{plain_arguments};
 ghost use Rattle.sv_links.specs.Channels.{ChannelAct, ChannelClosed, ChannelTaken, waiting as channel_bytes};
 ghost use Rattle.sv_links.specs.ChannelRepresentation.{bytes_of};
 ghost use Rattle.sv_history.specs.Requests.{HearsOf};
 ghost use Rattle.sv_history.specs.CoreChannel.{owns};
-ghost use Rattle.sv_server.specs.Inside.Outcome.{OutcomeIs, IsBrief};
+ghost use Rattle.sv_server.specs.Device.Inside.Outcome.{OutcomeIs, IsBrief};
 
 use crate::device::Device;
 use crate::device::call_outcome::CallOutcome;

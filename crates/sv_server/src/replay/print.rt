@@ -4,7 +4,7 @@ ghost use Rattle.std.specs.Prelude.{◌≤◌, [], length, take, decimal, MatchR
 ghost use Rattle.std.specs.Io.KnownBytes.{Appends};
 ghost use Rattle.hex.specs.Hex.{encode_lower};
 ghost use Rattle.sv_history.specs.Print.{port_name, port_line, refusal_line};
-ghost use Rattle.sv_server.specs.TakenByWriter.{IsTakenByWriter};
+ghost use Rattle.sv_server.specs.Replay.TakenByWriter.{IsTakenByWriter};
 
 use std::io::{ErrorKind, Write};
 use sv_history::{Port, Refused};

@@ -12,8 +12,8 @@ ghost use Rattle.sv_history.specs.Requests.{HearsOf};
 ghost use Rattle.sv_history.specs.Interrupts.{dial_by as called_by, dial_of};
 ghost use Rattle.sv_history.specs.History.{is_channel_shut};
 ghost use Rattle.sv_history.specs.Queries.{Answered};
-ghost use Rattle.sv_server.specs.State.{Represents, StandsFor};
-ghost use Rattle.sv_server.specs.Inside.Acting.{Acts};
+ghost use Rattle.sv_server.specs.Server.State.{Represents, StandsFor};
+ghost use Rattle.sv_server.specs.Server.Inside.Acting.{Acts};
 
 use crate::connection::request::core_call;
 use crate::server::resuming::dialed;

@@ -5,8 +5,8 @@ ghost use Rattle.sv_rpc.specs.Ports.{port_at};
 ghost use Rattle.sv_history.specs.declared.event.Config.{Config as Configured};
 ghost use Rattle.sv_history.specs.Act.{DeviceAct};
 ghost use Rattle.sv_history.specs.Execution.{ports_of, port_reply, aborts as aborted_by};
-ghost use Rattle.sv_server.specs.DeviceRepresentation.{IsDevice};
-ghost use Rattle.sv_server.specs.Inside.Outcome.{plain_request, Executes, IsBrief, IsPortReply};
+ghost use Rattle.sv_server.specs.Device.Representation.{IsDevice};
+ghost use Rattle.sv_server.specs.Device.Inside.Outcome.{plain_request, Executes, IsBrief, IsPortReply};
 
 use crate::connection::request::Request;
 use crate::device::Device;

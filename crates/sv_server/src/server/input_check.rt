@@ -2,7 +2,7 @@
 
 ghost use Rattle.std.specs.Prelude.{◌≡◌};
 ghost use Rattle.sv_history.specs.History.{input_refusal as refusal_of};
-ghost use Rattle.sv_server.specs.Inside.Acting.{IsInput};
+ghost use Rattle.sv_server.specs.Server.Inside.Acting.{IsInput};
 
 use sv_errors::{MOST_MICROVOLTS, is_channel};
 use sv_history::{Did, Refused};

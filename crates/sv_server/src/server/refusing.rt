@@ -6,9 +6,9 @@ ghost use Rattle.sv_vxi.specs.Reading.{plain_arguments};
 ghost use Rattle.sv_history.specs.Act.{ConnAct};
 ghost use Rattle.sv_history.specs.Refusing.{takes_memory as makes_more, refusable_call};
 ghost use Rattle.sv_history.specs.Request.{CoreRequest, request_of as request_for};
-ghost use Rattle.sv_server.specs.ConnectionRepresentation.{IsConnection};
-ghost use Rattle.sv_server.specs.Inside.Outcome.{plain_core_call};
-ghost use Rattle.sv_server.specs.Inside.Acting.{Refuses};
+ghost use Rattle.sv_server.specs.Connection.Representation.{IsConnection};
+ghost use Rattle.sv_server.specs.Device.Inside.Outcome.{plain_core_call};
+ghost use Rattle.sv_server.specs.Server.Inside.Acting.{Refuses};
 
 use crate::connection::Connection;
 use crate::connection::reply::Answer;

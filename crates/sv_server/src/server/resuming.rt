@@ -12,11 +12,11 @@ ghost use Rattle.sv_history.specs.Request.{core_call_in};
 ghost use Rattle.sv_history.specs.Interrupts.{is_dialing};
 ghost use Rattle.sv_history.specs.Admission.{device_wait};
 ghost use Rattle.sv_history.specs.Resuming.{next_wait, resumed, failed, connected};
-ghost use Rattle.sv_server.specs.ConnectionRepresentation.{IsConnection};
-ghost use Rattle.sv_server.specs.DeviceRepresentation.{IsDevice};
-ghost use Rattle.sv_server.specs.Inside.Kept.{IsKept};
-ghost use Rattle.sv_server.specs.Inside.Outcome.{IsDeviceAt, MayMake, MayGoOn, ResumedAs, Resumes, IsBrief};
-ghost use Rattle.sv_server.specs.Inside.Acting.{Concludes, WentOn};
+ghost use Rattle.sv_server.specs.Connection.Representation.{IsConnection};
+ghost use Rattle.sv_server.specs.Device.Representation.{IsDevice};
+ghost use Rattle.sv_server.specs.Device.Inside.WaitingCall.{IsKept};
+ghost use Rattle.sv_server.specs.Device.Inside.Outcome.{IsDeviceAt, MayMake, MayGoOn, ResumedAs, Resumes, IsBrief};
+ghost use Rattle.sv_server.specs.Server.Inside.Acting.{Concludes, WentOn};
 
 use crate::connection::Connection;
 use crate::connection::reply::Answer;
@@ -89,7 +89,7 @@ impl<A: Allocator> Device<A> {
     }
 }
 
-/// A call that waits goes on: it is done, or it waits anew.
+/// A suspended call resumes: it is done, or it waits anew.
 pub fn resume<A: Allocator>(connection: &mut Connection<A>, device: &mut Device<A>, entry: Entry)
     requires { IsKept entry device.old.waiting }
     ensures concludes { (config : Config) (polled : ℕ) (acts : List ConnAct)
@@ -144,7 +144,7 @@ pub fn dialed<A: Allocator>(
     conclude(xid, outcome, connection, device);
 }
 
-/// A call that waits is given up, with this error.
+/// A suspended call fails with this error.
 pub fn give_up<A: Allocator>(
     connection: &mut Connection<A>,
     device: &mut Device<A>,

@@ -13,10 +13,10 @@ ghost use Rattle.sv_history.specs.Request.{core_call_in};
 ghost use Rattle.sv_history.specs.PolledStatus.{IsPolled};
 ghost use Rattle.sv_history.specs.Effect.{acts_of};
 ghost use Rattle.sv_history.specs.Resuming.{resumed, failed, late as late_error};
-ghost use Rattle.sv_history.specs.Settling.{CanGoOn, InstrumentDoes, GoesOn, GivesUp, IsSettled};
-ghost use Rattle.sv_server.specs.State.{Represents};
-ghost use Rattle.sv_server.specs.Inside.Kept.{IsKept};
-ghost use Rattle.sv_server.specs.Inside.Acting.{TakesStep, Steps, GoesTo, Settled};
+ghost use Rattle.sv_history.specs.Settling.{CanResume, InstrumentDoes, Resumes, TimesOut, IsSettled};
+ghost use Rattle.sv_server.specs.Server.State.{Represents};
+ghost use Rattle.sv_server.specs.Device.Inside.WaitingCall.{IsKept};
+ghost use Rattle.sv_server.specs.Server.Inside.Acting.{TakesStep, Steps, GoesTo, Settled};
 
 use crate::server::Server;
 use crate::server::resuming::{give_up, resume};
@@ -31,7 +31,7 @@ enum Stepped {
     Nothing,
     /// The instrument did something.
     Instrument,
-    /// A call that waited went on or was given up.
+    /// A suspended call resumed or timed out.
     Call,
 }
 
@@ -46,12 +46,12 @@ fn late(wait: Wait) -> ErrorCode
 }
 
 impl<A: Allocator> Server<A> {
-    /// A call that waits goes on: it is done, or it waits anew.
+    /// A suspended call resumes: it is done, or it waits anew.
     fn resume(&mut self, entry: Entry)
         requires { IsKept entry self.old.device.waiting }
         ensures stands { (config : Config) (polled : ℕ) (log : List Act)
             → Represents self.old config log → IsPolled polled (device_acts log)
-            → CanGoOn (device_acts log) entry.conn → IsEntry (wait_acts (device_acts log)) entry
+            → CanResume (device_acts log) entry.conn → IsEntry (wait_acts (device_acts log)) entry
             → (creates entry ≡ true → creations (without entry.conn self.old.device.waiting)
             < creations self.old.device.waiting)
             → Represents self.new config (acts_of entry.conn (resumed config polled entry.conn
@@ -62,7 +62,7 @@ impl<A: Allocator> Server<A> {
         resume(connection, &mut self.device, entry);
     }
 
-    /// A call that waits is given up, with this error.
+    /// A suspended call fails with this error.
     pub(crate) fn give_up(&mut self, conn: u8, error: ErrorCode)
         requires { conn < 16 }
         ensures stands { (config : Config) (log : List Act) → Represents self.old config log
@@ -99,10 +99,10 @@ impl<A: Allocator> Server<A> {
         self.device.exchange()
     }
 
-    /// The oldest call that can go on does, where one can.
+    /// The oldest suspended call that can resume does, where one can.
     fn resume_oldest(&mut self) -> bool
         ensures steps { (config : Config) (log : List Act) → Represents self.old config log
-            → TakesStep GoesOn result config log self.old self.new }
+            → TakesStep Resumes result config log self.old self.new }
         ensures idle { result ≡ false → self.new ≡ self.old }
         ensures measure { IsTrue result
             → rank self.new.device.waiting < rank self.old.device.waiting }
@@ -116,10 +116,10 @@ impl<A: Allocator> Server<A> {
         }
     }
 
-    /// The oldest call whose deadline has come is given up, where one's has.
+    /// The oldest suspended call whose deadline has come times out, where one's has.
     fn give_up_oldest(&mut self) -> bool
         ensures steps { (config : Config) (log : List Act) → Represents self.old config log
-            → TakesStep GivesUp result config log self.old self.new }
+            → TakesStep TimesOut result config log self.old self.new }
         ensures idle { result ≡ false → self.new ≡ self.old }
         ensures measure { IsTrue result
             → rank self.new.device.waiting < rank self.old.device.waiting }
@@ -159,7 +159,7 @@ impl<A: Allocator> Server<A> {
         Stepped::Nothing
     }
 
-    /// Takes the steps that are due until a call went on or was given up; tells whether one did.
+    /// Takes the steps that are due until a call resumed or timed out; tells whether one did.
     fn settle_to_call(&mut self) -> bool
         ensures goes { (config : Config) (log : List Act) → Represents self.old config log
             → GoesTo config log (λ mid. result ≡ false → IsSettled config mid) self.new }

@@ -7,10 +7,10 @@ ghost use Rattle.sv_history.specs.Act.{Act, ConnAct, DeviceAct, of, device_acts,
 ghost use Rattle.sv_history.specs.Connection.{is_busy};
 ghost use Rattle.sv_history.specs.Effect.{Effect, call_effect};
 ghost use Rattle.sv_history.specs.CoreChannel.{reads};
-ghost use Rattle.sv_server.specs.ConnectionRepresentation.{IsConnection};
-ghost use Rattle.sv_server.specs.DeviceRepresentation.{IsDevice};
-ghost use Rattle.sv_server.specs.Inside.Acting.{Turns, Concludes};
-ghost use Rattle.sv_server.specs.Inside.Outcome.{EndsAs, IsBrief};
+ghost use Rattle.sv_server.specs.Connection.Representation.{IsConnection};
+ghost use Rattle.sv_server.specs.Device.Representation.{IsDevice};
+ghost use Rattle.sv_server.specs.Server.Inside.Acting.{Turns, Concludes};
+ghost use Rattle.sv_server.specs.Device.Inside.Outcome.{EndsAs, IsBrief};
 
 use crate::connection::Connection;
 use crate::connection::reply::Answer;

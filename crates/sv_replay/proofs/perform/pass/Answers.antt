@@ -1,5 +1,5 @@
 use Rattle.std.proofs.Common.{ℕ, subst, replicate, [], ◌++◌, ◌+◌, refl, arith}
-use Rattle.sv_server.proofs.Taking.{appends_none, appends_then}
+use Rattle.sv_server.proofs.OnReplay.Taking.{appends_none, appends_then}
 use Rattle.sv_replay.proofs.Printed.{ticks_none, ticks_more, ticks_stop, performs_stop}
 use Rattle.sv_history.specs.Event.{Tick}
 use Rattle.sv_replay.specs.Script.{Prints}

@@ -2,7 +2,7 @@ use Rattle.std.proofs.Common.{ℕ, List, replicate}
 use Rattle.std.specs.Io.KnownBytes.{Appends}
 use Rattle.sv_history.specs.declared.event.Config.{Config}
 use Rattle.sv_history.specs.Event.{PlainEvent, Tick}
-use Rattle.sv_server.specs.State.{StandsFor}
+use Rattle.sv_server.specs.Server.State.{StandsFor}
 use Rattle.sv_replay.specs.Script.{Prints}
 use Rattle.sv_replay.proofs.perform.pass.Given as goal
 

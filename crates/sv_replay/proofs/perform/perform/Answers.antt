@@ -1,6 +1,6 @@
 use Rattle.std.proofs.Common.{[], refl}
 use Rattle.sv_history.specs.Event.{plain}
-use Rattle.sv_server.proofs.Taking.{appends_none}
+use Rattle.sv_server.proofs.OnReplay.Taking.{appends_none}
 use Rattle.sv_replay.proofs.Printed.{performs_one}
 use Rattle.sv_replay.proofs.perform.perform.Goals as goal
 

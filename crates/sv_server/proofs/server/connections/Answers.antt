@@ -2,7 +2,7 @@ use Rattle.std.proofs.Common.{◌≡◌, ℕ, ◌∷◌, ◌++◌, [], length, g
 use Rattle.std.proofs.lemmas.Bool.{cases_lt}
 use Rattle.std.proofs.lemmas.List.{get_or_append_left, length-append}
 use Rattle.std.proofs.Math.Seq.{get_or-append_seam}
-use Rattle.sv_server.specs.ConnectionRepresentation.{Connection, IsConnection}
+use Rattle.sv_server.specs.Connection.Representation.{Connection, IsConnection}
 use Rattle.sv_server.proofs.server.connections.Goals as goal
 
 pub loop-preserved : goal.loop-preserved

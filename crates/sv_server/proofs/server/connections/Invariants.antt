@@ -1,5 +1,5 @@
 use Rattle.std.proofs.Common.{◌≡◌, ℕ, ◌<◌, [], length, get_or}
-use Rattle.sv_server.specs.ConnectionRepresentation.{Connection, IsConnection}
+use Rattle.sv_server.specs.Connection.Representation.{Connection, IsConnection}
 use Rattle.sv_server.proofs.server.connections.Given as goal
 
 -- the connections so far keep no act

@@ -3,7 +3,7 @@ use Rattle.std.specs.Prelude.{true}
 use Rattle.sv_history.specs.declared.event.Config.{Config}
 use Rattle.sv_history.specs.declared.event.Port.TheVariants.{Conn}
 use Rattle.sv_history.specs.Event.{PlainEvent}
-use Rattle.sv_server.specs.State.{StandsFor}
+use Rattle.sv_server.specs.Server.State.{StandsFor}
 use Rattle.sv_serve.specs.Asked.{IsOpen}
 use Rattle.sv_serve.specs.Moment.{moment}
 use Rattle.sv_serve.proofs.driver.Driver.lowest.Given as goal

@@ -1,5 +1,5 @@
 use Rattle.std.proofs.Common.{sym}
-use Rattle.sv_server.proofs.Connections.{faulted_is, faulted_told}
+use Rattle.sv_server.proofs.OnConnection.Connections.{faulted_is, faulted_told}
 use Rattle.sv_server.proofs.connection.Connection.is_faulted.Goals as goal
 
 pub returns-in-Ok : goal.returns-in-Ok

@@ -1,4 +1,4 @@
-use Rattle.sv_server.proofs.Connections.{idle_told}
+use Rattle.sv_server.proofs.OnConnection.Connections.{idle_told}
 use Rattle.sv_server.proofs.connection.Connection.is_idle.Goals as goal
 
 pub returns : goal.returns

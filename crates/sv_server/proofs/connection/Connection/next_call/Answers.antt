@@ -1,5 +1,5 @@
 use Rattle.std.proofs.Common.{◌∙◌}
-use Rattle.sv_server.proofs.Connections.{next_is}
+use Rattle.sv_server.proofs.OnConnection.Connections.{next_is}
 use Rattle.sv_server.proofs.connection.Connection.next_call.Goals as goal
 
 pub returns-clause-answer : goal.returns-clause-answer

@@ -1,6 +1,6 @@
 use Rattle.std.proofs.Common.{◌∙◌, ap, List, ℕ}
 use Rattle.std.specs.Prelude.{slice_get}
-use Rattle.sv_server.proofs.Connections.{first_stays, some_stay}
+use Rattle.sv_server.proofs.OnConnection.Connections.{first_stays, some_stay}
 use Rattle.sv_server.proofs.connection.Connection.push.Goals as goal
 
 pub invariant_of-self : goal.invariant_of-self

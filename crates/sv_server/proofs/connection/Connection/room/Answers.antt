@@ -1,6 +1,6 @@
 use Rattle.std.proofs.Common.{ap, ◌∙◌}
 use Rattle.std.specs.Prelude.{is_some}
-use Rattle.sv_server.proofs.Connections.{room_is, no_room}
+use Rattle.sv_server.proofs.OnConnection.Connections.{room_is, no_room}
 use Rattle.sv_server.proofs.connection.Connection.room.Goals as goal
 
 pub returns-in-Some-clause-answer : goal.returns-in-Some-clause-answer

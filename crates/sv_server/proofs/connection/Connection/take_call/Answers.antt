@@ -1,4 +1,4 @@
-use Rattle.sv_server.proofs.Connections.{took_call}
+use Rattle.sv_server.proofs.OnConnection.Connections.{took_call}
 use Rattle.sv_server.proofs.connection.Connection.take_call.Goals as goal
 
 pub returns : goal.returns

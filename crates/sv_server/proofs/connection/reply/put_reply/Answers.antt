@@ -1,5 +1,5 @@
 use Rattle.std.proofs.Common.{arith}
-use Rattle.sv_server.proofs.Replies.{answer_is_short}
+use Rattle.sv_server.proofs.OnConnection.Replies.{answer_is_short}
 use Rattle.sv_server.proofs.connection.reply.put_reply.Goals as goal
 
 pub put_through-requires-clause-fits : goal.put_through-requires-clause-fits

@@ -1,7 +1,7 @@
 use Rattle.std.proofs.Common.{List, ℕ, ◌++◌, length, ap, ◌∙◌, arith}
 use Rattle.std.specs.Prelude.{true}
 use Rattle.sv_rpc.specs.Record.{fragment}
-use Rattle.sv_server.proofs.Replies.{answer_is_short}
+use Rattle.sv_server.proofs.OnConnection.Replies.{answer_is_short}
 use Rattle.sv_server.proofs.connection.reply.put_through.Goals as goal
 
 pub put_record-requires-clause-fits : goal.put_record-requires-clause-fits

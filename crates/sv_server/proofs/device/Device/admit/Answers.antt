@@ -1,7 +1,7 @@
 use Rattle.std.proofs.Common.{sym}
 use Rattle.std.specs.Prelude.{Some, None}
-use Rattle.sv_server.proofs.Granted.{admits_as}
-use Rattle.sv_server.specs.Inside.Outcome.{plain_stop}
+use Rattle.sv_server.proofs.OnDevice.Granted.{admits_as}
+use Rattle.sv_server.specs.Device.Inside.Outcome.{plain_stop}
 use Rattle.sv_server.proofs.device.Device.admit.Goals as goal
 
 pub returns-in-Some : goal.returns-in-Some

@@ -2,7 +2,7 @@ use Rattle.std.proofs.Common.{rules, ◌≡◌, refl, inr}
 use Rattle.sv_vxi.specs.Arguments.{link}
 use Rattle.sv_vxi.specs.Reading.{plain_arguments}
 use Rattle.sv_history.specs.CoreCall.{lid_of}
-use Rattle.sv_server.proofs.Granted.{lock_place, link_lock, lock_wants, on_err}
+use Rattle.sv_server.proofs.OnDevice.Granted.{lock_place, link_lock, lock_wants, on_err}
 use Rattle.sv_server.proofs.device.Device.await_device.Goals as goal
 
 pub returns-in_err-reserve : goal.returns-in_err-reserve

@@ -5,9 +5,9 @@ use Rattle.sv_links.specs.declared.waiting.Wait.TheVariants.{Dial}
 use Rattle.sv_history.specs.Act.{wait_acts}
 use Rattle.sv_history.specs.CoreCall.{lid_of}
 use Rattle.sv_history.proofs.Telling.{has_channel_told}
-use Rattle.sv_server.proofs.Channeled.{device_same, device_dialing}
-use Rattle.sv_server.proofs.Parts.{entered_other}
-use Rattle.sv_server.proofs.Granted.{dials, dial_wants, on_err}
+use Rattle.sv_server.proofs.OnDevice.Channeled.{device_same, device_dialing}
+use Rattle.sv_server.proofs.OnDevice.Parts.{entered_other}
+use Rattle.sv_server.proofs.OnDevice.Granted.{dials, dial_wants, on_err}
 use Rattle.sv_server.proofs.device.Device.await_peer.Goals as goal
 
 pub returns-in_err-prepare : goal.returns-in_err-prepare

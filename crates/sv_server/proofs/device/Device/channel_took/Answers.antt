@@ -1,7 +1,7 @@
 use Rattle.std.proofs.Common.{◌∙◌}
 use Rattle.sv_links.specs.Channels.{ChannelTaken}
 use Rattle.sv_history.proofs.Telling.{has_channel_told}
-use Rattle.sv_server.proofs.Channeled.{device_channel}
+use Rattle.sv_server.proofs.OnDevice.Channeled.{device_channel}
 use Rattle.sv_server.proofs.device.Device.channel_took.Goals as goal
 
 pub returns-clause-stands : goal.returns-clause-stands

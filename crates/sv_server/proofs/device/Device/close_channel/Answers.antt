@@ -1,5 +1,5 @@
 use Rattle.sv_links.specs.Channels.{ChannelClosed}
-use Rattle.sv_server.proofs.Channeled.{device_channel}
+use Rattle.sv_server.proofs.OnDevice.Channeled.{device_channel}
 use Rattle.sv_server.proofs.device.Device.close_channel.Goals as goal
 
 pub returns-clause-stands : goal.returns-clause-stands

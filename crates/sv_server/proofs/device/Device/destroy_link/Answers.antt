@@ -1,6 +1,6 @@
 use Rattle.std.proofs.Common.{sym}
 use Rattle.sv_history.specs.Act.{link_acts}
-use Rattle.sv_server.proofs.Parts.{device_destroyed}
+use Rattle.sv_server.proofs.OnDevice.Parts.{device_destroyed}
 use Rattle.sv_server.proofs.device.Device.destroy_link.Goals as goal
 
 pub returns-clause-ends : goal.returns-clause-ends

@@ -1,6 +1,6 @@
 use Rattle.std.proofs.Common.{[], ◌∷◌, sym}
 use Rattle.sv_history.specs.Act.{instrument_acts}
-use Rattle.sv_server.proofs.Raising.{device_ran}
+use Rattle.sv_server.proofs.OnDevice.Raising.{device_ran}
 use Rattle.sv_layers.specs.Act.{Purged}
 use Rattle.sv_server.proofs.device.Device.device_clear.Goals as goal
 

@@ -1,5 +1,5 @@
 use Rattle.sv_history.specs.Act.{link_acts}
-use Rattle.sv_server.proofs.Parts.{lock_ends}
+use Rattle.sv_server.proofs.OnDevice.Parts.{lock_ends}
 use Rattle.sv_server.proofs.device.Device.device_lock.Goals as goal
 
 pub returns-then-not-lock-clause-ends : goal.returns-then-not-lock-clause-ends

@@ -1,5 +1,5 @@
 use Rattle.sv_history.specs.Act.{link_acts}
-use Rattle.sv_server.proofs.Parts.{unlock_ends}
+use Rattle.sv_server.proofs.OnDevice.Parts.{unlock_ends}
 use Rattle.sv_server.proofs.device.Device.device_unlock.Goals as goal
 
 pub returns-then-not-unlock-clause-ends : goal.returns-then-not-unlock-clause-ends

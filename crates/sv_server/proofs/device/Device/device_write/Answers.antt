@@ -1,11 +1,11 @@
 use Rattle.std.proofs.Common.{sym, [], ◌∷◌}
 use Rattle.std.proofs.lemmas.Bool.{le-ltb}
 use Rattle.sv_history.specs.Act.{instrument_acts}
-use Rattle.sv_server.proofs.Turned.{flipped}
+use Rattle.sv_server.proofs.OnServer.Turned.{flipped}
 use Rattle.sv_exchange.specs.Exchange.{Accepted}
 use Rattle.sv_layers.specs.Act.{Exchanged}
-use Rattle.sv_server.proofs.Raising.{device_ran}
-use Rattle.sv_server.proofs.Calls.{written_ends}
+use Rattle.sv_server.proofs.OnDevice.Raising.{device_ran}
+use Rattle.sv_server.proofs.OnServer.Calls.{written_ends}
 use Rattle.sv_server.proofs.device.Device.device_write.Goals as goal
 
 pub returns-clause-ends : goal.returns-clause-ends

@@ -2,8 +2,8 @@ use Rattle.std.proofs.Common.{◌≤◌, length, sym}
 use Rattle.std.proofs.lemmas.Bool.{le-ltb}
 use Rattle.sv_history.specs.Act.{link_acts}
 use Rattle.sv_links.specs.Links.{owner}
-use Rattle.sv_server.proofs.Parts.{ready_same}
-use Rattle.sv_server.proofs.Channeled.{device_disabled, device_enabled, owner_is}
+use Rattle.sv_server.proofs.OnDevice.Parts.{ready_same}
+use Rattle.sv_server.proofs.OnDevice.Channeled.{device_disabled, device_enabled, owner_is}
 use Rattle.sv_server.proofs.device.Device.enable_srq.Goals as goal
 
 pub returns-then-not-enable-clause-ends : goal.returns-then-not-enable-clause-ends

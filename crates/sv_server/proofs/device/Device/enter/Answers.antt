@@ -1,5 +1,5 @@
 use Rattle.sv_history.specs.Act.{wait_acts}
-use Rattle.sv_server.proofs.Parts.{device_entered}
+use Rattle.sv_server.proofs.OnDevice.Parts.{device_entered}
 use Rattle.sv_server.proofs.device.Device.enter.Goals as goal
 
 pub returns-clause-stands : goal.returns-clause-stands

@@ -1,5 +1,5 @@
 use Rattle.sv_history.specs.Act.{instrument_acts}
-use Rattle.sv_server.proofs.Raising.{instrument_steps, idle_as}
+use Rattle.sv_server.proofs.OnDevice.Raising.{instrument_steps, idle_as}
 use Rattle.sv_instrument.specs.Step.{IsStep}
 use Rattle.sv_server.proofs.device.Device.exchange.Goals as goal
 

@@ -1,5 +1,5 @@
 use Rattle.sv_history.specs.Act.{instrument_acts}
-use Rattle.sv_server.proofs.Raising.{device_ran}
+use Rattle.sv_server.proofs.OnDevice.Raising.{device_ran}
 use Rattle.sv_instrument.specs.Stimulus.{external_acts}
 use Rattle.sv_server.proofs.device.Device.external.Goals as goal
 

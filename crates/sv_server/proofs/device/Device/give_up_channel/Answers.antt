@@ -1,6 +1,6 @@
 use Rattle.sv_history.specs.Act.{wait_acts}
-use Rattle.sv_server.proofs.Parts.{device_left}
-use Rattle.sv_server.proofs.Channeled.{device_left_same}
+use Rattle.sv_server.proofs.OnDevice.Parts.{device_left}
+use Rattle.sv_server.proofs.OnDevice.Channeled.{device_left_same}
 use Rattle.sv_server.proofs.device.Device.give_up_channel.Goals as goal
 
 pub returns-clause-stands : goal.returns-clause-stands

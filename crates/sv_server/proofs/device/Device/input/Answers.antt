@@ -1,6 +1,6 @@
 use Rattle.std.proofs.Common.{rules, [], ◌∷◌}
 use Rattle.sv_history.specs.Act.{instrument_acts}
-use Rattle.sv_server.proofs.Raising.{device_ran}
+use Rattle.sv_server.proofs.OnDevice.Raising.{device_ran}
 use Rattle.sv_scan.specs.declared.acts.ScanAct.TheVariants.{Input}
 use Rattle.sv_layers.specs.Act.{Scanned}
 use Rattle.sv_instrument.specs.Representation.{Ran}

@@ -2,8 +2,8 @@ use Rattle.std.proofs.Common.{◌∷◌}
 use Rattle.sv_vxi.specs.Reading.{plain_arguments}
 use Rattle.sv_links.specs.Waiting.{Left}
 use Rattle.sv_history.specs.Act.{Waited, wait_acts}
-use Rattle.sv_server.proofs.Parts.{device_left}
-use Rattle.sv_server.proofs.Granted.{granted_left}
+use Rattle.sv_server.proofs.OnDevice.Parts.{device_left}
+use Rattle.sv_server.proofs.OnDevice.Granted.{granted_left}
 use Rattle.sv_server.proofs.device.Device.leave.Goals as goal
 
 pub returns-clause-ends : goal.returns-clause-ends

@@ -1,5 +1,5 @@
 use Rattle.sv_history.specs.Act.{link_acts}
-use Rattle.sv_server.proofs.Parts.{lids_there, made_ends, not_refused}
+use Rattle.sv_server.proofs.OnDevice.Parts.{lids_there, made_ends, not_refused}
 use Rattle.sv_server.proofs.device.Device.make_free.Goals as goal
 
 pub returns-clause-ends : goal.returns-clause-ends

@@ -2,8 +2,8 @@ use Rattle.std.proofs.Common.{◌∙◌, ap, ◌∷◌}
 use Rattle.std.specs.Prelude.{not}
 use Rattle.sv_links.specs.Links.{Made, holder}
 use Rattle.sv_history.specs.Act.{link_acts}
-use Rattle.sv_server.proofs.Granted.{free_lock}
-use Rattle.sv_server.proofs.Parts.{lids_there, locked_ends, not_refused}
+use Rattle.sv_server.proofs.OnDevice.Granted.{free_lock}
+use Rattle.sv_server.proofs.OnDevice.Parts.{lids_there, locked_ends, not_refused}
 use Rattle.sv_server.proofs.device.Device.make_locked.Goals as goal
 
 pub returns-clause-ends : goal.returns-clause-ends

@@ -1,4 +1,4 @@
-use Rattle.sv_server.proofs.Parts.{device_none, queue_none}
+use Rattle.sv_server.proofs.OnDevice.Parts.{device_none, queue_none}
 use Rattle.sv_server.proofs.device.Device.new.Goals as goal
 
 pub returns-clause-stands : goal.returns-clause-stands

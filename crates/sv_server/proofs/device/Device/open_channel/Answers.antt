@@ -1,7 +1,7 @@
 use Rattle.sv_history.specs.Act.{wait_acts}
 use Rattle.sv_links.specs.Channels.{ChannelOpened}
-use Rattle.sv_server.proofs.Parts.{device_left}
-use Rattle.sv_server.proofs.Channeled.{device_opened}
+use Rattle.sv_server.proofs.OnDevice.Parts.{device_left}
+use Rattle.sv_server.proofs.OnDevice.Channeled.{device_opened}
 use Rattle.sv_server.proofs.device.Device.open_channel.Goals as goal
 
 pub returns-clause-stands : goal.returns-clause-stands

@@ -3,7 +3,7 @@ use Rattle.std.specs.Prelude.{Some}
 use Rattle.sv_vxi.specs.Reading.{plain_arguments}
 use Rattle.sv_history.specs.Refusing.{takes_memory}
 use Rattle.sv_history.specs.Admission.{Stop}
-use Rattle.sv_server.proofs.Granted.{own_device}
+use Rattle.sv_server.proofs.OnDevice.Granted.{own_device}
 use Rattle.sv_server.proofs.device.Device.own_stop.Goals as goal
 
 pub returns-in-CreateLink : goal.returns-in-CreateLink

@@ -1,7 +1,7 @@
 use Rattle.std.proofs.Common.{refl, inr}
 use Rattle.sv_history.specs.Act.{wait_acts}
-use Rattle.sv_server.proofs.Parts.{device_again}
-use Rattle.sv_server.proofs.Granted.{rank_other}
+use Rattle.sv_server.proofs.OnDevice.Parts.{device_again}
+use Rattle.sv_server.proofs.OnDevice.Granted.{rank_other}
 use Rattle.sv_server.proofs.device.Device.pass_lock.Goals as goal
 
 pub returns-in-Some-clause-resumes : goal.returns-in-Some-clause-resumes

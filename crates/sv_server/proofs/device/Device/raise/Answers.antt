@@ -1,7 +1,7 @@
 use Rattle.std.proofs.Common.{◌≡◌, ℕ, true, refl, sym, subst, ◌∙◌, arith}
 use Rattle.sv_links.specs.ChannelRepresentation.{AreChannels}
 use Rattle.sv_history.proofs.Telling.{requests, requests_one}
-use Rattle.sv_server.proofs.Raising.{Tolls, device_raised}
+use Rattle.sv_server.proofs.OnDevice.Raising.{Tolls, device_raised}
 use Rattle.sv_server.proofs.device.Device.raise.Goals as goal
 
 pub loop-init : goal.loop-init

@@ -1,6 +1,6 @@
 use Rattle.std.proofs.Common.{◌≡◌, ℕ}
 use Rattle.sv_links.specs.ChannelRepresentation.{IsReady}
-use Rattle.sv_server.proofs.Raising.{Tolls}
+use Rattle.sv_server.proofs.OnDevice.Raising.{Tolls}
 use Rattle.sv_server.proofs.device.Device.raise.Given as goal
 
 -- so many requests were told, and all else is as it was

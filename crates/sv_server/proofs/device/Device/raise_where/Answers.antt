@@ -1,5 +1,5 @@
 use Rattle.std.proofs.Common.{◌≡◌, ℕ, Some, sym, subst, ◌∙◌}
-use Rattle.sv_server.proofs.Raising.{RaisesInto}
+use Rattle.sv_server.proofs.OnDevice.Raising.{RaisesInto}
 use Rattle.sv_server.proofs.device.Device.raise_where.Goals as goal
 
 one_count : (a b : ℕ) → Some a ≡ Some b → a ≡ b

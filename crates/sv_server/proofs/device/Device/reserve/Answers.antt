@@ -5,8 +5,8 @@ use Rattle.sv_links.specs.Links.{live, lids_left}
 use Rattle.sv_links.specs.Waiting.{creating}
 use Rattle.sv_links.specs.Queue.{creations}
 use Rattle.sv_history.specs.Act.{link_acts, wait_acts}
-use Rattle.sv_server.proofs.Parts.{device_more}
-use Rattle.sv_server.proofs.Granted.{both_true, on_ok}
+use Rattle.sv_server.proofs.OnDevice.Parts.{device_more}
+use Rattle.sv_server.proofs.OnDevice.Granted.{both_true, on_ok}
 use Rattle.sv_server.proofs.device.Device.reserve.Goals as goal
 
 pub returns-clause-ok : goal.returns-clause-ok

@@ -1,6 +1,6 @@
 use Rattle.std.proofs.Common.{rules, inl, ◌∙◌}
 use Rattle.sv_vxi.specs.Reading.{plain_arguments}
-use Rattle.sv_server.proofs.Granted.{granted_start, start_wants, on_err}
+use Rattle.sv_server.proofs.OnDevice.Granted.{granted_start, start_wants, on_err}
 use Rattle.sv_server.proofs.device.Device.start.Goals as goal
 
 pub returns-in_err-reserve : goal.returns-in_err-reserve

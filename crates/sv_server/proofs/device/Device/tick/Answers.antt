@@ -1,8 +1,8 @@
 use Rattle.std.proofs.Common.{◌+◌, ◌∷◌, ◌≡◌, arith}
 use Rattle.sv_instrument.specs.Stimulus.{tick_acts}
 use Rattle.sv_history.specs.Act.{Ticked, instrument_acts, ticks}
-use Rattle.sv_server.specs.DeviceRepresentation.{Device}
-use Rattle.sv_server.proofs.Raising.{ran_raised}
+use Rattle.sv_server.specs.Device.Representation.{Device}
+use Rattle.sv_server.proofs.OnDevice.Raising.{ran_raised}
 use Rattle.sv_server.proofs.device.Device.tick.Goals as goal
 
 pub returns-clause-stands : goal.returns-clause-stands

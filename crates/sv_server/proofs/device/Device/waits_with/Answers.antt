@@ -1,6 +1,6 @@
 use Rattle.std.proofs.Common.{◌∙◌}
 use Rattle.sv_history.specs.Act.{wait_acts}
-use Rattle.sv_server.proofs.Granted.{waits_told}
+use Rattle.sv_server.proofs.OnDevice.Granted.{waits_told}
 use Rattle.sv_server.proofs.device.Device.waits_with.Goals as goal
 
 pub returns-in-Some : goal.returns-in-Some

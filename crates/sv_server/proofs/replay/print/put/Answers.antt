@@ -1,4 +1,4 @@
-use Rattle.sv_server.proofs.Taking.{took_more}
+use Rattle.sv_server.proofs.OnReplay.Taking.{took_more}
 use Rattle.sv_server.proofs.replay.print.put.Goals as goal
 
 pub loop-preserved : goal.loop-preserved

@@ -1,4 +1,4 @@
-use Rattle.sv_server.proofs.Taking.{hex_none, hex_more, hex_stop, halves}
+use Rattle.sv_server.proofs.OnReplay.Taking.{hex_none, hex_more, hex_stop, halves}
 use Rattle.sv_server.proofs.replay.print.put_hex.Goals as goal
 
 pub loop-rest-init : goal.loop-rest-init

@@ -1,7 +1,7 @@
 use Rattle.std.proofs.Common.{[], ◌∷◌, ◌++◌, sym}
 use Rattle.hex.specs.Hex.{encode_lower}
 use Rattle.sv_history.specs.Print.{port_name}
-use Rattle.sv_server.proofs.Taking.{takes_then, takes_stop, line_is}
+use Rattle.sv_server.proofs.OnReplay.Taking.{takes_then, takes_stop, line_is}
 use Rattle.sv_server.proofs.replay.print.put_line.Goals as goal
 
 pub returns-in_err-put_name : goal.returns-in_err-put_name

@@ -1,5 +1,5 @@
 use Rattle.std.proofs.Common.{[], ◌∷◌, decimal}
-use Rattle.sv_server.proofs.Taking.{takes_then, takes_stop}
+use Rattle.sv_server.proofs.OnReplay.Taking.{takes_then, takes_stop}
 use Rattle.sv_server.proofs.replay.print.put_name.Goals as goal
 
 pub returns-in_err-put-in-Conn : goal.returns-in_err-put-in-Conn

@@ -1,7 +1,7 @@
 use Rattle.std.proofs.Common.{[], ◌∷◌, ◌++◌, decimal}
 use Rattle.std.specs.Prelude.{codes}
 use Rattle.sv_history.specs.Print.{number}
-use Rattle.sv_server.proofs.Taking.{takes_then, takes_stop}
+use Rattle.sv_server.proofs.OnReplay.Taking.{takes_then, takes_stop}
 use Rattle.sv_server.proofs.replay.print.put_refusal.Goals as goal
 
 pub returns-in_err-put : goal.returns-in_err-put

@@ -1,5 +1,5 @@
 use Rattle.std.proofs.Common.{arith}
-use Rattle.sv_server.proofs.Going.{within_of}
+use Rattle.sv_server.proofs.OnServer.Going.{within_of}
 use Rattle.sv_server.proofs.server.Server.abort_call.Goals as goal
 
 pub returns-else-from-lt-CONNECTIONS : goal.returns-else-from-lt-CONNECTIONS

@@ -1,7 +1,7 @@
 use Rattle.std.proofs.Common.{rules, sym, subst}
 use Rattle.sv_history.specs.declared.event.Event.{Event}
 use Rattle.sv_history.specs.Event.{Input, plain}
-use Rattle.sv_server.specs.Inside.Acting.{Acts}
+use Rattle.sv_server.specs.Server.Inside.Acting.{Acts}
 use Rattle.sv_server.proofs.server.Server.act.Goals as goal
 
 pub returns-in-Input-clause-acts : goal.returns-in-Input-clause-acts

@@ -4,7 +4,7 @@ use Rattle.sv_history.specs.declared.event.Did.{Did}
 use Rattle.sv_history.specs.declared.event.Refused.{Refused}
 use Rattle.sv_history.specs.Event.{plain}
 use Rattle.sv_history.specs.History.{Answers}
-use Rattle.sv_server.proofs.Standing.{answered, passed_on, stands_after}
+use Rattle.sv_server.proofs.OnServer.Standing.{answered, passed_on, stands_after}
 use Rattle.sv_server.proofs.server.Server.apply.Goals as goal
 
 pub returns-in_err-did-clause-answers : goal.returns-in_err-did-clause-answers

@@ -1,7 +1,7 @@
 use Rattle.std.proofs.Common.{refl, sym, ◌∙◌, arith}
 use Rattle.std.proofs.lemmas.Bool.{le-ltb, lt-ltb}
 use Rattle.sv_history.specs.Act.{Piece, of}
-use Rattle.sv_server.proofs.Logs.{connection_of, open_is, shut_is, one_act}
+use Rattle.sv_server.proofs.OnServer.Logs.{connection_of, open_is, shut_is, one_act}
 use Rattle.sv_server.proofs.server.Server.bytes.Goals as goal
 
 pub returns-then-room-piece-clause-acts : goal.returns-then-room-piece-clause-acts

@@ -4,7 +4,7 @@ use Rattle.sv_links.specs.Links.{closing}
 use Rattle.sv_links.specs.Waiting.{Left}
 use Rattle.sv_links.specs.Channels.{ChannelClosed}
 use Rattle.sv_history.specs.Act.{PortClosed, Linked, Waited, Channel, On, OnDevice, of, device_acts, link_acts}
-use Rattle.sv_server.proofs.Logs.{connection_of, open_is, shut_is, closes}
+use Rattle.sv_server.proofs.OnServer.Logs.{connection_of, open_is, shut_is, closes}
 use Rattle.sv_server.proofs.server.Server.close.Goals as goal
 
 pub returns-clause-acts : goal.returns-clause-acts

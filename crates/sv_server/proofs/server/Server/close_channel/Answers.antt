@@ -1,8 +1,8 @@
 use Rattle.std.proofs.Common.{refl, sym, ◌∷◌, [], arith}
 use Rattle.sv_links.specs.Channels.{ChannelClosed}
 use Rattle.sv_history.specs.Act.{Channel, device_acts}
-use Rattle.sv_server.proofs.Logs.{shared_acts}
-use Rattle.sv_server.proofs.Channels.{channel_shut_is}
+use Rattle.sv_server.proofs.OnServer.Logs.{shared_acts}
+use Rattle.sv_server.proofs.OnDevice.Channels.{channel_shut_is}
 use Rattle.sv_server.proofs.server.Server.close_channel.Goals as goal
 
 pub returns-then-not-has_channel-clause-acts : goal.returns-then-not-has_channel-clause-acts

@@ -1,6 +1,6 @@
 use Rattle.std.proofs.Common.{ℕ, ap, ◌∙◌, arith}
 use Rattle.std.specs.Prelude.{slice_index_or}
-use Rattle.sv_server.proofs.Logs.{connection_of}
+use Rattle.sv_server.proofs.OnServer.Logs.{connection_of}
 use Rattle.sv_server.proofs.server.Server.connection.Goals as goal
 
 pub returns : goal.returns

@@ -2,7 +2,7 @@ use Rattle.std.proofs.Common.{◌≡◌, Some, None, sym, ap, ◌∙◌}
 use Rattle.sv_history.specs.Act.{of, device_acts}
 use Rattle.sv_history.specs.Connection.{unanswered}
 use Rattle.sv_history.specs.Interrupts.{dial_in}
-use Rattle.sv_server.proofs.Channels.{dial_is, no_dial}
+use Rattle.sv_server.proofs.OnDevice.Channels.{dial_is, no_dial}
 use Rattle.sv_server.proofs.server.Server.dial.Goals as goal
 
 pub returns-then-not-is_dialing : goal.returns-then-not-is_dialing

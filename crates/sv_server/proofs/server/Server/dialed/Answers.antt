@@ -1,9 +1,9 @@
 use Rattle.std.proofs.Common.{refl, sym, ap, ◌∙◌, arith}
 use Rattle.std.specs.Prelude.{is_some}
 use Rattle.sv_history.specs.Act.{of, device_acts, wait_acts}
-use Rattle.sv_server.proofs.Logs.{connection_of, open_is, shut_is}
-use Rattle.sv_server.proofs.Going.{taken_of, gave_up_stands}
-use Rattle.sv_server.proofs.Channels.{dialing_waits}
+use Rattle.sv_server.proofs.OnServer.Logs.{connection_of, open_is, shut_is}
+use Rattle.sv_server.proofs.OnServer.Going.{taken_of, gave_up_stands}
+use Rattle.sv_server.proofs.OnDevice.Channels.{dialing_waits}
 use Rattle.sv_server.proofs.server.Server.dialed.Goals as goal
 
 pub returns-then-not-is_dialing-clause-acts : goal.returns-then-not-is_dialing-clause-acts

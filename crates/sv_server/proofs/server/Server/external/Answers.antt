@@ -1,6 +1,6 @@
 use Rattle.std.proofs.Common.{refl}
 use Rattle.sv_history.specs.Act.{device_acts}
-use Rattle.sv_server.proofs.Logs.{shared_acts}
+use Rattle.sv_server.proofs.OnServer.Logs.{shared_acts}
 use Rattle.sv_server.proofs.server.Server.external.Goals as goal
 
 pub returns-clause-acts : goal.returns-clause-acts

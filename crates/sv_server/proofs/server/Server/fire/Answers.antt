@@ -1,6 +1,6 @@
 use Rattle.sv_instrument.specs.Stimulus.{IsFired}
 use Rattle.sv_history.specs.Act.{device_acts}
-use Rattle.sv_server.proofs.Going.{happens_step}
+use Rattle.sv_server.proofs.OnServer.Going.{happens_step}
 use Rattle.sv_server.proofs.server.Server.fire.Goals as goal
 
 pub returns-clause-steps : goal.returns-clause-steps

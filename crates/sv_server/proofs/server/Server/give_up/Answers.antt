@@ -1,8 +1,8 @@
 use Rattle.std.proofs.Common.{ap}
 use Rattle.std.specs.Prelude.{is_some}
 use Rattle.sv_history.specs.Act.{of, device_acts}
-use Rattle.sv_server.proofs.Logs.{connection_of}
-use Rattle.sv_server.proofs.Going.{taken_of, gave_up_stands}
+use Rattle.sv_server.proofs.OnServer.Logs.{connection_of}
+use Rattle.sv_server.proofs.OnServer.Going.{taken_of, gave_up_stands}
 use Rattle.sv_server.proofs.server.Server.give_up.Goals as goal
 
 pub returns-clause-stands : goal.returns-clause-stands

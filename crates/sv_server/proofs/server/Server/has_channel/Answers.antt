@@ -1,7 +1,7 @@
 use Rattle.std.proofs.Common.{sym, ap, arith, not, ◌∙◌}
 use Rattle.sv_history.specs.Act.{device_acts}
-use Rattle.sv_server.proofs.Logs.{not_not}
-use Rattle.sv_server.proofs.Channels.{channel_shut_is, channel_beyond}
+use Rattle.sv_server.proofs.OnServer.Logs.{not_not}
+use Rattle.sv_server.proofs.OnDevice.Channels.{channel_shut_is, channel_beyond}
 use Rattle.sv_server.proofs.server.Server.has_channel.Goals as goal
 
 pub returns-then-from-ge-CONNECTIONS : goal.returns-then-from-ge-CONNECTIONS

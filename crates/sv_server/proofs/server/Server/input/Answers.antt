@@ -4,11 +4,11 @@ use Rattle.sv_scan.specs.declared.acts.ScanAct.TheVariants.{Input}
 use Rattle.sv_layers.specs.Act.{Scanned}
 use Rattle.sv_history.specs.History.{is_beyond}
 use Rattle.sv_history.specs.Act.{Happened, device_acts}
-use Rattle.sv_server.specs.DeviceRepresentation.{IsDevice}
-use Rattle.sv_server.proofs.Logs.{shared_acts}
+use Rattle.sv_server.specs.Device.Representation.{IsDevice}
+use Rattle.sv_server.proofs.OnServer.Logs.{shared_acts}
 use Rattle.std.specs.Prelude.{Err}
-use Rattle.sv_server.specs.Inside.Acting.{IsInput}
-use Rattle.sv_server.proofs.Refusals.{input_refused}
+use Rattle.sv_server.specs.Server.Inside.Acting.{IsInput}
+use Rattle.sv_server.proofs.OnServer.Refusals.{input_refused}
 use Rattle.sv_server.proofs.server.Server.input.Goals as goal
 
 pub returns-in-Ok-clause-acts : goal.returns-in-Ok-clause-acts

@@ -1,5 +1,5 @@
 use Rattle.std.proofs.Common.{sym, ap}
-use Rattle.sv_server.proofs.Logs.{open_is, open_known}
+use Rattle.sv_server.proofs.OnServer.Logs.{open_is, open_known}
 use Rattle.sv_history.specs.Connection.{is_open}
 use Rattle.sv_server.proofs.server.Server.is_connected.Goals as goal
 

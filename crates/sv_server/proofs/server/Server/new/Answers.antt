@@ -1,5 +1,5 @@
 use Rattle.std.proofs.Common.{rules, [], refl}
-use Rattle.sv_server.proofs.Standing.{none_due}
+use Rattle.sv_server.proofs.OnServer.Standing.{none_due}
 use Rattle.sv_server.proofs.server.Server.new.Goals as goal
 
 pub returns : goal.returns

@@ -1,7 +1,7 @@
 use Rattle.std.proofs.Common.{refl, sym, ◌∙◌, arith}
 use Rattle.std.proofs.lemmas.Bool.{le-ltb}
 use Rattle.sv_history.specs.Act.{Opened, of}
-use Rattle.sv_server.proofs.Logs.{connection_of, open_is, one_act, none_taken}
+use Rattle.sv_server.proofs.OnServer.Logs.{connection_of, open_is, one_act, none_taken}
 use Rattle.sv_server.proofs.server.Server.open.Goals as goal
 
 pub returns-clause-acts : goal.returns-clause-acts

@@ -1,8 +1,8 @@
 use Rattle.std.proofs.Common.{sym, ap, ◌∙◌, arith}
 use Rattle.std.specs.Prelude.{is_some}
 use Rattle.sv_history.specs.Act.{of}
-use Rattle.sv_server.proofs.Logs.{connection_of, shut_is}
-use Rattle.sv_server.proofs.Refusals.{refuse_refused, refuse_done}
+use Rattle.sv_server.proofs.OnServer.Logs.{connection_of, shut_is}
+use Rattle.sv_server.proofs.OnServer.Refusals.{refuse_refused, refuse_done}
 use Rattle.sv_server.proofs.server.Server.refuse.Goals.{in-Ok, in-Err}
 use Rattle.sv_server.proofs.server.Server.refuse.Goals as goal
 

@@ -2,10 +2,10 @@ use Rattle.std.proofs.Common.{[], refl, sym}
 use Rattle.std.specs.Prelude.{Ok, Err}
 use Rattle.sv_history.specs.Event.{plain}
 use Rattle.sv_history.specs.Print.{refusal_line}
-use Rattle.sv_server.proofs.Taking.{appends_none}
+use Rattle.sv_server.proofs.OnReplay.Taking.{appends_none}
 use Rattle.sv_server.specs.declared.replay.ReplayFault.TheVariants.{Write}
-use Rattle.sv_server.proofs.Standing.{passed_on}
-use Rattle.sv_server.proofs.Replayed.{replay_shown, replay_stopped, replay_no_memory, other_refusal, is_that}
+use Rattle.sv_server.proofs.OnServer.Standing.{passed_on}
+use Rattle.sv_server.proofs.OnReplay.Replayed.{replay_shown, replay_stopped, replay_no_memory, other_refusal, is_that}
 use Rattle.sv_server.proofs.server.Server.replay.Goals as goal
 
 pub returns-in_err-show_all-in-Ok : goal.returns-in_err-show_all-in-Ok

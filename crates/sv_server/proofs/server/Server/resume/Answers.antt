@@ -1,10 +1,10 @@
 use Rattle.std.proofs.Common.{ap}
 use Rattle.std.specs.Prelude.{is_some}
 use Rattle.sv_history.specs.Act.{of, device_acts}
-use Rattle.sv_server.specs.State.{IsTaken}
-use Rattle.sv_server.proofs.Logs.{connection_of}
-use Rattle.sv_server.proofs.Taken.{taken_one}
-use Rattle.sv_server.proofs.Going.{went_on_stands, may_go_on}
+use Rattle.sv_server.specs.Server.State.{IsTaken}
+use Rattle.sv_server.proofs.OnServer.Logs.{connection_of}
+use Rattle.sv_server.proofs.OnServer.Taken.{taken_one}
+use Rattle.sv_server.proofs.OnServer.Going.{went_on_stands, may_go_on}
 use Rattle.sv_server.proofs.server.Server.resume.Goals as goal
 
 pub returns-clause-stands : goal.returns-clause-stands

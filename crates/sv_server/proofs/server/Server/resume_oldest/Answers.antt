@@ -1,6 +1,6 @@
 use Rattle.std.proofs.Common.{refl}
 use Rattle.sv_history.specs.Act.{device_acts}
-use Rattle.sv_server.proofs.Steps.{polled_now}
+use Rattle.sv_server.proofs.OnServer.Steps.{polled_now}
 use Rattle.sv_server.proofs.server.Server.resume_oldest.Goals as goal
 
 pub returns-in-Some-clause-steps : goal.returns-in-Some-clause-steps

@@ -1,6 +1,6 @@
 use Rattle.std.proofs.Common.{sym, arith}
 use Rattle.sv_history.specs.Act.{device_acts}
-use Rattle.sv_server.proofs.Channels.{none_beyond}
+use Rattle.sv_server.proofs.OnDevice.Channels.{none_beyond}
 use Rattle.sv_server.proofs.server.Server.sent.Goals as goal
 
 pub returns-then-from-ge-CONNECTIONS-clause-exact : goal.returns-then-from-ge-CONNECTIONS-clause-exact

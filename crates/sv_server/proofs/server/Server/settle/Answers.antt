@@ -1,4 +1,4 @@
-use Rattle.sv_server.proofs.Settled.{any_more, any_settled}
+use Rattle.sv_server.proofs.OnServer.Settled.{any_more, any_settled}
 use Rattle.sv_server.proofs.server.Server.settle.Goals as goal
 
 pub loop-preserved : goal.loop-preserved

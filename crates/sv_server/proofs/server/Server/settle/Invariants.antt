@@ -1,5 +1,5 @@
 use Rattle.sv_links.specs.Queue.{rank}
-use Rattle.sv_server.proofs.Settled.{AnyGone}
+use Rattle.sv_server.proofs.OnServer.Settled.{AnyGone}
 use Rattle.sv_server.proofs.server.Server.settle.Given as goal
 
 -- what the steps until now made of any log

@@ -1,6 +1,6 @@
 use Rattle.std.proofs.Common.{◌≡◌, ◌∙◌, true, false}
 use Rattle.sv_history.specs.Settling.{IsSettled}
-use Rattle.sv_server.proofs.Settled.{any_step, any_called, any_ended}
+use Rattle.sv_server.proofs.OnServer.Settled.{any_step, any_called, any_ended}
 use Rattle.sv_server.proofs.server.Server.settle_to_call.Goals as goal
 
 pub loop-preserved : goal.loop-preserved

@@ -1,6 +1,6 @@
 use Rattle.std.proofs.Common.{◌≡◌}
 use Rattle.sv_instrument.specs.Representation.{left_of}
-use Rattle.sv_server.proofs.Settled.{AnyGone}
+use Rattle.sv_server.proofs.OnServer.Settled.{AnyGone}
 use Rattle.sv_server.proofs.server.Server.settle_to_call.Given as goal
 
 -- what the steps until now made of any log, and that no call went on

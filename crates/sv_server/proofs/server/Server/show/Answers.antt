@@ -1,6 +1,6 @@
 use Rattle.sv_history.specs.Print.{port_line}
 use Rattle.std.proofs.Common.{List, ℕ, ap}
-use Rattle.sv_server.proofs.Shown.{stands_taken, nothing_shown, show_stopped}
+use Rattle.sv_server.proofs.OnReplay.Shown.{stands_taken, nothing_shown, show_stopped}
 use Rattle.sv_server.proofs.server.Server.show.Goals as goal
 
 pub returns-then-count-gt0 : goal.returns-then-count-gt0

@@ -1,6 +1,6 @@
 use Rattle.std.proofs.Common.{[], ◌+◌, arith}
-use Rattle.sv_server.proofs.Taking.{appends_none}
-use Rattle.sv_server.proofs.Ports.{so_far_none, so_far_more, so_far_all, so_far_stop}
+use Rattle.sv_server.proofs.OnReplay.Taking.{appends_none}
+use Rattle.sv_server.proofs.OnReplay.Ports.{so_far_none, so_far_more, so_far_all, so_far_stop}
 use Rattle.sv_server.proofs.server.Server.show_all.Goals as goal
 
 pub loop-number-init : goal.loop-number-init

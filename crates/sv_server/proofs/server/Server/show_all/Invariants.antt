@@ -4,8 +4,8 @@ use Rattle.sv_history.specs.declared.event.Config.{Config}
 use Rattle.sv_history.specs.Event.{PlainEvent}
 use Rattle.sv_links.specs.Channels.{ChannelAct}
 use Rattle.sv_history.specs.Act.{Act}
-use Rattle.sv_server.specs.Inside.Showing.{StandsBy}
-use Rattle.sv_server.proofs.Ports.{SoFar}
+use Rattle.sv_server.specs.Replay.Inside.Showing.{StandsBy}
+use Rattle.sv_server.proofs.OnReplay.Ports.{SoFar}
 use Rattle.sv_server.proofs.server.Server.show_all.Given as goal
 
 -- the lines of the ports below the number were written

@@ -1,6 +1,6 @@
 use Rattle.std.proofs.Common.{◌∙◌, refl, sym, ap, subst, inl, inr}
-use Rattle.sv_server.specs.State.{State, Represents}
-use Rattle.sv_server.proofs.Steps.{none_next}
+use Rattle.sv_server.specs.Server.State.{State, Represents}
+use Rattle.sv_server.proofs.OnServer.Steps.{none_next}
 use Rattle.sv_server.proofs.server.Server.step.Goals as goal
 
 pub returns-then-fire-clause-steps : goal.returns-then-fire-clause-steps

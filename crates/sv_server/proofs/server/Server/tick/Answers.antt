@@ -2,7 +2,7 @@ use Rattle.std.proofs.Common.{sym, refl}
 use Rattle.std.specs.Prelude.{map}
 use Rattle.sv_history.specs.Act.{Happened, device_acts, instrument_acts}
 use Rattle.sv_instrument.specs.Stimulus.{tick_acts}
-use Rattle.sv_server.proofs.Logs.{ticked}
+use Rattle.sv_server.proofs.OnServer.Logs.{ticked}
 use Rattle.sv_server.proofs.server.Server.tick.Goals as goal
 
 pub returns-clause-acts : goal.returns-clause-acts

@@ -2,7 +2,7 @@ use Rattle.std.proofs.Common.{length, refl, sym, ap, ◌∙◌, arith}
 use Rattle.std.proofs.lemmas.Bool.{le-ltb}
 use Rattle.sv_history.specs.Act.{BytesTaken, of}
 use Rattle.sv_history.specs.Connection.{waiting}
-use Rattle.sv_server.proofs.Logs.{connection_of, open_is, shut_is, one_act}
+use Rattle.sv_server.proofs.OnServer.Logs.{connection_of, open_is, shut_is, one_act}
 use Rattle.sv_server.proofs.server.Server.took.Goals as goal
 
 pub returns-clause-acts : goal.returns-clause-acts

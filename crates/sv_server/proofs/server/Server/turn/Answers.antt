@@ -1,7 +1,7 @@
 use Rattle.std.proofs.Common.{sym, ap, ◌∙◌, arith}
 use Rattle.std.specs.Prelude.{is_some}
-use Rattle.sv_server.proofs.Logs.{connection_of, shut_is}
-use Rattle.sv_server.proofs.Turning.{turn_refused, turn_idle, turn_done}
+use Rattle.sv_server.proofs.OnServer.Logs.{connection_of, shut_is}
+use Rattle.sv_server.proofs.OnServer.Turning.{turn_refused, turn_idle, turn_done}
 use Rattle.sv_server.proofs.server.Server.turn.Goals as goal
 
 pub returns-in-Err-clause-acts : goal.returns-in-Err-clause-acts

@@ -5,9 +5,9 @@ use Rattle.sv_history.specs.Act.{Replied}
 use Rattle.sv_history.specs.Effect.{result_reply}
 use Rattle.sv_history.specs.CoreCall.{lid_of}
 use Rattle.sv_history.specs.AbortChannel.{abort_result}
-use Rattle.sv_server.specs.Inside.Outcome.{plain_core_call}
-use Rattle.sv_server.proofs.Granted.{if_ok, on_err_then}
-use Rattle.sv_server.proofs.Calls.{outcome_ends, port_ends, holds_as}
+use Rattle.sv_server.specs.Device.Inside.Outcome.{plain_core_call}
+use Rattle.sv_server.proofs.OnDevice.Granted.{if_ok, on_err_then}
+use Rattle.sv_server.proofs.OnServer.Calls.{outcome_ends, port_ends, holds_as}
 use Rattle.sv_server.proofs.server.execution.execute.Goals as goal
 
 pub returns-in-NoCall : goal.returns-in-NoCall

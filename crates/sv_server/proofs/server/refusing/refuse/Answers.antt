@@ -5,10 +5,10 @@ use Rattle.sv_history.specs.Act.{Replied, CallTaken}
 use Rattle.sv_history.specs.Connection.{next_call, free}
 use Rattle.sv_history.specs.Effect.{result_reply}
 use Rattle.sv_history.specs.Refusing.{refusable}
-use Rattle.sv_server.specs.ConnectionRepresentation.{IsConnection}
-use Rattle.sv_server.specs.Inside.Outcome.{plain_core_call}
-use Rattle.sv_server.proofs.Turned.{flipped}
-use Rattle.sv_server.proofs.Refusals.{refusable_is, refused_not}
+use Rattle.sv_server.specs.Connection.Representation.{IsConnection}
+use Rattle.sv_server.specs.Device.Inside.Outcome.{plain_core_call}
+use Rattle.sv_server.proofs.OnServer.Turned.{flipped}
+use Rattle.sv_server.proofs.OnServer.Refusals.{refusable_is, refused_not}
 use Rattle.sv_server.proofs.server.refusing.refuse.Goals as goal
 
 pub returns-clause-acts : goal.returns-clause-acts

@@ -7,7 +7,7 @@ use Rattle.sv_history.specs.Connection.{unanswered}
 use Rattle.sv_history.specs.Request.{core_call_in}
 use Rattle.sv_history.specs.Interrupts.{dialed}
 use Rattle.sv_history.specs.Effect.{call_effect}
-use Rattle.sv_server.proofs.Calls.{outcome_ends, left_concludes}
+use Rattle.sv_server.proofs.OnServer.Calls.{outcome_ends, left_concludes}
 use Rattle.sv_server.proofs.server.resuming.dialed.Goals as goal
 
 pub returns-in_default-core_call-clause-concludes :

@@ -5,8 +5,8 @@ use Rattle.sv_history.specs.Act.{Replied, wait_acts}
 use Rattle.sv_history.specs.Connection.{unanswered}
 use Rattle.sv_history.specs.Request.{core_call_in}
 use Rattle.sv_history.specs.Effect.{result_reply}
-use Rattle.sv_server.specs.ConnectionRepresentation.{IsConnection}
-use Rattle.sv_server.proofs.Parts.{device_left}
+use Rattle.sv_server.specs.Connection.Representation.{IsConnection}
+use Rattle.sv_server.proofs.OnDevice.Parts.{device_left}
 use Rattle.sv_server.proofs.server.resuming.give_up.Goals as goal
 
 pub returns-in_default-core_call-clause-concludes :

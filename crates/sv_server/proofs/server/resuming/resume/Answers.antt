@@ -1,13 +1,13 @@
 use Rattle.std.proofs.Common.{◌≡◌, ◌∙◌, sym, ap, inl}
 use Rattle.std.specs.Prelude.{None}
-use Rattle.sv_server.specs.Inside.Outcome.{plain_core_call}
+use Rattle.sv_server.specs.Device.Inside.Outcome.{plain_core_call}
 use Rattle.sv_history.specs.Act.{wait_acts}
 use Rattle.sv_history.specs.Connection.{unanswered}
 use Rattle.sv_history.specs.Request.{core_call_in}
 use Rattle.sv_history.specs.Resuming.{next_wait}
-use Rattle.sv_server.proofs.Parts.{device_left}
-use Rattle.sv_server.proofs.Calls.{resumed_concludes, waits_on}
-use Rattle.sv_server.proofs.Granted.{may_make_link}
+use Rattle.sv_server.proofs.OnDevice.Parts.{device_left}
+use Rattle.sv_server.proofs.OnServer.Calls.{resumed_concludes, waits_on}
+use Rattle.sv_server.proofs.OnDevice.Granted.{may_make_link}
 use Rattle.sv_server.proofs.server.resuming.resume.Goals as goal
 
 pub returns-in_default-core_call-clause-concludes :

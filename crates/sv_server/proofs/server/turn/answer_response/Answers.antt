@@ -6,9 +6,9 @@ use Rattle.sv_layers.specs.Act.{Exchanged}
 use Rattle.sv_instrument.specs.Representation.{Ran}
 use Rattle.sv_history.specs.Act.{Replied, instrument_acts}
 use Rattle.sv_history.specs.Reply.{reply_record}
-use Rattle.sv_server.specs.ConnectionRepresentation.{IsConnection}
-use Rattle.sv_server.proofs.Turned.{read_is}
-use Rattle.sv_server.proofs.Raising.{device_ran}
+use Rattle.sv_server.specs.Connection.Representation.{IsConnection}
+use Rattle.sv_server.proofs.OnServer.Turned.{read_is}
+use Rattle.sv_server.proofs.OnDevice.Raising.{device_ran}
 use Rattle.sv_server.proofs.server.turn.answer_response.Goals as goal
 
 pub returns-clause-ends : goal.returns-clause-ends

@@ -1,6 +1,6 @@
 use Rattle.std.proofs.Common.{sym, subst}
 use Rattle.sv_history.specs.Effect.{Effect}
-use Rattle.sv_server.specs.Inside.Acting.{Concludes}
+use Rattle.sv_server.specs.Server.Inside.Acting.{Concludes}
 use Rattle.sv_server.proofs.server.turn.conclude.Goals as goal
 
 pub returns-in-NoCall-clause-ends : goal.returns-in-NoCall-clause-ends

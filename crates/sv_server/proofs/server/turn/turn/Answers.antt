@@ -2,8 +2,8 @@ use Rattle.std.proofs.Common.{rules, ◌≡◌, false, refl, sym, ap, ◌∙◌}
 use Rattle.std.specs.Prelude.{nat_lt, Some, is_none}
 use Rattle.sv_history.specs.Act.{of, device_acts}
 use Rattle.sv_history.specs.Connection.{next_call, free}
-use Rattle.sv_server.specs.Inside.Outcome.{plain_request}
-use Rattle.sv_server.proofs.Turned.{flipped, held_as, asks_for, refusal_none}
+use Rattle.sv_server.specs.Device.Inside.Outcome.{plain_request}
+use Rattle.sv_server.proofs.OnServer.Turned.{flipped, held_as, asks_for, refusal_none}
 use Rattle.sv_server.proofs.server.turn.turn.Goals as goal
 
 pub returns-in_default-execute-clause-acts : goal.returns-in_default-execute-clause-acts

@@ -1,0 +1,164 @@
+-- What is kept of a connection tells what its acts say.
+use Rattle.std.proofs.Common.{◌≡◌, ◌≢◌, ℕ, zero, suc, ◌≤◌, Bool, true, false, cond, eqb, List, [], ◌∷◌, ◌++◌, length, drop, Option, Some, None, refl, sym, ap, subst, ◌∙◌, arith, inl, inr, eq-eqb}
+use Rattle.std.specs.Prelude.{◌||◌, ◌&&◌, ◌-◌, slice_get, is_some, is_none, not, option_map, Result, Ok, Err}
+use Rattle.std.proofs.lemmas.Bool.{ne_eqb, cases_eq}
+use Rattle.std.specs.Borrow.{Bor}
+use Rattle.sv_rpc.specs.declared.record_buf.RpcFault.{RpcFault}
+use Rattle.sv_rpc.specs.declared.record_buf.RpcFault.TheVariants.{RecordTooLong}
+use Rattle.sv_rpc.specs.Record.{Tail, Header, Data, TooLong}
+use Rattle.sv_rpc.specs.RecordBuf.{room_of, used_by, next_among}
+use Rattle.sv_rpc.specs.Stream.{read, records_of, tail_of}
+use Rattle.sv_rpc.proofs.OneReading.{read_alone}
+use Rattle.sv_history.specs.Act.{ConnAct, CallTaken}
+use Rattle.sv_history.specs.Connection.{is_open, stream, completed, took_no_call, is_busy, next_call, is_idle, is_too_long, is_faulted, room}
+use Rattle.sv_server.specs.Connection.Representation.{Connection, IsConnection}
+use Rattle.sv_server.specs.Connection.Inside.NextCall.{kept_next}
+
+-- ---- lists
+
+abbrev none_left : List (List ℕ) → Bool
+none_left [] = true
+none_left (r ∷ rs) = false
+
+eqb_suc : (n m : ℕ) → eqb n m ≡ eqb (suc n) (suc m)
+eqb_suc n m = elim (cases_eq n m) [
+  | inl e ↦ rw (eq-eqb n m e, eq-eqb (suc n) (suc m) (ap suc e)) refl
+  | inr ne ↦
+      rw (ne_eqb n m ne, ne_eqb (suc n) (suc m) (λ e. ne (omega arith))) refl
+]
+
+-- nothing is left behind all of a list
+all_dropped : (xs : List (List ℕ)) (n : ℕ) → n ≤ length xs → none_left (drop n xs) ≡ eqb n (length xs)
+all_dropped [] zero h = refl
+all_dropped [] (suc n) h = absurd (omega arith)
+all_dropped (x ∷ xs) zero h = sym (ne_eqb 0 (length (x ∷ xs)) (λ e. absurd (omega arith)))
+all_dropped (x ∷ xs) (suc n) h = all_dropped xs n (omega arith) ∙ eqb_suc n (length xs)
+
+-- the first of what is left
+first_left : (xs : List (List ℕ)) (n : ℕ) → slice_get (drop n xs) 0 ≡ slice_get xs n
+first_left [] zero = refl
+first_left [] (suc n) = refl
+first_left (x ∷ xs) zero = refl
+first_left (x ∷ xs) (suc n) = first_left xs n
+
+-- more behind a list that isn't empty
+pub first_stays : (xs ys : List (List ℕ)) → xs ≢ [] → slice_get (xs ++ ys) 0 ≡ slice_get xs 0
+first_stays [] ys some = absurd (some refl)
+first_stays (x ∷ xs) ys some = refl
+
+pub some_stay : (xs ys zs : List (List ℕ)) → zs ≡ xs ++ ys → xs ≢ [] → zs ≢ []
+some_stay [] ys zs e some = absurd (some refl)
+some_stay (x ∷ xs) ys zs e some = λ none. absurd (let z = sym none ∙ e in cc)
+
+-- ---- the input
+
+pub records_are : (kept : Connection) (acts : List ConnAct) → IsConnection kept acts
+    → kept.input.records ≡ drop (completed acts) (records_of (stream acts))
+records_are kept acts is = is.input.kept ∙ ap (drop (completed acts))
+    (read_alone (stream acts) is.input.all kept.input.tail is.input.splits).0
+
+pub tail_is : (kept : Connection) (acts : List ConnAct) → IsConnection kept acts → kept.input.tail ≡ tail_of (stream acts)
+tail_is kept acts is = (read_alone (stream acts) is.input.all kept.input.tail is.input.splits).1
+
+few_ended : (kept : Connection) (acts : List ConnAct) → IsConnection kept acts → completed acts ≤ length (records_of (stream acts))
+few_ended kept acts is =
+    omega (arith, is.input.bounded, ap length (read_alone (stream acts) is.input.all kept.input.tail is.input.splits).0)
+
+-- the call to take next
+pub next_is : (kept : Connection) (acts : List ConnAct) → IsConnection kept acts → kept_next kept ≡ next_call acts
+next_is kept acts is =
+    ap (λ (b : Bool). cond (b || kept.busy) None (slice_get kept.input.records 0)) is.faulted
+    ∙ ap (λ (b : Bool). cond (took_no_call acts || b) None (slice_get kept.input.records 0)) is.busy
+    ∙ ap (cond (took_no_call acts || is_busy acts) None)
+    (ap (λ (rs : List (List ℕ)). slice_get rs 0) (records_are kept acts is) ∙ first_left (records_of (stream acts)) (completed acts))
+
+-- a fault that the buffer tells
+abbrev pub is_fault : Result (Option (List ℕ)) RpcFault → Bool
+is_fault (Ok found) = false
+is_fault (Err RecordTooLong) = true
+
+fault_among : (records : List (List ℕ)) (tail : Tail) → is_fault (next_among records tail) ≡ (is_too_long tail && none_left records)
+fault_among (r ∷ rs) (Header payload header) = refl
+fault_among (r ∷ rs) (Data payload missing last) = refl
+fault_among (r ∷ rs) TooLong = refl
+fault_among [] _ = refl
+
+turned : (a b : Bool) → (a || b) ≡ (b || a)
+turned true true = refl
+turned true false = refl
+turned false true = refl
+turned false false = refl
+
+-- whether it is faulted
+pub faulted_is : (kept : Connection) (acts : List ConnAct) → IsConnection kept acts
+    → (is_fault (next_among kept.input.records kept.input.tail) || kept.faulted) ≡ is_faulted acts
+faulted_is kept acts is =
+    let left : none_left kept.input.records ≡ eqb (completed acts) (length (records_of (stream acts))) =
+    ap none_left (records_are kept acts is) ∙ all_dropped (records_of (stream acts)) (completed acts) (few_ended kept acts is) in
+    turned (is_fault (next_among kept.input.records kept.input.tail)) kept.faulted
+    ∙ ap (λ (b : Bool). b || is_fault (next_among kept.input.records kept.input.tail)) is.faulted
+    ∙ ap (λ (b : Bool). took_no_call acts || b) (fault_among kept.input.records kept.input.tail
+    ∙ ap (λ (b : Bool). is_too_long kept.input.tail && b) left
+    ∙ ap (λ (t : Tail). is_too_long t && eqb (completed acts) (length (records_of (stream acts)))) (tail_is kept acts is))
+
+-- the one fault there is
+one_fault : (fault : RpcFault) (answer : Result (Option (List ℕ)) RpcFault) → answer ≡ Err fault → is_fault answer ≡ true
+one_fault RecordTooLong answer e = ap is_fault e
+
+pub faulted_told : (kept : Connection) (acts : List ConnAct) → IsConnection kept acts → (fault : RpcFault)
+    → next_among kept.input.records kept.input.tail ≡ Err fault → true ≡ is_faulted acts
+faulted_told kept acts is fault e =
+    sym (ap (λ (b : Bool). b || kept.faulted) (one_fault fault _ e)) ∙ faulted_is kept acts is
+
+-- how many bytes may come, where it is open
+pub room_is : (kept : Connection) (acts : List ConnAct) → IsConnection kept acts → is_some kept.role ≡ true → room_of kept.input ≡ room acts
+room_is kept acts is opened =
+    let open_now : is_open acts ≡ true = ap is_some (sym is.role) ∙ opened in
+    rw open_now (ap (λ (rs : List (List ℕ)). 16384 - used_by rs kept.input.tail) (records_are kept acts is)
+    ∙ ap (λ (t : Tail). 16384 - used_by (drop (completed acts) (records_of (stream acts))) t) (tail_is kept acts is))
+
+pub no_room : (kept : Connection) (acts : List ConnAct) → IsConnection kept acts → kept.role ≡ None → 0 ≡ room acts
+no_room kept acts is shut =
+    let shut_now : is_open acts ≡ false = ap is_some (sym is.role ∙ shut) in rw shut_now refl
+
+-- ---- a call that is taken
+
+not_none : (b : Bool) (found : Option (List ℕ)) (call : List ℕ) → cond b None found ≡ Some call → found ≡ Some call
+not_none true found call e = absurd cc
+not_none false found call e = e
+
+pub took_call : (kept : Connection) (acts : List ConnAct) (call : List ℕ) → IsConnection kept acts → next_call acts ≡ Some call
+    → IsConnection (record kept { busy = true }) (CallTaken call ∷ acts)
+took_call kept acts call is next = record {
+  role = is.role;
+  input = is.input;
+  output = is.output;
+  bounded = is.bounded;
+  faulted = is.faulted;
+  busy = refl;
+  call = λ busy. not_none (kept.faulted || kept.busy) _ call (next_is kept acts is ∙ next);
+}
+
+-- ---- a connection of which nothing is recorded
+
+empty_faulted : false ≡ is_faulted []
+unfolding read
+empty_faulted = refl
+
+empty_idle : false ≡ not (is_idle [])
+unfolding read
+empty_idle = refl
+
+pub nothing_faulted : (acts : List ConnAct) → acts ≡ [] → false ≡ is_faulted acts
+nothing_faulted acts none = subst (λ (l : List ConnAct). false ≡ is_faulted l) (sym none) empty_faulted
+
+pub nothing_idle : (acts : List ConnAct) → acts ≡ [] → false ≡ not (is_idle acts)
+nothing_idle acts none = subst (λ (l : List ConnAct). false ≡ not (is_idle l)) (sym none) empty_idle
+
+-- no call is told as none
+pub idle_told : (found : Option (Bor (List ℕ))) (none : Bool) (acts : List ConnAct) → is_some found ≡ not none
+    → option_map (λ call. call.now) found ≡ next_call acts → none ≡ is_idle acts
+idle_told None true acts told e = ap is_none e
+idle_told None false acts told e = absurd cc
+idle_told (Some call) true acts told e = absurd cc
+idle_told (Some call) false acts told e = ap is_none e

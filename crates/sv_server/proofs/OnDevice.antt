@@ -1,0 +1,8 @@
+-- Lemmas of the device, over what is kept of it.
+pub mod Effects
+pub mod Owned
+pub mod Raising
+pub mod Parts
+pub mod Channeled
+pub mod Granted
+pub mod Channels

@@ -1,0 +1,85 @@
+-- Interrupt channels, as ports.
+use Rattle.std.proofs.Common.{◌≡◌, ◌≢◌, ℕ, ◌<◌, ◌≤◌, not, Bool, true, false, cond, List, [], ◌∷◌, length, Option, Some, None, refl, sym, ap, subst, ◌∙◌, inl, inr, arith}
+use Rattle.std.specs.Prelude.{is_some}
+use Rattle.std.specs.List.{concat}
+use Rattle.std.proofs.lemmas.Bool.{lt-ltb, le-ltb, ne_eqb, cases_lt}
+use Rattle.sv_links.specs.declared.request.Peer.{Peer}
+use Rattle.sv_links.specs.Channels.{ChannelAct, ChannelTaken, is_channel_open, taken, calls, left_of, waiting as channel_waiting}
+use Rattle.sv_links.specs.ChannelRepresentation.{AreChannels}
+use Rattle.sv_history.specs.declared.event.Config.{Config}
+use Rattle.sv_history.specs.Act.{Act, DeviceAct, of, device_acts, wait_acts}
+use Rattle.sv_history.specs.Requests.{HearsOf}
+use Rattle.sv_history.specs.Interrupts.{has_channel, is_dial, is_dialing, dial_of, dial_in}
+use Rattle.sv_history.specs.Connection.{unanswered}
+use Rattle.sv_history.specs.Request.{core_call_in}
+use Rattle.sv_history.specs.declared.event.Refused.TheVariants.{NotSent}
+use Rattle.sv_links.specs.Waiting.{WaitAct, waits}
+use Rattle.sv_server.specs.Device.Representation.{Device as KeptDevice, IsDevice}
+use Rattle.sv_history.specs.History.{is_channel_shut, took_refusal}
+use Rattle.sv_history.proofs.Telling.{tells_once}
+
+-- what is kept of them, by what the acts tell
+channels_of : (kept : KeptDevice) (config : Config) (acts : List DeviceAct) (told : List ChannelAct) → IsDevice kept config acts
+    → HearsOf acts told → AreChannels kept.intr told
+channels_of kept config acts told is tells =
+    subst (λ (l : List ChannelAct). AreChannels kept.intr l) (tells_once acts is.6.0 told is.6.1 tells) is.6.2
+
+-- bytes wait on an open one alone
+waits_where : (open_now : Bool) (bytes : List ℕ) → 0 < length (cond open_now bytes []) → open_now ≡ true
+waits_where true bytes some = refl
+waits_where false bytes some = absurd (omega arith)
+
+waits_nowhere : (open_now : Bool) (bytes : List ℕ) → open_now ≡ false → cond open_now bytes [] ≡ []
+waits_nowhere open_now bytes shut = ap (λ (b : Bool). cond b bytes []) shut
+
+pub channel_open : (c : ℕ) (told : List ChannelAct) → 0 < length (channel_waiting c told) → is_channel_open c told ≡ true
+channel_open c told some = waits_where (is_channel_open c told) (concat (left_of (taken c told) (calls c told))) some
+
+-- and none is open whose number is above 15
+beyond_shut : (kept : KeptDevice) (config : Config) (acts : List DeviceAct) (told : List ChannelAct) (c : ℕ) → IsDevice kept config acts
+    → HearsOf acts told → 16 ≤ c → is_channel_open c told ≡ false
+beyond_shut kept config acts told c is tells above =
+    ap (λ (o : Option Peer). is_some o) ((channels_of kept config acts told is tells).beyond c above)
+
+pub none_beyond : (kept : KeptDevice) (config : Config) (acts : List DeviceAct) (told : List ChannelAct) (c : ℕ) → IsDevice kept config acts
+    → HearsOf acts told → 16 ≤ c → channel_waiting c told ≡ []
+none_beyond kept config acts told c is tells above =
+    waits_nowhere (is_channel_open c told) (concat (left_of (taken c told) (calls c told)))
+    (beyond_shut kept config acts told c is tells above)
+
+pub channel_within : (kept : KeptDevice) (config : Config) (acts : List DeviceAct) (told : List ChannelAct) (c : ℕ)
+    → IsDevice kept config acts → HearsOf acts told → is_channel_open c told ≡ true → c ≤ 15
+channel_within kept config acts told c is tells there = elim (cases_lt c 16) [
+  | inl below_it ↦ omega arith
+  | inr above ↦ absurd (let z : true ≡ false = sym there ∙ beyond_shut kept config acts told c is tells above in cc)
+]
+
+-- whether the channel of a number is shut
+pub channel_shut_is : (c : ℕ) (log : List Act) (b : Bool) → c < 16 → has_channel c (device_acts log) ≡ b → is_channel_shut c log ≡ not b
+channel_shut_is c log b lt e = rw (le-ltb 15 c (omega arith), e) refl
+
+pub channel_beyond : (c : ℕ) (log : List Act) → 16 ≤ c → is_channel_shut c log ≡ true
+channel_beyond c log above = rw (lt-ltb 15 c (omega arith)) refl
+
+-- what the peer took of another leaves one as it was
+pub took_other : (c d count : ℕ) (told : List ChannelAct) → d ≢ c → channel_waiting c (ChannelTaken d count ∷ told) ≡ channel_waiting c told
+took_other c d count told ne = rw (ne_eqb d c ne) refl
+
+-- so many of the bytes that wait can have been taken, or not
+pub took_refused : (count : ℕ) (bytes found : List ℕ) → found ≡ bytes → length found < count → took_refusal count bytes ≡ Some NotSent
+took_refused count bytes found same more = rw (← same, lt-ltb (length found) count more) refl
+
+pub took_allowed : (count : ℕ) (bytes found : List ℕ) → found ≡ bytes → count ≤ length found → took_refusal count bytes ≡ None
+took_allowed count bytes found same few = rw (← same, le-ltb (length found) count few) refl
+
+-- a create_intr_chan that waits for its peer waits
+pub dialing_waits : (c : ℕ) (acts : List WaitAct) → is_dialing c acts ≡ true → waits c acts ≡ None → ⊥
+dialing_waits c acts e none = absurd (let z : false ≡ true = sym (ap is_dial none) ∙ e in cc)
+
+-- whom it asks to be called
+pub dial_is : (c : ℕ) (log : List Act) (call : Option (List ℕ)) → is_dialing c (wait_acts (device_acts log)) ≡ true
+    → unanswered (of c log) ≡ call → dial_of c log ≡ dial_in (core_call_in call)
+dial_is c log call dialing known = rw dialing (ap (λ (found : Option (List ℕ)). dial_in (core_call_in found)) known)
+
+pub no_dial : (c : ℕ) (log : List Act) → is_dialing c (wait_acts (device_acts log)) ≡ false → dial_of c log ≡ None
+no_dial c log idle = rw idle refl

@@ -1,0 +1,278 @@
+-- What is known of a call by its arguments and by what stops it.
+use Rattle.std.proofs.Common.{◌≡◌, ℕ, ◌<◌, ◌&&◌, Bool, true, false, cond, suc, List, [], ◌∷◌, nat_lt, Option, Some, None, refl, sym, ap, subst, ◌∙◌, arith}
+use Rattle.std.specs.Prelude.{ℤ, pos, negsuc, not, ◌||◌, is_none, is_some, option_map, Result, Ok, Err, IfOk, OnOk, OnErr}
+use Rattle.sv_vxi.specs.declared.error_code.ErrorCode.{ErrorCode}
+use Rattle.sv_vxi.specs.declared.error_code.ErrorCode.TheVariants.{InvalidLink, ParameterError, NotAccessible, OutOfResources}
+use Rattle.sv_vxi.specs.declared.error_code.ErrorCode.TheVariants.{Locked as DeviceLocked}
+use Rattle.sv_vxi.specs.declared.arguments.LockWait.{LockWait}
+use Rattle.sv_vxi.specs.Arguments.{Arguments, CreateLink, CreateIntrChan, DestroyIntrChan, DeviceWrite, DeviceRead, link, lock_wait, io_timeout, is_create_link}
+use Rattle.sv_links.specs.declared.waiting.Entry.{Entry}
+use Rattle.sv_links.specs.declared.waiting.Wait.{Wait}
+use Rattle.sv_links.specs.declared.waiting.Wait.TheVariants.{Lock, Input, Response, Dial}
+use Rattle.sv_links.specs.Links.{holder, is_locked_out, is_this, lids_left}
+use Rattle.sv_links.specs.Waiting.{Entered, Left, creating, waits, link as link_of_wait, is_lock}
+use Rattle.sv_links.specs.Queue.{IsEntry, creations, without, rank_of}
+use Rattle.sv_history.specs.declared.event.Config.{Config}
+use Rattle.sv_history.specs.Act.{DeviceAct, Waited, link_acts, wait_acts}
+use Rattle.sv_history.specs.CoreCall.{lid_of, is_too_long}
+use Rattle.sv_history.specs.Interrupts.{channel_fault, dialing, has_channel}
+use Rattle.sv_history.specs.CoreChannel.{make_link}
+use Rattle.sv_history.specs.Admission.{Stop, Fails, Awaits, names_another, is_kept_out, lock_stop, device_wait, may_make_more, channel_stop, device_stop, own_stop, stop_of, admitted}
+use Rattle.sv_history.specs.AbortChannel.{waits_with}
+use Rattle.sv_history.specs.History.{wants_memory}
+use Rattle.sv_server.specs.Device.Representation.{Device, IsDevice, HasPlace}
+use Rattle.sv_server.specs.Device.Inside.Outcome.{IsGranted, MayMake, Admits, AdmitsAt}
+use Rattle.sv_server.specs.declared.device.call_outcome.CallOutcome.{CallOutcome as Outcome}
+use Rattle.sv_history.specs.Refusing.{takes_memory}
+
+pub both_true : (a b : Bool) → (a && b) ≡ true → (a ≡ true) × (b ≡ true)
+both_true true true e = (refl, refl)
+both_true true false e = absurd cc
+both_true false b e = absurd cc
+
+pub if_ok : {A E : Type 0} (r : Result A E) (P Q : A → Type 0) → IfOk r P → ((a : A) → P a → Q a) → IfOk r Q
+if_ok (Ok a) P Q p then = then a p
+if_ok (Err e) P Q p then = tt
+
+pub on_err_then : {A E : Type 0} (r : Result A E) (P Q : Type 0) → OnErr r P → (P → Q) → OnErr r Q
+on_err_then (Ok a) P Q p then = tt
+on_err_then (Err e) P Q p then = then p
+
+pub on_ok : {A E : Type 0} (r : Result A E) (P Q : Type 0) → OnOk r P → (P → Q) → OnOk r Q
+on_ok (Ok a) P Q p then = then p
+on_ok (Err e) P Q p then = tt
+
+pub on_err : {A E : Type 0} (r : Result A E) (P : Type 0) → P → OnErr r P
+on_err (Ok a) P p = tt
+on_err (Err e) P p = p
+
+-- ---- what may stop a create_link
+
+link_free : (named more asks locked : Bool) (timeout : ℕ)
+    → cond (not named) (Some (Fails NotAccessible)) (cond (not more) (Some (Fails OutOfResources))
+    (cond (asks && locked) (Some (Awaits Lock (Some timeout))) None)) ≡ None
+    → (more ≡ true) × (asks ≡ true → locked ≡ false)
+link_free false more asks locked timeout e = absurd cc
+link_free true false asks locked timeout e = absurd cc
+link_free true true true true timeout e = absurd cc
+link_free true true true false timeout e = (refl, λ _. refl)
+link_free true true false locked timeout e = (refl, λ z. absurd cc)
+
+link_waits : (named more asks locked : Bool) (timeout : ℕ) (wait : Wait) (until : Option ℕ)
+    → cond (not named) (Some (Fails NotAccessible)) (cond (not more) (Some (Fails OutOfResources))
+    (cond (asks && locked) (Some (Awaits Lock (Some timeout))) None)) ≡ Some (Awaits wait until)
+    → (more ≡ true) × (wait ≡ Lock)
+link_waits false more asks locked timeout wait until e = absurd cc
+link_waits true false asks locked timeout wait until e = absurd cc
+link_waits true true true true timeout wait until e = (refl, cc)
+link_waits true true true false timeout wait until e = absurd cc
+link_waits true true false locked timeout wait until e = absurd cc
+
+-- one that nothing stops has its place, and finds the lock free where it asks for it
+pub granted_start : (c : ℕ) (arguments : Arguments) (kept : Device) (acts : List DeviceAct) → stop_of c arguments acts ≡ None
+    → (is_create_link arguments ≡ true → may_make_more acts ≡ true → HasPlace kept acts) → IsGranted arguments kept acts
+granted_start c (CreateLink client_id lock_device lock_timeout device) kept acts free place =
+    let known = link_free _ (may_make_more acts) lock_device _ lock_timeout free in (place refl known.0, known.1)
+granted_start c _ kept acts free place = tt
+
+-- ---- what a call waits for
+
+-- one that has to wait names no link of another connection
+stop_named : (other : Bool) (rest : Option Stop) (wait : Wait) (until : Option ℕ)
+    → cond other (Some (Fails InvalidLink)) rest ≡ Some (Awaits wait until) → other ≡ false
+stop_named true rest wait until e = absurd cc
+stop_named false rest wait until e = refl
+
+named_some : (c : ℕ) (named : Option ℤ) (acts : List DeviceAct) → is_none named ≡ false → names_another c named acts ≡ false
+    → is_none (lid_of named) ≡ false
+named_some c None acts some own = absurd cc
+named_some c (Some (pos lid)) acts some own = refl
+named_some c (Some (negsuc n)) acts some own = absurd cc
+
+channel_waits : (fault : Option ErrorCode) (wait : Wait) (until : Option ℕ) → channel_stop fault ≡ Awaits wait until
+    → (fault ≡ None) × (wait ≡ Dial)
+channel_waits (Some error) wait until e = absurd cc
+channel_waits None wait until e = (refl, cc)
+
+some_stop : (a b : Stop) → Some a ≡ Some b → a ≡ b
+some_stop a b e = cc
+
+-- where it waits for the lock and isn't a create_link, it names a link
+names_link : (c : ℕ) (arguments : Arguments) (acts : List DeviceAct) (until : Option ℕ) → stop_of c arguments acts
+    ≡ Some (Awaits Lock until)
+    → is_create_link arguments ≡ false → is_none (link arguments) ≡ false
+names_link c (CreateLink client_id lock_device lock_timeout device) acts until e other = absurd cc
+names_link c (CreateIntrChan host_addr host_port prog_num prog_vers prog_family) acts until e other =
+    absurd (let z : Lock ≡ Dial = (channel_waits _ Lock until (some_stop _ _ e)).1 in cc)
+names_link c DestroyIntrChan acts until e other = absurd (let z : None ≡ Some (Awaits Lock until) = e in cc)
+names_link c _ acts until e other = refl
+
+lock_both : (wait : Wait) (b : Bool) → (is_lock (Some wait) && b) ≡ true → (wait ≡ Lock) × (b ≡ true)
+lock_both Lock b e = (refl, e)
+lock_both _ b e = absurd cc
+
+-- so one that waits for the lock and names none is a create_link, and may make a link
+pub lock_place : (c : ℕ) (arguments : Arguments) (acts : List DeviceAct) (wait : Wait) (until : Option ℕ)
+    → stop_of c arguments acts ≡ Some (Awaits wait until) → (is_lock (Some wait) && is_none (lid_of (link arguments))) ≡ true
+    → (is_create_link arguments ≡ true) × (may_make_more acts ≡ true)
+lock_place c (CreateLink client_id lock_device lock_timeout device) acts wait until e both =
+    (refl, (link_waits _ (may_make_more acts) lock_device _ lock_timeout wait until e).0)
+lock_place c arguments acts wait until e both =
+    let (is, none) = lock_both wait _ both in
+    let at : stop_of c arguments acts ≡ Some (Awaits Lock until) = e ∙ ap (λ (w : Wait). Some (Awaits w until)) is in
+    let some = named_some c (link arguments) acts (names_link c arguments acts until at refl)
+    (stop_named (names_another c (link arguments) acts) _ Lock until at) in
+    absurd (let z : true ≡ false = sym none ∙ some in cc)
+
+-- and a create_link waits for the lock as such
+pub link_lock : (c : ℕ) (arguments : Arguments) (acts : List DeviceAct) (wait : Wait) (until : Option ℕ)
+    → stop_of c arguments acts ≡ Some (Awaits wait until) → is_create_link arguments ≡ true
+    → (is_lock (Some wait) && is_none (lid_of (link arguments))) ≡ true
+link_lock c (CreateLink client_id lock_device lock_timeout device) acts wait until e makes =
+    rw (link_waits _ (may_make_more acts) lock_device _ lock_timeout wait until e).1 refl
+link_lock c _ acts wait until e makes = absurd (let z : false ≡ true = makes in cc)
+
+-- a create_intr_chan waits for its peer, and no other call does; it finds no channel open
+no_channel : (there : Bool) (host_addr host_port prog_family : ℕ) → channel_fault there host_addr host_port prog_family ≡ None
+    → there ≡ false
+no_channel true host_addr host_port prog_family e = absurd cc
+no_channel false host_addr host_port prog_family e = refl
+
+same_wait : (a b : Wait) (x y : Option ℕ) → Awaits a x ≡ Awaits b y → a ≡ b
+same_wait a b x y e = cc
+
+lock_never : (lock : Option LockWait) (until : Option ℕ) → lock_stop lock ≡ Awaits Dial until → ⊥
+lock_never None until e = cc
+lock_never (Some wait) until e = by wait.waits e
+  where
+    by : (waits : Bool) → cond waits (Awaits Lock (Some wait.timeout)) (Fails DeviceLocked) ≡ Awaits Dial until → ⊥
+    by true e = cc
+    by false e = cc
+
+dial_never : (other long out : Bool) (lock : Option LockWait) (wait : Option Wait) (timeout until : Option ℕ) → (wait ≡ Some Dial → ⊥)
+    → cond other (Some (Fails InvalidLink)) (cond long (Some (Fails ParameterError))
+    (cond out (Some (lock_stop lock)) (option_map (λ wait. Awaits wait timeout) wait))) ≡ Some (Awaits Dial until) → ⊥
+dial_never true long out lock wait timeout until never e = absurd cc
+dial_never false true out lock wait timeout until never e = absurd cc
+dial_never false false true lock wait timeout until never e = lock_never lock until (some_stop _ _ e)
+dial_never false false false lock None timeout until never e = absurd cc
+dial_never false false false lock (Some wait) timeout until never e =
+    never (ap (λ (w : Wait). Some w) (same_wait wait Dial timeout until (some_stop _ _ e)))
+
+one_of : (b : Bool) (a c : Option Wait) → (a ≡ Some Dial → ⊥) → (c ≡ Some Dial → ⊥) → cond b a c ≡ Some Dial → ⊥
+one_of true a c never other e = never e
+one_of false a c never other e = other e
+
+not_dial : (arguments : Arguments) (acts : List DeviceAct) → device_wait arguments acts ≡ Some Dial → ⊥
+not_dial (DeviceWrite lid timeout lock_timeout flags bytes) acts e = one_of _ (Some Input) None (λ z. cc) (λ z. cc) e
+not_dial (DeviceRead lid request_size timeout lock_timeout flags term_char) acts e = one_of _ None (Some Response) (λ z. cc) (λ z. cc) e
+not_dial _ acts e = absurd (let z : None ≡ Some Dial = e in cc)
+
+pub dials : (c : ℕ) (arguments : Arguments) (acts : List DeviceAct) (until : Option ℕ) → stop_of c arguments acts ≡ Some (Awaits Dial until)
+    → (has_channel c acts ≡ false) × (is_create_link arguments ≡ false)
+dials c (CreateLink client_id lock_device lock_timeout device) acts until e =
+    absurd (let z : Dial ≡ Lock = (link_waits _ (may_make_more acts) lock_device _ lock_timeout Dial until e).1 in cc)
+dials c (CreateIntrChan host_addr host_port prog_num prog_vers prog_family) acts until e =
+    (no_channel (has_channel c acts) host_addr host_port prog_family (channel_waits _ Dial until (some_stop _ _ e)).0, refl)
+dials c arguments acts until e = absurd (dial_never (names_another c (link arguments) acts) (is_too_long arguments)
+    (is_kept_out arguments acts) (lock_wait arguments) (device_wait arguments acts) (io_timeout arguments) until
+    (not_dial arguments acts) e)
+
+-- a call that is none of these is stopped by the device alone
+pub own_device : (c : ℕ) (arguments : Arguments) (acts : List DeviceAct) → takes_memory arguments ≡ false
+    → own_stop c arguments acts ≡ device_stop arguments acts
+own_device c (CreateLink client_id lock_device lock_timeout device) acts e = absurd cc
+own_device c (CreateIntrChan host_addr host_port prog_num prog_vers prog_family) acts e = absurd cc
+own_device c _ acts e = refl
+
+-- a call begins as what stops it says
+pub admits_as : (stop : Option Stop) {E : Type 0} (result : Result Outcome E) (c : ℕ) (arguments : Arguments) (old new : Device)
+    → ((config : Config) (acts : List DeviceAct) → IsDevice old config acts → stop_of c arguments acts ≡ stop)
+    → AdmitsAt stop result c arguments old new → Admits result c arguments old new
+admits_as stop {E} result c arguments old new is at = record {
+  does = λ config polled acts known. if_ok result _ _ (at.does config polled acts known) (λ outcome so always. so (is config acts known.0));
+  lacks = λ config polled acts known. on_err_then result _ _ (at.lacks config polled acts known)
+      (λ wants always. wants (is config acts known.0));
+  brief = at.brief;
+  err = at.err;
+}
+
+-- ---- a call that waited
+
+-- what waited for the lock as a create_link has its place
+pub granted_left : (arguments : Arguments) (kept : Device) (waiting : List Entry) (config : Config) (acts : List DeviceAct) (c : ℕ)
+    → IsDevice kept config acts → waiting ≡ without c kept.waiting → MayMake arguments c kept acts
+    → IsGranted arguments (record kept { waiting = waiting }) (Waited (Left c) ∷ acts)
+granted_left (CreateLink client_id lock_device lock_timeout device) kept waiting config acts c is left may =
+    rw left ((omega (arith, is.5.0, may.0), omega (arith, is.5.1, may.0)), λ asks. may.1)
+granted_left _ kept waiting config acts c is left may = tt
+
+-- whether a call makes a link tells what it may
+pub may_make_link : (arguments : Arguments) (kept : Device) (acts : List DeviceAct) (c : ℕ)
+    → (is_create_link arguments ≡ true
+    → (creations (without c kept.waiting) < creations kept.waiting) × (is_locked_out (holder (link_acts acts)) None ≡ false))
+    → MayMake arguments c kept acts
+may_make_link (CreateLink client_id lock_device lock_timeout device) kept acts c may = may refl
+may_make_link _ kept acts c may = tt
+
+-- what isn't waited for once more
+pub rank_other : (wait : Wait) → rank_of wait ≡ 1 → wait ≡ Lock → ⊥
+rank_other Lock e same = absurd cc
+rank_other _ e same = cc
+
+pub not_lock : (wait : Wait) (b : Bool) → rank_of wait ≡ 1 → (is_lock (Some wait) && b) ≡ true → ⊥
+not_lock Lock b e both = cc
+not_lock _ b e both = cc
+
+-- a lock that is free locks nobody out
+pub free_lock : (holder : Option ℕ) (lid : ℕ) → is_locked_out holder None ≡ false → is_locked_out holder (Some lid) ≡ false
+free_lock (Some other) lid e = absurd cc
+free_lock None lid e = refl
+
+-- a call that waits tells which link it names
+pub waits_told : (c lid : ℕ) (entry : Entry) (acts : List DeviceAct) → entry.conn ≡ c → IsEntry (wait_acts acts) entry
+    → is_this lid entry.lid ≡ waits_with c (Some lid) acts
+waits_told c lid entry acts same is =
+    subst (λ (d : ℕ). is_this lid entry.lid ≡ (is_some (waits d (wait_acts acts)) && is_this lid (link_of_wait d (wait_acts acts)))) same
+    (ap (λ (l : Option ℕ). is_this lid l) (sym is.2)
+    ∙ ap (λ (w : Option Wait). is_some w && is_this lid (link_of_wait entry.conn (wait_acts acts))) (sym is.0))
+
+-- a create_link that waits is one, and so is a create_intr_chan
+one_waits : (c : ℕ) (named until : Option ℕ) → c < 16
+    → (nat_lt 0 (creating (Entered c None Lock until ∷ [])) ≡ true) × (nat_lt 0 (dialing (Entered c named Dial until ∷ [])) ≡ true)
+one_waits (suc (suc (suc (suc (suc (suc (suc (suc (suc (suc (suc (suc (suc (suc (suc (suc n)))))))))))))))) named until lt = absurd
+    (omega (arith, lt))
+one_waits _ named until lt = (refl, refl)
+
+-- ---- what wants memory
+
+either : (a b : Bool) → b ≡ true → (a || b) ≡ true
+either true b e = refl
+either false b e = e
+
+first : (a b : Bool) → a ≡ true → (a || b) ≡ true
+first true b e = refl
+first false b e = absurd cc
+
+made_wants : (config : Config) (c : ℕ) (lock_device : Bool) (acts : List DeviceAct) → lids_left (link_acts acts) ≡ true
+    → wants_memory (make_link config c lock_device acts).adds ≡ true
+made_wants config c true acts left = rw left refl
+made_wants config c false acts left = rw left refl
+
+pub start_wants : (config : Config) (polled c : ℕ) (arguments : Arguments) (acts : List DeviceAct) → stop_of c arguments acts ≡ None
+    → is_create_link arguments ≡ true → wants_memory (admitted config polled c arguments None acts).adds ≡ true
+start_wants config polled c (CreateLink client_id lock_device lock_timeout device) acts free makes =
+    made_wants config c lock_device acts (both_true _ (lids_left (link_acts acts))
+    (link_free _ (may_make_more acts) lock_device _ lock_timeout
+    free).0).1
+start_wants config polled c _ acts free makes = absurd (let z : false ≡ true = makes in cc)
+
+pub lock_wants : (c : ℕ) (arguments : Arguments) (acts : List DeviceAct) (wait : Wait) (until deadline : Option ℕ) → c < 16
+    → stop_of c arguments acts ≡ Some (Awaits wait until) → is_create_link arguments ≡ true
+    → wants_memory (Waited (Entered c (lid_of (link arguments)) wait deadline) ∷ []) ≡ true
+lock_wants c (CreateLink client_id lock_device lock_timeout device) acts wait until deadline lt e makes =
+    rw (link_waits _ (may_make_more acts) lock_device _ lock_timeout wait until e).1 (first _ _ (one_waits c None deadline lt).0)
+lock_wants c _ acts wait until deadline lt e makes = absurd (let z : false ≡ true = makes in cc)
+
+pub dial_wants : (c : ℕ) (named deadline : Option ℕ) → c < 16 → wants_memory (Waited (Entered c named Dial deadline) ∷ []) ≡ true
+dial_wants c named deadline lt = either (nat_lt 0 (creating (Entered c named Dial deadline ∷ []))) _ (one_waits c named deadline lt).1

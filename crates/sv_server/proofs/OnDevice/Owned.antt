@@ -1,0 +1,237 @@
+-- The links that ask for service requests, over acts: each lives, on the connection that it is of.
+use Rattle.std.proofs.Common.{◌≡◌, ◌≢◌, ℕ, ◌<◌, ◌≤◌, Bool, true, false, eqb, List, [], ◌∷◌, ◌++◌, length, Option, Some, refl, sym, ap, ◌∙◌, arith, inl, inr, eq-eqb}
+use Rattle.std.specs.Prelude.{◌==◌, not, map, filter, find, option_map, reverse, nat_lt}
+use Rattle.std.specs.List.{AllByRecursion, list_any}
+use Rattle.std.proofs.lemmas.Bool.{ne_eqb, cases_Bool, cases_eq, eqb-true}
+use mathlib.Core.List.{reverse_aux}
+use Rattle.sv_links.specs.declared.links.Link.{Link}
+use Rattle.sv_links.specs.declared.enabled.Enabled.{Enabled}
+use Rattle.sv_links.specs.Links.{LinkAct, Made, Destroyed, live, owner, is_of, links_of, closing}
+use Rattle.sv_links.specs.Table.{IsRising}
+use Rattle.sv_links.specs.Channels.{ChannelAct, SrqDisabled}
+use Rattle.sv_links.specs.ChannelRepresentation.{IsSorted, disabled, of_others, below, above}
+use Rattle.sv_links.proofs.Asking.{sorted-filter}
+use Rattle.sv_links.proofs.Tables.{Below, above-filter, other_than}
+use Rattle.sv_history.specs.Act.{DeviceAct, Linked, link_acts}
+use Rattle.sv_server.specs.Device.Representation.{AreOwned}
+use Rattle.sv_history.specs.Requests.{HearsOf}
+
+-- what holds of all holds of those that pass a test, and may use that they do
+all_passing : (P Q : Enabled → Type 0) (test : Enabled → Bool) (links : List Enabled)
+    → ((link : Enabled) → test link ≡ true → P link → Q link) → AllByRecursion P links → AllByRecursion Q (filter test links)
+all_passing P Q test [] so h = tt
+all_passing P Q test (link ∷ links) so h = elim (cases_Bool (test link)) [
+  | inl e ↦ rw e (so link e h.0, all_passing P Q test links so h.1)
+  | inr e ↦ rw e (all_passing P Q test links so h.1)
+]
+
+all_join : (P : Enabled → Type 0) (links more : List Enabled) → AllByRecursion P links → AllByRecursion P more
+    → AllByRecursion P (links ++ more)
+all_join P [] more h k = k
+all_join P (link ∷ links) more h k = (h.0, all_join P links more h.1 k)
+
+all_of : (P Q : Enabled → Type 0) (links : List Enabled) → ((link : Enabled) → P link → Q link) → AllByRecursion P links
+    → AllByRecursion Q links
+all_of P Q [] so h = tt
+all_of P Q (link ∷ links) so h = (so link h.0, all_of P Q links so h.1)
+
+-- ---- the owner of a number among links
+
+abbrev owner_in : ℕ → List Link → Option ℕ
+owner_in lid xs = option_map (λ link. link.conn) (find (λ link. eqb link.lid lid) xs)
+
+-- more at the end leave it
+owner_push : (lid conn : ℕ) (xs ys : List Link) → owner_in lid xs ≡ Some conn → owner_in lid (xs ++ ys) ≡ Some conn
+owner_push lid conn [] ys h = absurd cc
+owner_push lid conn (x ∷ xs) ys h = elim (cases_Bool (eqb x.lid lid)) [
+  | inl e ↦ rw e (rw e at h)
+  | inr e ↦ rw e (owner_push lid conn xs ys (rw e at h))
+]
+
+-- so does a test that each link of this number passes
+owner_filter : (test : Link → Bool) (lid conn : ℕ) (xs : List Link) → ((x : Link) → x.lid ≡ lid → test x ≡ true)
+    → owner_in lid xs ≡ Some conn → owner_in lid (filter test xs) ≡ Some conn
+owner_filter test lid conn [] so h = absurd cc
+owner_filter test lid conn (x ∷ xs) so h = elim (cases_Bool (eqb x.lid lid)) [
+  | inl e ↦ rw (so x (eqb-true x.lid lid e), e) (rw e at h)
+  | inr e ↦ elim (cases_Bool (test x)) [
+    | inl k ↦ rw (k, e) (owner_filter test lid conn xs so (rw e at h))
+    | inr k ↦ rw k (owner_filter test lid conn xs so (rw e at h))
+  ]
+]
+
+owner_other : (gone lid conn : ℕ) (xs : List Link) → lid ≢ gone → owner_in lid xs ≡ Some conn
+    → owner_in lid (filter (other_than gone) xs) ≡ Some conn
+owner_other gone lid conn xs ne h =
+    owner_filter (other_than gone) lid conn xs (λ x e. rw (ne_eqb x.lid gone (λ k. ne (sym e ∙ k))) refl) h
+
+-- ---- what acts leave of it
+
+-- a link that is made leaves the owners of the others
+pub owned_made : (links : List Enabled) (acts : List LinkAct) (lid conn : ℕ) → AreOwned links acts → AreOwned links (Made lid conn ∷ acts)
+owned_made links acts lid conn owned = all_of (λ link. owner link.lid acts ≡ Some link.conn)
+    (λ link. owner link.lid (Made lid conn ∷ acts) ≡ Some link.conn) links
+    (λ link h. owner_push link.lid link.conn (live acts) (record { lid = lid; conn = conn } ∷ []) h) owned
+
+not_same : (a b : ℕ) → not (eqb a b) ≡ true → a ≢ b
+not_same a b e same = absurd (let z : not true ≡ true = rw (eq-eqb a b same) at e in cc)
+
+-- one that is destroyed leaves those of all others
+pub owned_destroyed : (links : List Enabled) (acts : List LinkAct) (lid : ℕ) → AreOwned links acts
+    → AreOwned (filter (λ other. not (other.lid == lid)) links) (Destroyed lid ∷ acts)
+owned_destroyed links acts lid owned = all_passing (λ link. owner link.lid acts ≡ Some link.conn)
+    (λ link. owner link.lid (Destroyed lid ∷ acts) ≡ Some link.conn) (λ other. not (eqb other.lid lid)) links
+    (λ link e h. owner_other lid link.lid link.conn (live acts) (not_same link.lid lid e) h) owned
+
+-- a link that begins to ask, of its own connection
+pub owned_enabled : (links : List Enabled) (acts : List LinkAct) (lid conn : ℕ) (handle : List ℕ) → AreOwned links acts
+    → owner lid acts ≡ Some conn → AreOwned (below lid links ++ record { lid = lid; conn = conn; handle = handle } ∷ above lid links) acts
+owned_enabled links acts lid conn handle owned own =
+    let P : Enabled → Type 0 = λ link. owner link.lid acts ≡ Some link.conn in
+    all_join P (below lid links) (record { lid = lid; conn = conn; handle = handle } ∷ above lid links)
+    (all_passing P P (λ other. nat_lt other.lid lid) links (λ link e h. h) owned)
+    (own, all_passing P P (λ other. nat_lt lid other.lid) links (λ link e h. h) owned)
+
+-- ---- a connection that is closed
+
+-- whether a number is one of these
+abbrev named : ℕ → List ℕ → Bool
+named lid numbers = list_any (λ number. eqb number lid) numbers
+
+none_named : (x : Link) (xs : List Link) → AllByRecursion (Below x) xs → named x.lid (map (λ link. link.lid) xs) ≡ false
+none_named x [] h = refl
+none_named x (y ∷ xs) h = rw (ne_eqb y.lid x.lid (λ e. absurd (omega (arith, h.0, e)))) (none_named x xs h.1)
+
+-- a number is one of a connection's exactly where that connection is its owner
+named_owner : (c lid : ℕ) (xs : List Link) (last : ℕ) → IsRising xs last
+    → named lid (map (λ link. link.lid) (filter (λ link. eqb link.conn c) xs)) ≡ is_of c (owner_in lid xs)
+named_owner c lid [] last r = refl
+named_owner c lid (x ∷ xs) last r = elim (cases_Bool (eqb x.lid lid)) [
+  | inl e ↦ elim (cases_Bool (eqb x.conn c)) [
+    | inl k ↦ rw (e, k, e) refl
+    | inr k ↦ rw (e, k) (rw (← eqb-true x.lid lid e)
+        (none_named x (filter (λ link. eqb link.conn c) xs) (above-filter (λ link. eqb link.conn c) x xs r.1)))
+  ]
+  | inr e ↦ elim (cases_Bool (eqb x.conn c)) [
+    | inl k ↦ rw (e, k, e) (named_owner c lid xs last r.2)
+    | inr k ↦ rw (e, k) (named_owner c lid xs last r.2)
+  ]
+]
+
+filter_all : (links : List Enabled) → filter (λ link. true) links ≡ links
+filter_all [] = refl
+filter_all (link ∷ links) = ap (λ (l : List Enabled). link ∷ l) (filter_all links)
+
+filter_agree : (p q : Enabled → Bool) (links : List Enabled) → AllByRecursion (λ link. p link ≡ q link) links
+    → filter p links ≡ filter q links
+filter_agree p q [] h = refl
+filter_agree p q (link ∷ links) h = elim (cases_Bool (q link)) [
+  | inl e ↦ rw (h.0, e) (ap (λ (l : List Enabled). link ∷ l) (filter_agree p q links h.1))
+  | inr e ↦ rw (h.0, e) (filter_agree p q links h.1)
+]
+
+-- one number more
+filter_more : (number : ℕ) (numbers : List ℕ) (links : List Enabled)
+    → filter (λ link. not (named link.lid numbers)) (filter (λ link. not (eqb link.lid number)) links)
+    ≡ filter (λ link. not (named link.lid (number ∷ numbers))) links
+filter_more number numbers [] = refl
+filter_more number numbers (link ∷ links) = elim (cases_eq number link.lid) [
+  | inl e ↦ rw (eq-eqb number link.lid e, eq-eqb link.lid number (sym e)) (filter_more number numbers links)
+  | inr ne ↦ elim (cases_Bool (named link.lid numbers)) [
+    | inl k ↦ rw (ne_eqb number link.lid ne, ne_eqb link.lid number (λ e. ne (sym e)), k) (filter_more number numbers links)
+    | inr k ↦ rw (ne_eqb number link.lid ne, ne_eqb link.lid number (λ e. ne (sym e)), k)
+        (ap (λ (l : List Enabled). link ∷ l) (filter_more number numbers links))
+  ]
+]
+
+disabled_named : (numbers behind : List ℕ) (links : List Enabled)
+    → disabled (reverse_aux numbers behind) links ≡ filter (λ link. not (named link.lid numbers)) (disabled behind links)
+disabled_named [] behind links = sym (filter_all (disabled behind links))
+disabled_named (number ∷ numbers) behind links =
+    disabled_named numbers (number ∷ behind) links ∙ filter_more number numbers (disabled behind links)
+
+-- without the numbers of a connection's links, those of the others are left
+pub closed_disabled : (links : List Enabled) (acts : List LinkAct) (c last : ℕ) → IsRising (live acts) last → AreOwned links acts
+    → disabled (reverse (links_of c acts)) links ≡ of_others c links
+closed_disabled links acts c last rising owned = disabled_named (links_of c acts) [] links
+    ∙ filter_agree (λ link. not (named link.lid (links_of c acts))) (λ link. not (eqb link.conn c)) links
+    (all_of (λ link. owner link.lid acts ≡ Some link.conn)
+    (λ link. not (named link.lid (links_of c acts)) ≡ not (eqb link.conn c)) links
+    (λ link h. ap (λ (b : Bool). not b) (named_owner c link.lid (live acts) last rising ∙ ap (is_of c) h)) owned)
+
+-- the numbers, each made an act, in either order
+destroyed_reverse : (numbers behind : List ℕ) → reverse_aux (map Destroyed numbers) (map Destroyed behind)
+    ≡ map Destroyed (reverse_aux numbers behind)
+destroyed_reverse [] behind = refl
+destroyed_reverse (number ∷ numbers) behind = destroyed_reverse numbers (number ∷ behind)
+
+closing_numbers : (c : ℕ) (acts : List LinkAct) → closing c acts ≡ map Destroyed (reverse (links_of c acts))
+closing_numbers c acts = destroyed_reverse (links_of c acts) []
+
+owned_gone : (numbers : List ℕ) (links : List Enabled) (acts : List LinkAct) → AreOwned links acts
+    → AreOwned (disabled numbers links) (map Destroyed numbers ++ acts)
+owned_gone [] links acts owned = owned
+owned_gone (number ∷ numbers) links acts owned =
+    owned_destroyed (disabled numbers links) (map Destroyed numbers ++ acts) number (owned_gone numbers links acts owned)
+
+-- the closing of a connection leaves the owners of the others' links
+pub owned_closed : (links : List Enabled) (acts : List LinkAct) (c last : ℕ) → IsRising (live acts) last → AreOwned links acts
+    → AreOwned (of_others c links) (closing c acts ++ acts)
+owned_closed links acts c last rising owned = rw (← closed_disabled links acts c last rising owned, closing_numbers c acts)
+    (owned_gone (reverse (links_of c acts)) links acts owned)
+
+tells_gone : (numbers : List ℕ) (acts : List DeviceAct) (told : List ChannelAct) → HearsOf acts told
+    → HearsOf (map Linked (map Destroyed numbers) ++ acts) (map SrqDisabled numbers ++ told)
+tells_gone [] acts told tells = tells
+tells_gone (number ∷ numbers) acts told tells = (map SrqDisabled numbers ++ told, tells_gone numbers acts told tells, refl)
+
+-- and tells that each of its links asks no more
+pub tells_closed : (c : ℕ) (acts : List DeviceAct) (told : List ChannelAct) → HearsOf acts told
+    → HearsOf (map Linked (closing c (link_acts acts)) ++ acts) (map SrqDisabled (reverse (links_of c (link_acts acts))) ++ told)
+tells_closed c acts told tells = rw (closing_numbers c (link_acts acts))
+    (tells_gone (reverse (links_of c (link_acts acts))) acts told tells)
+
+-- ---- how many there are
+
+no_more : (test : Link → Bool) (xs : List Link) → length (filter test xs) ≤ length xs
+no_more test [] = omega arith
+no_more test (x ∷ xs) = elim (cases_Bool (test x)) [
+  | inl e ↦ rw e (omega (arith, no_more test xs))
+  | inr e ↦ rw e (omega (arith, no_more test xs))
+]
+
+-- without a link that is there they are fewer
+fewer : (lid conn : ℕ) (xs : List Link) → owner_in lid xs ≡ Some conn → length (filter (other_than lid) xs) < length xs
+fewer lid conn [] h = absurd cc
+fewer lid conn (x ∷ xs) h = elim (cases_Bool (eqb x.lid lid)) [
+  | inl e ↦ rw e (omega (arith, no_more (other_than lid) xs))
+  | inr e ↦ rw e (omega (arith, fewer lid conn xs (rw e at h)))
+]
+
+owned_above : (lid : ℕ) (xs : List Link) (links : List Enabled) → AllByRecursion (λ other. lid < other.lid) links
+    → AllByRecursion (λ link. owner_in link.lid xs ≡ Some link.conn) links
+    → AllByRecursion (λ link. owner_in link.lid (filter (other_than lid) xs) ≡ Some link.conn) links
+owned_above lid xs [] high owned = tt
+owned_above lid xs (link ∷ links) high owned = (
+  owner_other lid link.lid link.conn xs (λ e. absurd (omega (arith, e, high.0))) owned.0,
+  owned_above lid xs links high.1 owned.1,
+)
+
+-- links that live and differ are no more than live
+no_more_than : (links : List Enabled) (xs : List Link) → IsSorted links
+    → AllByRecursion (λ link. owner_in link.lid xs ≡ Some link.conn) links → length links ≤ length xs
+no_more_than [] xs sorted owned = omega arith
+no_more_than (link ∷ links) xs sorted owned = omega (
+  arith,
+  no_more_than links (filter (other_than link.lid) xs) sorted.1 (owned_above link.lid xs links sorted.0 owned.1),
+  fewer link.lid link.conn xs owned.0,
+)
+
+-- one of 32 live links has room to ask
+pub room_for : (links : List Enabled) (acts : List LinkAct) (lid conn : ℕ) → IsSorted links → AreOwned links acts
+    → owner lid acts ≡ Some conn → length (live acts) ≤ 32 → length (filter (λ other. not (other.lid == lid)) links) < 32
+room_for links acts lid conn sorted owned own within =
+    let left : length (filter (λ (other : Enabled). not (eqb other.lid lid)) links) ≤ length (filter (other_than lid) (live acts))
+    = no_more_than (filter (λ other. not (eqb other.lid lid)) links) (filter (other_than lid) (live acts))
+    (sorted-filter (λ other. not (eqb other.lid lid)) links sorted) (owned_destroyed links acts lid owned) in
+    omega (arith, left, fewer lid conn (live acts) own, within)

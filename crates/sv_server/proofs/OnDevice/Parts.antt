@@ -1,0 +1,329 @@
+-- What all connections share, over acts of links and of calls that wait.
+use Rattle.std.proofs.Common.{◌≡◌, ◌≢◌, ℕ, ◌+◌, ◌≤◌, Bool, true, false, List, [], ◌∷◌, ◌++◌, length, Option, Some, None, refl, sym, ap, subst, ◌∙◌, inl, inr, arith, eq-eqb}
+use Rattle.std.specs.Prelude.{map, filter, reverse, not, ◌==◌, ◌&&◌, pos, nat_lt, option_map, slice_index_or, if◌then◌else◌, Result, Ok, Err}
+use Rattle.std.proofs.lemmas.Bool.{cases_Bool, cases_eq, ne_eqb}
+use Rattle.std.proofs.lemmas.List.{length-append}
+use Rattle.sv_links.specs.declared.waiting.Entry.{Entry}
+use Rattle.sv_links.specs.declared.waiting.Wait.{Wait}
+use Rattle.sv_vxi.specs.declared.error_code.ErrorCode.TheVariants.{NoError, NoLock}
+use Rattle.sv_vxi.specs.declared.error_code.ErrorCode.TheVariants.{Locked as DeviceLocked}
+use Rattle.sv_vxi.specs.Results.{Outcome, Link, Plain}
+use Rattle.sv_links.specs.Links.{LinkAct, Made, Destroyed, Locked, Unlocked, live, links_of, closing, made, lids_left, may_make, holder, is_locked_out, is_this}
+use Rattle.sv_links.specs.declared.links.CreateRefused.{CreateRefused}
+use Rattle.sv_links.specs.declared.links.CreateRefused.TheVariants.{OutOfResources}
+use Rattle.sv_links.specs.Table.{Table, IsTable, IsRising}
+use Rattle.sv_links.specs.declared.enabled.Enabled.{Enabled}
+use Rattle.sv_links.specs.Channels.{ChannelAct, SrqDisabled}
+use Rattle.sv_links.specs.ChannelRepresentation.{Channels, Channel, AreChannels, IsReady, is_prepared, disabled, of_others}
+use Rattle.sv_links.proofs.Rising.{enabled-disabled}
+use Rattle.sv_links.specs.Waiting.{WaitAct, Entered, Again, Left, waits}
+use Rattle.sv_links.specs.Queue.{IsQueue, creates, creations, without}
+use Rattle.sv_links.proofs.Counted.{creations-without, creations-push, creations-other}
+use Rattle.sv_links.proofs.Live.{closing-live, destroyed-live}
+use Rattle.sv_history.specs.declared.event.Config.{Config}
+use Rattle.sv_history.specs.Act.{DeviceAct, Linked, Waited, link_acts, wait_acts}
+use Rattle.sv_instrument.specs.Representation.{Kept, StandsFor}
+use Rattle.sv_history.specs.CoreChannel.{make_link, device_lock, device_unlock}
+use Rattle.sv_server.specs.Device.Representation.{Device, IsDevice, HasPlace, AreTold, AreOwned, AreReady}
+use Rattle.sv_history.specs.Requests.{link_told}
+use Rattle.sv_history.specs.Interrupts.{is_dial, is_dialing}
+use Rattle.sv_history.proofs.Projections.{link_acts-links}
+use Rattle.sv_server.specs.Device.Inside.Outcome.{IsResult}
+use Rattle.sv_server.proofs.OnDevice.Effects.{device_linked}
+use Rattle.sv_server.proofs.OnDevice.Owned.{owned_made, owned_destroyed, owned_closed, closed_disabled, tells_closed}
+
+-- ---- calls that wait
+
+-- a create_intr_chan waits for its peer where it did, or begins to
+pub dials_left : (c d : ℕ) (acts : List WaitAct) → is_dialing d (Left c ∷ acts) ≡ true → (is_dialing d acts ≡ true) × (d ≢ c)
+dials_left c d acts dials = elim (cases_eq c d) [
+  | inl e ↦ absurd (let z : false ≡ true = rw (eq-eqb c d e) at dials in cc)
+  | inr ne ↦ (rw (ne_eqb c d ne) at dials, λ e. ne (sym e))
+]
+
+pub dials_entered : (c d : ℕ) (named : Option ℕ) (wait : Wait) (deadline : Option ℕ) (acts : List WaitAct) → is_dial (Some wait) ≡ false
+    → is_dialing d (Entered c named wait deadline ∷ acts) ≡ true → is_dialing d acts ≡ true
+dials_entered c d named wait deadline acts other dials = elim (cases_eq c d) [
+  | inl e ↦ absurd (let z : is_dial (Some wait) ≡ true = rw (eq-eqb c d e) at dials in let y : false ≡ true = sym other ∙ z in cc)
+  | inr ne ↦ rw (ne_eqb c d ne) at dials
+]
+
+again_other : (wait : Wait) (before : Option Wait) → is_dial (Some wait) ≡ false → is_dial (option_map (λ (w : Wait). wait) before) ≡ false
+again_other wait (Some before) other = other
+again_other wait None other = refl
+
+pub dials_again : (c d : ℕ) (wait : Wait) (deadline : Option ℕ) (acts : List WaitAct) → is_dial (Some wait) ≡ false
+    → is_dialing d (Again c wait deadline ∷ acts) ≡ true → is_dialing d acts ≡ true
+dials_again c d wait deadline acts other dials = elim (cases_eq c d) [
+  | inl e ↦ absurd (let z : is_dial (option_map (λ (w : Wait). wait) (waits d acts)) ≡ true = rw (eq-eqb c d e) at dials in
+      let y : false ≡ true = sym (again_other wait (waits d acts) other) ∙ z in cc)
+  | inr ne ↦ rw (ne_eqb c d ne) at dials
+]
+
+fewer_left : (c : ℕ) (old new : List Entry) → new ≡ without c old → creations new ≤ creations old
+fewer_left c old new e = rw e (creations-without c old)
+
+pub device_left : (kept : Device) (waiting : List Entry) (config : Config) (acts : List DeviceAct) (c : ℕ)
+    → IsDevice kept config acts → IsQueue waiting (Left c ∷ wait_acts acts) → waiting ≡ without c kept.waiting
+    → IsDevice (record kept { waiting = waiting }) config (Waited (Left c) ∷ acts)
+device_left kept waiting config acts c (links, instrument, set_up, clock, before, reserved, told, ready) queue is =
+    let less = fewer_left c kept.waiting waiting is in (
+      links,
+      instrument,
+      set_up,
+      clock,
+      queue,
+      (omega (arith, reserved.0, less), omega (arith, reserved.1, less)),
+      told,
+      λ d dials. ready d (dials_left c d (wait_acts acts) dials).0,
+    )
+
+entered_fewer : (entry : Entry) (old new : List Entry) → new ≡ without entry.conn old ++ entry ∷ [] → creations new ≤ creations old + 1
+entered_fewer entry old new e =
+    rw e (omega (arith, creations-push (without entry.conn old) entry, creations-without entry.conn old))
+
+pub entered_other : (entry : Entry) (old new : List Entry) → new ≡ without entry.conn old ++ entry ∷ [] → creates entry ≡ false
+    → creations new ≤ creations old
+entered_other entry old new e other =
+    rw e (omega (arith, creations-other (without entry.conn old) entry other, creations-without entry.conn old))
+
+pub device_entered : (kept : Device) (waiting : List Entry) (config : Config) (acts : List DeviceAct) (entry : Entry)
+    → IsDevice kept config acts → IsQueue waiting (Entered entry.conn entry.lid entry.wait entry.deadline ∷ wait_acts acts)
+    → waiting ≡ without entry.conn kept.waiting ++ entry ∷ [] → (creates entry ≡ true → HasPlace kept acts)
+    → is_dial (Some entry.wait) ≡ false
+    → IsDevice (record kept { waiting = waiting }) config (Waited (Entered entry.conn entry.lid entry.wait entry.deadline) ∷ acts)
+device_entered kept waiting config acts entry (links, instrument, set_up, clock, before, reserved, told, was) queue is place other =
+    let ready : AreReady kept.intr (Entered entry.conn entry.lid entry.wait entry.deadline ∷ wait_acts acts) =
+    λ d dials. was d (dials_entered entry.conn d entry.lid entry.wait entry.deadline (wait_acts acts) other dials) in
+    elim (cases_Bool (creates entry)) [
+      | inl e ↦
+          let more = entered_fewer entry kept.waiting waiting is in
+          let there = place e in
+          (links, instrument, set_up, clock, queue, (omega (arith, there.0, more), omega (arith, there.1, more)), told, ready)
+      | inr e ↦
+          let less = entered_other entry kept.waiting waiting is e in
+          (links, instrument, set_up, clock, queue, (omega (arith, reserved.0, less), omega (arith, reserved.1, less)), told, ready)
+    ]
+
+pub device_again : (kept : Device) (waiting : List Entry) (config : Config) (acts : List DeviceAct) (c : ℕ) (wait : Wait)
+    (deadline : Option ℕ)
+    → IsDevice kept config acts → IsQueue waiting (Again c wait deadline ∷ wait_acts acts)
+    → creations waiting ≤ creations (without c kept.waiting) → is_dial (Some wait) ≡ false
+    → IsDevice (record kept { waiting = waiting }) config (Waited (Again c wait deadline) ∷ acts)
+device_again kept waiting config acts c wait deadline (links, instrument, set_up, clock, before, reserved, told, ready) queue fewer other =
+    let less = creations-without c kept.waiting in (
+      links,
+      instrument,
+      set_up,
+      clock,
+      queue,
+      (omega (arith, reserved.0, fewer, less), omega (arith, reserved.1, fewer, less)),
+      told,
+      λ d dials. ready d (dials_again c d wait deadline (wait_acts acts) other dials),
+    )
+
+-- ---- links
+
+-- the same channels are prepared
+pub ready_same : (old new : Channels) → new.channels ≡ old.channels → (c : ℕ) → IsReady old c → IsReady new c
+ready_same old new same c ready =
+    λ other. ap (λ (xs : List Channel). is_prepared (slice_index_or xs c other).stage) same ∙ ready other
+
+-- where the same was told, a link more or a lock changes nothing of those that ask
+told_as_before : (intr : Channels) (acts : List DeviceAct) (act : LinkAct) → AreTold intr acts
+    → ((told : List ChannelAct) → link_told act told ≡ told)
+    → AreOwned intr.enabled (act ∷ link_acts acts) → AreTold intr (Linked act ∷ acts)
+told_as_before intr acts act (told, tells, are, was) same owned = (told, (told, tells, sym (same told)), are, owned)
+
+-- those that ask are others where links are destroyed
+told_closed : (old intr : Channels) (acts : List DeviceAct) (c last : ℕ) → AreTold old acts → IsRising (live (link_acts acts)) last
+    → ((lids : List ℕ)
+    (told : List ChannelAct) → AreChannels old told → disabled lids old.enabled ≡ of_others c old.enabled
+    → AreChannels intr (map SrqDisabled lids ++ told)) → intr.enabled ≡ of_others c old.enabled
+    → AreTold intr (map Linked (closing c (link_acts acts)) ++ acts)
+told_closed old intr acts c last (told, tells, are, owned) rising disables without = (
+  map SrqDisabled (reverse (links_of c (link_acts acts))) ++ told,
+  tells_closed c acts told tells,
+  disables (reverse (links_of c (link_acts acts))) told are (closed_disabled old.enabled (link_acts acts) c last rising owned),
+  rw (without, link_acts-links (closing c (link_acts acts)) acts) (owned_closed old.enabled (link_acts acts) c last rising owned),
+)
+
+pub device_closed : (kept : Device) (links : Table) (intr : Channels) (config : Config) (acts : List DeviceAct) (c : ℕ)
+    → IsDevice kept config acts → IsTable links (closing c (link_acts acts) ++ link_acts acts) → links.spare ≡ kept.links.spare
+    → ((lids : List ℕ)
+    (told : List ChannelAct) → AreChannels kept.intr told → disabled lids kept.intr.enabled ≡ of_others c kept.intr.enabled
+    → AreChannels intr (map SrqDisabled lids ++ told)) → intr.enabled ≡ of_others c kept.intr.enabled → intr.channels ≡ kept.intr.channels
+    → IsDevice (record kept { links = links; intr = intr }) config (map Linked (closing c (link_acts acts)) ++ acts)
+device_closed kept links intr config acts c is stands spare disables without same =
+    device_linked kept links intr config acts (closing c (link_acts acts)) is stands
+    (omega (arith, is.5.0, closing-live c (link_acts acts))) (omega (arith, is.5.1, spare))
+    (told_closed kept.intr intr acts c kept.links.made is.6 is.0.rising disables without) (ready_same kept.intr intr same)
+
+told_destroyed : (old intr : Channels) (acts : List DeviceAct) (lid : ℕ) → AreTold old acts
+    → ((told : List ChannelAct) → AreChannels old told → AreChannels intr (SrqDisabled lid ∷ told))
+    → AreTold intr (Linked (Destroyed lid) ∷ acts)
+told_destroyed old intr acts lid (told, tells, are, owned) disables =
+    let now = disables told are in
+    let less : intr.enabled ≡ filter (λ other. not (other.lid == lid)) old.enabled =
+    now.enabled ∙ enabled-disabled lid told ∙ ap (λ (links : List Enabled). filter (λ other. not (other.lid == lid)) links)
+    (sym are.enabled) in
+    (SrqDisabled lid ∷ told, (told, tells, refl), now, rw less (owned_destroyed old.enabled (link_acts acts) lid owned))
+
+pub device_destroyed : (kept : Device) (links : Table) (intr : Channels) (config : Config) (acts : List DeviceAct) (lid : ℕ)
+    → IsDevice kept config acts → IsTable links (Destroyed lid ∷ link_acts acts) → links.spare ≡ kept.links.spare
+    → ((told : List ChannelAct) → AreChannels kept.intr told → AreChannels intr (SrqDisabled lid ∷ told))
+    → intr.channels ≡ kept.intr.channels
+    → IsDevice (record kept { links = links; intr = intr }) config (Linked (Destroyed lid) ∷ acts)
+device_destroyed kept links intr config acts lid is stands spare disables same =
+    device_linked kept links intr config acts (Destroyed lid ∷ []) is stands
+    (omega (arith, is.5.0, destroyed-live lid (link_acts acts))) (omega (arith, is.5.1, spare))
+    (told_destroyed kept.intr intr acts lid is.6 disables) (ready_same kept.intr intr same)
+
+pub device_locked : (kept : Device) (links : Table) (config : Config) (acts : List DeviceAct) (lid : ℕ)
+    → IsDevice kept config acts → IsTable links (Locked lid ∷ link_acts acts) → links.spare ≡ kept.links.spare
+    → IsDevice (record kept { links = links }) config (Linked (Locked lid) ∷ acts)
+device_locked kept links config acts lid is stands spare =
+    device_linked kept links kept.intr config acts (Locked lid ∷ []) is stands is.5.0 (omega (arith, is.5.1, spare))
+    (told_as_before kept.intr acts (Locked lid) is.6 (λ told. refl) is.6.3) (λ c ready. ready)
+
+pub device_unlocked : (kept : Device) (links : Table) (config : Config) (acts : List DeviceAct) (lid : ℕ)
+    → IsDevice kept config acts → IsTable links (Unlocked lid ∷ link_acts acts) → links.spare ≡ kept.links.spare
+    → IsDevice (record kept { links = links }) config (Linked (Unlocked lid) ∷ acts)
+device_unlocked kept links config acts lid is stands spare =
+    device_linked kept links kept.intr config acts (Unlocked lid ∷ []) is stands is.5.0 (omega (arith, is.5.1, spare))
+    (told_as_before kept.intr acts (Unlocked lid) is.6 (λ told. refl) is.6.3) (λ c ready. ready)
+
+-- a link for which there are a place and memory
+made_live : (lid c : ℕ) (acts : List LinkAct) → length (live (Made lid c ∷ acts)) ≡ length (live acts) + 1
+made_live lid c acts = length-append (live acts) (record { lid = lid; conn = c } ∷ [])
+
+pub device_made : (kept : Device) (links : Table) (config : Config) (acts : List DeviceAct) (lid c : ℕ)
+    → IsDevice kept config acts → HasPlace kept acts → IsTable links (Made lid c ∷ link_acts acts) → kept.links.spare ≤ links.spare + 1
+    → IsDevice (record kept { links = links }) config (Linked (Made lid c) ∷ acts)
+device_made kept links config acts lid c is place stands spare =
+    device_linked kept links kept.intr config acts (Made lid c ∷ []) is stands
+    (omega (arith, place.0, made_live lid c (link_acts acts))) (omega (arith, place.1, spare))
+    (told_as_before kept.intr acts (Made lid c) is.6 (λ told. refl) (owned_made kept.intr.enabled (link_acts acts) lid c is.6.3))
+    (λ d ready. ready)
+
+-- ---- the memory of links
+
+pub device_more : (kept : Device) (links : Table) (config : Config) (acts : List DeviceAct) → IsDevice kept config acts
+    → IsTable links (link_acts acts) → kept.links.spare ≤ links.spare → IsDevice (record kept { links = links }) config acts
+device_more kept links config acts (before, instrument, set_up, clock, waiting, reserved, told, ready) stands more =
+    (stands, instrument, set_up, clock, waiting, (reserved.0, omega (arith, reserved.1, more)), told, ready)
+
+-- ---- nothing was recorded
+
+pub queue_none : (xs : List Entry) → IsQueue xs [] → xs ≡ []
+queue_none [] is = refl
+queue_none (x ∷ xs) is = absurd (let z : None ≡ Some x.wait = is.each.0.0 in cc)
+
+creations_none : (xs : List Entry) → xs ≡ [] → creations xs ≡ 0
+creations_none xs e = rw e refl
+
+pub device_none : (links : Table) (waiting : List Entry) (intr : Channels) (instrument : Kept) (config : Config) → IsTable links []
+    → IsQueue waiting [] → AreChannels intr [] → StandsFor instrument []
+    → IsDevice (record {
+      links = links;
+      waiting = waiting;
+      intr = intr;
+      instrument = instrument;
+      config = config;
+      clock = config.clock;
+    }) config []
+device_none links waiting intr instrument config table queue are stands =
+    let zero = creations_none waiting (queue_none waiting queue) in (
+      table,
+      stands,
+      refl,
+      omega arith,
+      queue,
+      (omega (arith, zero), omega (arith, zero)),
+      ([], refl, are, rw are.enabled tt),
+      λ c dials. absurd (let z : false ≡ true = dials in cc),
+    )
+
+-- ---- a link that is made
+
+left_there : (a b : Bool) → ((a && b) ≡ false → ⊥) → b ≡ true
+left_there a true may = refl
+left_there true false may = absurd (may refl)
+left_there false false may = absurd (may refl)
+
+pub lids_there : (acts : List LinkAct) → (may_make acts ≡ false → ⊥) → lids_left acts ≡ true
+lids_there acts may = left_there (nat_lt (length (live acts)) 32) (lids_left acts) may
+
+pub told_as : (config : Config) (kept : Device) (told : Outcome) (lid n : ℕ) → kept.config ≡ config → lid ≡ n
+    → told ≡ Link NoError (pos lid) kept.config.abort 4096 → Link NoError (pos n) config.abort 4096 ≡ told
+told_as config kept told lid n set_up number is =
+    ap (λ (k : ℕ). Link NoError (pos k) config.abort 4096) (sym number) ∙ ap (λ (k : Config). Link NoError (pos lid) k.abort 4096)
+    (sym set_up)
+    ∙ sym is
+
+pub made_ends : (kept : Device) (links : Table) (config : Config) (acts : List DeviceAct) (c lid : ℕ) (told : Outcome)
+    → IsDevice kept config acts → HasPlace kept acts → lids_left (link_acts acts) ≡ true → lid ≡ made (link_acts acts) + 1
+    → IsTable links (Made lid c ∷ link_acts acts) → kept.links.spare ≤ links.spare + 1
+    → told ≡ Link NoError (pos lid) kept.config.abort 4096
+    → IsResult (make_link config c false acts).result told
+    × IsDevice (record kept { links = links }) config ((make_link config c false acts).adds ++ acts)
+made_ends kept links config acts c lid told is place left number table spare tells = rw left (
+  told_as config kept told lid (made (link_acts acts) + 1) is.2 number tells,
+  subst (λ (n : ℕ). IsDevice (record kept { links = links }) config (Linked (Made n c) ∷ acts)) number
+      (device_made kept links config acts lid c is place table spare),
+)
+
+pub locked_ends : (kept : Device) (mid links : Table) (config : Config) (acts : List DeviceAct) (c lid : ℕ) (told : Outcome)
+    → IsDevice kept config acts → HasPlace kept acts → lids_left (link_acts acts) ≡ true → lid ≡ made (link_acts acts) + 1
+    → IsTable mid (Made lid c ∷ link_acts acts) → IsTable links (Locked lid ∷ Made lid c ∷ link_acts acts)
+    → kept.links.spare ≤ mid.spare + 1 → links.spare ≡ mid.spare
+    → told ≡ Link NoError (pos lid) kept.config.abort 4096
+    → IsResult (make_link config c true acts).result told
+    × IsDevice (record kept { links = links }) config ((make_link config c true acts).adds ++ acts)
+locked_ends kept mid links config acts c lid told is place left number table locked spare same tells = rw left (
+  told_as config kept told lid (made (link_acts acts) + 1) is.2 number tells,
+  subst (λ (n : ℕ). IsDevice (record kept { links = links }) config (Linked (Locked n) ∷ Linked (Made n c) ∷ acts)) number
+      (device_locked (record kept { links = mid }) links config (Linked (Made lid c) ∷ acts) lid
+      (device_made kept mid config acts lid c is place table spare) locked same),
+)
+
+abbrev pub told_so : ℕ → Result ℕ CreateRefused
+told_so lid = Ok lid
+
+pub not_refused : (lid : ℕ) → told_so lid ≡ Err OutOfResources → ⊥
+not_refused lid e = cc
+
+-- ---- the lock
+
+not_true : (b : Bool) → true ≡ not b → b ≡ false
+not_true true e = absurd cc
+not_true false e = refl
+
+not_false : (b : Bool) → false ≡ not b → b ≡ true
+not_false true e = refl
+not_false false e = absurd cc
+
+-- a lock that was asked for was given, or nothing changed
+pub lock_ends : (config : Config) (acts : List DeviceAct) (kept : Device) (links : Table) (lid : ℕ) (got : Bool) → IsDevice kept config acts
+    → got ≡ not (is_locked_out (holder (link_acts acts)) (Some lid)) → (got ≡ true → IsTable links (Locked lid ∷ link_acts acts))
+    → links.spare ≡ kept.links.spare → (got ≡ false → links ≡ kept.links)
+    → (told : Outcome) → told ≡ Plain (if got then NoError else DeviceLocked) → IsResult (device_lock (Some lid) acts).result told
+    × IsDevice (record kept { links = links }) config ((device_lock (Some lid) acts).adds ++ acts)
+lock_ends config acts kept links lid true is granted stands spare same told tells =
+    let free : is_locked_out (holder (link_acts acts)) (Some lid) ≡ false = not_true _ granted in
+    rw free (sym tells, device_locked kept links config acts lid is (stands refl) spare)
+lock_ends config acts kept links lid false is granted stands spare same told tells =
+    let other : is_locked_out (holder (link_acts acts)) (Some lid) ≡ true = not_false _ granted in
+    rw other (sym tells, subst (λ (t : Table). IsDevice (record kept { links = t }) config acts) (sym (same refl)) is)
+
+-- and one that was to be freed was, or nothing changed
+pub unlock_ends : (config : Config) (acts : List DeviceAct) (kept : Device) (links : Table) (lid : ℕ) (freed : Bool)
+    → IsDevice kept config acts
+    → freed ≡ is_this lid (holder (link_acts acts)) → (freed ≡ true → IsTable links (Unlocked lid ∷ link_acts acts))
+    → links.spare ≡ kept.links.spare → (freed ≡ false → links ≡ kept.links)
+    → (told : Outcome) → told ≡ Plain (if freed then NoError else NoLock) → IsResult (device_unlock (Some lid) acts).result told
+    × IsDevice (record kept { links = links }) config ((device_unlock (Some lid) acts).adds ++ acts)
+unlock_ends config acts kept links lid true is this stands spare same told tells =
+    rw (sym this) (sym tells, device_unlocked kept links config acts lid is (stands refl) spare)
+unlock_ends config acts kept links lid false is this stands spare same told tells =
+    rw (sym this) (sym tells, subst (λ (t : Table). IsDevice (record kept { links = t }) config acts) (sym (same refl)) is)

@@ -1,0 +1,12 @@
+-- Lemmas of the server: logs, turns, steps that are due.
+pub mod Taken
+pub mod Aborting
+pub mod Logs
+pub mod Going
+pub mod Steps
+pub mod Settled
+pub mod Standing
+pub mod Turned
+pub mod Turning
+pub mod Refusals
+pub mod Calls

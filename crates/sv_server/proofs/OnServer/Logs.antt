@@ -1,0 +1,174 @@
+-- What an event of one connection leaves, from the parts of the server.
+use Rattle.std.proofs.Common.{◌≡◌, ◌≢◌, ℕ, ◌<◌, Bool, true, false, Some, List, [], ◌∷◌, ◌++◌, append_assoc, length, get_or, set, refl, sym, ap, subst, ◌∙◌, arith, inl, inr}
+use Rattle.std.specs.Prelude.{is_some, not, map}
+use Rattle.std.specs.List.{AllByRecursion}
+use Rattle.std.proofs.lemmas.Bool.{lt-ltb, le-ltb, cases_eq, cases_lt}
+use Rattle.std.proofs.lemmas.List.{get_or-set_same, get_or-set_other, map-append}
+use Rattle.sv_links.specs.declared.waiting.Entry.{Entry}
+use Rattle.sv_links.specs.Links.{closing}
+use Rattle.sv_links.specs.Waiting.{Left}
+use Rattle.sv_links.specs.Channels.{ChannelClosed}
+use Rattle.sv_links.specs.Queue.{without}
+use Rattle.sv_history.specs.declared.event.Config.{Config}
+use Rattle.sv_server.specs.Server.Inside.Acting.{Concludes}
+use Rattle.sv_server.specs.Device.Inside.Outcome.{HeldAs}
+use Rattle.sv_history.specs.Act.{Act, ConnAct, DeviceAct, CallTaken, PortClosed, Linked, Waited, Channel, Ticked, On, OnDevice, of, device_acts, link_acts}
+use Rattle.sv_history.specs.Connection.{is_open, is_busy, unanswered}
+use Rattle.sv_history.specs.Request.{core_call}
+use Rattle.sv_history.specs.Effect.{Effect, acts_of}
+use Rattle.sv_server.specs.Connection.Representation.{Connection, IsConnection}
+use Rattle.sv_server.specs.Device.Representation.{IsDevice, Device as KeptDevice}
+use Rattle.sv_server.specs.Server.State.{State, Represents, IsTaken}
+use Rattle.sv_history.specs.History.{is_shut}
+use Rattle.sv_history.proofs.Projections.{of_mine, of_other, of_shared, device_shared, of_effect, others_effect, device_effect}
+use Rattle.sv_server.proofs.OnDevice.Effects.{of_taken, others_taken, device_taken}
+use Rattle.sv_server.proofs.OnServer.Taken.{taken_acted, taken_without, taken_push}
+
+-- the connection of a number
+pub connection_of : (state : State) (config : Config) (log : List Act) (c : ℕ) (kept : Connection) → Represents state config log → c < 16
+    → kept ≡ get_or state.connections c kept → IsConnection kept (of c log)
+connection_of state config log c kept rep lt e = subst (λ (k : Connection). IsConnection k (of c log)) (sym e) (rep.each c kept lt)
+
+-- whether it is open
+pub open_is : (kept : Connection) (acts : List ConnAct) (b : Bool) → IsConnection kept acts → is_some kept.role ≡ b → is_open acts ≡ b
+open_is kept acts b is e = ap is_some (sym is.role) ∙ e
+
+pub shut_is : (c : ℕ) (log : List Act) (b : Bool) → c < 16 → is_open (of c log) ≡ b → is_shut c log ≡ not b
+shut_is c log b lt e = rw (le-ltb 15 c (omega arith), e) refl
+
+pub not_not : (b : Bool) → b ≡ not (not b)
+not_not true = refl
+not_not false = refl
+
+-- whether a connection is open, of whatever number
+pub open_known : (state : State) (config : Config) (log : List Act) (c : ℕ) (b : Bool) → Represents state config log
+    → is_open (of c log) ≡ b → b ≡ not (is_shut c log)
+open_known state config log c b rep is = elim (cases_lt c 16) [
+  | inl below ↦ rw (shut_is c log b below is) (not_not b)
+  | inr above ↦
+      let shut : is_open (of c log) ≡ false = ap is_open (rep.beyond c above) in
+      rw (lt-ltb 15 c (omega arith)) (sym is ∙ shut)
+]
+
+-- one connection acts, and what all share
+pub acted : (state : State) (config : Config) (log new : List Act) (c : ℕ) (kept : Connection) (device : KeptDevice)
+    → Represents state config log → length state.connections ≡ 16 → c < 16
+    → IsConnection kept (of c new) → IsDevice device config (device_acts new) → ((d : ℕ) → d ≢ c → of d new ≡ of d log)
+    → AllByRecursion (IsTaken new) device.waiting
+    → Represents (record { connections = set state.connections c kept; device = device }) config new
+acted state config log new c kept device rep sixteen lt mine all others taken = record {
+  each = λ d other below. elim (cases_eq d c) [
+    | inl e ↦
+        let at : get_or (set state.connections c kept) d other ≡ kept =
+        ap (λ (n : ℕ). get_or (set state.connections c kept) n other) e ∙ get_or-set_same state.connections c kept other (omega arith) in
+        rw (at, e) mine
+    | inr ne ↦
+        let at : get_or (set state.connections c kept) d other ≡ get_or state.connections d other =
+        get_or-set_other state.connections c d kept other ne in
+        rw (at, others d ne) (rep.each d other below)
+  ];
+  beyond = λ d h. others d (λ e. absurd (omega arith)) ∙ rep.beyond d h;
+  device = all;
+  taken = taken;
+}
+
+-- one act of a connection
+pub one_act : (state : State) (config : Config) (log : List Act) (c : ℕ) (old new : Connection) (act : ConnAct)
+    → Represents state config log → length state.connections ≡ 16 → c < 16 → old ≡ get_or state.connections c old
+    → (IsConnection old (of c log) → IsConnection new (act ∷ of c log))
+    → ((call : List ℕ) → unanswered (of c log) ≡ Some call → unanswered (act ∷ of c log) ≡ Some call)
+    → Represents (record state { connections = set state.connections c new }) config (On c act ∷ log)
+one_act state config log c old new act rep sixteen lt e goes known =
+    acted state config log (On c act ∷ log) c new state.device rep sixteen lt
+    (rw of_mine (goes (connection_of state config log c old rep lt e))) rep.device (λ d ne. of_other c d act log ne)
+    (taken_acted c log (On c act ∷ log) state.device.waiting (λ d ne. of_other c d act log ne)
+    (λ call h. ap unanswered (of_mine c act log) ∙ known call h) rep.taken)
+
+-- no call of a connection that is shut waits
+pub none_taken : (kept : Connection) (acts : List ConnAct) (call : List ℕ) → IsConnection kept acts → kept.busy ≡ false
+    → unanswered acts ≡ Some call → ⊥
+none_taken kept acts call is idle known = let z : false ≡ true = sym idle ∙ is.busy ∙ ap is_some known in absurd cc
+
+-- what all connections share acts
+pub shared_acts : (state : State) (config : Config) (log : List Act) (device : KeptDevice) (adds : List DeviceAct)
+    → Represents state config log → IsDevice device config (adds ++ device_acts log) → device.waiting ≡ state.device.waiting
+    → Represents (record state { device = device }) config (map OnDevice adds ++ log)
+shared_acts state config log device adds rep all same = record {
+  each = λ c other below. rw (of_shared c adds log) (rep.each c other below);
+  beyond = λ c above. of_shared c adds log ∙ rep.beyond c above;
+  device = rw (device_shared adds log) all;
+  taken = rw same (taken_acted 0 log (map OnDevice adds ++ log) state.device.waiting (λ d ne. of_shared d adds log)
+      (λ call known. ap unanswered (of_shared 0 adds log) ∙ known) rep.taken);
+}
+
+-- a millisecond passes, and what it brings
+pub ticked : (state : State) (config : Config) (log : List Act) (device : KeptDevice) (adds : List DeviceAct)
+    → Represents state config log → IsDevice device config (adds ++ Ticked ∷ device_acts log) → device.waiting ≡ state.device.waiting
+    → Represents (record state { device = device }) config ((map OnDevice adds ++ OnDevice Ticked ∷ []) ++ log)
+ticked state config log device adds rep all same =
+    let parts : (map OnDevice adds ++ OnDevice Ticked ∷ []) ++ log ≡ map OnDevice (adds ++ Ticked ∷ []) ++ log =
+    ap (λ (l : List Act). l ++ log) (sym (map-append OnDevice adds (Ticked ∷ []))) in
+    rw parts (shared_acts state config log device (adds ++ Ticked ∷ []) rep
+    (rw (append_assoc adds (Ticked ∷ []) (device_acts log)) all) same)
+
+-- a connection that closes, with its links
+pub closes : (state : State) (config : Config) (log : List Act) (c : ℕ) (old new : Connection) (device : KeptDevice)
+    → Represents state config log → length state.connections ≡ 16 → c < 16 → old ≡ get_or state.connections c old
+    → (IsConnection old (of c log) → IsConnection new (PortClosed ∷ of c log))
+    → ((acts : List DeviceAct) → IsDevice state.device config acts
+    → IsDevice device config (Channel (ChannelClosed c) ∷ map Linked (closing c (link_acts acts)) ++ Waited (Left c) ∷ acts))
+    → device.waiting ≡ without c state.device.waiting
+    → let adds = Channel (ChannelClosed c) ∷ map Linked (closing c (link_acts (device_acts log))) ++ Waited (Left c) ∷ [] in
+    Represents (record { connections = set state.connections c new; device = device }) config (map OnDevice adds ++ On c PortClosed ∷ log)
+closes state config log c old new device rep sixteen lt e goes freed left =
+    let links = map Linked (closing c (link_acts (device_acts log))) in
+    let adds = Channel (ChannelClosed c) ∷ links ++ Waited (Left c) ∷ [] in
+    let others = λ (d : ℕ) (ne : d ≢ c). of_shared d adds (On c PortClosed ∷ log) ∙ of_other c d PortClosed log ne in
+    acted state config log (map OnDevice adds ++ On c PortClosed ∷ log) c new device rep sixteen lt
+    (rw (of_shared c adds (On c PortClosed ∷ log), of_mine) (goes (connection_of state config log c old rep lt e)))
+    (subst (λ (acts : List DeviceAct). IsDevice device config acts)
+    (sym (device_shared adds (On c PortClosed ∷ log)
+    ∙ append_assoc (Channel (ChannelClosed c) ∷ links) (Waited (Left c) ∷ []) (device_acts log))) (freed (device_acts log) rep.device))
+    others
+    (rw left (taken_without c log (map OnDevice adds ++ On c PortClosed ∷ log) state.device.waiting others rep.taken))
+
+-- a call that is busy isn't idle
+pub busy_idle : (acts : List ConnAct) (call : List ℕ) → unanswered acts ≡ Some call → is_busy acts ≡ false → ⊥
+busy_idle acts call known idle = let z : true ≡ false = sym (ap is_some known) ∙ idle in cc
+
+-- what is known of the calls that wait, behind a Turn
+pub held_taken : (c : ℕ) (log : List Act) (call : List ℕ) (effect : Effect) (old new : List Entry)
+    → is_busy (of c log) ≡ false → AllByRecursion (IsTaken log) old → HeldAs effect c (core_call call) old new
+    → AllByRecursion (IsTaken ((acts_of c effect ++ On c (CallTaken call) ∷ []) ++ log)) new
+held_taken c log call effect old new idle taken (inl same) =
+    rw same (taken_acted c log ((acts_of c effect ++ On c (CallTaken call) ∷ []) ++ log) old
+    (λ d ne. others_taken c d effect call log ne) (λ other known. absurd {0} (busy_idle (of c log) other known idle)) taken)
+held_taken c log call effect old new idle taken (inr (none, (entry, mine, is, makes))) =
+    let after : List Act = (acts_of c effect ++ On c (CallTaken call) ∷ []) ++ log in
+    let here : of c after ≡ CallTaken call ∷ of c log =
+    of_taken c effect call log ∙ ap (λ (own : List ConnAct). own ++ CallTaken call ∷ of c log) none in
+    rw is (taken_push after (without c old) entry (taken_without c log after old (λ d ne. others_taken c d effect call log ne) taken)
+    (call, ap unanswered (ap (λ (d : ℕ). of d after) mine ∙ here), makes))
+
+-- a Turn of an open connection
+pub turned : (state : State) (config : Config) (log : List Act) (c : ℕ) (call : List ℕ) (effect : Effect) (kept : Connection)
+    (device : KeptDevice)
+    → Represents state config log → length state.connections ≡ 16 → c < 16 → is_busy (of c log) ≡ false
+    → Concludes effect config (CallTaken call ∷ of c log) (device_acts log) kept device
+    → HeldAs effect c (core_call call) state.device.waiting device.waiting
+    → Represents (record { connections = set state.connections c kept; device = device }) config
+    ((acts_of c effect ++ On c (CallTaken call) ∷ []) ++ log)
+turned state config log c call effect kept device rep sixteen lt idle (mine, all) held =
+    acted state config log _ c kept device rep sixteen lt (rw (of_taken c effect call log) mine) (rw (device_taken c effect call log) all)
+    (λ d ne. others_taken c d effect call log ne)
+    (held_taken c log call effect state.device.waiting device.waiting idle rep.taken held)
+
+-- a call that waited, and was given up or went on
+pub resumed : (state : State) (config : Config) (log : List Act) (c : ℕ) (effect : Effect) (kept : Connection) (device : KeptDevice)
+    → Represents state config log → length state.connections ≡ 16 → c < 16
+    → Concludes effect config (of c log) (device_acts log) kept device
+    → AllByRecursion (IsTaken (acts_of c effect ++ log)) device.waiting
+    → Represents (record { connections = set state.connections c kept; device = device }) config (acts_of c effect ++ log)
+resumed state config log c effect kept device rep sixteen lt (mine, all) taken =
+    acted state config log _ c kept device rep sixteen lt (rw (of_effect c effect log) mine) (rw (device_effect c effect log) all)
+    (λ d ne. others_effect c d effect log ne) taken

@@ -1,0 +1,82 @@
+-- A Refuse: what refuses it, and what it takes; and what refuses an Input.
+use Rattle.std.proofs.Common.{◌≡◌, ◌≢◌, ℕ, ◌<◌, Bool, true, false, cond, List, ◌∷◌, ◌++◌, length, set, nat_lt, Option, Some, None, refl, sym, ap, ◌∙◌, subst}
+use Rattle.std.specs.Prelude.{ℤ, not, is_none, Ok, Err}
+use Rattle.sv_errors.specs.Limits.{is_channel}
+use Rattle.sv_history.specs.declared.event.Config.{Config}
+use Rattle.sv_history.specs.declared.event.Role.{Role}
+use Rattle.sv_history.specs.declared.event.Did.TheVariants.{Done}
+use Rattle.sv_history.specs.declared.event.Refused.{Refused}
+use Rattle.sv_history.specs.declared.event.Refused.TheVariants.{NoMemory, NoRoom, NotRefusable, BadChannel, BadInput}
+use Rattle.sv_history.specs.Event.{Refuse, Input}
+use Rattle.sv_history.specs.Act.{Act, ConnAct, CallTaken, Replied, On, of}
+use Rattle.sv_history.specs.Connection.{open_role, next_call, free}
+use Rattle.sv_history.specs.CoreCall.{CoreCall}
+use Rattle.sv_history.specs.Refusing.{refusable, refusable_call, refused_reply}
+use Rattle.sv_history.specs.Request.{asked}
+use Rattle.sv_history.specs.History.{refuse_refusal, refuse_acts, is_shut, is_beyond}
+use Rattle.sv_server.specs.Connection.Representation.{Connection}
+use Rattle.sv_server.specs.Server.State.{State, Represents}
+use Rattle.sv_server.specs.Server.Inside.Acting.{Acts, Refuses, IsInput}
+use Rattle.sv_history.proofs.Projections.{of_mine, of_other}
+use Rattle.sv_server.proofs.OnServer.Taken.{taken_acted}
+use Rattle.sv_server.proofs.OnServer.Logs.{acted, busy_idle}
+use Rattle.sv_server.proofs.OnServer.Turning.{not_busy}
+
+-- of an open connection, by its next call
+pub refusable_is : (acts : List ConnAct) (role : Role) (found : Option (List ℕ)) → open_role acts ≡ Some role → next_call acts ≡ found
+    → refusable acts ≡ refusable_call (asked (Some role) found)
+refusable_is acts role found opened next = ap (λ (r : Option Role). refusable_call (asked r (next_call acts))) opened
+    ∙ ap (λ (bytes : Option (List ℕ)). refusable_call (asked (Some role) bytes)) next
+
+-- why it is refused
+pub refused_none : (acts : List ConnAct) → refusable acts ≡ None → refuse_refusal acts ≡ Some NotRefusable
+refused_none acts e = rw e refl
+
+pub refused_not : (acts : List ConnAct) (call : CoreCall) → refusable acts ≡ Some call → nat_lt (free acts) 8232 ≡ false
+    → refuse_refusal acts ≡ None
+refused_not acts call e roomy = rw (e, roomy) refl
+
+-- want of memory is none of the reasons
+other_reason : (none short : Bool) → cond none (Some NotRefusable) (cond short (Some NoRoom) None) ≡ Some NoMemory → ⊥
+other_reason true short e = absurd (let z : Some NotRefusable ≡ Some NoMemory = e in cc)
+other_reason false true e = absurd (let z : Some NoRoom ≡ Some NoMemory = e in cc)
+other_reason false false e = absurd (let z : None ≡ Some NoMemory = e in cc)
+
+pub refuse_refused : (config : Config) (c : ℕ) (log : List Act) (r : Refused) (kept : Connection) (new : State)
+    → is_shut c log ≡ false → Refuses (of c log) (Err r) kept → Acts config (Refuse c) log (Err r) new
+refuse_refused config c log NoMemory kept new open_now why =
+    absurd (other_reason (is_none (refusable (of c log))) (nat_lt (free (of c log)) 8232) why)
+refuse_refused config c log _ kept new open_now why = λ told tells. rw open_now why
+
+-- what it leaves of the server
+pub refuse_done : (state : State) (config : Config) (log : List Act) (c : ℕ) (kept : Connection)
+    → Represents state config log → length state.connections ≡ 16 → c < 16 → is_shut c log ≡ false
+    → Refuses (of c log) (Ok tt) kept
+    → Acts config (Refuse c) log (Ok Done) (record state { connections = set state.connections c kept })
+refuse_done state config log c kept rep sixteen lt open_now (none, bytes, call, next, known, mine) =
+    let answered = Replied (refused_reply call) in
+    let mid : List Act = On c (CallTaken bytes) ∷ log in
+    let others = λ (d : ℕ) (ne : d ≢ c). of_other c d answered mid ne ∙ of_other c d (CallTaken bytes) log ne in
+    let here : of c (On c answered ∷ mid) ≡ answered ∷ CallTaken bytes ∷ of c log =
+    of_mine c answered mid ∙ ap (λ (l : List ConnAct). answered ∷ l) (of_mine c (CallTaken bytes) log) in (
+      λ told tells. rw open_now none,
+      refl,
+      λ polled said. subst
+          (λ (adds : List Act). Represents (record state { connections = set state.connections c kept }) config (adds ++ log))
+          (sym (ap (λ (found : Option (List ℕ)). refuse_acts c found (refusable (of c log))) next ∙ ap (refuse_acts c (Some bytes)) known))
+          (acted state config log (On c answered ∷ mid) c kept state.device rep sixteen lt (rw here mine) rep.device others
+          (taken_acted c log (On c answered ∷ mid) state.device.waiting others
+          (λ other waits. absurd {0} (busy_idle (of c log) other waits (not_busy c log bytes next))) rep.taken)),
+    )
+
+-- an Input that is refused
+other_input : (none far : Bool) → Some NoMemory ≡ cond none (Some BadChannel) (cond far (Some BadInput) None) → ⊥
+other_input true far e = absurd (let z : Some NoMemory ≡ Some BadChannel = e in cc)
+other_input false true e = absurd (let z : Some NoMemory ≡ Some BadInput = e in cc)
+other_input false false e = absurd (let z : Some NoMemory ≡ None = e in cc)
+
+pub input_refused : (config : Config) (channel : ℕ) (microvolts : ℤ) (log : List Act) (r : Refused) (new : State)
+    → IsInput channel microvolts (Err r) → Acts config (Input channel microvolts) log (Err r) new
+input_refused config channel microvolts log NoMemory new why =
+    absurd (other_input (not (is_channel channel)) (is_beyond microvolts) why)
+input_refused config channel microvolts log _ new why = λ told tells. sym why

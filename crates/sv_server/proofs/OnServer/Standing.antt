@@ -1,0 +1,76 @@
+-- An event that was done, and the steps that are due after it, leave what stands for the longer history; and a history has one log.
+use Rattle.std.proofs.Common.{◌≡◌, ℕ, zero, suc, ap, List, [], ◌∷◌, ◌++◌, None, Some, inl, inr, sym, subst}
+use Rattle.std.specs.Prelude.{Option, Result, Ok, Err, IsErr, IsErrAnd}
+use Rattle.sv_history.specs.declared.event.Config.{Config}
+use Rattle.sv_history.specs.declared.event.Did.{Did}
+use Rattle.sv_history.specs.declared.event.Refused.{Refused}
+use Rattle.sv_history.specs.declared.event.Refused.TheVariants.{NoMemory, ConnInUse, NoConn, NoRoom, NotSent, NoDial, NotRefusable, BadChannel, BadInput, TimeOver}
+use Rattle.sv_history.specs.Event.{PlainEvent, IsEvent}
+use Rattle.sv_history.specs.Act.{Act, device_acts}
+use Rattle.sv_history.specs.Settling.{IsSettled, SettlesIn}
+use Rattle.sv_links.specs.Channels.{ChannelAct}
+use Rattle.sv_history.specs.Requests.{HearsOf}
+use Rattle.sv_history.specs.History.{own_acts, refusal, Answers}
+use Rattle.sv_server.specs.Server.State.{State, Represents, StandsFor}
+use Rattle.sv_server.specs.Server.Inside.Acting.{Acts, IsRefusal, Settled}
+use Rattle.sv_server.proofs.OnServer.Steps.{polled_now, told_now}
+
+nothing_due : (n : ℕ) (config : Config) (log new : List Act) → SettlesIn n config log new → IsSettled config new
+nothing_due zero config log new (none, same) = subst (λ (end : List Act). IsSettled config end) (sym same) none
+nothing_due (suc n) config log new (middle, next, more) = nothing_due n config middle new more
+
+pub stands_after : (config : Config) (history : List PlainEvent) (event : PlainEvent) (old mid new : State) (did : Did)
+    → StandsFor old config history → IsEvent event
+    → ((k : Config) (log : List Act) → Represents old k log → Acts k event log (Ok did) mid)
+    → ((k : Config) (log : List Act) → Represents mid k log → Settled k log new)
+    → StandsFor new config (event ∷ history)
+stands_after config history event old mid new did s is_event acts settles =
+    let (free, done, makes) = acts config s.log s.represents in
+    let (polled, said) = polled_now old.device config (device_acts s.log) s.represents.device in
+    let (told, tells) = told_now old.device config (device_acts s.log) s.represents.device in
+    let (last, steps, held) = settles config (own_acts config polled event s.log ++ s.log) (makes polled said) in
+    record {
+      log = last;
+      is_log = (s.log, polled, told, is_event, s.is_log, tells, free told tells, said, steps);
+      represents = held;
+      settled = nothing_due steps.0 config (own_acts config polled event s.log ++ s.log) last steps.1;
+    }
+
+-- where nothing was recorded nothing is due
+pub none_due : (config : Config) → IsSettled config []
+none_due config new (inl fires) = absurd (let none = fires.1.0 in cc)
+none_due config new (inr (none, inl goes)) = absurd (let z : None ≡ Some goes.1 = goes.4 in cc)
+none_due config new (inr (none, inr (still, inl step))) = step.1
+none_due config new (inr (none, inr (still, inr (idle, gives)))) = absurd (let z : None ≡ Some gives.1 = gives.3 in cc)
+
+-- ---- refusals
+
+-- what refuses it by what was told
+told_so : (config : Config) (event : PlainEvent) (log : List Act) (what : Option Refused) (old : State) → Represents old config log
+    → IsRefusal config event log what
+    → (told : List ChannelAct) × HearsOf (device_acts log) told × (refusal config told event log ≡ what)
+told_so config event log what old rep why =
+    let (told, tells) = told_now old.device config (device_acts log) rep.device in (told, tells, why told tells)
+
+-- what a private function leaves says what is answered
+pub answered : (config : Config) (event : PlainEvent) (log : List Act) (r : Result Did Refused) (old new : State)
+    → Represents old config log → Acts config event log r new → Answers config event log r
+answered config event log (Ok what) old new rep (none, does, more) =
+    let (told, tells, free) = told_so config event log None old rep none in (told, tells, (free, does))
+answered config event log (Err NoMemory) old new rep (none, wants) =
+    let (told, tells, free) = told_so config event log None old rep none in
+    let (polled, said) = polled_now old.device config (device_acts log) rep.device in (told, tells, (free, polled, said, wants polled said))
+answered config event log (Err ConnInUse) old new rep why = told_so config event log (Some ConnInUse) old rep why
+answered config event log (Err NoConn) old new rep why = told_so config event log (Some NoConn) old rep why
+answered config event log (Err NoRoom) old new rep why = told_so config event log (Some NoRoom) old rep why
+answered config event log (Err NotSent) old new rep why = told_so config event log (Some NotSent) old rep why
+answered config event log (Err NoDial) old new rep why = told_so config event log (Some NoDial) old rep why
+answered config event log (Err NotRefusable) old new rep why = told_so config event log (Some NotRefusable) old rep why
+answered config event log (Err BadChannel) old new rep why = told_so config event log (Some BadChannel) old rep why
+answered config event log (Err BadInput) old new rep why = told_so config event log (Some BadInput) old rep why
+answered config event log (Err TimeOver) old new rep why = told_so config event log (Some TimeOver) old rep why
+
+-- an error that is passed on
+pub passed_on : {A E : Type 0} (r : Result A E) (e : E) → IsErr r → IsErrAnd r (λ x. x ≡ e) → r ≡ Err e
+passed_on (Ok a) e failed is = absurd cc
+passed_on (Err x) e failed is = ap Err is

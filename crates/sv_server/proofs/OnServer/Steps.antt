@@ -1,0 +1,45 @@
+-- The steps that are due, one after the other, settle a log.
+use Rattle.std.proofs.Common.{ℕ, suc, zero, List, refl, inl, inr}
+use Rattle.sv_links.specs.Channels.{ChannelAct}
+use Rattle.sv_layers.proofs.PolledByte.{polled_byte}
+use Rattle.sv_history.specs.declared.event.Config.{Config}
+use Rattle.sv_history.specs.Act.{Act, DeviceAct, instrument_acts}
+use Rattle.sv_history.specs.Requests.{HearsOf}
+use Rattle.sv_history.specs.PolledStatus.{IsPolled}
+use Rattle.sv_history.specs.Settling.{First, IsNext, IsSettled, SettlesIn}
+use Rattle.sv_server.specs.Server.Inside.Acting.{Reaches}
+use Rattle.sv_server.specs.Device.Representation.{IsDevice, Device as KeptDevice}
+
+-- what a poll would give
+pub polled_now : (kept : KeptDevice) (config : Config) (acts : List DeviceAct) → IsDevice kept config acts
+    → (polled : ℕ) × IsPolled polled acts
+polled_now kept config acts is = polled_byte kept.instrument.layers (instrument_acts acts) is.1.layers
+
+-- what is told to interrupt channels
+pub told_now : (kept : KeptDevice) (config : Config) (acts : List DeviceAct) → IsDevice kept config acts
+    → (told : List ChannelAct) × HearsOf acts told
+told_now kept config acts is = (is.6.0, is.6.1)
+
+-- none is due where there is none of either kind
+first_none : (A B : List Act → Type 0) → ((x : List Act) → A x → ⊥) → ((x : List Act) → B x → ⊥) → (x : List Act) → First A B x → ⊥
+first_none A B one other x (inl a) = one x a
+first_none A B one other x (inr b) = other x b.1
+
+pub none_next : {A B C D : List Act → Type 0} → ((x : List Act) → A x → ⊥) → ((x : List Act) → B x → ⊥) → ((x : List Act) → C x → ⊥)
+    → ((x : List Act) → D x → ⊥) → (x : List Act) → First A (First B (First C D)) x → ⊥
+none_next {A} {B} {C} {D} a b c d = first_none A (First B (First C D)) a (first_none B (First C D) b (first_none C D c d))
+
+-- ---- some steps, and then others
+
+pub goes_none : (config : Config) (log : List Act) → Reaches config log log
+goes_none config log = λ n new s. (n, s)
+
+pub goes_more : (config : Config) (log mid next : List Act) → Reaches config log mid → IsNext config mid next → Reaches config log next
+goes_more config log mid next goes one = λ n new s. goes (suc n) new (next, one, s)
+
+pub goes_then : (config : Config) (log mid last : List Act) → Reaches config log mid → Reaches config mid last → Reaches config log last
+goes_then config log mid last one other = λ n new s. let there = other n new s in one there.0 new there.1
+
+pub goes_settled : (config : Config) (log mid : List Act) → Reaches config log mid → IsSettled config mid
+    → (m : ℕ) × SettlesIn m config log mid
+goes_settled config log mid goes none = goes zero mid (none, refl)

@@ -1,0 +1,82 @@
+-- What a Turn of an open connection leaves.
+use Rattle.std.proofs.Common.{◌≡◌, ℕ, Bool, true, false, List, Option, Some, None, cond, nat_lt, refl, sym, ap, ◌∙◌, inl, inr}
+use Rattle.std.specs.Prelude.{not, ℤ, Result, Ok, Err}
+use Rattle.sv_exchange.specs.declared.read.Read.{Read}
+use Rattle.sv_exchange.specs.ReadGiven.{IsReadOf}
+use Rattle.sv_vxi.specs.declared.error_code.ErrorCode.TheVariants.{NoError}
+use Rattle.sv_vxi.specs.Results.{Read as ReadResult}
+use Rattle.sv_history.specs.CoreChannel.{read_of}
+use Rattle.sv_history.specs.declared.event.Config.{Config}
+use Rattle.sv_links.specs.declared.waiting.Entry.{Entry}
+use Rattle.sv_history.specs.Act.{DeviceAct, ConnAct}
+use Rattle.sv_history.specs.Connection.{free, is_idle, open_role, next_call}
+use Rattle.sv_history.specs.declared.event.Refused.TheVariants.{NoRoom}
+use Rattle.sv_history.specs.History.{turn_refusal}
+use Rattle.sv_history.specs.CoreCall.{CoreCall}
+use Rattle.sv_server.specs.Device.Representation.{Device}
+use Rattle.sv_server.specs.Device.Inside.Outcome.{EndsAs, Holds, HeldAs, xid_of}
+use Rattle.sv_server.specs.declared.device.call_outcome.CallOutcome.{CallOutcome as Outcome}
+use Rattle.sv_history.specs.Effect.{Effect}
+use Rattle.sv_history.specs.Request.{Request, NoCall, Decided, CoreRequest, PortRequest, abort_request, unless_decided, header_reply, request_of, core_call_of, core_call, asked, next_request}
+use Rattle.sv_history.specs.declared.event.Role.{Role}
+use Rattle.sv_history.specs.declared.event.Role.TheVariants.{Core, Abort, Portmap}
+use Rattle.sv_rpc.specs.declared.reply.Reply.{Reply}
+use Rattle.sv_rpc.specs.declared.reply.Reply.TheVariants.{Mismatch}
+use Rattle.sv_rpc.specs.declared.call.CallFault.{CallFault}
+use Rattle.sv_rpc.specs.declared.call.CallFault.TheVariants.{BadHeader, Version}
+use Rattle.sv_rpc.specs.Call.{PlainCall, call_at}
+
+-- a test the other way round
+pub flipped : (b : Bool) → not b ≡ true → b ≡ false
+flipped true e = absurd cc
+flipped false e = refl
+
+-- what is read of a response
+pub read_is : (read : Read) (bytes : List ℕ) (most : ℕ) (term : Option ℕ) → IsReadOf read bytes most term
+    → ReadResult NoError (record { request_count = read.request_count; character = read.character; end = read.end }) read.bytes.now
+    ≡ read_of bytes most term
+read_is read bytes most term is = rw (is.bytes, is.request_count, is.character, is.end) refl
+
+if_none : (idle short : Bool) → short ≡ false → cond idle None (cond short (Some NoRoom) None) ≡ None
+if_none true short e = refl
+if_none false short e = rw e refl
+
+-- a call of the core channel is asked for on the core channel alone
+decided_none : (xid : ℕ) (lid : Option ℤ) (call : CoreCall) → abort_request xid lid ≡ CoreRequest call → ⊥
+decided_none xid (Some lid) call e = cc
+decided_none xid None call e = cc
+
+core_unless : (role : Role) (header : PlainCall) (reply : Option Reply) (call : CoreCall)
+    → unless_decided role header reply ≡ CoreRequest call → role ≡ Core
+core_unless role header (Some reply) call e = absurd (let z : Decided header.xid reply ≡ CoreRequest call = e in cc)
+core_unless Core header None call e = refl
+core_unless Abort header None call e = absurd (decided_none header.xid _ call e)
+core_unless Portmap header None call e = absurd (let z : PortRequest header.xid header.args ≡ CoreRequest call = e in cc)
+
+core_alone : (role : Role) (read : Result PlainCall CallFault) (call : CoreCall) → request_of role read ≡ CoreRequest call → role ≡ Core
+core_alone role (Ok header) call e = core_unless role header (header_reply role header) call e
+core_alone role (Err (Version xid)) call e = absurd (let z : Decided xid Mismatch ≡ CoreRequest call = e in cc)
+core_alone role (Err BadHeader) call e = absurd (let z : NoCall ≡ CoreRequest call = e in cc)
+
+-- what waits is held as is said
+pub held_as : (outcome : Outcome) (c : ℕ) (role : Role) (bytes : List ℕ) (request : Request) (device : Device) (config : Config)
+    (acts : List DeviceAct) (effect : Effect) (old new : List Entry)
+    → request ≡ request_of role (call_at bytes) → EndsAs outcome (xid_of request) device config acts effect
+    → Holds outcome c request old new → HeldAs effect c (core_call bytes) old new
+held_as outcome c role bytes request device config acts effect old new asks ends (inl same) = inl same
+held_as outcome c role bytes request device config acts effect old new asks ends (inr (is, call, core, behind)) =
+    let known = sym asks ∙ core in
+    let read : core_call bytes ≡ Some call =
+    ap (λ (r : Role). core_call_of (request_of r (call_at bytes))) (sym (core_alone role (call_at bytes) call known))
+    ∙ ap core_call_of known in
+    inr ((rw is at ends).0, rw read behind)
+
+-- a Turn that finds room is not refused
+pub refusal_none : (acts : List ConnAct) → nat_lt (free acts) 8232 ≡ false → turn_refusal acts ≡ None
+refusal_none acts roomy = if_none (is_idle acts) (nat_lt (free acts) 8232) roomy
+
+-- what its next call asks for
+pub asks_for : (acts : List ConnAct) (role : Role) (bytes : List ℕ) (request : Request) → open_role acts ≡ Some role
+    → next_call acts ≡ Some bytes → request ≡ request_of role (call_at bytes) → next_request acts ≡ Some request
+asks_for acts role bytes request opened next is = ap (λ (r : Option Role). asked r (next_call acts)) opened
+    ∙ ap (λ (found : Option (List ℕ)). asked (Some role) found) next ∙ ap (λ (r : Request). Some r) (sym is)

@@ -1,0 +1,3 @@
+-- What contracts of private functions alone speak of. Nothing here has to be believed.
+pub mod Outcome
+pub mod WaitingCall

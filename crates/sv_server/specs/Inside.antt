@@ -1,5 +1,0 @@
--- What contracts of private functions alone speak of. Nothing here has to be believed.
-pub mod Acting
-pub mod Outcome
-pub mod Kept
-pub mod Showing

@@ -1,0 +1,2 @@
+-- What contracts of private functions alone speak of. Nothing here has to be believed.
+pub mod Showing

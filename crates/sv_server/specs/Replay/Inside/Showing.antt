@@ -1,0 +1,48 @@
+-- How the lines of ports are written, one after the other.
+use Rattle.std.specs.Prelude.{◌≡◌, ℕ, List, [], ◌∷◌, ◌++◌, length, Result, Ok, Err, ⊤}
+use Rattle.sv_history.specs.declared.event.Config.{Config}
+use Rattle.sv_history.specs.declared.event.Port.{Port}
+use Rattle.sv_server.specs.declared.replay.print.WriteFault.{WriteFault}
+use Rattle.sv_history.specs.Event.{PlainEvent}
+use Rattle.sv_history.specs.declared.event.Port.TheVariants.{Conn, Intr}
+use Rattle.sv_links.specs.Channels.{ChannelAct, ChannelTaken}
+use Rattle.sv_history.specs.Act.{Act, On, BytesTaken, OnDevice, Channel, device_acts}
+use Rattle.sv_history.specs.Requests.{HearsOf}
+use Rattle.sv_history.specs.Connection.{waiting_on}
+use Rattle.sv_history.specs.Settling.{IsSettled}
+use Rattle.sv_history.specs.History.{IsLogOf}
+use Rattle.sv_server.specs.Server.State.{State, Represents}
+use Rattle.sv_history.specs.Print.{ports, port_line, lines_of, with_took, with_tooks}
+use Rattle.sv_server.specs.Replay.TakenByWriter.{IsFront}
+
+-- The server stands for a history by this log, which tells this to interrupt channels.
+abbrev pub StandsBy : State → Config → List PlainEvent → List ChannelAct → List Act → Type 0
+StandsBy state config history told log =
+    IsLogOf config history log × Represents state config log × IsSettled config log × HearsOf (device_acts log) told
+
+-- the log in which the peer took these bytes from a port
+abbrev pub log_with_took : Port → List ℕ → List Act → List Act
+log_with_took port [] log = log
+log_with_took (Conn c) (byte ∷ bytes) log = On c (BytesTaken (length (byte ∷ bytes))) ∷ log
+log_with_took (Intr c) (byte ∷ bytes) log = OnDevice (Channel (ChannelTaken c (length (byte ∷ bytes)))) ∷ log
+
+abbrev pub told_with_took : Port → List ℕ → List ChannelAct → List ChannelAct
+told_with_took port [] told = told
+told_with_took (Conn c) (byte ∷ bytes) told = told
+told_with_took (Intr c) (byte ∷ bytes) told = ChannelTaken c (length (byte ∷ bytes)) ∷ told
+
+-- The line of a port was written, and then the peer took what it shows; or a front of it was written, and nothing was taken.
+abbrev pub ShowsPort : Port → Config → List PlainEvent → List ChannelAct → List Act → Result ⊤ WriteFault → State → List ℕ → Type 0
+ShowsPort port config history told log (Ok all) new text = let bytes = waiting_on told port log in (text ≡ port_line port bytes)
+    × StandsBy new config (with_took port bytes history) (told_with_took port bytes told) (log_with_took port bytes log)
+ShowsPort port config history told log (Err fault) new text =
+    IsFront text (port_line port (waiting_on told port log)) × StandsBy new config history told log
+
+-- All lines were written, and what they show was taken; or those of some first ports were, and of the others' lines a front was written.
+abbrev pub ShowsAll : Config → List PlainEvent → List ChannelAct → List Act → Result ⊤ WriteFault → State → List ℕ → Type 0
+ShowsAll config history told log (Ok all) new text = (text ≡ lines_of told ports log) × (after : List ChannelAct) × (now : List Act)
+    × StandsBy new config (with_tooks told ports log history) after now
+ShowsAll config history told log (Err fault) new text =
+    (shown others : List Port) × (part : List ℕ) × (ports ≡ shown ++ others) × IsFront part (lines_of told others log)
+    × (text ≡ lines_of told shown log ++ part) × (after : List ChannelAct) × (now : List Act)
+    × StandsBy new config (with_tooks told shown log history) after now

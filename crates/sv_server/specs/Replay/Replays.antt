@@ -1,0 +1,43 @@
+-- What the replay of an event writes and leaves.
+use Rattle.std.specs.Prelude.{◌≡◌, ◌≢◌, ◌⊎◌, ℕ, List, ◌++◌, Result, Ok, Err, ⊤}
+use Rattle.sv_history.specs.declared.event.Config.{Config}
+use Rattle.sv_history.specs.declared.event.Port.{Port}
+use Rattle.sv_history.specs.declared.event.Did.{Did}
+use Rattle.sv_history.specs.declared.event.Refused.{Refused}
+use Rattle.sv_history.specs.declared.event.Refused.TheVariants as refused
+use Rattle.sv_server.specs.declared.replay.ReplayFault.{ReplayFault}
+use Rattle.sv_server.specs.declared.replay.ReplayFault.TheVariants.{NoMemory, Write}
+use Rattle.sv_history.specs.Event.{PlainEvent}
+use Rattle.sv_links.specs.Channels.{ChannelAct}
+use Rattle.sv_history.specs.Act.{Act, device_acts}
+use Rattle.sv_history.specs.Requests.{HearsOf}
+use Rattle.sv_history.specs.History.{IsLogOf, Answers, history_after}
+use Rattle.sv_history.specs.Print.{head_of, ports_after, lines_of, with_tooks, print_of}
+use Rattle.sv_server.specs.Replay.TakenByWriter.{IsFront}
+
+-- The print was written, and then the peer took all that it shows; where memory was refused the print is that alone. Where the writer
+-- failed, it failed in the refusal's line; or the lines of some first ports were written, and the peer took what they show, and of the
+-- others' lines a front was written.
+abbrev pub IsReplayWritten : Result Did Refused → List ChannelAct → List Act → List PlainEvent → Result ⊤ ReplayFault → List ℕ
+    → List PlainEvent
+    → Type 0
+IsReplayWritten did told log history (Ok all) text after = (did ≢ Err refused.NoMemory) × (text ≡ print_of did told log)
+    × (after ≡ with_tooks told (ports_after did) log history)
+IsReplayWritten did told log history (Err NoMemory) text after =
+    (did ≡ Err refused.NoMemory) × (text ≡ print_of did told log) × (after ≡ history)
+IsReplayWritten did told log history (Err Write) text after = (IsFront text (head_of did) × (after ≡ history))
+    ⊎ ((shown others : List Port) × (part : List ℕ) × (ports_after did ≡ shown ++ others) × IsFront part (lines_of told others log)
+    × (text ≡ head_of did ++ (lines_of told shown log ++ part)) × (after ≡ with_tooks told shown log history))
+
+-- The event is done or refused, as the history says, and then its print is written, by the log of the history that this leaves.
+pub record Replays (config : Config) (history : List PlainEvent) (event : PlainEvent) (result : Result ⊤ ReplayFault) (text : List ℕ)
+    (after : List PlainEvent) : Type 0 where
+  pub before : List Act
+  pub is_before : IsLogOf config history before
+  pub did : Result Did Refused
+  pub answers : Answers config event before did
+  pub log : List Act
+  pub is_log : IsLogOf config (history_after event did history) log
+  pub told : List ChannelAct
+  pub tells : HearsOf (device_acts log) told
+  pub writes : IsReplayWritten did told log (history_after event did history) result text after

@@ -1,0 +1,111 @@
+-- What a private function that does an event leaves.
+use Rattle.std.specs.Prelude.{◌≡◌, ℕ, ℤ, true, Bool, false, List, ◌∷◌, ◌++◌, map, Some, None, Result, Ok, Err, Option, ⊤}
+use Rattle.sv_errors.specs.Limits.{is_channel}
+use Rattle.sv_links.specs.declared.waiting.Entry.{Entry}
+use Rattle.sv_history.specs.declared.event.Config.{Config}
+use Rattle.sv_history.specs.declared.event.Did.{Did}
+use Rattle.sv_history.specs.declared.event.Did.TheVariants.{Done as DidSo}
+use Rattle.sv_history.specs.declared.event.Refused.{Refused}
+use Rattle.sv_history.specs.declared.event.Refused.TheVariants.{NoMemory}
+use Rattle.sv_server.specs.declared.server.turn.Turned.{Turned}
+use Rattle.sv_server.specs.declared.server.turn.Turned.TheVariants.{Idle, Done}
+use Rattle.sv_server.specs.declared.server.settling.Stepped.{Stepped}
+use Rattle.sv_server.specs.declared.server.settling.Stepped.TheVariants.{Nothing, Instrument, Call}
+use Rattle.sv_links.specs.Channels.{ChannelAct}
+use Rattle.sv_history.specs.Event.{PlainEvent}
+use Rattle.sv_history.specs.Requests.{HearsOf}
+use Rattle.sv_layers.specs.Act.{Act as InstrumentAct}
+use Rattle.sv_history.specs.Act.{Act, ConnAct, DeviceAct, CallTaken, Replied, Happened, of, device_acts, instrument_acts}
+use Rattle.sv_history.specs.CoreCall.{CoreCall}
+use Rattle.sv_history.specs.Request.{Request, core_call, next_request}
+use Rattle.sv_history.specs.Effect.{Effect}
+use Rattle.sv_history.specs.Execution.{request_effect, aborts}
+use Rattle.sv_history.specs.Connection.{next_call, is_idle}
+use Rattle.sv_history.specs.PolledStatus.{IsPolled}
+use Rattle.sv_history.specs.Settling.{IsNext, IsSettled, SettlesIn, Settles}
+use Rattle.sv_history.specs.Refusing.{refusable, refused_reply}
+use Rattle.sv_history.specs.History.{refusal, turn_refusal, refuse_refusal, own_acts, did, wants_memory, is_beyond, input_refusal}
+use Rattle.sv_server.specs.Connection.Representation.{Connection, IsConnection}
+use Rattle.sv_server.specs.Device.Representation.{Device, IsDevice}
+use Rattle.sv_server.specs.Server.State.{State, Represents}
+use Rattle.sv_server.specs.Device.Inside.Outcome.{HeldAs, WaitsOn}
+
+-- This is what refuses an event.
+abbrev pub IsRefusal : Config → PlainEvent → List Act → Option Refused → Type 0
+IsRefusal config event log what = (told : List ChannelAct) → HearsOf (device_acts log) told → refusal config told event log ≡ what
+
+-- An event that isn't refused adds its own acts.
+abbrev pub Acts : Config → PlainEvent → List Act → Result Did Refused → State → Type 0
+Acts config event log (Ok what) new = IsRefusal config event log None × (what ≡ did event log)
+    × ((polled : ℕ) → IsPolled polled (device_acts log) → Represents new config (own_acts config polled event log ++ log))
+Acts config event log (Err NoMemory) new = IsRefusal config event log None
+    × ((polled : ℕ) → IsPolled polled (device_acts log) → wants_memory (device_acts (own_acts config polled event log)) ≡ true)
+Acts config event log (Err refused) new = IsRefusal config event log (Some refused)
+
+-- The call that was taken comes to this.
+abbrev pub Concludes : Effect → Config → List ConnAct → List DeviceAct → Connection → Device → Type 0
+Concludes effect config acts before connection device =
+    IsConnection connection (effect.own ++ acts) × IsDevice device config (effect.adds ++ before)
+
+-- A call that waited went on so.
+abbrev pub WentOn : Effect → ℕ → Option CoreCall → Config → List ConnAct → List DeviceAct → List Entry → Connection → Device → Type 0
+WentOn effect c call config acts before old connection device =
+    Concludes effect config acts before connection device × WaitsOn effect c call old device.waiting
+
+-- A Turn of an open connection takes its next call, where there is one.
+abbrev pub TakesCall : Config → ℕ → List Act → List ℕ → Request → (Effect → Type 0) → Type 0
+TakesCall config c log call request IsSo = (next_call (of c log) ≡ Some call) × (next_request (of c log) ≡ Some request)
+    × ((polled : ℕ) → IsPolled polled (device_acts log) → IsSo (request_effect config polled c request (device_acts log)))
+
+abbrev pub Turns : Config → ℕ → List Act → List Entry → Result Turned Refused → Connection → Device → Type 0
+Turns config c log old (Ok Idle) connection device = (turn_refusal (of c log) ≡ None) × (is_idle (of c log) ≡ true)
+    × IsConnection connection (of c log) × IsDevice device config (device_acts log) × (device.waiting ≡ old)
+Turns config c log old (Ok (Done aborted)) connection device = (turn_refusal (of c log) ≡ None) × (is_idle (of c log) ≡ false)
+    × (call : List ℕ) × (request : Request) × (aborted ≡ aborts request (device_acts log))
+    × TakesCall config c log call request (λ effect. Concludes effect config (CallTaken call ∷ of c log) (device_acts log) connection device
+    × HeldAs effect c (core_call call) old device.waiting)
+Turns config c log old (Err NoMemory) connection device = (turn_refusal (of c log) ≡ None) × (call : List ℕ) × (request : Request)
+    × TakesCall config c log call request (λ effect. wants_memory effect.adds ≡ true)
+Turns config c log old (Err refused) connection device = turn_refusal (of c log) ≡ Some refused
+
+-- A Refuse of an open connection takes and answers its next call, or is refused.
+abbrev pub Refuses : List ConnAct → Result ⊤ Refused → Connection → Type 0
+Refuses acts (Ok done) connection = (refuse_refusal acts ≡ None) × (bytes : List ℕ) × (call : CoreCall)
+    × (next_call acts ≡ Some bytes) × (refusable acts ≡ Some call)
+    × IsConnection connection (Replied (refused_reply call) ∷ CallTaken bytes ∷ acts)
+Refuses acts (Err refused) connection = refuse_refusal acts ≡ Some refused
+
+-- an input that may be
+abbrev pub IsInput : ℕ → ℤ → Result Did Refused → Type 0
+IsInput channel microvolts (Ok what) = (what ≡ DidSo) × (is_channel channel ≡ true) × (is_beyond microvolts ≡ false)
+IsInput channel microvolts (Err refused) = Some refused ≡ input_refusal channel microvolts
+
+-- A step of this kind is taken, or there is none and nothing changes.
+abbrev pub TakesStep : (Config → List Act → List Act → Type 0) → Bool → Config → List Act → State → State → Type 0
+TakesStep IsStep true config log old new = (next : List Act) × IsStep config log next × Represents new config next
+TakesStep IsStep false config log old new = ((next : List Act) → IsStep config log next → ⊥) × (new ≡ old)
+
+-- The same of the instrument alone.
+abbrev pub InstrumentSteps : (List InstrumentAct → List InstrumentAct → Type 0) → Bool → Config → List DeviceAct → Device → Device → Type 0
+InstrumentSteps IsSuch true config acts old new = (adds : List InstrumentAct)
+    × IsSuch (instrument_acts acts) (adds ++ instrument_acts acts) × IsDevice new config (map Happened adds ++ acts)
+InstrumentSteps IsSuch false config acts old new =
+    ((next : List InstrumentAct) → IsSuch (instrument_acts acts) next → ⊥) × (new ≡ old)
+
+-- The step that is due is taken, or none is.
+abbrev pub Steps : Stepped → Config → List Act → State → Type 0
+Steps Nothing config log new = IsSettled config log × Represents new config log
+Steps Instrument config log new = (next : List Act) × IsNext config log next × Represents new config next
+Steps Call config log new = (next : List Act) × IsNext config log next × Represents new config next
+
+-- The steps from the one log to the other are those that settle the first.
+abbrev pub Reaches : Config → List Act → List Act → Type 0
+Reaches config log mid = (n : ℕ) (new : List Act) → SettlesIn n config mid new → (m : ℕ) × SettlesIn m config log new
+
+-- Some steps that are due are taken, and then none is where this says so.
+abbrev pub GoesTo : Config → List Act → (List Act → Type 0) → State → Type 0
+GoesTo config log IsEnd new = (mid : List Act) × Reaches config log mid × IsEnd mid × Represents new config mid
+
+-- All steps that were due are taken.
+abbrev pub Settled : Config → List Act → State → Type 0
+Settled config log new = (last : List Act) × Settles config log last × Represents new config last

@@ -1,0 +1,38 @@
+-- What the server keeps, and what of a log and of a history that stands for.
+use Rattle.std.specs.Prelude.{◌≡◌, ℕ, ◌<◌, ◌≤◌, true, List, [], Some, slice_index_or}
+use Rattle.sv_history.specs.declared.event.Config.{Config}
+use Rattle.sv_history.specs.Event.{PlainEvent}
+use Rattle.std.specs.List.{AllByRecursion}
+use Rattle.sv_links.specs.declared.waiting.Entry.{Entry}
+use Rattle.sv_links.specs.Queue.{creates}
+use Rattle.sv_history.specs.Act.{Act, of, device_acts}
+use Rattle.sv_history.specs.Connection.{unanswered}
+use Rattle.sv_history.specs.CoreCall.{creates_link}
+use Rattle.sv_history.specs.Request.{core_call}
+use Rattle.sv_server.specs.Connection.Representation.{Connection, IsConnection}
+use Rattle.sv_server.specs.Device.Representation.{Device, IsDevice}
+use Rattle.sv_history.specs.Settling.{IsSettled}
+use Rattle.sv_history.specs.History.{IsLogOf}
+
+pub record State : Type 0 where
+  pub connections : List Connection
+  pub device : Device
+
+-- A call that waits was taken and isn't answered; a create_link waits for the lock.
+abbrev pub IsTaken : List Act → Entry → Type 0
+IsTaken log entry = (call : List ℕ) × (unanswered (of entry.conn log) ≡ Some call)
+    × (creates_link (core_call call) ≡ true → creates entry ≡ true)
+
+-- The state keeps what the log says, under a configuration.
+pub record Represents (state : State) (config : Config) (log : List Act) : Type 0 where
+  pub each : (c : ℕ) (other : Connection) → c < 16 → IsConnection (slice_index_or state.connections c other) (of c log)
+  pub beyond : (c : ℕ) → 16 ≤ c → of c log ≡ []
+  pub device : IsDevice state.device config (device_acts log)
+  pub taken : AllByRecursion (IsTaken log) state.device.waiting
+
+-- The server stands for a history: it keeps what the history's log says, and nothing is due.
+pub record StandsFor (state : State) (config : Config) (history : List PlainEvent) : Type 0 where
+  pub log : List Act
+  pub is_log : IsLogOf config history log
+  pub represents : Represents state config log
+  pub settled : IsSettled config log
