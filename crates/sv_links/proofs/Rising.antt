@@ -4,9 +4,9 @@ use Rattle.std.specs.Prelude.{max}
 use Rattle.std.specs.List.{AllByRecursion, filter_map, range_with_len, cons_option}
 use Rattle.std.proofs.lemmas.Bool.{cases_Bool, cases_eq, cond_both, ne_eqb, lt-ltb, le-ltb}
 use Rattle.sv_links.specs.declared.enabled.Enabled.{Enabled}
-use Rattle.sv_links.specs.Channels.{ChannelAct, SrqEnabled, SrqDisabled, ChannelOpened, ChannelClosed, Requested, ChannelTaken, asked, past, enabled}
-use Rattle.sv_links.specs.ChannelRepresentation.{IsSorted, below, above}
-use Rattle.sv_links.proofs.Asking.{other_links, none_below, all_above}
+use Rattle.sv_links.specs.Channels.{ChannelAct, SrqEnabled, SrqDisabled, asked, past, enabled}
+use Rattle.sv_links.specs.ChannelRepresentation.{IsSorted}
+use Rattle.sv_links.proofs.Asking.{below, above, other_links, none_below, all_above}
 
 -- those of n numbers, from a on
 abbrev among : ℕ → ℕ → List ChannelAct → List Enabled
@@ -33,10 +33,7 @@ asked-at lid (SrqDisabled other ∷ acts) x h = elim (cases_Bool (eqb other lid)
   | inl e ↦ absurd (let none : None ≡ Some x = rw e at h in cc)
   | inr e ↦ asked-at lid acts x (rw e at h)
 ]
-asked-at lid (ChannelOpened conn peer ∷ acts) x h = asked-at lid acts x h
-asked-at lid (ChannelClosed conn ∷ acts) x h = asked-at lid acts x h
-asked-at lid (Requested ∷ acts) x h = asked-at lid acts x h
-asked-at lid (ChannelTaken conn count ∷ acts) x h = asked-at lid acts x h
+asked-at lid (_ ∷ acts) x h = asked-at lid acts x h
 
 -- none past all numbers asks
 asked-past : (lid : ℕ) (acts : List ChannelAct) → past acts ≤ lid → asked lid acts ≡ None
@@ -45,10 +42,7 @@ asked-past lid (SrqEnabled other conn handle ∷ acts) h =
     rw (ne_eqb other lid (λ e. absurd (omega (arith, e, h)))) (asked-past lid acts (omega (arith, h)))
 asked-past lid (SrqDisabled other ∷ acts) h = cond_both (eqb other lid) None (asked lid acts) (λ link. link ≡ None)
     (λ _. refl) (λ _. asked-past lid acts h)
-asked-past lid (ChannelOpened conn peer ∷ acts) h = asked-past lid acts h
-asked-past lid (ChannelClosed conn ∷ acts) h = asked-past lid acts h
-asked-past lid (Requested ∷ acts) h = asked-past lid acts h
-asked-past lid (ChannelTaken conn count ∷ acts) h = asked-past lid acts h
+asked-past lid (_ ∷ acts) h = asked-past lid acts h
 
 -- ---- they stand by rising number
 
