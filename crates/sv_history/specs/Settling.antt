@@ -28,7 +28,8 @@ CanResume acts = IsAble (holder (link_acts acts)) (not (has_ended (exchange_acts
 
 -- The oldest suspended call that can resume does.
 abbrev pub Resumes : Config → List Act → List Act → Type 0
-Resumes config log new = (c : ℕ) × (wait : Wait) × (polled : ℕ) × IsOldest (wait_acts (device_acts log)) (CanResume (device_acts log)) (Some c)
+Resumes config log new = (c : ℕ) × (wait : Wait) × (polled : ℕ)
+    × IsOldest (wait_acts (device_acts log)) (CanResume (device_acts log)) (Some c)
     × (waits c (wait_acts (device_acts log)) ≡ Some wait) × IsPolled polled (device_acts log)
     × (new ≡ acts_of c (resumed config polled c wait (core_call_in (unanswered (of c log))) (device_acts log)) ++ log)
 
@@ -46,7 +47,8 @@ First IsOne IsOther new = IsOne new ⊎ (((one : List Act) → IsOne one → ⊥
 -- The step that is due in a log makes another of it: a trigger that comes at once; else a suspended call resumes; else a step of
 -- message exchange; else a suspended call times out.
 abbrev pub IsNext : Config → List Act → List Act → Type 0
-IsNext config log = First (InstrumentDoes IsFired log) (First (Resumes config log) (First (InstrumentDoes IsStep log) (TimesOut config log)))
+IsNext config log =
+    First (InstrumentDoes IsFired log) (First (Resumes config log) (First (InstrumentDoes IsStep log) (TimesOut config log)))
 
 -- No step is due in a log.
 abbrev pub IsSettled : Config → List Act → Type 0

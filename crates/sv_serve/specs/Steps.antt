@@ -27,8 +27,8 @@ Given event result config before after = (log : List Act) × IsLogOf config befo
     × (after ≡ record before { history = history_after event result before.history })
 
 -- whatever it answered
-abbrev pub Happens : {W : Type 0} → PlainEvent → Config → Moment W → Moment W → Type 0
-Happens event config before after = (result : Result Did Refused) × Given event result config before after
+abbrev pub Applies : {W : Type 0} → PlainEvent → Config → Moment W → Moment W → Type 0
+Applies event config before after = (result : Result Did Refused) × Given event result config before after
 
 -- who was called for the interrupt channel of a connection
 abbrev pub called_of : {W : Type 0} → ℕ → Moment W → Option Dial
@@ -39,7 +39,7 @@ Notes c dial config before after = after ≡ record before { called = slice_set 
 
 -- A connection comes, for a purpose, and gets the lowest free number; where none is free, it is dropped.
 abbrev pub Opens : {W : Type 0} → Role → Option ℕ → Answer ⊤ → Config → Moment W → Moment W → Type 0
-Opens role (Some c) (Got all) = Happens (Open c role)
+Opens role (Some c) (Got all) = Applies (Open c role)
 Opens role (Some c) Pending = Stays
 Opens role (Some c) Failed = Stays
 Opens role None answer = Stays
@@ -58,7 +58,7 @@ HangsUp hears c config before after = HangsUpOn hears c (called_of c before) con
 
 -- a connection is closed, with its interrupt channel
 abbrev pub Closes : {W : Type 0} → (W → Heard → W → Type 0) → ℕ → Config → Moment W → Moment W → Type 0
-Closes hears c = Hears hears (WasClosed (Conn c)) then HangsUp hears c then Happens (Close (Conn c))
+Closes hears c = Hears hears (WasClosed (Conn c)) then HangsUp hears c then Applies (Close (Conn c))
 
 -- if this is so
 abbrev pub ClosesIf : {W : Type 0} → (W → Heard → W → Type 0) → ℕ → Bool → Config → Moment W → Moment W → Type 0
@@ -67,7 +67,7 @@ ClosesIf hears c false = Stays
 
 -- What was read on a connection comes to the server; where reading failed, the connection is closed.
 abbrev pub Comes : {W : Type 0} → (W → Heard → W → Type 0) → ℕ → Answer (List ℕ) → Config → Moment W → Moment W → Type 0
-Comes hears c (Got bytes) = Happens (Bytes c bytes)
+Comes hears c (Got bytes) = Applies (Bytes c bytes)
 Comes hears c Pending = Stays
 Comes hears c Failed = Closes hears c
 
@@ -78,22 +78,22 @@ ReadsUpTo hears most c config before after = ((most ≡ 0) × (after ≡ before)
     × (Hears hears (WasRead c answer) then Comes hears c answer) config before after)
 
 -- as many as the connection has room for
-abbrev pub Reads : {W : Type 0} → (W → Heard → W → Type 0) → ℕ → Config → Moment W → Moment W → Type 0
-Reads hears c config before after = (most : ℕ) × HasRoom c config before most × ReadsUpTo hears most c config before after
+abbrev pub ReadsFrom : {W : Type 0} → (W → Heard → W → Type 0) → ℕ → Config → Moment W → Moment W → Type 0
+ReadsFrom hears c config before after = (most : ℕ) × HasRoom c config before most × ReadsUpTo hears most c config before after
 
 -- A connection whose call finds no memory is closed.
 abbrev pub EndsTurn : {W : Type 0} → (W → Heard → W → Type 0) → ℕ → Result Did Refused → Config → Moment W → Moment W → Type 0
 EndsTurn hears c (Ok did) = Stays
 EndsTurn hears c (Err refused) = ClosesIf hears c (is_no_memory refused)
 
-abbrev pub Takes : {W : Type 0} → (W → Heard → W → Type 0) → ℕ → Bool → Config → Moment W → Moment W → Type 0
-Takes hears c false config before after = after ≡ before
-Takes hears c true config before after =
+abbrev pub TurnsIf : {W : Type 0} → (W → Heard → W → Type 0) → ℕ → Bool → Config → Moment W → Moment W → Type 0
+TurnsIf hears c false config before after = after ≡ before
+TurnsIf hears c true config before after =
     (result : Result Did Refused) × (Given (Turn c) result then EndsTurn hears c result) config before after
 
 -- a call is taken, where one is there
 abbrev pub Turns : {W : Type 0} → (W → Heard → W → Type 0) → ℕ → Config → Moment W → Moment W → Type 0
-Turns hears c config before after = (ready : Bool) × IsReady c config before ready × Takes hears c ready config before after
+Turns hears c config before after = (ready : Bool) × IsReady c config before ready × TurnsIf hears c ready config before after
 
 -- whether this one is wanted
 abbrev pub is_wanted : Dial → Option Dial → Bool
@@ -115,15 +115,15 @@ LetsGo hears c config before after = LetsGoOf hears c (called_of c before) confi
 
 -- what comes of calling a peer
 abbrev pub Rings : {W : Type 0} → ℕ → Dial → Answer ⊤ → Config → Moment W → Moment W → Type 0
-Rings c dial (Got all) = Notes c (Some dial) then Happens (Dialed c true)
+Rings c dial (Got all) = Notes c (Some dial) then Applies (Dialed c true)
 Rings c dial Pending = Notes c (Some dial)
-Rings c dial Failed = Happens (Dialed c false)
+Rings c dial Failed = Applies (Dialed c false)
 
 -- and of waiting for one that was called
 abbrev pub Picks : {W : Type 0} → (W → Heard → W → Type 0) → ℕ → Answer ⊤ → Config → Moment W → Moment W → Type 0
-Picks hears c (Got all) = Happens (Dialed c true)
+Picks hears c (Got all) = Applies (Dialed c true)
 Picks hears c Pending = Stays
-Picks hears c Failed = HangsUp hears c then Happens (Dialed c false)
+Picks hears c Failed = HangsUp hears c then Applies (Dialed c false)
 
 abbrev pub CallsFor : {W : Type 0} → (W → Heard → W → Type 0) → ℕ → Option Dial → Option Dial → Config → Moment W → Moment W → Type 0
 CallsFor hears c None called config before after = after ≡ before
@@ -143,22 +143,22 @@ Dials hears c = LetsGo hears c then Calls hears c
 -- a connection is closed, or an interrupt channel alone
 abbrev pub BreaksOff : {W : Type 0} → (W → Heard → W → Type 0) → Port → Config → Moment W → Moment W → Type 0
 BreaksOff hears (Conn c) = Closes hears c
-BreaksOff hears (Intr c) = HangsUp hears c then Happens (Close (Intr c))
+BreaksOff hears (Intr c) = HangsUp hears c then Applies (Close (Intr c))
 
 -- What was taken of the bytes that waited leaves the server; where writing failed, the port is closed.
-abbrev pub Leaves : {W : Type 0} → (W → Heard → W → Type 0) → Port → Answer ℕ → Config → Moment W → Moment W → Type 0
-Leaves hears port (Got n) = Happens (Took port n)
-Leaves hears port Pending = Stays
-Leaves hears port Failed = BreaksOff hears port
+abbrev pub EndsWrite : {W : Type 0} → (W → Heard → W → Type 0) → Port → Answer ℕ → Config → Moment W → Moment W → Type 0
+EndsWrite hears port (Got n) = Applies (Took port n)
+EndsWrite hears port Pending = Stays
+EndsWrite hears port Failed = BreaksOff hears port
 
 abbrev pub WritesAll : {W : Type 0} → (W → Heard → W → Type 0) → Port → List ℕ → Config → Moment W → Moment W → Type 0
 WritesAll hears port bytes config before after = ((bytes ≡ []) × (after ≡ before))
     ⊎ ((0 < length bytes) × (answer : Answer ℕ) × IsWithin answer (length bytes)
-    × (Hears hears (WasWritten port bytes answer) then Leaves hears port answer) config before after)
+    × (Hears hears (WasWritten port bytes answer) then EndsWrite hears port answer) config before after)
 
 -- all bytes that wait are handed to the wire, where some do
-abbrev pub Writes : {W : Type 0} → (W → Heard → W → Type 0) → Port → Config → Moment W → Moment W → Type 0
-Writes hears port config before after =
+abbrev pub WritesTo : {W : Type 0} → (W → Heard → W → Type 0) → Port → Config → Moment W → Moment W → Type 0
+WritesTo hears port config before after =
     (bytes : List ℕ) × Waits port config before bytes × WritesAll hears port bytes config before after
 
 abbrev pub EndsIf : {W : Type 0} → (W → Heard → W → Type 0) → ℕ → Bool → Config → Moment W → Moment W → Type 0

@@ -10,12 +10,12 @@ use Rattle.sv_replay.specs.Entry.{stimulus_event}
 use Rattle.sv_replay.specs.declared.entry.Entry.{Entry}
 use Rattle.sv_serve.specs.Heard.{Heard}
 use Rattle.sv_serve.specs.Moment.{Moment, ◌then◌, Each}
-use Rattle.sv_serve.specs.Steps.{Given, Happens, Accepts, Reads, Turns, Dials, Writes, Ends}
+use Rattle.sv_serve.specs.Steps.{Given, Applies, Accepts, ReadsFrom, Turns, Dials, WritesTo, Ends}
 
 -- The first entry of the scenario is due, and happens.
 abbrev pub PlaysOne : {W : Type 0} → Config → Moment W → Moment W → Type 0
 PlaysOne config before after = (entry : Entry) × (others : List Entry) × (between : Moment _) × (before.ahead ≡ entry ∷ others)
-    × (entry.tick ≤ before.ticks) × Happens (stimulus_event entry.stimulus) config before between
+    × (entry.tick ≤ before.ticks) × Applies (stimulus_event entry.stimulus) config before between
     × (after ≡ record between { ahead = others })
 
 -- no entry is due, after so many ticks
@@ -52,6 +52,6 @@ Passes ticks = Each ticks (λ i. Plays then TicksOnce) then Plays
 -- The wire is asked for connections of each purpose; then each connection is read, then each takes a call, then peers are called; time
 -- passes; then what waits is written, on connections first; and then those that only wait to be closed are.
 abbrev pub Sweeps : {W : Type 0} → (W → Heard → W → Type 0) → ℕ → Config → Moment W → Moment W → Type 0
-Sweeps hears ticks = Accepts hears Core then Accepts hears Abort then Accepts hears Portmap then Each 16 (Reads hears)
-    then Each 16 (Turns hears) then Each 16 (Dials hears) then Passes ticks then Each 16 (λ c. Writes hears (Conn c))
-    then Each 16 (λ c. Writes hears (Intr c)) then Each 16 (Ends hears)
+Sweeps hears ticks = Accepts hears Core then Accepts hears Abort then Accepts hears Portmap then Each 16 (ReadsFrom hears)
+    then Each 16 (Turns hears) then Each 16 (Dials hears) then Passes ticks then Each 16 (λ c. WritesTo hears (Conn c))
+    then Each 16 (λ c. WritesTo hears (Intr c)) then Each 16 (Ends hears)

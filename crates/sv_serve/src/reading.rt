@@ -2,7 +2,7 @@
 
 ghost use Rattle.std.specs.Prelude.{◌<◌};
 ghost use Rattle.sv_serve.specs.Moment.{Goes, Each};
-ghost use Rattle.sv_serve.specs.Steps.{Reads, ReadsUpTo};
+ghost use Rattle.sv_serve.specs.Steps.{ReadsFrom, ReadsUpTo};
 
 use crate::driver::{CONNECTIONS, Driver};
 use crate::wire::{Answer, Wire};
@@ -12,7 +12,7 @@ use sv_server::Event;
 impl<W: Wire + Drop, A: Allocator> Driver<W, A> {
     /// Reads each connection once.
     pub(crate) fn read_each(&mut self)
-        ensures { Goes (Each 16 (Reads W.hears)) self.old self.new }
+        ensures { Goes (Each 16 (ReadsFrom W.hears)) self.old self.new }
     {
         for conn in 0..CONNECTIONS {
             self.read(conn);
@@ -22,7 +22,7 @@ impl<W: Wire + Drop, A: Allocator> Driver<W, A> {
     /// Reads a connection once, if it has room.
     fn read(&mut self, conn: u8)
         requires { conn < 16 }
-        ensures { Goes (Reads W.hears conn) self.old self.new }
+        ensures { Goes (ReadsFrom W.hears conn) self.old self.new }
     {
         let most = self.server.room(conn);
         self.read_up_to(most, conn);

@@ -3,7 +3,7 @@
 ghost use Rattle.std.specs.Prelude.{◌≡◌, ◌<◌};
 ghost use Rattle.sv_history.specs.Print.{is_no_memory};
 ghost use Rattle.sv_serve.specs.Moment.{Goes, Each};
-ghost use Rattle.sv_serve.specs.Steps.{Turns, Takes, EndsTurn};
+ghost use Rattle.sv_serve.specs.Steps.{Turns, TurnsIf, EndsTurn};
 
 use crate::driver::{CONNECTIONS, Driver};
 use crate::wire::Wire;
@@ -39,7 +39,7 @@ impl<W: Wire + Drop, A: Allocator> Driver<W, A> {
     /// Takes a call of a connection, if this is so.
     fn take(&mut self, conn: u8, ready: bool)
         requires { conn < 16 }
-        ensures { Goes (Takes W.hears conn ready) self.old self.new }
+        ensures { Goes (TurnsIf W.hears conn ready) self.old self.new }
     {
         if ready {
             let answer = self.give(Event::Turn { conn });

@@ -4,7 +4,7 @@ ghost use Rattle.std.specs.Prelude.{◌≡◌, ◌<◌, ◌≤◌, ℕ};
 ghost use Rattle.sv_history.specs.declared.event.Port.TheVariants.{Conn, Intr};
 ghost use Rattle.sv_history.specs.Event.{port_number};
 ghost use Rattle.sv_serve.specs.Moment.{Goes, Each};
-ghost use Rattle.sv_serve.specs.Steps.{Writes, Leaves};
+ghost use Rattle.sv_serve.specs.Steps.{WritesTo, EndsWrite};
 
 use crate::driver::{CONNECTIONS, Driver};
 use crate::wire::{Answer, Wire};
@@ -14,7 +14,7 @@ use sv_server::{Event, Port};
 impl<W: Wire + Drop, A: Allocator> Driver<W, A> {
     /// Writes what waits on each connection.
     pub(crate) fn write_connections(&mut self)
-        ensures { Goes (Each 16 (λ (c : ℕ). Writes W.hears (Conn c))) self.old self.new }
+        ensures { Goes (Each 16 (λ (c : ℕ). WritesTo W.hears (Conn c))) self.old self.new }
     {
         for conn in 0..CONNECTIONS {
             self.write(Port::Conn(conn));
@@ -23,7 +23,7 @@ impl<W: Wire + Drop, A: Allocator> Driver<W, A> {
 
     /// Writes what waits on each interrupt channel.
     pub(crate) fn write_channels(&mut self)
-        ensures { Goes (Each 16 (λ (c : ℕ). Writes W.hears (Intr c))) self.old self.new }
+        ensures { Goes (Each 16 (λ (c : ℕ). WritesTo W.hears (Intr c))) self.old self.new }
     {
         for conn in 0..CONNECTIONS {
             self.write(Port::Intr(conn));
@@ -34,7 +34,7 @@ impl<W: Wire + Drop, A: Allocator> Driver<W, A> {
     #[inline(always)]
     fn write(&mut self, port: Port)
         requires { port_number port < 16 }
-        ensures { Goes (Writes W.hears port) self.old self.new }
+        ensures { Goes (WritesTo W.hears port) self.old self.new }
     {
         let bytes = self.server.waiting(port);
         if bytes.is_empty() {
@@ -48,7 +48,7 @@ impl<W: Wire + Drop, A: Allocator> Driver<W, A> {
     fn leave(&mut self, port: Port, answer: Answer<usize>)
         requires number { port_number port < 16 }
         requires counted { (n : ℕ) → answer ≡ Answer.Got n → n < 4294967296 }
-        ensures { Goes (Leaves W.hears port answer) self.old self.new }
+        ensures { Goes (EndsWrite W.hears port answer) self.old self.new }
     {
         match (answer, port) {
             (Answer::Got(count), _) => {

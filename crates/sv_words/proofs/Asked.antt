@@ -7,7 +7,7 @@ use Rattle.sv_words.specs.declared.fault.ProgramFault.TheVariants.{BadWords, Run
 use Rattle.sv_words.specs.declared.words.Serve.{Serve}
 use Rattle.sv_words.specs.declared.words.Words.{Words}
 use Rattle.sv_words.specs.declared.words.Words.TheVariants.{Replay, Server}
-use Rattle.sv_words.specs.Words.{Asks, Serves, Reads}
+use Rattle.sv_words.specs.Words.{AsksFor, Serves, ReadsWords}
 
 -- the first text is that of the first word
 pub first_text : {A : Type 0} (text : A → Text) (words : List A) (word : A) → Some word ≡ slice_get words 0
@@ -17,7 +17,7 @@ first_text text (w ∷ ws) word e = ap (λ a. Some (text a)) (sym (same_Some wor
 
 -- the word `serve`, with what asks for a server
 pub asks_server : (texts : List Text) (serve : Serve) → slice_get texts 0 ≡ Some (codes "serve") → Serves texts serve
-    → Asks texts (Server serve)
+    → AsksFor texts (Server serve)
 asks_server [] serve e serves = absurd (none-some _ e)
 asks_server (t ∷ ts) serve e serves = (same_Some t _ e, serves)
 
@@ -26,14 +26,14 @@ pub differ : codes "replay" ≡ codes "serve" → ⊥
 differ is = cc
 
 no_server : (texts : List Text) → slice_get texts 0 ≡ Some (codes "serve") → ((serve : Serve) → Serves texts serve → ⊥)
-    → (asked : Words) → Asks texts asked → ⊥
+    → (asked : Words) → AsksFor texts asked → ⊥
 no_server texts e none Replay is = differ (same_Some _ _ (sym (ap (λ ts. slice_get ts 0) is) ∙ e))
 no_server [] e none (Server serve) asks = asks
 no_server (t ∷ ts) e none (Server serve) asks = none serve asks.1
 
 -- the word `serve`, with what asks for no server
-pub asks_fault : (texts : List Text) (fault : ProgramFault) → slice_get texts 0 ≡ Some (codes "serve") → Reads (Serves texts) (Err fault)
-    → Reads (Asks texts) (Err fault)
+pub asks_fault : (texts : List Text) (fault : ProgramFault) → slice_get texts 0 ≡ Some (codes "serve")
+    → ReadsWords (Serves texts) (Err fault) → ReadsWords (AsksFor texts) (Err fault)
 asks_fault texts BadWords e none = no_server texts e none
 asks_fault texts (Run fault) e is = is
 asks_fault texts Socket e never = never

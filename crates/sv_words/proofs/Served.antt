@@ -11,7 +11,7 @@ use Rattle.clap.proofs.OnLiterals.{clap_on_literals}
 use Rattle.clap.proofs.WalkLemmas.{first_value-rows}
 use Rattle.sv_words.specs.declared.words.Serve.{Serve}
 use Rattle.sv_words.specs.declared.fault.ProgramFault.{ProgramFault}
-use Rattle.sv_words.specs.Words.{serve_command, Tells, IfGiven, IsCount, Serves, Reads, Refuses}
+use Rattle.sv_words.specs.Words.{serve_command, ServesBy, IfGiven, IsCount, Serves, ReadsWords, IsUsageFault}
 
 -- the command is of the kind whose matches are a function of the words
 command_is_simple : is_simple serve_command ≡ true
@@ -29,7 +29,7 @@ same_values words found has name =
     first_value-rows (found_of found) name ∙ ap (first_of name) (has command_is_simple).0
 
 -- equal values tell the same
-pub tells_same : (f g : Text → _) → ((name : Text) → f name ≡ g name) → (serve : Serve) → Tells f serve → Tells g serve
+pub tells_same : (f g : Text → _) → ((name : Text) → f name ≡ g name) → (serve : Serve) → ServesBy f serve → ServesBy g serve
 tells_same f g same serve (core, abort, portmap, scenario, sweeps) = (
   subst (λ o. IfGiven o (λ text. IsCount 65535 text serve.core)) (same _) core,
   subst (λ o. IfGiven o (λ text. IsCount 65535 text serve.abort)) (same _) abort,
@@ -40,7 +40,7 @@ tells_same f g same serve (core, abort, portmap, scenario, sweeps) = (
 
 -- what the command found tells what is to be served, or nothing is
 pub served : (app : App) (words : List Text) (found : ArgMatches) (serve : Serve) → app ≡ serve_command → HasMatchesOf app words found
-    → (is_simple_and_free app ≡ true → fault_of app words ≡ []) → Tells (λ name. first_value (found_of found) name) serve
+    → (is_simple_and_free app ≡ true → fault_of app words ≡ []) → ServesBy (λ name. first_value (found_of found) name) serve
     → Serves words serve
 served app words found serve is has faultless tells =
     let none : fault_of serve_command words ≡ [] =
@@ -48,20 +48,20 @@ served app words found serve is has faultless tells =
     (none, tells_same _ _ (same_values words found (subst (λ (a : App). HasMatchesOf a words found) is has)) serve tells)
 
 pub not_served : (app : App) (words : List Text) (found : ArgMatches) → app ≡ serve_command → HasMatchesOf app words found
-    → ((serve : Serve) → Tells (λ name. first_value (found_of found) name) serve → ⊥) → (serve : Serve) → Serves words serve → ⊥
+    → ((serve : Serve) → ServesBy (λ name. first_value (found_of found) name) serve → ⊥) → (serve : Serve) → Serves words serve → ⊥
 not_served app words found is has tells serve serves =
     tells serve (tells_same _ _
     (λ name. sym (same_values words found (subst (λ (a : App). HasMatchesOf a words found) is has) name)) serve serves.1)
 
 -- words that the command refuses ask for no server, unless memory was refused
 pub refused : (app : App) (words : List Text) (error : Error) (fault : ProgramFault) → app ≡ serve_command
-    → (is_simple_and_free app ≡ true → HasKind (fault_of app words) error) → Refuses (kind_of error) fault
-    → Reads (Serves words) (Err fault)
-refused app words error fault is has (inl (kind, e)) = subst (λ (f : ProgramFault). Reads (Serves words) (Err f)) (sym e) refl
+    → (is_simple_and_free app ≡ true → HasKind (fault_of app words) error) → IsUsageFault (kind_of error) fault
+    → ReadsWords (Serves words) (Err fault)
+refused app words error fault is has (inl (kind, e)) = subst (λ (f : ProgramFault). ReadsWords (Serves words) (Err f)) (sym e) refl
 refused app words error fault is has (inr (kind, e)) =
     let faults : HasKind (fault_of serve_command words) error =
     subst (λ (a : App). is_simple_and_free a ≡ true → HasKind (fault_of a words) error) is has command_is_free in
-    subst (λ (f : ProgramFault). Reads (Serves words) (Err f)) (sym e)
+    subst (λ (f : ProgramFault). ReadsWords (Serves words) (Err f)) (sym e)
     (λ serve serves. none_of error kind (subst (λ faults. HasKind faults error) serves.0 faults))
   where
     none_of : (error : Error) → (kind_of error ≡ OutOfMemory → ⊥) → HasKind [] error → ⊥

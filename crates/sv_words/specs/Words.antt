@@ -32,8 +32,8 @@ IfGiven (Some text) P = P text
 IfGiven None P = ⊥
 
 -- The values of the five options, by their names, tell what is to be served.
-abbrev pub Tells : (Text → Option Text) → Serve → Type 0
-Tells value serve = IfGiven (value (codes "core")) (λ text. IsCount 65535 text serve.core)
+abbrev pub ServesBy : (Text → Option Text) → Serve → Type 0
+ServesBy value serve = IfGiven (value (codes "core")) (λ text. IsCount 65535 text serve.core)
     × IfGiven (value (codes "abort")) (λ text. IsCount 65535 text serve.abort)
     × IfGiven (value (codes "portmap")) (λ text. IsCount 65535 text serve.portmap)
     × IfGiven (value (codes "scenario")) (λ text. serve.scenario.now ≡ text)
@@ -41,20 +41,20 @@ Tells value serve = IfGiven (value (codes "core")) (λ text. IsCount 65535 text 
 
 -- The command finds no fault in the words, and the values that it matches tell what is to be served.
 abbrev pub Serves : List Text → Serve → Type 0
-Serves words serve = (fault_of serve_command words ≡ []) × Tells (λ name. first_of name (matches_of serve_command words)) serve
+Serves words serve = (fault_of serve_command words ≡ []) × ServesBy (λ name. first_of name (matches_of serve_command words)) serve
 
 -- The one word `replay`; or `serve`, with the options behind it.
-abbrev pub Asks : List Text → Words → Type 0
-Asks words Replay = words ≡ codes "replay" ∷ []
-Asks [] (Server serve) = ⊥
-Asks (word ∷ words) (Server serve) = (word ≡ codes "serve") × Serves (word ∷ words) serve
+abbrev pub AsksFor : List Text → Words → Type 0
+AsksFor words Replay = words ≡ codes "replay" ∷ []
+AsksFor [] (Server serve) = ⊥
+AsksFor (word ∷ words) (Server serve) = (word ≡ codes "serve") × Serves (word ∷ words) serve
 
 -- what reading words answers
-abbrev pub Reads : {A : Type 0} → (A → Type 0) → Result A ProgramFault → Type 0
-Reads P (Ok asked) = P asked
-Reads {A} P (Err BadWords) = (asked : A) → P asked → ⊥
-Reads P (Err (Run fault)) = fault ≡ Memory
-Reads P (Err Socket) = ⊥
+abbrev pub ReadsWords : {A : Type 0} → (A → Type 0) → Result A ProgramFault → Type 0
+ReadsWords P (Ok asked) = P asked
+ReadsWords {A} P (Err BadWords) = (asked : A) → P asked → ⊥
+ReadsWords P (Err (Run fault)) = fault ≡ Memory
+ReadsWords P (Err Socket) = ⊥
 
 -- one that is so is found, if there is one
 abbrev pub Finds : {A : Type 0} → (A → Type 0) → Option A → Type 0
@@ -62,5 +62,5 @@ Finds P (Some found) = P found
 Finds {A} P None = (other : A) → P other → ⊥
 
 -- Words that the command refuses are bad, unless memory was refused.
-abbrev pub Refuses : ErrorKind → ProgramFault → Type 0
-Refuses kind fault = ((kind ≡ OutOfMemory) × (fault ≡ Run Memory)) ⊎ ((kind ≡ OutOfMemory → ⊥) × (fault ≡ BadWords))
+abbrev pub IsUsageFault : ErrorKind → ProgramFault → Type 0
+IsUsageFault kind fault = ((kind ≡ OutOfMemory) × (fault ≡ Run Memory)) ⊎ ((kind ≡ OutOfMemory → ⊥) × (fault ≡ BadWords))

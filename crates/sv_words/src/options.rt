@@ -4,7 +4,7 @@ ghost use Rattle.std.specs.Prelude.{◌≡◌, ◌≤◌, ◌==◌, false, IfOk,
 ghost use Rattle.clap.specs.Words.{app_of};
 ghost use Rattle.clap.specs.Matches.{found_of, first_value};
 ghost use Rattle.clap.specs.Walk.{rule_of};
-ghost use Rattle.sv_words.specs.Words.{option, serve_command, IsCount, IfGiven, Tells, Finds};
+ghost use Rattle.sv_words.specs.Words.{option, serve_command, IsCount, IfGiven, ServesBy, Finds};
 
 use crate::words::Serve;
 use clap::{Arg, ArgAction, ArgMatches, Command};
@@ -80,7 +80,7 @@ fn count_of(matches: &ArgMatches<'_>, name: &str, most: u32) -> Option<u32>
 
 /// What is to be served, by the values of the options.
 pub(crate) fn told<'a>(matches: &ArgMatches<'a>) -> Option<Serve<'a>>
-    ensures { Finds (Tells (λ name. first_value (found_of matches.now) name)) result }
+    ensures { Finds (ServesBy (λ name. first_value (found_of matches.now) name)) result }
 {
     Some(Serve {
         core: count_of(matches, "core", 65_535)? as u16,

@@ -2,7 +2,7 @@
 
 ghost use Rattle.std.specs.Prelude.{◌≡◌, map};
 ghost use Rattle.clap.specs.Values.{kind_of};
-ghost use Rattle.sv_words.specs.Words.{Serves, Asks, Reads, Refuses};
+ghost use Rattle.sv_words.specs.Words.{Serves, AsksFor, ReadsWords, IsUsageFault};
 
 use crate::fault::ProgramFault;
 use crate::options::{command, told};
@@ -44,7 +44,7 @@ pub struct Serve<'a> {
 /// # Errors
 /// `BadWords` for all others, and where memory is refused its fault.
 pub fn read_words<'a, S: AsStr>(alloc: Global, words: &'a [S]) -> Result<Words<'a>, ProgramFault>
-    ensures { Reads (Asks (map S.text words.now)) result }
+    ensures { ReadsWords (AsksFor (map S.text words.now)) result }
 {
     let Some(first) = words.first() else {
         return Err(ProgramFault::BadWords);
@@ -65,7 +65,7 @@ pub fn read_words<'a, S: AsStr>(alloc: Global, words: &'a [S]) -> Result<Words<'
 
 /// Reads the word `serve` and the options behind it.
 fn read_serve<'a, S: AsStr>(alloc: Global, words: &'a [S]) -> Result<Serve<'a>, ProgramFault>
-    ensures { Reads (Serves (map S.text words.now)) result }
+    ensures { ReadsWords (Serves (map S.text words.now)) result }
 {
     let Ok(command) = command(alloc) else {
         return Err(ProgramFault::Run(RunFault::Memory));
@@ -81,7 +81,7 @@ fn read_serve<'a, S: AsStr>(alloc: Global, words: &'a [S]) -> Result<Serve<'a>, 
 
 /// Why words were refused.
 fn refused(error: &Error) -> ProgramFault
-    ensures { Refuses (kind_of error.now) result }
+    ensures { IsUsageFault (kind_of error.now) result }
 {
     match error.kind() {
         ErrorKind::OutOfMemory => ProgramFault::Run(RunFault::Memory),

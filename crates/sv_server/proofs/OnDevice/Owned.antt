@@ -9,8 +9,8 @@ use Rattle.sv_links.specs.declared.enabled.Enabled.{Enabled}
 use Rattle.sv_links.specs.Links.{LinkAct, Made, Destroyed, live, owner, is_of, links_of, closing}
 use Rattle.sv_links.specs.Table.{IsRising}
 use Rattle.sv_links.specs.Channels.{ChannelAct, SrqDisabled}
-use Rattle.sv_links.specs.ChannelRepresentation.{IsSorted, disabled, of_others, below, above}
-use Rattle.sv_links.proofs.Asking.{sorted-filter}
+use Rattle.sv_links.specs.ChannelRepresentation.{IsSorted, disabled, of_others}
+use Rattle.sv_links.proofs.Asking.{below, above, sorted-filter}
 use Rattle.sv_links.proofs.Tables.{Below, above-filter, other_than}
 use Rattle.sv_history.specs.Act.{DeviceAct, Linked, link_acts}
 use Rattle.sv_server.specs.Device.Representation.{AreOwned}

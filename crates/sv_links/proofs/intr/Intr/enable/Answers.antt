@@ -8,8 +8,8 @@ use Rattle.std.proofs.lemmas.Bool.{cond-true}
 use Rattle.std.proofs.lemmas.List.Edits.{length-insert}
 use Rattle.std.proofs.lemmas.List.Filters.{length-filter_both}
 use Rattle.sv_links.specs.declared.enabled.Enabled.{Enabled}
-use Rattle.sv_links.specs.ChannelRepresentation.{Channel, Channels, AreChannels, IsSorted, below, above}
-use Rattle.sv_links.proofs.Asking.{other_links, sorted-inserted, inserted}
+use Rattle.sv_links.specs.ChannelRepresentation.{Channel, Channels, AreChannels, IsSorted}
+use Rattle.sv_links.proofs.Asking.{below, above, other_links, sorted-inserted, inserted}
 use Rattle.sv_links.proofs.Acts.{AreChannels-enabled}
 use Rattle.sv_links.proofs.intr.Intr.enable.Goals as goal
 use Rattle.sv_links.proofs.intr.Intr.enable.Given as given

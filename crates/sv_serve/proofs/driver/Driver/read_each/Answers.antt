@@ -1,6 +1,6 @@
 use Rattle.std.proofs.Common.{refl, arith, ◌+◌}
 use Rattle.sv_serve.specs.Moment.{moment}
-use Rattle.sv_serve.specs.Steps.{Reads}
+use Rattle.sv_serve.specs.Steps.{ReadsFrom}
 use Rattle.sv_serve.proofs.Joined.{one_more, as_many}
 use Rattle.sv_serve.proofs.driver.Driver.read_each.Goals as goal
 
@@ -13,11 +13,11 @@ loop-conn-preserved g c = λ config history stands.
     let (h1, s1, p1) = c.read.ensures config h0 s0 in (
       h1,
       s1,
-      one_more (Reads g.W.Wire.hears) config c.loop-conn.conn (c.loop-conn.conn + 1)
+      one_more (ReadsFrom g.W.Wire.hears) config c.loop-conn.conn (c.loop-conn.conn + 1)
           _ (moment c.loop-conn.self h0) _ (omega arith) p0 p1,
     )
 
 pub returns : goal.returns
 returns g c = λ config history stands.
     let (h0, s0, p0) = c.loop-conn.invariant config history stands in
-    (h0, s0, as_many (Reads g.W.Wire.hears) config c.loop-conn.conn 16 _ (moment c.loop-conn.self h0) (omega arith) p0)
+    (h0, s0, as_many (ReadsFrom g.W.Wire.hears) config c.loop-conn.conn 16 _ (moment c.loop-conn.self h0) (omega arith) p0)

@@ -1,7 +1,7 @@
 use Rattle.std.proofs.Common.{refl, arith, ℕ, ◌+◌}
 use Rattle.sv_serve.specs.Moment.{moment}
 use Rattle.sv_history.specs.declared.event.Port.TheVariants.{Conn}
-use Rattle.sv_serve.specs.Steps.{Writes}
+use Rattle.sv_serve.specs.Steps.{WritesTo}
 use Rattle.sv_serve.proofs.Joined.{one_more, as_many}
 use Rattle.sv_serve.proofs.driver.Driver.write_connections.Goals as goal
 
@@ -14,11 +14,12 @@ loop-conn-preserved g c = λ config history stands.
     let (h1, s1, p1) = c.write.ensures config h0 s0 in (
       h1,
       s1,
-      one_more (λ (c : ℕ). Writes g.W.Wire.hears (Conn c)) config c.loop-conn.conn (c.loop-conn.conn + 1)
+      one_more (λ (c : ℕ). WritesTo g.W.Wire.hears (Conn c)) config c.loop-conn.conn (c.loop-conn.conn + 1)
           _ (moment c.loop-conn.self h0) _ (omega arith) p0 p1,
     )
 
 pub returns : goal.returns
 returns g c = λ config history stands.
     let (h0, s0, p0) = c.loop-conn.invariant config history stands in
-    (h0, s0, as_many (λ (c : ℕ). Writes g.W.Wire.hears (Conn c)) config c.loop-conn.conn 16 _ (moment c.loop-conn.self h0) (omega arith) p0)
+    (h0, s0, as_many (λ (c : ℕ). WritesTo g.W.Wire.hears (Conn c)) config c.loop-conn.conn 16 _ (moment c.loop-conn.self h0)
+        (omega arith) p0)
