@@ -19,7 +19,7 @@ DOC = $(DESTDIR)$(PREFIX)/share/doc/scanvolt
 DATA_FILES := examples/bench.scenario examples/identity.replay examples/scan.replay
 DOC_FILES := LICENSE CHANGELOG.md docs/INSTRUMENT.md docs/REPLAY.md examples/identity.md examples/scan.md
 
-.PHONY: test lint check scanvolt run serve bench echo clients hostile install uninstall dist
+.PHONY: test lint check scanvolt run serve bench echo clients hostile install uninstall dist packages
 
 # What a proof doesn't see (tools/lint); then proves every crate and its tests from nothing, tries
 # the must-fail edits, and runs the programs and the tests.
@@ -84,3 +84,8 @@ uninstall:
 # Packs the proved program as a .tar.gz and a .deb in dist/, with their checksums.
 dist: $(PROVED)
 	@RT=$(RT) tools/dist $(SERVER)
+
+# Packs as above, and tries the packages: they are installed, serve and replay. With ROOT, a clean
+# root as debootstrap makes one, dpkg installs in it; that wants root.
+packages: dist
+	@tools/packages $(ROOT)
