@@ -10,7 +10,16 @@ endif
 # What the server is measured beside.
 ECHO := crates/echo/out/echo
 
-.PHONY: test lint check scanvolt run serve bench echo clients hostile
+# Where the program is installed; DESTDIR, if given, stands in front.
+PREFIX ?= /usr/local
+BIN = $(DESTDIR)$(PREFIX)/bin
+MAN = $(DESTDIR)$(PREFIX)/share/man/man1
+DATA = $(DESTDIR)$(PREFIX)/share/scanvolt
+DOC = $(DESTDIR)$(PREFIX)/share/doc/scanvolt
+DATA_FILES := examples/bench.scenario examples/identity.replay examples/scan.replay
+DOC_FILES := LICENSE CHANGELOG.md docs/INSTRUMENT.md docs/REPLAY.md examples/identity.md examples/scan.md
+
+.PHONY: test lint check scanvolt run serve bench echo clients hostile install uninstall dist packages
 
 # What a proof doesn't see (tools/lint); then proves every crate and its tests from nothing, tries
 # the must-fail edits, and runs the programs and the tests.
@@ -57,3 +66,26 @@ clients: $(PROVED)
 # never read, beside one that must lose no reply.
 hostile: $(PROVED)
 	@tools/hostile $(SERVER)
+
+# Installs the proved program, its man page, the scenario and scripts of the examples, and the licence.
+install: $(PROVED)
+	@install -d -m 755 $(BIN) $(MAN) $(DATA) $(DOC)
+	@install -m 755 $(SERVER) $(BIN)/scanvolt
+	@install -m 644 docs/scanvolt.1 $(MAN)
+	@install -m 644 $(DATA_FILES) $(DATA)
+	@install -m 644 $(DOC_FILES) $(DOC)
+
+# Removes what install put there, with the same PREFIX and DESTDIR.
+uninstall:
+	@rm -f $(BIN)/scanvolt $(MAN)/scanvolt.1
+	@rm -f $(addprefix $(DATA)/,$(notdir $(DATA_FILES))) $(addprefix $(DOC)/,$(notdir $(DOC_FILES)))
+	@for folder in $(DATA) $(DOC); do [ ! -d $$folder ] || rmdir $$folder; done
+
+# Packs the proved program as a .tar.gz and a .deb in dist/, with their checksums.
+dist: $(PROVED)
+	@RT=$(RT) tools/dist $(SERVER)
+
+# Packs as above, and tries the packages: they are installed, serve and replay. With ROOT, a clean
+# root as debootstrap makes one, dpkg installs in it; that wants root.
+packages: dist
+	@tools/packages $(ROOT)
