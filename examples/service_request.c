@@ -134,6 +134,11 @@ int main(int count, char **words)
     Create_LinkResp *made = done("create_link", create_link_1(&wanted, core));
     meter = made->lid;
 
+    /* What others left: an unread answer, settings, events, and what they enabled. */
+    Device_GenericParms plain = { .lid = meter, .io_timeout = MILLISECONDS };
+    done("device_clear", device_clear_1(&plain, core));
+    tell("*RST;*CLS;*ESE 0;*SRE 0");
+
     Device_RemoteFunc remote = {
         .hostAddr = INADDR_LOOPBACK, .hostPort = listen_here(), .progNum = DEVICE_INTR,
         .progVers = DEVICE_INTR_VERSION, .progFamily = DEVICE_TCP };
@@ -144,15 +149,12 @@ int main(int count, char **words)
     done("device_enable_srq", device_enable_srq_1(&enable, core));
     printf("the interrupt channel is open\n");
 
-    Device_GenericParms plain = { .lid = meter, .io_timeout = MILLISECONDS };
-    done("device_clear", device_clear_1(&plain, core));
-    tell("*RST;*CLS");
     ask("*IDN?");
 
     /* *OPC sets bit 0 of the standard events, when the scan is done; that requests service. */
     tell("CONF:VOLT (@1,4,2);:TRIG:SOUR EXT;*ESE 1;*SRE 32");
-    tell("INIT;*OPC");
     printf("status byte before: %d\n", poll_status());
+    tell("INIT;*OPC");
     wait_for_request();
     printf("status byte behind: %d, and once more: ", poll_status());
     printf("%d\n", poll_status());
