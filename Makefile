@@ -1,10 +1,11 @@
 # What can be done here; the README says what each proves and how long it takes.
 RT ?= rt
 
-# The program that is served and measured: the proved one, unless SERVER names another.
+# The program that is measured and tried: the proved one, unless SERVER names another.
+GIVEN := $(SERVER)
 ifndef SERVER
 SERVER := crates/scanvolt/out/scanvolt
-PROVED := scanvolt
+PROOF := scanvolt
 endif
 
 # What the server is measured beside.
@@ -42,14 +43,16 @@ scanvolt:
 run:
 	@cd crates/scanvolt && $(RT) try -- replay < ../../examples/scan.replay
 
-# Serves an instrument with the proved program, on ports that need no root, until it is stopped.
-serve: $(PROVED)
-	@$(SERVER) serve --core 4096 --abort 4097 --portmap 4111 \
-	    --scenario examples/bench.scenario --sweeps 4294967295
+# Serves an instrument until it is stopped, with the program built with run-time checks and no
+# proof. These may be set: CORE, ABORT and PORTMAP, the ports; SCENARIO, a file; PORT111=1, the port
+# mapper on port 111; PROVED=1, the proved program; SERVER, another. `tools/serve --help` tells all.
+serve:
+	@exec tools/serve 'CORE=$(CORE)' 'ABORT=$(ABORT)' 'PORTMAP=$(PORTMAP)' 'SCENARIO=$(SCENARIO)' \
+	    'PORT111=$(PORT111)' 'PROVED=$(PROVED)' 'SERVER=$(GIVEN)'
 
 # Proves the program as above and measures it: its speed and memory, and what they are to be.
 # Then the same of its server, beside one by rpcgen and beside a bare echo.
-bench: $(PROVED) echo
+bench: $(PROOF) echo
 	@bench/run $(SERVER)
 	@bench/serve $(SERVER) $(ECHO)
 
@@ -59,12 +62,12 @@ echo:
 
 # Runs the clients of examples/ against the program and compares what they print; it needs some
 # Debian packages, which it names, and a network namespace, so root.
-clients: $(PROVED)
+clients: $(PROOF)
 	@tools/clients $(SERVER)
 
 # Serves with the program, and sends it peers that drop, reset, half-close, send random bytes or
 # never read, beside one that must lose no reply.
-hostile: $(PROVED)
+hostile: $(PROOF)
 	@tools/hostile $(SERVER)
 
 # Installs the proved program, its man page, the scenario and scripts of the examples, and the licence.

@@ -1,12 +1,14 @@
 #!/usr/bin/python3
-"""A scan and a limit, with PyVISA over VXI-11: scan.py [ADDRESS]
+"""A scan and a limit, with PyVISA over VXI-11: scan.py [PORTMAP [ADDRESS]]
 
-The instrument's port mapper has to answer at port 111, which PyVISA-py always asks.
+PORTMAP is the port of the instrument's port mapper, 4111 if not said: that of `make serve`. Real
+instruments have 111.
 """
 import sys
 import time
 
 import pyvisa
+from pyvisa_py.protocols import rpc
 
 REQUEST = 64    # bit 6 of the status byte: the instrument requests service
 
@@ -27,15 +29,17 @@ def voltages(answer):
     return [float(text) for text in answer.split(",")]
 
 
-address = sys.argv[1] if len(sys.argv) > 1 else "127.0.0.1"
+rpc.PMAP_PORT = int(sys.argv[1]) if len(sys.argv) > 1 else 4111     # PyVISA-py would ask 111
+address = sys.argv[2] if len(sys.argv) > 2 else "127.0.0.1"
 manager = pyvisa.ResourceManager("@py")
 meter = manager.open_resource("TCPIP::%s::inst0::INSTR" % address)
 meter.read_termination = meter.write_termination = "\n"
 meter.timeout = 5000    # milliseconds; longer than any scan
 
-# What others left: first their unread answers, then their settings and events.
+# What others left: first their unread answers, then their settings and events, then what they
+# enabled, which *RST keeps.
 meter.clear()
-meter.write("*RST;*CLS")
+meter.write("*RST;*CLS;*ESE 0;*SRE 0;:STAT:PRES")
 print("instrument:", meter.query("*IDN?"))
 
 # Two scans of three channels. *OPC sets bit 0 of the standard events when both are done, *ESE lets
@@ -49,7 +53,8 @@ for place, volts in enumerate(voltages(meter.query("FETC?"))):
     print("scan %d, channel %d: %s" % (place // 3 + 1, (1, 4, 2)[place % 3], shown))
 
 # A watch on channel 3, without a scan: bit 11 (2048) of the questionable register tells that the
-# monitored input is outside the limits, and that is bit 3 (8) of the status byte.
+# monitored input is outside the limits, and that is bit 3 (8) of the status byte. Channel 3 has
+# 7.5 V, so the request comes as soon as there is a limit of 5 V.
 meter.write("*CLS;ROUT:MON (@3);:CALC:LIM:UPP 5;STAT ON;:STAT:QUES:ENAB 2048;*SRE 8")
 print("outside the limits, status byte:", wait_for_request(meter))
 print("questionable events:", meter.query("STAT:QUES?"))

@@ -120,6 +120,20 @@ static void wait_for_request(void)
     }
 }
 
+/* Opens the interrupt channel, and has service requests come on it with a handle. */
+static void open_channel(void)
+{
+    Device_RemoteFunc remote = {
+        .hostAddr = INADDR_LOOPBACK, .hostPort = listen_here(), .progNum = DEVICE_INTR,
+        .progVers = DEVICE_INTR_VERSION, .progFamily = DEVICE_TCP };
+    done("create_intr_chan", create_intr_chan_1(&remote, core));
+    Device_EnableSrqParms enable = { .lid = meter, .enable = TRUE };
+    enable.handle.handle_val = "the scan";
+    enable.handle.handle_len = strlen("the scan");
+    done("device_enable_srq", device_enable_srq_1(&enable, core));
+    printf("the interrupt channel is open\n");
+}
+
 int main(int count, char **words)
 {
     /* clnt_create would ask the port mapper by UDP; with a port in the address nobody is asked. */
@@ -134,25 +148,18 @@ int main(int count, char **words)
     Create_LinkResp *made = done("create_link", create_link_1(&wanted, core));
     meter = made->lid;
 
-    Device_RemoteFunc remote = {
-        .hostAddr = INADDR_LOOPBACK, .hostPort = listen_here(), .progNum = DEVICE_INTR,
-        .progVers = DEVICE_INTR_VERSION, .progFamily = DEVICE_TCP };
-    done("create_intr_chan", create_intr_chan_1(&remote, core));
-    Device_EnableSrqParms enable = { .lid = meter, .enable = TRUE };
-    enable.handle.handle_val = "the scan";
-    enable.handle.handle_len = strlen("the scan");
-    done("device_enable_srq", device_enable_srq_1(&enable, core));
-    printf("the interrupt channel is open\n");
-
+    /* What others left: an unread answer, settings, events, and what they enabled. */
     Device_GenericParms plain = { .lid = meter, .io_timeout = MILLISECONDS };
     done("device_clear", device_clear_1(&plain, core));
-    tell("*RST;*CLS");
+    tell("*RST;*CLS;*ESE 0;*SRE 0");
+
+    open_channel();
     ask("*IDN?");
 
     /* *OPC sets bit 0 of the standard events, when the scan is done; that requests service. */
     tell("CONF:VOLT (@1,4,2);:TRIG:SOUR EXT;*ESE 1;*SRE 32");
-    tell("INIT;*OPC");
     printf("status byte before: %d\n", poll_status());
+    tell("INIT;*OPC");
     wait_for_request();
     printf("status byte behind: %d, and once more: ", poll_status());
     printf("%d\n", poll_status());
