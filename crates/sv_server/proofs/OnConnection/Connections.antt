@@ -81,7 +81,9 @@ fault_among : (records : List (List ℕ)) (tail : Tail) → is_fault (next_among
 fault_among (r ∷ rs) (Header payload header) = refl
 fault_among (r ∷ rs) (Data payload missing last) = refl
 fault_among (r ∷ rs) TooLong = refl
-fault_among [] _ = refl
+fault_among [] (Header payload header) = refl
+fault_among [] (Data payload missing last) = refl
+fault_among [] TooLong = refl
 
 turned : (a b : Bool) → (a || b) ≡ (b || a)
 turned true true = refl
