@@ -1,0 +1,5 @@
+"""A session with scanvolt, from its capture to a replay script and a comparison: tools/capture.
+
+packets: what tshark reads. streams: TCP put in order. rpc: records, calls and replies. session: what
+the server was given, and what it sent. script: the lines of a replay. compare: the replies of both.
+"""
