@@ -5,6 +5,8 @@ from dataclasses import dataclass
 from .packets import Fault
 from .script import MARKED, script
 
+FAR = 10        # how many milliseconds the start may be wrong
+
 
 @dataclass
 class Difference:
@@ -45,6 +47,7 @@ class Comparison:
         self.entries = entries
         self.program = program
         self.found = {}
+        self.early = 0          # how many milliseconds the start is taken earlier than told
 
     def first(self, ticks, last=None):
         """The first difference, up to the last point, with so many ticks in front of each."""
@@ -95,14 +98,27 @@ class Comparison:
             difference = self.first(ticks)
             if difference is None:
                 return None, ticks
-            for trial in self.trials(ticks, difference, slack):
-                again = self.first(trial, difference.point)
-                if again is None:
-                    ticks = trial
-                    break
-            else:
-                self.first(ticks)
+            trial = self.better(ticks, difference, slack)
+            if trial is None:
                 return difference, ticks
+            ticks = trial
+
+    def better(self, ticks, difference, slack):
+        """Ticks with which there is no difference up to this one's point, if some are found: those
+        of one point moved, or the start.
+        """
+        for trial in self.trials(ticks, difference, slack):
+            if self.first(trial, difference.point) is None:
+                return trial
+        if not self.entries or not slack:
+            return None
+        for count in range(1, FAR + 1):
+            for step in (count, -count):
+                trial = [max(0, point.ticks + step) for point in self.points]
+                if abs(step) > abs(self.early) and self.first(trial, difference.point) is None:
+                    self.early = step
+                    return trial
+        return None
 
     def trials(self, ticks, difference, slack):
         """Ticks of which one point has some more or fewer: that of the turn, that of the reply."""
@@ -120,7 +136,8 @@ class Comparison:
                         yield trial
 
     def is_near(self, ticks, slack):
-        return all(abs(count - point.ticks) <= slack for count, point in zip(ticks, self.points))
+        return all(abs(count - max(0, point.ticks + self.early)) <= slack
+                   for count, point in zip(ticks, self.points))
 
     def moved(self, ticks, place, step):
         """The ticks with some more or fewer at a point; others give way."""

@@ -4,8 +4,8 @@ from dataclasses import dataclass
 
 FIELDS = ("frame.number", "frame.time_epoch", "tcp.stream", "ip.src", "tcp.srcport", "ip.dst",
           "tcp.dstport", "tcp.seq_raw", "tcp.ack_raw", "tcp.flags", "tcp.len", "tcp.payload")
-# No protocol above TCP: its reading would take time, and could join or hide packets.
-PROTOCOLS = ("frame", "eth", "null", "raw", "sll", "sll2", "ip", "tcp")
+# The segments as they are: nothing above TCP is read, and none are joined.
+PLAIN = ["-o", "tcp.desegment_tcp_streams:FALSE", "--disable-protocol", "rpc"]
 FIN, SYN, RST, ACK = 1, 2, 4, 16
 
 
@@ -50,8 +50,7 @@ def packet(line):
 def packets(path):
     """The TCP packets of a capture, in its order."""
     command = ["tshark", "-n", "-r", path, "-Y", "tcp && ip", "-T", "fields",
-               "-E", "separator=/t", "-E", "occurrence=f", "--disable-all-protocols"]
-    command += [word for name in PROTOCOLS for word in ("--enable-protocol", name)]
+               "-E", "separator=/t", "-E", "occurrence=f"] + PLAIN
     command += [word for name in FIELDS for word in ("-e", name)]
     try:
         told = subprocess.run(command, capture_output=True, text=True, check=False)

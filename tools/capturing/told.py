@@ -30,14 +30,18 @@ def summary(session):
     return ", ".join(told)
 
 
-def moves(points, ticks):
+def moves(comparison, ticks):
     """How many points have other ticks than their times say."""
-    found = [abs(point.ticks - count) for point, count in zip(points, ticks)]
+    points, early = comparison.points, comparison.early
+    found = [abs(max(0, point.ticks + early) - count) for point, count in zip(points, ticks)]
     count = sum(1 for one in found if one)
+    start = ""
+    if early:
+        start = " of a start %d ms %s" % (abs(early), "earlier" if early > 0 else "later")
     if not count:
-        return "at the ticks of the capture's times"
-    return "with the ticks of %d of %d events moved, by at most %d ms" % (
-        count, len(points), max(found))
+        return "at the ticks of the capture's times" + start
+    return "with the ticks of %d of %d events moved by at most %d ms%s" % (
+        count, len(points), max(found), start)
 
 
 def seconds(points, place):
