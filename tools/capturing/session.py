@@ -11,6 +11,7 @@ from .rpc import CREATE_INTR_CHAN, CREATE_LINK, DESTROY_INTR_CHAN, GETPORT, RESU
 MILLISECOND = 10 ** 6
 IDLE = 550_000          # how long the last sweep of an idle server is ago, on average
 WRITING = 100_000       # from the beginning of a sweep to its write
+READING = 50_000        # from a write to the next sweep's reads
 TOGETHER = 500_000      # what comes within so many nanoseconds may have met one sweep
 CONNECTIONS = 16
 TOLD = {"core": 4096, "abort": 4097}     # the ports that the server of a replay tells
@@ -133,7 +134,10 @@ class Session:
             self.reply(connection, record, point)
         lines = []
         connection.feed(b"", lines)
-        if lines or connection.is_ready():
+        # A sweep that reads the end of the stream closes it, and takes no call.
+        left = connection.stream.left
+        ends = not lines and left is not None and left <= what.time + READING
+        if lines or connection.is_ready() and not ends:
             point = self.point(self.swept)
             point.lines += lines
             if connection.is_ready():

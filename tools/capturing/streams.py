@@ -23,6 +23,8 @@ class Stream:
     caller: tuple
     callee: tuple
     begun: int
+    # When its caller sent its end.
+    left: object = None
     happenings: list = field(default_factory=list)
 
     def name(self):
@@ -105,6 +107,8 @@ class Following:
             self.tell(packet, "sent" if called else "answered", joined)
         if packet.flags & FIN:
             side.end = side.offset(packet.seq) + len(packet.data)
+            if called and self.stream.left is None:
+                self.stream.left = packet.time
         if not called and side.ended():
             self.over = True
             self.tell(packet, "closed")
