@@ -49,9 +49,11 @@ echo:
 	@cd crates/echo && $(RT) run -- 0 10 > /dev/null
 
 # Runs the clients of examples/ against the program and compares what they print; it needs some
-# Debian packages, which it names, and a network namespace, so root.
+# Debian packages, which it names, and a network namespace, so root. Then types the commands of the
+# documents, and compares what they print.
 clients: $(PROVED)
 	@tools/clients $(SERVER)
+	@tools/documents $(SERVER)
 
 # Serves with the program, and sends it peers that drop, reset, half-close, send random bytes or
 # never read, beside one that must lose no reply.
