@@ -2,6 +2,8 @@
 import subprocess
 from dataclasses import dataclass
 
+from . import orders
+from .flows import reply_at
 from .packets import Fault
 from .script import MARKED, script
 
@@ -48,6 +50,7 @@ class Comparison:
         self.program = program
         self.found = {}
         self.early = 0          # how many milliseconds the start is taken earlier than told
+        self.swapped = 0        # calls that are taken later than told
 
     def first(self, ticks, last=None):
         """The first difference, up to the last point, with so many ticks in front of each."""
@@ -107,6 +110,8 @@ class Comparison:
         """Ticks with which there is no difference up to this one's point, if some are found: those
         of one point moved, or the start.
         """
+        if slack and self.reorder(ticks, difference):
+            return ticks
         for trial in self.trials(ticks, difference, slack):
             if self.first(trial, difference.point) is None:
                 return trial
@@ -119,6 +124,14 @@ class Comparison:
                     self.early = step
                     return trial
         return None
+
+    def reorder(self, ticks, difference):
+        """Whether the difference is gone once a call is taken behind another connection's."""
+        for _ in orders.later(self.points, dict(self.found), difference):
+            if self.first(ticks, difference.point) is None:
+                self.swapped += 1
+                return True
+        return False
 
     def trials(self, ticks, difference, slack):
         """Ticks of which one point has some more or fewer: that of the turn, that of the reply."""
@@ -146,8 +159,3 @@ class Comparison:
             return None
         return ([min(one, count) for one in ticks[:place]] + [count] +
                 [max(one, count) for one in ticks[place + 1:]])
-
-
-def reply_at(flow, place):
-    """The reply that has this byte of a flow, if there is one."""
-    return next((reply for reply in flow.replies if reply.end > place), None)

@@ -93,3 +93,8 @@ class Connection:
         """Has its next call taken, at the point of this place."""
         self.turns.append(place)
         lines.append("turn %d" % self.number)
+
+
+def reply_at(flow, place):
+    """The reply that has this byte of a flow, if there is one."""
+    return next((reply for reply in flow.replies if reply.end > place), None)

@@ -1,5 +1,5 @@
 """What is told of a comparison."""
-from .compare import reply_at
+from .flows import reply_at
 
 MOST = 160      # hexadecimal digits that are shown of a reply
 
@@ -38,6 +38,8 @@ def moves(comparison, ticks):
     start = ""
     if early:
         start = " of a start %d ms %s" % (abs(early), "earlier" if early > 0 else "later")
+    if comparison.swapped:
+        start += ", %s behind another connection's" % counted(comparison.swapped, "call")
     if not count:
         return "at the ticks of the capture's times" + start
     return "with the ticks of %d of %d events moved by at most %d ms%s" % (
