@@ -64,6 +64,7 @@ echo:
 # Debian packages, which it names, and a network namespace, so root.
 clients: $(PROOF)
 	@tools/clients $(SERVER)
+	@tools/documents $(SERVER)
 
 # Serves with the program, and sends it peers that drop, reset, half-close, send random bytes or
 # never read, beside one that must lose no reply.

@@ -1,0 +1,161 @@
+"""What a replay sends, beside what the capture has; and ticks that lie a bit otherwise."""
+import subprocess
+from dataclasses import dataclass
+
+from . import orders
+from .flows import reply_at
+from .packets import Fault
+from .script import MARKED, script
+
+FAR = 10        # how many milliseconds the start may be wrong
+
+
+@dataclass
+class Difference:
+    """The first difference: `differs`, `missing`, `more` or `refused`, at a byte of a flow that was
+    met at this point, and what the replay has there.
+    """
+    kind: str
+    point: int
+    flow: object = None
+    place: int = 0
+    found: bytes = b""
+
+
+def replies(program, lines):
+    """What the replay prints behind each point."""
+    text = "".join(line + "\n" for line in lines).encode()
+    try:
+        told = subprocess.run([program, "replay"], input=text, capture_output=True, check=False)
+    except OSError as error:
+        raise Fault("%s doesn't run: %s" % (program, error.strerror)) from None
+    if told.returncode != 0:
+        raise Fault("%s replay: status %d, %s" % (
+            program, told.returncode, told.stderr.decode(errors="replace").strip()))
+    blocks = [[]]
+    for line in told.stdout.decode().splitlines():
+        if line == MARKED:
+            blocks.append([])
+        else:
+            blocks[-1].append(line.split())
+    return blocks[:-1]
+
+
+class Comparison:
+    """A session, and the program that replays it."""
+
+    def __init__(self, session, entries, program):
+        self.points = session.points
+        self.entries = entries
+        self.program = program
+        self.found = {}
+        self.early = 0          # how many milliseconds the start is taken earlier than told
+        self.swapped = 0        # calls that are taken later than told
+
+    def first(self, ticks, last=None):
+        """The first difference, up to the last point, with so many ticks in front of each."""
+        points = self.points if last is None else self.points[:last + 1]
+        blocks = replies(self.program, script(points, ticks, self.entries, mark=True))
+        self.found = {}
+        for number, (point, block) in enumerate(zip(points, blocks)):
+            difference = self.at(number, point, block)
+            if difference:
+                return difference
+        return None
+
+    def at(self, number, point, block):
+        """The first difference at a point."""
+        for words in block:
+            if words[0] == "refused":
+                return Difference("refused", number, found=words[1].encode())
+            if words[0] in point.owners:
+                difference = self.sent(number, point.owners[words[0]], bytes.fromhex(words[1]))
+                if difference:
+                    return difference
+        for flow, count in point.due:
+            found = self.found.get(id(flow), b"")
+            if len(found) < count:
+                return Difference("missing", number, flow, len(found))
+        return None
+
+    def sent(self, number, flow, data):
+        """The first difference in what is sent on a flow."""
+        found = self.found.setdefault(id(flow), bytearray())
+        begun = len(found)
+        found += data
+        if flow.wanted[begun:len(found)] == data:
+            return None
+        for place in range(begun, min(len(found), len(flow.wanted))):
+            if found[place] != flow.wanted[place]:
+                return Difference("differs", number, flow, place, bytes(found))
+        if flow.loose:
+            return None
+        return Difference("more", number, flow, len(flow.wanted), bytes(found))
+
+    def settle(self, slack):
+        """The first difference that remains where each point may have its ticks up to so many
+        earlier or later, and the ticks of each point.
+        """
+        ticks = [point.ticks for point in self.points]
+        while True:
+            difference = self.first(ticks)
+            if difference is None:
+                return None, ticks
+            trial = self.better(ticks, difference, slack)
+            if trial is None:
+                return difference, ticks
+            ticks = trial
+
+    def better(self, ticks, difference, slack):
+        """Ticks with which there is no difference up to this one's point, if some are found: those
+        of one point moved, or the start.
+        """
+        if slack and self.reorder(ticks, difference):
+            return ticks
+        for trial in self.trials(ticks, difference, slack):
+            if self.first(trial, difference.point) is None:
+                return trial
+        if not self.entries or not slack:
+            return None
+        for count in range(1, FAR + 1):
+            for step in (count, -count):
+                trial = [max(0, point.ticks + step) for point in self.points]
+                if abs(step) > abs(self.early) and self.first(trial, difference.point) is None:
+                    self.early = step
+                    return trial
+        return None
+
+    def reorder(self, ticks, difference):
+        """Whether the difference is gone once a call is taken behind another connection's."""
+        for _ in orders.later(self.points, dict(self.found), difference):
+            if self.first(ticks, difference.point) is None:
+                self.swapped += 1
+                return True
+        return False
+
+    def trials(self, ticks, difference, slack):
+        """Ticks of which one point has some more or fewer: that of the turn, that of the reply."""
+        reply = reply_at(difference.flow, difference.place) if difference.flow else None
+        places = [difference.point]
+        if reply is not None:
+            places = [reply.turn, reply.due]
+            if difference.kind == "missing":
+                places = [reply.due, reply.turn]
+        for count in range(1, slack + 1):
+            for place in dict.fromkeys(places):
+                for step in (-count, count):
+                    trial = self.moved(ticks, place, step)
+                    if trial and self.is_near(trial, slack):
+                        yield trial
+
+    def is_near(self, ticks, slack):
+        return all(abs(count - max(0, point.ticks + self.early)) <= slack
+                   for count, point in zip(ticks, self.points))
+
+    def moved(self, ticks, place, step):
+        """The ticks with some more or fewer at a point; others give way."""
+        count = ticks[place] + step
+        if count < 0:
+            return None
+        return ([min(one, count) for one in ticks[:place]] + [count] +
+                [max(one, count) for one in ticks[place + 1:]])

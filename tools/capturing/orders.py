@@ -1,0 +1,51 @@
+"""Calls of two connections that may have been taken the other way round.
+
+A call that came while the server swept was taken in the next sweep, behind calls that came later on
+connections of lower numbers. A capture doesn't show that of calls that had to wait, as for the lock.
+"""
+from .flows import reply_at
+
+NEAR = 3_000_000        # how many nanoseconds such calls are apart
+
+
+def turn_of(points, flow, place):
+    """The line that takes the call of a reply, if it is a call of a connection."""
+    return next(("turn " + name[1:] for name, one in points[place].owners.items()
+                 if one is flow and name[0] == "c"), None)
+
+
+def ahead(points, found, difference):
+    """Replies that the replay sent before this point, and the capture has later."""
+    due = {}
+    for point in points[:difference.point + 1]:
+        for flow, count in point.due:
+            due[id(flow)] = count
+    flows = {id(one): one for one in points[difference.point].owners.values()}
+    for key, flow in flows.items():
+        if flow is not difference.flow and len(found.get(key, b"")) > due.get(key, 0):
+            reply = reply_at(flow, due.get(key, 0))
+            if reply is not None:
+                yield flow, reply
+
+
+def later(points, found, difference):
+    """Puts a call that the replay answered too early behind the one whose reply differs, one trial
+    after the other; each is undone before the next.
+    """
+    reply = reply_at(difference.flow, difference.place) if difference.flow else None
+    line = reply and turn_of(points, difference.flow, reply.turn)
+    if not line:
+        return
+    target = points[reply.turn]
+    for flow, other in list(ahead(points, found, difference)):
+        source, moved = points[other.turn], turn_of(points, flow, other.turn)
+        near = 0 <= target.time - source.time <= NEAR and other.turn <= reply.turn < other.due
+        if not near or moved not in source.lines or line not in target.lines:
+            continue
+        kept, turn = (list(source.lines), list(target.lines)), other.turn
+        source.lines.remove(moved)
+        target.lines.insert(target.lines.index(line) + 1, moved)
+        other.turn = reply.turn
+        yield
+        other.turn = turn
+        source.lines[:], target.lines[:] = kept
