@@ -29,6 +29,8 @@ returns-clause-happens g c = λ log h.
       };
     }) refl in record {
       stands = happens.stands;
-      requests = (λ is. absurd (let z : false ≡ true = is in cc),
-          λ raised. absurd (since_ended Reason Lasts Polled log (λ lasts. lasts) raised.0));
+      requests = (
+        λ is. absurd (let z : false ≡ true = is in cc),
+        λ raised. absurd (since_ended Reason Lasts Polled log (λ lasts. lasts) raised.0),
+      );
     }

@@ -20,6 +20,9 @@ loop-conn-preserved g c = λ config history stands.
 
 pub returns : goal.returns
 returns g c = λ config history stands.
-    let (h0, s0, p0) = c.loop-conn.invariant config history stands in
-    (h0, s0, as_many (λ (c : ℕ). WritesTo g.W.Wire.hears (Intr c)) config c.loop-conn.conn 16 _ (moment c.loop-conn.self h0)
-        (omega arith) p0)
+    let (h0, s0, p0) = c.loop-conn.invariant config history stands in (
+      h0,
+      s0,
+      as_many (λ (c : ℕ). WritesTo g.W.Wire.hears (Intr c)) config c.loop-conn.conn 16 _ (moment c.loop-conn.self h0)
+          (omega arith) p0,
+    )
