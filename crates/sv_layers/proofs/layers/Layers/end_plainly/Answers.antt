@@ -1,0 +1,51 @@
+use Rattle.std.proofs.Common.{ℕ, List, ◌∷◌, ◌∙◌, subst}
+use Rattle.sv_status.specs.declared.register_name.RegisterName.TheVariants.{Operation, Questionable}
+use Rattle.sv_status.specs.declared.register.RegisterAct.{RegisterAct}
+use Rattle.sv_status.specs.declared.register.RegisterAct.TheVariants.{Condition}
+use Rattle.sv_status.specs.declared.standard_event.StandardAct.{StandardAct}
+use Rattle.sv_status.specs.Register.{StandsFor as Registers}
+use Rattle.sv_status.specs.StandardEvent.{StandsFor as Standards}
+use Rattle.sv_scan.specs.Counted.{kept}
+use Rattle.sv_scan.specs.Condition.{operation, questionable}
+use Rattle.sv_layers.specs.Inside.Seen.{begun, seen}
+use Rattle.sv_layers.proofs.Followed.{begun_told}
+use Rattle.sv_layers.proofs.Plain.{plain_leaves}
+use Rattle.sv_layers.proofs.layers.Layers.end_plainly.Goals as goal
+
+pub returns-clause-stands : goal.returns-clause-stands
+returns-clause-stands g c = λ log act told h plain.
+    let at = begun act (seen log) in
+    let j = rw (← c.self.view_is) at h in
+    let are = begun_told c.touched-touched.result act log (c.touched-touched.ensures.stands at.scanner j.scanner) in
+    let first = c.conditions-now.ensures.operation at.scanner j.scanner in
+    let second = c.conditions-now.ensures.questionable at.scanner j.scanner in
+    let operates = subst (λ (w : ℕ). Registers c.compare.new.register (Condition w ∷ at.operation)) first
+    (c.compare.ensures at.operation j.operation (λ no. first ∙ are.0 no)) in
+    let questions = subst (λ (w : ℕ). Registers c.compare-2.new.register (Condition w ∷ at.questionable)) second
+    (c.compare-2.ensures at.questionable j.questionable (λ no. second ∙ are.1 no)) in
+    let leaves = plain_leaves act plain in
+    let k = c.complete.ensures.stands (record at {
+      operation = Condition (operation (kept at.scanner)) ∷ at.operation;
+      questionable = Condition (questionable (kept at.scanner)) ∷ at.questionable;
+    }) told (record {
+      exchange = j.exchange;
+      errors = j.errors;
+      operation = operates;
+      questionable = questions;
+      standard = j.standard;
+      status = j.status;
+      scanner = j.scanner;
+      service = j.service;
+      waits = j.waits;
+    }) in
+    record {
+      exchange = k.exchange;
+      errors = k.errors;
+      operation = subst (λ (acts : List RegisterAct). Registers c.compare.new.register acts) (leaves.0 Operation _) k.operation;
+      questionable = subst (λ (acts : List RegisterAct). Registers c.compare-2.new.register acts) (leaves.0 Questionable _) k.questionable;
+      standard = subst (λ (acts : List StandardAct). Standards c.complete.new.self.standard acts) (leaves.1 _) k.standard;
+      status = k.status;
+      scanner = k.scanner;
+      service = k.service;
+      waits = k.waits;
+    }
