@@ -1,6 +1,6 @@
 //! How a change ends: in one register after the other.
 
-ghost use Rattle.std.specs.Prelude.{◌≡◌, true, false, List, ◌∷◌};
+ghost use Rattle.std.specs.Prelude.{◌≡◌, false, List, ◌∷◌};
 ghost use Rattle.sv_status.specs.declared.register.RegisterAct.{RegisterAct};
 ghost use Rattle.sv_status.specs.declared.standard_event.StandardAct.{StandardAct};
 ghost use Rattle.sv_status.specs.declared.status_byte.StatusAct.{StatusAct};
@@ -10,7 +10,7 @@ ghost use Rattle.sv_scan.specs.Counted.{is_idle as idles};
 ghost use Rattle.sv_layers.specs.Act.{Act};
 ghost use Rattle.sv_layers.specs.Change.{act_of};
 ghost use Rattle.sv_layers.specs.Event.{is_same as same_register};
-ghost use Rattle.sv_layers.specs.Inside.Seen.{Seen, begun, completed, own, own_standard, is_plain, seen};
+ghost use Rattle.sv_layers.specs.Inside.Seen.{Seen, EndsAs, begun, completed, own, own_standard, seen};
 ghost use Rattle.sv_layers.specs.Inside.Kept.{Joined};
 
 use crate::change::Change;
@@ -24,32 +24,12 @@ use sv_status::{Register, RegisterName, StandardEvent};
 const COMPLETE: u8 = 1 << 0;
 
 impl<A: Allocator> Layers<A> {
-    /// Ends a change that has begun in its own layer. Each register is told its condition, where
-    /// that may have changed, and then the change does to it what it does to a register itself.
+    /// Ends an act that has begun in its own layer, as this change ends. One register after the
+    /// other is told its condition, where that may have changed, and then the change does to it
+    /// what it does to a register itself.
     pub(crate) fn end(&mut self, change: &Change)
-        ensures stands { (log : List Act) (told : List StatusAct)
-            → Joined self.old (begun (act_of change.now) (seen log)) told
-            → Joined self.new (seen (act_of change.now ∷ log)) told }
-        ensures exchange { self.new.exchange ≡ self.old.exchange }
-    {
-        let touched = self.scanner.touched();
-        let now = self.scanner.conditions();
-        compare(&mut self.operation, touched.operation, now.operation);
-        change_register(&mut self.operation, RegisterName::Operation, change);
-        compare(
-            &mut self.questionable,
-            touched.questionable,
-            now.questionable,
-        );
-        change_register(&mut self.questionable, RegisterName::Questionable, change);
-        self.complete();
-        change_standard(&mut self.standard, change);
-    }
-
-    /// Ends an act that does nothing to a register itself.
-    pub(crate) fn end_plainly(&mut self)
         ensures stands { (log : List Act) (act : Act) (told : List StatusAct)
-            → Joined self.old (begun act (seen log)) told → is_plain act ≡ true
+            → EndsAs (act_of change.now) act → Joined self.old (begun act (seen log)) told
             → Joined self.new (seen (act ∷ log)) told }
         ensures exchange { self.new.exchange ≡ self.old.exchange }
         ensures scanner { self.new.scanner ≡ self.old.scanner }
@@ -57,12 +37,11 @@ impl<A: Allocator> Layers<A> {
         let touched = self.scanner.touched();
         let now = self.scanner.conditions();
         compare(&mut self.operation, touched.operation, now.operation);
-        compare(
-            &mut self.questionable,
-            touched.questionable,
-            now.questionable,
-        );
+        change_register(&mut self.operation, RegisterName::Operation, change);
+        compare(&mut self.questionable, touched.questionable, now.questionable);
+        change_register(&mut self.questionable, RegisterName::Questionable, change);
         self.complete();
+        change_standard(&mut self.standard, change);
     }
 
     /// An `*OPC` is complete where no measurement is under way.

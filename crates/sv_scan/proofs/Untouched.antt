@@ -1,5 +1,5 @@
 -- What an act leaves of the condition words.
-use Rattle.std.proofs.Common.{◌≡◌, ℕ, ◌+◌, ◌==◌, ℤ, Bool, true, false, List, ◌∷◌, refl, ap, if◌then◌else◌}
+use Rattle.std.proofs.Common.{ℕ, ◌+◌, ◌==◌, ℤ, Bool, true, false, List, ◌∷◌, refl, ap, if◌then◌else◌}
 use Rattle.std.specs.Prelude.{int_lt, ◌&&◌, ◌||◌}
 use Rattle.sv_errors.specs.declared.source.Source.{Source}
 use Rattle.sv_scan.specs.declared.setting.Setting.{Setting}
@@ -7,7 +7,7 @@ use Rattle.sv_scan.specs.declared.acts.ScanAct.{ScanAct}
 use Rattle.sv_scan.specs.declared.acts.ScanAct.TheVariants.{Input, Configure, Trigger}
 use Rattle.sv_scan.specs.Setting.{monitor, input, limits, lower, upper}
 use Rattle.sv_scan.specs.Scan.{last_reading}
-use Rattle.sv_scan.specs.Condition.{bit, is_overload, is_below, is_above, questionable}
+use Rattle.sv_scan.specs.Condition.{bit, is_overload, is_below, is_above}
 use Rattle.sv_scan.specs.Touched.{IsTouched}
 
 -- nothing is said

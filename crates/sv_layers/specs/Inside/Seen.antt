@@ -1,6 +1,6 @@
 -- What each layer sees of the instrument's acts. An act begins in its own layer. Then it ends, in one register after the other: a register
 -- is told its condition, which passes by the filters as they stand, and then the act does to it what it does to a register itself.
-use Rattle.std.specs.Prelude.{ℕ, Bool, true, false, not, ◌&&◌, List, [], ◌∷◌, if◌then◌else◌}
+use Rattle.std.specs.Prelude.{◌≡◌, ℕ, Bool, true, false, not, ◌&&◌, List, [], ◌∷◌, if◌then◌else◌}
 use Rattle.sv_errors.specs.Code.{standard_event_of}
 use Rattle.sv_errors.specs.ErrorQueue.{is_full}
 use Rattle.sv_errors.specs.declared.code.Code.{Code}
@@ -86,6 +86,11 @@ own_standard Cleared acts = standard.Clear ∷ acts
 own_standard StandardRead acts = standard.Read ∷ acts
 own_standard (StandardEnabled mask) acts = standard.SetEnable mask ∷ acts
 own_standard _ acts = acts
+
+-- An act does to the registers themselves what another one does.
+abbrev pub EndsAs : Act → Act → Type 0
+EndsAs other act = ((name : RegisterName) (acts : List RegisterAct) → own name other acts ≡ own name act acts)
+    × ((acts : List StandardAct) → own_standard other acts ≡ own_standard act acts)
 
 -- an act ends, in one register after the other
 abbrev pub ended : Act → Seen → Seen
