@@ -9,11 +9,11 @@ use Rattle.sv_scan.specs.Counted.{kept, is_idle as idle_state}
 use Rattle.sv_layers.specs.Act.{Act, Purged, Scanned, Cleared, OpcAsked}
 use Rattle.sv_layers.specs.Condition.{is_idle}
 use Rattle.sv_layers.specs.Standard.{IsAsked, IsPending, Completes, cancels}
-use Rattle.sv_layers.specs.Inside.Seen.{Seen, before_compared, compared, resets, idles, seen}
+use Rattle.sv_layers.specs.Inside.Seen.{Seen, begun, resets, idles, seen}
 use Rattle.sv_layers.specs.Laws.{SameWaiting, SameCompletion}
 use Rattle.sv_layers.proofs.Either.{unchanged}
 use Rattle.sv_layers.proofs.Booleans.{and_both, and_not}
-use Rattle.sv_layers.proofs.Projected.{begun_scanner, ended_others}
+use Rattle.sv_layers.proofs.Projected.{begun_scanner}
 
 -- a reset cancels an `*OPC`, and no other act of the scanner does
 scanned_waits : (act : ScanAct) (log : List Act) (b : Bool)
@@ -21,9 +21,9 @@ scanned_waits : (act : ScanAct) (log : List Act) (b : Bool)
 scanned_waits Reset log b = step_ended (λ e. absurd cc) (λ e. absurd (let h = (and_not b true).0 e in cc))
 scanned_waits _ log b = step_same refl (λ none. none) (then_same (and_not b false) ((λ h. h.1), (λ e. (refl, e))))
 
--- before the conditions are compared; and an `*OPC` cancels none
+-- where an act began; and an `*OPC` cancels none
 begun_waits : (act : Act) (log : List Act) (at : Seen)
-    → (((before_compared act at).waits ≡ true) ↔ ((cancels act ≡ false) × (IsAsked (act ∷ log) ⊎ (at.waits ≡ true))))
+    → (((begun act at).waits ≡ true) ↔ ((cancels act ≡ false) × (IsAsked (act ∷ log) ⊎ (at.waits ≡ true))))
     × (IsAsked (act ∷ log) → cancels act ≡ false)
 begun_waits Purged log at = (step_ended (λ e. absurd cc) (λ e. absurd cc), λ asked. absurd asked)
 begun_waits (Scanned act) log at = (scanned_waits act log at.waits, λ asked. absurd asked)
@@ -32,17 +32,16 @@ begun_waits OpcAsked log at = (step_kept refl ((λ e. inl tt), (λ h. refl)), λ
 begun_waits _ log at = (step_same refl (λ none. none) unchanged, λ asked. refl)
 
 -- whether no measurement is under way where an act began
-begun_idle : (act : Act) (log : List Act) → idles (before_compared act (seen log)) ≡ is_idle (act ∷ log)
+begun_idle : (act : Act) (log : List Act) → idles (begun act (seen log)) ≡ is_idle (act ∷ log)
 begun_idle act log = ap (λ (acts : List ScanAct). idle_state (state (kept acts))) (begun_scanner act log)
 
-seen_waits : (act : Act) (log : List Act) → (seen (act ∷ log)).waits ≡ ((before_compared act (seen log)).waits && not (is_idle (act ∷ log)))
-seen_waits act log = ap (λ (at : Seen). at.waits) (ended_others act (compared (before_compared act (seen log))))
-    ∙ ap (λ (b : Bool). (before_compared act (seen log)).waits && not b) (begun_idle act log)
+seen_waits : (act : Act) (log : List Act) → (seen (act ∷ log)).waits ≡ ((begun act (seen log)).waits && not (is_idle (act ∷ log)))
+seen_waits act log = ap (λ (b : Bool). (begun act (seen log)).waits && not b) (begun_idle act log)
 
 waits_step : (act : Act) (log : List Act)
     → ((seen (act ∷ log)).waits ≡ true) ↔ (IsPending (act ∷ log) × (IsAsked (act ∷ log) ⊎ ((seen log).waits ≡ true)))
 waits_step act log =
-    let both = and_not (before_compared act (seen log)).waits (is_idle (act ∷ log)) in
+    let both = and_not (begun act (seen log)).waits (is_idle (act ∷ log)) in
     let began = (begun_waits act log (seen log)).0 in (
       (λ e. let h = both.0 (sym (seen_waits act log) ∙ e) in let w = began.0 h.1 in ((h.0, w.0), w.1)),
       (λ h. seen_waits act log ∙ both.1 (h.0.0, began.1 (h.0.1, h.1))),
@@ -53,11 +52,11 @@ same_waiting = since_unique IsAsked IsPending (λ log. (seen log).waits ≡ true
 
 -- whether an `*OPC` completes at an act
 abbrev pub completes : Act → List Act → Bool
-completes act before = (before_compared act (seen before)).waits && idles (before_compared act (seen before))
+completes act before = (begun act (seen before)).waits && idles (begun act (seen before))
 
 pub completes_is : (act : Act) (before : List Act) → (completes act before ≡ true) ↔ Completes (act ∷ before)
 completes_is act before =
-    let both = and_both (before_compared act (seen before)).waits (idles (before_compared act (seen before))) in
+    let both = and_both (begun act (seen before)).waits (idles (begun act (seen before))) in
     let began = (begun_waits act before (seen before)).0 in
     let idle = begun_idle act before in
     let waits = same_waiting before in (

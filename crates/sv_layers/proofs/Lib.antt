@@ -1,11 +1,12 @@
 pub mod Booleans
 pub mod OneStatus
-pub mod Compared
+pub mod Plain
 pub mod Acted
 pub mod Unpolled
 pub mod Projected
 pub mod Registered
 pub mod SameWords
+pub mod Followed
 pub mod SameEvents
 pub mod Completion
 pub mod Bits

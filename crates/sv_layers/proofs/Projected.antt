@@ -1,32 +1,15 @@
 -- What exchange, error queue and scanner see of the log, and the service request enable that is kept.
-use Rattle.std.proofs.Common.{◌≡◌, List, [], ◌∷◌, refl, ap, ◌∙◌}
+use Rattle.std.proofs.Common.{◌≡◌, List, [], ◌∷◌, refl, ap}
 use Rattle.sv_errors.specs.declared.error_queue.QueueAct.{QueueAct}
 use Rattle.sv_errors.specs.declared.error_queue.QueueAct.TheVariants as queue
 use Rattle.sv_status.specs.declared.register_name.RegisterName.{RegisterName}
 use Rattle.sv_status.specs.declared.register_name.RegisterName.TheVariants.{Operation, Questionable}
-use Rattle.sv_status.specs.declared.register.RegisterAct.{RegisterAct}
 use Rattle.sv_scan.specs.declared.acts.ScanAct.{ScanAct}
 use Rattle.sv_exchange.specs.Exchange.{ExchangeAct, TextDropped, Interrupted}
-use Rattle.sv_layers.specs.Act.{Act, Exchanged, Purged, Scanned, Reported, EntryTaken, Cleared, EventRead, Enabled, RiseSet, FallSet, ServiceEnabled, exchange_acts, queue_acts, scan_acts}
+use Rattle.sv_layers.specs.Act.{Act, Exchanged, Purged, Scanned, Reported, EntryTaken, Cleared, ServiceEnabled, exchange_acts, queue_acts, scan_acts}
 use Rattle.sv_layers.specs.StatusByte.{service}
-use Rattle.sv_layers.specs.Inside.Seen.{Seen, before_compared, compared, after_compared, on_register, register_acts, seen}
+use Rattle.sv_layers.specs.Inside.Seen.{Seen, begun, register_acts, seen}
 use Rattle.sv_layers.specs.Laws.{OwnActs}
-
--- what is seen without registers and standard events
-abbrev pub others : Seen → Seen
-others at = record at { operation = []; questionable = []; standard = [] }
-
-on_register_others : (name : RegisterName) (act : RegisterAct) (at : Seen) → others (on_register name act at) ≡ others at
-on_register_others Operation act at = refl
-on_register_others Questionable act at = refl
-
--- What an act does to a register itself leaves all others.
-pub ended_others : (act : Act) (at : Seen) → others (after_compared act at) ≡ others at
-ended_others (EventRead name) at = on_register_others name _ at
-ended_others (Enabled name mask) at = on_register_others name _ at
-ended_others (RiseSet name mask) at = on_register_others name _ at
-ended_others (FallSet name mask) at = on_register_others name _ at
-ended_others _ at = refl
 
 -- these layers see what is theirs of the log
 abbrev Projects : Seen → List Act → Type 0
@@ -35,8 +18,8 @@ Projects at log = (at.exchange ≡ exchange_acts log) × (at.errors ≡ queue_ac
 
 -- It begins in these layers, and in no register.
 abbrev Begins : Act → List Act → Seen → Type 0
-Begins act log at = Projects at log → Projects (before_compared act at) (act ∷ log)
-    × ((before_compared act at).operation ≡ at.operation) × ((before_compared act at).questionable ≡ at.questionable)
+Begins act log at = Projects at log → Projects (begun act at) (act ∷ log)
+    × ((begun act at).operation ≡ at.operation) × ((begun act at).questionable ≡ at.questionable)
 
 begins : (act : Act) (log : List Act) (at : Seen) → Begins act log at
 begins (Exchanged act) log at h = ((ap (λ (acts : List ExchangeAct). act ∷ acts) h.0, h.1, h.2, h.3), refl, refl)
@@ -50,20 +33,13 @@ begins _ log at h = (h, refl, refl)
 
 pub projected : OwnActs
 projected [] = (refl, refl, refl, refl)
-projected (act ∷ log) =
-    let h = (begins act log (seen log) (projected log)).0 in
-    let same = ended_others act (compared (before_compared act (seen log))) in (
-      ap (λ (at : Seen). at.exchange) same ∙ h.0,
-      ap (λ (at : Seen). at.errors) same ∙ h.1,
-      ap (λ (at : Seen). at.scanner) same ∙ h.2,
-      ap (λ (at : Seen). at.service) same ∙ h.3,
-    )
+projected (act ∷ log) = (begins act log (seen log) (projected log)).0
 
 -- where an act began
-pub begun_scanner : (act : Act) (log : List Act) → (before_compared act (seen log)).scanner ≡ scan_acts (act ∷ log)
+pub begun_scanner : (act : Act) (log : List Act) → (begun act (seen log)).scanner ≡ scan_acts (act ∷ log)
 begun_scanner act log = (begins act log (seen log) (projected log)).0.2
 
 pub begun_register : (name : RegisterName) (act : Act) (log : List Act)
-    → register_acts name (before_compared act (seen log)) ≡ register_acts name (seen log)
+    → register_acts name (begun act (seen log)) ≡ register_acts name (seen log)
 begun_register Operation act log = (begins act log (seen log) (projected log)).1
 begun_register Questionable act log = (begins act log (seen log) (projected log)).2

@@ -11,9 +11,9 @@ use Rattle.sv_status.proofs.Registers.{event-none, event-condition, event-read, 
 use Rattle.sv_layers.specs.Act.{Act, Cleared, Preset, EventRead, Enabled, RiseSet, FallSet}
 use Rattle.sv_layers.specs.Condition.{condition}
 use Rattle.sv_layers.specs.Event.{is_same, Passes, NotCleared}
-use Rattle.sv_layers.specs.Inside.Seen.{seen, register_acts}
+use Rattle.sv_layers.specs.Inside.Seen.{own, seen, register_acts}
 use Rattle.sv_layers.specs.Laws.{SameEvents}
-use Rattle.sv_layers.proofs.Registered.{own, seen_register}
+use Rattle.sv_layers.proofs.Registered.{seen_register}
 use Rattle.sv_layers.proofs.SameWords.{same_words}
 
 -- the condition behind an act

@@ -6,13 +6,12 @@ use Rattle.sv_errors.specs.declared.error_queue.QueueAct.{QueueAct}
 use Rattle.sv_errors.specs.Code.{standard_event_of}
 use Rattle.sv_errors.specs.ErrorQueue.{is_full}
 use Rattle.sv_errors.proofs.Since.{since_unique, step_kept, step_ended, then_same}
-use Rattle.sv_status.specs.declared.register_name.RegisterName.TheVariants.{Operation, Questionable}
 use Rattle.sv_status.specs.declared.standard_event.StandardAct.{StandardAct}
 use Rattle.sv_status.specs.declared.standard_event.StandardAct.TheVariants as standard
 use Rattle.sv_status.specs.StandardEvent as stands
 use Rattle.sv_status.proofs.StandardEvents.{stands-none, stands-occurred, stands-enable, stands-read, stands-cleared}
 use Rattle.sv_scan.specs.Condition.{bit}
-use Rattle.sv_layers.specs.Act.{Act, Exchanged, Purged, Scanned, Held, Reported, EntryTaken, Cleared, Preset, OpcAsked, StandardRead, StandardEnabled, EventRead, Enabled, RiseSet, FallSet, ServiceEnabled, Polled}
+use Rattle.sv_layers.specs.Act.{Act, Reported, Cleared, StandardRead, StandardEnabled}
 use Rattle.sv_layers.specs.Standard.{Completes, Occurs, NotCleared, enable}
 use Rattle.sv_layers.specs.Inside.Seen.{report_bits, seen}
 use Rattle.sv_layers.specs.Laws.{SameEnable, SameStandardEvents}
@@ -48,28 +47,12 @@ StandardStep k act log = (stands.Stands k (seen (act ∷ log)).standard
     × (stands.enable (seen log).standard ≡ enable log → stands.enable (seen (act ∷ log)).standard ≡ enable (act ∷ log))
 
 standard_step : (k : ℕ) (act : Act) (log : List Act) → StandardStep k act log
-standard_step k (Exchanged act) log = (step_kept tt (completed k (Exchanged act) log _), λ same. same)
-standard_step k Purged log = (step_kept tt (completed k Purged log _), λ same. same)
-standard_step k (Scanned act) log = (step_kept tt (completed k (Scanned act) log _), λ same. same)
-standard_step k (Held awaited) log = (step_kept tt (completed k (Held awaited) log _), λ same. same)
 standard_step k (Reported code) log = (step_kept tt (reported k code log), λ same. same)
-standard_step k EntryTaken log = (step_kept tt (completed k EntryTaken log _), λ same. same)
 standard_step k Cleared log = (step_ended (λ kept. kept) (stands-cleared k _), λ same. same)
-standard_step k Preset log = (step_kept tt (completed k Preset log _), λ same. same)
-standard_step k OpcAsked log = (step_kept tt (completed k OpcAsked log _), λ same. same)
 standard_step k StandardRead log = (step_ended (λ kept. kept) (stands-read k _), λ same. same)
 standard_step k (StandardEnabled mask) log =
     (step_kept tt (then_same (stands-enable k mask _) (completed k (StandardEnabled mask) log _)), λ same. refl)
-standard_step k (EventRead Operation) log = (step_kept tt (completed k (EventRead Operation) log _), λ same. same)
-standard_step k (EventRead Questionable) log = (step_kept tt (completed k (EventRead Questionable) log _), λ same. same)
-standard_step k (Enabled Operation mask) log = (step_kept tt (completed k (Enabled Operation mask) log _), λ same. same)
-standard_step k (Enabled Questionable mask) log = (step_kept tt (completed k (Enabled Questionable mask) log _), λ same. same)
-standard_step k (RiseSet Operation mask) log = (step_kept tt (completed k (RiseSet Operation mask) log _), λ same. same)
-standard_step k (RiseSet Questionable mask) log = (step_kept tt (completed k (RiseSet Questionable mask) log _), λ same. same)
-standard_step k (FallSet Operation mask) log = (step_kept tt (completed k (FallSet Operation mask) log _), λ same. same)
-standard_step k (FallSet Questionable mask) log = (step_kept tt (completed k (FallSet Questionable mask) log _), λ same. same)
-standard_step k (ServiceEnabled mask) log = (step_kept tt (completed k (ServiceEnabled mask) log _), λ same. same)
-standard_step k Polled log = (step_kept tt (completed k Polled log _), λ same. same)
+standard_step k act log = (step_kept tt (completed k act log _), λ same. same)
 
 pub same_standard_events : SameStandardEvents
 same_standard_events k = since_unique (Occurs k) NotCleared (λ log. stands.Stands k (seen log).standard)

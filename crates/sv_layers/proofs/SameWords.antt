@@ -12,9 +12,9 @@ use Rattle.sv_status.specs.Register.{masked}
 use Rattle.sv_layers.specs.Act.{Act, Preset, EventRead, Enabled, RiseSet, FallSet}
 use Rattle.sv_layers.specs.Condition.{condition}
 use Rattle.sv_layers.specs.Event.{is_same, rise, fall, enable}
-use Rattle.sv_layers.specs.Inside.Seen.{seen, register_acts}
+use Rattle.sv_layers.specs.Inside.Seen.{own, seen, register_acts}
 use Rattle.sv_layers.specs.Laws.{SameWords}
-use Rattle.sv_layers.proofs.Registered.{own, seen_register}
+use Rattle.sv_layers.proofs.Registered.{seen_register}
 
 -- the words that a register has behind its acts
 abbrev Words : List RegisterAct → ℕ → ℕ → ℕ → ℕ → Type 0

@@ -13,7 +13,7 @@ use Rattle.sv_layers.specs.Condition.{condition}
 use Rattle.sv_layers.specs.Event.{rise, fall, enable, EventStands}
 use Rattle.sv_layers.specs.Standard.{Waits, Completes, Stands, enable as standard_enable}
 use Rattle.sv_layers.specs.StatusByte.{service, SummaryBit, Request, IsRaised, PolledBit, MasterBit}
-use Rattle.sv_layers.specs.Inside.Seen.{seen, before_compared, compared, register_acts}
+use Rattle.sv_layers.specs.Inside.Seen.{seen, begun, completed, register_acts}
 use Rattle.sv_layers.specs.Inside.Kept.{IsSummary, IsStatus, RaisedAt}
 
 -- Exchange, error queue and scanner see the acts that are theirs, and the service request enable is the one that was set last.
@@ -40,10 +40,10 @@ SameEvents = (name : RegisterName) (k : ℕ) (log : List Act)
 abbrev pub SameWaiting : Type 0
 SameWaiting = (log : List Act) → ((seen log).waits ≡ true) ↔ Waits log
 
--- Where the conditions are compared at an act, operation complete occurs exactly if an `*OPC` completes at that act.
+-- At an act operation complete occurs exactly if an `*OPC` completes at that act.
 abbrev pub SameCompletion : Type 0
 SameCompletion = (act : Act) (before : List Act) → (completes : Bool)
-    × ((compared (before_compared act (seen before))).standard ≡ Occur (bit 0 completes) ∷ (before_compared act (seen before)).standard)
+    × ((completed (begun act (seen before))).standard ≡ Occur (bit 0 completes) ∷ (begun act (seen before)).standard)
     × ((completes ≡ true) ↔ Completes (act ∷ before))
 
 -- A standard event stands exactly if it does by the log.

@@ -8,7 +8,7 @@ ghost use Rattle.sv_scan.specs.Counted.{trigger_fault};
 ghost use Rattle.sv_layers.specs.Condition.{counted};
 ghost use Rattle.sv_layers.specs.Act.{Act, Scanned, Reported};
 ghost use Rattle.sv_layers.specs.Change.{act_of};
-ghost use Rattle.sv_layers.specs.Inside.Seen.{Seen, before_compared, after_compared, on_register, both_registers, resets};
+ghost use Rattle.sv_layers.specs.Inside.Seen.{Seen, begun, resets};
 ghost use Rattle.sv_layers.specs.Inside.Kept.{StandsFor, Happens, Joined, state_by};
 
 use crate::change::Change;
@@ -17,7 +17,6 @@ use crate::status::mask_where;
 use std::alloc::Allocator;
 use sv_errors::{Code, Layer, Source};
 use sv_scan::ScanAct;
-use sv_status::{RegisterAct, RegisterName};
 
 /// Device-specific error, of the standard events, which an overflow of the error queue is.
 const DEVICE: u8 = 1 << 3;
@@ -29,16 +28,15 @@ impl<A: Allocator> Layers<A> {
             → Happens self.new result (act_of change ∷ log) }
         ensures exchange { self.new.exchange ≡ self.old.exchange }
     {
-        self.before_compare(&change);
-        self.compare();
-        self.after_compare(&change);
+        self.begin(&change);
+        self.end(&change);
         self.tell()
     }
 
-    /// What a change does to its own layer.
-    fn before_compare(&mut self, change: &Change)
+    /// Begins a change: what it does to its own layer.
+    fn begin(&mut self, change: &Change)
         ensures stands { (at : Seen) (told : List StatusAct) → Joined self.old at told
-            → Joined self.new (before_compared (act_of change.now) at) told }
+            → Joined self.new (begun (act_of change.now) at) told }
         ensures exchange { self.new.exchange ≡ self.old.exchange }
     {
         match change {
@@ -67,7 +65,7 @@ impl<A: Allocator> Layers<A> {
     /// Something happens to the scanner; a reset cancels an `*OPC`.
     fn scan(&mut self, act: ScanAct)
         ensures stands { (at : Seen) (told : List StatusAct) → Joined self.old at told
-            → Joined self.new (before_compared (Scanned act) at) told }
+            → Joined self.new (begun (Scanned act) at) told }
         ensures exchange { self.new.exchange ≡ self.old.exchange }
     {
         self.waits &= !is_reset(&act);
@@ -77,69 +75,12 @@ impl<A: Allocator> Layers<A> {
     /// An error is reported, with the standard event of its class, and that of an overflow.
     fn report(&mut self, code: Code)
         ensures stands { (at : Seen) (told : List StatusAct) → Joined self.old at told
-            → Joined self.new (before_compared (Reported code) at) told }
+            → Joined self.new (begun (Reported code) at) told }
         ensures exchange { self.new.exchange ≡ self.old.exchange }
     {
         let overflows = self.errors.report(code);
         self.standard.occur(code.standard_event());
         self.standard.occur(mask_where(DEVICE, overflows));
-    }
-
-    /// What a change does to registers, behind the comparison of the conditions.
-    fn after_compare(&mut self, change: &Change)
-        ensures stands { (at : Seen) (told : List StatusAct) → Joined self.old at told
-            → Joined self.new (after_compared (act_of change.now) at) told }
-        ensures exchange { self.new.exchange ≡ self.old.exchange }
-    {
-        match change {
-            Change::ClearStatus => {
-                self.on_both(RegisterAct::Clear);
-                self.standard.clear();
-            }
-            Change::Preset => self.on_both(RegisterAct::Preset),
-            Change::ReadStandard => {
-                self.standard.read();
-            }
-            Change::EnableStandard(mask) => self.standard.set_enable(*mask),
-            Change::ReadEvent(name) => self.on_register(*name, RegisterAct::ReadEvent),
-            Change::Enable(name, mask) => self.on_register(*name, RegisterAct::SetEnable(*mask)),
-            Change::SetRise(name, mask) => {
-                let fall = self.register(*name).fall();
-                self.on_register(*name, RegisterAct::SetFilter { rise: *mask, fall });
-            }
-            Change::SetFall(name, mask) => {
-                let rise = self.register(*name).rise();
-                self.on_register(*name, RegisterAct::SetFilter { rise, fall: *mask });
-            }
-            Change::Scan(_act) => (),
-            Change::Report(_code) => (),
-            Change::TakeEntry => (),
-            Change::AskComplete => (),
-            Change::EnableService(_mask) => (),
-            Change::Hold(_awaited) => (),
-        }
-    }
-
-    /// Something happens to one of the two registers.
-    fn on_register(&mut self, name: RegisterName, act: RegisterAct)
-        ensures stands { (at : Seen) (told : List StatusAct) → Joined self.old at told
-            → Joined self.new (on_register name act at) told }
-        ensures exchange { self.new.exchange ≡ self.old.exchange }
-    {
-        match name {
-            RegisterName::Operation => self.operation.act(act),
-            RegisterName::Questionable => self.questionable.act(act),
-        };
-    }
-
-    /// The same happens to both registers.
-    fn on_both(&mut self, act: RegisterAct)
-        ensures stands { (at : Seen) (told : List StatusAct) → Joined self.old at told
-            → Joined self.new (both_registers act at) told }
-        ensures exchange { self.new.exchange ≡ self.old.exchange }
-    {
-        self.operation.act(act);
-        self.questionable.act(act);
     }
 
     /// A trigger from this source, where one from there is waited for; it tells whether a request

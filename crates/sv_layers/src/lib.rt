@@ -1,11 +1,12 @@
 //! The layers of the instrument, joined: an act of the instrument happens to the layer that it is
-//! of, then the conditions are compared, and then the status byte is told.
+//! of, then it ends in one register after the other, and then the status byte is told.
 //!
 //! [`Layers::new`] takes the memory of all layers, and no other call takes any.
 #![tactic(auto)]
 
 mod change;
 mod changing;
+mod ending;
 mod laws;
 mod layers;
 mod message_exchange;

@@ -1,15 +1,14 @@
-//! Comparing the conditions, and telling the status byte.
+//! Telling the status byte what an act ended in.
 
 ghost use Rattle.std.specs.Prelude.{◌≡◌, true, List, ◌∷◌, if◌then◌else◌};
 ghost use Rattle.sv_status.specs.declared.status_byte.StatusAct.{StatusAct};
-ghost use Rattle.sv_scan.specs.Counted.{is_idle as idles};
 ghost use Rattle.sv_layers.specs.Act.{Act};
-ghost use Rattle.sv_layers.specs.Inside.Seen.{Seen, seen, compared, is_plain};
+ghost use Rattle.sv_layers.specs.Inside.Seen.{Seen, seen, is_plain};
 ghost use Rattle.sv_layers.specs.Inside.Kept.{IsSummary, IsStatus, Joined, Begun, Happens, own_status};
 
+use crate::change::{Awaited, Change};
 use crate::layers::Layers;
 use std::alloc::Allocator;
-use sv_scan::State;
 
 /// The summary bits of the status byte (IEEE 488.2, 11.2.1; SCPI-1999, chapter 20).
 const OPERATION: u8 = 1 << 7;
@@ -21,26 +20,8 @@ const AVAILABLE: u8 = 1 << 4;
 const QUESTIONABLE: u8 = 1 << 3;
 
 const ERRORS: u8 = 1 << 2;
-/// Operation complete, of the standard events.
-const COMPLETE: u8 = 1 << 0;
 
 impl<A: Allocator> Layers<A> {
-    /// Compares both conditions with those before, and completes an `*OPC` where no measurement is
-    /// under way.
-    pub(crate) fn compare(&mut self)
-        ensures stands { (at : Seen) (told : List StatusAct) → Joined self.old at told
-            → Joined self.new (compared at) told }
-        ensures exchange { self.new.exchange ≡ self.old.exchange }
-        ensures scanner { self.new.scanner ≡ self.old.scanner }
-    {
-        let now = self.scanner.conditions();
-        self.operation.condition(now.operation);
-        self.questionable.condition(now.questionable);
-        let idle = is_idle(self.scanner.state());
-        self.standard.occur(mask_where(COMPLETE, self.waits & idle));
-        self.waits &= !idle;
-    }
-
     /// The summary bits as they are now.
     fn summary(&self) -> u8
         ensures { (at : Seen) (told : List StatusAct) → Joined self.now at told
@@ -65,27 +46,16 @@ impl<A: Allocator> Layers<A> {
         self.status.update(bits, self.service)
     }
 
-    /// What follows an act that does nothing to a register itself: the conditions are compared and
-    /// the status byte is told. It tells whether a request for service is raised.
+    /// What follows an act that does nothing to a register itself: it ends, and the status byte is
+    /// told. It tells whether a request for service is raised.
     pub(crate) fn settle(&mut self) -> bool
         ensures happens { (log : List Act) (act : Act) → Begun self.old act log
             → is_plain act ≡ true → Happens self.new result (act ∷ log) }
         ensures exchange { self.new.exchange ≡ self.old.exchange }
         ensures scanner { self.new.scanner ≡ self.old.scanner }
     {
-        self.compare();
+        self.end(&Change::Hold(Awaited::Nothing));
         self.tell()
-    }
-}
-
-/// Whether no measurement is under way.
-fn is_idle(state: State) -> bool
-    ensures { result ≡ idles state }
-{
-    match state {
-        State::Idle => true,
-        State::Waiting => false,
-        State::Scanning => false,
     }
 }
 

@@ -1,4 +1,5 @@
 pub mod Padding
 pub mod Searches
+pub mod Untouched
 pub mod Runs
 pub mod Stands

@@ -10,6 +10,7 @@ use Rattle.std.proofs.lemmas.List.Folds.{list_all-append}
 use Rattle.std.specs.List.{list_all}
 use Rattle.std.specs.Prelude.{◌==◌, nat_le, ◌&&◌}
 use Rattle.sv_scan.specs.declared.setting.Reading.{Reading}
+use Rattle.sv_scan.specs.declared.touched.Touched.{Touched}
 use Rattle.sv_scan.specs.declared.setting.State.TheVariants.{Idle, Waiting, Scanning}
 use Rattle.sv_errors.specs.Limits.{is_channel, is_channel_list}
 use Rattle.sv_scan.specs.Scan.{channel_at, state_by, is_bounded}
@@ -91,10 +92,11 @@ bounded_more : (readings : List Reading) (x : Reading) → list_all is_bounded r
 bounded_more readings x all one =
     list_all-append is_bounded readings (x ∷ []) ∙ ap (λ (b : Bool). b && (is_bounded x && true)) all ∙ ap (λ (b : Bool). b && true) one
 
-pub IsValid-sample : (contents : Contents) (capacity : ℕ) (r : Run) (x : Reading) → contents.run ≡ Some r → IsValid contents capacity
+pub IsValid-sample : (contents : Contents) (capacity : ℕ) (r : Run) (x : Reading) (touched : Touched) → contents.run ≡ Some r
+    → IsValid contents capacity
     → is_scanning (run_state contents.run (length contents.readings)) ≡ true → is_bounded x ≡ true
-    → IsValid (record contents { readings = contents.readings ++ x ∷ [] }) capacity
-IsValid-sample contents capacity r x e valid scanning one =
+    → IsValid (record contents { readings = contents.readings ++ x ∷ []; touched = touched }) capacity
+IsValid-sample contents capacity r x touched e valid scanning one =
     let run : IsRun r (length contents.readings) = subst (λ (o : Option Run). IsRunOf o (length contents.readings)) e valid.run in
     let now : is_scanning (run_state (Some r) (length contents.readings)) ≡ true =
     subst (λ (o : Option Run). is_scanning (run_state o (length contents.readings)) ≡ true) e scanning in

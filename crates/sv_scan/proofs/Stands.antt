@@ -16,7 +16,9 @@ use Rattle.sv_scan.specs.Counted.{kept, counts}
 use Rattle.sv_scan.specs.Answered.{refused_by}
 use Rattle.sv_scan.specs.Stands.{Run, Contents, Holds, StandsFor}
 use Rattle.sv_scan.specs.Representation.{contents_of}
+use Rattle.sv_scan.specs.Touched.{IsTouched, nothing}
 use Rattle.sv_scan.proofs.Searches.{length-readings, list_is}
+use Rattle.sv_scan.proofs.Untouched.{IsTouched-all, IsTouched-input}
 
 -- ---- acts that count
 
@@ -71,7 +73,10 @@ input_after inputs channel other microvolts before size legal known same =
 
 pub Holds-input : (contents : Contents) (log : List ScanAct) (channel : ℕ) (microvolts : ℤ) → length contents.inputs ≡ 32
     → is_channel channel ≡ true → Holds contents log
-    → Holds (record contents { inputs = slice_set contents.inputs (channel - 1) microvolts }) (Input channel microvolts ∷ log)
+    → Holds (record contents {
+      inputs = slice_set contents.inputs (channel - 1) microvolts;
+      touched = record { operation = false; questionable = channel == contents.monitor };
+    }) (Input channel microvolts ∷ log)
 Holds-input contents log channel microvolts size legal is = record {
   inputs = λ other known. input_after contents.inputs channel other microvolts (input other log) size legal known (is.inputs other known);
   list = is.list;
@@ -84,6 +89,8 @@ Holds-input contents log channel microvolts size legal is = record {
   count = is.count;
   run = is.run;
   readings = is.readings;
+  touched = subst (λ (m : ℕ). IsTouched (record { operation = false; questionable = channel == m }) (Input channel microvolts ∷ log))
+      (sym is.monitor) (IsTouched-input channel microvolts log);
 }
 
 -- a sample
@@ -103,7 +110,10 @@ sampled_is contents log r e known is =
 
 pub Holds-sample : (contents : Contents) (log : List ScanAct) (r : Run) → contents.run ≡ Some r
     → is_channel (channel_at r.channels (length contents.readings)) ≡ true → Holds contents log
-    → Holds (record contents { readings = contents.readings ++ sampled contents r ∷ [] }) (Sample ∷ log)
+    → Holds (record contents {
+      readings = contents.readings ++ sampled contents r ∷ [];
+      touched = record { operation = true; questionable = true };
+    }) (Sample ∷ log)
 Holds-sample contents log r e known is = record {
   inputs = is.inputs;
   list = is.list;
@@ -117,6 +127,7 @@ Holds-sample contents log r e known is = record {
   run = is.run;
   readings = ap (λ (xs : List Reading). xs ++ sampled contents r ∷ []) is.readings
       ∙ ap (λ (x : Reading). readings log ++ x ∷ []) (sampled_is contents log r e known is);
+  touched = IsTouched-all Sample log;
 }
 
 zeros : (n place : ℕ) → get_or (replicate n (pos 0)) place (pos 0) ≡ pos 0
@@ -129,7 +140,7 @@ zeros n place = elim (cases_lt place n) [
 pub StandsFor-new : (n : ℕ) (settings : Settings) → settings.list ≡ scan_list [] → settings.monitor ≡ monitor [] → settings.range ≡ range []
     → settings.upper ≡ upper [] → settings.lower ≡ lower []
     → settings.limits ≡ limits [] → settings.source ≡ source [] → settings.count ≡ count []
-    → StandsFor (contents_of (replicate n (pos 0)) settings None []) []
+    → StandsFor (contents_of (replicate n (pos 0)) settings None [] nothing) []
 StandsFor-new n settings list monitor range upper lower limits source count = record {
   inputs = λ channel known. zeros n (channel - 1);
   list = list;
@@ -142,4 +153,5 @@ StandsFor-new n settings list monitor range upper lower limits source count = re
   count = count;
   run = refl;
   readings = refl;
+  touched = tt;
 }

@@ -6,6 +6,7 @@ use Rattle.sv_scan.specs.declared.setting.Reading.{Reading}
 use Rattle.sv_scan.specs.declared.setting.State.{State}
 use Rattle.sv_scan.specs.declared.setting.State.TheVariants.{Idle}
 use Rattle.sv_scan.specs.declared.settings.Settings.{Settings}
+use Rattle.sv_scan.specs.declared.touched.Touched.{Touched}
 use Rattle.sv_errors.specs.Limits.{is_channel, is_channel_list}
 use Rattle.sv_scan.specs.Setting.{is_possible}
 use Rattle.sv_scan.specs.Scan.{state_by, is_bounded}
@@ -49,8 +50,8 @@ pub record IsValid (contents : Contents) (capacity : ℕ) : Type 0 where
   pub readings : list_all is_bounded contents.readings ≡ true
 
 -- the contents, by their parts
-abbrev pub contents_of : List ℤ → Settings → Option Run → List Reading → Contents
-contents_of inputs settings run readings = record {
+abbrev pub contents_of : List ℤ → Settings → Option Run → List Reading → Touched → Contents
+contents_of inputs settings run readings touched = record {
   inputs = inputs;
   list = settings.list;
   monitor = settings.monitor;
@@ -62,4 +63,5 @@ contents_of inputs settings run readings = record {
   count = settings.count;
   run = run;
   readings = readings;
+  touched = touched;
 }

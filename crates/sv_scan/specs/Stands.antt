@@ -4,10 +4,12 @@ use Rattle.std.specs.Prelude.{option_map}
 use Rattle.sv_scan.specs.declared.setting.Reading.{Reading}
 use Rattle.sv_errors.specs.declared.source.Source.{Source}
 use Rattle.sv_scan.specs.declared.acts.ScanAct.{ScanAct}
+use Rattle.sv_scan.specs.declared.touched.Touched.{Touched}
 use Rattle.sv_errors.specs.Limits.{is_channel}
 use Rattle.sv_scan.specs.Setting.{scan_list, monitor, range, upper, lower, limits, source, count, input}
 use Rattle.sv_scan.specs.Scan.{before_init, triggers, readings}
 use Rattle.sv_scan.specs.Counted.{kept}
+use Rattle.sv_scan.specs.Touched.{IsTouched}
 
 -- a measurement: its list and its count, fixed when it was initiated, and how many triggers it had
 pub record Run : Type 0 where
@@ -32,6 +34,7 @@ pub record Contents : Type 0 where
   pub count : ℕ
   pub run : Option Run
   pub readings : List Reading
+  pub touched : Touched
 
 -- Each thing that it holds is what a search of the acts that count finds.
 pub record Holds (contents : Contents) (log : List ScanAct) : Type 0 where
@@ -46,6 +49,7 @@ pub record Holds (contents : Contents) (log : List ScanAct) : Type 0 where
   pub count : contents.count ≡ count log
   pub run : contents.run ≡ run log
   pub readings : contents.readings ≡ readings log
+  pub touched : IsTouched contents.touched log
 
 -- What it holds stands for all that happened, of which some counts.
 abbrev pub StandsFor : Contents → List ScanAct → Type 0

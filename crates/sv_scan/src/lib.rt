@@ -15,6 +15,7 @@ mod scanner;
 mod setting;
 mod settings;
 mod state;
+mod touched;
 mod words;
 
 pub use acts::{ScanAct, ScanAnswer};
@@ -22,4 +23,5 @@ pub use scan_list::ScanList;
 pub use scanner::Scanner;
 pub use setting::{Reading, Setting, State};
 pub use sv_errors::Source;
+pub use touched::Touched;
 pub use words::Conditions;

@@ -1,6 +1,6 @@
 //! The scanner.
 
-ghost use Rattle.std.specs.Prelude.{◌≡◌, ◌≤◌, true, false, [], ◌∷◌, List, length, IfOk, OnOk, OnErr, MatchResult};
+ghost use Rattle.std.specs.Prelude.{◌≡◌, ◌≢◌, ◌≤◌, true, false, [], ◌∷◌, List, length, IfOk, OnOk, OnErr, MatchResult};
 ghost use Rattle.std.specs.List.{list_all};
 ghost use Rattle.sv_errors.specs.declared.code.Code.TheVariants.{DataCorruptOrStale};
 ghost use Rattle.sv_scan.specs.declared.setting.State.TheVariants.{Waiting, Scanning};
@@ -9,6 +9,8 @@ ghost use Rattle.sv_scan.specs.Scan.{state as state_of, readings as readings_of,
 ghost use Rattle.sv_scan.specs.Counted.{kept, setting_fault, init_fault, trigger_fault, read_fault, is_scanning as scans};
 ghost use Rattle.sv_scan.specs.Condition.{operation, questionable, is_outside as lies_outside};
 ghost use Rattle.sv_scan.specs.Answered.{refused_by};
+ghost use Rattle.sv_scan.specs.Touched.{nothing};
+ghost use Rattle.sv_errors.specs.Limits.{is_channel as is_there};
 ghost use Rattle.sv_scan.specs.Stands.{StandsFor};
 ghost use Rattle.sv_scan.specs.Representation.{run_state};
 
@@ -19,6 +21,7 @@ use crate::run::Run;
 use crate::setting::{Reading, Setting, State};
 use crate::settings::Settings;
 use crate::state::{is_complete, is_idle, is_same, is_scanning, is_waiting, state_in};
+use crate::touched::Touched;
 use crate::words::{Conditions, operation_word, questionable_word};
 use std::alloc::{AllocError, Allocator, Global};
 use std::marker::Model;
@@ -39,6 +42,8 @@ pub struct Scanner<A: Allocator = Global> {
     run: Option<Run>,
     /// Its readings, oldest first; none without a measurement.
     readings: Vec<Reading, A>,
+    /// Which conditions the newest act may have changed.
+    pub(crate) touched: Touched,
 }
 
 impl<A: Allocator> Model for Scanner<A> {
@@ -49,10 +54,10 @@ impl<A: Allocator> Model for Scanner<A> {
     ghost use Rattle.std.specs.Prelude.{vec_capacity};
     ghost use Rattle.sv_scan.specs.Representation.{contents_of, IsValid};
 
-    ghost view = { λ a. contents_of a.inputs a.settings a.run a.readings.items };
+    ghost view = { λ a. contents_of a.inputs a.settings a.run a.readings.items a.touched };
 
-    ghost invariant = { λ a. IsValid (contents_of a.inputs a.settings a.run a.readings.items)
-        (vec_capacity a.readings) };
+    ghost invariant = { λ a. IsValid (contents_of a.inputs a.settings a.run a.readings.items
+        a.touched) (vec_capacity a.readings) };
 }
 
 impl<A: Allocator> Scanner<A> {
@@ -66,17 +71,29 @@ impl<A: Allocator> Scanner<A> {
             settings: Settings::new(),
             run: None,
             readings: Vec::with_capacity(alloc, MAX_READINGS)?,
+            touched: Touched {
+                operation: false,
+                questionable: false,
+            },
         })
     }
 
-    /// The voltage of a channel's input is this from now on, in microvolts. A channel that isn't 1
-    /// to 32 has no input: nothing changes.
+    /// The voltage of a channel's input is this from now on, in microvolts. It touches no condition
+    /// where the channel isn't the monitored one. A channel that isn't 1 to 32 has no input:
+    /// nothing changes.
     pub fn input(&mut self, channel: u8, microvolts: i64)
-        ensures { (acts : List ScanAct) → StandsFor self.old acts
+        ensures stands { (acts : List ScanAct) → StandsFor self.old acts
             → StandsFor self.new (ScanAct.Input channel microvolts ∷ acts) }
+        ensures untouched { is_there channel ≡ true → channel ≢ self.old.monitor
+            → self.new.touched ≡ nothing }
     {
         if is_channel(u64::from(channel)) {
             self.inputs[usize::from(channel) - 1] = microvolts;
+            let questionable = channel == self.settings.monitor;
+            self.touched = Touched {
+                operation: false,
+                questionable,
+            };
         }
     }
 
@@ -95,6 +112,10 @@ impl<A: Allocator> Scanner<A> {
         match self.may_set(&setting) {
             Ok(()) => {
                 self.settings.set(setting);
+                self.touched = Touched {
+                    operation: false,
+                    questionable: true,
+                };
                 Ok(())
             }
             Err(fault) => Err(fault),
@@ -135,6 +156,10 @@ impl<A: Allocator> Scanner<A> {
             Ok(()) => {
                 self.readings.clear();
                 self.run = Some(Run::new(self.settings.list, self.settings.count));
+                self.touched = Touched {
+                    operation: true,
+                    questionable: true,
+                };
                 Ok(())
             }
             Err(busy) => Err(busy),
@@ -176,6 +201,10 @@ impl<A: Allocator> Scanner<A> {
     {
         self.run = None;
         self.readings.clear();
+        self.touched = Touched {
+            operation: true,
+            questionable: true,
+        };
     }
 
     /// Ends the measurement, and gives each setting its default. The inputs stay.
@@ -186,6 +215,10 @@ impl<A: Allocator> Scanner<A> {
         self.run = None;
         self.readings.clear();
         self.settings = Settings::new();
+        self.touched = Touched {
+            operation: true,
+            questionable: true,
+        };
     }
 
     /// A trigger from this source: the next scan begins.
@@ -209,6 +242,10 @@ impl<A: Allocator> Scanner<A> {
                     return Err(Code::TriggerIgnored);
                 };
                 run.trigger();
+                self.touched = Touched {
+                    operation: true,
+                    questionable: false,
+                };
                 Ok(())
             }
             Err(ignored) => Err(ignored),
@@ -249,6 +286,10 @@ impl<A: Allocator> Scanner<A> {
         let channel = run.channel(self.readings.len());
         let reading = reading_in(self.settings.range, voltage(&self.inputs, channel));
         self.readings.push_reserved(reading);
+        self.touched = Touched {
+            operation: true,
+            questionable: true,
+        };
         true
     }
 

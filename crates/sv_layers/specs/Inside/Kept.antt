@@ -1,21 +1,23 @@
 -- What the layers keep, and that it stands for a log.
-use Rattle.std.specs.Prelude.{◌≡◌, ◌↔◌, ℕ, ◌+◌, Bool, true, List, [], ◌∷◌, length}
+use Rattle.std.specs.Prelude.{◌≡◌, ◌↔◌, ℕ, ◌+◌, Bool, true, false, List, [], ◌∷◌, length}
 use Rattle.sv_errors.specs.declared.code.Code.{Code}
 use Rattle.sv_errors.specs.ErrorQueue.{entries, is_any, StandsFor as Queues}
-use Rattle.sv_status.specs.Register.{Latches as RegisterLatches, Summary, StandsFor as Registers}
+use Rattle.sv_status.specs.Register.{Latches as RegisterLatches, Summary, condition, StandsFor as Registers}
 use Rattle.sv_status.specs.StandardEvent.{Latches as StandardLatches, Summary as StandardSummary, StandsFor as Standards}
 use Rattle.sv_status.specs.declared.status_byte.StatusAct.{StatusAct}
 use Rattle.sv_status.specs.declared.status_byte.StatusAct.TheVariants.{Update, Poll}
 use Rattle.sv_status.specs.StatusByte.{Latches as StatusLatches, IsRaised as IsRaisedAsTold, StandsFor as Statuses}
 use Rattle.sv_scan.specs.declared.setting.State.{State}
-use Rattle.sv_scan.specs.Condition.{bit}
+use Rattle.sv_scan.specs.declared.touched.Touched.{Touched}
+use Rattle.sv_scan.specs.Counted.{kept}
+use Rattle.sv_scan.specs.Condition.{bit, operation, questionable}
 use Rattle.sv_scan.specs.Representation.{run_state}
 use Rattle.sv_scan.specs.Stands.{Contents as ScanContents, StandsFor as Scans}
 use Rattle.sv_exchange.specs.Exchange.{response, is_something}
 use Rattle.sv_exchange.specs.Contents.{Contents, StandsFor as Exchanges}
 use Rattle.sv_layers.specs.Act.{Act, Polled}
 use Rattle.sv_layers.specs.StatusByte.{IsRaised}
-use Rattle.sv_layers.specs.Inside.Seen.{Seen, before_compared, seen}
+use Rattle.sv_layers.specs.Inside.Seen.{Seen, begun, seen}
 
 pub record Layered : Type 0 where
   pub exchange : Contents
@@ -76,7 +78,12 @@ pub record StandsFor (layered : Layered) (log : List Act) : Type 0 where
 pub record Begun (layered : Layered) (act : Act) (log : List Act) : Type 0 where
   pub told : List StatusAct
   pub are : IsStatus log told
-  pub joined : Joined layered (before_compared act (seen log)) (own_status act told)
+  pub joined : Joined layered (begun act (seen log)) (own_status act told)
+
+-- Where a condition isn't touched, its register was told it before.
+abbrev pub AreTold : Touched → Seen → Type 0
+AreTold touched at = (touched.operation ≡ false → operation (kept at.scanner) ≡ condition at.operation)
+    × (touched.questionable ≡ false → questionable (kept at.scanner) ≡ condition at.questionable)
 
 -- What is kept stands for the log, and a request was raised at its newest act exactly if this says so.
 pub record Happens (layered : Layered) (raised : Bool) (log : List Act) : Type 0 where

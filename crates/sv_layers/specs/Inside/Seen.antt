@@ -1,6 +1,6 @@
--- What each layer sees of the instrument's acts: an act begins in its own layer, then the conditions are compared, by the filters as they
--- stand, and then the act does what it does to a register.
-use Rattle.std.specs.Prelude.{ℕ, Bool, true, false, not, ◌&&◌, List, [], ◌∷◌}
+-- What each layer sees of the instrument's acts. An act begins in its own layer. Then it ends, in one register after the other: a register
+-- is told its condition, which passes by the filters as they stand, and then the act does to it what it does to a register itself.
+use Rattle.std.specs.Prelude.{◌≡◌, ℕ, Bool, true, false, not, ◌&&◌, List, [], ◌∷◌, if◌then◌else◌}
 use Rattle.sv_errors.specs.Code.{standard_event_of}
 use Rattle.sv_errors.specs.ErrorQueue.{is_full}
 use Rattle.sv_errors.specs.declared.code.Code.{Code}
@@ -20,6 +20,7 @@ use Rattle.sv_scan.specs.Counted.{kept, is_idle}
 use Rattle.sv_scan.specs.Condition.{bit, operation, questionable}
 use Rattle.sv_exchange.specs.Exchange.{ExchangeAct, TextDropped, Interrupted}
 use Rattle.sv_layers.specs.Act.{Act, Exchanged, Purged, Scanned, Reported, EntryTaken, Cleared, Preset, OpcAsked, StandardRead, StandardEnabled, EventRead, Enabled, RiseSet, FallSet, ServiceEnabled}
+use Rattle.sv_layers.specs.Event.{is_same}
 
 pub record Seen : Type 0 where
   pub exchange : List ExchangeAct
@@ -40,56 +41,68 @@ abbrev pub report_bits : Code → Bool → List StandardAct → List StandardAct
 report_bits code overflow acts = standard.Occur (bit 3 overflow) ∷ standard.Occur (standard_event_of code) ∷ acts
 
 -- what an act does to its own layer
-abbrev pub before_compared : Act → Seen → Seen
-before_compared (Exchanged act) at = record at { exchange = act ∷ at.exchange }
-before_compared Purged at = record at { exchange = Interrupted ∷ TextDropped ∷ at.exchange; waits = false }
-before_compared (Scanned act) at = record at { scanner = act ∷ at.scanner; waits = at.waits && not (resets act) }
-before_compared (Reported code) at = record at {
+abbrev pub begun : Act → Seen → Seen
+begun (Exchanged act) at = record at { exchange = act ∷ at.exchange }
+begun Purged at = record at { exchange = Interrupted ∷ TextDropped ∷ at.exchange; waits = false }
+begun (Scanned act) at = record at { scanner = act ∷ at.scanner; waits = at.waits && not (resets act) }
+begun (Reported code) at = record at {
   errors = queue.Report code ∷ at.errors;
   standard = report_bits code (is_full at.errors) at.standard;
 }
-before_compared EntryTaken at = record at { errors = queue.Take ∷ at.errors }
-before_compared Cleared at = record at { errors = queue.Clear ∷ at.errors; waits = false }
-before_compared OpcAsked at = record at { waits = true }
-before_compared (ServiceEnabled mask) at = record at { service = mask }
-before_compared _ at = at
+begun EntryTaken at = record at { errors = queue.Take ∷ at.errors }
+begun Cleared at = record at { errors = queue.Clear ∷ at.errors; waits = false }
+begun OpcAsked at = record at { waits = true }
+begun (ServiceEnabled mask) at = record at { service = mask }
+begun _ at = at
 
 -- no measurement is under way
 abbrev pub idles : Seen → Bool
 idles at = is_idle (state (kept at.scanner))
 
--- the conditions are compared, and an `*OPC` completes where no measurement is under way
-abbrev pub compared : Seen → Seen
-compared at = record at {
-  operation = register.Condition (operation (kept at.scanner)) ∷ at.operation;
-  questionable = register.Condition (questionable (kept at.scanner)) ∷ at.questionable;
+-- An `*OPC` completes where no measurement is under way.
+abbrev pub completed : Seen → Seen
+completed at = record at {
   standard = standard.Occur (bit 0 (at.waits && idles at)) ∷ at.standard;
   waits = at.waits && not (idles at);
 }
 
--- what an act does to one of the two registers
-abbrev pub on_register : RegisterName → RegisterAct → Seen → Seen
-on_register Operation act at = record at { operation = act ∷ at.operation }
-on_register Questionable act at = record at { questionable = act ∷ at.questionable }
+-- an act of a register behind others, where it is the one that is named
+abbrev pub where_same : RegisterName → RegisterName → RegisterAct → List RegisterAct → List RegisterAct
+where_same name other act acts = if is_same name other then act ∷ acts else acts
+
+-- what an act does to a register itself
+abbrev pub own : RegisterName → Act → List RegisterAct → List RegisterAct
+own name Cleared acts = register.Clear ∷ acts
+own name Preset acts = register.Preset ∷ acts
+own name (EventRead other) acts = where_same name other register.ReadEvent acts
+own name (Enabled other mask) acts = where_same name other (register.SetEnable mask) acts
+own name (RiseSet other mask) acts = where_same name other (register.SetFilter mask (fall acts)) acts
+own name (FallSet other mask) acts = where_same name other (register.SetFilter (rise acts) mask) acts
+own name _ acts = acts
+
+-- what an act does to the standard events themselves
+abbrev pub own_standard : Act → List StandardAct → List StandardAct
+own_standard Cleared acts = standard.Clear ∷ acts
+own_standard StandardRead acts = standard.Read ∷ acts
+own_standard (StandardEnabled mask) acts = standard.SetEnable mask ∷ acts
+own_standard _ acts = acts
+
+-- An act does to the registers themselves what another one does.
+abbrev pub EndsAs : Act → Act → Type 0
+EndsAs other act = ((name : RegisterName) (acts : List RegisterAct) → own name other acts ≡ own name act acts)
+    × ((acts : List StandardAct) → own_standard other acts ≡ own_standard act acts)
+
+-- an act ends, in one register after the other
+abbrev pub ended : Act → Seen → Seen
+ended act at = record (completed at) {
+  operation = own Operation act (register.Condition (operation (kept at.scanner)) ∷ at.operation);
+  questionable = own Questionable act (register.Condition (questionable (kept at.scanner)) ∷ at.questionable);
+  standard = own_standard act (completed at).standard;
+}
 
 abbrev pub register_acts : RegisterName → Seen → List RegisterAct
 register_acts Operation at = at.operation
 register_acts Questionable at = at.questionable
-
-abbrev pub both_registers : RegisterAct → Seen → Seen
-both_registers act at = record at { operation = act ∷ at.operation; questionable = act ∷ at.questionable }
-
--- what an act does to registers itself
-abbrev pub after_compared : Act → Seen → Seen
-after_compared Cleared at = record (both_registers register.Clear at) { standard = standard.Clear ∷ at.standard }
-after_compared Preset at = both_registers register.Preset at
-after_compared StandardRead at = record at { standard = standard.Read ∷ at.standard }
-after_compared (StandardEnabled mask) at = record at { standard = standard.SetEnable mask ∷ at.standard }
-after_compared (EventRead name) at = on_register name register.ReadEvent at
-after_compared (Enabled name mask) at = on_register name (register.SetEnable mask) at
-after_compared (RiseSet name mask) at = on_register name (register.SetFilter mask (fall (register_acts name at))) at
-after_compared (FallSet name mask) at = on_register name (register.SetFilter (rise (register_acts name at)) mask) at
-after_compared _ at = at
 
 -- what all layers see of the acts
 abbrev pub seen : List Act → Seen
@@ -103,7 +116,7 @@ seen [] = record {
   service = 0;
   waits = false;
 }
-seen (act ∷ log) = after_compared act (compared (before_compared act (seen log)))
+seen (act ∷ log) = ended act (begun act (seen log))
 
 -- whether an act does nothing to a register itself
 abbrev pub is_plain : Act → Bool

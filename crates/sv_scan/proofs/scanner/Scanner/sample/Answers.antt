@@ -20,8 +20,8 @@ invariant_of-self g c =
     let scanning = rw (← c.self.view_is) at (ap is_scanning (sym c.state.ensures.value) ∙ sym c.is_scanning.ensures
     ∙ c.if-not-is_scanning.false) in
     let bounded = c.reading_in-reading.ensures.bounded (search rules) in
-    rw (c.push_reserved.ensures.items, c.push_reserved.ensures.capacity) (IsValid-sample _ _ c.in-Some.run' _ c.in-Some.is c.self.invariant
-    scanning bounded)
+    rw (c.push_reserved.ensures.items, c.push_reserved.ensures.capacity) (IsValid-sample _ _ c.in-Some.run' _ _ c.in-Some.is
+    c.self.invariant scanning bounded)
 
 pub returns-clause-answer : goal.returns-clause-answer
 returns-clause-answer g c acts is =

@@ -1,14 +1,12 @@
 use Rattle.std.proofs.Common.{◌≡◌, ℕ, ◌&&◌, not, Bool, ◌∷◌, subst, ap, ◌∙◌}
-use Rattle.sv_status.specs.Register.{StandsFor as Registers}
 use Rattle.sv_status.specs.StandardEvent.{StandsFor as Standards}
-use Rattle.sv_status.specs.declared.register.RegisterAct.TheVariants.{Condition}
 use Rattle.sv_status.specs.declared.standard_event.StandardAct.TheVariants.{Occur}
 use Rattle.sv_scan.specs.declared.setting.State.{State}
 use Rattle.sv_scan.specs.Counted.{is_idle}
 use Rattle.sv_scan.specs.Condition.{bit}
 use Rattle.sv_layers.specs.Inside.Seen.{idles}
 use Rattle.sv_layers.proofs.Booleans.{bit_is}
-use Rattle.sv_layers.proofs.layers.Layers.compare.Goals as goal
+use Rattle.sv_layers.proofs.layers.Layers.complete.Goals as goal
 
 pub returns-clause-stands : goal.returns-clause-stands
 returns-clause-stands g c = λ at told h.
@@ -21,10 +19,8 @@ returns-clause-stands g c = λ at told h.
     record {
       exchange = j.exchange;
       errors = j.errors;
-      operation = subst (λ (w : ℕ). Registers c.condition.new.self (Condition w ∷ at.operation))
-          (c.conditions-now.ensures.operation at.scanner j.scanner) (c.condition.ensures at.operation j.operation);
-      questionable = subst (λ (w : ℕ). Registers c.condition-2.new.self (Condition w ∷ at.questionable))
-          (c.conditions-now.ensures.questionable at.scanner j.scanner) (c.condition-2.ensures at.questionable j.questionable);
+      operation = j.operation;
+      questionable = j.questionable;
       standard = subst (λ (w : ℕ). Standards c.occur.new.self (Occur w ∷ at.standard)) complete (c.occur.ensures at.standard j.standard);
       status = j.status;
       scanner = j.scanner;

@@ -1,4 +1,4 @@
-use Rattle.sv_layers.proofs.layers.Layers.before_compare.Goals as goal
+use Rattle.sv_layers.proofs.layers.Layers.begin.Goals as goal
 
 pub returns-in-Scan-clause-stands : goal.returns-in-Scan-clause-stands
 returns-in-Scan-clause-stands g c = rw c.in-Scan.is c.scan.ensures.stands

@@ -1,0 +1,153 @@
+//! How a change ends: in one register after the other.
+
+ghost use Rattle.std.specs.Prelude.{◌≡◌, false, List, ◌∷◌};
+ghost use Rattle.sv_status.specs.declared.register.RegisterAct.{RegisterAct};
+ghost use Rattle.sv_status.specs.declared.standard_event.StandardAct.{StandardAct};
+ghost use Rattle.sv_status.specs.declared.status_byte.StatusAct.{StatusAct};
+ghost use Rattle.sv_status.specs.Register.{condition, StandsFor as Registers};
+ghost use Rattle.sv_status.specs.StandardEvent.{StandsFor as Standards};
+ghost use Rattle.sv_scan.specs.Counted.{is_idle as idles};
+ghost use Rattle.sv_layers.specs.Act.{Act};
+ghost use Rattle.sv_layers.specs.Change.{act_of};
+ghost use Rattle.sv_layers.specs.Event.{is_same as same_register};
+ghost use Rattle.sv_layers.specs.Inside.Seen.{Seen, EndsAs, begun, completed, own, own_standard, seen};
+ghost use Rattle.sv_layers.specs.Inside.Kept.{Joined};
+
+use crate::change::Change;
+use crate::layers::Layers;
+use crate::status::mask_where;
+use std::alloc::Allocator;
+use sv_scan::State;
+use sv_status::{Register, RegisterName, StandardEvent};
+
+/// Operation complete, of the standard events.
+const COMPLETE: u8 = 1 << 0;
+
+impl<A: Allocator> Layers<A> {
+    /// Ends an act that has begun in its own layer, as this change ends. One register after the
+    /// other is told its condition, where that may have changed, and then the change does to it
+    /// what it does to a register itself.
+    pub(crate) fn end(&mut self, change: &Change)
+        ensures stands { (log : List Act) (act : Act) (told : List StatusAct)
+            → EndsAs (act_of change.now) act → Joined self.old (begun act (seen log)) told
+            → Joined self.new (seen (act ∷ log)) told }
+        ensures exchange { self.new.exchange ≡ self.old.exchange }
+        ensures scanner { self.new.scanner ≡ self.old.scanner }
+    {
+        let touched = self.scanner.touched();
+        let now = self.scanner.conditions();
+        compare(&mut self.operation, touched.operation, now.operation);
+        change_register(&mut self.operation, RegisterName::Operation, change);
+        compare(&mut self.questionable, touched.questionable, now.questionable);
+        change_register(&mut self.questionable, RegisterName::Questionable, change);
+        self.complete();
+        change_standard(&mut self.standard, change);
+    }
+
+    /// An `*OPC` is complete where no measurement is under way.
+    fn complete(&mut self)
+        ensures stands { (at : Seen) (told : List StatusAct) → Joined self.old at told
+            → Joined self.new (completed at) told }
+        ensures exchange { self.new.exchange ≡ self.old.exchange }
+        ensures scanner { self.new.scanner ≡ self.old.scanner }
+    {
+        let idle = is_idle(self.scanner.state());
+        self.standard.occur(mask_where(COMPLETE, self.waits & idle));
+        self.waits &= !idle;
+    }
+}
+
+/// Tells a register its condition, where that may have changed.
+fn compare(register: &mut Register, touched: bool, word: u16)
+    ensures { (acts : List RegisterAct) → Registers register.old acts
+        → (touched ≡ false → word ≡ condition acts)
+        → Registers register.new (RegisterAct.Condition word ∷ acts) }
+{
+    if touched {
+        register.condition(word);
+    }
+}
+
+/// What a change does to a status register itself.
+fn change_register(register: &mut Register, name: RegisterName, change: &Change)
+    ensures { (acts : List RegisterAct) → Registers register.old acts
+        → Registers register.new (own name (act_of change.now) acts) }
+{
+    match change {
+        Change::ClearStatus => register.clear(),
+        Change::Preset => register.preset(),
+        Change::ReadEvent(other) => {
+            if is_same(name, *other) {
+                register.read_event();
+            }
+        }
+        Change::Enable(other, mask) => {
+            if is_same(name, *other) {
+                register.set_enable(*mask);
+            }
+        }
+        Change::SetRise(other, mask) => {
+            if is_same(name, *other) {
+                let fall = register.fall();
+                register.set_filter(*mask, fall);
+            }
+        }
+        Change::SetFall(other, mask) => {
+            if is_same(name, *other) {
+                let rise = register.rise();
+                register.set_filter(rise, *mask);
+            }
+        }
+        Change::Scan(_act) => (),
+        Change::Hold(_awaited) => (),
+        Change::Report(_code) => (),
+        Change::TakeEntry => (),
+        Change::AskComplete => (),
+        Change::ReadStandard => (),
+        Change::EnableStandard(_mask) => (),
+        Change::EnableService(_mask) => (),
+    }
+}
+
+/// What a change does to the standard events themselves.
+fn change_standard(standard: &mut StandardEvent, change: &Change)
+    ensures { (acts : List StandardAct) → Standards standard.old acts
+        → Standards standard.new (own_standard (act_of change.now) acts) }
+{
+    match change {
+        Change::ClearStatus => standard.clear(),
+        Change::ReadStandard => {
+            standard.read();
+        }
+        Change::EnableStandard(mask) => standard.set_enable(*mask),
+        Change::Scan(_act) => (),
+        Change::Hold(_awaited) => (),
+        Change::Report(_code) => (),
+        Change::TakeEntry => (),
+        Change::Preset => (),
+        Change::AskComplete => (),
+        Change::ReadEvent(_name) => (),
+        Change::Enable(_name, _mask) => (),
+        Change::SetRise(_name, _mask) => (),
+        Change::SetFall(_name, _mask) => (),
+        Change::EnableService(_mask) => (),
+    }
+}
+
+/// Whether both names are those of one register.
+fn is_same(first: RegisterName, second: RegisterName) -> bool
+    ensures { result ≡ same_register first second }
+{
+    first == second
+}
+
+/// Whether no measurement is under way.
+fn is_idle(state: State) -> bool
+    ensures { result ≡ idles state }
+{
+    match state {
+        State::Idle => true,
+        State::Waiting => false,
+        State::Scanning => false,
+    }
+}

@@ -1,0 +1,32 @@
+//! Which conditions an act may have changed.
+
+ghost use Rattle.std.specs.Prelude.{◌≡◌, List};
+ghost use Rattle.sv_scan.specs.declared.acts.ScanAct.{ScanAct};
+ghost use Rattle.sv_scan.specs.Counted.{kept};
+ghost use Rattle.sv_scan.specs.Stands.{StandsFor};
+ghost use Rattle.sv_scan.specs.Touched.{IsTouched};
+
+use crate::scanner::Scanner;
+use std::alloc::Allocator;
+
+/// Which condition words the newest act that counts may have changed: where a field is false, that
+/// word is what it was before the act (SCPI-1999, chapter 20).
+#[derive(Clone, Copy)]
+pub struct Touched {
+    /// The word of the operation register.
+    pub operation: bool,
+    /// The word of the questionable register.
+    pub questionable: bool,
+}
+
+impl<A: Allocator> Scanner<A> {
+    /// Which condition words the newest act that counts may have changed. An act that is refused
+    /// changes none of them, and doesn't count.
+    pub fn touched(&self) -> Touched
+        ensures value { result ≡ self.now.touched }
+        ensures stands { (acts : List ScanAct) → StandsFor self.now acts
+            → IsTouched result (kept acts) }
+    {
+        self.touched
+    }
+}
