@@ -1,9 +1,6 @@
-//! The table of commands, in parts.
+//! The table of commands, as nodes in the order in which they are kept, in pieces.
 
-ghost use Rattle.std.specs.Prelude.{◌≡◌, map};
-ghost use Rattle.sv_header.specs.Plain.{row_of};
-ghost use Rattle.sv_header.specs.Table.{common_commands, system_commands, operation_commands, questionable_commands, setting_commands, measuring_commands};
-
+use crate::branch::Branch;
 use crate::command::CommandId;
 use crate::nodes::{
     ABORT, CALCULATE, CLS, CONDITION, CONFIGURE, COUNT, ENABLE, ERROR, ESE, ESR, FETCH, IDN,
@@ -12,221 +9,187 @@ use crate::nodes::{
     RANGE, READ, ROUTE, RST, SCAN, SOURCE, SRE, STATE, STATUS, STB, SYSTEM, TRG, TRIGGER, TST,
     UPPER, VERSION, VOLTAGE, WAI,
 };
-use crate::pattern::Form::{Command, CommonCommand, CommonQuery, Query};
-use crate::pattern::Pattern;
 
-const COMMON_COMMANDS: [Pattern; 14] = [
-    Pattern(CommonCommand, &[CLS], CommandId::ClearStatus),
-    Pattern(CommonCommand, &[ESE], CommandId::StandardEventEnable),
-    Pattern(CommonQuery, &[ESE], CommandId::StandardEventEnableQuery),
-    Pattern(CommonQuery, &[ESR], CommandId::StandardEventQuery),
-    Pattern(CommonQuery, &[IDN], CommandId::IdentificationQuery),
-    Pattern(CommonCommand, &[OPC], CommandId::OperationComplete),
-    Pattern(CommonQuery, &[OPC], CommandId::OperationCompleteQuery),
-    Pattern(CommonCommand, &[RST], CommandId::Reset),
-    Pattern(CommonCommand, &[SRE], CommandId::ServiceRequestEnable),
-    Pattern(CommonQuery, &[SRE], CommandId::ServiceRequestEnableQuery),
-    Pattern(CommonQuery, &[STB], CommandId::StatusByteQuery),
-    Pattern(CommonCommand, &[TRG], CommandId::Trigger),
-    Pattern(CommonQuery, &[TST], CommandId::SelfTestQuery),
-    Pattern(CommonCommand, &[WAI], CommandId::WaitToContinue),
+/// Common commands (IEEE 488.2, chapter 10).
+pub(crate) static COMMON_COMMANDS: [Branch; 11] = [
+    Branch(CLS, 0, Some(CommandId::ClearStatus), None),
+    Branch(
+        ESE,
+        0,
+        Some(CommandId::StandardEventEnable),
+        Some(CommandId::StandardEventEnableQuery),
+    ),
+    Branch(ESR, 0, None, Some(CommandId::StandardEventQuery)),
+    Branch(IDN, 0, None, Some(CommandId::IdentificationQuery)),
+    Branch(
+        OPC,
+        0,
+        Some(CommandId::OperationComplete),
+        Some(CommandId::OperationCompleteQuery),
+    ),
+    Branch(RST, 0, Some(CommandId::Reset), None),
+    Branch(
+        SRE,
+        0,
+        Some(CommandId::ServiceRequestEnable),
+        Some(CommandId::ServiceRequestEnableQuery),
+    ),
+    Branch(STB, 0, None, Some(CommandId::StatusByteQuery)),
+    Branch(TRG, 0, Some(CommandId::Trigger), None),
+    Branch(TST, 0, None, Some(CommandId::SelfTestQuery)),
+    Branch(WAI, 0, Some(CommandId::WaitToContinue), None),
 ];
 
-/// The common commands (IEEE 488.2, chapter 10).
-pub(crate) fn common_commands() -> &'static [Pattern]
-    ensures { map row_of result.now ≡ common_commands }
-{
-    &COMMON_COMMANDS
+/// SYSTem (SCPI-1999, volume 2).
+pub(crate) static SYSTEM_NODES: [Branch; 5] = [
+    Branch(SYSTEM, 4, None, None),
+    Branch(ERROR, 2, None, None),
+    Branch(MAYBE_NEXT, 0, None, Some(CommandId::SystemErrorQuery)),
+    Branch(COUNT, 0, None, Some(CommandId::SystemErrorCountQuery)),
+    Branch(VERSION, 0, None, Some(CommandId::SystemVersionQuery)),
+];
+
+/// STATus without its registers, which stand behind these (SCPI-1999, volume 2).
+pub(crate) static STATUS_NODES: [Branch; 2] = [
+    Branch(STATUS, 13, None, None),
+    Branch(PRESET, 0, Some(CommandId::StatusPreset), None),
+];
+
+/// A register of STATus (SCPI-1999, volume 2): its node, how many nodes stand below that, and the
+/// commands of its nodes.
+macro_rules! register_nodes {
+    (
+        $node:ident, $below:literal,
+        $event:ident, $condition:ident,
+        $enable:ident, $enable_query:ident,
+        $positive:ident, $positive_query:ident,
+        $negative:ident, $negative_query:ident
+    ) => {
+        [
+            Branch($node, $below, None, None),
+            Branch(MAYBE_EVENT, 0, None, Some(CommandId::$event)),
+            Branch(CONDITION, 0, None, Some(CommandId::$condition)),
+            Branch(
+                ENABLE,
+                0,
+                Some(CommandId::$enable),
+                Some(CommandId::$enable_query),
+            ),
+            Branch(
+                PTRANSITION,
+                0,
+                Some(CommandId::$positive),
+                Some(CommandId::$positive_query),
+            ),
+            Branch(
+                NTRANSITION,
+                0,
+                Some(CommandId::$negative),
+                Some(CommandId::$negative_query),
+            ),
+        ]
+    };
 }
 
-const SYSTEM_QUERIES: [Pattern; 4] = [
-    Pattern(
-        Query,
-        &[SYSTEM, ERROR, MAYBE_NEXT],
-        CommandId::SystemErrorQuery,
-    ),
-    Pattern(
-        Query,
-        &[SYSTEM, ERROR, COUNT],
-        CommandId::SystemErrorCountQuery,
-    ),
-    Pattern(Query, &[SYSTEM, VERSION], CommandId::SystemVersionQuery),
-    Pattern(Command, &[STATUS, PRESET], CommandId::StatusPreset),
-];
+/// The operation register.
+pub(crate) static OPERATION_REGISTER: [Branch; 6] = register_nodes!(
+    OPERATION,
+    5,
+    OperationEventQuery,
+    OperationConditionQuery,
+    OperationEnable,
+    OperationEnableQuery,
+    OperationPositiveTransition,
+    OperationPositiveTransitionQuery,
+    OperationNegativeTransition,
+    OperationNegativeTransitionQuery
+);
 
-/// The queries of the system, and the preset of the status registers (SCPI-1999, volume 2).
-pub(crate) fn system_commands() -> &'static [Pattern]
-    ensures { map row_of result.now ≡ system_commands }
-{
-    &SYSTEM_QUERIES
-}
-
-const OPERATION_REGISTER: [Pattern; 8] = [
-    Pattern(
-        Query,
-        &[STATUS, OPERATION, MAYBE_EVENT],
-        CommandId::OperationEventQuery,
-    ),
-    Pattern(
-        Query,
-        &[STATUS, OPERATION, CONDITION],
-        CommandId::OperationConditionQuery,
-    ),
-    Pattern(
-        Command,
-        &[STATUS, OPERATION, ENABLE],
-        CommandId::OperationEnable,
-    ),
-    Pattern(
-        Query,
-        &[STATUS, OPERATION, ENABLE],
-        CommandId::OperationEnableQuery,
-    ),
-    Pattern(
-        Command,
-        &[STATUS, OPERATION, PTRANSITION],
-        CommandId::OperationPositiveTransition,
-    ),
-    Pattern(
-        Query,
-        &[STATUS, OPERATION, PTRANSITION],
-        CommandId::OperationPositiveTransitionQuery,
-    ),
-    Pattern(
-        Command,
-        &[STATUS, OPERATION, NTRANSITION],
-        CommandId::OperationNegativeTransition,
-    ),
-    Pattern(
-        Query,
-        &[STATUS, OPERATION, NTRANSITION],
-        CommandId::OperationNegativeTransitionQuery,
-    ),
-];
-
-/// The commands of the operation register (SCPI-1999, volume 2).
-pub(crate) fn operation_commands() -> &'static [Pattern]
-    ensures { map row_of result.now ≡ operation_commands }
-{
-    &OPERATION_REGISTER
-}
-
-const QUESTIONABLE_REGISTER: [Pattern; 8] = [
-    Pattern(
-        Query,
-        &[STATUS, QUESTIONABLE, MAYBE_EVENT],
-        CommandId::QuestionableEventQuery,
-    ),
-    Pattern(
-        Query,
-        &[STATUS, QUESTIONABLE, CONDITION],
-        CommandId::QuestionableConditionQuery,
-    ),
-    Pattern(
-        Command,
-        &[STATUS, QUESTIONABLE, ENABLE],
-        CommandId::QuestionableEnable,
-    ),
-    Pattern(
-        Query,
-        &[STATUS, QUESTIONABLE, ENABLE],
-        CommandId::QuestionableEnableQuery,
-    ),
-    Pattern(
-        Command,
-        &[STATUS, QUESTIONABLE, PTRANSITION],
-        CommandId::QuestionablePositiveTransition,
-    ),
-    Pattern(
-        Query,
-        &[STATUS, QUESTIONABLE, PTRANSITION],
-        CommandId::QuestionablePositiveTransitionQuery,
-    ),
-    Pattern(
-        Command,
-        &[STATUS, QUESTIONABLE, NTRANSITION],
-        CommandId::QuestionableNegativeTransition,
-    ),
-    Pattern(
-        Query,
-        &[STATUS, QUESTIONABLE, NTRANSITION],
-        CommandId::QuestionableNegativeTransitionQuery,
-    ),
-];
-
-/// The commands of the questionable register (SCPI-1999, volume 2).
-pub(crate) fn questionable_commands() -> &'static [Pattern]
-    ensures { map row_of result.now ≡ questionable_commands }
-{
-    &QUESTIONABLE_REGISTER
-}
-
-const SETTINGS: [Pattern; 16] = [
-    Pattern(Command, &[ROUTE, SCAN], CommandId::RouteScan),
-    Pattern(Query, &[ROUTE, SCAN], CommandId::RouteScanQuery),
-    Pattern(Command, &[ROUTE, MONITOR], CommandId::RouteMonitor),
-    Pattern(Query, &[ROUTE, MONITOR], CommandId::RouteMonitorQuery),
-    Pattern(
-        Command,
-        &[MAYBE_SENSE, VOLTAGE, MAYBE_DC, RANGE, MAYBE_UPPER],
-        CommandId::VoltageRange,
-    ),
-    Pattern(
-        Query,
-        &[MAYBE_SENSE, VOLTAGE, MAYBE_DC, RANGE, MAYBE_UPPER],
-        CommandId::VoltageRangeQuery,
-    ),
-    Pattern(Command, &[CALCULATE, LIMIT, UPPER], CommandId::UpperLimit),
-    Pattern(
-        Query,
-        &[CALCULATE, LIMIT, UPPER],
-        CommandId::UpperLimitQuery,
-    ),
-    Pattern(Command, &[CALCULATE, LIMIT, LOWER], CommandId::LowerLimit),
-    Pattern(
-        Query,
-        &[CALCULATE, LIMIT, LOWER],
-        CommandId::LowerLimitQuery,
-    ),
-    Pattern(Command, &[CALCULATE, LIMIT, STATE], CommandId::LimitState),
-    Pattern(
-        Query,
-        &[CALCULATE, LIMIT, STATE],
-        CommandId::LimitStateQuery,
-    ),
-    Pattern(Command, &[TRIGGER, SOURCE], CommandId::TriggerSource),
-    Pattern(Query, &[TRIGGER, SOURCE], CommandId::TriggerSourceQuery),
-    Pattern(Command, &[TRIGGER, COUNT], CommandId::TriggerCount),
-    Pattern(Query, &[TRIGGER, COUNT], CommandId::TriggerCountQuery),
-];
+/// The questionable register.
+pub(crate) static QUESTIONABLE_REGISTER: [Branch; 6] = register_nodes!(
+    QUESTIONABLE,
+    5,
+    QuestionableEventQuery,
+    QuestionableConditionQuery,
+    QuestionableEnable,
+    QuestionableEnableQuery,
+    QuestionablePositiveTransition,
+    QuestionablePositiveTransitionQuery,
+    QuestionableNegativeTransition,
+    QuestionableNegativeTransitionQuery
+);
 
 /// What is measured, and how (SCPI-1999, volume 2).
-pub(crate) fn setting_commands() -> &'static [Pattern]
-    ensures { map row_of result.now ≡ setting_commands }
-{
-    &SETTINGS
-}
-
-const MEASURING: [Pattern; 6] = [
-    Pattern(Command, &[INITIATE, MAYBE_IMMEDIATE], CommandId::Initiate),
-    Pattern(Command, &[ABORT], CommandId::Abort),
-    Pattern(Query, &[FETCH], CommandId::FetchQuery),
-    Pattern(Query, &[READ], CommandId::ReadQuery),
-    Pattern(
-        Command,
-        &[CONFIGURE, VOLTAGE, MAYBE_DC],
-        CommandId::ConfigureVoltage,
+pub(crate) static SETTINGS: [Branch; 16] = [
+    Branch(ROUTE, 2, None, None),
+    Branch(
+        SCAN,
+        0,
+        Some(CommandId::RouteScan),
+        Some(CommandId::RouteScanQuery),
     ),
-    Pattern(
-        Query,
-        &[MEASURE, VOLTAGE, MAYBE_DC],
-        CommandId::MeasureVoltageQuery,
+    Branch(
+        MONITOR,
+        0,
+        Some(CommandId::RouteMonitor),
+        Some(CommandId::RouteMonitorQuery),
+    ),
+    Branch(MAYBE_SENSE, 4, None, None),
+    Branch(VOLTAGE, 3, None, None),
+    Branch(MAYBE_DC, 2, None, None),
+    Branch(RANGE, 1, None, None),
+    Branch(
+        MAYBE_UPPER,
+        0,
+        Some(CommandId::VoltageRange),
+        Some(CommandId::VoltageRangeQuery),
+    ),
+    Branch(CALCULATE, 4, None, None),
+    Branch(LIMIT, 3, None, None),
+    Branch(
+        UPPER,
+        0,
+        Some(CommandId::UpperLimit),
+        Some(CommandId::UpperLimitQuery),
+    ),
+    Branch(
+        LOWER,
+        0,
+        Some(CommandId::LowerLimit),
+        Some(CommandId::LowerLimitQuery),
+    ),
+    Branch(
+        STATE,
+        0,
+        Some(CommandId::LimitState),
+        Some(CommandId::LimitStateQuery),
+    ),
+    Branch(TRIGGER, 2, None, None),
+    Branch(
+        SOURCE,
+        0,
+        Some(CommandId::TriggerSource),
+        Some(CommandId::TriggerSourceQuery),
+    ),
+    Branch(
+        COUNT,
+        0,
+        Some(CommandId::TriggerCount),
+        Some(CommandId::TriggerCountQuery),
     ),
 ];
 
 /// Measuring (SCPI-1999, volume 2).
-pub(crate) fn measuring_commands() -> &'static [Pattern]
-    ensures { map row_of result.now ≡ measuring_commands }
-{
-    &MEASURING
-}
+pub(crate) static MEASURING: [Branch; 11] = [
+    Branch(INITIATE, 1, None, None),
+    Branch(MAYBE_IMMEDIATE, 0, Some(CommandId::Initiate), None),
+    Branch(ABORT, 0, Some(CommandId::Abort), None),
+    Branch(FETCH, 0, None, Some(CommandId::FetchQuery)),
+    Branch(READ, 0, None, Some(CommandId::ReadQuery)),
+    Branch(CONFIGURE, 2, None, None),
+    Branch(VOLTAGE, 1, None, None),
+    Branch(MAYBE_DC, 0, Some(CommandId::ConfigureVoltage), None),
+    Branch(MEASURE, 2, None, None),
+    Branch(VOLTAGE, 1, None, None),
+    Branch(MAYBE_DC, 0, None, Some(CommandId::MeasureVoltageQuery)),
+];
