@@ -38,7 +38,11 @@ impl<A: Allocator> Layers<A> {
         let now = self.scanner.conditions();
         compare(&mut self.operation, touched.operation, now.operation);
         change_register(&mut self.operation, RegisterName::Operation, change);
-        compare(&mut self.questionable, touched.questionable, now.questionable);
+        compare(
+            &mut self.questionable,
+            touched.questionable,
+            now.questionable,
+        );
         change_register(&mut self.questionable, RegisterName::Questionable, change);
         self.complete();
         change_standard(&mut self.standard, change);
