@@ -31,23 +31,23 @@ pub names-from_leads : (fuel : ℕ) (c q : Bool) (branches : List Branch) (left 
 names-from_leads zero c q branches left command h = absurd h
 names-from_leads (suc fuel) c q [] left command h = absurd h
 names-from_leads (suc fuel) c q (branch ∷ behind) left command (inl (inl there)) =
-    let children = take branch.1 behind in
+    let children = take branch.below behind in
     let rows = rows_of fuel c children in
     let Below = λ (rest : List (List ℕ)) (final : CommandId). Leads fuel q children rest final in
     let on = names-below c q branch rows Below (names-from_leads fuel c q children) there.0 command there.2 in
-    some-left c q left command (map (below (part branch.0)) (ending_rows c branch ++ rows)) (rows_of fuel c (drop branch.1 behind))
-    (some-there c q left there.0 (part branch.0) command (ending_rows c branch ++ rows) there.1 on)
+    some-left c q left command (map (below (part branch.node)) (ending_rows c branch ++ rows)) (rows_of fuel c (drop branch.below behind))
+    (some-there c q left there.0 (part branch.node) command (ending_rows c branch ++ rows) there.1 on)
 names-from_leads (suc fuel) c q (branch ∷ behind) left command (inl (inr absent)) =
-    let children = take branch.1 behind in
+    let children = take branch.below behind in
     let rows = rows_of fuel c children in
     let Below = λ (rest : List (List ℕ)) (final : CommandId). Leads fuel q children rest final in
     let on = names-below c q branch rows Below (names-from_leads fuel c q children) left command absent.1 in
-    some-left c q left command (map (below (part branch.0)) (ending_rows c branch ++ rows)) (rows_of fuel c (drop branch.1 behind))
-    (some-absent c q left (part branch.0) command (ending_rows c branch ++ rows) absent.0 on)
+    some-left c q left command (map (below (part branch.node)) (ending_rows c branch ++ rows)) (rows_of fuel c (drop branch.below behind))
+    (some-absent c q left (part branch.node) command (ending_rows c branch ++ rows) absent.0 on)
 names-from_leads (suc fuel) c q (branch ∷ behind) left command (inr siblings) =
-    some-right c q left command
-    (map (below (part branch.0)) (ending_rows c branch ++ rows_of fuel c (take branch.1 behind))) (rows_of fuel c (drop branch.1 behind))
-    (names-from_leads fuel c q (drop branch.1 behind) left command siblings)
+    some-right c q left command (map (below (part branch.node)) (ending_rows c branch ++ rows_of fuel c (take branch.below behind)))
+    (rows_of fuel c (drop branch.below behind))
+    (names-from_leads fuel c q (drop branch.below behind) left command siblings)
 
 -- a row at or below a node is one to which what is left leads
 leads-below : (c q d : Bool) (branch : Branch) (rows : List Row) (Below : List (List ℕ) → CommandId → Type 0)
@@ -63,18 +63,18 @@ pub leads-from_names : (fuel : ℕ) (c q d : Bool) (branches : List Branch) (lef
 leads-from_names zero c q d branches left command h = absurd h
 leads-from_names (suc fuel) c q d [] left command h = absurd h
 leads-from_names (suc fuel) c q d (branch ∷ behind) left command h =
-    let children = take branch.1 behind in
+    let children = take branch.below behind in
     let rows = rows_of fuel d children in
     let Below = λ (rest : List (List ℕ)) (final : CommandId). Leads fuel q children rest final in
     let on = leads-below c q d branch rows Below (leads-from_names fuel c q d children) in
-    let at_node = map (below (part branch.0)) (ending_rows d branch ++ rows) in
-    elim (some-cases c q left command at_node (rows_of fuel d (drop branch.1 behind)) h) [
+    let at_node = map (below (part branch.node)) (ending_rows d branch ++ rows) in
+    elim (some-cases c q left command at_node (rows_of fuel d (drop branch.below behind)) h) [
       | inl here ↦
-          elim (some-below c q left (part branch.0) command (ending_rows d branch ++ rows) here) [
+          elim (some-below c q left (part branch.node) command (ending_rows d branch ++ rows) here) [
             | inl there ↦ inl (inl (there.0, there.1, on there.0 command there.2))
             | inr absent ↦ inl (inr (absent.0, on left command absent.1))
           ]
-      | inr siblings ↦ inr (leads-from_names fuel c q d (drop branch.1 behind) left command siblings)
+      | inr siblings ↦ inr (leads-from_names fuel c q d (drop branch.below behind) left command siblings)
     ]
 
 -- no row of common commands is named by a header of another form, and none of the others by one of theirs

@@ -129,22 +129,22 @@ pub some-ending_rows : (c q : Bool) (branch : Branch) (rows : List Row) (left : 
     → Ends left (command_of q branch) command → SomeNames c q left command (ending_rows c branch ++ rows)
 some-ending_rows c false branch rows left command h =
     some-left c false left command (ending_rows c branch) rows
-    (some-left c false left command (ending_row (form_of c false) branch.2) (ending_row (form_of c true) branch.3)
-    (some-ending_row c false left command branch.2 h))
+    (some-left c false left command (ending_row (form_of c false) branch.plain) (ending_row (form_of c true) branch.query)
+    (some-ending_row c false left command branch.plain h))
 some-ending_rows c true branch rows left command h =
     some-left c true left command (ending_rows c branch) rows
-    (some-right c true left command (ending_row (form_of c false) branch.2) (ending_row (form_of c true) branch.3)
-    (some-ending_row c true left command branch.3 h))
+    (some-right c true left command (ending_row (form_of c false) branch.plain) (ending_row (form_of c true) branch.query)
+    (some-ending_row c true left command branch.query h))
 
 ends-ending_rows : (c q d : Bool) (branch : Branch) (left : List (List ℕ)) (command : CommandId)
     → SomeNames c q left command (ending_rows d branch) → (c ≡ d) × Ends left (command_of q branch) command
 ends-ending_rows c q d branch left command h =
-    elim (some-cases c q left command (ending_row (form_of d false) branch.2) (ending_row (form_of d true) branch.3) h) [
+    elim (some-cases c q left command (ending_row (form_of d false) branch.plain) (ending_row (form_of d true) branch.query) h) [
       | inl plain ↦
-          let found = ends-ending_row c q d false left command branch.2 plain in
+          let found = ends-ending_row c q d false left command branch.plain plain in
           (found.0, subst (λ sign. Ends left (command_of sign branch) command) (sym found.1) found.2)
       | inr query ↦
-          let found = ends-ending_row c q d true left command branch.3 query in
+          let found = ends-ending_row c q d true left command branch.query query in
           (found.0, subst (λ sign. Ends left (command_of sign branch) command) (sym found.1) found.2)
     ]
 

@@ -13,9 +13,9 @@ pub parted-fewer : (branches : List Branch) (branch : Branch) (children siblings
     → (length children < length branches) × (length siblings < length branches)
 parted-fewer [] branch children siblings p = absurd p
 parted-fewer (first ∷ behind) branch children siblings p =
-    let front : length children ≡ length (take first.1 behind) = ap length p.1 in
-    let back : length siblings ≡ length (drop first.1 behind) = ap length p.2 in
-    (omega (arith, front, length-take first.1 behind), omega (arith, back, length-drop first.1 behind))
+    let front : length children ≡ length (take first.below behind) = ap length p.1 in
+    let back : length siblings ≡ length (drop first.below behind) = ap length p.2 in
+    (omega (arith, front, length-take first.below behind), omega (arith, back, length-drop first.below behind))
 
 -- nothing leads anywhere among no nodes
 pub no-branches : (fuel : ℕ) (query : Bool) (branches : List Branch) (left : List (List ℕ)) (command : CommandId) → branches ≡ []
@@ -36,16 +36,16 @@ LeadsFrom fuel query branch children left command = LeadsBelow query branch (λ 
 
 to-first : (fuel : ℕ) (query : Bool) (first : Branch) (behind : List Branch) (branch : Branch) (children siblings : List Branch)
     → IsParted (first ∷ behind) branch children siblings → (left : List (List ℕ)) (command : CommandId)
-    → LeadsFrom fuel query branch children left command → LeadsFrom fuel query first (take first.1 behind) left command
+    → LeadsFrom fuel query branch children left command → LeadsFrom fuel query first (take first.below behind) left command
 to-first fuel query first behind branch children siblings p left command h =
     subst (λ nodes. LeadsFrom fuel query first nodes left command) p.1
-    (subst (λ node. LeadsFrom fuel query node children left command) p.0 h)
+    (subst (λ place. LeadsFrom fuel query place children left command) p.0 h)
 
 from-first : (fuel : ℕ) (query : Bool) (first : Branch) (behind : List Branch) (branch : Branch) (children siblings : List Branch)
     → IsParted (first ∷ behind) branch children siblings → (left : List (List ℕ)) (command : CommandId)
-    → LeadsFrom fuel query first (take first.1 behind) left command → LeadsFrom fuel query branch children left command
+    → LeadsFrom fuel query first (take first.below behind) left command → LeadsFrom fuel query branch children left command
 from-first fuel query first behind branch children siblings p left command h =
-    subst (λ node. LeadsFrom fuel query node children left command) (sym p.0)
+    subst (λ place. LeadsFrom fuel query place children left command) (sym p.0)
     (subst (λ nodes. LeadsFrom fuel query first nodes left command) (sym p.1) h)
 
 -- what was found below a node, of what is left there
@@ -55,7 +55,7 @@ FoundBelow query branch children way found = (fuel : ℕ) → length children �
 
 -- a command below a node that takes the first mnemonic
 pub found-there : (query : Bool) (branches : List Branch) (branch : Branch) (children siblings : List Branch) (left : List (List ℕ))
-    (way : Option Mnemonics) (found : Option CommandId) → IsParted branches branch children siblings → IsBehind left (part branch.0) way
+    (way : Option Mnemonics) (found : Option CommandId) → IsParted branches branch children siblings → IsBehind left (part branch.node) way
     → FoundBelow query branch children way found → is_some found ≡ true
     → (fuel : ℕ) → length branches ≤ fuel → IsFound found (λ command. Leads fuel query branches left command)
 found-there query [] branch children siblings left way found p w below some fuel le = absurd p
@@ -66,13 +66,13 @@ found-there query (first ∷ behind) branch children siblings left None (Some co
     absurd (below fuel (omega (arith, fewer.0)))
 found-there query (first ∷ behind) branch children siblings left (Some others) (Some command) p w below some (suc fuel) le =
     let fewer = parted-fewer (first ∷ behind) branch children siblings p in
-    let takes = subst (λ node. Takes left (part node.0) (left_of others)) p.0 w in
+    let takes = subst (λ place. Takes left (part place.node) (left_of others)) p.0 w in
     let on = to-first fuel query first behind branch children siblings p (left_of others) command (below fuel (omega (arith, fewer.0))) in
     inl (inl (left_of others, takes, on))
 
 -- a command below a node that is absent
 pub found-absent : (query : Bool) (branches : List Branch) (branch : Branch) (children siblings : List Branch) (left : List (List ℕ))
-    (way : Option Mnemonics) (found : Option CommandId) → IsParted branches branch children siblings → IsAllOf left (part branch.0) way
+    (way : Option Mnemonics) (found : Option CommandId) → IsParted branches branch children siblings → IsAllOf left (part branch.node) way
     → FoundBelow query branch children way found → is_some found ≡ true
     → (fuel : ℕ) → length branches ≤ fuel → IsFound found (λ command. Leads fuel query branches left command)
 found-absent query [] branch children siblings left way found p w below some fuel le = absurd p
@@ -83,27 +83,27 @@ found-absent query (first ∷ behind) branch children siblings left None (Some c
     absurd (below fuel (omega (arith, fewer.0)))
 found-absent query (first ∷ behind) branch children siblings left (Some all) (Some command) p w below some (suc fuel) le =
     let fewer = parted-fewer (first ∷ behind) branch children siblings p in
-    let may : first.0.optional ≡ true = ap (λ node. node.0.optional) (sym p.0) ∙ w.0 in
+    let may : first.node.optional ≡ true = ap (λ place. place.node.optional) (sym p.0) ∙ w.0 in
     let on = to-first fuel query first behind branch children siblings p (left_of all) command (below fuel (omega (arith, fewer.0))) in
-    inl (inr (may, subst (λ rest. LeadsFrom fuel query first (take first.1 behind) rest command) w.1 on))
+    inl (inr (may, subst (λ rest. LeadsFrom fuel query first (take first.below behind) rest command) w.1 on))
 
 -- nothing below the first of siblings, and nothing behind it
 nothing-here : (fuel : ℕ) (query : Bool) (first : Branch) (behind : List Branch) (branch : Branch) (children siblings : List Branch)
     (left : List (List ℕ)) (there absent : Option Mnemonics) (command : CommandId)
-    → IsParted (first ∷ behind) branch children siblings → IsBehind left (part branch.0) there → IsAllOf left (part branch.0) absent
+    → IsParted (first ∷ behind) branch children siblings → IsBehind left (part branch.node) there → IsAllOf left (part branch.node) absent
     → (OnLeft there (λ rest. LeadsFrom fuel query branch children rest command) → ⊥)
     → (OnLeft absent (λ rest. LeadsFrom fuel query branch children rest command) → ⊥)
     → (Leads fuel query siblings left command → ⊥) → Leads (suc fuel) query (first ∷ behind) left command → ⊥
 nothing-here fuel query first behind branch children siblings left None absent command p w v a b c (inl (inl h)) =
-    w h.0 (subst (λ node. Takes left (part node.0) h.0) (sym p.0) h.1)
+    w h.0 (subst (λ place. Takes left (part place.node) h.0) (sym p.0) h.1)
 nothing-here fuel query first behind branch children siblings left (Some others) absent command p w v a b c (inl (inl h)) =
-    let takes = subst (λ node. Takes left (part node.0) h.0) (sym p.0) h.1 in
-    let same : h.0 ≡ left_of others = one-takes left (part branch.0) h.0 (left_of others) takes w in
+    let takes = subst (λ place. Takes left (part place.node) h.0) (sym p.0) h.1 in
+    let same : h.0 ≡ left_of others = one-takes left (part branch.node) h.0 (left_of others) takes w in
     let on = from-first fuel query first behind branch children siblings p h.0 command h.2 in
     a (subst (λ rest. LeadsFrom fuel query branch children rest command) same on)
 nothing-here fuel query first behind branch children siblings left there None command p w v a b c (inl (inr h)) =
-    let may : branch.0.optional ≡ true = ap (λ node. node.0.optional) p.0 ∙ h.0 in
-    let not_so : branch.0.optional ≡ false = v in
+    let may : branch.node.optional ≡ true = ap (λ place. place.node.optional) p.0 ∙ h.0 in
+    let not_so : branch.node.optional ≡ false = v in
     let e : true ≡ false = sym may ∙ not_so in
     absurd cc
 nothing-here fuel query first behind branch children siblings left there (Some all) command p w v a b c (inl (inr h)) =
@@ -115,7 +115,7 @@ nothing-here fuel query first behind branch children siblings left there absent 
 -- what was found among the siblings behind a node, where nothing is found at it
 pub found-behind : (query : Bool) (branches : List Branch) (branch : Branch) (children siblings : List Branch) (left : List (List ℕ))
     (there absent : Option Mnemonics) (first second found : Option CommandId) → IsParted branches branch children siblings
-    → IsBehind left (part branch.0) there → IsAllOf left (part branch.0) absent
+    → IsBehind left (part branch.node) there → IsAllOf left (part branch.node) absent
     → FoundBelow query branch children there first → is_some first ≡ false
     → FoundBelow query branch children absent second → is_some second ≡ false
     → ((fuel : ℕ) → length siblings ≤ fuel → IsFound found (λ command. Leads fuel query siblings left command))

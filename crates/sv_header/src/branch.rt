@@ -9,23 +9,26 @@ use crate::command::CommandId;
 use crate::left::Mnemonics;
 use crate::pattern::Node;
 
-/// A node at its place: how many nodes stand below it, and the command of the headers that end
-/// here, without the query sign and with it. The nodes below it stand right behind it, and behind
-/// these its next sibling.
+/// A node at its place. The nodes below it stand right behind it, and behind these its next
+/// sibling.
 #[derive(Clone, Copy, Debug)]
-pub(crate) struct Branch(
-    pub(crate) Node,
-    pub(crate) usize,
-    pub(crate) Option<CommandId>,
-    pub(crate) Option<CommandId>,
-);
+pub(crate) struct Branch {
+    /// The mnemonic.
+    pub(crate) node: Node,
+    /// How many nodes stand below it.
+    pub(crate) below: usize,
+    /// The command of the headers that end here without the query sign.
+    pub(crate) plain: Option<CommandId>,
+    /// The command of those that end here with it.
+    pub(crate) query: Option<CommandId>,
+}
 
 impl Branch {
     /// The command of a header that ends here.
     fn command(&self, query: bool) -> Option<CommandId>
         ensures { result ≡ command_of query self.now }
     {
-        if query { self.3 } else { self.2 }
+        if query { self.query } else { self.plain }
     }
 
     /// The same, where no mnemonic is left.
@@ -48,6 +51,6 @@ pub(crate) fn parted(branches: &[Branch]) -> Option<(&Branch, &[Branch], &[Branc
     let [branch, behind @ ..] = branches else {
         return None;
     };
-    let (children, siblings) = behind.split_at(branch.1.min(behind.len()));
+    let (children, siblings) = behind.split_at(branch.below.min(behind.len()));
     Some((branch, children, siblings))
 }

@@ -10,49 +10,56 @@ use crate::nodes::{
     UPPER, VERSION, VOLTAGE, WAI,
 };
 
+/// A command, or none.
+macro_rules! command {
+    (None) => {
+        None
+    };
+    ($name:ident) => {
+        Some(CommandId::$name)
+    };
+}
+
+/// A node with how many stand below it, and its commands without the query sign and with it.
+macro_rules! branch {
+    ($node:ident, $below:literal, $plain:ident, $query:ident) => {
+        Branch {
+            node: $node,
+            below: $below,
+            plain: command!($plain),
+            query: command!($query),
+        }
+    };
+}
+
 /// Common commands (IEEE 488.2, chapter 10).
 pub(crate) static COMMON_COMMANDS: [Branch; 11] = [
-    Branch(CLS, 0, Some(CommandId::ClearStatus), None),
-    Branch(
-        ESE,
-        0,
-        Some(CommandId::StandardEventEnable),
-        Some(CommandId::StandardEventEnableQuery),
-    ),
-    Branch(ESR, 0, None, Some(CommandId::StandardEventQuery)),
-    Branch(IDN, 0, None, Some(CommandId::IdentificationQuery)),
-    Branch(
-        OPC,
-        0,
-        Some(CommandId::OperationComplete),
-        Some(CommandId::OperationCompleteQuery),
-    ),
-    Branch(RST, 0, Some(CommandId::Reset), None),
-    Branch(
-        SRE,
-        0,
-        Some(CommandId::ServiceRequestEnable),
-        Some(CommandId::ServiceRequestEnableQuery),
-    ),
-    Branch(STB, 0, None, Some(CommandId::StatusByteQuery)),
-    Branch(TRG, 0, Some(CommandId::Trigger), None),
-    Branch(TST, 0, None, Some(CommandId::SelfTestQuery)),
-    Branch(WAI, 0, Some(CommandId::WaitToContinue), None),
+    branch!(CLS, 0, ClearStatus, None),
+    branch!(ESE, 0, StandardEventEnable, StandardEventEnableQuery),
+    branch!(ESR, 0, None, StandardEventQuery),
+    branch!(IDN, 0, None, IdentificationQuery),
+    branch!(OPC, 0, OperationComplete, OperationCompleteQuery),
+    branch!(RST, 0, Reset, None),
+    branch!(SRE, 0, ServiceRequestEnable, ServiceRequestEnableQuery),
+    branch!(STB, 0, None, StatusByteQuery),
+    branch!(TRG, 0, Trigger, None),
+    branch!(TST, 0, None, SelfTestQuery),
+    branch!(WAI, 0, WaitToContinue, None),
 ];
 
 /// SYSTem (SCPI-1999, volume 2).
 pub(crate) static SYSTEM_NODES: [Branch; 5] = [
-    Branch(SYSTEM, 4, None, None),
-    Branch(ERROR, 2, None, None),
-    Branch(MAYBE_NEXT, 0, None, Some(CommandId::SystemErrorQuery)),
-    Branch(COUNT, 0, None, Some(CommandId::SystemErrorCountQuery)),
-    Branch(VERSION, 0, None, Some(CommandId::SystemVersionQuery)),
+    branch!(SYSTEM, 4, None, None),
+    branch!(ERROR, 2, None, None),
+    branch!(MAYBE_NEXT, 0, None, SystemErrorQuery),
+    branch!(COUNT, 0, None, SystemErrorCountQuery),
+    branch!(VERSION, 0, None, SystemVersionQuery),
 ];
 
 /// STATus without its registers, which stand behind these (SCPI-1999, volume 2).
 pub(crate) static STATUS_NODES: [Branch; 2] = [
-    Branch(STATUS, 13, None, None),
-    Branch(PRESET, 0, Some(CommandId::StatusPreset), None),
+    branch!(STATUS, 13, None, None),
+    branch!(PRESET, 0, StatusPreset, None),
 ];
 
 /// A register of STATus (SCPI-1999, volume 2): its node, how many nodes stand below that, and the
@@ -66,27 +73,12 @@ macro_rules! register_nodes {
         $negative:ident, $negative_query:ident
     ) => {
         [
-            Branch($node, $below, None, None),
-            Branch(MAYBE_EVENT, 0, None, Some(CommandId::$event)),
-            Branch(CONDITION, 0, None, Some(CommandId::$condition)),
-            Branch(
-                ENABLE,
-                0,
-                Some(CommandId::$enable),
-                Some(CommandId::$enable_query),
-            ),
-            Branch(
-                PTRANSITION,
-                0,
-                Some(CommandId::$positive),
-                Some(CommandId::$positive_query),
-            ),
-            Branch(
-                NTRANSITION,
-                0,
-                Some(CommandId::$negative),
-                Some(CommandId::$negative_query),
-            ),
+            branch!($node, $below, None, None),
+            branch!(MAYBE_EVENT, 0, None, $event),
+            branch!(CONDITION, 0, None, $condition),
+            branch!(ENABLE, 0, $enable, $enable_query),
+            branch!(PTRANSITION, 0, $positive, $positive_query),
+            branch!(NTRANSITION, 0, $negative, $negative_query),
         ]
     };
 }
@@ -121,75 +113,35 @@ pub(crate) static QUESTIONABLE_REGISTER: [Branch; 6] = register_nodes!(
 
 /// What is measured, and how (SCPI-1999, volume 2).
 pub(crate) static SETTINGS: [Branch; 16] = [
-    Branch(ROUTE, 2, None, None),
-    Branch(
-        SCAN,
-        0,
-        Some(CommandId::RouteScan),
-        Some(CommandId::RouteScanQuery),
-    ),
-    Branch(
-        MONITOR,
-        0,
-        Some(CommandId::RouteMonitor),
-        Some(CommandId::RouteMonitorQuery),
-    ),
-    Branch(MAYBE_SENSE, 4, None, None),
-    Branch(VOLTAGE, 3, None, None),
-    Branch(MAYBE_DC, 2, None, None),
-    Branch(RANGE, 1, None, None),
-    Branch(
-        MAYBE_UPPER,
-        0,
-        Some(CommandId::VoltageRange),
-        Some(CommandId::VoltageRangeQuery),
-    ),
-    Branch(CALCULATE, 4, None, None),
-    Branch(LIMIT, 3, None, None),
-    Branch(
-        UPPER,
-        0,
-        Some(CommandId::UpperLimit),
-        Some(CommandId::UpperLimitQuery),
-    ),
-    Branch(
-        LOWER,
-        0,
-        Some(CommandId::LowerLimit),
-        Some(CommandId::LowerLimitQuery),
-    ),
-    Branch(
-        STATE,
-        0,
-        Some(CommandId::LimitState),
-        Some(CommandId::LimitStateQuery),
-    ),
-    Branch(TRIGGER, 2, None, None),
-    Branch(
-        SOURCE,
-        0,
-        Some(CommandId::TriggerSource),
-        Some(CommandId::TriggerSourceQuery),
-    ),
-    Branch(
-        COUNT,
-        0,
-        Some(CommandId::TriggerCount),
-        Some(CommandId::TriggerCountQuery),
-    ),
+    branch!(ROUTE, 2, None, None),
+    branch!(SCAN, 0, RouteScan, RouteScanQuery),
+    branch!(MONITOR, 0, RouteMonitor, RouteMonitorQuery),
+    branch!(MAYBE_SENSE, 4, None, None),
+    branch!(VOLTAGE, 3, None, None),
+    branch!(MAYBE_DC, 2, None, None),
+    branch!(RANGE, 1, None, None),
+    branch!(MAYBE_UPPER, 0, VoltageRange, VoltageRangeQuery),
+    branch!(CALCULATE, 4, None, None),
+    branch!(LIMIT, 3, None, None),
+    branch!(UPPER, 0, UpperLimit, UpperLimitQuery),
+    branch!(LOWER, 0, LowerLimit, LowerLimitQuery),
+    branch!(STATE, 0, LimitState, LimitStateQuery),
+    branch!(TRIGGER, 2, None, None),
+    branch!(SOURCE, 0, TriggerSource, TriggerSourceQuery),
+    branch!(COUNT, 0, TriggerCount, TriggerCountQuery),
 ];
 
 /// Measuring (SCPI-1999, volume 2).
 pub(crate) static MEASURING: [Branch; 11] = [
-    Branch(INITIATE, 1, None, None),
-    Branch(MAYBE_IMMEDIATE, 0, Some(CommandId::Initiate), None),
-    Branch(ABORT, 0, Some(CommandId::Abort), None),
-    Branch(FETCH, 0, None, Some(CommandId::FetchQuery)),
-    Branch(READ, 0, None, Some(CommandId::ReadQuery)),
-    Branch(CONFIGURE, 2, None, None),
-    Branch(VOLTAGE, 1, None, None),
-    Branch(MAYBE_DC, 0, Some(CommandId::ConfigureVoltage), None),
-    Branch(MEASURE, 2, None, None),
-    Branch(VOLTAGE, 1, None, None),
-    Branch(MAYBE_DC, 0, None, Some(CommandId::MeasureVoltageQuery)),
+    branch!(INITIATE, 1, None, None),
+    branch!(MAYBE_IMMEDIATE, 0, Initiate, None),
+    branch!(ABORT, 0, Abort, None),
+    branch!(FETCH, 0, None, FetchQuery),
+    branch!(READ, 0, None, ReadQuery),
+    branch!(CONFIGURE, 2, None, None),
+    branch!(VOLTAGE, 1, None, None),
+    branch!(MAYBE_DC, 0, ConfigureVoltage, None),
+    branch!(MEASURE, 2, None, None),
+    branch!(VOLTAGE, 1, None, None),
+    branch!(MAYBE_DC, 0, None, MeasureVoltageQuery),
 ];

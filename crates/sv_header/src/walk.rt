@@ -18,11 +18,11 @@ pub(crate) fn walk(left: &Mnemonics<'_>, query: bool, branches: &[Branch]) -> Op
     let Some((branch, children, siblings)) = parted(branches) else {
         return None;
     };
-    let there = below(branch.0.behind(left), query, branch, children);
+    let there = below(branch.node.behind(left), query, branch, children);
     if there.is_some() {
         return there;
     }
-    let absent = below(branch.0.absent(left), query, branch, children);
+    let absent = below(branch.node.absent(left), query, branch, children);
     if absent.is_some() {
         return absent;
     }

@@ -8,14 +8,14 @@ use Rattle.sv_header.specs.Table.{common_commands, system_commands, operation_co
 
 -- the command of the headers that end at a node, with the query sign or without it
 abbrev pub command_of : Bool → Branch → Option CommandId
-command_of false branch = branch.2
-command_of true branch = branch.3
+command_of false branch = branch.plain
+command_of true branch = branch.query
 
 -- The first of siblings, the nodes below it, and its siblings behind these.
 abbrev pub IsParted : List Branch → Branch → List Branch → List Branch → Type 0
 IsParted [] branch children siblings = ⊥
 IsParted (first ∷ behind) branch children siblings =
-    (branch ≡ first) × (children ≡ take first.1 behind) × (siblings ≡ drop first.1 behind)
+    (branch ≡ first) × (children ≡ take first.below behind) × (siblings ≡ drop first.below behind)
 
 -- the form of common commands or of others, with the query sign or without it
 abbrev pub form_of : Bool → Bool → Form
@@ -30,7 +30,7 @@ ending_row form None = []
 ending_row form (Some command) = row form [] command ∷ []
 
 abbrev pub ending_rows : Bool → Branch → List Row
-ending_rows common branch = ending_row (form_of common false) branch.2 ++ ending_row (form_of common true) branch.3
+ending_rows common branch = ending_row (form_of common false) branch.plain ++ ending_row (form_of common true) branch.query
 
 -- a row with a node in front
 abbrev pub below : Part → Row → Row
@@ -41,8 +41,8 @@ abbrev pub rows_of : ℕ → Bool → List Branch → List Row
 rows_of zero common branches = []
 rows_of (suc fuel) common [] = []
 rows_of (suc fuel) common (branch ∷ behind) =
-    map (below (part branch.0)) (ending_rows common branch ++ rows_of fuel common (take branch.1 behind))
-    ++ rows_of fuel common (drop branch.1 behind)
+    map (below (part branch.node)) (ending_rows common branch ++ rows_of fuel common (take branch.below behind))
+    ++ rows_of fuel common (drop branch.below behind)
 
 abbrev pub tree_rows : Bool → List Branch → List Row
 tree_rows common branches = rows_of (length branches) common branches

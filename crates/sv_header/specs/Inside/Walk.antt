@@ -29,9 +29,9 @@ abbrev pub Leads : ℕ → Bool → List Branch → List (List ℕ) → CommandI
 Leads zero query branches left command = ⊥
 Leads (suc fuel) query [] left command = ⊥
 Leads (suc fuel) query (branch ∷ behind) left command =
-    Passes (part branch.0)
-    (λ others. LeadsBelow query branch (λ rest. Leads fuel query (take branch.1 behind) rest command) others command) left
-    ⊎ Leads fuel query (drop branch.1 behind) left command
+    Passes (part branch.node)
+    (λ others. LeadsBelow query branch (λ rest. Leads fuel query (take branch.below behind) rest command) others command) left
+    ⊎ Leads fuel query (drop branch.below behind) left command
 
 -- What the code found: a command that is so, or none, and then none is so.
 abbrev pub IsFound : Option CommandId → (CommandId → Type 0) → Type 0
