@@ -14,7 +14,8 @@ use Rattle.sv_lexer.proofs.Spelling.{spelled, strip, strip_other, cut_other, cut
 -- whether no mnemonic is too long with these bytes more: so many characters has the last one, and so many the longest in front of it
 abbrev pub brief : Stage → (mnemonic longest : ℕ) → List ℕ → Bool
 brief stage n m [] = nat_le (max m n) 12
-brief stage n m (b ∷ more) = brief (behind_graphic stage b) (mnemonic_in (behind_graphic stage b) n) (longest_in (behind_graphic stage b) n m) more
+brief stage n m (b ∷ more) =
+    brief (behind_graphic stage b) (mnemonic_in (behind_graphic stage b) n) (longest_in (behind_graphic stage b) n m) more
 
 -- the same, with a first byte that leads to this
 abbrev brief_in : Stage → (mnemonic longest : ℕ) → List ℕ → Bool

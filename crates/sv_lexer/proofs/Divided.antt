@@ -50,7 +50,8 @@ pub run_over : (head xs : List ℕ) → list_all is_dark head ≡ true → run (
 run_over [] xs e = refl
 run_over (b ∷ head) xs e =
     let parts = and_parts (is_dark b) (list_all is_dark head) e in
-    ap (λ (t : Bool). cond t [] (b ∷ run (head ++ xs))) (not-true (is_white b) parts.0) ∙ ap (λ (l : List ℕ). b ∷ l) (run_over head xs parts.1)
+    ap (λ (t : Bool). cond t [] (b ∷ run (head ++ xs))) (not-true (is_white b) parts.0)
+    ∙ ap (λ (l : List ℕ). b ∷ l) (run_over head xs parts.1)
 
 pub behind_over : (head xs : List ℕ) → list_all is_dark head ≡ true → behind_run (head ++ xs) ≡ behind_run xs
 behind_over [] xs e = refl

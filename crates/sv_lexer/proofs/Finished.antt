@@ -206,7 +206,8 @@ cut_header : (stage : Stage) (p : Progress) (text : List ℕ) → IsInHeader sta
     → IsCut text p.header_start p.header_end p.header_end p.header_end
 cut_header stage p text h =
     let at : IsPlaced text h.head (length h.lead) [] =
-    subst (λ (l : List ℕ). IsPlaced l h.head (length h.lead) []) (sym (h.whole ∙ ap (λ (l : List ℕ). h.lead ++ l) (sym (append-nil h.head))))
+    subst (λ (l : List ℕ). IsPlaced l h.head (length h.lead) [])
+    (sym (h.whole ∙ ap (λ (l : List ℕ). h.lead ++ l) (sym (append-nil h.head))))
     (placed h.lead h.head [] h.led refl refl) in
     let long : length (header text) ≡ length h.head = ap length at.heads in
     let none : length (rest text) ≡ 0 = ap length at.rests in
