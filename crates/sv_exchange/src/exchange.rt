@@ -130,7 +130,7 @@ impl<A: Allocator> Exchange<A> {
         ensures stands { (acts : List ExchangeAct) → StandsFor self.old acts
             → StandsFor self.new (Accepted bytes.now ended ∷ acts) }
     {
-        drop_front(&mut self.text, self.cursor);
+        drop_done(&mut self.text, self.cursor);
         let before = self.text.len();
         append(&mut self.text, bytes);
         let cut = first_message(bytes, ended);
@@ -365,6 +365,17 @@ impl<A: Allocator> Exchange<A> {
         } else {
             &self.response[self.read..]
         }
+    }
+}
+
+/// Drops the bytes that are done. Where there are none, it costs nothing.
+fn drop_done<A: Allocator>(bytes: &mut Vec<u8, A>, count: usize)
+    requires { count ≤ vec_len bytes.old }
+    ensures items { bytes.new.items ≡ drop count bytes.old.items }
+    ensures capacity { vec_capacity bytes.new ≡ vec_capacity bytes.old }
+{
+    if count > 0 {
+        drop_front(bytes, count);
     }
 }
 
