@@ -1,0 +1,23 @@
+-- What holds of each act of a list at its own place.
+use Rattle.std.proofs.Common.{◌≡◌, List, [], ◌∷◌, ◌++◌, refl, sym, ap, subst, append_assoc}
+use Rattle.std.specs.Prelude.{⊤}
+
+-- Each of these acts is such in front of the acts before it.
+abbrev pub Each : {A : Type 0} → (List A → A → Type 0) → List A → List A → Type 0
+Each {A} IsSuch [] before = ⊤
+Each {A} IsSuch (act ∷ acts) before = IsSuch (acts ++ before) act × Each IsSuch acts before
+
+-- acts, and before them others
+pub each_join : {A : Type 0} (IsSuch : List A → A → Type 0) (acts more before : List A) → Each IsSuch acts (more ++ before)
+    → Each IsSuch more before → Each IsSuch (acts ++ more) before
+each_join {A} IsSuch [] more before h k = k
+each_join {A} IsSuch (act ∷ acts) more before h k = (
+  subst (λ (l : List A). IsSuch l act) (sym (append_assoc acts more before)) h.0,
+  each_join IsSuch acts more before h.1 k,
+)
+
+-- and what is weaker
+pub each_then : {A : Type 0} (IsSuch IsSo : List A → A → Type 0) → ((before : List A) (act : A) → IsSuch before act → IsSo before act)
+    → (acts before : List A) → Each IsSuch acts before → Each IsSo acts before
+each_then {A} IsSuch IsSo so [] before h = tt
+each_then {A} IsSuch IsSo so (act ∷ acts) before h = (so (acts ++ before) act h.0, each_then IsSuch IsSo so acts before h.1)
