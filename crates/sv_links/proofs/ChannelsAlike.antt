@@ -111,8 +111,8 @@ kept_differ : (lid : ℕ) (xs : List Enabled) → Differ lid xs → other_links 
 kept_differ lid [] h = refl
 kept_differ lid (x ∷ xs) h = rw (ne_eqb x.lid lid h.0) (ap (λ (l : List Enabled). x ∷ l) (kept_differ lid xs h.1))
 
-own_with : (c : ℕ) (link : Enabled) (links : List Enabled)
-    → own_links c (with_link link links) ≡ below link.lid (own_links c links) ++ (own_links c (link ∷ []) ++ above link.lid (own_links c links))
+own_with : (c : ℕ) (link : Enabled) (links : List Enabled) → own_links c (with_link link links)
+    ≡ below link.lid (own_links c links) ++ (own_links c (link ∷ []) ++ above link.lid (own_links c links))
 own_with c link links = elim (cases_Bool (eqb link.conn c)) [
   | inl e ↦ filter_join (λ link. eqb link.conn c) (below link.lid links) (link ∷ above link.lid links)
       ∙ rw (
