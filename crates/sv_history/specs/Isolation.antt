@@ -1,6 +1,6 @@
 -- Isolation: while a link holds the lock, what other connections do changes nothing that is sent on its connection and on its interrupt
 -- channel (VXI-11 revision 1.0, section B.4.4: device locking).
-use Rattle.std.specs.Prelude.{◌≡◌, ◌≢◌, ◌==◌, not, ℕ, Bool, false, ⊤, List, [], ◌∷◌, ◌++◌, filter, Option, Some, None}
+use Rattle.std.specs.Prelude.{◌≡◌, ◌≢◌, ◌↔◌, ◌==◌, not, ℕ, Bool, false, ⊤, List, [], ◌∷◌, ◌++◌, filter, Option, Some, None}
 use Rattle.sv_vxi.specs.Arguments.{is_create_link}
 use Rattle.sv_links.specs.declared.waiting.Wait.TheVariants.{Input as ForInput, Response as ForResponse}
 use Rattle.sv_links.specs.Links.{owner, holder}
@@ -79,5 +79,5 @@ pub record IsLocked (c lid : ℕ) (config : Config) (past events : List PlainEve
 abbrev pub Isolation : Type 0
 Isolation = (c lid : ℕ) (config : Config) (past events : List PlainEvent) → IsLocked c lid config past events
     → ((log : List Act) × IsLogOf config (own_events c events ++ past) log)
-    × ((port : Port) (bytes : List ℕ) → port_number port ≡ c → Adds port config past events bytes
-    → Adds port config past (own_events c events) bytes)
+    × ((port : Port) (bytes : List ℕ) → port_number port ≡ c
+    → Adds port config past events bytes ↔ Adds port config past (own_events c events) bytes)

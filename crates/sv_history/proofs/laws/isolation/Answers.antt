@@ -1,4 +1,4 @@
-use Rattle.sv_history.proofs.Isolated.{isolation}
+use Rattle.sv_history.proofs.Isolation.Isolated.{isolation}
 use Rattle.sv_history.proofs.laws.isolation.Goals as goal
 
 pub returns : goal.returns

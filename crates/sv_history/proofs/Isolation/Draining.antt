@@ -21,12 +21,12 @@ use Rattle.sv_history.specs.PolledStatus.{IsPolled}
 use Rattle.sv_history.specs.Resuming.{resumed, failed, late}
 use Rattle.sv_history.specs.Settling.{InstrumentDoes, CanResume, Resumes, IsNext}
 use Rattle.sv_history.proofs.Projections.{device_effect}
-use Rattle.sv_history.proofs.Fit.{Fit}
-use Rattle.sv_history.proofs.EachEvent.{fit_step}
-use Rattle.sv_history.proofs.Known.{waits_within, not_able}
-use Rattle.sv_history.proofs.Alike.{View, Pair, IsLeaving, pair_left, mine_also}
-use Rattle.sv_history.proofs.Due.{count, left_fewer, oldest_due}
-use Rattle.sv_history.proofs.Steps.{Reaches, reaches_none, reaches_next, reaches_then}
+use Rattle.sv_history.proofs.EveryLog.Fit.{Fit}
+use Rattle.sv_history.proofs.EveryLog.EachEvent.{fit_step}
+use Rattle.sv_history.proofs.EveryLog.Known.{waits_within, not_able}
+use Rattle.sv_history.proofs.Isolation.Alike.{View, Pair, IsLeaving, pair_left, mine_also}
+use Rattle.sv_history.proofs.EveryLog.Due.{count, left_fewer, oldest_due}
+use Rattle.sv_history.proofs.EveryLog.Steps.{Reaches, reaches_none, reaches_next, reaches_then}
 
 -- ---- what is due in one log and in the other
 

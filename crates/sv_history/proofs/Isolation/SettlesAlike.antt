@@ -21,16 +21,16 @@ use Rattle.sv_history.specs.PolledStatus.{IsPolled}
 use Rattle.sv_history.specs.Effect.{Effect, acts_of, call_effect}
 use Rattle.sv_history.specs.Resuming.{next_wait, continued, resumed, failed, late}
 use Rattle.sv_history.specs.Settling.{InstrumentDoes, CanResume, Resumes, IsNext, IsSettled, SettlesIn}
-use Rattle.sv_history.proofs.Fit.{Fit}
-use Rattle.sv_history.proofs.Done.{each_done}
-use Rattle.sv_history.proofs.EachEvent.{fit_step}
-use Rattle.sv_history.proofs.Alike.{Pair, IsOwn, IsOwnAct, Locks, pair_foreign, pair_same}
-use Rattle.sv_history.proofs.SameCalls.{resumed_same, done_own}
-use Rattle.sv_history.proofs.OthersEvents.{foreign_failed}
-use Rattle.sv_history.proofs.OwnEvents.{own_effect, own_failed, own_happened}
-use Rattle.sv_history.proofs.Due.{oldest_due}
-use Rattle.sv_history.proofs.Steps.{next_extends, settles_extends, Reaches, reaches_none, reaches_next, reaches_then}
-use Rattle.sv_history.proofs.Draining.{NothingElse, able_to, polled_to, only_own, none_able, none_able_also, no_fire, no_resume, nothing_to, IsDue, drain}
+use Rattle.sv_history.proofs.EveryLog.Fit.{Fit}
+use Rattle.sv_history.proofs.EveryLog.Done.{each_done}
+use Rattle.sv_history.proofs.EveryLog.EachEvent.{fit_step}
+use Rattle.sv_history.proofs.Isolation.Alike.{Pair, IsOwn, IsOwnAct, Locks, pair_foreign, pair_same}
+use Rattle.sv_history.proofs.Isolation.SameCalls.{resumed_same, done_own}
+use Rattle.sv_history.proofs.Isolation.OthersEvents.{foreign_failed}
+use Rattle.sv_history.proofs.Isolation.OwnEvents.{own_effect, own_failed, own_happened}
+use Rattle.sv_history.proofs.EveryLog.Due.{oldest_due}
+use Rattle.sv_history.proofs.EveryLog.Steps.{next_extends, settles_extends, Reaches, reaches_none, reaches_next, reaches_then}
+use Rattle.sv_history.proofs.Isolation.Draining.{NothingElse, able_to, polled_to, only_own, none_able, none_able_also, no_fire, no_resume, nothing_to, IsDue, drain}
 
 -- ---- one step
 

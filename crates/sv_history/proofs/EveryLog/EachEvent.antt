@@ -39,9 +39,9 @@ use Rattle.sv_history.specs.Refusing.{refusable}
 use Rattle.sv_history.specs.Settling.{IsNext, SettlesIn, InstrumentDoes}
 use Rattle.sv_history.specs.History.{abort_acts, taken_acts, turn_acts, refuse_acts, own_acts, refusal, IsLogOf}
 use Rattle.sv_history.proofs.Projections.{of_mine, of_other, of_shared, device_shared, link_acts-links, wait_acts-links, link_acts-happened, wait_acts-happened}
-use Rattle.sv_history.proofs.Done.{IsDone, each_done, waits_own, creating_waits}
-use Rattle.sv_history.proofs.Taken.{free_call, core_taken, within}
-use Rattle.sv_history.proofs.Fit.{AllSuit, IsHeld, Fit, IsBy, IsCore, held_none, held_same, fit_effect, fit_free, fit_on, fit_on_free, fit_shared}
+use Rattle.sv_history.proofs.EveryLog.Done.{IsDone, each_done, waits_own, creating_waits}
+use Rattle.sv_history.proofs.EveryLog.Taken.{free_call, core_taken, within}
+use Rattle.sv_history.proofs.EveryLog.Fit.{AllSuit, IsHeld, Fit, IsBy, IsCore, held_none, held_same, fit_effect, fit_free, fit_on, fit_on_free, fit_shared}
 
 -- ---- the principle
 

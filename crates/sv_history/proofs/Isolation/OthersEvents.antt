@@ -26,11 +26,11 @@ use Rattle.sv_history.specs.Resuming.{leaving, failed, connected}
 use Rattle.sv_history.specs.History.{abort_acts, turn_acts, refuse_acts, own_acts}
 use Rattle.sv_history.specs.Isolation.{is_foreign, aborted_link, IsMild}
 use Rattle.sv_history.proofs.Projections.{device_shared, link_acts-links}
-use Rattle.sv_history.proofs.Fit.{Fit}
-use Rattle.sv_history.proofs.EachEvent.{close_adds}
-use Rattle.sv_history.proofs.Known.{rises}
-use Rattle.sv_history.proofs.Alike.{IsForeign, IsForeignAct}
-use Rattle.sv_history.proofs.Shut.{call_foreign}
+use Rattle.sv_history.proofs.EveryLog.Fit.{Fit}
+use Rattle.sv_history.proofs.EveryLog.EachEvent.{close_adds}
+use Rattle.sv_history.proofs.EveryLog.Known.{rises}
+use Rattle.sv_history.proofs.Isolation.Alike.{IsForeign, IsForeignAct}
+use Rattle.sv_history.proofs.Isolation.Shut.{call_foreign}
 
 -- ---- effects
 

@@ -14,8 +14,8 @@ use Rattle.sv_history.specs.Act.{DeviceAct, link_acts}
 use Rattle.sv_history.specs.CoreCall.{lid_of, is_too_long}
 use Rattle.sv_history.specs.Interrupts.{has_channel, channel_fault}
 use Rattle.sv_history.specs.Admission.{Stop, names_another, is_kept_out, lock_stop, channel_stop, may_make_more, stop_of, admitted}
-use Rattle.sv_history.proofs.Alike.{IsForeign}
-use Rattle.sv_history.proofs.Done.{named_own}
+use Rattle.sv_history.proofs.Isolation.Alike.{IsForeign}
+use Rattle.sv_history.proofs.EveryLog.Done.{named_own}
 
 some_number : (a b : ℕ) → Some a ≡ Some b → a ≡ b
 some_number a b e = cc

@@ -5,7 +5,7 @@ use Rattle.std.specs.List.{concat}
 use Rattle.std.proofs.lemmas.Bool.{cases_Bool}
 use Rattle.sv_links.specs.Links.{holder}
 use Rattle.sv_links.specs.Channels.{ChannelAct}
-use Rattle.sv_links.proofs.ChannelsAlike.{SameChannel}
+use Rattle.sv_links.proofs.ChannelsAlike.{SameChannel, channel_sym}
 use Rattle.sv_history.specs.declared.event.Config.{Config}
 use Rattle.sv_history.specs.declared.event.Port.{Port}
 use Rattle.sv_history.specs.declared.event.Port.TheVariants.{Conn, Intr}
@@ -15,17 +15,17 @@ use Rattle.sv_history.specs.Requests.{HearsOf}
 use Rattle.sv_history.specs.PolledStatus.{IsPolled}
 use Rattle.sv_history.specs.Settling.{SettlesIn}
 use Rattle.sv_history.specs.History.{IsLogOf, own_acts, refusal}
-use Rattle.sv_history.specs.Adding.{all_replies, all_sent}
+use Rattle.sv_history.specs.Adding.{all_replies, all_sent, Adds}
 use Rattle.sv_history.specs.Isolation.{is_foreign, own_events, IsMild, EachIs, HoldsFrom, IsLocked, Isolation}
 use Rattle.sv_history.proofs.OneLog.{one_log}
-use Rattle.sv_history.proofs.Fit.{Fit}
-use Rattle.sv_history.proofs.EachEvent.{fit_log, fit_event}
-use Rattle.sv_history.proofs.Alike.{Pair, pair_foreign, pair_same}
-use Rattle.sv_history.proofs.OthersEvents.{foreign_event}
-use Rattle.sv_history.proofs.OwnEvents.{refusal_same, own_event}
-use Rattle.sv_history.proofs.Draining.{polled_to}
-use Rattle.sv_history.proofs.Steps.{settles_extends, log_settled, stays}
-use Rattle.sv_history.proofs.SettlesAlike.{HoldsUp, holds_further, settles_alike}
+use Rattle.sv_history.proofs.EveryLog.Fit.{Fit}
+use Rattle.sv_history.proofs.EveryLog.EachEvent.{fit_log, fit_event}
+use Rattle.sv_history.proofs.Isolation.Alike.{Pair, pair_foreign, pair_same}
+use Rattle.sv_history.proofs.Isolation.OthersEvents.{foreign_event}
+use Rattle.sv_history.proofs.Isolation.OwnEvents.{refusal_same, own_event}
+use Rattle.sv_history.proofs.Isolation.Draining.{polled_to}
+use Rattle.sv_history.proofs.EveryLog.Steps.{settles_extends, log_settled, stays}
+use Rattle.sv_history.proofs.Isolation.SettlesAlike.{HoldsUp, holds_further, settles_alike}
 
 -- ---- the link holds the lock
 
@@ -60,6 +60,7 @@ starts c lid config past events locked later is =
         rest = locked.rest;
       };
       tells = λ told hears. (told, hears, same_channel c told);
+      back = λ told hears. (told, hears, same_channel c told);
     }
 
 -- ---- event by event
@@ -180,22 +181,48 @@ sent_same : (c lid : ℕ) (port : Port) (log other : List Act) (told also : List
 sent_same c lid (Conn d) log other told also e pair same = rw e (ap all_replies pair.own)
 sent_same c lid (Intr d) log other told also e pair same = rw e (ap concat same.all)
 
+adds_alone : (c lid : ℕ) (config : Config) (past events : List PlainEvent) (locked : IsLocked c lid config past events)
+    → Alone c lid config past events locked.log locked.log → (port : Port) (bytes : List ℕ) → port_number port ≡ c
+    → Adds port config past events bytes → Adds port config past (own_events c events) bytes
+adds_alone c lid config past events locked alone port bytes mine (before, first, (log, told, is_log, hears, sent)) =
+    let same : log ≡ locked.log = one_log config (events ++ past) log locked.log is_log locked.is_log in
+    let tells = alone.pair.tells told (subst (λ (l : List Act). HearsOf (device_acts l) told) same hears) in (
+      before,
+      first,
+      (
+        alone.other,
+        tells.0,
+        alone.is_log,
+        tells.1,
+        sent ∙ ap (λ (l : List Act). all_sent port told l) same
+            ∙ sent_same c lid port locked.log alone.other told tells.0 mine alone.pair tells.2,
+      ),
+    )
+
+adds_all : (c lid : ℕ) (config : Config) (past events : List PlainEvent) (locked : IsLocked c lid config past events)
+    → Alone c lid config past events locked.log locked.log → (port : Port) (bytes : List ℕ) → port_number port ≡ c
+    → Adds port config past (own_events c events) bytes → Adds port config past events bytes
+adds_all c lid config past events locked alone port bytes mine (before, first, (log, told, is_log, hears, sent)) =
+    let same : log ≡ alone.other = one_log config (own_events c events ++ past) log alone.other is_log alone.is_log in
+    let tells = alone.pair.back told (subst (λ (l : List Act). HearsOf (device_acts l) told) same hears) in (
+      before,
+      first,
+      (
+        locked.log,
+        tells.0,
+        locked.is_log,
+        tells.1,
+        sent ∙ ap (λ (l : List Act). all_sent port told l) same
+            ∙ sym (sent_same c lid port locked.log alone.other tells.0 told mine alone.pair (channel_sym c told tells.0 tells.2)),
+      ),
+    )
+
 pub isolation : Isolation
 isolation c lid config past events locked =
     let alone = alone_from c lid config past events events locked [] locked.log refl locked.mild locked.is_log in (
       (alone.other, alone.is_log),
-      (λ port bytes mine (before, first, (log, told, is_log, hears, sent)).
-          let same : log ≡ locked.log = one_log config (events ++ past) log locked.log is_log locked.is_log in
-          let tells = alone.pair.tells told (subst (λ (l : List Act). HearsOf (device_acts l) told) same hears) in (
-            before,
-            first,
-            (
-              alone.other,
-              tells.0,
-              alone.is_log,
-              tells.1,
-              sent ∙ ap (λ (l : List Act). all_sent port told l) same
-                  ∙ sent_same c lid port locked.log alone.other told tells.0 mine alone.pair tells.2,
-            ),
-          )),
+      (λ port bytes mine. (
+        adds_alone c lid config past events locked alone port bytes mine,
+        adds_all c lid config past events locked alone port bytes mine,
+      )),
     )

@@ -17,7 +17,7 @@ use Rattle.sv_history.specs.Act.{DeviceAct, Linked, Waited, Channel, Happened, T
 use Rattle.sv_history.specs.Requests.{HearsOf}
 use Rattle.sv_history.specs.Settling.{CanResume}
 use Rattle.sv_history.specs.Isolation.{OthersRest}
-use Rattle.sv_history.proofs.Fit.{AllSuit}
+use Rattle.sv_history.proofs.EveryLog.Fit.{AllSuit}
 
 some_number : (a b : ℕ) → Some a ≡ Some b → a ≡ b
 some_number a b e = cc

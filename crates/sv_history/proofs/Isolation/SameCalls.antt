@@ -16,8 +16,8 @@ use Rattle.sv_history.specs.CoreChannel.{own_call}
 use Rattle.sv_history.specs.Admission.{Stop, Fails, Awaits, names_another, is_kept_out, lock_stop, own_stop, stop_of, admitted}
 use Rattle.sv_history.specs.Resuming.{next_wait, continued, resumed}
 use Rattle.sv_history.specs.Effect.{call_effect}
-use Rattle.sv_history.proofs.Alike.{View, IsOwn, view_same}
-use Rattle.sv_history.proofs.Done.{IsDone}
+use Rattle.sv_history.proofs.Isolation.Alike.{View, IsOwn, view_same}
+use Rattle.sv_history.proofs.EveryLog.Done.{IsDone}
 
 holder_same : (c lid : ℕ) (acts other : List DeviceAct) → View c lid acts other → holder (link_acts acts) ≡ holder (link_acts other)
 holder_same c lid acts other view = view.held ∙ sym view.also

@@ -8,8 +8,8 @@ use Rattle.sv_links.specs.declared.waiting.Wait.{Wait}
 use Rattle.sv_links.specs.Waiting.{WaitAct, Left, waits, deadline, arrival, IsExpired, IsOldest}
 use Rattle.sv_links.specs.Queue.{is_past}
 use Rattle.sv_history.specs.Act.{DeviceAct, wait_acts}
-use Rattle.sv_history.proofs.Fit.{AllSuit}
-use Rattle.sv_history.proofs.Known.{waits_within}
+use Rattle.sv_history.proofs.EveryLog.Fit.{AllSuit}
+use Rattle.sv_history.proofs.EveryLog.Known.{waits_within}
 
 -- ---- the one that came first
 

@@ -31,12 +31,12 @@ use Rattle.sv_history.specs.Resuming.{leaving, failed, connected}
 use Rattle.sv_history.specs.History.{turn_acts, refuse_acts, own_acts, refusal, taken_acts}
 use Rattle.sv_history.specs.Isolation.{is_foreign, makes_link, IsMild}
 use Rattle.sv_history.proofs.Projections.{link_acts-links}
-use Rattle.sv_history.proofs.Fit.{Fit}
-use Rattle.sv_history.proofs.EachEvent.{close_adds, device_closed}
-use Rattle.sv_history.proofs.Taken.{no_abort}
-use Rattle.sv_history.proofs.Done.{each_done}
-use Rattle.sv_history.proofs.Alike.{Pair, IsOwn, IsOwnAct, Locks}
-use Rattle.sv_history.proofs.SameCalls.{admitted_same, done_own}
+use Rattle.sv_history.proofs.EveryLog.Fit.{Fit}
+use Rattle.sv_history.proofs.EveryLog.EachEvent.{close_adds, device_closed}
+use Rattle.sv_history.proofs.EveryLog.Taken.{no_abort}
+use Rattle.sv_history.proofs.EveryLog.Done.{each_done}
+use Rattle.sv_history.proofs.Isolation.Alike.{Pair, IsOwn, IsOwnAct, Locks}
+use Rattle.sv_history.proofs.Isolation.SameCalls.{admitted_same, done_own}
 
 -- the number of such an event is the connection's
 own_number : (d c : ℕ) → not (eqb d c) ≡ false → d ≡ c

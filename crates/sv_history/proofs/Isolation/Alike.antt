@@ -10,7 +10,7 @@ use Rattle.sv_links.specs.Waiting.{WaitAct, Entered, Again, Left}
 use Rattle.sv_links.specs.Channels.{ChannelAct, SrqEnabled, SrqDisabled, ChannelOpened, ChannelClosed, Requested, ChannelTaken, peer}
 use Rattle.sv_links.proofs.LinksAlike.{OwnsAlike, IsForeignLink, MakesNone, links_foreign, links_same, holder_same, owner_kept, is_of_owner, owner_is_of}
 use Rattle.sv_links.proofs.CallsAlike.{SameCall, conn_of, call_foreign, call_sym, call_same}
-use Rattle.sv_links.proofs.ChannelsAlike.{SameChannel, IsForeignChannel, channel_foreign, channel_same}
+use Rattle.sv_links.proofs.ChannelsAlike.{SameChannel, IsForeignChannel, channel_foreign, channel_same, channel_sym}
 use Rattle.sv_layers.specs.Act.{Act as InstrumentAct}
 use Rattle.sv_layers.specs.StatusByte.{IsRaised}
 use Rattle.sv_history.specs.Act.{Act, ConnAct, DeviceAct, Linked, Waited, Channel, Happened, Ticked, On, OnDevice, of, device_acts, link_acts, wait_acts, channel_acts, instrument_acts, ticks}
@@ -18,8 +18,8 @@ use Rattle.sv_history.specs.Requests.{HearsOf, link_told, request_told}
 use Rattle.sv_history.specs.Isolation.{OthersRest}
 use Rattle.sv_history.proofs.Projections.{of_other}
 use Rattle.sv_history.proofs.Telling.{peer_more}
-use Rattle.sv_history.proofs.Fit.{AllSuit}
-use Rattle.sv_history.proofs.Known.{asks_elsewhere}
+use Rattle.sv_history.proofs.EveryLog.Fit.{AllSuit}
+use Rattle.sv_history.proofs.EveryLog.Known.{asks_elsewhere}
 
 -- ---- what all connections share
 
@@ -267,6 +267,26 @@ tells_foreign c (Channel act) acts other all h tells = λ told (before, hears, i
 tells_foreign c (Happened act) acts other all h tells = absurd h
 tells_foreign c Ticked acts other all h tells = absurd h
 
+-- and what the other tells is the same as what this one tells
+pub tells_back : (c : ℕ) (act : DeviceAct) (acts other : List DeviceAct) → AllSuit acts → IsForeign c acts act → TellsAs c other acts
+    → TellsAs c other (act ∷ acts)
+tells_back c (Linked act) acts other all h tells = λ told hears.
+    let so = tells told hears in (
+      link_told act so.0,
+      (so.0, so.1, refl),
+      channel_sym c (link_told act so.0) told (foreign_link c acts so.0 told act all so.1 h (channel_sym c told so.0 so.2)),
+    )
+tells_back c (Waited act) acts other all h tells = tells
+tells_back c (Channel act) acts other all h tells = λ told hears.
+    let so = tells told hears in (
+      act ∷ so.0,
+      (so.0, so.1, refl),
+      channel_sym c (act ∷ so.0) told
+          (channel_foreign c act so.0 told (foreign_told c acts so.0 act all so.1 h) (channel_sym c told so.0 so.2)),
+    )
+tells_back c (Happened act) acts other all h tells = absurd h
+tells_back c Ticked acts other all h tells = absurd h
+
 same_link : (c : ℕ) (told also : List ChannelAct) (act : LinkAct) → SameChannel c told also
     → SameChannel c (link_told act told) (link_told act also)
 same_link c told also (Made lid conn) same = same
@@ -309,6 +329,7 @@ pub record Pair (c lid : ℕ) (log other : List Act) : Type 0 where
   pub own : of c log ≡ of c other
   pub view : View c lid (device_acts log) (device_acts other)
   pub tells : TellsAs c (device_acts log) (device_acts other)
+  pub back : TellsAs c (device_acts other) (device_acts log)
 
 abbrev pub IsForeignAct : ℕ → List Act → Act → Type 0
 IsForeignAct c log (On d act) = d ≢ c
@@ -328,13 +349,14 @@ pub pair_foreign : (c lid : ℕ) (new log other : List Act) → Each (IsForeignA
 pair_foreign c lid [] log other h locks all pair = pair
 pair_foreign c lid (On d act ∷ new) log other h locks all pair =
     let so = pair_foreign c lid new log other h.1 locks.1 all pair in
-    record { own = of_other d c act (new ++ log) (λ e. h.0 (sym e)) ∙ so.own; view = so.view; tells = so.tells }
+    record { own = of_other d c act (new ++ log) (λ e. h.0 (sym e)) ∙ so.own; view = so.view; tells = so.tells; back = so.back }
 pair_foreign c lid (OnDevice act ∷ new) log other h locks all pair =
     let so = pair_foreign c lid new log other h.1 locks.1 all.1 pair in
     record {
       own = so.own;
       view = view_foreign c lid act (device_acts (new ++ log)) (device_acts other) h.0 locks.0 so.view;
       tells = tells_foreign c act (device_acts (new ++ log)) (device_acts other) all.1 h.0 so.tells;
+      back = tells_back c act (device_acts (new ++ log)) (device_acts other) all.1 h.0 so.back;
     }
 
 same_own : (c d : ℕ) (act : ConnAct) (mine : List ConnAct) (also : List ConnAct) → mine ≡ also
@@ -347,13 +369,14 @@ pub pair_same : (c lid : ℕ) (new log other : List Act) → Each (IsOwnAct c) n
 pair_same c lid [] log other h locks pair = pair
 pair_same c lid (On d act ∷ new) log other h locks pair =
     let so = pair_same c lid new log other h.1 locks.1 pair in
-    record { own = same_own c d act (of c (new ++ log)) (of c (new ++ other)) so.own; view = so.view; tells = so.tells }
+    record { own = same_own c d act (of c (new ++ log)) (of c (new ++ other)) so.own; view = so.view; tells = so.tells; back = so.back }
 pair_same c lid (OnDevice act ∷ new) log other h locks pair =
     let so = pair_same c lid new log other h.1 locks.1 pair in
     record {
       own = so.own;
       view = view_same c lid act (device_acts (new ++ log)) (device_acts (new ++ other)) h.0 locks.0 so.view;
       tells = tells_same c act (device_acts (new ++ log)) (device_acts (new ++ other)) so.view.instrument so.tells;
+      back = tells_same c act (device_acts (new ++ other)) (device_acts (new ++ log)) (sym so.view.instrument) so.back;
     }
 
 -- an act of another connection's call that ends
@@ -367,12 +390,13 @@ pub pair_left : (c lid : ℕ) (new log other : List Act) → Each (IsLeaving c) 
 pair_left c lid [] log other h pair = pair
 pair_left c lid (On d act ∷ new) log other h pair =
     let so = pair_left c lid new log other h.1 pair in
-    record { own = so.own ∙ sym (of_other d c act (new ++ other) (λ e. h.0 (sym e))); view = so.view; tells = so.tells }
+    record { own = so.own ∙ sym (of_other d c act (new ++ other) (λ e. h.0 (sym e))); view = so.view; tells = so.tells; back = so.back }
 pair_left c lid (OnDevice (Waited (Left d)) ∷ new) log other h pair =
     let so = pair_left c lid new log other h.1 pair in
     record {
       own = so.own;
       view = view_left c lid d (device_acts log) (device_acts (new ++ other)) h.0 so.view;
       tells = so.tells;
+      back = so.back;
     }
 pair_left c lid (OnDevice _ ∷ new) log other h pair = absurd h.0
