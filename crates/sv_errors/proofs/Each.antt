@@ -1,5 +1,5 @@
 -- What holds of each act of a list at its own place.
-use Rattle.std.proofs.Common.{◌≡◌, List, [], ◌∷◌, ◌++◌, refl, sym, ap, subst, append_assoc}
+use Rattle.std.proofs.Common.{List, [], ◌∷◌, ◌++◌, sym, subst, append_assoc}
 use Rattle.std.specs.Prelude.{⊤}
 
 -- Each of these acts is such in front of the acts before it.
