@@ -15,9 +15,3 @@ each_join {A} IsSuch (act ∷ acts) more before h k = (
   subst (λ (l : List A). IsSuch l act) (sym (append_assoc acts more before)) h.0,
   each_join IsSuch acts more before h.1 k,
 )
-
--- and what is weaker
-pub each_then : {A : Type 0} (IsSuch IsSo : List A → A → Type 0) → ((before : List A) (act : A) → IsSuch before act → IsSo before act)
-    → (acts before : List A) → Each IsSuch acts before → Each IsSo acts before
-each_then {A} IsSuch IsSo so [] before h = tt
-each_then {A} IsSuch IsSo so (act ∷ acts) before h = (so (acts ++ before) act h.0, each_then IsSuch IsSo so acts before h.1)

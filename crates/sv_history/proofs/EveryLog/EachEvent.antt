@@ -11,7 +11,7 @@ use Rattle.sv_links.specs.declared.request.Peer.{Peer}
 use Rattle.sv_links.specs.declared.waiting.Wait.{Wait}
 use Rattle.sv_links.specs.declared.waiting.Wait.TheVariants.{Lock, Input as ForInput, Response, Dial}
 use Rattle.sv_links.specs.Links.{LinkAct, Made, Destroyed, Locked, Unlocked, owner, closing}
-use Rattle.sv_links.specs.Waiting.{WaitAct, Entered, Again, Left, waits, link as named_link}
+use Rattle.sv_links.specs.Waiting.{WaitAct, Entered, Left, waits, link as named_link}
 use Rattle.sv_links.specs.Channels.{ChannelAct, SrqEnabled, ChannelClosed, ChannelTaken}
 use Rattle.sv_links.proofs.LinksAlike.{MakesNone}
 use Rattle.sv_links.proofs.CallsAlike.{call_foreign}
@@ -124,10 +124,6 @@ fit_connected c ok None log fit = fit_free c (connected c ok None) log fit (refl
 
 some_wait : (a b : Wait) → Some a ≡ Some b → a ≡ b
 some_wait a b e = cc
-
-again_waits : (c : ℕ) (wait now : Wait) (last : Option ℕ) (acts : List WaitAct) → waits c acts ≡ Some now
-    → waits c (Again c wait last ∷ acts) ≡ Some wait
-again_waits c wait now last acts h = rw (eq-eqb c c refl, h) refl
 
 -- a create_link doesn't wait anew
 pub no_next : (wait : Wait) (arguments : Arguments) (acts : List DeviceAct) (next : Wait) → is_create_link arguments ≡ true

@@ -50,10 +50,6 @@ pub suit_more : (adds acts : List DeviceAct) → Each Suits adds acts → AllSui
 suit_more [] acts h all = all
 suit_more (act ∷ adds) acts h all = (h.0, suit_more adds acts h.1 all)
 
-pub suit_less : (adds acts : List DeviceAct) → AllSuit (adds ++ acts) → AllSuit acts
-suit_less [] acts all = all
-suit_less (act ∷ adds) acts all = suit_less adds acts all.1
-
 -- no call waits, so nothing is asked of it
 pub held_none : (c : ℕ) (own : List ConnAct) (acts : List WaitAct) → waits c acts ≡ None → IsHeld c own acts
 held_none c own acts none = λ wait is. absurd (let z : None ≡ Some wait = sym none ∙ is in cc)
