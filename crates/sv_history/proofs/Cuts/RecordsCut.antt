@@ -61,7 +61,8 @@ came_alike c config pieces others past other log also one two streams alike =
 logs_alike : (config : Config) {history other : List PlainEvent} → Recut config history other → (log also : List Act)
     → IsLogOf config history log → IsLogOf config other also → Alike log also
 logs_alike config Nothing log also x y = alike_moved [] [] log also x.1 y.1 alike_none
-logs_alike config (Same {past} {other} event recut) log also x y = event_alike config event past other log also (logs_alike config recut) x y
+logs_alike config (Same {past} {other} event recut) log also x y =
+    event_alike config event past other log also (logs_alike config recut) x y
 logs_alike config (Pieces {past} {other} c pieces others same recut) log also x y =
     let one = came_of c config pieces past log x in
     let two = came_of c config others other also y in
@@ -84,7 +85,8 @@ logs_alike config (Fragments {past} {other} c base first last records others is_
 
 -- ---- what they send
 
-sent_alike : (port : Port) (told : List ChannelAct) (log other : List Act) → Alike log other → all_sent port told log ≡ all_sent port told other
+sent_alike : (port : Port) (told : List ChannelAct) (log other : List Act) → Alike log other
+    → all_sent port told log ≡ all_sent port told other
 sent_alike (Conn c) told log other alike = (alike.each c).replies
 sent_alike (Intr c) told log other alike = refl
 

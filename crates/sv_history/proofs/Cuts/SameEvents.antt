@@ -103,7 +103,8 @@ close_alike : (c : ℕ) (log other : List Act) → Alike log other
     ((map OnDevice (shuts c (device_acts other)) ++ On c PortClosed ∷ []) ++ other)
 close_alike c log other alike =
     let closed = On c PortClosed ∷ [] in
-    alike_moved (map OnDevice (shuts c (device_acts log)) ++ (closed ++ log)) (map OnDevice (shuts c (device_acts log)) ++ (closed ++ other))
+    alike_moved (map OnDevice (shuts c (device_acts log)) ++ (closed ++ log))
+    (map OnDevice (shuts c (device_acts log)) ++ (closed ++ other))
     _ _
     (append_assoc (map OnDevice (shuts c (device_acts log))) closed log)
     (append_assoc (map OnDevice (shuts c (device_acts other))) closed other

@@ -49,7 +49,8 @@ whole_at_end stream other h is =
       taken = taken_join h.sent s.sent h.taken s.taken;
       also = taken_join h.others s.sent h.also s.taken;
       none = sym end.2;
-      fits = subst (λ (l : List ℕ). IsBytes l) bare (bytes_back (flat_map bytes_of s.sent) s.rest (subst (λ (l : List ℕ). IsBytes l) s.whole h.fits));
+      fits = subst (λ (l : List ℕ). IsBytes l) bare
+          (bytes_back (flat_map bytes_of s.sent) s.rest (subst (λ (l : List ℕ). IsBytes l) s.whole h.fits));
     }
 
 -- ---- they belong to the record that comes next

@@ -1,4 +1,5 @@
--- Two logs that are the same but for the pieces in which bytes came, and the fragments of records: over the same acts, and over other pieces.
+-- Two logs that are the same but for the pieces in which bytes came, and the fragments of records: over the same acts, and over other
+-- pieces.
 use Rattle.std.proofs.Common.{◌≡◌, ℕ, ◌+◌, Bool, List, [], ◌∷◌, ◌++◌, Option, None, refl, sym, ap, subst, ◌∙◌, inl, inr, append_assoc, append-nil}
 use Rattle.std.specs.Prelude.{map, ⊤, ◌||◌, is_some, slice_get, if◌then◌else◌}
 use Rattle.std.specs.List.{AllByRecursion}
