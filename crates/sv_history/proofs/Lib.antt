@@ -5,3 +5,4 @@ pub mod StillSettled
 mod OneLog
 mod EveryLog
 mod Isolation
+mod Cuts

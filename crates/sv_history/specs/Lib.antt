@@ -20,5 +20,6 @@ pub mod History
 pub mod Queries
 pub mod Adding
 pub mod Isolation
+pub mod Cuts
 pub mod Print
 pub mod Laws

@@ -2,6 +2,7 @@
 
 ghost use Rattle.sv_history.specs.Laws.{OneLog};
 ghost use Rattle.sv_history.specs.Isolation.{Isolation};
+ghost use Rattle.sv_history.specs.Cuts.{RecordsCut};
 
 /// A history has at most one log.
 pub fn one_log()
@@ -12,4 +13,10 @@ pub fn one_log()
 /// connection and on its interrupt channel (VXI-11 revision 1.0, section B.4.4).
 pub fn isolation()
     ensures { Isolation }
+{}
+
+/// Where bytes that come on a connection are cut into pieces, and the records in one piece into
+/// fragments, changes nothing that is sent on any port (RFC 5531, section 11: record marking).
+pub fn cut_pieces()
+    ensures { RecordsCut }
 {}
