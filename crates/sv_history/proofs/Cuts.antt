@@ -5,3 +5,7 @@ pub mod SameView
 pub mod SameSteps
 pub mod SameEvents
 pub mod RecordsCut
+pub mod SameExchange
+pub mod SameStatus
+pub mod SameInstrument
+pub mod SameDevice
