@@ -9,3 +9,4 @@ pub mod SameExchange
 pub mod SameStatus
 pub mod SameInstrument
 pub mod SameDevice
+pub mod SharedSteps

@@ -19,7 +19,7 @@ use Rattle.sv_history.specs.CoreChannel.{own_call}
 use Rattle.sv_history.specs.Admission.{device_wait, names_another, own_stop, stop_of}
 use Rattle.sv_history.proofs.Cuts.SameExchange.{ended_same, response_same}
 use Rattle.sv_history.proofs.Cuts.SameStatus.{raised_same, never_raised, polled_same}
-use Rattle.sv_history.proofs.Cuts.SameInstrument.{SameInstrument, instrument_act}
+use Rattle.sv_history.proofs.Cuts.SameInstrument.{SameInstrument, instrument_act, instrument_back}
 
 pub record SameDevice (acts other : List DeviceAct) : Type 0 where
   pub links : link_acts acts ≡ link_acts other
@@ -179,4 +179,14 @@ names_alike c (Some (negsuc n)) acts other v = refl
 
 pub stop_alike : (c : ℕ) (arguments : Arguments) (acts other : List DeviceAct) → SameDevice acts other
     → stop_of c arguments acts ≡ stop_of c arguments other
-stop_alike c arguments acts other v = rw (own_stop_alike c arguments acts other v, names_alike c (link arguments) acts other v, v.links) refl
+stop_alike c arguments acts other v =
+    rw (own_stop_alike c arguments acts other v, names_alike c (link arguments) acts other v, v.links) refl
+
+pub device_back : (acts other : List DeviceAct) → SameDevice acts other → SameDevice other acts
+device_back acts other v = record {
+  links = sym v.links;
+  waits = sym v.waits;
+  channels = sym v.channels;
+  instrument = instrument_back (instrument_acts acts) (instrument_acts other) v.instrument;
+  clock = sym v.clock;
+}

@@ -203,3 +203,14 @@ due_same acts other v same =
     ∙ ap (λ (b : Bool).
     due_by (message other) (has_overrun (current other)) (next_unit other) (units_done (current other)) (response other) b)
     (ended_same acts other v same)
+
+pub exchange_back : (acts other : List ExchangeAct) → SameExchange acts other → SameExchange other acts
+exchange_back acts other v = record {
+  count = sym v.count;
+  done = sym v.done;
+  overrun = sym v.overrun;
+  dropped = sym v.dropped;
+  given = sym v.given;
+  whole = sym v.whole;
+  read = sym v.read;
+}

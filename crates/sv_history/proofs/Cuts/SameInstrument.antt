@@ -26,7 +26,7 @@ use Rattle.sv_instrument.specs.QueryResponse.{IsWord, readings_text, oldest_text
 use Rattle.sv_instrument.specs.CommandEffect.{answered, unless, configured, taken, question_fault, Replies, Performs}
 use Rattle.sv_instrument.specs.Step.{released, Does, Starts, StepOf, IsStep}
 use Rattle.sv_history.proofs.Cuts.SameExchange.{text_act, answers_same, message_same, next_unit_same, due_same}
-use Rattle.sv_history.proofs.Cuts.SameStatus.{SameStatus, status_act, condition_same, idle_same, master_same}
+use Rattle.sv_history.proofs.Cuts.SameStatus.{SameStatus, status_act, status_back, condition_same, idle_same, master_same}
 
 -- ---- two logs
 
@@ -284,3 +284,7 @@ instrument_step log other new v step =
           (subst (λ (d : Due). StepOf (held log) d other (so.0 ++ other))
           (due_same (exchange_acts log) (exchange_acts other) v.status.exchange v.texts) so.2),
     )
+
+pub instrument_back : (log other : List Act) → SameInstrument log other → SameInstrument other log
+instrument_back log other v =
+    record { status = status_back log other v.status; texts = sym v.texts; holds = sym v.holds }

@@ -17,7 +17,7 @@ use Rattle.sv_layers.specs.Condition.{condition, is_idle}
 use Rattle.sv_layers.specs.Event.{is_same, rise, fall, enable, Passes, NotCleared, EventStands, Summary}
 use Rattle.sv_layers.specs.Standard as standard
 use Rattle.sv_layers.specs.StatusByte.{SummaryBit, service, Asks, Master, Reason, Lasts, Request, IsRaised, PolledBit, MasterBit}
-use Rattle.sv_history.proofs.Cuts.SameExchange.{SameExchange, exchange_act, exchange_accepted, response_same}
+use Rattle.sv_history.proofs.Cuts.SameExchange.{SameExchange, exchange_act, exchange_accepted, exchange_back, response_same}
 
 -- ---- searches
 
@@ -62,7 +62,8 @@ pub record SameStatus (log other : List Act) : Type 0 where
   pub exchange : SameExchange (exchange_acts log) (exchange_acts other)
   pub request : Request log ↔ Request other
 
-pub condition_same : (name : RegisterName) (log other : List Act) → scan_acts log ≡ scan_acts other → condition name log ≡ condition name other
+pub condition_same : (name : RegisterName) (log other : List Act) → scan_acts log ≡ scan_acts other
+    → condition name log ≡ condition name other
 condition_same Operation log other same = rw same refl
 condition_same Questionable log other same = rw same refl
 
@@ -389,3 +390,19 @@ master_same k log other v =
       (λ h. elim h [ inl s ↦ inl (summary_to k log other bits s) | inr r ↦ inr (r.0, master_to log other bits r.1) ]),
       (λ h. elim h [ inl s ↦ inl (summary_to k other log back s) | inr r ↦ inr (r.0, master_to other log back r.1) ]),
     )
+
+pub status_back : (log other : List Act) → SameStatus log other → SameStatus other log
+status_back log other v = record {
+  scanned = sym v.scanned;
+  queued = sym v.queued;
+  rises = λ name. sym (v.rises name);
+  falls = λ name. sym (v.falls name);
+  enables = λ name. sym (v.enables name);
+  standards = sym v.standards;
+  serves = sym v.serves;
+  events = λ name k. ((v.events name k).1, (v.events name k).0);
+  waits = (v.waits.1, v.waits.0);
+  stands = λ k. ((v.stands k).1, (v.stands k).0);
+  exchange = exchange_back (exchange_acts log) (exchange_acts other) v.exchange;
+  request = (v.request.1, v.request.0);
+}
