@@ -10,3 +10,4 @@ pub mod SameStatus
 pub mod SameInstrument
 pub mod SameDevice
 pub mod SharedSteps
+pub mod SharedEvents

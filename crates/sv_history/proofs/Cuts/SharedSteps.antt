@@ -148,7 +148,8 @@ able_alike acts other found v h =
     (subst (λ (l : List WaitAct). IsOldest l (IsAble (holder (link_acts acts)) (not (has_ended (exchange_acts acts)))
     (is_answerable (instrument_acts acts)) l) found) v.waits h)))
 
-resumes_shared : (config : Config) (log other : List Act) → SameCalls log other → Shared log other (Resumes config log) (Resumes config other)
+resumes_shared : (config : Config) (log other : List Act) → SameCalls log other
+    → Shared log other (Resumes config log) (Resumes config other)
 resumes_shared config log other v new (c, wait, polled, oldest, for, said, is) =
     let call = core_call_in (unanswered (of c log)) in
     let effect = resumed config polled c wait call (device_acts log) in
@@ -168,7 +169,8 @@ resumes_shared config log other v new (c, wait, polled, oldest, for, said, is) =
       ),
     )
 
-times_shared : (config : Config) (log other : List Act) → SameCalls log other → Shared log other (TimesOut config log) (TimesOut config other)
+times_shared : (config : Config) (log other : List Act) → SameCalls log other
+    → Shared log other (TimesOut config log) (TimesOut config other)
 times_shared config log other v new (c, wait, oldest, for, is) =
     let acts = acts_of c (failed (late wait) c (core_call_in (unanswered (of c log)))) in (
       acts,
@@ -178,13 +180,15 @@ times_shared config log other v new (c, wait, oldest, for, is) =
         wait,
         subst (λ (n : ℕ). IsOldest (wait_acts (device_acts other)) (IsExpired (config.clock + n) (wait_acts (device_acts other)))
             (Some c)) v.device.clock
-            (subst (λ (l : List WaitAct). IsOldest l (IsExpired (config.clock + ticks (device_acts log)) l) (Some c)) v.device.waits oldest),
+            (subst (λ (l : List WaitAct). IsOldest l (IsExpired (config.clock + ticks (device_acts log)) l) (Some c)) v.device.waits
+            oldest),
         subst (λ (l : List WaitAct). waits c l ≡ Some wait) v.device.waits for,
         ap (λ (o : Option (List ℕ)). acts_of c (failed (late wait) c (core_call_in o)) ++ other) (v.calls c),
       ),
     )
 
-pub next_shared : (config : Config) (log other : List Act) → SameCalls log other → Shared log other (IsNext config log) (IsNext config other)
+pub next_shared : (config : Config) (log other : List Act) → SameCalls log other
+    → Shared log other (IsNext config log) (IsNext config other)
 next_shared config log other v =
     let back = calls_back log other v in
     let here = instrument_acts (device_acts log) in
