@@ -11,3 +11,5 @@ pub mod SameInstrument
 pub mod SameDevice
 pub mod SharedSteps
 pub mod SharedEvents
+pub mod SameAhead
+pub mod SharedLogs
