@@ -13,3 +13,4 @@ pub mod SharedSteps
 pub mod SharedEvents
 pub mod SameAhead
 pub mod SharedLogs
+pub mod SharedSending

@@ -52,7 +52,7 @@ calls_also : (first second : ℕ → List ℕ) (log other : List Act) → SameLo
 calls_also first second log other v =
     record { device = device_back (device_acts log) (device_acts other) v.device; calls = λ d. sym (v.each d).call }
 
-logs_moved : (first second : ℕ → List ℕ) (log other a b : List Act) → a ≡ log → b ≡ other → SameLogs first second log other
+pub logs_moved : (first second : ℕ → List ℕ) (log other a b : List Act) → a ≡ log → b ≡ other → SameLogs first second log other
     → SameLogs first second a b
 logs_moved first second log other a b x y v = subst (λ (l : List Act). SameLogs first second l b) (sym x)
     (subst (λ (l : List Act). SameLogs first second log l) (sym y) v)
