@@ -6,6 +6,7 @@ ghost use Rattle.sv_layers.specs.Act.{Act};
 ghost use Rattle.sv_layers.specs.Inside.Seen.{Seen, seen, is_plain};
 ghost use Rattle.sv_layers.specs.Inside.Kept.{IsSummary, IsStatus, Joined, Begun, Happens, own_status};
 
+use crate::change::{Awaited, Change};
 use crate::layers::Layers;
 use std::alloc::Allocator;
 
@@ -53,7 +54,7 @@ impl<A: Allocator> Layers<A> {
         ensures exchange { self.new.exchange ≡ self.old.exchange }
         ensures scanner { self.new.scanner ≡ self.old.scanner }
     {
-        self.end_plainly();
+        self.end(&Change::Hold(Awaited::Nothing));
         self.tell()
     }
 }

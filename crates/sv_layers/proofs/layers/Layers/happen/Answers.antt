@@ -1,4 +1,4 @@
-use Rattle.std.proofs.Common.{◌∷◌, List, subst}
+use Rattle.std.proofs.Common.{◌∷◌, List, refl, subst}
 use Rattle.sv_status.specs.declared.status_byte.StatusAct.{StatusAct}
 use Rattle.sv_layers.specs.Change.{act_of}
 use Rattle.sv_layers.specs.Inside.Seen.{seen}
@@ -12,4 +12,4 @@ returns-clause-happens g c = λ log h.
     let begins = c.begin.ensures.stands (seen log) h.told h.joined in
     c.tell.ensures.happens log act h.told h.are
     (subst (λ (told : List StatusAct). Joined c.end.new.self (seen (act ∷ log)) told) (unpolled c.args.change h.told)
-    (c.end.ensures.stands log h.told begins))
+    (c.end.ensures.stands log act h.told ((λ name acts. refl), (λ acts. refl)) begins))
