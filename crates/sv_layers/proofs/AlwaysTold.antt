@@ -26,7 +26,7 @@ register_kept : (start : ℕ) (acts : List RegisterAct) → (latches : register.
 register_kept start [] = (
   record { condition = 0; rise = 32767; fall = 0; event = 0; enable = start; start = start },
   record {
-    start = refl;
+    begins = refl;
     condition = refl;
     rise = refl;
     fall = refl;

@@ -27,7 +27,7 @@ use Rattle.sv_layers.proofs.Registered.{seen_register}
 pub stands_told : (start : ℕ) (latches : Latches) (acts : List RegisterAct) (word : ℕ) → word ≡ register.condition acts
     → StandsFor start latches acts → StandsFor start latches (Condition word ∷ acts)
 stands_told start latches acts word same is = record {
-  start = is.start;
+  begins = is.begins;
   condition = is.condition ∙ sym same;
   rise = is.rise;
   fall = is.fall;

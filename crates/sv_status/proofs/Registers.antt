@@ -58,7 +58,7 @@ event-cleared k acts = since_ended (Passes k) NotCleared Clear acts (λ kept. ke
 pub StandsFor-filter : (start : ℕ) (latches : Latches) (acts : List RegisterAct) (up down : ℕ) → StandsFor start latches acts
     → StandsFor start (record latches { rise = masked up; fall = masked down }) (SetFilter up down ∷ acts)
 StandsFor-filter start latches acts up down is = record {
-  start = is.start;
+  begins = is.begins;
   condition = is.condition;
   rise = refl;
   fall = refl;
@@ -69,7 +69,7 @@ StandsFor-filter start latches acts up down is = record {
 pub StandsFor-enable : (start : ℕ) (latches : Latches) (acts : List RegisterAct) (word : ℕ) → StandsFor start latches acts
     → StandsFor start (record latches { enable = masked word }) (SetEnable word ∷ acts)
 StandsFor-enable start latches acts word is = record {
-  start = is.start;
+  begins = is.begins;
   condition = is.condition;
   rise = is.rise;
   fall = is.fall;
@@ -80,11 +80,11 @@ StandsFor-enable start latches acts word is = record {
 pub StandsFor-preset : (start : ℕ) (latches : Latches) (acts : List RegisterAct) → StandsFor start latches acts
     → StandsFor start (record latches { rise = 32767; fall = 0; enable = latches.start }) (Preset ∷ acts)
 StandsFor-preset start latches acts is = record {
-  start = is.start;
+  begins = is.begins;
   condition = is.condition;
   rise = refl;
   fall = refl;
-  enable = is.start;
+  enable = is.begins;
   event = λ k. then_same (is.event k) (same_event k Preset acts tt (no_change (condition acts) k _ _));
 }
 
@@ -136,7 +136,7 @@ latched_bit latches word k =
 pub StandsFor-condition : (start : ℕ) (latches : Latches) (acts : List RegisterAct) (word : ℕ) → StandsFor start latches acts
     → StandsFor start (record latches { condition = word; event = latched latches word }) (Condition word ∷ acts)
 StandsFor-condition start latches acts word is = record {
-  start = is.start;
+  begins = is.begins;
   condition = refl;
   rise = is.rise;
   fall = is.fall;
@@ -165,7 +165,7 @@ summary_is start latches acts is = (
 pub StandsFor-read : (start : ℕ) (latches : Latches) (acts : List RegisterAct) → StandsFor start latches acts
     → StandsFor start (record latches { event = 0 }) (ReadEvent ∷ acts)
 StandsFor-read start latches acts is = record {
-  start = is.start;
+  begins = is.begins;
   condition = is.condition;
   rise = is.rise;
   fall = is.fall;
@@ -176,7 +176,7 @@ StandsFor-read start latches acts is = record {
 pub StandsFor-cleared : (start : ℕ) (latches : Latches) (acts : List RegisterAct) → StandsFor start latches acts
     → StandsFor start (record latches { event = 0 }) (Clear ∷ acts)
 StandsFor-cleared start latches acts is = record {
-  start = is.start;
+  begins = is.begins;
   condition = is.condition;
   rise = is.rise;
   fall = is.fall;
@@ -187,4 +187,4 @@ StandsFor-cleared start latches acts is = record {
 -- what it keeps for a preset is what its enable started with
 pub StandsFor-start : (start : ℕ) (latches : Latches) (acts : List RegisterAct) → StandsFor start latches acts
     → StandsFor latches.start latches acts
-StandsFor-start start latches acts is = subst (λ (s : ℕ). StandsFor s latches acts) (sym is.start) is
+StandsFor-start start latches acts is = subst (λ (s : ℕ). StandsFor s latches acts) (sym is.begins) is

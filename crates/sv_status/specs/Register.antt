@@ -68,7 +68,7 @@ pub record Latches : Type 0 where
 
 -- What it keeps stands for the acts, of a register whose enable started so.
 pub record StandsFor (start : ℕ) (latches : Latches) (acts : List RegisterAct) : Type 0 where
-  pub start : latches.start ≡ start
+  pub begins : latches.start ≡ start
   pub condition : latches.condition ≡ condition acts
   pub rise : latches.rise ≡ rise acts
   pub fall : latches.fall ≡ fall acts
