@@ -1,6 +1,7 @@
 //! Reading a unit.
 
-ghost use Rattle.std.specs.Prelude.{◌≡◌};
+ghost use Rattle.std.specs.Prelude.{◌≡◌, ℕ, List};
+ghost use Rattle.sv_lexer.specs.Unit.{IsLexed};
 ghost use Rattle.sv_command.specs.Unit.{IsReadAs, IsNamed, asked as asked_by, count_fault};
 
 use crate::filling::order;
@@ -8,25 +9,26 @@ use crate::order::Order;
 use std::alloc::Allocator;
 use sv_errors::Code;
 use sv_header::{Arity, CommandId, Path, Table};
-use sv_lexer::{Unit, unit};
+use sv_lexer::Unit;
 
-/// Reads a unit behind a path, as what it asks for. Where its header names a command, the path
-/// follows it, whatever is wrong with the parameters.
+/// Reads a unit behind a path, as what it asks for. It is given as it was lexed, or the fault that
+/// it has then. Where its header names a command, the path follows it, whatever is wrong with the
+/// parameters.
 ///
 /// # Errors
-/// The first fault of the unit: [`Code::InvalidCharacter`], [`Code::SyntaxError`] and
-/// [`Code::ProgramMnemonicTooLong`] of the header's spelling; [`Code::UndefinedHeader`];
+/// The first fault of the unit: the one that was told of its spelling; [`Code::UndefinedHeader`];
 /// [`Code::InvalidExpression`] and [`Code::SyntaxError`] of the parameters' spelling;
 /// [`Code::ParameterNotAllowed`], [`Code::MissingParameter`]; then those of the parameter's value.
 /// A range may be any voltage here: whether there is such a range is the scanner's to tell.
 pub fn read_unit<A: Allocator>(
     table: &Table<A>,
     path: &mut Path,
-    text: &[u8],
+    lexed: Result<Unit<'_>, Code>,
 ) -> Result<Order, Code>
-    ensures { IsReadAs path.old text.now result path.new }
+    ensures { (unit : List ℕ) → IsLexed lexed.entry unit
+        → IsReadAs path.old unit result path.new }
 {
-    match unit(text) {
+    match lexed {
         Ok(unit) => named(table, path, &unit),
         Err(code) => Err(code),
     }

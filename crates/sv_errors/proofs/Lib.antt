@@ -1,2 +1,4 @@
 pub mod Since
+pub mod Overlooks
+pub mod Each
 pub mod Queue

@@ -1,7 +1,7 @@
 pub mod Places
 pub mod Cuts
-pub mod Parts
 pub mod Responses
 pub mod Dues
 pub mod Stands
 pub mod Fields
+pub mod Looking

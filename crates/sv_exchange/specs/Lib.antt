@@ -4,3 +4,4 @@ pub mod Contents
 pub mod Fields
 pub mod FirstUnit
 pub mod ReadGiven
+pub mod Ahead

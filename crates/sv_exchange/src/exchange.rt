@@ -1,16 +1,19 @@
 //! Program messages in, and responses out.
 
 ghost use Rattle.std.specs.Prelude.{◌≡◌, ℕ, ◌+◌, ◌*◌, ◌<◌, ◌≤◌, ◌==◌, Bool, true, false, not, List, [], ◌∷◌, ◌++◌, Option, length, take, drop, nat_lt, vec_len, vec_capacity, IsTrue, IfOk, if◌then◌else◌};
-ghost use Rattle.sv_exchange.specs.Exchange.{ExchangeAct, Accepted, TextDropped, Overran, UnitDone, Answered, AnswersDropped, Finished, Interrupted, ResponseRead, OverrunDue, InterruptDue, FinishDue, due, has_ended, answers, response, fits_response, is_something};
+ghost use Rattle.sv_lexer.specs.Unit.{IsLexed};
+ghost use Rattle.sv_exchange.specs.Exchange.{ExchangeAct, Accepted, TextDropped, Overran, UnitDone, UnitDue, Answered, AnswersDropped, Finished, Interrupted, ResponseRead, OverrunDue, InterruptDue, FinishDue, due, has_ended, answers, response, fits_response, is_something};
 ghost use Rattle.sv_exchange.specs.ReadGiven.{IsReadOf};
 ghost use Rattle.sv_exchange.specs.Contents.{Contents, StandsFor, empty, is_open, shown_by, next_of, IsUnitDue, may_respond, work_of, plain_next};
 ghost use Rattle.sv_exchange.specs.Fields.{after_accept, after_finish, after_answer, with_answer};
 
+use crate::ahead::Ahead;
 use crate::message::first_message;
 use crate::read::{Read, read_of};
-use crate::units::first_unit;
 use std::alloc::{AllocError, Allocator, Global};
 use std::marker::Model;
+use sv_errors::Code;
+use sv_lexer::Unit;
 use sv_text::{append, drop_front};
 
 /// How long a program message may be, and how many bytes are written at once.
@@ -44,6 +47,8 @@ pub struct Exchange<A: Allocator = Global> {
     cursor: usize,
     /// Where the current message ends.
     end: usize,
+    /// The unit at `cursor`, as far as the current message was looked at.
+    ahead: Ahead,
     /// Where the next message begins.
     next_start: usize,
     /// Whether the current message has ended.
@@ -68,14 +73,16 @@ impl<A: Allocator> Model for Exchange<A> {
 
     ghost Value = { Contents };
 
-    ghost use Rattle.std.specs.Prelude.{vec_capacity};
+    ghost use Rattle.std.specs.Prelude.{vec_capacity, slice_range};
     ghost use Rattle.sv_exchange.specs.Fields.{contents_of, IsValid};
+    ghost use Rattle.sv_exchange.specs.Ahead.{IsLooked};
 
     ghost view = { λ a. contents_of a.text.items a.cursor a.end a.next_start a.ended a.end_pending
         a.overlong a.overrun_reported a.answers_dropped a.answering a.response.items a.read };
 
     ghost invariant = { λ a. IsValid a.text.items a.cursor a.end a.next_start a.ended
-        (vec_capacity a.text) a.response.items a.read a.answering (vec_capacity a.response) };
+        (vec_capacity a.text) a.response.items a.read a.answering (vec_capacity a.response)
+        × IsLooked a.ahead (slice_range a.text.items a.cursor a.end) };
 }
 
 impl<A: Allocator + Copy> Exchange<A> {
@@ -87,6 +94,7 @@ impl<A: Allocator + Copy> Exchange<A> {
             text: Vec::with_capacity(alloc, MAX_TEXT)?,
             cursor: 0,
             end: 0,
+            ahead: Ahead::of(&[]),
             next_start: 0,
             ended: false,
             end_pending: false,
@@ -122,7 +130,7 @@ impl<A: Allocator> Exchange<A> {
         ensures stands { (acts : List ExchangeAct) → StandsFor self.old acts
             → StandsFor self.new (Accepted bytes.now ended ∷ acts) }
     {
-        drop_front(&mut self.text, self.cursor);
+        drop_done(&mut self.text, self.cursor);
         let before = self.text.len();
         append(&mut self.text, bytes);
         let cut = first_message(bytes, ended);
@@ -132,6 +140,8 @@ impl<A: Allocator> Exchange<A> {
         self.end_pending = cut.end_pending;
         self.overlong |= self.end > MAX_MESSAGE;
         self.cursor = if self.overlong { self.end } else { 0 };
+        self.ahead
+            .look_on(&self.text[self.cursor..self.end], self.overlong);
     }
 
     /// What is due. Of a message that is too long or lost its answers no unit is.
@@ -149,7 +159,7 @@ impl<A: Allocator> Exchange<A> {
         if self.overlong || self.answers_dropped {
             return Next::Finish;
         }
-        match first_unit(&self.text[self.cursor..self.end]) {
+        match self.ahead.unit(&self.text[self.cursor..self.end]) {
             Some((unit, _)) => {
                 if self.readable() {
                     Next::Interrupt
@@ -159,6 +169,17 @@ impl<A: Allocator> Exchange<A> {
             }
             None => Next::Finish,
         }
+    }
+
+    /// The unit that is due, as it was read while its bytes came.
+    ///
+    /// # Errors
+    /// What is wrong with it, as [`unit`](sv_lexer::unit) tells it.
+    pub fn lexed(&self) -> Result<Unit<'_>, Code>
+        requires { IsUnitDue (next_of self.now) }
+        ensures { (unit : List ℕ) → next_of self.now ≡ UnitDue unit → IsLexed result unit }
+    {
+        self.ahead.lexed(&self.text[self.cursor..self.end])
     }
 
     /// Steps over the unit that was due, which was executed.
@@ -171,8 +192,9 @@ impl<A: Allocator> Exchange<A> {
         ensures stands { (acts : List ExchangeAct) → StandsFor self.old acts
             → StandsFor self.new (UnitDone ∷ acts) }
     {
-        if let Some((_, count)) = first_unit(&self.text[self.cursor..self.end]) {
+        if let Some((_, count)) = self.ahead.unit(&self.text[self.cursor..self.end]) {
             self.cursor += count;
+            self.ahead = Ahead::of(&self.text[self.cursor..self.end]);
         }
     }
 
@@ -214,6 +236,7 @@ impl<A: Allocator> Exchange<A> {
         let cut = first_message(&self.text[self.next_start..], self.end_pending);
         self.cursor = self.next_start;
         self.end = self.next_start + cut.size;
+        self.ahead = Ahead::of(&self.text[self.cursor..self.end]);
         self.next_start += cut.next_start;
         self.ended = cut.ended;
         self.end_pending = cut.end_pending;
@@ -324,6 +347,7 @@ impl<A: Allocator> Exchange<A> {
         self.text.clear();
         self.cursor = 0;
         self.end = 0;
+        self.ahead = Ahead::of(&[]);
         self.next_start = 0;
         self.ended = false;
         self.end_pending = false;
@@ -341,6 +365,17 @@ impl<A: Allocator> Exchange<A> {
         } else {
             &self.response[self.read..]
         }
+    }
+}
+
+/// Drops the bytes that are done. Where there are none, it costs nothing.
+fn drop_done<A: Allocator>(bytes: &mut Vec<u8, A>, count: usize)
+    requires { count ≤ vec_len bytes.old }
+    ensures items { bytes.new.items ≡ drop count bytes.old.items }
+    ensures capacity { vec_capacity bytes.new ≡ vec_capacity bytes.old }
+{
+    if count > 0 {
+        drop_front(bytes, count);
     }
 }
 

@@ -1,15 +1,15 @@
 //! Message exchange (IEEE 488.2, 6.1 and 6.3): program text, its messages and units, and the
 //! response.
 //!
-//! [`Exchange`] takes the bytes of writes, says what is due, and gives the response to reads. Only
-//! [`Exchange::new`] takes memory. White space, parts between semicolons, and where a byte stands
-//! are as `sv_text` has them.
+//! [`Exchange`] takes the bytes of writes, says what is due, and gives the response to reads. It
+//! reads the unit that comes next while its bytes come, with `sv_lexer`. Only [`Exchange::new`]
+//! takes memory.
 #![tactic(auto)]
 
+mod ahead;
 mod exchange;
 mod message;
 mod read;
-mod units;
 
 pub use exchange::{Exchange, Next};
 pub use read::Read;

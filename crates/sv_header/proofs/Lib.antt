@@ -1,3 +1,5 @@
 pub mod Fitting
-pub mod Scanning
 pub mod Clash
+pub mod Rows
+pub mod Resolution
+pub mod Walking

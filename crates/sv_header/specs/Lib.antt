@@ -4,3 +4,4 @@ pub mod Plain
 pub mod Resolve
 pub mod Laws
 pub mod Arity
+pub mod Inside

@@ -3,8 +3,13 @@ use Rattle.std.specs.Prelude.{◌≡◌, ◌⊎◌, ℕ, Bool, true, false, List
 use Prim.Native.String.{String}
 use Rattle.std.specs.Char.{to_ascii_lowercase}
 use Rattle.sv_header.specs.declared.command.CommandId.{CommandId}
-use Rattle.sv_header.specs.declared.pattern.Form.{Form}
-use Rattle.sv_header.specs.declared.pattern.Form.TheVariants.{CommonCommand, CommonQuery, Command, Query}
+
+-- what leads a pattern's headers, and whether the query sign ends them: common commands, without it and with it, and others
+pub data Form : Type 0 where
+  CommonCommand : Form
+  CommonQuery : Form
+  Command : Form
+  Query : Form
 
 -- a node of a pattern: the short and the long form of its mnemonic, and whether it may be absent
 pub record Part : Type 0 where

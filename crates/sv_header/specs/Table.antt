@@ -1,8 +1,7 @@
 -- The table of commands: each with its pattern.
 use Rattle.std.specs.Prelude.{List, [], ◌∷◌, ◌++◌}
 use Rattle.sv_header.specs.declared.command.CommandId.TheVariants.{ClearStatus, StandardEventEnable, StandardEventEnableQuery, StandardEventQuery, IdentificationQuery, OperationComplete, OperationCompleteQuery, Reset, ServiceRequestEnable, ServiceRequestEnableQuery, StatusByteQuery, Trigger, SelfTestQuery, WaitToContinue, SystemErrorQuery, SystemErrorCountQuery, SystemVersionQuery, StatusPreset, OperationEventQuery, OperationConditionQuery, OperationEnable, OperationEnableQuery, OperationPositiveTransition, OperationPositiveTransitionQuery, OperationNegativeTransition, OperationNegativeTransitionQuery, QuestionableEventQuery, QuestionableConditionQuery, QuestionableEnable, QuestionableEnableQuery, QuestionablePositiveTransition, QuestionablePositiveTransitionQuery, QuestionableNegativeTransition, QuestionableNegativeTransitionQuery, RouteScan, RouteScanQuery, RouteMonitor, RouteMonitorQuery, VoltageRange, VoltageRangeQuery, UpperLimit, UpperLimitQuery, LowerLimit, LowerLimitQuery, LimitState, LimitStateQuery, TriggerSource, TriggerSourceQuery, TriggerCount, TriggerCountQuery, Initiate, Abort, FetchQuery, ReadQuery, ConfigureVoltage, MeasureVoltageQuery}
-use Rattle.sv_header.specs.declared.pattern.Form.TheVariants.{CommonCommand, CommonQuery, Command, Query}
-use Rattle.sv_header.specs.Pattern.{Row, row, node, maybe}
+use Rattle.sv_header.specs.Pattern.{Row, row, node, maybe, CommonCommand, CommonQuery, Command, Query}
 
 -- common commands (IEEE 488.2, chapter 10)
 abbrev pub common_commands : List Row

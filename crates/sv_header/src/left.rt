@@ -1,47 +1,53 @@
 //! The mnemonics of a header behind a path.
 
-ghost use Rattle.std.specs.Prelude.{◌≡◌, ◌↔◌, [], ◌∷◌, MatchOption, IsTrue};
-ghost use Rattle.sv_header.specs.Plain.{left_of};
+ghost use Rattle.std.specs.Prelude.{◌≡◌, ◌++◌};
+ghost use Rattle.sv_header.specs.Plain.{left_of, sent_of};
 
 use crate::path::Mnemonic;
 use sv_text::first_part;
 
-/// Mnemonics: some of a path, and those of a text behind them.
+/// The mnemonics that are left: the first, and behind it some of a path, and those of a text.
 #[derive(Clone, Copy, Debug)]
 pub(crate) struct Mnemonics<'a> {
-    /// What is left of the path.
+    /// The first, unless none is left.
+    pub(crate) first: Option<&'a [u8]>,
+    /// What is left of the path behind it.
     pub(crate) kept: &'a [Mnemonic],
-    /// The text, where any mnemonic of it is left.
+    /// The text behind that, where any mnemonic of it is left.
     pub(crate) sent: Option<&'a [u8]>,
 }
 
 impl<'a> Mnemonics<'a> {
-    /// The first mnemonic and the others.
-    pub(crate) fn first(self) -> Option<(&'a [u8], Mnemonics<'a>)>
-        ensures { MatchOption result (left_of self.entry ≡ [])
-            (λ found. left_of self.entry ≡ found.0.now ∷ left_of found.1) }
+    /// Those of a path, and those of a text behind it.
+    pub(crate) fn new(kept: &'a [Mnemonic], sent: Option<&'a [u8]>) -> Mnemonics<'a>
+        ensures { left_of result ≡ kept.now ++ sent_of sent.entry }
     {
-        if let [first, behind @ ..] = self.kept {
-            let others = Mnemonics {
+        if let [first, behind @ ..] = kept {
+            return Mnemonics {
+                first: Some(first.text()),
                 kept: behind,
-                sent: self.sent,
+                sent,
             };
-            return Some((first.text(), others));
         }
-        let (first, behind) = first_part(self.sent?, b':');
-        Some((
-            first,
-            Mnemonics {
-                kept: self.kept,
-                sent: behind,
-            },
-        ))
+        let Some(text) = sent else {
+            return Mnemonics {
+                first: None,
+                kept,
+                sent,
+            };
+        };
+        let (first, behind) = first_part(text, b':');
+        Mnemonics {
+            first: Some(first),
+            kept,
+            sent: behind,
+        }
     }
 
-    /// Whether none is left.
-    pub(crate) fn is_empty(self) -> bool
-        ensures { IsTrue result ↔ (left_of self.entry ≡ []) }
+    /// Those behind the first.
+    pub(crate) fn others(&self) -> Mnemonics<'a>
+        ensures { left_of result ≡ self.now.kept.now ++ sent_of self.now.sent }
     {
-        self.first().is_none()
+        Mnemonics::new(self.kept, self.sent)
     }
 }

@@ -5,6 +5,7 @@
 #![tactic(auto)]
 
 mod arity;
+mod branch;
 mod command;
 pub mod laws;
 mod left;
@@ -14,9 +15,9 @@ mod pattern;
 mod resolving;
 mod sent;
 mod table;
+mod walk;
 
 pub use arity::Arity;
 pub use command::CommandId;
 pub use path::Path;
-pub use pattern::{Form, Node, Pattern};
 pub use resolving::Table;

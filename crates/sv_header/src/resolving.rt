@@ -4,51 +4,55 @@ ghost use Rattle.std.specs.Prelude.{◌≡◌, MatchResult};
 ghost use Rattle.sv_errors.specs.declared.code.Code.TheVariants.{UndefinedHeader};
 ghost use Rattle.sv_header.specs.declared.command.CommandId.{CommandId as Command};
 ghost use Rattle.sv_header.specs.Resolve.{Resolves};
+ghost use Rattle.sv_header.specs.Inside.Tree.{tree_rows, rows_with};
 
+use crate::branch::Branch;
 use crate::command::CommandId;
 use crate::path::Path;
-use crate::pattern::Pattern;
 use crate::sent::Sent;
 use crate::table::{
-    common_commands, measuring_commands, operation_commands, questionable_commands,
-    setting_commands, system_commands,
+    COMMON_COMMANDS, MEASURING, OPERATION_REGISTER, QUESTIONABLE_REGISTER, SETTINGS, STATUS_NODES,
+    SYSTEM_NODES,
 };
+use crate::walk::walk;
 use std::alloc::{AllocError, Allocator, Global};
 use std::marker::Model;
 use sv_errors::Code;
 
-/// How many patterns the table has.
-const PATTERNS: usize = 56;
+/// How many nodes the tree has.
+const NODES: usize = 57;
 
-/// The table of commands, in memory.
+/// How many of them are of common commands; these stand in front.
+const COMMON_NODES: usize = 11;
+
+/// The table of commands, in memory: a tree of nodes, one for each mnemonic at its place.
 #[derive(Drop)]
 pub struct Table<A: Allocator = Global> {
-    patterns: Vec<Pattern, A>,
+    branches: Vec<Branch, A>,
 }
 
 impl<A: Allocator> Model for Table<A> {
-    ghost use Rattle.std.specs.Prelude.{◌≡◌, map};
-    ghost use Rattle.sv_header.specs.Plain.{row_of};
-    ghost use Rattle.sv_header.specs.Table.{table};
+    ghost use Rattle.sv_header.specs.Inside.Tree.{IsTree};
 
     ghost Value = { Unit {0} };
 
     ghost view = { λ _. tt };
 
-    ghost invariant = { λ a. map row_of a.patterns.items ≡ table };
+    ghost invariant = { λ a. IsTree a.branches.items };
 }
 
 impl<A: Allocator> Table<A> {
     /// Takes the memory of the table.
     pub fn new(alloc: A) -> Result<Table<A>, AllocError> {
-        let mut patterns = Vec::with_capacity(alloc, PATTERNS)?;
-        patterns.extend_from_slice(common_commands())?;
-        patterns.extend_from_slice(system_commands())?;
-        patterns.extend_from_slice(operation_commands())?;
-        patterns.extend_from_slice(questionable_commands())?;
-        patterns.extend_from_slice(setting_commands())?;
-        patterns.extend_from_slice(measuring_commands())?;
-        Ok(Table { patterns })
+        let mut branches = Vec::with_capacity(alloc, NODES)?;
+        branches.extend_from_slice(&COMMON_COMMANDS)?;
+        branches.extend_from_slice(&SYSTEM_NODES)?;
+        branches.extend_from_slice(&STATUS_NODES)?;
+        branches.extend_from_slice(&OPERATION_REGISTER)?;
+        branches.extend_from_slice(&QUESTIONABLE_REGISTER)?;
+        branches.extend_from_slice(&SETTINGS)?;
+        branches.extend_from_slice(&MEASURING)?;
+        Ok(Table { branches })
     }
 
     /// The command that a header behind a path names (SCPI-1999, volume 1, chapter 6), or
@@ -59,11 +63,14 @@ impl<A: Allocator> Table<A> {
             × ((command : Command) → Resolves path.now header.now command → ⊥)) }
     {
         let sent = Sent::new(path, header);
-        for pattern in &self.patterns {
-            if pattern.takes(sent) {
-                return Ok(pattern.2);
-            }
-        }
-        Err(Code::UndefinedHeader)
+        walk(&sent.mnemonics, sent.query, self.roots(sent.common)).ok_or(Code::UndefinedHeader)
+    }
+
+    /// The nodes at the root, with those below them: of common commands, or of the others.
+    fn roots(&self, common: bool) -> &[Branch]
+        ensures { tree_rows common result.now ≡ rows_with common }
+    {
+        let (commons, others) = self.branches.split_at(COMMON_NODES);
+        if common { commons } else { others }
     }
 }

@@ -1,4 +1,4 @@
-//! A header behind a path, as the patterns are asked about it.
+//! A header behind a path, as the tree is asked about it.
 
 ghost use Rattle.std.specs.Prelude.{◌≡◌};
 ghost use Rattle.sv_text.specs.Header.{is_query, lead as lead_of};
@@ -33,14 +33,10 @@ impl<'a> Sent<'a> {
             Lead::Common | Lead::Root => &[],
             Lead::Onward => path.mnemonics(),
         };
-        let mnemonics = Mnemonics {
-            kept,
-            sent: Some(parts.body),
-        };
         Sent {
             common: matches!(parts.lead, Lead::Common),
             query: parts.query,
-            mnemonics,
+            mnemonics: Mnemonics::new(kept, Some(parts.body)),
         }
     }
 }

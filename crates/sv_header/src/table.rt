@@ -1,9 +1,6 @@
-//! The table of commands, in parts.
+//! The table of commands, as nodes in the order in which they are kept, in pieces.
 
-ghost use Rattle.std.specs.Prelude.{◌≡◌, map};
-ghost use Rattle.sv_header.specs.Plain.{row_of};
-ghost use Rattle.sv_header.specs.Table.{common_commands, system_commands, operation_commands, questionable_commands, setting_commands, measuring_commands};
-
+use crate::branch::Branch;
 use crate::command::CommandId;
 use crate::nodes::{
     ABORT, CALCULATE, CLS, CONDITION, CONFIGURE, COUNT, ENABLE, ERROR, ESE, ESR, FETCH, IDN,
@@ -12,221 +9,139 @@ use crate::nodes::{
     RANGE, READ, ROUTE, RST, SCAN, SOURCE, SRE, STATE, STATUS, STB, SYSTEM, TRG, TRIGGER, TST,
     UPPER, VERSION, VOLTAGE, WAI,
 };
-use crate::pattern::Form::{Command, CommonCommand, CommonQuery, Query};
-use crate::pattern::Pattern;
 
-const COMMON_COMMANDS: [Pattern; 14] = [
-    Pattern(CommonCommand, &[CLS], CommandId::ClearStatus),
-    Pattern(CommonCommand, &[ESE], CommandId::StandardEventEnable),
-    Pattern(CommonQuery, &[ESE], CommandId::StandardEventEnableQuery),
-    Pattern(CommonQuery, &[ESR], CommandId::StandardEventQuery),
-    Pattern(CommonQuery, &[IDN], CommandId::IdentificationQuery),
-    Pattern(CommonCommand, &[OPC], CommandId::OperationComplete),
-    Pattern(CommonQuery, &[OPC], CommandId::OperationCompleteQuery),
-    Pattern(CommonCommand, &[RST], CommandId::Reset),
-    Pattern(CommonCommand, &[SRE], CommandId::ServiceRequestEnable),
-    Pattern(CommonQuery, &[SRE], CommandId::ServiceRequestEnableQuery),
-    Pattern(CommonQuery, &[STB], CommandId::StatusByteQuery),
-    Pattern(CommonCommand, &[TRG], CommandId::Trigger),
-    Pattern(CommonQuery, &[TST], CommandId::SelfTestQuery),
-    Pattern(CommonCommand, &[WAI], CommandId::WaitToContinue),
-];
-
-/// The common commands (IEEE 488.2, chapter 10).
-pub(crate) fn common_commands() -> &'static [Pattern]
-    ensures { map row_of result.now ≡ common_commands }
-{
-    &COMMON_COMMANDS
+/// A command, or none.
+macro_rules! command {
+    (None) => {
+        None
+    };
+    ($name:ident) => {
+        Some(CommandId::$name)
+    };
 }
 
-const SYSTEM_QUERIES: [Pattern; 4] = [
-    Pattern(
-        Query,
-        &[SYSTEM, ERROR, MAYBE_NEXT],
-        CommandId::SystemErrorQuery,
-    ),
-    Pattern(
-        Query,
-        &[SYSTEM, ERROR, COUNT],
-        CommandId::SystemErrorCountQuery,
-    ),
-    Pattern(Query, &[SYSTEM, VERSION], CommandId::SystemVersionQuery),
-    Pattern(Command, &[STATUS, PRESET], CommandId::StatusPreset),
-];
-
-/// The queries of the system, and the preset of the status registers (SCPI-1999, volume 2).
-pub(crate) fn system_commands() -> &'static [Pattern]
-    ensures { map row_of result.now ≡ system_commands }
-{
-    &SYSTEM_QUERIES
+/// A node with how many stand below it, and its commands without the query sign and with it.
+macro_rules! branch {
+    ($node:ident, $below:literal, $plain:ident, $query:ident) => {
+        Branch {
+            node: $node,
+            below: $below,
+            plain: command!($plain),
+            query: command!($query),
+        }
+    };
 }
 
-const OPERATION_REGISTER: [Pattern; 8] = [
-    Pattern(
-        Query,
-        &[STATUS, OPERATION, MAYBE_EVENT],
-        CommandId::OperationEventQuery,
-    ),
-    Pattern(
-        Query,
-        &[STATUS, OPERATION, CONDITION],
-        CommandId::OperationConditionQuery,
-    ),
-    Pattern(
-        Command,
-        &[STATUS, OPERATION, ENABLE],
-        CommandId::OperationEnable,
-    ),
-    Pattern(
-        Query,
-        &[STATUS, OPERATION, ENABLE],
-        CommandId::OperationEnableQuery,
-    ),
-    Pattern(
-        Command,
-        &[STATUS, OPERATION, PTRANSITION],
-        CommandId::OperationPositiveTransition,
-    ),
-    Pattern(
-        Query,
-        &[STATUS, OPERATION, PTRANSITION],
-        CommandId::OperationPositiveTransitionQuery,
-    ),
-    Pattern(
-        Command,
-        &[STATUS, OPERATION, NTRANSITION],
-        CommandId::OperationNegativeTransition,
-    ),
-    Pattern(
-        Query,
-        &[STATUS, OPERATION, NTRANSITION],
-        CommandId::OperationNegativeTransitionQuery,
-    ),
+/// Common commands (IEEE 488.2, chapter 10).
+pub(crate) static COMMON_COMMANDS: [Branch; 11] = [
+    branch!(CLS, 0, ClearStatus, None),
+    branch!(ESE, 0, StandardEventEnable, StandardEventEnableQuery),
+    branch!(ESR, 0, None, StandardEventQuery),
+    branch!(IDN, 0, None, IdentificationQuery),
+    branch!(OPC, 0, OperationComplete, OperationCompleteQuery),
+    branch!(RST, 0, Reset, None),
+    branch!(SRE, 0, ServiceRequestEnable, ServiceRequestEnableQuery),
+    branch!(STB, 0, None, StatusByteQuery),
+    branch!(TRG, 0, Trigger, None),
+    branch!(TST, 0, None, SelfTestQuery),
+    branch!(WAI, 0, WaitToContinue, None),
 ];
 
-/// The commands of the operation register (SCPI-1999, volume 2).
-pub(crate) fn operation_commands() -> &'static [Pattern]
-    ensures { map row_of result.now ≡ operation_commands }
-{
-    &OPERATION_REGISTER
+/// SYSTem (SCPI-1999, volume 2).
+pub(crate) static SYSTEM_NODES: [Branch; 5] = [
+    branch!(SYSTEM, 4, None, None),
+    branch!(ERROR, 2, None, None),
+    branch!(MAYBE_NEXT, 0, None, SystemErrorQuery),
+    branch!(COUNT, 0, None, SystemErrorCountQuery),
+    branch!(VERSION, 0, None, SystemVersionQuery),
+];
+
+/// STATus without its registers, which stand behind these (SCPI-1999, volume 2).
+pub(crate) static STATUS_NODES: [Branch; 2] = [
+    branch!(STATUS, 13, None, None),
+    branch!(PRESET, 0, StatusPreset, None),
+];
+
+/// A register of STATus (SCPI-1999, volume 2): its node, how many nodes stand below that, and the
+/// commands of its nodes.
+macro_rules! register_nodes {
+    (
+        $node:ident, $below:literal,
+        $event:ident, $condition:ident,
+        $enable:ident, $enable_query:ident,
+        $positive:ident, $positive_query:ident,
+        $negative:ident, $negative_query:ident
+    ) => {
+        [
+            branch!($node, $below, None, None),
+            branch!(MAYBE_EVENT, 0, None, $event),
+            branch!(CONDITION, 0, None, $condition),
+            branch!(ENABLE, 0, $enable, $enable_query),
+            branch!(PTRANSITION, 0, $positive, $positive_query),
+            branch!(NTRANSITION, 0, $negative, $negative_query),
+        ]
+    };
 }
 
-const QUESTIONABLE_REGISTER: [Pattern; 8] = [
-    Pattern(
-        Query,
-        &[STATUS, QUESTIONABLE, MAYBE_EVENT],
-        CommandId::QuestionableEventQuery,
-    ),
-    Pattern(
-        Query,
-        &[STATUS, QUESTIONABLE, CONDITION],
-        CommandId::QuestionableConditionQuery,
-    ),
-    Pattern(
-        Command,
-        &[STATUS, QUESTIONABLE, ENABLE],
-        CommandId::QuestionableEnable,
-    ),
-    Pattern(
-        Query,
-        &[STATUS, QUESTIONABLE, ENABLE],
-        CommandId::QuestionableEnableQuery,
-    ),
-    Pattern(
-        Command,
-        &[STATUS, QUESTIONABLE, PTRANSITION],
-        CommandId::QuestionablePositiveTransition,
-    ),
-    Pattern(
-        Query,
-        &[STATUS, QUESTIONABLE, PTRANSITION],
-        CommandId::QuestionablePositiveTransitionQuery,
-    ),
-    Pattern(
-        Command,
-        &[STATUS, QUESTIONABLE, NTRANSITION],
-        CommandId::QuestionableNegativeTransition,
-    ),
-    Pattern(
-        Query,
-        &[STATUS, QUESTIONABLE, NTRANSITION],
-        CommandId::QuestionableNegativeTransitionQuery,
-    ),
-];
+/// The operation register.
+pub(crate) static OPERATION_REGISTER: [Branch; 6] = register_nodes!(
+    OPERATION,
+    5,
+    OperationEventQuery,
+    OperationConditionQuery,
+    OperationEnable,
+    OperationEnableQuery,
+    OperationPositiveTransition,
+    OperationPositiveTransitionQuery,
+    OperationNegativeTransition,
+    OperationNegativeTransitionQuery
+);
 
-/// The commands of the questionable register (SCPI-1999, volume 2).
-pub(crate) fn questionable_commands() -> &'static [Pattern]
-    ensures { map row_of result.now ≡ questionable_commands }
-{
-    &QUESTIONABLE_REGISTER
-}
-
-const SETTINGS: [Pattern; 16] = [
-    Pattern(Command, &[ROUTE, SCAN], CommandId::RouteScan),
-    Pattern(Query, &[ROUTE, SCAN], CommandId::RouteScanQuery),
-    Pattern(Command, &[ROUTE, MONITOR], CommandId::RouteMonitor),
-    Pattern(Query, &[ROUTE, MONITOR], CommandId::RouteMonitorQuery),
-    Pattern(
-        Command,
-        &[MAYBE_SENSE, VOLTAGE, MAYBE_DC, RANGE, MAYBE_UPPER],
-        CommandId::VoltageRange,
-    ),
-    Pattern(
-        Query,
-        &[MAYBE_SENSE, VOLTAGE, MAYBE_DC, RANGE, MAYBE_UPPER],
-        CommandId::VoltageRangeQuery,
-    ),
-    Pattern(Command, &[CALCULATE, LIMIT, UPPER], CommandId::UpperLimit),
-    Pattern(
-        Query,
-        &[CALCULATE, LIMIT, UPPER],
-        CommandId::UpperLimitQuery,
-    ),
-    Pattern(Command, &[CALCULATE, LIMIT, LOWER], CommandId::LowerLimit),
-    Pattern(
-        Query,
-        &[CALCULATE, LIMIT, LOWER],
-        CommandId::LowerLimitQuery,
-    ),
-    Pattern(Command, &[CALCULATE, LIMIT, STATE], CommandId::LimitState),
-    Pattern(
-        Query,
-        &[CALCULATE, LIMIT, STATE],
-        CommandId::LimitStateQuery,
-    ),
-    Pattern(Command, &[TRIGGER, SOURCE], CommandId::TriggerSource),
-    Pattern(Query, &[TRIGGER, SOURCE], CommandId::TriggerSourceQuery),
-    Pattern(Command, &[TRIGGER, COUNT], CommandId::TriggerCount),
-    Pattern(Query, &[TRIGGER, COUNT], CommandId::TriggerCountQuery),
-];
+/// The questionable register.
+pub(crate) static QUESTIONABLE_REGISTER: [Branch; 6] = register_nodes!(
+    QUESTIONABLE,
+    5,
+    QuestionableEventQuery,
+    QuestionableConditionQuery,
+    QuestionableEnable,
+    QuestionableEnableQuery,
+    QuestionablePositiveTransition,
+    QuestionablePositiveTransitionQuery,
+    QuestionableNegativeTransition,
+    QuestionableNegativeTransitionQuery
+);
 
 /// What is measured, and how (SCPI-1999, volume 2).
-pub(crate) fn setting_commands() -> &'static [Pattern]
-    ensures { map row_of result.now ≡ setting_commands }
-{
-    &SETTINGS
-}
-
-const MEASURING: [Pattern; 6] = [
-    Pattern(Command, &[INITIATE, MAYBE_IMMEDIATE], CommandId::Initiate),
-    Pattern(Command, &[ABORT], CommandId::Abort),
-    Pattern(Query, &[FETCH], CommandId::FetchQuery),
-    Pattern(Query, &[READ], CommandId::ReadQuery),
-    Pattern(
-        Command,
-        &[CONFIGURE, VOLTAGE, MAYBE_DC],
-        CommandId::ConfigureVoltage,
-    ),
-    Pattern(
-        Query,
-        &[MEASURE, VOLTAGE, MAYBE_DC],
-        CommandId::MeasureVoltageQuery,
-    ),
+pub(crate) static SETTINGS: [Branch; 16] = [
+    branch!(ROUTE, 2, None, None),
+    branch!(SCAN, 0, RouteScan, RouteScanQuery),
+    branch!(MONITOR, 0, RouteMonitor, RouteMonitorQuery),
+    branch!(MAYBE_SENSE, 4, None, None),
+    branch!(VOLTAGE, 3, None, None),
+    branch!(MAYBE_DC, 2, None, None),
+    branch!(RANGE, 1, None, None),
+    branch!(MAYBE_UPPER, 0, VoltageRange, VoltageRangeQuery),
+    branch!(CALCULATE, 4, None, None),
+    branch!(LIMIT, 3, None, None),
+    branch!(UPPER, 0, UpperLimit, UpperLimitQuery),
+    branch!(LOWER, 0, LowerLimit, LowerLimitQuery),
+    branch!(STATE, 0, LimitState, LimitStateQuery),
+    branch!(TRIGGER, 2, None, None),
+    branch!(SOURCE, 0, TriggerSource, TriggerSourceQuery),
+    branch!(COUNT, 0, TriggerCount, TriggerCountQuery),
 ];
 
 /// Measuring (SCPI-1999, volume 2).
-pub(crate) fn measuring_commands() -> &'static [Pattern]
-    ensures { map row_of result.now ≡ measuring_commands }
-{
-    &MEASURING
-}
+pub(crate) static MEASURING: [Branch; 11] = [
+    branch!(INITIATE, 1, None, None),
+    branch!(MAYBE_IMMEDIATE, 0, Initiate, None),
+    branch!(ABORT, 0, Abort, None),
+    branch!(FETCH, 0, None, FetchQuery),
+    branch!(READ, 0, None, ReadQuery),
+    branch!(CONFIGURE, 2, None, None),
+    branch!(VOLTAGE, 1, None, None),
+    branch!(MAYBE_DC, 0, ConfigureVoltage, None),
+    branch!(MEASURE, 2, None, None),
+    branch!(VOLTAGE, 1, None, None),
+    branch!(MAYBE_DC, 0, None, MeasureVoltageQuery),
+];

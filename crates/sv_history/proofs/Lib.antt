@@ -3,3 +3,5 @@ pub mod Telling
 pub mod OneStep
 pub mod StillSettled
 mod OneLog
+mod EveryLog
+mod Isolation

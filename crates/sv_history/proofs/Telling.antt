@@ -34,7 +34,7 @@ tells_once (Ticked ∷ acts) a b x y = tells_once acts a b x y
 
 -- ---- which channels are open
 
-peer_more : (c : ℕ) (act : ChannelAct) (a b : List ChannelAct) → peer c a ≡ peer c b → peer c (act ∷ a) ≡ peer c (act ∷ b)
+pub peer_more : (c : ℕ) (act : ChannelAct) (a b : List ChannelAct) → peer c a ≡ peer c b → peer c (act ∷ a) ≡ peer c (act ∷ b)
 peer_more c (ChannelOpened conn what) a b same = ap (λ (o : Option Peer). if conn == c then Some what else o) same
 peer_more c (ChannelClosed conn) a b same = ap (λ (o : Option Peer). if conn == c then None else o) same
 peer_more c _ a b same = same

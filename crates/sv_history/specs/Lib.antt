@@ -18,5 +18,7 @@ pub mod PolledStatus
 pub mod Settling
 pub mod History
 pub mod Queries
+pub mod Adding
+pub mod Isolation
 pub mod Print
 pub mod Laws

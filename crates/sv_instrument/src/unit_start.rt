@@ -15,7 +15,6 @@ use crate::unit_outcome::Outcome;
 use std::alloc::Allocator;
 use sv_command::read_unit;
 use sv_errors::Code;
-use sv_exchange::Next;
 use sv_header::{Path, Table};
 use sv_layers::{Awaited, Change, Layers};
 
@@ -36,10 +35,7 @@ pub(crate) fn start<A: Allocator>(
     ensures few { result.raised ≤ 8 }
     ensures capacity { 8192 ≤ vec_capacity answer.new }
 {
-    let Next::Unit(text) = layers.exchange().next_unit() else {
-        return end(layers, 0);
-    };
-    match read_unit(table, path, text) {
+    match read_unit(table, path, layers.exchange().lexed()) {
         Ok(order) => perform(layers, answer, order),
         Err(code) => carry_out(layers, Change::Report(code)),
     }

@@ -2,3 +2,9 @@ pub mod Standing
 pub mod Cuts
 pub mod Tokens
 pub mod Order
+pub mod Ends
+pub mod Divided
+pub mod Spelling
+pub mod Brevity
+pub mod Stages
+pub mod Finished

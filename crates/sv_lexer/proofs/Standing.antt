@@ -1,8 +1,9 @@
 -- Where texts stand in others.
-use Rattle.std.proofs.Common.{◌≡◌, ℕ, suc, ◌+◌, ◌-◌, ◌≤◌, Bool, true, false, cond, List, [], ◌∷◌, ◌++◌, length, take, drop, refl, sym, ap, ◌∙◌, arith}
+use Rattle.std.proofs.Common.{◌≡◌, ℕ, suc, ◌+◌, ◌-◌, ◌≤◌, Bool, true, false, cond, List, [], ◌∷◌, ◌++◌, length, take, drop, refl, sym, ap, ◌∙◌, slice_range, arith}
 use Rattle.std.specs.Prelude.{reverse}
 use Rattle.std.proofs.lemmas.List.{append_assoc, append-nil, length-append, length-drop, length-take-le, reverse-append, reverse-reverse, take-append-drop}
 use Rattle.std.proofs.lemmas.List.Sums.{prefix_len-le-length}
+use Rattle.std.proofs.Math.Seq.{take-append-add, drop-append-add}
 use Rattle.sv_text.specs.White.{is_white, trim_start, trim_end, trim}
 use Rattle.sv_lexer.specs.Token.{StandsAt}
 use Rattle.sv_lexer.specs.Unit.{white_size}
@@ -84,3 +85,14 @@ stands_within unit text p h =
     let whole : length unit ≡ length h.0 + length (text ++ h.1) = ap length h.2 ∙ length-append h.0 (text ++ h.1) in
     let inner : length (text ++ h.1) ≡ length text + length h.1 = length-append text h.1 in
     omega (arith, whole, inner, h.3)
+
+-- the slice at the place of a text that stands in another
+pub slice_stands : (text part : List ℕ) (p q : ℕ) → StandsAt text p part → q ≡ p + length part → slice_range text p q ≡ part
+slice_stands text part p q h e =
+    let front : List ℕ = h.0 in
+    let behind : List ℕ = h.1 in
+    let at : p ≡ length front + 0 = omega (arith, h.3) in
+    let size : q - p ≡ length part + 0 = omega (arith, e) in
+    ap (λ (t : List ℕ). take (q - p) (drop p t)) h.2 ∙ ap (λ (n : ℕ). take (q - p) (drop n (front ++ (part ++ behind)))) at
+    ∙ ap (take (q - p)) (drop-append-add front (part ++ behind) 0) ∙ ap (λ (n : ℕ). take n (part ++ behind)) size
+    ∙ take-append-add part behind 0 ∙ append-nil part

@@ -1,13 +1,13 @@
 -- The tokens of a unit stand in it where they are said to.
-use Rattle.std.proofs.Common.{◌≡◌, ℕ, ◌+◌, ◌<◌, List, [], ◌∷◌, length, take, drop, refl, sym, ap, ◌∙◌, slice_index_or, arith}
-use Rattle.std.specs.List.{position_or_len}
-use Rattle.sv_text.specs.White.{is_white, trim_start, trim}
+use Rattle.std.proofs.Common.{◌≡◌, ℕ, ◌+◌, ◌<◌, ◌≤◌, List, [], ◌∷◌, length, drop, refl, sym, ap, ◌∙◌, slice_index_or, slice_range, arith}
+use Rattle.sv_text.specs.White.{is_white, trim}
 use Rattle.sv_text.proofs.Places.{place_within}
 use Rattle.sv_lexer.specs.declared.token.Token.{Token}
 use Rattle.sv_lexer.specs.Token.{StandsAt, IsToken, kind_of, told}
 use Rattle.sv_lexer.specs.Unit.{white_size, header_size, header, header_place, rest, rest_place}
+use Rattle.sv_lexer.specs.Partial.{IsCut}
 use Rattle.sv_lexer.specs.Parameters.{cut_outside, parts, part_place, count, parameter, parameter_place}
-use Rattle.sv_lexer.proofs.Standing.{stands_in, stands_take, stands_drop, stands_start, stands_trim}
+use Rattle.sv_lexer.proofs.Standing.{stands_in, stands_take, stands_drop, stands_start, stands_trim, stands_within, slice_stands}
 
 -- at an equal place
 stands_same : (unit text : List ℕ) (p q : ℕ) → p ≡ q → StandsAt unit p text → StandsAt unit q text
@@ -26,25 +26,37 @@ rest_stands unit =
     (stands_drop (header_size unit) (trim unit) (place_within is_white (trim unit))))
     (stands_start behind)
 
--- what a unit is split into is its header and the text behind it
-pub split_holds : (unit stripped text : List ℕ) (begin size space : ℕ) (token : Token) → stripped ≡ trim unit → begin ≡ white_size unit
-    → size ≡ position_or_len is_white stripped
-    → text ≡ trim_start (drop size stripped) → space ≡ white_size (drop size stripped)
-    → token.text.now ≡ take size stripped → token.start ≡ told begin → token.kind ≡ kind_of (take size stripped)
-    → IsToken unit (header_place unit) (header unit) token × (text ≡ rest unit) × (begin + size + space ≡ rest_place unit)
-    × StandsAt unit (begin + size + space) text
-split_holds unit stripped text begin size space token inner first at behind skipped slice start kind =
-    let size_is : size ≡ header_size unit = at ∙ ap (position_or_len is_white) inner in
-    let slice_is : take size stripped ≡ header unit = ap (λ n. take n stripped) size_is ∙ ap (take (header_size unit)) inner in
-    let behind_is : drop size stripped ≡ drop (header_size unit) (trim unit) =
-    ap (λ n. drop n stripped) size_is ∙ ap (drop (header_size unit)) inner in
-    let text_is : text ≡ rest unit = behind ∙ ap trim_start behind_is in
-    let space_is : space ≡ white_size (drop (header_size unit) (trim unit)) = skipped ∙ ap white_size behind_is in
-    let place : begin + size + space ≡ rest_place unit = omega (arith, first, size_is, space_is) in (
-      record { text = slice ∙ slice_is; start = start ∙ ap told first; kind = kind ∙ ap kind_of slice_is; stands = header_stands unit },
-      text_is,
-      place,
-      rw (place, text_is) (rest_stands unit),
+-- the parts of a unit that was cut are its header and the text behind it
+pub cut_holds : (unit slice text : List ℕ) (header_start header_end data_start data_end : ℕ) (token : Token)
+    → IsCut unit header_start header_end data_start data_end → slice ≡ slice_range unit header_start header_end
+    → text ≡ slice_range unit data_start data_end → token.text.now ≡ slice → token.start ≡ told header_start → token.kind ≡ kind_of slice
+    → IsToken unit (header_place unit) (header unit) token × (text ≡ rest unit) × (data_start ≡ rest_place unit)
+    × StandsAt unit data_start text
+cut_holds unit slice text header_start header_end data_start data_end token cut is behind said start kind =
+    let head : slice ≡ header unit =
+    is ∙ slice_stands unit (header unit) header_start header_end
+    (stands_same unit (header unit) (header_place unit) header_start (sym cut.header_begins) (header_stands unit))
+    (omega (arith, cut.header_begins, cut.header_ends)) in
+    let rests : text ≡ rest unit =
+    behind ∙ slice_stands unit (rest unit) data_start data_end
+    (stands_same unit (rest unit) (rest_place unit) data_start (sym cut.data_begins) (rest_stands unit))
+    (omega (arith, cut.data_begins, cut.data_ends)) in (
+      record { text = said ∙ head; start = start ∙ ap told cut.header_begins; kind = kind ∙ ap kind_of head; stands = header_stands unit },
+      rests,
+      cut.data_begins,
+      rw (cut.data_begins, rests) (rest_stands unit),
+    )
+
+-- they are within it
+pub cut_within : (unit : List ℕ) (header_start header_end data_start data_end : ℕ) → IsCut unit header_start header_end data_start data_end
+    → (header_start ≤ header_end) × (header_end ≤ length unit) × (data_start ≤ data_end) × (data_end ≤ length unit)
+cut_within unit header_start header_end data_start data_end cut =
+    let head = stands_within unit (header unit) (header_place unit) (header_stands unit) in
+    let rests = stands_within unit (rest unit) (rest_place unit) (rest_stands unit) in (
+      omega (arith, cut.header_begins, cut.header_ends),
+      omega (arith, head, cut.header_ends),
+      omega (arith, cut.data_begins, cut.data_ends),
+      omega (arith, rests, cut.data_ends),
     )
 
 -- where there is a part, there is text

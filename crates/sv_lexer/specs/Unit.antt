@@ -1,5 +1,5 @@
 -- The header of a program message unit, what stands behind it, and the faults of its spelling (IEEE 488.2, 7.3 and 7.6).
-use Rattle.std.specs.Prelude.{ℕ, ◌+◌, ◌&&◌, ◌||◌, not, Bool, List, take, drop, Option, Some, None, nat_lt, if◌then◌else◌}
+use Rattle.std.specs.Prelude.{◌≡◌, ℕ, ◌+◌, ◌&&◌, ◌||◌, not, Bool, List, take, drop, Option, Some, None, Result, MatchResult, nat_lt, if◌then◌else◌}
 use Rattle.std.specs.List.{prefix_len, position_or_len, list_all}
 use Rattle.sv_errors.specs.declared.code.Code.{Code}
 use Rattle.sv_errors.specs.declared.code.Code.TheVariants.{InvalidCharacter, SyntaxError, ProgramMnemonicTooLong}
@@ -43,3 +43,7 @@ unit_fault unit =
     else if not (is_header (header unit)) then Some SyntaxError
     else if not (list_all is_brief (words (header unit))) then Some ProgramMnemonicTooLong
     else None
+
+-- What reading a unit gives: the unit, or what is wrong with it.
+abbrev pub IsLexed : Result (List ℕ) Code → List ℕ → Type 0
+IsLexed outcome bytes = MatchResult outcome (λ unit. (unit ≡ bytes) × (unit_fault bytes ≡ None)) (λ code. unit_fault bytes ≡ Some code)

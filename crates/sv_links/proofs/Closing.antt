@@ -46,7 +46,7 @@ others p (x ∷ xs) n r = elim (cases_Bool (p x)) [
 ]
 
 -- whether a number is one of theirs
-abbrev has : ℕ → List Link → Bool
+abbrev pub has : ℕ → List Link → Bool
 has lid ys = list_any (λ link. eqb link.lid lid) ys
 
 locked-step : (a b c : Bool) → (not b && (not a && c)) ≡ (not (a || b) && c)
@@ -55,7 +55,7 @@ locked-step true false c = refl
 locked-step false true c = refl
 locked-step false false c = refl
 
-locked-gone : (lid : ℕ) (ys : List Link) (acts : List LinkAct) → is_locked lid (gone ys acts) ≡ (not (has lid ys) && is_locked lid acts)
+pub locked-gone : (lid : ℕ) (ys : List Link) (acts : List LinkAct) → is_locked lid (gone ys acts) ≡ (not (has lid ys) && is_locked lid acts)
 locked-gone lid [] acts = refl
 locked-gone lid (y ∷ ys) acts = locked-gone lid ys (Destroyed y.lid ∷ acts)
     ∙ locked-step (eqb y.lid lid) (has lid ys) (is_locked lid acts)
@@ -69,7 +69,7 @@ none-above x (y ∷ xs) h = rw (ne_eqb y.lid x.lid (λ e. absurd (omega (arith, 
 abbrev pub of_conn : ℕ → Link → Bool
 of_conn conn link = eqb link.conn conn
 
-has-owner : (conn lid : ℕ) (xs : List Link) (n : ℕ) → IsRising xs n
+pub has-owner : (conn lid : ℕ) (xs : List Link) (n : ℕ) → IsRising xs n
     → has lid (filter (of_conn conn) xs) ≡ is_of conn (option_map (λ link. link.conn) (find (λ link. eqb link.lid lid) xs))
 has-owner conn lid [] n r = refl
 has-owner conn lid (x ∷ xs) n r = elim (cases_Bool (eqb x.lid lid)) [

@@ -18,3 +18,7 @@ mod Calling
 pub mod Asking
 pub mod Rising
 mod Acts
+pub mod LinksAlike
+pub mod CallsAlike
+pub mod ChannelsAlike
+pub mod Closed

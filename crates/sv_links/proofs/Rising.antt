@@ -9,7 +9,7 @@ use Rattle.sv_links.specs.ChannelRepresentation.{IsSorted}
 use Rattle.sv_links.proofs.Asking.{below, above, other_links, none_below, all_above}
 
 -- those of n numbers, from a on
-abbrev among : ℕ → ℕ → List ChannelAct → List Enabled
+abbrev pub among : ℕ → ℕ → List ChannelAct → List Enabled
 among a n acts = filter_map (λ lid. asked lid acts) (range_with_len a n)
 
 -- ---- one number
@@ -21,7 +21,7 @@ IsAt a link = (x : Enabled) → link ≡ Some x → x.lid ≡ a
 some_is : (x y : Enabled) → Some x ≡ Some y → x ≡ y
 some_is x y e = cc
 
-asked-at : (lid : ℕ) (acts : List ChannelAct) → IsAt lid (asked lid acts)
+pub asked-at : (lid : ℕ) (acts : List ChannelAct) → IsAt lid (asked lid acts)
 asked-at lid [] x h = absurd cc
 asked-at lid (SrqEnabled other conn handle ∷ acts) x h = elim (cases_Bool (eqb other lid)) [
   | inl e ↦

@@ -79,6 +79,12 @@ calls c (ChannelClosed conn ∷ acts) = if conn == c then [] else calls c acts
 calls c (Requested ∷ acts) = fold (called (peer c acts) (taken c acts)) (calls c acts) (handles_of c (enabled acts))
 calls c (_ ∷ acts) = calls c acts
 
+-- all calls that were ever sent on it, also before it was opened anew: those that each request added
+abbrev pub all_calls : ℕ → List ChannelAct → List (List ℕ)
+all_calls c [] = []
+all_calls c (Requested ∷ acts) = all_calls c acts ++ drop (length (calls c acts)) (calls c (Requested ∷ acts))
+all_calls c (_ ∷ acts) = all_calls c acts
+
 -- the bytes that wait to be sent on it; none where it isn't open
 abbrev pub waiting : ℕ → List ChannelAct → List ℕ
 waiting c acts = if is_channel_open c acts then concat (left_of (taken c acts) (calls c acts)) else []

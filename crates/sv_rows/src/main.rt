@@ -12,6 +12,7 @@
 //!   the fault, on a line of its own;
 //! - `! output takes N`, `! output stops at N`: a script, whose output takes so many bytes and then
 //!   fails, or takes none without a word; printed is how many it took, and the same;
+//! - `! without TEXT`: a script; printed are the lines of its replay that don't end in this text;
 //! - `! memory`, `! memory, output takes N`: a script, of whose replay each allocation is refused
 //!   in turn; printed is each outcome that differs from the one in front of it, `again` behind one
 //!   that came more than once in a row, and behind `all` that with all memory;
@@ -76,6 +77,9 @@ fn play<W: Write + Drop>(
         "events" => events::play(alloc, text, writer),
         "scenario" => scenarios::show(alloc, text, writer),
         "scenario, memory" => scenarios::show_each(alloc, text, writer),
-        _ => replays::play(alloc, kind, text, writer),
+        _ => match kind.strip_prefix("without ") {
+            Some(ending) => replays::play_without(alloc, ending, text, writer),
+            None => replays::play(alloc, kind, text, writer),
+        },
     }
 }

@@ -107,3 +107,20 @@ pub(crate) fn play<W: Write + Drop>(
         }
     }
 }
+
+/// Prints the lines that a script prints, but for those that end in this text.
+pub(crate) fn play_without<W: Write + Drop>(
+    alloc: Global,
+    ending: &str,
+    script: &str,
+    writer: &mut BufWriter<W>,
+) -> io::Result<()> {
+    let heap = Rationed::new(alloc);
+    let outcome = outcome(alloc, &heap, Manner::ample(), script)?;
+    for line in outcome.lines() {
+        if !line.ends_with(ending) {
+            writeln!(writer, "{line}")?;
+        }
+    }
+    Ok(())
+}

@@ -6,6 +6,7 @@ use std::alloc::Global;
 use sv_command::{Order, Question, read_unit};
 use sv_errors::Code;
 use sv_header::{Path, Table};
+use sv_lexer::unit;
 use sv_scan::{ScanList, Setting};
 use sv_status::RegisterName;
 
@@ -17,9 +18,9 @@ pub(crate) fn put_orders(
     text: &str,
 ) -> Result<(), Fault> {
     let mut path = Path::root();
-    for unit in text.split(';') {
-        let bytes = Vec::unescape_bytes(alloc, unit)?;
-        let order = read_unit(table, &mut path, bytes.as_slice());
+    for part in text.split(';') {
+        let bytes = Vec::unescape_bytes(alloc, part)?;
+        let order = read_unit(table, &mut path, unit(bytes.as_slice()));
         put_order(out, &order)?;
     }
     Ok(())

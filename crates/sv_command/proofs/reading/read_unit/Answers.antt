@@ -3,9 +3,9 @@ use Rattle.sv_command.specs.Unit.{IsNamed}
 use Rattle.sv_command.proofs.reading.read_unit.Goals as goal
 
 pub returns-in-Ok : goal.returns-in-Ok
-returns-in-Ok g c =
+returns-in-Ok g c = λ unit told.
+    let read = rw c.in-Ok.is at told in
     inr (
-      c.in-Ok.ensures.1,
-      subst (λ (unit : List ℕ). IsNamed c.args.path.now unit c.named.result c.named.new.path) c.in-Ok.ensures.0
-          c.named.ensures,
+      read.1,
+      subst (λ (bytes : List ℕ). IsNamed c.args.path.now bytes c.named.result c.named.new.path) read.0 c.named.ensures,
     )

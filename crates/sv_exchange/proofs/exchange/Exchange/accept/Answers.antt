@@ -8,7 +8,7 @@ use Rattle.sv_exchange.proofs.exchange.Exchange.accept.Goals.{then-self, else-se
 pub returns-clause-value : goal.returns-clause-value
 returns-clause-value g c =
     let unended = not_true _ (rw (← c.self.view_is) at c.requires.«open») in
-    let all = open_end c.self.inside.ended _ _ _ _ unended c.self.invariant.bounds in
+    let all = open_end c.self.inside.ended _ _ _ _ unended c.self.invariant.0.bounds in
     let text_is : c.append.new.bytes.items ≡ drop c.self.inside.cursor c.self.inside.text.items ++ c.args.bytes.now =
     grind (arith, common_steps) in
     let before_is : c.len-before.result ≡ length (drop c.self.inside.cursor c.self.inside.text.items) = grind (arith, common_steps) in

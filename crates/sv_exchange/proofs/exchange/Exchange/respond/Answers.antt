@@ -11,7 +11,7 @@ returns-then-answer-before-clause-stands g c =
     elim c.if-self.branch [ then-self w ↦ rw w.if-self.true (omega arith) | else-self w ↦ rw w.if-self.false w.before-is ] in
     let size =
     size_with c.self.inside.answering c.self.inside.response.items c.args.answer.now c.self.inside.read c.if-self.before
-    c.self.invariant.output before in
+    c.self.invariant.0.output before in
     let may = rw (← c.self.view_is) at c.requires in
     rw (← c.self.view_is) (λ acts s. (
       sym (fits_is _ acts c.args.answer.now _ size s ∙ le-ltb (c.if-self.before + length c.args.answer.now) 8192 (omega arith)),
@@ -24,7 +24,7 @@ returns-clause-stands g c =
     elim c.if-self.branch [ then-self w ↦ rw w.if-self.true (omega arith) | else-self w ↦ rw w.if-self.false w.before-is ] in
     let size =
     size_with c.self.inside.answering c.self.inside.response.items c.args.answer.now c.self.inside.read c.if-self.before
-    c.self.invariant.output before in
+    c.self.invariant.0.output before in
     let may = rw (← c.self.view_is) at c.requires in
     rw (← c.self.view_is) (λ acts s. (
       sym (fits_is _ acts c.args.answer.now _ size s ∙ lt-ltb (c.if-self.before + length c.args.answer.now) 8192 (omega arith)),
@@ -32,6 +32,6 @@ returns-clause-stands g c =
           (rw (
             c.put_answer.ensures.items,
             with_all c.self.inside.answering c.self.inside.response.items c.args.answer.now
-                c.self.inside.read c.self.invariant.output,
+                c.self.inside.read c.self.invariant.0.output,
           ) refl) s,
     ))

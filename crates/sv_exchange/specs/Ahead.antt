@@ -1,0 +1,57 @@
+-- The unit that comes next, as far as its message was looked at.
+use Rattle.std.specs.Prelude.{◌≡◌, ℕ, ◌+◌, ◌≤◌, ◌==◌, Bool, true, false, List, [], ◌∷◌, ◌++◌, length, take, nat_lt, if◌then◌else◌}
+use Rattle.std.specs.List.{list_all, list_any}
+use Rattle.sv_text.specs.White.{is_white, trim_start, trim_end}
+use Rattle.sv_lexer.specs.Partial.{Reads}
+use Rattle.sv_exchange.specs.Exchange.{units, is_something}
+use Rattle.sv_exchange.specs.declared.ahead.Ahead.{Ahead}
+
+-- a semicolon
+abbrev pub is_separator : ℕ → Bool
+is_separator b = b == 59
+
+-- No semicolon came behind the unit so far, and only white space did.
+pub record IsOpen (seen unit space : List ℕ) : Type 0 where
+  pub left : (more : List ℕ) → units (seen ++ more) ≡ units ((unit ++ space) ++ more)
+  pub single : list_any is_separator (unit ++ space) ≡ false
+  pub white : list_all is_white space ≡ true
+  pub unbegun : is_something unit ≡ false → space ≡ []
+  pub starts : is_something unit ≡ true → (more : List ℕ) → trim_start (unit ++ more) ≡ unit ++ more
+  pub ends : trim_end unit ≡ unit
+
+-- The unit is the first one, whatever comes.
+abbrev pub IsFound : Bool → (seen unit space : List ℕ) → Type 0
+IsFound true seen unit space = (is_something unit ≡ true) × ((more : List ℕ) → units (seen ++ more) ≡ unit ∷ units more)
+IsFound false seen unit space = IsOpen seen unit space
+
+-- This was looked at: what is no unit, the unit so far, and what stands behind it.
+pub record IsAhead (ahead : Ahead) (seen : List ℕ) : Type 0 where
+  pub before : List ℕ
+  pub unit : List ℕ
+  pub space : List ℕ
+  pub whole : seen ≡ before ++ (unit ++ space)
+  pub begins : ahead.start ≡ length before
+  pub closes : ahead.end ≡ length before + length unit
+  pub size : ahead.looked ≡ length seen
+  pub reads : Reads ahead.partial unit
+  pub found : IsFound ahead.closed seen unit space
+
+-- The front of a text was looked at.
+pub record IsBegun (ahead : Ahead) (text : List ℕ) : Type 0 where
+  pub within : ahead.looked ≤ length text
+  pub seen : IsAhead ahead (take ahead.looked text)
+
+-- It was looked at up to the semicolon behind the first unit, or to its end.
+pub record IsLooked (ahead : Ahead) (text : List ℕ) : Type 0 where
+  pub begun : IsBegun ahead text
+  pub all : ahead.closed ≡ false → ahead.looked ≡ length text
+
+-- a semicolon more
+abbrev pub behind_semicolon : Ahead → Ahead
+behind_semicolon ahead = if nat_lt ahead.start ahead.end then record ahead { looked = ahead.looked + 1; closed = true }
+    else record ahead { start = ahead.looked + 1; end = ahead.looked + 1; looked = ahead.looked + 1 }
+
+-- white space more
+abbrev pub behind_space : Ahead → Ahead
+behind_space ahead = if nat_lt ahead.start ahead.end then record ahead { looked = ahead.looked + 1 }
+    else record ahead { start = ahead.looked + 1; end = ahead.looked + 1; looked = ahead.looked + 1 }

@@ -1,0 +1,138 @@
+//! The unit that comes next, as far as its message was looked at.
+
+ghost use Rattle.std.specs.Prelude.{◌≡◌, ◌+◌, ◌-◌, ◌^◌, ◌<◌, ℕ, List, [], false, length, MatchOption, Some, slice_get};
+ghost use Rattle.sv_lexer.specs.Unit.{IsLexed};
+ghost use Rattle.sv_exchange.specs.Exchange.{units};
+ghost use Rattle.sv_exchange.specs.FirstUnit.{IsFirst};
+ghost use Rattle.sv_exchange.specs.Ahead.{IsBegun, IsLooked, behind_semicolon, behind_space};
+
+use sv_errors::Code;
+use sv_lexer::{Partial, Unit};
+use sv_text::is_space;
+
+/// The unit that comes next in a message (IEEE 488.2, 7.3.2 and 7.4.1). The message is looked at up
+/// to the semicolon behind it, each byte once. Places count from where the text begins.
+#[derive(Drop)]
+pub(crate) struct Ahead {
+    /// Where the unit begins, and where it ends without white space behind it. While it hasn't
+    /// begun, both are how far the text was looked at.
+    start: usize,
+    end: usize,
+    /// How far the text was looked at.
+    looked: usize,
+    /// Whether there was a semicolon behind the unit.
+    closed: bool,
+    /// The unit, read byte by byte.
+    partial: Partial,
+}
+
+impl Ahead {
+    /// The unit that comes first in a text.
+    pub(crate) fn of(text: &[u8]) -> Ahead
+        ensures { IsLooked result text.now }
+    {
+        let mut ahead = Ahead {
+            start: 0,
+            end: 0,
+            looked: 0,
+            closed: false,
+            partial: Partial::new(),
+        };
+        ahead.look(text);
+        ahead
+    }
+
+    /// The text goes on, or is another one.
+    pub(crate) fn look_on(&mut self, text: &[u8], anew: bool)
+        requires { anew ≡ false → IsBegun self.old text.now }
+        ensures { IsLooked self.new text.now }
+    {
+        if anew {
+            *self = Ahead::of(text);
+        } else {
+            self.look(text);
+        }
+    }
+
+    /// The unit, and how many bytes are stepped over with it; none where only semicolons and white
+    /// space are left. The text has to be all of the message.
+    pub(crate) fn unit<'a>(&self, text: &'a [u8]) -> Option<(&'a [u8], usize)>
+        requires { IsLooked self.now text.now }
+        ensures { MatchOption result (units text.now ≡ [])
+            (λ found. IsFirst text.now found.0.now found.1) }
+    {
+        if self.start < self.end {
+            Some((&text[self.start..self.end], self.looked))
+        } else {
+            None
+        }
+    }
+
+    /// The unit, as it was read.
+    pub(crate) fn lexed<'a>(&self, text: &'a [u8]) -> Result<Unit<'a>, Code>
+        requires { IsLooked self.now text.now }
+        ensures { (unit : List ℕ) → slice_get (units text.now) 0 ≡ Some unit
+            → IsLexed result unit }
+    {
+        self.partial.finish(&text[self.start..self.end])
+    }
+
+    /// Looks at what wasn't looked at, up to the semicolon behind the unit.
+    fn look(&mut self, text: &[u8])
+        requires { IsBegun self.old text.now }
+        ensures { IsLooked self.new text.now }
+    {
+        while self.looked < text.len() {
+            if self.closed {
+                return;
+            }
+            self.look_at(text);
+        }
+    }
+
+    /// Looks at one byte.
+    fn look_at(&mut self, text: &[u8])
+        requires begun { IsBegun self.old text.now }
+        requires within { self.old.looked < length text.now }
+        requires unclosed { self.old.closed ≡ false }
+        ensures begun { IsBegun self.new text.now }
+        ensures looked { self.new.looked ≡ self.old.looked + 1 }
+    {
+        let byte = text[self.looked];
+        if byte == b';' {
+            self.semicolon();
+        } else if is_space(byte) {
+            self.space();
+        } else {
+            self.partial.push_all(&text[self.end..self.looked + 1]);
+            self.looked += 1;
+            self.end = self.looked;
+        }
+    }
+
+    /// A semicolon ends the unit, or is stepped over where it hasn't begun.
+    fn semicolon(&mut self)
+        requires { self.old.looked < 2 ^ 64 - 1 }
+        ensures { self.new ≡ behind_semicolon self.old }
+    {
+        self.looked += 1;
+        if self.start < self.end {
+            self.closed = true;
+        } else {
+            self.start = self.looked;
+            self.end = self.looked;
+        }
+    }
+
+    /// White space is stepped over where the unit hasn't begun.
+    fn space(&mut self)
+        requires { self.old.looked < 2 ^ 64 - 1 }
+        ensures { self.new ≡ behind_space self.old }
+    {
+        self.looked += 1;
+        if self.start >= self.end {
+            self.start = self.looked;
+            self.end = self.looked;
+        }
+    }
+}

@@ -1,0 +1,158 @@
+-- Rows that stand at and below a node.
+use Rattle.std.proofs.Common.{◌≡◌, ℕ, zero, suc, ◌<◌, Bool, true, false, List, [], ◌∷◌, ◌++◌, length, map, Option, Some, None, refl, sym, ◌∙◌, subst, ◌⊎◌, inl, inr, slice_index_or, arith}
+use Rattle.std.specs.List.{Contains}
+use Rattle.sv_header.specs.declared.command.CommandId.{CommandId}
+use Rattle.sv_header.specs.declared.branch.Branch.{Branch}
+use Rattle.sv_header.specs.Pattern.{Part, Row, Fits, is_common, has_sign}
+use Rattle.sv_header.specs.Inside.Tree.{command_of, form_of, ending_row, ending_rows, below}
+use Rattle.sv_header.specs.Inside.Walk.{Takes, Ends}
+
+-- Mnemonics name a command by a row: it is the row's, and they fit it.
+abbrev pub Names : Bool → Bool → List (List ℕ) → CommandId → Row → Type 0
+Names common query left command row =
+    (row.command ≡ command) × (common ≡ is_common row.form) × (query ≡ has_sign row.form) × Fits left row.parts
+
+-- They name it by one of some rows.
+abbrev pub SomeNames : Bool → Bool → List (List ℕ) → CommandId → List Row → Type 0
+SomeNames common query left command [] = ⊥
+SomeNames common query left command (row ∷ rows) = Names common query left command row ⊎ SomeNames common query left command rows
+
+-- one of joined rows
+pub some-left : (c q : Bool) (left : List (List ℕ)) (command : CommandId) (rows more : List Row) → SomeNames c q left command rows
+    → SomeNames c q left command (rows ++ more)
+some-left c q left command [] more h = absurd h
+some-left c q left command (row ∷ rows) more (inl h) = inl h
+some-left c q left command (row ∷ rows) more (inr h) = inr (some-left c q left command rows more h)
+
+pub some-right : (c q : Bool) (left : List (List ℕ)) (command : CommandId) (rows more : List Row) → SomeNames c q left command more
+    → SomeNames c q left command (rows ++ more)
+some-right c q left command [] more h = h
+some-right c q left command (row ∷ rows) more h = inr (some-right c q left command rows more h)
+
+pub some-cases : (c q : Bool) (left : List (List ℕ)) (command : CommandId) (rows more : List Row)
+    → SomeNames c q left command (rows ++ more) → SomeNames c q left command rows ⊎ SomeNames c q left command more
+some-cases c q left command [] more h = inr h
+some-cases c q left command (row ∷ rows) more (inl h) = inl (inl h)
+some-cases c q left command (row ∷ rows) more (inr h) =
+    elim (some-cases c q left command rows more h) [ inl front ↦ inl (inr front) | inr behind ↦ inr behind ]
+
+-- between a row that the table has and one of some rows
+pub some-from_contains : (c q : Bool) (left : List (List ℕ)) (command : CommandId) (rows : List Row) (k : ℕ) (row : Row) → k < length rows
+    → slice_index_or rows k row ≡ row → Names c q left command row → SomeNames c q left command rows
+some-from_contains c q left command [] k row lt e h = absurd (omega arith)
+some-from_contains c q left command (first ∷ rows) zero row lt e h = inl (subst (λ r. Names c q left command r) (sym e) h)
+some-from_contains c q left command (first ∷ rows) (suc k) row lt e h =
+    inr (some-from_contains c q left command rows k row (omega arith) e h)
+
+pub contains-from_some : (c q : Bool) (left : List (List ℕ)) (command : CommandId) (rows : List Row) → SomeNames c q left command rows
+    → (row : Row) × Contains rows row × Names c q left command row
+contains-from_some c q left command [] h = absurd h
+contains-from_some c q left command (first ∷ rows) (inl h) = (first, (0, omega arith, refl), h)
+contains-from_some c q left command (first ∷ rows) (inr h) =
+    let found = contains-from_some c q left command rows h in
+    (found.0, (suc found.1.0, omega (arith, found.1.1), found.1.2), found.2)
+
+-- a node that takes the first mnemonic stands in front of what the others fit
+pub some-there : (c q : Bool) (left others : List (List ℕ)) (part : Part) (command : CommandId) (rows : List Row) → Takes left part others
+    → SomeNames c q others command rows → SomeNames c q left command (map (below part) rows)
+some-there c q [] others part command rows takes h = absurd takes
+some-there c q (first ∷ behind) others part command [] takes h = absurd h
+some-there c q (first ∷ behind) others part command (row ∷ rows) takes (inl h) =
+    inl (h.0, h.1, h.2, inl (takes.0, subst (λ rest. Fits rest row.parts) takes.1 h.3))
+some-there c q (first ∷ behind) others part command (row ∷ rows) takes (inr h) =
+    inr (some-there c q (first ∷ behind) others part command rows takes h)
+
+-- so does one that may be absent
+pub some-absent : (c q : Bool) (left : List (List ℕ)) (part : Part) (command : CommandId) (rows : List Row) → part.optional ≡ true
+    → SomeNames c q left command rows → SomeNames c q left command (map (below part) rows)
+some-absent c q left part command [] may h = absurd h
+some-absent c q left part command (row ∷ rows) may (inl h) = inl (h.0, h.1, h.2, inr (may, h.3))
+some-absent c q left part command (row ∷ rows) may (inr h) = inr (some-absent c q left part command rows may h)
+
+-- what fits a node and others: the node is there, or absent
+fits-cases : (left : List (List ℕ)) (part : Part) (parts : List Part) → Fits left (part ∷ parts)
+    → ((others : List (List ℕ)) × Takes left part others × Fits others parts) ⊎ ((part.optional ≡ true) × Fits left parts)
+fits-cases [] part parts (inl h) = absurd h
+fits-cases (first ∷ behind) part parts (inl h) = inl (behind, (h.0, refl), h.1)
+fits-cases left part parts (inr h) = inr h
+
+-- a row behind a node: the node is there, or absent
+pub some-below : (c q : Bool) (left : List (List ℕ)) (part : Part) (command : CommandId) (rows : List Row)
+    → SomeNames c q left command (map (below part) rows)
+    → ((others : List (List ℕ)) × Takes left part others × SomeNames c q others command rows)
+    ⊎ ((part.optional ≡ true) × SomeNames c q left command rows)
+some-below c q left part command [] h = absurd h
+some-below c q left part command (row ∷ rows) (inl h) =
+    elim (fits-cases left part row.parts h.3) [
+      | inl there ↦ inl (there.0, there.1, inl (h.0, h.1, h.2, there.2))
+      | inr absent ↦ inr (absent.0, inl (h.0, h.1, h.2, absent.1))
+    ]
+some-below c q left part command (row ∷ rows) (inr h) =
+    elim (some-below c q left part command rows h) [
+      | inl there ↦ inl (there.0, there.1, inr there.2)
+      | inr absent ↦ inr (absent.0, inr absent.1)
+    ]
+
+-- a form is that of what it is made for
+common-form : (c q : Bool) → is_common (form_of c q) ≡ c
+common-form true true = refl
+common-form true false = refl
+common-form false true = refl
+common-form false false = refl
+
+sign-form : (c q : Bool) → has_sign (form_of c q) ≡ q
+sign-form true true = refl
+sign-form true false = refl
+sign-form false true = refl
+sign-form false false = refl
+
+-- the row that ends at a node
+some-ending_row : (c q : Bool) (left : List (List ℕ)) (command : CommandId) (ending : Option CommandId) → Ends left ending command
+    → SomeNames c q left command (ending_row (form_of c q) ending)
+some-ending_row c q left command None h = let e : None ≡ Some command = h.1 in absurd cc
+some-ending_row c q left command (Some own) h =
+    let e : Some own ≡ Some command = h.1 in
+    let same : own ≡ command = cc in
+    inl (same, sym (common-form c q), sym (sign-form c q), h.0)
+
+ends-ending_row : (c q d s : Bool) (left : List (List ℕ)) (command : CommandId) (ending : Option CommandId)
+    → SomeNames c q left command (ending_row (form_of d s) ending) → (c ≡ d) × (q ≡ s) × Ends left ending command
+ends-ending_row c q d s left command None h = absurd h
+ends-ending_row c q d s left command (Some own) (inl h) =
+    let same : own ≡ command = h.0 in
+    let found : Some own ≡ Some command = cc in
+    (h.1 ∙ common-form d s, h.2 ∙ sign-form d s, (h.3, found))
+ends-ending_row c q d s left command (Some own) (inr h) = absurd h
+
+-- the rows that end at a node, and others
+pub some-ending_rows : (c q : Bool) (branch : Branch) (rows : List Row) (left : List (List ℕ)) (command : CommandId)
+    → Ends left (command_of q branch) command → SomeNames c q left command (ending_rows c branch ++ rows)
+some-ending_rows c false branch rows left command h =
+    some-left c false left command (ending_rows c branch) rows
+    (some-left c false left command (ending_row (form_of c false) branch.plain) (ending_row (form_of c true) branch.query)
+    (some-ending_row c false left command branch.plain h))
+some-ending_rows c true branch rows left command h =
+    some-left c true left command (ending_rows c branch) rows
+    (some-right c true left command (ending_row (form_of c false) branch.plain) (ending_row (form_of c true) branch.query)
+    (some-ending_row c true left command branch.query h))
+
+ends-ending_rows : (c q d : Bool) (branch : Branch) (left : List (List ℕ)) (command : CommandId)
+    → SomeNames c q left command (ending_rows d branch) → (c ≡ d) × Ends left (command_of q branch) command
+ends-ending_rows c q d branch left command h =
+    elim (some-cases c q left command (ending_row (form_of d false) branch.plain) (ending_row (form_of d true) branch.query) h) [
+      | inl plain ↦
+          let found = ends-ending_row c q d false left command branch.plain plain in
+          (found.0, subst (λ sign. Ends left (command_of sign branch) command) (sym found.1) found.2)
+      | inr query ↦
+          let found = ends-ending_row c q d true left command branch.query query in
+          (found.0, subst (λ sign. Ends left (command_of sign branch) command) (sym found.1) found.2)
+    ]
+
+pub ending_rows-cases : (c q d : Bool) (branch : Branch) (rows : List Row) (left : List (List ℕ)) (command : CommandId)
+    → SomeNames c q left command (ending_rows d branch ++ rows)
+    → ((c ≡ d) × Ends left (command_of q branch) command) ⊎ SomeNames c q left command rows
+ending_rows-cases c q d branch rows left command h =
+    elim (some-cases c q left command (ending_rows d branch) rows h) [
+      | inl ends ↦ inl (ends-ending_rows c q d branch left command ends)
+      | inr others ↦ inr others
+    ]

@@ -1,0 +1,3 @@
+-- What only the proofs inside need.
+pub mod Tree
+pub mod Walk

@@ -1,0 +1,67 @@
+-- The tree of nodes that the code keeps: each stands in front of those below it, and these in front of its next sibling.
+use Rattle.std.specs.Prelude.{◌≡◌, ℕ, zero, suc, ◌≤◌, Bool, true, false, length, List, [], ◌∷◌, ◌++◌, map, take, drop, Option, Some, None}
+use Rattle.sv_header.specs.declared.command.CommandId.{CommandId}
+use Rattle.sv_header.specs.declared.branch.Branch.{Branch}
+use Rattle.sv_header.specs.Pattern.{Part, Row, row, Form, CommonCommand, CommonQuery, Command, Query}
+use Rattle.sv_header.specs.Plain.{part}
+use Rattle.sv_header.specs.Table.{common_commands, system_commands, operation_commands, questionable_commands, setting_commands, measuring_commands}
+
+-- the command of the headers that end at a node, with the query sign or without it
+abbrev pub command_of : Bool → Branch → Option CommandId
+command_of false branch = branch.plain
+command_of true branch = branch.query
+
+-- The first of siblings, the nodes below it, and its siblings behind these.
+abbrev pub IsParted : List Branch → Branch → List Branch → List Branch → Type 0
+IsParted [] branch children siblings = ⊥
+IsParted (first ∷ behind) branch children siblings =
+    (branch ≡ first) × (children ≡ take first.below behind) × (siblings ≡ drop first.below behind)
+
+-- the form of common commands or of others, with the query sign or without it
+abbrev pub form_of : Bool → Bool → Form
+form_of true false = CommonCommand
+form_of true true = CommonQuery
+form_of false false = Command
+form_of false true = Query
+
+-- the row that ends at a node, where that has a command
+abbrev pub ending_row : Form → Option CommandId → List Row
+ending_row form None = []
+ending_row form (Some command) = row form [] command ∷ []
+
+abbrev pub ending_rows : Bool → Branch → List Row
+ending_rows common branch = ending_row (form_of common false) branch.plain ++ ending_row (form_of common true) branch.query
+
+-- a row with a node in front
+abbrev pub below : Part → Row → Row
+below part row = record row { parts = part ∷ row.parts }
+
+-- the rows that stand in siblings and the nodes below them
+abbrev pub rows_of : ℕ → Bool → List Branch → List Row
+rows_of zero common branches = []
+rows_of (suc fuel) common [] = []
+rows_of (suc fuel) common (branch ∷ behind) =
+    map (below (part branch.node)) (ending_rows common branch ++ rows_of fuel common (take branch.below behind))
+    ++ rows_of fuel common (drop branch.below behind)
+
+abbrev pub tree_rows : Bool → List Branch → List Row
+tree_rows common branches = rows_of (length branches) common branches
+
+-- the table but for common commands
+abbrev pub other_commands : List Row
+other_commands = system_commands ++ (operation_commands ++ (questionable_commands ++ (setting_commands ++ measuring_commands)))
+
+-- the rows of common commands, or the others
+abbrev pub rows_with : Bool → List Row
+rows_with true = common_commands
+rows_with false = other_commands
+
+-- how many nodes are of common commands; they stand in front
+abbrev pub common_nodes : ℕ
+common_nodes = 11
+
+-- The rows of the table stand in the nodes, those of common commands in the first of them.
+pub record IsTree (branches : List Branch) : Type 0 where
+  pub size : common_nodes ≤ length branches
+  pub common : tree_rows true (take common_nodes branches) ≡ rows_with true
+  pub others : tree_rows false (drop common_nodes branches) ≡ rows_with false

@@ -1,0 +1,54 @@
+-- Where mnemonics lead in the tree.
+use Rattle.std.specs.Prelude.{◌≡◌, ◌⊎◌, ℕ, zero, suc, Bool, true, false, List, [], ◌∷◌, take, drop, Option, Some, None}
+use Rattle.sv_header.specs.declared.command.CommandId.{CommandId}
+use Rattle.sv_header.specs.declared.left.Mnemonics.{Mnemonics}
+use Rattle.sv_header.specs.declared.branch.Branch.{Branch}
+use Rattle.sv_header.specs.Pattern.{Part, IsForm}
+use Rattle.sv_header.specs.Plain.{part, left_of}
+use Rattle.sv_header.specs.Inside.Tree.{command_of}
+
+-- The first mnemonic is a node's, and these are the others.
+abbrev pub Takes : List (List ℕ) → Part → List (List ℕ) → Type 0
+Takes [] part others = ⊥
+Takes (first ∷ behind) part others = IsForm first part × (others ≡ behind)
+
+-- None is left, and this is the command.
+abbrev pub Ends : List (List ℕ) → Option CommandId → CommandId → Type 0
+Ends left ending command = (left ≡ []) × (ending ≡ Some command)
+
+-- What is left behind a node leads to its own command, or to one below it.
+abbrev pub LeadsBelow : Bool → Branch → (List (List ℕ) → Type 0) → List (List ℕ) → CommandId → Type 0
+LeadsBelow query branch Below left command = Ends left (command_of query branch) command ⊎ Below left
+
+-- A node is there, or absent where it may be, and what is left behind it is so.
+abbrev pub Passes : Part → (List (List ℕ) → Type 0) → List (List ℕ) → Type 0
+Passes part Behind left = ((others : List (List ℕ)) × Takes left part others × Behind others) ⊎ ((part.optional ≡ true) × Behind left)
+
+-- Mnemonics lead to a command through the first of siblings, or through those behind it.
+abbrev pub Leads : ℕ → Bool → List Branch → List (List ℕ) → CommandId → Type 0
+Leads zero query branches left command = ⊥
+Leads (suc fuel) query [] left command = ⊥
+Leads (suc fuel) query (branch ∷ behind) left command =
+    Passes (part branch.node)
+    (λ others. LeadsBelow query branch (λ rest. Leads fuel query (take branch.below behind) rest command) others command) left
+    ⊎ Leads fuel query (drop branch.below behind) left command
+
+-- What the code found: a command that is so, or none, and then none is so.
+abbrev pub IsFound : Option CommandId → (CommandId → Type 0) → Type 0
+IsFound None P = (command : CommandId) → P command → ⊥
+IsFound (Some command) P = P command
+
+-- Something is left, and it is so.
+abbrev pub OnLeft : Option Mnemonics → (List (List ℕ) → Type 0) → Type 0
+OnLeft None P = ⊥
+OnLeft (Some left) P = P (left_of left)
+
+-- What is left behind the first mnemonic where that is a node's; else nothing is.
+abbrev pub IsBehind : List (List ℕ) → Part → Option Mnemonics → Type 0
+IsBehind left part None = (others : List (List ℕ)) → Takes left part others → ⊥
+IsBehind left part (Some others) = Takes left part (left_of others)
+
+-- All that is left where a node may be absent; else nothing is.
+abbrev pub IsAllOf : List (List ℕ) → Part → Option Mnemonics → Type 0
+IsAllOf left part None = part.optional ≡ false
+IsAllOf left part (Some others) = (part.optional ≡ true) × (left_of others ≡ left)

@@ -1,0 +1,56 @@
+//! Nodes at their places in the tree of headers.
+
+ghost use Rattle.std.specs.Prelude.{◌≡◌, [], MatchOption};
+ghost use Rattle.sv_header.specs.Plain.{left_of};
+ghost use Rattle.sv_header.specs.Inside.Tree.{command_of, IsParted};
+ghost use Rattle.sv_header.specs.Inside.Walk.{Ends, IsFound};
+
+use crate::command::CommandId;
+use crate::left::Mnemonics;
+use crate::pattern::Node;
+
+/// A node at its place. The nodes below it stand right behind it, and behind these its next
+/// sibling.
+#[derive(Clone, Copy, Debug)]
+pub(crate) struct Branch {
+    /// The mnemonic.
+    pub(crate) node: Node,
+    /// How many nodes stand below it.
+    pub(crate) below: usize,
+    /// The command of the headers that end here without the query sign.
+    pub(crate) plain: Option<CommandId>,
+    /// The command of those that end here with it.
+    pub(crate) query: Option<CommandId>,
+}
+
+impl Branch {
+    /// The command of a header that ends here.
+    fn command(&self, query: bool) -> Option<CommandId>
+        ensures { result ≡ command_of query self.now }
+    {
+        if query { self.query } else { self.plain }
+    }
+
+    /// The same, where no mnemonic is left.
+    pub(crate) fn ending(&self, left: &Mnemonics<'_>, query: bool) -> Option<CommandId>
+        ensures { IsFound result
+            (λ command. Ends (left_of left.now) (command_of query self.now) command) }
+    {
+        match left.first {
+            None => self.command(query),
+            Some(_) => None,
+        }
+    }
+}
+
+/// The first of siblings, the nodes below it, and its siblings behind these.
+pub(crate) fn parted(branches: &[Branch]) -> Option<(&Branch, &[Branch], &[Branch])>
+    ensures { MatchOption result (branches.now ≡ [])
+        (λ parts. IsParted branches.now parts.0.now parts.1.now parts.2.now) }
+{
+    let [branch, behind @ ..] = branches else {
+        return None;
+    };
+    let (children, siblings) = behind.split_at(branch.below.min(behind.len()));
+    Some((branch, children, siblings))
+}

@@ -1,0 +1,65 @@
+-- Steps that are due, one after the other: each adds acts to the log, and at the end none is due.
+use Rattle.std.proofs.Common.{◌≡◌, ℕ, zero, suc, List, [], ◌∷◌, ◌++◌, Some, None, sym, ap, subst, ◌∙◌, inl, inr, append_assoc}
+use Rattle.std.specs.Prelude.{map}
+use Rattle.sv_history.specs.declared.event.Config.{Config}
+use Rattle.sv_history.specs.Event.{PlainEvent}
+use Rattle.sv_history.specs.Act.{Act, OnDevice, Happened}
+use Rattle.sv_history.specs.Settling.{IsNext, IsSettled, SettlesIn}
+use Rattle.sv_history.specs.History.{IsLogOf}
+
+-- ---- each adds acts
+
+abbrev pub Extends : List Act → List Act → Type 0
+Extends log new = (adds : List Act) × (new ≡ adds ++ log)
+
+pub next_extends : (config : Config) (log new : List Act) → IsNext config log new → Extends log new
+next_extends config log new (inl fires) = (map OnDevice (map Happened fires.0), fires.2)
+next_extends config log new (inr (none, inl resumes)) = (_, resumes.6)
+next_extends config log new (inr (none, inr (still, inl step))) = (map OnDevice (map Happened step.0), step.2)
+next_extends config log new (inr (none, inr (still, inr (idle, times)))) = (_, times.4)
+
+pub extends_then : (log mid new : List Act) → Extends log mid → Extends mid new → Extends log new
+extends_then log mid new one other =
+    (other.0 ++ one.0, other.1 ∙ ap (λ (l : List Act). other.0 ++ l) one.1 ∙ sym (append_assoc other.0 one.0 log))
+
+pub settles_extends : (n : ℕ) (config : Config) (log new : List Act) → SettlesIn n config log new → Extends log new
+settles_extends zero config log new (none, same) = ([], same)
+settles_extends (suc n) config log new (middle, next, more) =
+    extends_then log middle new (next_extends config log middle next) (settles_extends n config middle new more)
+
+-- ---- at the end none is due
+
+nothing_due : (n : ℕ) (config : Config) (log new : List Act) → SettlesIn n config log new → IsSettled config new
+nothing_due zero config log new (none, same) = subst (λ (end : List Act). IsSettled config end) (sym same) none
+nothing_due (suc n) config log new (middle, next, more) = nothing_due n config middle new more
+
+none_due : (config : Config) → IsSettled config []
+none_due config new (inl fires) = absurd (let none = fires.1.0 in cc)
+none_due config new (inr (none, inl goes)) = absurd (let z : None ≡ Some goes.1 = goes.4 in cc)
+none_due config new (inr (none, inr (still, inl step))) = step.1
+none_due config new (inr (none, inr (still, inr (idle, gives)))) = absurd (let z : None ≡ Some gives.1 = gives.3 in cc)
+
+pub log_settled : (config : Config) (history : List PlainEvent) (log : List Act) → IsLogOf config history log → IsSettled config log
+log_settled config [] log (given, none) = subst (λ (end : List Act). IsSettled config end) (sym none) (none_due config)
+log_settled config (event ∷ history) log (before, polled, told, is_event, was, hears, free, said, settles) =
+    nothing_due settles.0 config _ log settles.1
+
+-- so from there nothing is reached
+pub stays : (n : ℕ) (config : Config) (log new : List Act) → IsSettled config log → SettlesIn n config log new → new ≡ log
+stays zero config log new none (still, same) = same
+stays (suc n) config log new none (middle, next, more) = absurd (none middle next)
+
+-- ---- some steps, and then others
+
+-- What settles the second log settles the first.
+abbrev pub Reaches : Config → List Act → List Act → Type 0
+Reaches config log mid = (n : ℕ) (new : List Act) → SettlesIn n config mid new → (m : ℕ) × SettlesIn m config log new
+
+pub reaches_none : (config : Config) (log : List Act) → Reaches config log log
+reaches_none config log = λ n new s. (n, s)
+
+pub reaches_next : (config : Config) (log mid : List Act) → IsNext config log mid → Reaches config log mid
+reaches_next config log mid next = λ n new s. (suc n, (mid, next, s))
+
+pub reaches_then : (config : Config) (log mid last : List Act) → Reaches config log mid → Reaches config mid last → Reaches config log last
+reaches_then config log mid last one other = λ n new s. let there = other n new s in one there.0 new there.1

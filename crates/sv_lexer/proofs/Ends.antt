@@ -1,0 +1,149 @@
+-- White space at the end of text, seen from its front.
+use Rattle.std.proofs.Common.{◌≡◌, ℕ, suc, ◌+◌, Bool, true, false, not, ◌&&◌, cond, List, [], ◌∷◌, ◌++◌, take, drop, refl, sym, ap, ◌∙◌, arith}
+use Rattle.std.specs.Prelude.{reverse}
+use Rattle.std.specs.List.{list_all, position_or_len}
+use Rattle.std.proofs.lemmas.Bool.{and_parts}
+use Rattle.std.proofs.lemmas.List.{reverse-append}
+use Rattle.sv_text.specs.Front.{is_empty}
+use Rattle.sv_text.specs.White.{is_white, trim_start, trim_end, trim}
+use Rattle.sv_lexer.specs.Unit.{white_size, header_size, header}
+
+-- with a byte behind others there is something
+pub some_push : (xs : List ℕ) (b : ℕ) → is_empty (xs ++ b ∷ []) ≡ false
+some_push [] b = refl
+some_push (x ∷ xs) b = refl
+
+none_of : (t : Bool) (xs : List ℕ) → cond (t && false) [] xs ≡ xs
+none_of true xs = refl
+none_of false xs = refl
+
+-- white space in front, with a byte behind
+start_push : (xs : List ℕ) (b : ℕ)
+    → trim_start (xs ++ b ∷ []) ≡ cond (is_empty (trim_start xs)) (trim_start (b ∷ [])) (trim_start xs ++ b ∷ [])
+start_push [] b = refl
+start_push (x ∷ xs) b = at (is_white x) (start_push xs b)
+  where
+    at : (t : Bool) → trim_start (xs ++ b ∷ []) ≡ cond (is_empty (trim_start xs)) (trim_start (b ∷ [])) (trim_start xs ++ b ∷ [])
+        → cond t (trim_start (xs ++ b ∷ [])) (x ∷ (xs ++ b ∷ []))
+        ≡ cond (is_empty (cond t (trim_start xs) (x ∷ xs))) (trim_start (b ∷ [])) (cond t (trim_start xs) (x ∷ xs) ++ b ∷ [])
+    at true h = h
+    at false h = refl
+
+reversed : (b : ℕ) (t : Bool) (xs : List ℕ)
+    → reverse (cond (is_empty xs) (cond t [] (b ∷ [])) (xs ++ b ∷ [])) ≡ cond (t && is_empty (reverse xs)) [] (b ∷ reverse xs)
+reversed b true [] = refl
+reversed b false [] = refl
+reversed b true (x ∷ xs) =
+    let some : is_empty (reverse (x ∷ xs)) ≡ false = ap is_empty (reverse-append (x ∷ []) xs) ∙ some_push (reverse xs) x in
+    reverse-append (x ∷ xs) (b ∷ []) ∙ sym (ap (λ (e : Bool). cond e [] (b ∷ reverse (x ∷ xs))) some)
+reversed b false (x ∷ xs) = reverse-append (x ∷ xs) (b ∷ [])
+
+-- white space at the end, with a byte in front
+pub end_cons : (b : ℕ) (xs : List ℕ) → trim_end (b ∷ xs) ≡ cond (is_white b && is_empty (trim_end xs)) [] (b ∷ trim_end xs)
+end_cons b xs =
+    ap (λ (l : List ℕ). reverse (trim_start l)) (reverse-append (b ∷ []) xs) ∙ ap reverse (start_push (reverse xs) b)
+    ∙ reversed b (is_white b) (trim_start (reverse xs))
+
+-- white space alone
+pub end_white : (xs : List ℕ) → list_all is_white xs ≡ true → trim_end xs ≡ []
+end_white [] e = refl
+end_white (b ∷ xs) e =
+    let parts = and_parts (is_white b) (list_all is_white xs) e in
+    end_cons b xs ∙ ap (λ (t : Bool). cond (t && is_empty (trim_end xs)) [] (b ∷ trim_end xs)) parts.0
+    ∙ ap (λ (l : List ℕ). cond (is_empty l) [] (b ∷ l)) (end_white xs parts.1)
+
+-- white space behind text
+pub end_over : (xs tail : List ℕ) → list_all is_white tail ≡ true → trim_end (xs ++ tail) ≡ trim_end xs
+end_over [] tail e = end_white tail e
+end_over (b ∷ xs) tail e =
+    end_cons b (xs ++ tail) ∙ ap (λ (l : List ℕ). cond (is_white b && is_empty l) [] (b ∷ l)) (end_over xs tail e) ∙ sym (end_cons b xs)
+
+-- another byte behind text
+pub end_push : (xs : List ℕ) (b : ℕ) → is_white b ≡ false → trim_end (xs ++ b ∷ []) ≡ xs ++ b ∷ []
+end_push [] b e = end_cons b [] ∙ ap (λ (t : Bool). cond (t && is_empty (trim_end [])) [] (b ∷ trim_end [])) e
+end_push (x ∷ xs) b e =
+    end_cons x (xs ++ b ∷ []) ∙ ap (λ (l : List ℕ). cond (is_white x && is_empty l) [] (x ∷ l)) (end_push xs b e)
+    ∙ ap (λ (t : Bool). cond (is_white x && t) [] (x ∷ (xs ++ b ∷ []))) (some_push xs b) ∙ none_of (is_white x) (x ∷ (xs ++ b ∷ []))
+
+-- text that isn't white space alone
+end_some : (xs : List ℕ) → list_all is_white xs ≡ false → is_empty (trim_end xs) ≡ false
+end_some [] e = let f : true ≡ false = e in absurd cc
+end_some (b ∷ xs) e = ap is_empty (end_cons b xs) ∙ at (is_white b) e (end_some xs)
+  where
+    at : (t : Bool) → (t && list_all is_white xs) ≡ false → (list_all is_white xs ≡ false → is_empty (trim_end xs) ≡ false)
+        → is_empty (cond (t && is_empty (trim_end xs)) [] (b ∷ trim_end xs)) ≡ false
+    at true e h = ap (λ (s : Bool). is_empty (cond s [] (b ∷ trim_end xs))) (h e)
+    at false e h = refl
+
+-- has as much of it in front without that at its end
+pub white_kept : (xs : List ℕ) → list_all is_white xs ≡ false → white_size (trim_end xs) ≡ white_size xs
+white_kept [] e = refl
+white_kept (b ∷ xs) e = ap white_size (end_cons b xs) ∙ at (is_white b) refl e (white_kept xs)
+  where
+    at : (t : Bool) → is_white b ≡ t → (t && list_all is_white xs) ≡ false
+        → (list_all is_white xs ≡ false → white_size (trim_end xs) ≡ white_size xs)
+        → white_size (cond (t && is_empty (trim_end xs)) [] (b ∷ trim_end xs)) ≡ cond t (1 + white_size xs) 0
+    at true w e h =
+        ap (λ (s : Bool). white_size (cond s [] (b ∷ trim_end xs))) (end_some xs e)
+        ∙ ap (λ (t : Bool). cond t (1 + white_size (trim_end xs)) 0) w ∙ ap (λ (n : ℕ). 1 + n) (h e)
+    at false w e h = ap (λ (t : Bool). cond t (1 + white_size (trim_end xs)) 0) w
+
+-- the bytes up to the first white space, and those from it on
+abbrev pub run : List ℕ → List ℕ
+run [] = []
+run (b ∷ xs) = cond (is_white b) [] (b ∷ run xs)
+
+abbrev pub behind_run : List ℕ → List ℕ
+behind_run [] = []
+behind_run (b ∷ xs) = cond (is_white b) (b ∷ xs) (behind_run xs)
+
+run_taken : (xs : List ℕ) → take (position_or_len is_white xs) xs ≡ run xs
+run_taken [] = refl
+run_taken (b ∷ xs) = at (is_white b) (run_taken xs)
+  where
+    at : (t : Bool) → take (position_or_len is_white xs) xs ≡ run xs
+        → take (cond (not t) (1 + position_or_len is_white xs) 0) (b ∷ xs) ≡ cond t [] (b ∷ run xs)
+    at true h = refl
+    at false h =
+        let n : 1 + position_or_len is_white xs ≡ suc (position_or_len is_white xs) = omega arith in rw n (ap (λ (l : List ℕ). b ∷ l) h)
+
+run_dropped : (xs : List ℕ) → drop (position_or_len is_white xs) xs ≡ behind_run xs
+run_dropped [] = refl
+run_dropped (b ∷ xs) = at (is_white b) (run_dropped xs)
+  where
+    at : (t : Bool) → drop (position_or_len is_white xs) xs ≡ behind_run xs
+        → drop (cond (not t) (1 + position_or_len is_white xs) 0) (b ∷ xs) ≡ cond t (b ∷ xs) (behind_run xs)
+    at true h = refl
+    at false h = let n : 1 + position_or_len is_white xs ≡ suc (position_or_len is_white xs) = omega arith in rw n h
+
+run_trimmed : (xs : List ℕ) → run (trim_end xs) ≡ run xs
+run_trimmed [] = refl
+run_trimmed (b ∷ xs) = ap run (end_cons b xs) ∙ at (is_white b) refl (trim_end xs) (run_trimmed xs)
+  where
+    at : (t : Bool) → is_white b ≡ t → (l : List ℕ) → run l ≡ run xs → run (cond (t && is_empty l) [] (b ∷ l)) ≡ cond t [] (b ∷ run xs)
+    at true w [] h = refl
+    at true w (x ∷ l) h = ap (λ (t : Bool). cond t [] (b ∷ run (x ∷ l))) w
+    at false w l h = ap (λ (t : Bool). cond t [] (b ∷ run l)) w ∙ ap (λ (r : List ℕ). b ∷ r) h
+
+begins_white : (t : Bool) (b : ℕ) (l : List ℕ) → is_white b ≡ true → behind_run (cond t [] (b ∷ l)) ≡ cond t [] (b ∷ l)
+begins_white true b l w = refl
+begins_white false b l w = ap (λ (t : Bool). cond t (b ∷ l) (behind_run l)) w
+
+behind_trimmed : (xs : List ℕ) → behind_run (trim_end xs) ≡ trim_end (behind_run xs)
+behind_trimmed [] = refl
+behind_trimmed (b ∷ xs) = at (is_white b) refl (behind_trimmed xs)
+  where
+    at : (t : Bool) → is_white b ≡ t → behind_run (trim_end xs) ≡ trim_end (behind_run xs)
+        → behind_run (trim_end (b ∷ xs)) ≡ trim_end (cond t (b ∷ xs) (behind_run xs))
+    at true w h =
+        ap behind_run (end_cons b xs) ∙ begins_white (is_white b && is_empty (trim_end xs)) b (trim_end xs) w ∙ sym (end_cons b xs)
+    at false w h =
+        ap behind_run (end_cons b xs) ∙ ap (λ (t : Bool). behind_run (cond (t && is_empty (trim_end xs)) [] (b ∷ trim_end xs))) w
+        ∙ ap (λ (t : Bool). cond t (b ∷ trim_end xs) (behind_run (trim_end xs))) w ∙ h
+
+-- the header, and what stands behind it
+pub header_is : (unit : List ℕ) → header unit ≡ run (trim_start unit)
+header_is unit = run_taken (trim unit) ∙ run_trimmed (trim_start unit)
+
+pub behind_is : (unit : List ℕ) → drop (header_size unit) (trim unit) ≡ trim_end (behind_run (trim_start unit))
+behind_is unit = run_dropped (trim unit) ∙ behind_trimmed (trim_start unit)

@@ -1,0 +1,207 @@
+//! A unit whose bytes come one by one.
+
+ghost use Rattle.std.specs.Prelude.{◌≡◌, ◌≤◌, ℕ, List, [], ◌∷◌, ◌++◌, None, Some, MatchResult, length};
+ghost use Rattle.sv_lexer.specs.Unit.{unit_fault};
+ghost use Rattle.sv_lexer.specs.Partial.{Reads, IsCut, data_of, fault_of, length_fault_of, moved};
+
+use crate::parts::Unit;
+use crate::stage::{Stage, next};
+use crate::token::token_at;
+use std::marker::Model;
+use sv_errors::Code;
+
+/// The most characters of a mnemonic.
+const MOST: usize = 12;
+
+/// A unit whose bytes come one by one (IEEE 488.2, 7.3). It keeps none of them, only how far it was
+/// read: what it ends in, and where its header and its program data stand.
+#[derive(Debug, Drop)]
+pub struct Partial {
+    /// What it ends in.
+    stage: Stage,
+    /// How many bytes it has.
+    size: usize,
+    /// Where its header begins, and where it ends.
+    header_start: usize,
+    header_end: usize,
+    /// How many characters the last mnemonic has.
+    mnemonic: usize,
+    /// How many the longest one in front of that has.
+    longest: usize,
+    /// Where its program data begin, and where they end without white space behind them.
+    data_start: usize,
+    data_end: usize,
+}
+
+impl Model for Partial {
+    ghost use Rattle.sv_lexer.specs.Partial.{Progress};
+
+    ghost Value = { Progress };
+
+    ghost view = { λ p. record {
+      stage = p.stage;
+      size = p.size;
+      header_start = p.header_start;
+      header_end = p.header_end;
+      mnemonic = p.mnemonic;
+      longest = p.longest;
+      data_start = p.data_start;
+      data_end = p.data_end;
+    } };
+}
+
+impl Partial {
+    /// A unit of which no byte came.
+    pub fn new() -> Partial
+        ensures { Reads result [] }
+    {
+        Partial {
+            stage: Stage::WhiteSpace,
+            size: 0,
+            header_start: 0,
+            header_end: 0,
+            mnemonic: 0,
+            longest: 0,
+            data_start: 0,
+            data_end: 0,
+        }
+    }
+
+    /// The next byte comes.
+    pub fn push(&mut self, byte: u8)
+        ensures { (bytes : List ℕ) → Reads self.old bytes → Reads self.new (bytes ++ byte ∷ []) }
+    {
+        let stage = next(self.stage, byte);
+        self.move_to(stage);
+    }
+
+    /// The next bytes come.
+    pub fn push_all(&mut self, bytes: &[u8])
+        ensures { (before : List ℕ) → Reads self.old before
+            → Reads self.new (before ++ bytes.now) }
+    {
+        for byte in bytes {
+            self.push(*byte);
+        }
+    }
+
+    /// The unit, whose bytes are those that came.
+    ///
+    /// # Errors
+    /// Those of [`unit`](crate::unit), by the same rules.
+    pub fn finish<'a>(&self, text: &'a [u8]) -> Result<Unit<'a>, Code>
+        requires { Reads self.now text.now }
+        ensures { MatchResult result (λ unit. (unit ≡ text.now) × (unit_fault text.now ≡ None))
+            (λ code. unit_fault text.now ≡ Some code) }
+    {
+        match self.fault() {
+            Some(code) => Err(code),
+            None => {
+                let (start, end) = self.data();
+                Ok(cut(text, self.header_start, self.header_end, start, end))
+            }
+        }
+    }
+
+    /// It ends in this, with one byte more.
+    fn move_to(&mut self, stage: Stage)
+        ensures { self.new ≡ moved stage self.old }
+    {
+        self.stage = stage;
+        self.size = self.size.saturating_add(1);
+        match stage {
+            Stage::WhiteSpace => self.header_start = self.size,
+            Stage::Asterisk => self.header_end = self.size,
+            Stage::Colon => {
+                self.header_end = self.size;
+                self.longest = self.longest.max(self.mnemonic);
+                self.mnemonic = 0;
+            }
+            Stage::CommonMnemonic => {
+                self.header_end = self.size;
+                self.mnemonic = self.mnemonic.saturating_add(1);
+            }
+            Stage::Mnemonic => {
+                self.header_end = self.size;
+                self.mnemonic = self.mnemonic.saturating_add(1);
+            }
+            Stage::QuerySign => self.header_end = self.size,
+            Stage::HeaderSeparator => self.data_start = self.size,
+            Stage::ProgramData => self.data_end = self.size,
+            Stage::DataSpace => {}
+            Stage::Misspelled => {}
+            Stage::Illegal => {}
+        }
+    }
+
+    /// What is wrong with it if it ends here.
+    fn fault(&self) -> Option<Code>
+        ensures { result ≡ fault_of self.now.stage self.now }
+    {
+        match self.stage {
+            Stage::WhiteSpace => Some(Code::SyntaxError),
+            Stage::Asterisk => Some(Code::SyntaxError),
+            Stage::Colon => Some(Code::SyntaxError),
+            Stage::CommonMnemonic => self.length_fault(),
+            Stage::Mnemonic => self.length_fault(),
+            Stage::QuerySign => self.length_fault(),
+            Stage::HeaderSeparator => self.length_fault(),
+            Stage::ProgramData => self.length_fault(),
+            Stage::DataSpace => self.length_fault(),
+            Stage::Misspelled => Some(Code::SyntaxError),
+            Stage::Illegal => Some(Code::InvalidCharacter),
+        }
+    }
+
+    /// Whether one of its mnemonics is too long.
+    fn length_fault(&self) -> Option<Code>
+        ensures { result ≡ length_fault_of self.now }
+    {
+        if self.longest.max(self.mnemonic) <= MOST {
+            None
+        } else {
+            Some(Code::ProgramMnemonicTooLong)
+        }
+    }
+
+    /// Where its program data stand if it ends here; behind the header where there are none.
+    fn data(&self) -> (usize, usize)
+        ensures start { result.0 ≡ data_of self.now.stage self.now.header_end self.now.data_start }
+        ensures end { result.1 ≡ data_of self.now.stage self.now.header_end self.now.data_end }
+    {
+        match self.stage {
+            Stage::WhiteSpace => (self.header_end, self.header_end),
+            Stage::Asterisk => (self.header_end, self.header_end),
+            Stage::Colon => (self.header_end, self.header_end),
+            Stage::CommonMnemonic => (self.header_end, self.header_end),
+            Stage::Mnemonic => (self.header_end, self.header_end),
+            Stage::QuerySign => (self.header_end, self.header_end),
+            Stage::HeaderSeparator => (self.header_end, self.header_end),
+            Stage::ProgramData => (self.data_start, self.data_end),
+            Stage::DataSpace => (self.data_start, self.data_end),
+            Stage::Misspelled => (self.header_end, self.header_end),
+            Stage::Illegal => (self.header_end, self.header_end),
+        }
+    }
+}
+
+/// The unit whose header and whose program data stand at these places of a text.
+fn cut(
+    text: &[u8],
+    header_start: usize,
+    header_end: usize,
+    data_start: usize,
+    data_end: usize,
+) -> Unit<'_>
+    requires parts { IsCut text.now header_start header_end data_start data_end }
+    requires header { (header_start ≤ header_end) × (header_end ≤ length text.now) }
+    requires data { (data_start ≤ data_end) × (data_end ≤ length text.now) }
+    ensures { result ≡ text.now }
+{
+    Unit {
+        bytes: text,
+        header: token_at(&text[header_start..header_end], header_start),
+        rest: &text[data_start..data_end],
+        place: data_start,
+    }
+}

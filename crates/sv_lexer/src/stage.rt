@@ -1,0 +1,144 @@
+//! What a unit ends in, while its bytes come one by one.
+
+ghost use Rattle.std.specs.Prelude.{◌≡◌};
+ghost use Rattle.sv_lexer.specs.Spelled.{is_word_byte as is_word};
+ghost use Rattle.sv_lexer.specs.Stage.{behind_graphic as graphic, behind_space as space, begun, next as next_of};
+
+use sv_text::is_space;
+
+/// What a unit ends in (IEEE 488.2, 7.3 and 7.6).
+#[derive(Clone, Copy, Debug)]
+pub(crate) enum Stage {
+    /// Nothing, or white space in front of the program header.
+    WhiteSpace,
+    /// The asterisk of a common command program header.
+    Asterisk,
+    /// A colon of the header.
+    Colon,
+    /// The program mnemonic of a common command.
+    CommonMnemonic,
+    /// A program mnemonic of another header.
+    Mnemonic,
+    /// The query sign at the end of the header.
+    QuerySign,
+    /// White space behind the header: the program header separator.
+    HeaderSeparator,
+    /// Program data.
+    ProgramData,
+    /// White space behind program data.
+    DataSpace,
+    /// A header that isn't spelled as one, and what stands behind it.
+    Misspelled,
+    /// A byte that no unit has, and what stands behind it.
+    Illegal,
+}
+
+/// What a unit ends in with one byte more.
+pub(crate) fn next(stage: Stage, byte: u8) -> Stage
+    ensures { result ≡ next_of stage byte }
+{
+    if is_space(byte) {
+        behind_space(stage)
+    } else if byte.is_ascii_graphic() {
+        behind_graphic(stage, byte)
+    } else {
+        Stage::Illegal
+    }
+}
+
+/// With white space more.
+fn behind_space(stage: Stage) -> Stage
+    ensures { result ≡ space stage }
+{
+    match stage {
+        Stage::WhiteSpace => Stage::WhiteSpace,
+        Stage::Asterisk => Stage::Misspelled,
+        Stage::Colon => Stage::Misspelled,
+        Stage::CommonMnemonic => Stage::HeaderSeparator,
+        Stage::Mnemonic => Stage::HeaderSeparator,
+        Stage::QuerySign => Stage::HeaderSeparator,
+        Stage::HeaderSeparator => Stage::HeaderSeparator,
+        Stage::ProgramData => Stage::DataSpace,
+        Stage::DataSpace => Stage::DataSpace,
+        Stage::Misspelled => Stage::Misspelled,
+        Stage::Illegal => Stage::Illegal,
+    }
+}
+
+/// With a graphic character more.
+fn behind_graphic(stage: Stage, byte: u8) -> Stage
+    ensures { result ≡ graphic stage byte }
+{
+    match stage {
+        Stage::WhiteSpace => header_begun(byte),
+        Stage::Asterisk => mnemonic_begun(Stage::CommonMnemonic, byte),
+        Stage::Colon => mnemonic_begun(Stage::Mnemonic, byte),
+        Stage::CommonMnemonic => behind_common(byte),
+        Stage::Mnemonic => behind_mnemonic(byte),
+        Stage::QuerySign => Stage::Misspelled,
+        Stage::HeaderSeparator => Stage::ProgramData,
+        Stage::ProgramData => Stage::ProgramData,
+        Stage::DataSpace => Stage::ProgramData,
+        Stage::Misspelled => Stage::Misspelled,
+        Stage::Illegal => Stage::Illegal,
+    }
+}
+
+/// What begins a header.
+fn header_begun(byte: u8) -> Stage
+    ensures { result ≡ graphic Stage.WhiteSpace byte }
+{
+    if byte == b'*' {
+        Stage::Asterisk
+    } else if byte == b':' {
+        Stage::Colon
+    } else {
+        mnemonic_begun(Stage::Mnemonic, byte)
+    }
+}
+
+/// A letter begins a mnemonic, which the unit ends in then (IEEE 488.2, 7.6.1.4).
+fn mnemonic_begun(mnemonic: Stage, byte: u8) -> Stage
+    ensures { result ≡ begun mnemonic byte }
+{
+    if byte.is_ascii_alphabetic() {
+        mnemonic
+    } else {
+        Stage::Misspelled
+    }
+}
+
+/// What goes on behind the mnemonic of a common command.
+fn behind_common(byte: u8) -> Stage
+    ensures { result ≡ graphic Stage.CommonMnemonic byte }
+{
+    if is_word_byte(byte) {
+        Stage::CommonMnemonic
+    } else if byte == b'?' {
+        Stage::QuerySign
+    } else {
+        Stage::Misspelled
+    }
+}
+
+/// What goes on behind another mnemonic.
+fn behind_mnemonic(byte: u8) -> Stage
+    ensures { result ≡ graphic Stage.Mnemonic byte }
+{
+    if is_word_byte(byte) {
+        Stage::Mnemonic
+    } else if byte == b'?' {
+        Stage::QuerySign
+    } else if byte == b':' {
+        Stage::Colon
+    } else {
+        Stage::Misspelled
+    }
+}
+
+/// Whether a byte is a letter, a digit or an underscore.
+fn is_word_byte(byte: u8) -> bool
+    ensures { result ≡ is_word byte }
+{
+    byte.is_ascii_alphanumeric() | (byte == b'_')
+}

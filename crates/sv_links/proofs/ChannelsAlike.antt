@@ -1,0 +1,241 @@
+-- All that the calls on the interrupt channel of a connection rest on: over an act of others, and over the same act.
+use Rattle.std.proofs.Common.{◌≡◌, ◌≢◌, ℕ, ◌+◌, ◌<◌, ◌≤◌, suc, zero, Bool, eqb, ltb, List, [], ◌∷◌, ◌++◌, Option, Some, None, refl, sym, ap, ◌∙◌, inl, inr, arith}
+use Rattle.std.specs.Prelude.{filter, not}
+use Rattle.std.specs.List.{AllByRecursion, cons_option}
+use Rattle.std.proofs.lemmas.Bool.{cases_Bool, eqb-true, ne_eqb, lt-ltb, le-ltb, ltb-false, ltb-true}
+use Rattle.sv_links.specs.declared.enabled.Enabled.{Enabled}
+use Rattle.sv_links.specs.Channels.{ChannelAct, SrqEnabled, SrqDisabled, ChannelOpened, ChannelClosed, Requested, ChannelTaken, asked, past, enabled, peer, taken, calls, all_calls}
+use Rattle.sv_links.specs.ChannelRepresentation.{IsSorted}
+use Rattle.sv_links.proofs.Asking.{below, above, other_links, none_below, sorted-filter}
+use Rattle.sv_links.proofs.Rising.{among, asked-at, with_link, enabled-enabled, enabled-disabled, enabled-sorted}
+
+-- this connection's links that ask
+abbrev pub own_links : ℕ → List Enabled → List Enabled
+own_links c links = filter (λ link. eqb link.conn c) links
+
+pub record SameChannel (c : ℕ) (acts other : List ChannelAct) : Type 0 where
+  pub opened : peer c acts ≡ peer c other
+  pub took : taken c acts ≡ taken c other
+  pub links : own_links c (enabled acts) ≡ own_links c (enabled other)
+  pub sent : calls c acts ≡ calls c other
+  pub all : all_calls c acts ≡ all_calls c other
+
+-- If a link of this number asks, it is of another connection.
+abbrev pub AsksElsewhere : ℕ → ℕ → List ChannelAct → Type 0
+AsksElsewhere c lid acts = (link : Enabled) → asked lid acts ≡ Some link → link.conn ≢ c
+
+-- an act of others, on links whose numbers are none of this connection's that ask
+abbrev pub IsForeignChannel : ℕ → ChannelAct → List ChannelAct → Type 0
+IsForeignChannel c (SrqEnabled lid conn handle) acts = (conn ≢ c) × AsksElsewhere c lid acts
+IsForeignChannel c (SrqDisabled lid) acts = AsksElsewhere c lid acts
+IsForeignChannel c (ChannelOpened conn what) acts = conn ≢ c
+IsForeignChannel c (ChannelClosed conn) acts = conn ≢ c
+IsForeignChannel c Requested acts = ⊥
+IsForeignChannel c (ChannelTaken conn count) acts = conn ≢ c
+
+-- ---- links that ask
+
+filter_comm : (p q : Enabled → Bool) (xs : List Enabled) → filter p (filter q xs) ≡ filter q (filter p xs)
+filter_comm p q [] = refl
+filter_comm p q (x ∷ xs) = elim (cases_Bool (p x)) [
+  | inl e ↦ elim (cases_Bool (q x)) [
+    | inl k ↦ rw (e, k, e) (ap (λ (l : List Enabled). x ∷ l) (filter_comm p q xs))
+    | inr k ↦ rw (e, k) (filter_comm p q xs)
+  ]
+  | inr e ↦ elim (cases_Bool (q x)) [
+    | inl k ↦ rw (e, k, e) (filter_comm p q xs)
+    | inr k ↦ rw (e, k) (filter_comm p q xs)
+  ]
+]
+
+filter_join : (p : Enabled → Bool) (xs ys : List Enabled) → filter p (xs ++ ys) ≡ filter p xs ++ filter p ys
+filter_join p [] ys = refl
+filter_join p (x ∷ xs) ys = elim (cases_Bool (p x)) [
+  | inl e ↦ rw e (ap (λ (l : List Enabled). x ∷ l) (filter_join p xs ys))
+  | inr e ↦ rw e (filter_join p xs ys)
+]
+
+-- each link that asks is the one of its number
+
+with_asked : (acts : List ChannelAct) (n : ℕ) (first : Option Enabled) (xs : List Enabled) → asked n acts ≡ first
+    → ((x : Enabled) → first ≡ Some x → x.lid ≡ n) → AllByRecursion (λ link. asked link.lid acts ≡ Some link) xs
+    → AllByRecursion (λ link. asked link.lid acts ≡ Some link) (cons_option first xs)
+with_asked acts n None xs is at all = all
+with_asked acts n (Some x) xs is at all = (ap (λ (m : ℕ). asked m acts) (at x refl) ∙ is, all)
+
+among_asked : (a n : ℕ) (acts : List ChannelAct) → AllByRecursion (λ link. asked link.lid acts ≡ Some link) (among a n acts)
+among_asked a zero acts = tt
+among_asked a (suc n) acts =
+    with_asked acts a (asked a acts) (among (a + 1) n acts) refl (asked-at a acts) (among_asked (a + 1) n acts)
+
+-- so none of this connection's has a number that is asked elsewhere
+abbrev Differ : ℕ → List Enabled → Type 0
+Differ lid links = AllByRecursion (λ link. link.lid ≢ lid) links
+
+differ : (c lid : ℕ) (acts : List ChannelAct) (xs : List Enabled) → AsksElsewhere c lid acts
+    → AllByRecursion (λ link. asked link.lid acts ≡ Some link) xs → Differ lid (own_links c xs)
+differ c lid acts [] none all = tt
+differ c lid acts (x ∷ xs) none all = elim (cases_Bool (eqb x.conn c)) [
+  | inl e ↦ rw e (
+    (λ (same : x.lid ≡ lid). none x (ap (λ (m : ℕ). asked m acts) (sym same) ∙ all.0) (eqb-true x.conn c e)),
+    differ c lid acts xs none all.1,
+  )
+  | inr e ↦ rw e (differ c lid acts xs none all.1)
+]
+
+differ_enabled : (c lid : ℕ) (acts : List ChannelAct) → AsksElsewhere c lid acts → Differ lid (own_links c (enabled acts))
+differ_enabled c lid acts none = differ c lid acts (enabled acts) none (among_asked 0 (past acts) acts)
+
+all_weak : (lid low : ℕ) (xs : List Enabled) → lid < low → AllByRecursion (λ other. low < other.lid) xs
+    → AllByRecursion (λ other. lid < other.lid) xs
+all_weak lid low [] lt h = tt
+all_weak lid low (x ∷ xs) lt h = (omega (arith, lt, h.0), all_weak lid low xs lt h.1)
+
+lt_of : (a b : ℕ) → b ≢ a → a ≤ b → a < b
+lt_of a b ne le = omega (arith, ne, le)
+
+-- none has this number, so those below it and those above it are all
+parted : (lid : ℕ) (xs : List Enabled) → IsSorted xs → Differ lid xs → below lid xs ++ above lid xs ≡ xs
+parted lid [] sorted differ = refl
+parted lid (x ∷ xs) sorted differ =
+    let behind = parted lid xs sorted.1 differ.1 in
+    elim (cases_Bool (ltb x.lid lid)) [
+      | inl e ↦ rw (e, le-ltb lid x.lid (omega (arith, ltb-true x.lid lid e))) (ap (λ (l : List Enabled). x ∷ l) behind)
+      | inr e ↦
+          let lt : lid < x.lid = lt_of lid x.lid differ.0 (ltb-false x.lid lid e) in
+          let none = none_below lid lid xs (omega arith) (all_weak lid x.lid xs lt sorted.0) in
+          rw (e, none, lt-ltb lid x.lid lt) (ap (λ (l : List Enabled). x ∷ l) (rw none at behind))
+    ]
+
+kept_differ : (lid : ℕ) (xs : List Enabled) → Differ lid xs → other_links lid xs ≡ xs
+kept_differ lid [] h = refl
+kept_differ lid (x ∷ xs) h = rw (ne_eqb x.lid lid h.0) (ap (λ (l : List Enabled). x ∷ l) (kept_differ lid xs h.1))
+
+own_with : (c : ℕ) (link : Enabled) (links : List Enabled) → own_links c (with_link link links)
+    ≡ below link.lid (own_links c links) ++ (own_links c (link ∷ []) ++ above link.lid (own_links c links))
+own_with c link links = elim (cases_Bool (eqb link.conn c)) [
+  | inl e ↦ filter_join (λ link. eqb link.conn c) (below link.lid links) (link ∷ above link.lid links)
+      ∙ rw (
+        e,
+        filter_comm (λ link. eqb link.conn c) (λ other. ltb other.lid link.lid) links,
+        filter_comm (λ link. eqb link.conn c) (λ other. ltb link.lid other.lid) links,
+      ) refl
+  | inr e ↦ filter_join (λ link. eqb link.conn c) (below link.lid links) (link ∷ above link.lid links)
+      ∙ rw (
+        e,
+        filter_comm (λ link. eqb link.conn c) (λ other. ltb other.lid link.lid) links,
+        filter_comm (λ link. eqb link.conn c) (λ other. ltb link.lid other.lid) links,
+      ) refl
+]
+
+own_enabled : (c : ℕ) (link : Enabled) (acts : List ChannelAct)
+    → own_links c (enabled (SrqEnabled link.lid link.conn link.handle ∷ acts))
+    ≡ below link.lid (own_links c (enabled acts)) ++ (own_links c (link ∷ []) ++ above link.lid (own_links c (enabled acts)))
+own_enabled c link acts = ap (own_links c) (enabled-enabled link acts) ∙ own_with c link (enabled acts)
+
+own_disabled : (c lid : ℕ) (acts : List ChannelAct)
+    → own_links c (enabled (SrqDisabled lid ∷ acts)) ≡ other_links lid (own_links c (enabled acts))
+own_disabled c lid acts = ap (own_links c) (enabled-disabled lid acts)
+    ∙ filter_comm (λ link. eqb link.conn c) (λ other. not (eqb other.lid lid)) (enabled acts)
+
+-- ---- over an act of others
+
+pub channel_foreign : (c : ℕ) (act : ChannelAct) (acts other : List ChannelAct) → IsForeignChannel c act acts → SameChannel c acts other
+    → SameChannel c (act ∷ acts) other
+channel_foreign c (SrqEnabled lid conn handle) acts other h same =
+    let one : Enabled = record { lid = lid; conn = conn; handle = handle } in record {
+      opened = same.opened;
+      took = same.took;
+      links = own_enabled c one acts ∙ rw (ne_eqb conn c h.0) (parted lid (own_links c (enabled acts))
+          (sorted-filter (λ link. eqb link.conn c) (enabled acts) (enabled-sorted acts)) (differ_enabled c lid acts h.1)) ∙ same.links;
+      sent = same.sent;
+      all = same.all;
+    }
+channel_foreign c (SrqDisabled lid) acts other h same = record {
+  opened = same.opened;
+  took = same.took;
+  links = own_disabled c lid acts ∙ kept_differ lid (own_links c (enabled acts)) (differ_enabled c lid acts h) ∙ same.links;
+  sent = same.sent;
+  all = same.all;
+}
+channel_foreign c (ChannelOpened conn what) acts other h same = record {
+  opened = rw (ne_eqb conn c h) same.opened;
+  took = rw (ne_eqb conn c h) same.took;
+  links = same.links;
+  sent = rw (ne_eqb conn c h) same.sent;
+  all = same.all;
+}
+channel_foreign c (ChannelClosed conn) acts other h same = record {
+  opened = rw (ne_eqb conn c h) same.opened;
+  took = rw (ne_eqb conn c h) same.took;
+  links = same.links;
+  sent = rw (ne_eqb conn c h) same.sent;
+  all = same.all;
+}
+channel_foreign c Requested acts other h same = absurd h
+channel_foreign c (ChannelTaken conn count) acts other h same = record {
+  opened = same.opened;
+  took = rw (ne_eqb conn c h) same.took;
+  links = same.links;
+  sent = same.sent;
+  all = same.all;
+}
+
+pub channel_sym : (c : ℕ) (acts other : List ChannelAct) → SameChannel c acts other → SameChannel c other acts
+channel_sym c acts other same = record {
+  opened = sym same.opened;
+  took = sym same.took;
+  links = sym same.links;
+  sent = sym same.sent;
+  all = sym same.all;
+}
+
+-- ---- over the same act
+
+pub channel_same : (c : ℕ) (act : ChannelAct) (acts other : List ChannelAct) → SameChannel c acts other
+    → SameChannel c (act ∷ acts) (act ∷ other)
+channel_same c (SrqEnabled lid conn handle) acts other same =
+    let one : Enabled = record { lid = lid; conn = conn; handle = handle } in record {
+      opened = same.opened;
+      took = same.took;
+      links = own_enabled c one acts
+          ∙ ap (λ (l : List Enabled). below lid l ++ (own_links c (one ∷ []) ++ above lid l)) same.links
+          ∙ sym (own_enabled c one other);
+      sent = same.sent;
+      all = same.all;
+    }
+channel_same c (SrqDisabled lid) acts other same = record {
+  opened = same.opened;
+  took = same.took;
+  links = own_disabled c lid acts ∙ ap (other_links lid) same.links ∙ sym (own_disabled c lid other);
+  sent = same.sent;
+  all = same.all;
+}
+channel_same c (ChannelOpened conn what) acts other same = record {
+  opened = rw same.opened refl;
+  took = rw same.took refl;
+  links = same.links;
+  sent = rw same.sent refl;
+  all = same.all;
+}
+channel_same c (ChannelClosed conn) acts other same = record {
+  opened = rw same.opened refl;
+  took = rw same.took refl;
+  links = same.links;
+  sent = rw same.sent refl;
+  all = same.all;
+}
+channel_same c Requested acts other same = record {
+  opened = same.opened;
+  took = same.took;
+  links = same.links;
+  sent = rw (same.opened, same.took, same.links, same.sent) refl;
+  all = rw (same.opened, same.took, same.links, same.sent, same.all) refl;
+}
+channel_same c (ChannelTaken conn count) acts other same = record {
+  opened = same.opened;
+  took = rw same.took refl;
+  links = same.links;
+  sent = same.sent;
+  all = same.all;
+}

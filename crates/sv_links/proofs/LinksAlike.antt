@@ -1,0 +1,219 @@
+-- Whose link a number is, and which link holds the lock: over an act of others, and over the same act.
+use Rattle.std.proofs.Common.{◌≡◌, ◌≢◌, ℕ, Bool, true, false, eqb, cond, List, [], ◌∷◌, ◌++◌, Option, Some, None, refl, sym, ap, ◌∙◌, inl, inr, ◌⊎◌, eq-eqb}
+use Rattle.std.specs.Prelude.{not, filter, find, option_map, ◌&&◌, ⊤}
+use Rattle.std.proofs.lemmas.Bool.{ne_eqb, cases_Bool, cases_eq, eqb-true, eqb-false}
+use Rattle.sv_links.specs.declared.links.Link.{Link}
+use Rattle.sv_links.specs.Links.{LinkAct, Made, Destroyed, Locked, Unlocked, live, owner, is_of, locked, is_locked, holder}
+use Rattle.sv_links.proofs.Tables.{other_than}
+
+-- ---- the owner of a number
+
+abbrev owner_in : ℕ → List Link → Option ℕ
+owner_in n xs = option_map (λ link. link.conn) (find (λ link. eqb link.lid n) xs)
+
+some_number : (a b : ℕ) → Some a ≡ Some b → a ≡ b
+some_number a b e = cc
+
+-- a link more at the end
+pushed : (n c : ℕ) (xs : List Link) (link : Link) → owner_in n xs ≡ Some c → owner_in n (xs ++ link ∷ []) ≡ Some c
+pushed n c [] link h = absurd cc
+pushed n c (x ∷ xs) link h = elim (cases_Bool (eqb x.lid n)) [
+  | inl e ↦ rw e (rw e at h)
+  | inr e ↦ rw e (pushed n c xs link (rw e at h))
+]
+
+pushed_other : (n : ℕ) (xs : List Link) (link : Link) → link.lid ≢ n → owner_in n (xs ++ link ∷ []) ≡ owner_in n xs
+pushed_other n [] link ne = rw (ne_eqb link.lid n ne) refl
+pushed_other n (x ∷ xs) link ne = elim (cases_Bool (eqb x.lid n)) [
+  | inl e ↦ rw e refl
+  | inr e ↦ rw e (pushed_other n xs link ne)
+]
+
+pushed_of : (c n : ℕ) (xs : List Link) (link : Link) → link.conn ≢ c → is_of c (owner_in n (xs ++ link ∷ [])) ≡ is_of c (owner_in n xs)
+pushed_of c n [] link ne = elim (cases_Bool (eqb link.lid n)) [
+  | inl e ↦ rw (e, ne_eqb link.conn c ne) refl
+  | inr e ↦ rw e refl
+]
+pushed_of c n (x ∷ xs) link ne = elim (cases_Bool (eqb x.lid n)) [
+  | inl e ↦ rw e refl
+  | inr e ↦ rw e (pushed_of c n xs link ne)
+]
+
+-- without the links of a number
+owner_left : (lid n : ℕ) (xs : List Link) → owner_in n (filter (other_than lid) xs) ≡ cond (eqb lid n) None (owner_in n xs)
+owner_left lid n [] = elim (cases_Bool (eqb lid n)) [ inl e ↦ rw e refl | inr e ↦ rw e refl ]
+owner_left lid n (x ∷ xs) = elim (cases_Bool (eqb x.lid lid)) [
+  | inl e ↦ elim (cases_Bool (eqb lid n)) [
+    | inl k ↦ rw (e, k) (owner_left lid n xs ∙ rw k refl)
+    | inr k ↦ let same : x.lid ≡ lid = eqb-true x.lid lid e in rw (e, k, same, k) (owner_left lid n xs ∙ rw k refl)
+  ]
+  | inr e ↦ elim (cases_Bool (eqb x.lid n)) [
+    | inl k ↦
+        let apart : eqb lid n ≡ false = ne_eqb lid n (λ same. eqb-false x.lid lid e (eqb-true x.lid n k ∙ sym same)) in
+        rw (e, k, apart) refl
+    | inr k ↦ rw (e, k) (owner_left lid n xs)
+  ]
+]
+
+-- a link that is made leaves an owner
+pub owner_made : (n c lid conn : ℕ) (acts : List LinkAct) → owner n acts ≡ Some c → owner n (Made lid conn ∷ acts) ≡ Some c
+owner_made n c lid conn acts h = pushed n c (live acts) (record { lid = lid; conn = conn }) h
+
+pub owner_made_other : (n lid conn : ℕ) (acts : List LinkAct) → lid ≢ n → owner n (Made lid conn ∷ acts) ≡ owner n acts
+owner_made_other n lid conn acts ne = pushed_other n (live acts) (record { lid = lid; conn = conn }) ne
+
+-- an owner behind that act was one in front of it, or is the connection that made the link
+made_in : (n c : ℕ) (xs : List Link) (link : Link) → owner_in n (xs ++ link ∷ []) ≡ Some c → (owner_in n xs ≡ Some c) ⊎ (c ≡ link.conn)
+made_in n c [] link h = elim (cases_Bool (eqb link.lid n)) [
+  | inl e ↦ inr (sym (some_number link.conn c (rw e at h)))
+  | inr e ↦ absurd (let z : None ≡ Some c = rw e at h in cc)
+]
+made_in n c (x ∷ xs) link h = elim (cases_Bool (eqb x.lid n)) [
+  | inl e ↦ inl (rw e (rw e at h))
+  | inr e ↦ rw e (made_in n c xs link (rw e at h))
+]
+
+pub owner_of_made : (n c lid conn : ℕ) (acts : List LinkAct) → owner n (Made lid conn ∷ acts) ≡ Some c
+    → (owner n acts ≡ Some c) ⊎ (c ≡ conn)
+owner_of_made n c lid conn acts h = made_in n c (live acts) (record { lid = lid; conn = conn }) h
+
+pub owner_destroyed : (n lid : ℕ) (acts : List LinkAct) → owner n (Destroyed lid ∷ acts) ≡ cond (eqb lid n) None (owner n acts)
+owner_destroyed n lid acts = owner_left lid n (live acts)
+
+pub owner_destroyed_other : (n lid : ℕ) (acts : List LinkAct) → lid ≢ n → owner n (Destroyed lid ∷ acts) ≡ owner n acts
+owner_destroyed_other n lid acts ne = owner_destroyed n lid acts ∙ rw (ne_eqb lid n ne) refl
+
+-- an owner behind that act was one in front of it
+pub owner_before : (n c lid : ℕ) (acts : List LinkAct) → owner n (Destroyed lid ∷ acts) ≡ Some c → (lid ≢ n) × (owner n acts ≡ Some c)
+owner_before n c lid acts h = elim (cases_eq lid n) [
+  | inl e ↦
+      let none : owner n (Destroyed lid ∷ acts) ≡ None = owner_destroyed n lid acts ∙ rw (eq-eqb lid n e) refl in
+      absurd (let z : None ≡ Some c = sym none ∙ h in cc)
+  | inr ne ↦ (ne, sym (owner_destroyed_other n lid acts ne) ∙ h)
+]
+
+pub is_of_owner : (c n : ℕ) (acts : List LinkAct) → owner n acts ≡ Some c → is_of c (owner n acts) ≡ true
+is_of_owner c n acts h = rw h (eq-eqb c c refl)
+
+pub owner_is_of : (c : ℕ) (found : Option ℕ) → is_of c found ≡ true → found ≡ Some c
+owner_is_of c (Some other) e = ap (λ (n : ℕ). Some n) (eqb-true other c e)
+owner_is_of c None e = absurd cc
+
+-- ---- which numbers are of one connection's links
+
+abbrev pub OwnsAlike : ℕ → List LinkAct → List LinkAct → Type 0
+OwnsAlike c acts other = (n : ℕ) → is_of c (owner n acts) ≡ is_of c (owner n other)
+
+-- an act of others: no link of the connection's is made or destroyed, and no lock is taken or given up
+abbrev pub IsForeignLink : ℕ → LinkAct → List LinkAct → Type 0
+IsForeignLink c (Made lid conn) acts = conn ≢ c
+IsForeignLink c (Destroyed lid) acts = is_of c (owner lid acts) ≡ false
+IsForeignLink c (Locked lid) acts = ⊥
+IsForeignLink c (Unlocked lid) acts = ⊥
+
+pub links_foreign : (c : ℕ) (act : LinkAct) (acts other : List LinkAct) → IsForeignLink c act acts → OwnsAlike c acts other
+    → OwnsAlike c (act ∷ acts) other
+links_foreign c (Made lid conn) acts other h alike = λ n. pushed_of c n (live acts) (record { lid = lid; conn = conn }) h ∙ alike n
+links_foreign c (Destroyed lid) acts other h alike = λ n. elim (cases_eq lid n) [
+  | inl e ↦
+      let gone : is_of c (owner n (Destroyed lid ∷ acts)) ≡ false =
+      ap (is_of c) (owner_destroyed n lid acts) ∙ rw (eq-eqb lid n e) refl in
+      gone ∙ sym (ap (λ (m : ℕ). is_of c (owner m acts)) (sym e) ∙ h) ∙ alike n
+  | inr ne ↦ ap (is_of c) (owner_destroyed_other n lid acts ne) ∙ alike n
+]
+links_foreign c (Locked lid) acts other h alike = absurd h
+links_foreign c (Unlocked lid) acts other h alike = absurd h
+
+-- an act that makes no link
+abbrev pub MakesNone : LinkAct → Type 0
+MakesNone (Made lid conn) = ⊥
+MakesNone act = ⊤
+
+pub links_same : (c : ℕ) (act : LinkAct) (acts other : List LinkAct) → MakesNone act → OwnsAlike c acts other
+    → OwnsAlike c (act ∷ acts) (act ∷ other)
+links_same c (Made lid conn) acts other h alike = absurd h
+links_same c (Destroyed lid) acts other h alike = λ n.
+    ap (is_of c) (owner_destroyed n lid acts) ∙ left_of (eqb lid n) (owner n acts) (owner n other) (alike n)
+    ∙ sym (ap (is_of c) (owner_destroyed n lid other))
+  where
+    left_of : (b : Bool) (one two : Option ℕ) → is_of c one ≡ is_of c two → is_of c (cond b None one) ≡ is_of c (cond b None two)
+    left_of true one two e = refl
+    left_of false one two e = e
+links_same c (Locked lid) acts other h alike = alike
+links_same c (Unlocked lid) acts other h alike = alike
+
+-- ---- the holder
+
+find_true : (test : ℕ → Bool) (m : ℕ) (xs : List ℕ) → find test xs ≡ Some m → test m ≡ true
+find_true test m [] h = absurd cc
+find_true test m (x ∷ xs) h = elim (cases_Bool (test x)) [
+  | inl e ↦ ap test (sym (some_number x m (rw e at h))) ∙ e
+  | inr e ↦ find_true test m xs (rw e at h)
+]
+
+-- what is found is found by a narrower test that it passes
+find_narrow : (wide narrow : ℕ → Bool) (m : ℕ) (xs : List ℕ) → ((x : ℕ) → narrow x ≡ true → wide x ≡ true) → narrow m ≡ true
+    → find wide xs ≡ Some m → find narrow xs ≡ Some m
+find_narrow wide narrow m [] so is h = absurd cc
+find_narrow wide narrow m (x ∷ xs) so is h = elim (cases_Bool (wide x)) [
+  | inl e ↦
+      let same : x ≡ m = some_number x m (rw e at h) in
+      let here : narrow x ≡ true = ap narrow same ∙ is in
+      rw here (ap (λ (n : ℕ). Some n) same)
+  | inr e ↦ elim (cases_Bool (narrow x)) [
+    | inl k ↦ absurd (let z : true ≡ false = sym (so x k) ∙ e in cc)
+    | inr k ↦ rw k (find_narrow wide narrow m xs so is (rw e at h))
+  ]
+]
+
+both_true : (a b : Bool) → (a && b) ≡ true → (a ≡ true) × (b ≡ true)
+both_true true true e = (refl, refl)
+both_true true false e = absurd cc
+both_true false b e = absurd cc
+
+and_true : (a b : Bool) → a ≡ true → b ≡ true → (a && b) ≡ true
+and_true a b h k = rw (h, k) refl
+
+not_same : (a b : ℕ) → not (eqb a b) ≡ true → a ≢ b
+not_same a b e same = absurd (let z : not true ≡ true = rw (eq-eqb a b same) at e in cc)
+
+pub holder_locked : (lid : ℕ) (acts : List LinkAct) → is_locked lid acts ≡ false → holder acts ≡ Some lid → ⊥
+holder_locked lid acts free h = let z : false ≡ true = sym free ∙ find_true (λ n. is_locked n acts) lid (locked acts) h in cc
+
+-- the link that holds the lock behind an act isn't freed by it
+pub not_unlocked : (lid n : ℕ) (acts : List LinkAct) → holder (Unlocked n ∷ acts) ≡ Some lid → n ≢ lid
+not_unlocked lid n acts h =
+    let found = find_true (λ (m : ℕ). is_locked m (Unlocked n ∷ acts)) lid (locked acts) h in
+    not_same n lid (both_true (not (eqb n lid)) (is_locked lid acts) found).0
+
+pub not_destroyed : (lid n : ℕ) (acts : List LinkAct) → holder (Destroyed n ∷ acts) ≡ Some lid → n ≢ lid
+not_destroyed lid n acts h =
+    let found = find_true (λ (m : ℕ). is_locked m (Destroyed n ∷ acts)) lid (locked acts) h in
+    not_same n lid (both_true (not (eqb n lid)) (is_locked lid acts) found).0
+
+locked_now : (n : ℕ) (acts : List LinkAct) → holder (Locked n ∷ acts) ≡ Some n
+locked_now n acts = rw (eq-eqb n n refl) refl
+
+still_found : (lid n : ℕ) (acts : List LinkAct) → n ≢ lid → holder acts ≡ Some lid
+    → find (λ m. not (eqb n m) && is_locked m acts) (locked acts) ≡ Some lid
+still_found lid n acts ne h =
+    find_narrow (λ m. is_locked m acts) (λ m. not (eqb n m) && is_locked m acts) lid (locked acts)
+    (λ x e. (both_true (not (eqb n x)) (is_locked x acts) e).1)
+    (and_true (not (eqb n lid)) (is_locked lid acts) (rw (ne_eqb n lid ne) refl)
+    (find_true (λ m. is_locked m acts) lid (locked acts) h)) h
+
+-- the same act leaves the same holder, where it leaves this one
+pub holder_same : (lid : ℕ) (act : LinkAct) (acts other : List LinkAct) → holder other ≡ Some lid → holder (act ∷ acts) ≡ Some lid
+    → holder (act ∷ other) ≡ Some lid
+holder_same lid (Made n conn) acts other h now = h
+holder_same lid (Destroyed n) acts other h now = still_found lid n other (not_destroyed lid n acts now) h
+holder_same lid (Locked n) acts other h now = locked_now n other ∙ sym (locked_now n acts) ∙ now
+holder_same lid (Unlocked n) acts other h now = still_found lid n other (not_unlocked lid n acts now) h
+
+-- and its owner
+pub owner_kept : (c lid : ℕ) (act : LinkAct) (acts : List LinkAct) → holder (act ∷ acts) ≡ Some lid → owner lid acts ≡ Some c
+    → owner lid (act ∷ acts) ≡ Some c
+owner_kept c lid (Made n conn) acts now h = owner_made lid c n conn acts h
+owner_kept c lid (Destroyed n) acts now h = owner_destroyed_other lid n acts (not_destroyed lid n acts now) ∙ h
+owner_kept c lid (Locked n) acts now h = h
+owner_kept c lid (Unlocked n) acts now h = h
