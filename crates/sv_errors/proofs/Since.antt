@@ -119,6 +119,6 @@ is_since_is {A} is_find keeps =
     (λ (log : List A). is_since is_find keeps log ≡ true)
     ((λ e. let h = (both_true (keeps []) (is_find [])).0 e in (h.1, h.0)), (λ h. (both_true (keeps []) (is_find [])).1 (h.1, h.0)))
     (λ act log.
-        let both = both_true (keeps (act ∷ log)) (is_find (act ∷ log) || is_since is_find keeps log) in
-        let either = either_true (is_find (act ∷ log)) (is_since is_find keeps log) in
-        ((λ e. let h = both.0 e in (h.0, either.0 h.1)), (λ h. both.1 (h.0, either.1 h.1))))
+    let both = both_true (keeps (act ∷ log)) (is_find (act ∷ log) || is_since is_find keeps log) in
+    let either = either_true (is_find (act ∷ log)) (is_since is_find keeps log) in
+    ((λ e. let h = both.0 e in (h.0, either.0 h.1)), (λ h. both.1 (h.0, either.1 h.1))))

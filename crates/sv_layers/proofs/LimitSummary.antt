@@ -81,8 +81,8 @@ limit_summary_is log =
           let both = (both_true (is_since (passes limit Limit found.0) (leaves Limit) log) (has_bit (enable Limit log) found.0)).0 found.1 in
           (found.0, (stands_is found.0 log).0 both.0, (has_is (enable Limit log) found.0).0 both.1)),
       (λ s. below_found 16 s.0 is_such (enabled_below Limit log s.0 s.2)
-      ((both_true (is_since (passes limit Limit s.0) (leaves Limit) log) (has_bit (enable Limit log) s.0)).1
-      ((stands_is s.0 log).1 s.1, (has_is (enable Limit log) s.0).1 s.2))),
+          ((both_true (is_since (passes limit Limit s.0) (leaves Limit) log) (has_bit (enable Limit log) s.0)).1
+          ((stands_is s.0 log).1 s.1, (has_is (enable Limit log) s.0).1 s.2))),
     )
 
 -- two tests that say the same of each number

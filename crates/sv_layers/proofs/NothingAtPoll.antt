@@ -18,8 +18,8 @@ use Rattle.sv_layers.proofs.LimitSummary.{some_same}
 -- it passes no limit, and leaves their summary
 limits_stay : (log : List Act) → limit_summary (Polled ∷ log) ≡ limit_summary log
 limits_stay log = some_same 16 _ _ (λ k.
-  ap (λ (b : Bool). (b || is_since (passes limit Limit k) (leaves Limit) log) && has_bit (enable Limit log) k)
-  (no_change (has_bit (limit log) k) (has_bit (rise Limit log) k) (has_bit (fall Limit log) k)))
+    ap (λ (b : Bool). (b || is_since (passes limit Limit k) (leaves Limit) log) && has_bit (enable Limit log) k)
+    (no_change (has_bit (limit log) k) (has_bit (rise Limit log) k) (has_bit (fall Limit log) k)))
 
 same_condition : (name : RegisterName) (log : List Act) → condition name (Polled ∷ log) ≡ condition name log
 same_condition Operation log = refl

@@ -21,9 +21,6 @@ lacks_is word k = (
   (λ e. rw (ne_eqb (bit_at word k) 1 (λ one. absurd (omega (arith, e, one)))) refl),
 )
 
-both_are : {A B P Q : Type 0} → A ↔ P → B ↔ Q → (A × B) ↔ (P × Q)
-both_are a b = ((λ h. (a.0 h.0, b.0 h.1)), (λ h. (a.1 h.0, b.1 h.1)))
-
 -- the test of `passes`
 abbrev pub changes : ℕ → ℕ → ℕ → ℕ → ℕ → Bool
 changes k old new up down = (not (has_bit old k) && (has_bit new k && has_bit up k))
@@ -31,13 +28,27 @@ changes k old new up down = (not (has_bit old k) && (has_bit new k && has_bit up
 
 rises_is : (k old new up : ℕ) → ((not (has_bit old k) && (has_bit new k && has_bit up k)) ≡ true)
     ↔ ((bit_at old k ≡ 0) × (bit_at new k ≡ 1) × (bit_at up k ≡ 1))
-rises_is k old new up = then_same (both_true (not (has_bit old k)) (has_bit new k && has_bit up k))
-    (both_are (lacks_is old k) (then_same (both_true (has_bit new k) (has_bit up k)) (both_are (has_is new k) (has_is up k))))
+rises_is k old new up =
+    let first = both_true (not (has_bit old k)) (has_bit new k && has_bit up k) in
+    let second = both_true (has_bit new k) (has_bit up k) in (
+      (λ e.
+          let h = first.0 e in
+          let both = second.0 h.1 in
+          ((lacks_is old k).0 h.0, (has_is new k).0 both.0, (has_is up k).0 both.1)),
+      (λ h. first.1 ((lacks_is old k).1 h.0, second.1 ((has_is new k).1 h.1, (has_is up k).1 h.2))),
+    )
 
 falls_is : (k old new down : ℕ) → ((has_bit old k && (not (has_bit new k) && has_bit down k)) ≡ true)
     ↔ ((bit_at old k ≡ 1) × (bit_at new k ≡ 0) × (bit_at down k ≡ 1))
-falls_is k old new down = then_same (both_true (has_bit old k) (not (has_bit new k) && has_bit down k))
-    (both_are (has_is old k) (then_same (both_true (not (has_bit new k)) (has_bit down k)) (both_are (lacks_is new k) (has_is down k))))
+falls_is k old new down =
+    let first = both_true (has_bit old k) (not (has_bit new k) && has_bit down k) in
+    let second = both_true (not (has_bit new k)) (has_bit down k) in (
+      (λ e.
+          let h = first.0 e in
+          let both = second.0 h.1 in
+          ((has_is old k).0 h.0, (lacks_is new k).0 both.0, (has_is down k).0 both.1)),
+      (λ h. first.1 ((has_is old k).1 h.0, second.1 ((lacks_is new k).1 h.1, (has_is down k).1 h.2))),
+    )
 
 pub changes_is : (k old new up down : ℕ) → (changes k old new up down ≡ true)
     ↔ (((bit_at old k ≡ 0) × (bit_at new k ≡ 1) × (bit_at up k ≡ 1)) ⊎ ((bit_at old k ≡ 1) × (bit_at new k ≡ 0) × (bit_at down k ≡ 1)))

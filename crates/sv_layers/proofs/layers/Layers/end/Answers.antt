@@ -18,7 +18,7 @@ use Rattle.sv_layers.proofs.layers.Layers.end.Goals as goal
 
 pub returns-clause-stands : goal.returns-clause-stands
 returns-clause-stands g c = λ log act told same h.
-    let other = act_of c.args.change in
+    let other = act_of c.args.change.now in
     let j = rw (← c.self.view_is) at h in
     let scans = begun_scans _ act log j.scanner in
     let left = counted_leaves c.touched-touched.result act log (c.touched-touched.ensures.stands (scan_acts (act ∷ log)) scans) in
@@ -39,11 +39,11 @@ returns-clause-stands g c = λ log act told same h.
     (c.limit_bit.ensures ∙ ap (scan.bit 9) stands) in
     let questionable = ended_stands Questionable other act log _ _ word (same.0 Questionable) (c.change_register-3.ensures _ _
     (c.compare-3.ensures _ _ (begun_stands Questionable act log _ j.questionable) (λ no.
-      let both = neither c.touched-touched.result.questionable c.differ.result no in
-      let moved = sym stands ∙ sym (c.differ.ensures both.1) ∙ stood in
-      word ∙ ap (λ (w : ℕ). w + scan.bit 9 (limit_summary (act ∷ log))) (left.1 both.0)
-      ∙ ap (λ (b : Bool). scan.questionable (counted log) + scan.bit 9 b) moved ∙ sym (same_words Questionable log).0))) in
-    let k = c.complete.ensures.stands (record (begun act (seen log)) {
+    let both = neither c.touched-touched.result.questionable c.differ.result no in
+    let moved = sym stands ∙ sym (c.differ.ensures both.1) ∙ stood in
+    word ∙ ap (λ (w : ℕ). w + scan.bit 9 (limit_summary (act ∷ log))) (left.1 both.0)
+    ∙ ap (λ (b : Bool). scan.questionable (counted log) + scan.bit 9 b) moved ∙ sym (same_words Questionable log).0))) in
+    let k = rw (← c.self-2.view_is) at (c.complete.ensures.stands (record (begun act (seen log)) {
       operation = register_acts Operation (seen (act ∷ log));
       questionable = register_acts Questionable (seen (act ∷ log));
       limit = register_acts Limit (seen (act ∷ log));
@@ -58,7 +58,7 @@ returns-clause-stands g c = λ log act told same h.
       scanner = j.scanner;
       service = j.service;
       waits = j.waits;
-    }) in
+    })) in
     record {
       exchange = k.exchange;
       errors = k.errors;
