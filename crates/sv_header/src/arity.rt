@@ -30,9 +30,6 @@ impl CommandId {
             | CommandId::QuestionableEnable
             | CommandId::QuestionablePositiveTransition
             | CommandId::QuestionableNegativeTransition
-            | CommandId::LimitEnable
-            | CommandId::LimitPositiveTransition
-            | CommandId::LimitNegativeTransition
             | CommandId::RouteScan
             | CommandId::RouteMonitor
             | CommandId::VoltageRange

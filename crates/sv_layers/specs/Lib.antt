@@ -1,6 +1,5 @@
 pub mod Act
 pub mod Change
-pub mod Filter
 pub mod Condition
 pub mod Event
 pub mod Standard

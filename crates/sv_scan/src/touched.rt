@@ -15,10 +15,8 @@ use std::alloc::Allocator;
 pub struct Touched {
     /// The word of the operation register.
     pub operation: bool,
-    /// The scanner's bits of the word of the questionable register.
+    /// The word of the questionable register.
     pub questionable: bool,
-    /// The word of the register of limits.
-    pub limit: bool,
 }
 
 impl<A: Allocator> Scanner<A> {
