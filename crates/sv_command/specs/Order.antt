@@ -7,7 +7,7 @@ use Rattle.sv_lexer.specs.declared.token.Token.{Token}
 use Rattle.sv_header.specs.declared.command.CommandId.{CommandId}
 use Rattle.sv_header.specs.declared.command.CommandId.TheVariants as id
 use Rattle.sv_value.specs.Value.{read_voltage, read_whole, read_boolean, read_source, read_channels}
-use Rattle.sv_status.specs.declared.register_name.RegisterName.TheVariants.{Operation, Questionable}
+use Rattle.sv_status.specs.declared.register_name.RegisterName.TheVariants.{Operation, Questionable, Limit}
 use Rattle.sv_scan.specs.declared.setting.Setting.TheVariants as setting
 use Rattle.sv_command.specs.declared.order.Order.{Order}
 use Rattle.sv_command.specs.declared.order.Order.TheVariants as order
@@ -81,6 +81,18 @@ scan_order id.ConfigureVoltage given = then_value order.Configure (maybe read_ch
 scan_order id.MeasureVoltageQuery given = then_value order.Measure (maybe read_channels given)
 scan_order command given = setting_order command given
 
+-- commands of the register of limits
+abbrev pub limit_order : CommandId → Option Parameter → Result Order Code
+limit_order id.LimitEventQuery given = ask (question.Events Limit)
+limit_order id.LimitConditionQuery given = ask (question.Condition Limit)
+limit_order id.LimitEnable given = then_value (order.Enable Limit) (one (read_whole 0 65535) given)
+limit_order id.LimitEnableQuery given = ask (question.Enable Limit)
+limit_order id.LimitPositiveTransition given = then_value (order.SetRise Limit) (one (read_whole 0 65535) given)
+limit_order id.LimitPositiveTransitionQuery given = ask (question.Rise Limit)
+limit_order id.LimitNegativeTransition given = then_value (order.SetFall Limit) (one (read_whole 0 65535) given)
+limit_order id.LimitNegativeTransitionQuery given = ask (question.Fall Limit)
+limit_order command given = scan_order command given
+
 -- commands of the status registers
 abbrev pub status_order : CommandId → Option Parameter → Result Order Code
 status_order id.StatusPreset given = Ok order.Preset
@@ -100,7 +112,7 @@ status_order id.QuestionablePositiveTransition given = then_value (order.SetRise
 status_order id.QuestionablePositiveTransitionQuery given = ask (question.Rise Questionable)
 status_order id.QuestionableNegativeTransition given = then_value (order.SetFall Questionable) (one (read_whole 0 65535) given)
 status_order id.QuestionableNegativeTransitionQuery given = ask (question.Fall Questionable)
-status_order command given = scan_order command given
+status_order command given = limit_order command given
 
 -- common commands, and those of the error queue
 abbrev pub common_order : CommandId → Option Parameter → Result Order Code

@@ -1,7 +1,7 @@
 //! What a command asks for, with its parameter.
 
 ghost use Rattle.std.specs.Prelude.{◌≡◌};
-ghost use Rattle.sv_command.specs.Order.{given as given_by, order_of, status_order as status_order_of, scan_order as scan_order_of, setting_order as setting_order_of};
+ghost use Rattle.sv_command.specs.Order.{given as given_by, order_of, status_order as status_order_of, limit_order as limit_order_of, scan_order as scan_order_of, setting_order as setting_order_of};
 
 use crate::order::{Order, Question};
 use crate::values::{
@@ -18,6 +18,8 @@ use sv_status::RegisterName;
 const OPERATION: RegisterName = RegisterName::Operation;
 
 const QUESTIONABLE: RegisterName = RegisterName::Questionable;
+
+const LIMIT: RegisterName = RegisterName::Limit;
 
 /// What a command asks for: a common command here, or one of the error queue.
 pub(crate) fn order(command: CommandId, given: Option<Token<'_>>) -> Result<Order, Code>
@@ -71,6 +73,23 @@ fn status_order(command: CommandId, given: Option<Token<'_>>) -> Result<Order, C
         CommandId::QuestionableNegativeTransitionQuery => {
             Ok(Order::Ask(Question::Fall(QUESTIONABLE)))
         }
+        _ => limit_order(command, given),
+    }
+}
+
+/// That of a command of the register of limits.
+fn limit_order(command: CommandId, given: Option<Token<'_>>) -> Result<Order, Code>
+    ensures { result ≡ limit_order_of command (given_by given.entry) }
+{
+    match command {
+        CommandId::LimitEventQuery => Ok(Order::Ask(Question::Events(LIMIT))),
+        CommandId::LimitConditionQuery => Ok(Order::Ask(Question::Condition(LIMIT))),
+        CommandId::LimitEnable => enable(LIMIT, given),
+        CommandId::LimitEnableQuery => Ok(Order::Ask(Question::Enable(LIMIT))),
+        CommandId::LimitPositiveTransition => set_rise(LIMIT, given),
+        CommandId::LimitPositiveTransitionQuery => Ok(Order::Ask(Question::Rise(LIMIT))),
+        CommandId::LimitNegativeTransition => set_fall(LIMIT, given),
+        CommandId::LimitNegativeTransitionQuery => Ok(Order::Ask(Question::Fall(LIMIT))),
         _ => scan_order(command, given),
     }
 }

@@ -1,8 +1,8 @@
 -- The laws of the search for the newest find that all places since then keep.
-use Rattle.std.proofs.Common.{ℕ, zero, suc, ◌≤◌, List, [], ◌∷◌, length, drop, sym, subst, arith, ◌⊎◌, inl, inr}
-use Rattle.std.specs.Prelude.{◌↔◌}
+use Rattle.std.proofs.Common.{◌≡◌, ℕ, zero, suc, ◌≤◌, Bool, true, false, refl, List, [], ◌∷◌, length, drop, sym, subst, arith, ◌⊎◌, inl, inr}
+use Rattle.std.specs.Prelude.{◌↔◌, ◌&&◌, ◌||◌}
 use Rattle.std.proofs.lemmas.List.{drop_all}
-use Rattle.sv_errors.specs.Since.{Since}
+use Rattle.sv_errors.specs.Since.{Since, is_since}
 
 -- where there are no acts, there is one place
 pub since_empty : {A : Type 0} (F K : List A → Type 0) → Since F K [] ↔ (F [] × K [])
@@ -100,3 +100,25 @@ step_ended ends none = ((λ p. absurd (none p)), (λ h. absurd (ends h.0)))
 -- two steps, where one act is two of another list
 pub then_same : {P Q R : Type 0} → P ↔ Q → Q ↔ R → P ↔ R
 then_same f g = ((λ p. g.0 (f.0 p)), (λ r. f.1 (g.1 r)))
+
+-- ---- the test
+
+pub both_true : (a b : Bool) → ((a && b) ≡ true) ↔ ((a ≡ true) × (b ≡ true))
+both_true true b = ((λ e. (refl, e)), (λ h. h.1))
+both_true false b = ((λ e. absurd cc), (λ h. h.0))
+
+pub either_true : (a b : Bool) → ((a || b) ≡ true) ↔ ((a ≡ true) ⊎ (b ≡ true))
+either_true true b = ((λ e. inl refl), (λ h. refl))
+either_true false b = ((λ e. inr e), (λ h. elim h [ inl e ↦ absurd cc | inr e ↦ e ]))
+
+-- The test says whether the search finds one.
+pub is_since_is : {A : Type 0} (is_find keeps : List A → Bool) (log : List A)
+    → (is_since is_find keeps log ≡ true) ↔ Since (λ (place : List A). is_find place ≡ true) (λ (place : List A). keeps place ≡ true) log
+is_since_is {A} is_find keeps =
+    since_unique (λ (place : List A). is_find place ≡ true) (λ (place : List A). keeps place ≡ true)
+    (λ (log : List A). is_since is_find keeps log ≡ true)
+    ((λ e. let h = (both_true (keeps []) (is_find [])).0 e in (h.1, h.0)), (λ h. (both_true (keeps []) (is_find [])).1 (h.1, h.0)))
+    (λ act log.
+    let both = both_true (keeps (act ∷ log)) (is_find (act ∷ log) || is_since is_find keeps log) in
+    let either = either_true (is_find (act ∷ log)) (is_since is_find keeps log) in
+    ((λ e. let h = both.0 e in (h.0, either.0 h.1)), (λ h. both.1 (h.0, either.1 h.1))))

@@ -1,5 +1,5 @@
 -- The searches that all layers share. A list of acts is read from the newest, and a place of it is one of its rests.
-use Rattle.std.specs.Prelude.{ℕ, ◌≤◌, Bool, List, [], ◌∷◌, length, drop, if◌then◌else◌}
+use Rattle.std.specs.Prelude.{ℕ, ◌≤◌, Bool, ◌&&◌, ◌||◌, List, [], ◌∷◌, length, drop, if◌then◌else◌}
 
 -- the acts since the newest one of a kind
 abbrev pub since : {A : Type 0} → (A → Bool) → List A → List A
@@ -22,3 +22,8 @@ pub record Since {A : Type 0} (IsFind Keeps : List A → Type 0) (log : List A) 
   pub within : ago ≤ length log
   pub found : IsFind (drop ago log)
   pub kept : (n : ℕ) → n ≤ ago → Keeps (drop n log)
+
+-- the same as a test, where finding and keeping are
+abbrev pub is_since : {A : Type 0} → (List A → Bool) → (List A → Bool) → List A → Bool
+is_since is_find keeps [] = keeps [] && is_find []
+is_since is_find keeps (act ∷ acts) = keeps (act ∷ acts) && (is_find (act ∷ acts) || is_since is_find keeps acts)

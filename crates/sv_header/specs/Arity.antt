@@ -2,7 +2,7 @@
 use Rattle.sv_header.specs.declared.arity.Arity.{Arity}
 use Rattle.sv_header.specs.declared.arity.Arity.TheVariants.{Nothing, One, Optional}
 use Rattle.sv_header.specs.declared.command.CommandId.{CommandId}
-use Rattle.sv_header.specs.declared.command.CommandId.TheVariants.{StandardEventEnable, ServiceRequestEnable, OperationEnable, OperationPositiveTransition, OperationNegativeTransition, QuestionableEnable, QuestionablePositiveTransition, QuestionableNegativeTransition, RouteScan, RouteMonitor, VoltageRange, UpperLimit, LowerLimit, LimitState, TriggerSource, TriggerCount, ConfigureVoltage, MeasureVoltageQuery}
+use Rattle.sv_header.specs.declared.command.CommandId.TheVariants.{StandardEventEnable, ServiceRequestEnable, OperationEnable, OperationPositiveTransition, OperationNegativeTransition, QuestionableEnable, QuestionablePositiveTransition, QuestionableNegativeTransition, LimitEnable, LimitPositiveTransition, LimitNegativeTransition, RouteScan, RouteMonitor, VoltageRange, UpperLimit, LowerLimit, LimitState, TriggerSource, TriggerCount, ConfigureVoltage, MeasureVoltageQuery}
 
 -- what sets the status registers takes one
 abbrev status_arity : CommandId → Arity
@@ -14,6 +14,9 @@ status_arity OperationNegativeTransition = One
 status_arity QuestionableEnable = One
 status_arity QuestionablePositiveTransition = One
 status_arity QuestionableNegativeTransition = One
+status_arity LimitEnable = One
+status_arity LimitPositiveTransition = One
+status_arity LimitNegativeTransition = One
 status_arity command = Nothing
 
 -- so does each setting of the measurement; a configuration may take a channel list; all others, queries too, take nothing

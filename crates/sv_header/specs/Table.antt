@@ -1,6 +1,6 @@
 -- The table of commands: each with its pattern.
 use Rattle.std.specs.Prelude.{List, [], ◌∷◌, ◌++◌}
-use Rattle.sv_header.specs.declared.command.CommandId.TheVariants.{ClearStatus, StandardEventEnable, StandardEventEnableQuery, StandardEventQuery, IdentificationQuery, OperationComplete, OperationCompleteQuery, Reset, ServiceRequestEnable, ServiceRequestEnableQuery, StatusByteQuery, Trigger, SelfTestQuery, WaitToContinue, SystemErrorQuery, SystemErrorCountQuery, SystemVersionQuery, StatusPreset, OperationEventQuery, OperationConditionQuery, OperationEnable, OperationEnableQuery, OperationPositiveTransition, OperationPositiveTransitionQuery, OperationNegativeTransition, OperationNegativeTransitionQuery, QuestionableEventQuery, QuestionableConditionQuery, QuestionableEnable, QuestionableEnableQuery, QuestionablePositiveTransition, QuestionablePositiveTransitionQuery, QuestionableNegativeTransition, QuestionableNegativeTransitionQuery, RouteScan, RouteScanQuery, RouteMonitor, RouteMonitorQuery, VoltageRange, VoltageRangeQuery, UpperLimit, UpperLimitQuery, LowerLimit, LowerLimitQuery, LimitState, LimitStateQuery, TriggerSource, TriggerSourceQuery, TriggerCount, TriggerCountQuery, Initiate, Abort, FetchQuery, ReadQuery, ConfigureVoltage, MeasureVoltageQuery}
+use Rattle.sv_header.specs.declared.command.CommandId.TheVariants.{ClearStatus, StandardEventEnable, StandardEventEnableQuery, StandardEventQuery, IdentificationQuery, OperationComplete, OperationCompleteQuery, Reset, ServiceRequestEnable, ServiceRequestEnableQuery, StatusByteQuery, Trigger, SelfTestQuery, WaitToContinue, SystemErrorQuery, SystemErrorCountQuery, SystemVersionQuery, StatusPreset, OperationEventQuery, OperationConditionQuery, OperationEnable, OperationEnableQuery, OperationPositiveTransition, OperationPositiveTransitionQuery, OperationNegativeTransition, OperationNegativeTransitionQuery, QuestionableEventQuery, QuestionableConditionQuery, QuestionableEnable, QuestionableEnableQuery, QuestionablePositiveTransition, QuestionablePositiveTransitionQuery, QuestionableNegativeTransition, QuestionableNegativeTransitionQuery, LimitEventQuery, LimitConditionQuery, LimitEnable, LimitEnableQuery, LimitPositiveTransition, LimitPositiveTransitionQuery, LimitNegativeTransition, LimitNegativeTransitionQuery, RouteScan, RouteScanQuery, RouteMonitor, RouteMonitorQuery, VoltageRange, VoltageRangeQuery, UpperLimit, UpperLimitQuery, LowerLimit, LowerLimitQuery, LimitState, LimitStateQuery, TriggerSource, TriggerSourceQuery, TriggerCount, TriggerCountQuery, Initiate, Abort, FetchQuery, ReadQuery, ConfigureVoltage, MeasureVoltageQuery}
 use Rattle.sv_header.specs.Pattern.{Row, row, node, maybe, CommonCommand, CommonQuery, Command, Query}
 
 -- common commands (IEEE 488.2, chapter 10)
@@ -57,6 +57,19 @@ questionable_commands =
     ∷ row Query (node "STAT" "US" ∷ node "QUES" "TIONABLE" ∷ node "NTR" "ANSITION" ∷ []) QuestionableNegativeTransitionQuery
     ∷ []
 
+-- the register of limits
+abbrev pub limit_commands : List Row
+limit_commands =
+    row Query (node "STAT" "US" ∷ node "QUES" "TIONABLE" ∷ node "LIM" "IT" ∷ maybe "EVEN" "T" ∷ []) LimitEventQuery
+    ∷ row Query (node "STAT" "US" ∷ node "QUES" "TIONABLE" ∷ node "LIM" "IT" ∷ node "COND" "ITION" ∷ []) LimitConditionQuery
+    ∷ row Command (node "STAT" "US" ∷ node "QUES" "TIONABLE" ∷ node "LIM" "IT" ∷ node "ENAB" "LE" ∷ []) LimitEnable
+    ∷ row Query (node "STAT" "US" ∷ node "QUES" "TIONABLE" ∷ node "LIM" "IT" ∷ node "ENAB" "LE" ∷ []) LimitEnableQuery
+    ∷ row Command (node "STAT" "US" ∷ node "QUES" "TIONABLE" ∷ node "LIM" "IT" ∷ node "PTR" "ANSITION" ∷ []) LimitPositiveTransition
+    ∷ row Query (node "STAT" "US" ∷ node "QUES" "TIONABLE" ∷ node "LIM" "IT" ∷ node "PTR" "ANSITION" ∷ []) LimitPositiveTransitionQuery
+    ∷ row Command (node "STAT" "US" ∷ node "QUES" "TIONABLE" ∷ node "LIM" "IT" ∷ node "NTR" "ANSITION" ∷ []) LimitNegativeTransition
+    ∷ row Query (node "STAT" "US" ∷ node "QUES" "TIONABLE" ∷ node "LIM" "IT" ∷ node "NTR" "ANSITION" ∷ []) LimitNegativeTransitionQuery
+    ∷ []
+
 -- what is measured, and how
 abbrev pub setting_commands : List Row
 setting_commands =
@@ -91,4 +104,5 @@ measuring_commands =
 
 -- all of them
 abbrev pub table : List Row
-table = common_commands ++ system_commands ++ operation_commands ++ questionable_commands ++ setting_commands ++ measuring_commands
+table = common_commands ++ system_commands ++ operation_commands ++ questionable_commands ++ limit_commands ++ setting_commands
+    ++ measuring_commands

@@ -30,6 +30,9 @@ impl CommandId {
             | CommandId::QuestionableEnable
             | CommandId::QuestionablePositiveTransition
             | CommandId::QuestionableNegativeTransition
+            | CommandId::LimitEnable
+            | CommandId::LimitPositiveTransition
+            | CommandId::LimitNegativeTransition
             | CommandId::RouteScan
             | CommandId::RouteMonitor
             | CommandId::VoltageRange

@@ -72,6 +72,22 @@ pub enum CommandId {
     QuestionableNegativeTransition,
     /// `STATus:QUEStionable:NTRansition?`.
     QuestionableNegativeTransitionQuery,
+    /// `STATus:QUEStionable:LIMit[:EVENt]?`.
+    LimitEventQuery,
+    /// `STATus:QUEStionable:LIMit:CONDition?`.
+    LimitConditionQuery,
+    /// `STATus:QUEStionable:LIMit:ENABle`.
+    LimitEnable,
+    /// `STATus:QUEStionable:LIMit:ENABle?`.
+    LimitEnableQuery,
+    /// `STATus:QUEStionable:LIMit:PTRansition`.
+    LimitPositiveTransition,
+    /// `STATus:QUEStionable:LIMit:PTRansition?`.
+    LimitPositiveTransitionQuery,
+    /// `STATus:QUEStionable:LIMit:NTRansition`.
+    LimitNegativeTransition,
+    /// `STATus:QUEStionable:LIMit:NTRansition?`.
+    LimitNegativeTransitionQuery,
     /// `ROUTe:SCAN`.
     RouteScan,
     /// `ROUTe:SCAN?`.

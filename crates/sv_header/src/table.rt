@@ -58,7 +58,7 @@ pub(crate) static SYSTEM_NODES: [Branch; 5] = [
 
 /// STATus without its registers, which stand behind these (SCPI-1999, volume 2).
 pub(crate) static STATUS_NODES: [Branch; 2] = [
-    branch!(STATUS, 13, None, None),
+    branch!(STATUS, 19, None, None),
     branch!(PRESET, 0, StatusPreset, None),
 ];
 
@@ -97,10 +97,10 @@ pub(crate) static OPERATION_REGISTER: [Branch; 6] = register_nodes!(
     OperationNegativeTransitionQuery
 );
 
-/// The questionable register.
+/// The questionable register; the register of limits stands behind these nodes.
 pub(crate) static QUESTIONABLE_REGISTER: [Branch; 6] = register_nodes!(
     QUESTIONABLE,
-    5,
+    11,
     QuestionableEventQuery,
     QuestionableConditionQuery,
     QuestionableEnable,
@@ -109,6 +109,20 @@ pub(crate) static QUESTIONABLE_REGISTER: [Branch; 6] = register_nodes!(
     QuestionablePositiveTransitionQuery,
     QuestionableNegativeTransition,
     QuestionableNegativeTransitionQuery
+);
+
+/// The register of limits, which stands below the questionable one.
+pub(crate) static LIMIT_REGISTER: [Branch; 6] = register_nodes!(
+    LIMIT,
+    5,
+    LimitEventQuery,
+    LimitConditionQuery,
+    LimitEnable,
+    LimitEnableQuery,
+    LimitPositiveTransition,
+    LimitPositiveTransitionQuery,
+    LimitNegativeTransition,
+    LimitNegativeTransitionQuery
 );
 
 /// What is measured, and how (SCPI-1999, volume 2).

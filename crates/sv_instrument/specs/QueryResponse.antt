@@ -16,7 +16,8 @@ use Rattle.sv_command.specs.declared.order.Question.{Question}
 use Rattle.sv_command.specs.declared.order.Question.TheVariants as question
 use Rattle.sv_layers.specs.Act.{Act, queue_acts}
 use Rattle.sv_layers.specs.Condition.{condition, counted}
-use Rattle.sv_layers.specs.Event.{EventStands, rise, fall, enable}
+use Rattle.sv_layers.specs.Event.{EventStands}
+use Rattle.sv_layers.specs.Filter.{rise, fall, enable}
 use Rattle.sv_layers.specs.Standard.{Stands, enable as standard_enable}
 use Rattle.sv_layers.specs.StatusByte.{MasterBit, service}
 

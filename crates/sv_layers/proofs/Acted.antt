@@ -16,6 +16,7 @@ exchange_acted layered log h new act stands = record {
     errors = h.joined.errors;
     operation = h.joined.operation;
     questionable = h.joined.questionable;
+    limit = h.joined.limit;
     standard = h.joined.standard;
     status = h.joined.status;
     scanner = h.joined.scanner;

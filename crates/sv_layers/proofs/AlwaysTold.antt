@@ -12,7 +12,9 @@ use Rattle.sv_status.specs.StandardEvent as standards
 use Rattle.sv_status.proofs.Words.{meets, no_bits}
 use Rattle.sv_status.proofs.Registers as registers
 use Rattle.sv_status.proofs.StandardEvents as events
+use Rattle.sv_status.specs.declared.register_name.RegisterName.TheVariants.{Operation, Questionable}
 use Rattle.sv_layers.specs.Act.{Act}
+use Rattle.sv_layers.specs.Filter.{start as start_of}
 use Rattle.sv_layers.specs.Inside.Seen.{Seen, seen}
 use Rattle.sv_layers.specs.Inside.Kept.{IsSummary, IsStatus}
 use Rattle.sv_layers.specs.Laws.{OneAccount, SameRaising}
@@ -20,10 +22,11 @@ use Rattle.sv_layers.proofs.OneStatus.{one_status}
 use Rattle.sv_layers.proofs.SameRequests.{told_raised}
 
 -- what a register keeps behind its acts
-register_kept : (acts : List RegisterAct) → (latches : register.Latches) × register.StandsFor latches acts
-register_kept [] = (
-  record { condition = 0; rise = 32767; fall = 0; event = 0; enable = 0 },
+register_kept : (start : ℕ) (acts : List RegisterAct) → (latches : register.Latches) × register.StandsFor start latches acts
+register_kept start [] = (
+  record { condition = 0; rise = 32767; fall = 0; event = 0; enable = start; start = start },
   record {
+    begins = refl;
     condition = refl;
     rise = refl;
     fall = refl;
@@ -31,12 +34,12 @@ register_kept [] = (
     event = λ k. no_bits k _ (registers.event-none k);
   },
 )
-register_kept (Condition word ∷ acts) = let h = register_kept acts in (_, registers.StandsFor-condition h.0 acts word h.1)
-register_kept (SetFilter up down ∷ acts) = let h = register_kept acts in (_, registers.StandsFor-filter h.0 acts up down h.1)
-register_kept (SetEnable word ∷ acts) = let h = register_kept acts in (_, registers.StandsFor-enable h.0 acts word h.1)
-register_kept (ReadEvent ∷ acts) = let h = register_kept acts in (_, registers.StandsFor-read h.0 acts h.1)
-register_kept (Preset ∷ acts) = let h = register_kept acts in (_, registers.StandsFor-preset h.0 acts h.1)
-register_kept (Clear ∷ acts) = let h = register_kept acts in (_, registers.StandsFor-cleared h.0 acts h.1)
+register_kept start (Condition word ∷ acts) = let h = register_kept start acts in (_, registers.StandsFor-condition start h.0 acts word h.1)
+register_kept start (SetFilter up down ∷ acts) = let h = register_kept start acts in (_, registers.StandsFor-filter start h.0 acts up down h.1)
+register_kept start (SetEnable word ∷ acts) = let h = register_kept start acts in (_, registers.StandsFor-enable start h.0 acts word h.1)
+register_kept start (ReadEvent ∷ acts) = let h = register_kept start acts in (_, registers.StandsFor-read start h.0 acts h.1)
+register_kept start (Preset ∷ acts) = let h = register_kept start acts in (_, registers.StandsFor-preset start h.0 acts h.1)
+register_kept start (Clear ∷ acts) = let h = register_kept start acts in (_, registers.StandsFor-cleared start h.0 acts h.1)
 
 standard_kept : (acts : List StandardAct) → (latches : standards.Latches) × standards.StandsFor latches acts
 standard_kept [] = (_, events.StandsFor-new)
@@ -46,9 +49,9 @@ standard_kept (standard.SetEnable word ∷ acts) = let h = standard_kept acts in
 standard_kept (standard.Clear ∷ acts) = let h = standard_kept acts in (_, events.StandsFor-cleared h.0 acts h.1)
 
 -- a test whether an enabled bit stands
-register_test : (acts : List RegisterAct) → (stands : Bool) × ((stands ≡ true) ↔ register.Summary acts)
-register_test acts = let h = register_kept acts in
-    (not (eqb (bit_and h.0.event h.0.enable) 0), then_same (meets h.0.event h.0.enable) (registers.summary_is h.0 acts h.1))
+register_test : (start : ℕ) (acts : List RegisterAct) → (stands : Bool) × ((stands ≡ true) ↔ register.Summary start acts)
+register_test start acts = let h = register_kept start acts in
+    (not (eqb (bit_and h.0.event h.0.enable) 0), then_same (meets h.0.event h.0.enable) (registers.summary_is start h.0 acts h.1))
 
 standard_test : (acts : List StandardAct) → (stands : Bool) × ((stands ≡ true) ↔ standards.Summary acts)
 standard_test acts = let h = standard_kept acts in
@@ -59,12 +62,12 @@ some_summary : (at : Seen) → (word : ℕ) × IsSummary word at
 some_summary at = (
   _,
   record {
-    operates = (register_test at.operation).0;
+    operates = (register_test (start_of Operation) at.operation).0;
     happened = (standard_test at.standard).0;
-    questioned = (register_test at.questionable).0;
-    operation = (register_test at.operation).1;
+    questioned = (register_test (start_of Questionable) at.questionable).0;
+    operation = (register_test (start_of Operation) at.operation).1;
     standard = (standard_test at.standard).1;
-    questionable = (register_test at.questionable).1;
+    questionable = (register_test (start_of Questionable) at.questionable).1;
     word_is = refl;
   },
 )

@@ -1,27 +1,33 @@
 -- A condition that isn't touched was told before, and need not be told again.
-use Rattle.std.proofs.Common.{◌≡◌, ℕ, false, List, ◌∷◌, refl, ap, ◌∙◌, sym}
+use Rattle.std.proofs.Common.{◌≡◌, ℕ, ◌+◌, Bool, true, false, List, ◌∷◌, refl, ap, ◌∙◌, sym, subst, bit_or}
 use Rattle.std.proofs.lemmas.Bool.{cond_both}
 use Rattle.sv_errors.proofs.Since.{then_same}
-use Rattle.sv_status.specs.declared.register_name.RegisterName.TheVariants.{Operation, Questionable}
+use Rattle.sv_status.specs.declared.register_name.RegisterName.{RegisterName}
+use Rattle.sv_status.specs.declared.register_name.RegisterName.TheVariants.{Operation, Questionable, Limit}
 use Rattle.sv_status.specs.declared.register.RegisterAct.{RegisterAct}
 use Rattle.sv_status.specs.declared.register.RegisterAct.TheVariants.{Condition}
-use Rattle.sv_status.specs.Register.{Latches, StandsFor, condition}
+use Rattle.sv_status.specs.Register as register
+use Rattle.sv_status.specs.Register.{Latches, StandsFor}
 use Rattle.sv_status.proofs.Registers.{event-unchanged}
 use Rattle.sv_scan.specs.declared.touched.Touched.{Touched}
 use Rattle.sv_scan.specs.declared.acts.ScanAct.{ScanAct}
+use Rattle.sv_scan.specs.Stands.{Contents, StandsFor as Scans}
 use Rattle.sv_scan.specs.Counted.{kept, counts}
-use Rattle.sv_scan.specs.Condition.{operation, questionable}
+use Rattle.sv_scan.specs.Scan.{last_reading}
+use Rattle.sv_scan.specs.Condition as scan
 use Rattle.sv_scan.specs.Touched.{IsTouched}
-use Rattle.sv_layers.specs.Act.{Act, Exchanged, Scanned}
-use Rattle.sv_layers.specs.Inside.Seen.{Seen, begun, seen}
-use Rattle.sv_layers.specs.Inside.Kept.{AreTold}
-use Rattle.sv_layers.proofs.Projected.{projected}
-use Rattle.sv_layers.proofs.SameWords.{same_words}
+use Rattle.sv_layers.specs.Act.{Act, Exchanged, Scanned, scan_acts}
+use Rattle.sv_layers.specs.Filter.{start}
+use Rattle.sv_layers.specs.Condition.{counted, condition}
+use Rattle.sv_layers.specs.Inside.Seen.{own, begun, register_acts, seen}
+use Rattle.sv_layers.proofs.Projected.{begun_scanner, begun_register}
+use Rattle.sv_layers.proofs.Registered.{seen_register}
 
 -- the condition that a register was told last
-pub stands_told : (latches : Latches) (acts : List RegisterAct) (word : ℕ) → word ≡ condition acts → StandsFor latches acts
-    → StandsFor latches (Condition word ∷ acts)
-stands_told latches acts word same is = record {
+pub stands_told : (start : ℕ) (latches : Latches) (acts : List RegisterAct) (word : ℕ) → word ≡ register.condition acts
+    → StandsFor start latches acts → StandsFor start latches (Condition word ∷ acts)
+stands_told start latches acts word same is = record {
+  begins = is.begins;
   condition = is.condition ∙ sym same;
   rise = is.rise;
   fall = is.fall;
@@ -29,34 +35,54 @@ stands_told latches acts word same is = record {
   event = λ k. let step = event-unchanged k word acts same in then_same (is.event k) ((step.1, step.0));
 }
 
--- words that aren't touched are what they were
-abbrev Leaves : Touched → List ScanAct → List ScanAct → Type 0
-Leaves touched after before = (touched.operation ≡ false → operation after ≡ operation before)
-    × (touched.questionable ≡ false → questionable after ≡ questionable before)
+-- words of the scanner that aren't touched are what they were
+abbrev pub Leaves : Touched → List ScanAct → List ScanAct → Type 0
+Leaves touched after before = (touched.operation ≡ false → scan.operation after ≡ scan.operation before)
+    × (touched.questionable ≡ false → scan.questionable after ≡ scan.questionable before)
+    × (touched.limit ≡ false → scan.limit after ≡ scan.limit before)
 
 scanned_leaves : (touched : Touched) (act : ScanAct) (acts : List ScanAct) → IsTouched touched (kept (act ∷ acts))
     → Leaves touched (kept (act ∷ acts)) (kept acts)
 scanned_leaves touched act acts = cond_both (counts (kept acts) act) (act ∷ kept acts) (kept acts)
     (λ (log : List ScanAct). IsTouched touched log → Leaves touched log (kept acts))
     (λ e is. is)
-    (λ e is. ((λ no. refl), (λ no. refl)))
+    (λ e is. ((λ no. refl), (λ no. refl), (λ no. refl)))
 
--- behind an act both registers were told the conditions as they are
-abbrev IsTold : Seen → Type 0
-IsTold at = (operation (kept at.scanner) ≡ condition at.operation) × (questionable (kept at.scanner) ≡ condition at.questionable)
+pub counted_leaves : (touched : Touched) (act : Act) (log : List Act) → IsTouched touched (counted (act ∷ log))
+    → Leaves touched (counted (act ∷ log)) (counted log)
+counted_leaves touched (Scanned act) log is = scanned_leaves touched act (scan_acts log) is
+counted_leaves touched (Exchanged act) log is = ((λ no. refl), (λ no. refl), (λ no. refl))
+counted_leaves touched _ log is = ((λ no. refl), (λ no. refl), (λ no. refl))
 
-seen_told : (log : List Act) → IsTold (seen log)
-seen_told log =
-    let scanner = (projected log).2 in (
-      ap (λ (acts : List ScanAct). operation (kept acts)) scanner ∙ sym (same_words Operation log).0,
-      ap (λ (acts : List ScanAct). questionable (kept acts)) scanner ∙ sym (same_words Questionable log).0,
-    )
+-- where an act began, the scanner stands for its acts, and each register for those that it saw
+pub begun_scans : (contents : Contents) (act : Act) (log : List Act) → Scans contents (begun act (seen log)).scanner
+    → Scans contents (scan_acts (act ∷ log))
+begun_scans contents act log = subst (λ (acts : List ScanAct). Scans contents acts) (begun_scanner act log)
 
-pub begun_told : (touched : Touched) (act : Act) (log : List Act) → IsTouched touched (kept (begun act (seen log)).scanner)
-    → AreTold touched (begun act (seen log))
-begun_told touched (Scanned act) log is =
-    let left = scanned_leaves touched act (seen log).scanner is in
-    let told = seen_told log in
-    ((λ no. left.0 no ∙ told.0), (λ no. left.1 no ∙ told.1))
-begun_told touched (Exchanged act) log is = let told = seen_told log in ((λ no. told.0), (λ no. told.1))
-begun_told touched _ log is = let told = seen_told log in ((λ no. told.0), (λ no. told.1))
+pub begun_stands : (name : RegisterName) (act : Act) (log : List Act) (latches : Latches)
+    → StandsFor (start name) latches (register_acts name (begun act (seen log))) → StandsFor (start name) latches (register_acts name (seen log))
+begun_stands name act log latches = subst (λ (acts : List RegisterAct). StandsFor (start name) latches acts) (begun_register name act log)
+
+-- a register that was told its condition, and ended the act as another one ends, has ended it
+pub ended_stands : (name : RegisterName) (other act : Act) (log : List Act) (latches : Latches) (word : ℕ)
+    → word ≡ condition name (act ∷ log)
+    → ((acts : List RegisterAct) → own name other acts ≡ own name act acts)
+    → StandsFor (start name) latches (own name other (Condition word ∷ register_acts name (seen log)))
+    → StandsFor (start name) latches (register_acts name (seen (act ∷ log)))
+ended_stands name other act log latches word told same =
+    subst (λ (acts : List RegisterAct). StandsFor (start name) latches acts)
+    (same (Condition word ∷ register_acts name (seen log))
+    ∙ ap (λ (w : ℕ). own name act (Condition w ∷ register_acts name (seen log))) told ∙ sym (seen_register name act log))
+
+-- bit 9 beside bit 0
+or_is : (low high : Bool) → bit_or (scan.bit 0 low) (scan.bit 9 high) ≡ scan.bit 0 low + scan.bit 9 high
+or_is true true = refl
+or_is true false = refl
+or_is false true = refl
+or_is false false = refl
+
+pub questionable_is : (low high : ℕ) (acts : List ScanAct) (summary : Bool) → low ≡ scan.questionable acts → high ≡ scan.bit 9 summary
+    → bit_or low high ≡ scan.questionable acts + scan.bit 9 summary
+questionable_is low high acts summary first second =
+    ap (λ (w : ℕ). bit_or w high) first ∙ ap (λ (w : ℕ). bit_or (scan.questionable acts) w) second
+    ∙ or_is (scan.is_overload (last_reading acts)) summary

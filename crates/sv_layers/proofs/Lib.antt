@@ -16,6 +16,8 @@ pub mod NothingAtPoll
 pub mod SameRequests
 pub mod AlwaysTold
 pub mod Either
+pub mod Transitions
+pub mod LimitSummary
 pub mod Lent
 pub mod Refusals
 pub mod PolledByte

@@ -1,21 +1,39 @@
 -- A poll changes nothing that the status byte sums up, so it gives no reason for service.
-use Rattle.std.proofs.Common.{ℕ, List, [], ◌∷◌, ◌⊎◌, inl, inr, arith, sym, ◌∙◌}
+use Rattle.std.proofs.Common.{◌≡◌, ℕ, ◌+◌, Bool, true, List, [], ◌∷◌, ◌⊎◌, inl, inr, arith, refl, ap, sym, ◌∙◌}
+use Rattle.std.specs.Prelude.{◌&&◌, ◌||◌}
+use Rattle.sv_errors.specs.Since.{is_since}
 use Rattle.sv_errors.proofs.Since.{since_empty, since_step, since_same}
 use Rattle.sv_status.specs.declared.register_name.RegisterName.{RegisterName}
-use Rattle.sv_status.specs.declared.register_name.RegisterName.TheVariants.{Operation, Questionable}
-use Rattle.sv_status.proofs.Registers.{no_change}
+use Rattle.sv_status.specs.declared.register_name.RegisterName.TheVariants.{Operation, Questionable, Limit}
+use Rattle.sv_scan.specs.Condition as scan
 use Rattle.sv_layers.specs.Act.{Act, Polled}
-use Rattle.sv_layers.specs.Condition.{condition}
+use Rattle.sv_layers.specs.Filter.{rise, fall, enable, has_bit, passes, leaves}
+use Rattle.sv_layers.specs.Condition.{counted, limit, limit_summary, condition}
 use Rattle.sv_layers.specs.Event.{Passes, NotCleared, Summary}
 use Rattle.sv_layers.specs.Standard.{IsAsked, IsPending, Completes, Occurs, NotCleared as StandardNotCleared, Summary as StandardSummary}
 use Rattle.sv_layers.specs.StatusByte.{Asks}
+use Rattle.sv_layers.proofs.Transitions.{changes, no_change}
+use Rattle.sv_layers.proofs.LimitSummary.{some_same}
+
+-- it passes no limit, and leaves their summary
+limits_stay : (log : List Act) → limit_summary (Polled ∷ log) ≡ limit_summary log
+limits_stay log = some_same 16 _ _ (λ k.
+    ap (λ (b : Bool). (b || is_since (passes limit Limit k) (leaves Limit) log) && has_bit (enable Limit log) k)
+    (no_change (has_bit (limit log) k) (has_bit (rise Limit log) k) (has_bit (fall Limit log) k)))
+
+same_condition : (name : RegisterName) (log : List Act) → condition name (Polled ∷ log) ≡ condition name log
+same_condition Operation log = refl
+same_condition Questionable log = ap (λ (b : Bool). scan.questionable (counted log) + scan.bit 9 b) (limits_stay log)
+same_condition Limit log = refl
 
 no_pass : (name : RegisterName) (k : ℕ) (log : List Act) → Passes name k (Polled ∷ log) → ⊥
-no_pass Operation k log = no_change (condition Operation log) k _ _
-no_pass Questionable k log = no_change (condition Questionable log) k _ _
+no_pass name k log passed =
+    let told : changes k (condition name log) (condition name log) (rise name log) (fall name log) ≡ true =
+    ap (λ (w : ℕ). changes k (condition name log) w (rise name log) (fall name log)) (sym (same_condition name log)) ∙ passed in
+    absurd (let none = sym (no_change (has_bit (condition name log) k) (has_bit (rise name log) k) (has_bit (fall name log) k)) ∙ told in cc)
 
 polled_summary : (name : RegisterName) (log : List Act) → Summary name (Polled ∷ log) → Summary name log
-polled_summary name log s = (s.0, (since_same (Passes name s.0) (NotCleared name) Polled log tt (no_pass name s.0 log)).0 s.1, s.2)
+polled_summary name log s = (s.0, (since_same (Passes name s.0) (NotCleared name) Polled log refl (no_pass name s.0 log)).0 s.1, s.2)
 
 -- an `*OPC` that waits isn't at an idle place
 no_completion : (log : List Act) → Completes (Polled ∷ log) → ⊥

@@ -1,20 +1,26 @@
 -- Which bits of a status register stand, as it is seen and as the log tells.
 use Rattle.std.proofs.Common.{◌≡◌, ℕ, Bool, true, false, List, [], ◌∷◌, refl, ◌⊎◌}
-use Rattle.std.specs.Prelude.{◌↔◌, if◌then◌else◌}
+use Rattle.std.specs.Prelude.{◌↔◌, not, if◌then◌else◌}
 use Rattle.sv_errors.proofs.Since.{since_unique, step_kept, step_ended, then_same}
 use Rattle.sv_status.specs.declared.register_name.RegisterName.{RegisterName}
-use Rattle.sv_status.specs.declared.register_name.RegisterName.TheVariants.{Operation, Questionable}
+use Rattle.sv_status.specs.declared.register_name.RegisterName.TheVariants.{Operation, Questionable, Limit}
 use Rattle.sv_status.specs.declared.register.RegisterAct.{RegisterAct}
 use Rattle.sv_status.specs.declared.register.RegisterAct.TheVariants as register
 use Rattle.sv_status.specs.Register as stands
 use Rattle.sv_status.proofs.Registers.{event-none, event-condition, event-read, event-cleared, event-filter, event-enable, event-preset}
 use Rattle.sv_layers.specs.Act.{Act, Cleared, Preset, EventRead, Enabled, RiseSet, FallSet}
 use Rattle.sv_layers.specs.Condition.{condition}
-use Rattle.sv_layers.specs.Event.{is_same, Passes, NotCleared}
+use Rattle.sv_layers.specs.Filter.{is_same, rise, fall}
+use Rattle.sv_layers.specs.Event.{Passes, NotCleared}
 use Rattle.sv_layers.specs.Inside.Seen.{own, seen, register_acts}
 use Rattle.sv_layers.specs.Laws.{SameEvents}
 use Rattle.sv_layers.proofs.Registered.{seen_register}
+use Rattle.sv_layers.proofs.Either.{unchanged, either_same}
+use Rattle.sv_layers.proofs.Transitions.{changes_is}
 use Rattle.sv_layers.proofs.SameWords.{same_words}
+
+flip : {P Q : Type 0} → P ↔ Q → Q ↔ P
+flip same = (same.1, same.0)
 
 -- the condition behind an act
 at_condition : (name : RegisterName) (k : ℕ) (act : Act) (log : List Act)
@@ -22,7 +28,9 @@ at_condition : (name : RegisterName) (k : ℕ) (act : Act) (log : List Act)
     ↔ (Passes name k (act ∷ log) ⊎ stands.EventStands k (register_acts name (seen log)))
 at_condition name k act log =
     let words = same_words name log in
-    rw (words.0, words.1, words.2) at (event-condition k (condition name (act ∷ log)) (register_acts name (seen log)))
+    let told = rw (words.0, words.1, words.2) at (event-condition k (condition name (act ∷ log)) (register_acts name (seen log))) in
+    let is = changes_is k (condition name log) (condition name (act ∷ log)) (rise name log) (fall name log) in
+    either_same told (flip is) unchanged
 
 -- an act of the register that is named changes none, or the register is the other
 where_event : {R : Type 0} (b : Bool) (k : ℕ) (act : RegisterAct) (acts : List RegisterAct)
@@ -33,20 +41,20 @@ where_event false k act acts same h = h
 
 -- it is read, or the other
 where_read : {F Q : Type 0} (b : Bool) (k : ℕ) (acts : List RegisterAct) → stands.EventStands k acts ↔ (F ⊎ Q)
-    → stands.EventStands k (if b then register.ReadEvent ∷ acts else acts) ↔ ((b ≡ false) × (F ⊎ Q))
+    → stands.EventStands k (if b then register.ReadEvent ∷ acts else acts) ↔ ((not b ≡ true) × (F ⊎ Q))
 where_read true k acts h = step_ended (λ e. absurd cc) (event-read k acts)
 where_read false k acts h = step_kept refl h
 
 own_event : (name : RegisterName) (k : ℕ) (act : Act) (log : List Act) (acts : List RegisterAct) (Q : Type 0)
     → stands.EventStands k acts ↔ (Passes name k (act ∷ log) ⊎ Q)
     → stands.EventStands k (own name act acts) ↔ (NotCleared name (act ∷ log) × (Passes name k (act ∷ log) ⊎ Q))
-own_event name k Cleared log acts Q h = step_ended (λ kept. kept) (event-cleared k acts)
-own_event name k Preset log acts Q h = step_kept tt (then_same (event-preset k acts) h)
+own_event name k Cleared log acts Q h = step_ended (λ kept. absurd cc) (event-cleared k acts)
+own_event name k Preset log acts Q h = step_kept refl (then_same (event-preset k acts) h)
 own_event name k (EventRead other) log acts Q h = where_read (is_same name other) k acts h
-own_event name k (Enabled other mask) log acts Q h = step_kept tt (where_event (is_same name other) k _ acts (event-enable k _ acts) h)
-own_event name k (RiseSet other mask) log acts Q h = step_kept tt (where_event (is_same name other) k _ acts (event-filter k _ _ acts) h)
-own_event name k (FallSet other mask) log acts Q h = step_kept tt (where_event (is_same name other) k _ acts (event-filter k _ _ acts) h)
-own_event name k _ log acts Q h = step_kept tt h
+own_event name k (Enabled other mask) log acts Q h = step_kept refl (where_event (is_same name other) k _ acts (event-enable k _ acts) h)
+own_event name k (RiseSet other mask) log acts Q h = step_kept refl (where_event (is_same name other) k _ acts (event-filter k _ _ acts) h)
+own_event name k (FallSet other mask) log acts Q h = step_kept refl (where_event (is_same name other) k _ acts (event-filter k _ _ acts) h)
+own_event name k _ log acts Q h = step_kept refl h
 
 event_step : (name : RegisterName) (k : ℕ) (act : Act) (log : List Act) → stands.EventStands k (register_acts name (seen (act ∷ log)))
     ↔ (NotCleared name (act ∷ log) × (Passes name k (act ∷ log) ⊎ stands.EventStands k (register_acts name (seen log))))
@@ -55,7 +63,8 @@ event_step name k act log = rw (seen_register name act log) (own_event name k ac
 none_first : (name : RegisterName) (k : ℕ) → stands.EventStands k (register_acts name (seen [])) → ⊥
 none_first Operation k = event-none k
 none_first Questionable k = event-none k
+none_first Limit k = event-none k
 
 pub same_events : SameEvents
 same_events name k = since_unique (Passes name k) (NotCleared name) (λ log. stands.EventStands k (register_acts name (seen log)))
-    ((λ s. absurd (none_first name k s)), (λ h. absurd h.0)) (event_step name k)
+    ((λ s. absurd (none_first name k s)), (λ h. absurd (let none = h.0 in cc))) (event_step name k)

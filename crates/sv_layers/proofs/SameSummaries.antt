@@ -14,6 +14,7 @@ use Rattle.sv_status.proofs.Registers.{event-none}
 use Rattle.sv_scan.specs.Condition.{bit}
 use Rattle.sv_exchange.specs.Exchange.{ExchangeAct, response, is_something}
 use Rattle.sv_layers.specs.Act.{Act}
+use Rattle.sv_layers.specs.Filter.{start}
 use Rattle.sv_layers.specs.Event.{Summary}
 use Rattle.sv_layers.specs.Standard.{Summary as StandardSummary}
 use Rattle.sv_layers.specs.Inside.Seen.{seen, register_acts}
@@ -27,7 +28,8 @@ use Rattle.sv_layers.proofs.SameEvents.{same_events}
 use Rattle.sv_layers.proofs.SameStandard.{same_enable, same_standard_events}
 
 -- whether an enabled bit stands
-same_summary : (name : RegisterName) (log : List Act) → register.Summary (register_acts name (seen log)) ↔ Summary name log
+pub same_summary : (name : RegisterName) (log : List Act)
+    → register.Summary (start name) (register_acts name (seen log)) ↔ Summary name log
 same_summary name log =
     let enable = (same_words name log).3 in (
       (λ s. (s.0, (same_events name s.0 log).0 s.1, ap (λ (w : ℕ). bit_at w s.0) (sym enable) ∙ s.2)),

@@ -3,7 +3,7 @@ use Rattle.std.proofs.Common.{◌≡◌, ℕ, Bool, true, false, List, [], ◌�
 use Rattle.std.specs.Prelude.{◌^◌, if◌then◌else◌}
 use Rattle.std.proofs.Math.Nat.{mod-mod}
 use Rattle.sv_status.specs.declared.register_name.RegisterName.{RegisterName}
-use Rattle.sv_status.specs.declared.register_name.RegisterName.TheVariants.{Operation, Questionable}
+use Rattle.sv_status.specs.declared.register_name.RegisterName.TheVariants.{Operation, Questionable, Limit}
 use Rattle.sv_status.specs.declared.register.RegisterAct.{RegisterAct}
 use Rattle.sv_status.specs.declared.register.RegisterAct.TheVariants.{Condition, SetFilter, SetEnable, ReadEvent, Clear}
 use Rattle.sv_status.specs.declared.register.RegisterAct.TheVariants as register
@@ -11,18 +11,18 @@ use Rattle.sv_status.specs.Register as register_words
 use Rattle.sv_status.specs.Register.{masked}
 use Rattle.sv_layers.specs.Act.{Act, Preset, EventRead, Enabled, RiseSet, FallSet}
 use Rattle.sv_layers.specs.Condition.{condition}
-use Rattle.sv_layers.specs.Event.{is_same, rise, fall, enable}
+use Rattle.sv_layers.specs.Filter.{is_same, start, rise, fall, enable}
 use Rattle.sv_layers.specs.Inside.Seen.{own, seen, register_acts}
 use Rattle.sv_layers.specs.Laws.{SameWords}
 use Rattle.sv_layers.proofs.Registered.{seen_register}
 
 -- the words that a register has behind its acts
-abbrev Words : List RegisterAct → ℕ → ℕ → ℕ → ℕ → Type 0
-Words acts c r f e = (register_words.condition acts ≡ c) × (register_words.rise acts ≡ r) × (register_words.fall acts ≡ f)
-    × (register_words.enable acts ≡ e)
+abbrev Words : ℕ → List RegisterAct → ℕ → ℕ → ℕ → ℕ → Type 0
+Words s acts c r f e = (register_words.condition acts ≡ c) × (register_words.rise acts ≡ r) × (register_words.fall acts ≡ f)
+    × (register_words.enable s acts ≡ e)
 
 abbrev WordsOf : RegisterName → List RegisterAct → List Act → Type 0
-WordsOf name acts log = Words acts (condition name log) (rise name log) (fall name log) (enable name log)
+WordsOf name acts log = Words (start name) acts (condition name log) (rise name log) (fall name log) (enable name log)
 
 -- a filter has no bit 15
 filters_masked : (acts : List RegisterAct) → (masked (register_words.rise acts) ≡ register_words.rise acts)
@@ -36,39 +36,40 @@ filters_masked (register.Preset ∷ acts) = (refl, refl)
 filters_masked (Clear ∷ acts) = filters_masked acts
 
 -- an act of the register that is named, or of the other
-read_words : (b : Bool) (acts : List RegisterAct) (c r f e : ℕ) → Words acts c r f e → Words (if b then ReadEvent ∷ acts else acts) c r f e
-read_words true acts c r f e h = h
-read_words false acts c r f e h = h
+read_words : (s : ℕ) (b : Bool) (acts : List RegisterAct) (c r f e : ℕ) → Words s acts c r f e → Words s (if b then ReadEvent ∷ acts else acts) c r f e
+read_words s true acts c r f e h = h
+read_words s false acts c r f e h = h
 
-enabled_words : (b : Bool) (mask : ℕ) (acts : List RegisterAct) (c r f e : ℕ) → Words acts c r f e
-    → Words (if b then SetEnable mask ∷ acts else acts) c r f (if b then masked mask else e)
-enabled_words true mask acts c r f e h = (h.0, h.1, h.2, refl)
-enabled_words false mask acts c r f e h = h
+enabled_words : (s : ℕ) (b : Bool) (mask : ℕ) (acts : List RegisterAct) (c r f e : ℕ) → Words s acts c r f e
+    → Words s (if b then SetEnable mask ∷ acts else acts) c r f (if b then masked mask else e)
+enabled_words s true mask acts c r f e h = (h.0, h.1, h.2, refl)
+enabled_words s false mask acts c r f e h = h
 
-rise_words : (b : Bool) (mask : ℕ) (acts : List RegisterAct) (c r f e : ℕ) → Words acts c r f e
-    → Words (if b then SetFilter mask (register_words.fall acts) ∷ acts else acts) c (if b then masked mask else r) f e
-rise_words true mask acts c r f e h = (h.0, refl, (filters_masked acts).1 ∙ h.2, h.3)
-rise_words false mask acts c r f e h = h
+rise_words : (s : ℕ) (b : Bool) (mask : ℕ) (acts : List RegisterAct) (c r f e : ℕ) → Words s acts c r f e
+    → Words s (if b then SetFilter mask (register_words.fall acts) ∷ acts else acts) c (if b then masked mask else r) f e
+rise_words s true mask acts c r f e h = (h.0, refl, (filters_masked acts).1 ∙ h.2, h.3)
+rise_words s false mask acts c r f e h = h
 
-fall_words : (b : Bool) (mask : ℕ) (acts : List RegisterAct) (c r f e : ℕ) → Words acts c r f e
-    → Words (if b then SetFilter (register_words.rise acts) mask ∷ acts else acts) c r (if b then masked mask else f) e
-fall_words true mask acts c r f e h = (h.0, (filters_masked acts).0 ∙ h.1, refl, h.3)
-fall_words false mask acts c r f e h = h
+fall_words : (s : ℕ) (b : Bool) (mask : ℕ) (acts : List RegisterAct) (c r f e : ℕ) → Words s acts c r f e
+    → Words s (if b then SetFilter (register_words.rise acts) mask ∷ acts else acts) c r (if b then masked mask else f) e
+fall_words s true mask acts c r f e h = (h.0, (filters_masked acts).0 ∙ h.1, refl, h.3)
+fall_words s false mask acts c r f e h = h
 
 -- what a register has behind a condition, and behind what an act does to the register itself
 own_words : (name : RegisterName) (act : Act) (log : List Act) (acts : List RegisterAct)
-    → Words acts (condition name (act ∷ log)) (rise name log) (fall name log) (enable name log)
+    → Words (start name) acts (condition name (act ∷ log)) (rise name log) (fall name log) (enable name log)
     → WordsOf name (own name act acts) (act ∷ log)
 own_words name Preset log acts h = (h.0, refl, refl, refl)
-own_words name (EventRead other) log acts h = read_words (is_same name other) acts _ _ _ _ h
-own_words name (Enabled other mask) log acts h = enabled_words (is_same name other) mask acts _ _ _ _ h
-own_words name (RiseSet other mask) log acts h = rise_words (is_same name other) mask acts _ _ _ _ h
-own_words name (FallSet other mask) log acts h = fall_words (is_same name other) mask acts _ _ _ _ h
+own_words name (EventRead other) log acts h = read_words (start name) (is_same name other) acts _ _ _ _ h
+own_words name (Enabled other mask) log acts h = enabled_words (start name) (is_same name other) mask acts _ _ _ _ h
+own_words name (RiseSet other mask) log acts h = rise_words (start name) (is_same name other) mask acts _ _ _ _ h
+own_words name (FallSet other mask) log acts h = fall_words (start name) (is_same name other) mask acts _ _ _ _ h
 own_words name _ log acts h = h
 
 pub same_words : SameWords
 same_words Operation [] = (refl, refl, refl, refl)
 same_words Questionable [] = (refl, refl, refl, refl)
+same_words Limit [] = (refl, refl, refl, refl)
 same_words name (act ∷ log) =
     let h = same_words name log in
     subst (λ (acts : List RegisterAct). WordsOf name acts (act ∷ log)) (sym (seen_register name act log))

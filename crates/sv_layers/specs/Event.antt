@@ -1,50 +1,19 @@
--- The event registers (SCPI-1999, chapter 20, STATus): filters, events and enable, by searches of the instrument's log.
-use Rattle.std.specs.Prelude.{◌≡◌, ◌⊎◌, ℕ, Bool, true, false, ⊤, List, [], ◌∷◌, if◌then◌else◌}
+-- The events and the summaries of the event registers (SCPI-1999, chapter 20, STATus), by searches of the instrument's log.
+use Rattle.std.specs.Prelude.{◌≡◌, ℕ, true, List}
 use Rattle.std.specs.Int.{bit_at}
 use Rattle.sv_errors.specs.Since.{Since}
 use Rattle.sv_status.specs.declared.register_name.RegisterName.{RegisterName}
-use Rattle.sv_status.specs.declared.register_name.RegisterName.TheVariants.{Operation, Questionable}
-use Rattle.sv_status.specs.Register.{masked}
-use Rattle.sv_layers.specs.Act.{Act, RiseSet, FallSet, Enabled, Preset, EventRead, Cleared}
+use Rattle.sv_layers.specs.Act.{Act}
 use Rattle.sv_layers.specs.Condition.{condition}
+use Rattle.sv_layers.specs.Filter.{enable, passes, leaves}
 
-abbrev pub is_same : RegisterName → RegisterName → Bool
-is_same Operation Operation = true
-is_same Questionable Questionable = true
-is_same Operation Questionable = false
-is_same Questionable Operation = false
-
--- the filters for rising and for falling bits, and the enable: as they were last set or preset, without bit 15
-abbrev pub rise : RegisterName → List Act → ℕ
-rise name [] = 32767
-rise name (RiseSet other mask ∷ log) = if is_same name other then masked mask else rise name log
-rise name (Preset ∷ log) = 32767
-rise name (_ ∷ log) = rise name log
-
-abbrev pub fall : RegisterName → List Act → ℕ
-fall name [] = 0
-fall name (FallSet other mask ∷ log) = if is_same name other then masked mask else fall name log
-fall name (Preset ∷ log) = 0
-fall name (_ ∷ log) = fall name log
-
-abbrev pub enable : RegisterName → List Act → ℕ
-enable name [] = 0
-enable name (Enabled other mask ∷ log) = if is_same name other then masked mask else enable name log
-enable name (Preset ∷ log) = 0
-enable name (_ ∷ log) = enable name log
-
--- At the newest act a bit of the condition changes in a direction whose filter was on before.
+-- At the newest act a bit of the condition passes its filter.
 abbrev pub Passes : RegisterName → ℕ → List Act → Type 0
-Passes name k [] = ⊥
-Passes name k (act ∷ before) =
-    ((bit_at (condition name before) k ≡ 0) × (bit_at (condition name (act ∷ before)) k ≡ 1) × (bit_at (rise name before) k ≡ 1))
-    ⊎ ((bit_at (condition name before) k ≡ 1) × (bit_at (condition name (act ∷ before)) k ≡ 0) × (bit_at (fall name before) k ≡ 1))
+Passes name k log = passes (condition name) name k log ≡ true
 
--- The newest act doesn't clear the event register: it is no `*CLS` and no reading of it.
+-- The newest act doesn't clear the event register.
 abbrev pub NotCleared : RegisterName → List Act → Type 0
-NotCleared name (EventRead other ∷ log) = is_same name other ≡ false
-NotCleared name (Cleared ∷ log) = ⊥
-NotCleared name _ = ⊤
+NotCleared name log = leaves name log ≡ true
 
 -- A bit of an event register stands exactly if a transition passed its filter after the last clearing.
 abbrev pub EventStands : RegisterName → ℕ → List Act → Type 0

@@ -10,7 +10,8 @@ use Rattle.sv_status.specs.StatusByte as status
 use Rattle.sv_scan.specs.Condition.{bit}
 use Rattle.sv_layers.specs.Act.{Act, exchange_acts, queue_acts, scan_acts}
 use Rattle.sv_layers.specs.Condition.{condition}
-use Rattle.sv_layers.specs.Event.{rise, fall, enable, EventStands}
+use Rattle.sv_layers.specs.Filter.{start, rise, fall, enable}
+use Rattle.sv_layers.specs.Event.{EventStands}
 use Rattle.sv_layers.specs.Standard.{Waits, Completes, Stands, enable as standard_enable}
 use Rattle.sv_layers.specs.StatusByte.{service, SummaryBit, Request, IsRaised, PolledBit, MasterBit}
 use Rattle.sv_layers.specs.Inside.Seen.{seen, begun, completed, register_acts}
@@ -25,7 +26,7 @@ OwnActs = (log : List Act) → ((seen log).exchange ≡ exchange_acts log) × ((
 abbrev pub SameWords : Type 0
 SameWords = (name : RegisterName) (log : List Act) → (register.condition (register_acts name (seen log)) ≡ condition name log)
     × (register.rise (register_acts name (seen log)) ≡ rise name log) × (register.fall (register_acts name (seen log)) ≡ fall name log)
-    × (register.enable (register_acts name (seen log)) ≡ enable name log)
+    × (register.enable (start name) (register_acts name (seen log)) ≡ enable name log)
 
 -- The enable of the standard events is that of the log.
 abbrev pub SameEnable : Type 0

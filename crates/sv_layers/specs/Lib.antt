@@ -1,5 +1,6 @@
 pub mod Act
 pub mod Change
+pub mod Filter
 pub mod Condition
 pub mod Event
 pub mod Standard

@@ -1,15 +1,16 @@
 //! How a change ends: in one register after the other.
 
-ghost use Rattle.std.specs.Prelude.{◌≡◌, false, List, ◌∷◌};
+ghost use Rattle.std.specs.Prelude.{◌≡◌, ℕ, false, List, ◌∷◌};
 ghost use Rattle.sv_status.specs.declared.register.RegisterAct.{RegisterAct};
 ghost use Rattle.sv_status.specs.declared.standard_event.StandardAct.{StandardAct};
 ghost use Rattle.sv_status.specs.declared.status_byte.StatusAct.{StatusAct};
 ghost use Rattle.sv_status.specs.Register.{condition, StandsFor as Registers};
 ghost use Rattle.sv_status.specs.StandardEvent.{StandsFor as Standards};
 ghost use Rattle.sv_scan.specs.Counted.{is_idle as idles};
+ghost use Rattle.sv_scan.specs.Condition.{bit};
 ghost use Rattle.sv_layers.specs.Act.{Act};
 ghost use Rattle.sv_layers.specs.Change.{act_of};
-ghost use Rattle.sv_layers.specs.Event.{is_same as same_register};
+ghost use Rattle.sv_layers.specs.Filter.{is_same as same_register};
 ghost use Rattle.sv_layers.specs.Inside.Seen.{Seen, EndsAs, begun, completed, own, own_standard, seen};
 ghost use Rattle.sv_layers.specs.Inside.Kept.{Joined};
 
@@ -23,10 +24,14 @@ use sv_status::{Register, RegisterName, StandardEvent};
 /// Operation complete, of the standard events.
 const COMPLETE: u8 = 1 << 0;
 
+/// The summary of the register of limits, of the questionable condition.
+const LIMIT: u16 = 1 << 9;
+
 impl<A: Allocator> Layers<A> {
     /// Ends an act that has begun in its own layer, as this change ends. One register after the
     /// other is told its condition, where that may have changed, and then the change does to it
-    /// what it does to a register itself.
+    /// what it does to a register itself. So the summary of the register of limits is there before
+    /// the questionable register is told its condition.
     pub(crate) fn end(&mut self, change: &Change)
         ensures stands { (log : List Act) (act : Act) (told : List StatusAct)
             → EndsAs (act_of change.now) act → Joined self.old (begun act (seen log)) told
@@ -38,11 +43,13 @@ impl<A: Allocator> Layers<A> {
         let now = self.scanner.conditions();
         compare(&mut self.operation, touched.operation, now.operation);
         change_register(&mut self.operation, RegisterName::Operation, change);
-        compare(
-            &mut self.questionable,
-            touched.questionable,
-            now.questionable,
-        );
+        let stood = self.limit.summary();
+        compare(&mut self.limit, touched.limit, now.limit);
+        change_register(&mut self.limit, RegisterName::Limit, change);
+        let stands = self.limit.summary();
+        let moved = touched.questionable | differ(stood, stands);
+        let word = now.questionable | limit_bit(stands);
+        compare(&mut self.questionable, moved, word);
         change_register(&mut self.questionable, RegisterName::Questionable, change);
         self.complete();
         change_standard(&mut self.standard, change);
@@ -61,11 +68,25 @@ impl<A: Allocator> Layers<A> {
     }
 }
 
+/// Whether one of two holds alone.
+fn differ(first: bool, second: bool) -> bool
+    ensures { result ≡ false → first ≡ second }
+{
+    if first { !second } else { second }
+}
+
+/// Bit 9 of the questionable condition, where the summary of the register of limits stands.
+fn limit_bit(stands: bool) -> u16
+    ensures { result ≡ bit 9 stands }
+{
+    if stands { LIMIT } else { 0 }
+}
+
 /// Tells a register its condition, where that may have changed.
 fn compare(register: &mut Register, touched: bool, word: u16)
-    ensures { (acts : List RegisterAct) → Registers register.old acts
+    ensures { (start : ℕ) (acts : List RegisterAct) → Registers start register.old acts
         → (touched ≡ false → word ≡ condition acts)
-        → Registers register.new (RegisterAct.Condition word ∷ acts) }
+        → Registers start register.new (RegisterAct.Condition word ∷ acts) }
 {
     if touched {
         register.condition(word);
@@ -74,8 +95,8 @@ fn compare(register: &mut Register, touched: bool, word: u16)
 
 /// What a change does to a status register itself.
 fn change_register(register: &mut Register, name: RegisterName, change: &Change)
-    ensures { (acts : List RegisterAct) → Registers register.old acts
-        → Registers register.new (own name (act_of change.now) acts) }
+    ensures { (start : ℕ) (acts : List RegisterAct) → Registers start register.old acts
+        → Registers start register.new (own name (act_of change.now) acts) }
 {
     match change {
         Change::ClearStatus => register.clear(),

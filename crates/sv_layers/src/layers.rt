@@ -7,6 +7,7 @@ ghost use Rattle.sv_status.specs.declared.status_byte.StatusAct.{StatusAct};
 ghost use Rattle.sv_scan.specs.Stands.{StandsFor as Scans};
 ghost use Rattle.sv_exchange.specs.Contents.{StandsFor as Exchanges};
 ghost use Rattle.sv_layers.specs.Act.{Act, exchange_acts, queue_acts, scan_acts};
+ghost use Rattle.sv_layers.specs.Filter.{start};
 ghost use Rattle.sv_layers.specs.Inside.Seen.{Seen, register_acts};
 ghost use Rattle.sv_layers.specs.Inside.Kept.{StandsFor, Joined};
 
@@ -28,6 +29,8 @@ pub struct Layers<A: Allocator = Global> {
     pub(crate) operation: Register,
     /// The questionable status register.
     pub(crate) questionable: Register,
+    /// The register of limits, which is summed up in the questionable one.
+    pub(crate) limit: Register,
     /// The standard event status register.
     pub(crate) standard: StandardEvent,
     /// The status byte.
@@ -50,6 +53,7 @@ impl<A: Allocator> Model for Layers<A> {
       errors = a.errors;
       operation = a.operation;
       questionable = a.questionable;
+      limit = a.limit;
       standard = a.standard;
       status = a.status;
       scanner = a.scanner;
@@ -71,6 +75,7 @@ impl<A: Allocator + Copy> Layers<A> {
             errors: ErrorQueue::new(alloc)?,
             operation: Register::new(),
             questionable: Register::new(),
+            limit: Register::nested(),
             standard: StandardEvent::new(),
             status: StatusByte::new(),
             scanner: Scanner::new(alloc)?,
@@ -106,14 +111,15 @@ impl<A: Allocator> Layers<A> {
         &self.scanner
     }
 
-    /// One of the two status registers.
+    /// One of the status registers.
     pub(crate) fn register(&self, name: RegisterName) -> &Register
         ensures { (at : Seen) (told : List StatusAct) → Joined self.now at told
-            → Registers result.now (register_acts name at) }
+            → Registers (start name) result.now (register_acts name at) }
     {
         match name {
             RegisterName::Operation => &self.operation,
             RegisterName::Questionable => &self.questionable,
+            RegisterName::Limit => &self.limit,
         }
     }
 }

@@ -75,7 +75,7 @@ pub Holds-input : (contents : Contents) (log : List ScanAct) (channel : ℕ) (mi
     → is_channel channel ≡ true → Holds contents log
     → Holds (record contents {
       inputs = slice_set contents.inputs (channel - 1) microvolts;
-      touched = record { operation = false; questionable = channel == contents.monitor };
+      touched = record { operation = false; questionable = false; limit = channel == contents.monitor };
     }) (Input channel microvolts ∷ log)
 Holds-input contents log channel microvolts size legal is = record {
   inputs = λ other known. input_after contents.inputs channel other microvolts (input other log) size legal known (is.inputs other known);
@@ -89,7 +89,7 @@ Holds-input contents log channel microvolts size legal is = record {
   count = is.count;
   run = is.run;
   readings = is.readings;
-  touched = subst (λ (m : ℕ). IsTouched (record { operation = false; questionable = channel == m }) (Input channel microvolts ∷ log))
+  touched = subst (λ (m : ℕ). IsTouched (record { operation = false; questionable = false; limit = channel == m }) (Input channel microvolts ∷ log))
       (sym is.monitor) (IsTouched-input channel microvolts log);
 }
 
@@ -112,7 +112,7 @@ pub Holds-sample : (contents : Contents) (log : List ScanAct) (r : Run) → cont
     → is_channel (channel_at r.channels (length contents.readings)) ≡ true → Holds contents log
     → Holds (record contents {
       readings = contents.readings ++ sampled contents r ∷ [];
-      touched = record { operation = true; questionable = true };
+      touched = record { operation = true; questionable = true; limit = true };
     }) (Sample ∷ log)
 Holds-sample contents log r e known is = record {
   inputs = is.inputs;

@@ -1,5 +1,5 @@
 -- What an act leaves of the condition words.
-use Rattle.std.proofs.Common.{ℕ, ◌+◌, ◌==◌, ℤ, Bool, true, false, List, ◌∷◌, refl, ap, if◌then◌else◌}
+use Rattle.std.proofs.Common.{◌≡◌, ℕ, ◌+◌, ◌==◌, ℤ, Bool, true, false, List, ◌∷◌, refl, ap, if◌then◌else◌}
 use Rattle.std.specs.Prelude.{int_lt, ◌&&◌, ◌||◌}
 use Rattle.sv_errors.specs.declared.source.Source.{Source}
 use Rattle.sv_scan.specs.declared.setting.Setting.{Setting}
@@ -7,33 +7,34 @@ use Rattle.sv_scan.specs.declared.acts.ScanAct.{ScanAct}
 use Rattle.sv_scan.specs.declared.acts.ScanAct.TheVariants.{Input, Configure, Trigger}
 use Rattle.sv_scan.specs.Setting.{monitor, input, limits, lower, upper}
 use Rattle.sv_scan.specs.Scan.{last_reading}
-use Rattle.sv_scan.specs.Condition.{bit, is_overload, is_below, is_above}
+use Rattle.sv_scan.specs.Condition.{bit, is_below, is_above}
 use Rattle.sv_scan.specs.Touched.{IsTouched}
 
 -- nothing is said
-pub IsTouched-all : (act : ScanAct) (log : List ScanAct) → IsTouched (record { operation = true; questionable = true }) (act ∷ log)
-IsTouched-all act log = ((λ e. absurd cc), (λ e. absurd cc))
+pub IsTouched-all : (act : ScanAct) (log : List ScanAct)
+    → IsTouched (record { operation = true; questionable = true; limit = true }) (act ∷ log)
+IsTouched-all act log = ((λ e. absurd cc), (λ e. absurd cc), (λ e. absurd cc))
 
--- a setting changes no state of the measurement
+-- a setting changes no state of the measurement and no reading
 pub IsTouched-configured : (setting : Setting) (log : List ScanAct)
-    → IsTouched (record { operation = false; questionable = true }) (Configure setting ∷ log)
-IsTouched-configured setting log = ((λ e. refl), (λ e. absurd cc))
+    → IsTouched (record { operation = false; questionable = false; limit = true }) (Configure setting ∷ log)
+IsTouched-configured setting log = ((λ e. refl), (λ e. refl), (λ e. absurd cc))
 
 -- a trigger changes neither a reading nor an input
 pub IsTouched-triggered : (source : Source) (log : List ScanAct)
-    → IsTouched (record { operation = true; questionable = false }) (Trigger source ∷ log)
-IsTouched-triggered source log = ((λ e. absurd cc), (λ e. refl))
+    → IsTouched (record { operation = true; questionable = false; limit = false }) (Trigger source ∷ log)
+IsTouched-triggered source log = ((λ e. absurd cc), (λ e. refl), (λ e. refl))
 
--- the questionable word, by the live input of the monitored channel
+-- the limits that are passed, by the live input of the monitored channel
 abbrev live_word : ℤ → List ScanAct → ℕ
-live_word live log = bit 0 (is_overload (last_reading log)) + bit 9 (limits log && is_below (last_reading log) (lower log))
-    + bit 10 (limits log && is_above (last_reading log) (upper log))
-    + bit 11 (limits log && (int_lt live (lower log) || int_lt (upper log) live))
+live_word live log = bit 0 (limits log && is_below (last_reading log) (lower log)) + bit 1 (limits log && is_above (last_reading log) (upper log))
+    + bit 2 (limits log && (int_lt live (lower log) || int_lt (upper log) live))
 
 -- an input changes a word where its channel is the monitored one
 pub IsTouched-input : (channel : ℕ) (microvolts : ℤ) (log : List ScanAct)
-    → IsTouched (record { operation = false; questionable = channel == monitor log }) (Input channel microvolts ∷ log)
+    → IsTouched (record { operation = false; questionable = false; limit = channel == monitor log }) (Input channel microvolts ∷ log)
 IsTouched-input channel microvolts log = (
+  (λ e. refl),
   (λ e. refl),
   (λ e. ap (λ (b : Bool). live_word (if b then microvolts else input (monitor log) log) log) e),
 )

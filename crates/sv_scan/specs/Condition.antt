@@ -39,8 +39,11 @@ is_above (Some Under) limit = false
 abbrev pub is_outside : List ScanAct → Bool
 is_outside log = int_lt (input (monitor log) log) (lower log) || int_lt (upper log) (input (monitor log) log)
 
+-- what the scanner adds to the questionable word
 abbrev pub questionable : List ScanAct → ℕ
-questionable log =
-    bit 0 (is_overload (last_reading log)) + bit 9 (limits log && is_below (last_reading log) (lower log)) + bit 10
-    (limits log && is_above (last_reading log) (upper log))
-    + bit 11 (limits log && is_outside log)
+questionable log = bit 0 (is_overload (last_reading log))
+
+-- the limits that are passed, while they count
+abbrev pub limit : List ScanAct → ℕ
+limit log = bit 0 (limits log && is_below (last_reading log) (lower log)) + bit 1 (limits log && is_above (last_reading log) (upper log))
+    + bit 2 (limits log && is_outside log)

@@ -2,14 +2,15 @@
 use Rattle.std.specs.Prelude.{◌≡◌, false, ⊤, List, [], ◌∷◌}
 use Rattle.sv_scan.specs.declared.touched.Touched.{Touched}
 use Rattle.sv_scan.specs.declared.acts.ScanAct.{ScanAct}
-use Rattle.sv_scan.specs.Condition.{operation, questionable}
+use Rattle.sv_scan.specs.Condition.{operation, questionable, limit}
 
 -- Where a field is false, that word is what it was before the newest act. Of a new scanner nothing is said.
 abbrev pub IsTouched : Touched → List ScanAct → Type 0
 IsTouched touched [] = ⊤
 IsTouched touched (act ∷ log) = (touched.operation ≡ false → operation (act ∷ log) ≡ operation log)
     × (touched.questionable ≡ false → questionable (act ∷ log) ≡ questionable log)
+    × (touched.limit ≡ false → limit (act ∷ log) ≡ limit log)
 
 -- no word
 abbrev pub nothing : Touched
-nothing = record { operation = false; questionable = false }
+nothing = record { operation = false; questionable = false; limit = false }

@@ -7,7 +7,7 @@ ghost use Rattle.sv_scan.specs.declared.setting.State.TheVariants.{Waiting, Scan
 ghost use Rattle.sv_scan.specs.Setting.{is_possible as may_have};
 ghost use Rattle.sv_scan.specs.Scan.{state as state_of, readings as readings_of, last_reading as last_of, is_complete as completes, is_bounded};
 ghost use Rattle.sv_scan.specs.Counted.{kept, setting_fault, init_fault, trigger_fault, read_fault, is_scanning as scans};
-ghost use Rattle.sv_scan.specs.Condition.{operation, questionable, is_outside as lies_outside};
+ghost use Rattle.sv_scan.specs.Condition.{operation, questionable, limit, is_outside as lies_outside};
 ghost use Rattle.sv_scan.specs.Answered.{refused_by};
 ghost use Rattle.sv_scan.specs.Touched.{nothing};
 ghost use Rattle.sv_errors.specs.Limits.{is_channel as is_there};
@@ -22,7 +22,7 @@ use crate::setting::{Reading, Setting, State};
 use crate::settings::Settings;
 use crate::state::{is_complete, is_idle, is_same, is_scanning, is_waiting, state_in};
 use crate::touched::Touched;
-use crate::words::{Conditions, operation_word, questionable_word};
+use crate::words::{Conditions, limit_word, operation_word, questionable_word};
 use std::alloc::{AllocError, Allocator, Global};
 use std::marker::Model;
 use sv_errors::{Code, Layer, Source, is_channel};
@@ -74,6 +74,7 @@ impl<A: Allocator> Scanner<A> {
             touched: Touched {
                 operation: false,
                 questionable: false,
+                limit: false,
             },
         })
     }
@@ -89,10 +90,10 @@ impl<A: Allocator> Scanner<A> {
     {
         if is_channel(u64::from(channel)) {
             self.inputs[usize::from(channel) - 1] = microvolts;
-            let questionable = channel == self.settings.monitor;
             self.touched = Touched {
                 operation: false,
-                questionable,
+                questionable: false,
+                limit: channel == self.settings.monitor,
             };
         }
     }
@@ -114,7 +115,8 @@ impl<A: Allocator> Scanner<A> {
                 self.settings.set(setting);
                 self.touched = Touched {
                     operation: false,
-                    questionable: true,
+                    questionable: false,
+                    limit: true,
                 };
                 Ok(())
             }
@@ -159,6 +161,7 @@ impl<A: Allocator> Scanner<A> {
                 self.touched = Touched {
                     operation: true,
                     questionable: true,
+                    limit: true,
                 };
                 Ok(())
             }
@@ -204,6 +207,7 @@ impl<A: Allocator> Scanner<A> {
         self.touched = Touched {
             operation: true,
             questionable: true,
+            limit: true,
         };
     }
 
@@ -218,6 +222,7 @@ impl<A: Allocator> Scanner<A> {
         self.touched = Touched {
             operation: true,
             questionable: true,
+            limit: true,
         };
     }
 
@@ -245,6 +250,7 @@ impl<A: Allocator> Scanner<A> {
                 self.touched = Touched {
                     operation: true,
                     questionable: false,
+                    limit: false,
                 };
                 Ok(())
             }
@@ -289,6 +295,7 @@ impl<A: Allocator> Scanner<A> {
         self.touched = Touched {
             operation: true,
             questionable: true,
+            limit: true,
         };
         true
     }
@@ -324,12 +331,14 @@ impl<A: Allocator> Scanner<A> {
             → result.operation ≡ operation (kept acts) }
         ensures questionable { (acts : List ScanAct) → StandsFor self.now acts
             → result.questionable ≡ questionable (kept acts) }
+        ensures limit { (acts : List ScanAct) → StandsFor self.now acts
+            → result.limit ≡ limit (kept acts) }
     {
         let last = self.last_reading();
         Conditions {
             operation: operation_word(self.state()),
-            questionable: questionable_word(
-                is_overload(last),
+            questionable: questionable_word(is_overload(last)),
+            limit: limit_word(
                 self.settings.limits,
                 is_below(last, self.settings.lower),
                 is_above(last, self.settings.upper),

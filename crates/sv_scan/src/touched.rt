@@ -15,8 +15,10 @@ use std::alloc::Allocator;
 pub struct Touched {
     /// The word of the operation register.
     pub operation: bool,
-    /// The word of the questionable register.
+    /// The scanner's bits of the word of the questionable register.
     pub questionable: bool,
+    /// The word of the register of limits.
+    pub limit: bool,
 }
 
 impl<A: Allocator> Scanner<A> {

@@ -14,23 +14,23 @@ const WAITING: u16 = 1 << 5;
 const ACQUIRING: u16 = 1 << 8;
 /// The last reading is an overload, of the questionable register.
 const OVERLOAD: u16 = 1 << 0;
-/// The last reading is below the lower limit.
-const BELOW: u16 = 1 << 9;
+/// The last reading is below the lower limit, of the register of limits.
+const BELOW: u16 = 1 << 0;
 /// The last reading is above the upper limit.
-const ABOVE: u16 = 1 << 10;
+const ABOVE: u16 = 1 << 1;
 /// The live input of the monitored channel is outside the limits.
-const OUTSIDE: u16 = 1 << 11;
+const OUTSIDE: u16 = 1 << 2;
 
-/// The condition words of the operation and the questionable register, as they are now (SCPI-1999,
-/// chapter 20).
+/// The condition words of the status registers, as they are now (SCPI-1999, chapter 20).
 #[derive(Clone, Copy, Debug, PartialEq, Eq)]
 pub struct Conditions {
     /// Bit 4 measuring, bit 5 waiting for a trigger, bit 8 acquisition in progress.
     pub operation: u16,
-    /// Bit 0 the last reading is an overload; with limits on, bit 9 it is below the lower limit,
-    /// bit 10 above the upper one, bit 11 the live input of the monitored channel is outside of
-    /// them.
+    /// Bit 0 the last reading is an overload. Bit 9, the summary of the register of limits, is 0.
     pub questionable: u16,
+    /// With limits on: bit 0 the last reading is below the lower limit, bit 1 above the upper one,
+    /// bit 2 the live input of the monitored channel is outside of them.
+    pub limit: u16,
 }
 
 /// The condition word of the operation register in a state.
@@ -45,27 +45,23 @@ pub(crate) fn operation_word(state: State) -> u16
     }
 }
 
-/// The condition word of the questionable register: whether the last reading is an overload, and,
-/// where the limits count, whether it is below or above them, and whether the live input is
-/// outside.
-pub(crate) fn questionable_word(
-    overload: bool,
-    limits: bool,
-    below: bool,
-    above: bool,
-    outside: bool,
-) -> u16
-    ensures { result ≡ bit 0 overload + bit 9 (limits && below) + bit 10 (limits && above) + bit 11
+/// The scanner's bits of the questionable register: whether the last reading is an overload.
+pub(crate) fn questionable_word(overload: bool) -> u16
+    ensures { result ≡ bit 0 overload }
+{
+    mask_where(OVERLOAD, overload)
+}
+
+/// The condition word of the register of limits: where the limits count, whether the last reading
+/// is below or above them, and whether the live input is outside.
+pub(crate) fn limit_word(limits: bool, below: bool, above: bool, outside: bool) -> u16
+    ensures { result ≡ bit 0 (limits && below) + bit 1 (limits && above) + bit 2
         (limits && outside) }
 {
-    let overload = mask_where(OVERLOAD, overload);
     if limits {
-        overload
-            + mask_where(BELOW, below)
-            + mask_where(ABOVE, above)
-            + mask_where(OUTSIDE, outside)
+        mask_where(BELOW, below) + mask_where(ABOVE, above) + mask_where(OUTSIDE, outside)
     } else {
-        overload
+        0
     }
 }
 

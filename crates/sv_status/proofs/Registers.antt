@@ -55,9 +55,10 @@ event-cleared k acts = since_ended (Passes k) NotCleared Clear acts (λ kept. ke
 -- ---- what a register keeps
 
 -- filters and enable change no event
-pub StandsFor-filter : (latches : Latches) (acts : List RegisterAct) (up down : ℕ) → StandsFor latches acts
-    → StandsFor (record latches { rise = masked up; fall = masked down }) (SetFilter up down ∷ acts)
-StandsFor-filter latches acts up down is = record {
+pub StandsFor-filter : (start : ℕ) (latches : Latches) (acts : List RegisterAct) (up down : ℕ) → StandsFor start latches acts
+    → StandsFor start (record latches { rise = masked up; fall = masked down }) (SetFilter up down ∷ acts)
+StandsFor-filter start latches acts up down is = record {
+  begins = is.begins;
   condition = is.condition;
   rise = refl;
   fall = refl;
@@ -65,9 +66,10 @@ StandsFor-filter latches acts up down is = record {
   event = λ k. then_same (is.event k) (same_event k (SetFilter up down) acts tt (no_change (condition acts) k _ _));
 }
 
-pub StandsFor-enable : (latches : Latches) (acts : List RegisterAct) (word : ℕ) → StandsFor latches acts
-    → StandsFor (record latches { enable = masked word }) (SetEnable word ∷ acts)
-StandsFor-enable latches acts word is = record {
+pub StandsFor-enable : (start : ℕ) (latches : Latches) (acts : List RegisterAct) (word : ℕ) → StandsFor start latches acts
+    → StandsFor start (record latches { enable = masked word }) (SetEnable word ∷ acts)
+StandsFor-enable start latches acts word is = record {
+  begins = is.begins;
   condition = is.condition;
   rise = is.rise;
   fall = is.fall;
@@ -75,13 +77,14 @@ StandsFor-enable latches acts word is = record {
   event = λ k. then_same (is.event k) (same_event k (SetEnable word) acts tt (no_change (condition acts) k _ _));
 }
 
-pub StandsFor-preset : (latches : Latches) (acts : List RegisterAct) → StandsFor latches acts
-    → StandsFor (record latches { rise = 32767; fall = 0; enable = 0 }) (Preset ∷ acts)
-StandsFor-preset latches acts is = record {
+pub StandsFor-preset : (start : ℕ) (latches : Latches) (acts : List RegisterAct) → StandsFor start latches acts
+    → StandsFor start (record latches { rise = 32767; fall = 0; enable = latches.start }) (Preset ∷ acts)
+StandsFor-preset start latches acts is = record {
+  begins = is.begins;
   condition = is.condition;
   rise = refl;
   fall = refl;
-  enable = refl;
+  enable = is.begins;
   event = λ k. then_same (is.event k) (same_event k Preset acts tt (no_change (condition acts) k _ _));
 }
 
@@ -130,9 +133,10 @@ latched_bit latches word k =
     )
 
 -- a change of the condition
-pub StandsFor-condition : (latches : Latches) (acts : List RegisterAct) (word : ℕ) → StandsFor latches acts
-    → StandsFor (record latches { condition = word; event = latched latches word }) (Condition word ∷ acts)
-StandsFor-condition latches acts word is = record {
+pub StandsFor-condition : (start : ℕ) (latches : Latches) (acts : List RegisterAct) (word : ℕ) → StandsFor start latches acts
+    → StandsFor start (record latches { condition = word; event = latched latches word }) (Condition word ∷ acts)
+StandsFor-condition start latches acts word is = record {
+  begins = is.begins;
   condition = refl;
   rise = is.rise;
   fall = is.fall;
@@ -150,17 +154,18 @@ StandsFor-condition latches acts word is = record {
 }
 
 -- some bit stands that is enabled
-pub summary_is : (latches : Latches) (acts : List RegisterAct) → StandsFor latches acts
-    → ((k : ℕ) × (bit_at latches.event k ≡ 1) × (bit_at latches.enable k ≡ 1)) ↔ Summary acts
-summary_is latches acts is = (
+pub summary_is : (start : ℕ) (latches : Latches) (acts : List RegisterAct) → StandsFor start latches acts
+    → ((k : ℕ) × (bit_at latches.event k ≡ 1) × (bit_at latches.enable k ≡ 1)) ↔ Summary start acts
+summary_is start latches acts is = (
   (λ h. (h.0, (is.event h.0).0 h.1, ap (λ (w : ℕ). bit_at w h.0) (sym is.enable) ∙ h.2)),
   (λ h. (h.0, (is.event h.0).1 h.1, ap (λ (w : ℕ). bit_at w h.0) is.enable ∙ h.2)),
 )
 
 -- the event register is cleared, by reading it or by itself
-pub StandsFor-read : (latches : Latches) (acts : List RegisterAct) → StandsFor latches acts
-    → StandsFor (record latches { event = 0 }) (ReadEvent ∷ acts)
-StandsFor-read latches acts is = record {
+pub StandsFor-read : (start : ℕ) (latches : Latches) (acts : List RegisterAct) → StandsFor start latches acts
+    → StandsFor start (record latches { event = 0 }) (ReadEvent ∷ acts)
+StandsFor-read start latches acts is = record {
+  begins = is.begins;
   condition = is.condition;
   rise = is.rise;
   fall = is.fall;
@@ -168,12 +173,18 @@ StandsFor-read latches acts is = record {
   event = λ k. no_bits k (EventStands k (ReadEvent ∷ acts)) (event-read k acts);
 }
 
-pub StandsFor-cleared : (latches : Latches) (acts : List RegisterAct) → StandsFor latches acts
-    → StandsFor (record latches { event = 0 }) (Clear ∷ acts)
-StandsFor-cleared latches acts is = record {
+pub StandsFor-cleared : (start : ℕ) (latches : Latches) (acts : List RegisterAct) → StandsFor start latches acts
+    → StandsFor start (record latches { event = 0 }) (Clear ∷ acts)
+StandsFor-cleared start latches acts is = record {
+  begins = is.begins;
   condition = is.condition;
   rise = is.rise;
   fall = is.fall;
   enable = is.enable;
   event = λ k. no_bits k (EventStands k (Clear ∷ acts)) (event-cleared k acts);
 }
+
+-- what it keeps for a preset is what its enable started with
+pub StandsFor-start : (start : ℕ) (latches : Latches) (acts : List RegisterAct) → StandsFor start latches acts
+    → StandsFor latches.start latches acts
+StandsFor-start start latches acts is = subst (λ (s : ℕ). StandsFor s latches acts) (sym is.begins) is

@@ -16,7 +16,7 @@ condition (_ ∷ acts) = condition acts
 abbrev pub masked : ℕ → ℕ
 masked word = word % 2 ^ 15
 
--- the filters and the enable: as they were last set or preset
+-- the filters: as they were last set or preset
 abbrev pub rise : List RegisterAct → ℕ
 rise [] = 32767
 rise (SetFilter up down ∷ acts) = masked up
@@ -29,11 +29,12 @@ fall (SetFilter up down ∷ acts) = masked down
 fall (Preset ∷ acts) = 0
 fall (_ ∷ acts) = fall acts
 
-abbrev pub enable : List RegisterAct → ℕ
-enable [] = 0
-enable (SetEnable word ∷ acts) = masked word
-enable (Preset ∷ acts) = 0
-enable (_ ∷ acts) = enable acts
+-- the enable of a register that starts with this one, which a preset brings back
+abbrev pub enable : ℕ → List RegisterAct → ℕ
+enable start [] = start
+enable start (SetEnable word ∷ acts) = masked word
+enable start (Preset ∷ acts) = start
+enable start (_ ∷ acts) = enable start acts
 
 -- At the newest act a bit of the condition changes in a direction whose filter was on before.
 abbrev pub Passes : ℕ → List RegisterAct → Type 0
@@ -53,8 +54,8 @@ abbrev pub EventStands : ℕ → List RegisterAct → Type 0
 EventStands k acts = Since (Passes k) NotCleared acts
 
 -- Some bit stands that is enabled.
-abbrev pub Summary : List RegisterAct → Type 0
-Summary acts = (k : ℕ) × EventStands k acts × (bit_at (enable acts) k ≡ 1)
+abbrev pub Summary : ℕ → List RegisterAct → Type 0
+Summary start acts = (k : ℕ) × EventStands k acts × (bit_at (enable start acts) k ≡ 1)
 
 -- what a register keeps
 pub record Latches : Type 0 where
@@ -63,11 +64,17 @@ pub record Latches : Type 0 where
   pub fall : ℕ
   pub event : ℕ
   pub enable : ℕ
+  pub start : ℕ
 
--- What it keeps stands for the acts.
-pub record StandsFor (latches : Latches) (acts : List RegisterAct) : Type 0 where
+-- What it keeps stands for the acts, of a register whose enable started so.
+pub record StandsFor (start : ℕ) (latches : Latches) (acts : List RegisterAct) : Type 0 where
+  pub begins : latches.start ≡ start
   pub condition : latches.condition ≡ condition acts
   pub rise : latches.rise ≡ rise acts
   pub fall : latches.fall ≡ fall acts
-  pub enable : latches.enable ≡ enable acts
+  pub enable : latches.enable ≡ enable start acts
   pub event : (k : ℕ) → (bit_at latches.event k ≡ 1) ↔ EventStands k acts
+
+-- the same, of what it keeps for a preset
+abbrev pub Stands : Latches → List RegisterAct → Type 0
+Stands latches acts = StandsFor latches.start latches acts

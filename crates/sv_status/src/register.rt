@@ -52,6 +52,8 @@ pub struct Register {
     fall: u16,
     event: u16,
     enable: u16,
+    /// What the enable starts with, and is preset to.
+    start: u16,
 }
 
 impl Model for Register {
@@ -66,28 +68,45 @@ impl Model for Register {
       event =
           r.event;
       enable = r.enable;
+      start = r.start;
     } };
 }
 
 impl Register {
     /// Nothing happened yet: the filter for rising bits is 32767, all else is 0.
     pub fn new() -> Register
-        ensures { StandsFor result [] }
+        ensures { StandsFor 0 result [] }
+    {
+        Register::starting(0)
+    }
+
+    /// The same of a register whose summary is a bit of another one's condition: its enable starts
+    /// with 32767, and is preset to that.
+    pub fn nested() -> Register
+        ensures { StandsFor 32767 result [] }
+    {
+        Register::starting(ALL)
+    }
+
+    /// A register whose enable starts so.
+    fn starting(start: u16) -> Register
+        ensures { StandsFor start result [] }
     {
         Register {
             condition: 0,
             rise: ALL,
             fall: 0,
             event: 0,
-            enable: 0,
+            enable: start,
+            start,
         }
     }
 
     /// The condition becomes this word. A bit of the event register is set where the bit rises and
     /// its rising filter is on, or falls and its falling filter is on.
     pub fn condition(&mut self, word: u16)
-        ensures { (acts : List RegisterAct) → StandsFor self.old acts
-            → StandsFor self.new (RegisterAct.Condition word ∷ acts) }
+        ensures { (start : ℕ) (acts : List RegisterAct) → StandsFor start self.old acts
+            → StandsFor start self.new (RegisterAct.Condition word ∷ acts) }
     {
         let changed = self.condition ^ word;
         self.event |= changed & word & self.rise;
@@ -97,8 +116,8 @@ impl Register {
 
     /// Sets the transition filters, without bit 15.
     pub fn set_filter(&mut self, rise: u16, fall: u16)
-        ensures { (acts : List RegisterAct) → StandsFor self.old acts
-            → StandsFor self.new (RegisterAct.SetFilter rise fall ∷ acts) }
+        ensures { (start : ℕ) (acts : List RegisterAct) → StandsFor start self.old acts
+            → StandsFor start self.new (RegisterAct.SetFilter rise fall ∷ acts) }
     {
         self.rise = rise % MASK_END;
         self.fall = fall % MASK_END;
@@ -106,95 +125,99 @@ impl Register {
 
     /// Sets the enable, without bit 15.
     pub fn set_enable(&mut self, enable: u16)
-        ensures { (acts : List RegisterAct) → StandsFor self.old acts
-            → StandsFor self.new (RegisterAct.SetEnable enable ∷ acts) }
+        ensures { (start : ℕ) (acts : List RegisterAct) → StandsFor start self.old acts
+            → StandsFor start self.new (RegisterAct.SetEnable enable ∷ acts) }
     {
         self.enable = enable % MASK_END;
     }
 
     /// Reads the event register, which clears it.
     pub fn read_event(&mut self) -> u16
-        ensures stands { (acts : List RegisterAct) → StandsFor self.old acts
-            → StandsFor self.new (RegisterAct.ReadEvent ∷ acts) }
-        ensures answer { (acts : List RegisterAct) → StandsFor self.old acts → (k : ℕ)
-            → (bit_at result k ≡ 1) ↔ EventStands k acts }
+        ensures stands { (start : ℕ) (acts : List RegisterAct) → StandsFor start self.old acts
+            → StandsFor start self.new (RegisterAct.ReadEvent ∷ acts) }
+        ensures answer { (start : ℕ) (acts : List RegisterAct) → StandsFor start self.old acts
+            → (k : ℕ) → (bit_at result k ≡ 1) ↔ EventStands k acts }
     {
         replace(&mut self.event, 0)
     }
 
-    /// Presets the enable to 0 and the filters to 32767 for rising and 0 for falling bits. Events
-    /// stay.
+    /// Presets the enable to what it started with, and the filters to 32767 for rising and 0 for
+    /// falling bits. Events stay.
     pub fn preset(&mut self)
-        ensures { (acts : List RegisterAct) → StandsFor self.old acts
-            → StandsFor self.new (RegisterAct.Preset ∷ acts) }
+        ensures { (start : ℕ) (acts : List RegisterAct) → StandsFor start self.old acts
+            → StandsFor start self.new (RegisterAct.Preset ∷ acts) }
     {
         self.rise = ALL;
         self.fall = 0;
-        self.enable = 0;
+        self.enable = self.start;
     }
 
     /// Clears the event register. Filters and enable stay.
     pub fn clear(&mut self)
-        ensures { (acts : List RegisterAct) → StandsFor self.old acts
-            → StandsFor self.new (RegisterAct.Clear ∷ acts) }
+        ensures { (start : ℕ) (acts : List RegisterAct) → StandsFor start self.old acts
+            → StandsFor start self.new (RegisterAct.Clear ∷ acts) }
     {
         self.event = 0;
     }
 
     /// The condition as it is now.
     pub fn condition_word(&self) -> u16
-        ensures { (acts : List RegisterAct) → StandsFor self.now acts → result ≡ condition_of acts }
+        ensures { (start : ℕ) (acts : List RegisterAct) → StandsFor start self.now acts
+            → result ≡ condition_of acts }
     {
         self.condition
     }
 
     /// The filter for rising bits.
     pub fn rise(&self) -> u16
-        ensures { (acts : List RegisterAct) → StandsFor self.now acts → result ≡ rise_of acts }
+        ensures { (start : ℕ) (acts : List RegisterAct) → StandsFor start self.now acts
+            → result ≡ rise_of acts }
     {
         self.rise
     }
 
     /// The filter for falling bits.
     pub fn fall(&self) -> u16
-        ensures { (acts : List RegisterAct) → StandsFor self.now acts → result ≡ fall_of acts }
+        ensures { (start : ℕ) (acts : List RegisterAct) → StandsFor start self.now acts
+            → result ≡ fall_of acts }
     {
         self.fall
     }
 
     /// The event register, which stays as it is.
     pub fn event(&self) -> u16
-        ensures { (acts : List RegisterAct) → StandsFor self.now acts → (k : ℕ)
-            → (bit_at result k ≡ 1) ↔ EventStands k acts }
+        ensures { (start : ℕ) (acts : List RegisterAct) → StandsFor start self.now acts
+            → (k : ℕ) → (bit_at result k ≡ 1) ↔ EventStands k acts }
     {
         self.event
     }
 
     /// The enable.
     pub fn enable(&self) -> u16
-        ensures { (acts : List RegisterAct) → StandsFor self.now acts → result ≡ enable_of acts }
+        ensures { (start : ℕ) (acts : List RegisterAct) → StandsFor start self.now acts
+            → result ≡ enable_of start acts }
     {
         self.enable
     }
 
     /// Whether some bit stands that is enabled.
     pub fn summary(&self) -> bool
-        ensures { (acts : List RegisterAct) → StandsFor self.now acts
-            → (result ≡ true) ↔ Summary acts }
+        ensures { (start : ℕ) (acts : List RegisterAct) → StandsFor start self.now acts
+            → (result ≡ true) ↔ Summary start acts }
     {
         self.event & self.enable != 0
     }
 }
 
 impl Layer for Register {
-    ghost use Rattle.sv_status.specs.Register.{StandsFor};
+    ghost use Rattle.sv_status.specs.Register.{Stands};
     ghost use Rattle.sv_status.specs.Answered.{RegisterGives};
 
     type Act = RegisterAct;
 
     type Answer = RegisterAnswer;
 
-    ghost stands_for = { StandsFor };
+    ghost stands_for = { Stands };
 
     ghost gives = { RegisterGives };
 

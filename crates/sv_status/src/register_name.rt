@@ -1,6 +1,6 @@
-//! Which of the two status registers (SCPI-1999, chapter 20, STATus).
+//! Which of the status registers (SCPI-1999, chapter 20, STATus).
 
-/// One of the two status registers.
+/// One of the status registers.
 #[derive(Clone, Copy, Debug, PartialEq, Eq)]
 pub enum RegisterName {
     /// What the instrument is doing, as measuring or waiting for a trigger: `STATus:OPERation`.
@@ -9,4 +9,7 @@ pub enum RegisterName {
     /// What makes readings doubtful, as an overload or a limit that is passed:
     /// `STATus:QUEStionable`. Its summary is bit 3 of the status byte.
     Questionable,
+    /// Which limit is passed: `STATus:QUEStionable:LIMit`. Its summary is bit 9 of the condition of
+    /// [`RegisterName::Questionable`].
+    Limit,
 }

@@ -4,7 +4,7 @@ use Rattle.sv_header.specs.declared.command.CommandId.{CommandId}
 use Rattle.sv_header.specs.declared.branch.Branch.{Branch}
 use Rattle.sv_header.specs.Pattern.{Part, Row, row, Form, CommonCommand, CommonQuery, Command, Query}
 use Rattle.sv_header.specs.Plain.{part}
-use Rattle.sv_header.specs.Table.{common_commands, system_commands, operation_commands, questionable_commands, setting_commands, measuring_commands}
+use Rattle.sv_header.specs.Table.{common_commands, system_commands, operation_commands, questionable_commands, limit_commands, setting_commands, measuring_commands}
 
 -- the command of the headers that end at a node, with the query sign or without it
 abbrev pub command_of : Bool → Branch → Option CommandId
@@ -49,7 +49,7 @@ tree_rows common branches = rows_of (length branches) common branches
 
 -- the table but for common commands
 abbrev pub other_commands : List Row
-other_commands = system_commands ++ (operation_commands ++ (questionable_commands ++ (setting_commands ++ measuring_commands)))
+other_commands = system_commands ++ (operation_commands ++ (questionable_commands ++ (limit_commands ++ (setting_commands ++ measuring_commands))))
 
 -- the rows of common commands, or the others
 abbrev pub rows_with : Bool → List Row

@@ -1,21 +1,21 @@
 -- What the layers keep, and that it stands for a log.
-use Rattle.std.specs.Prelude.{◌≡◌, ◌↔◌, ℕ, ◌+◌, Bool, true, false, List, [], ◌∷◌, length}
+use Rattle.std.specs.Prelude.{◌≡◌, ◌↔◌, ℕ, ◌+◌, Bool, true, List, [], ◌∷◌, length}
 use Rattle.sv_errors.specs.declared.code.Code.{Code}
 use Rattle.sv_errors.specs.ErrorQueue.{entries, is_any, StandsFor as Queues}
-use Rattle.sv_status.specs.Register.{Latches as RegisterLatches, Summary, condition, StandsFor as Registers}
+use Rattle.sv_status.specs.declared.register_name.RegisterName.TheVariants.{Operation, Questionable, Limit}
+use Rattle.sv_status.specs.Register.{Latches as RegisterLatches, Summary, StandsFor as Registers}
 use Rattle.sv_status.specs.StandardEvent.{Latches as StandardLatches, Summary as StandardSummary, StandsFor as Standards}
 use Rattle.sv_status.specs.declared.status_byte.StatusAct.{StatusAct}
 use Rattle.sv_status.specs.declared.status_byte.StatusAct.TheVariants.{Update, Poll}
 use Rattle.sv_status.specs.StatusByte.{Latches as StatusLatches, IsRaised as IsRaisedAsTold, StandsFor as Statuses}
 use Rattle.sv_scan.specs.declared.setting.State.{State}
-use Rattle.sv_scan.specs.declared.touched.Touched.{Touched}
-use Rattle.sv_scan.specs.Counted.{kept}
-use Rattle.sv_scan.specs.Condition.{bit, operation, questionable}
+use Rattle.sv_scan.specs.Condition.{bit}
 use Rattle.sv_scan.specs.Representation.{run_state}
 use Rattle.sv_scan.specs.Stands.{Contents as ScanContents, StandsFor as Scans}
 use Rattle.sv_exchange.specs.Exchange.{response, is_something}
 use Rattle.sv_exchange.specs.Contents.{Contents, StandsFor as Exchanges}
 use Rattle.sv_layers.specs.Act.{Act, Polled}
+use Rattle.sv_layers.specs.Filter.{start}
 use Rattle.sv_layers.specs.StatusByte.{IsRaised}
 use Rattle.sv_layers.specs.Inside.Seen.{Seen, begun, seen}
 
@@ -24,6 +24,7 @@ pub record Layered : Type 0 where
   pub errors : List Code
   pub operation : RegisterLatches
   pub questionable : RegisterLatches
+  pub limit : RegisterLatches
   pub standard : StandardLatches
   pub status : StatusLatches
   pub scanner : ScanContents
@@ -35,9 +36,9 @@ pub record IsSummary (word : ℕ) (at : Seen) : Type 0 where
   pub operates : Bool
   pub happened : Bool
   pub questioned : Bool
-  pub operation : (operates ≡ true) ↔ Summary at.operation
+  pub operation : (operates ≡ true) ↔ Summary (start Operation) at.operation
   pub standard : (happened ≡ true) ↔ StandardSummary at.standard
-  pub questionable : (questioned ≡ true) ↔ Summary at.questionable
+  pub questionable : (questioned ≡ true) ↔ Summary (start Questionable) at.questionable
   pub word_is : word ≡ bit 7 operates + bit 5 happened + bit 4 (is_something (response at.exchange)) + bit 3 questioned
       + bit 2 (is_any (entries at.errors))
 
@@ -60,8 +61,9 @@ RaisedAt log = (acts : List StatusAct) × IsStatus log acts × IsRaisedAsTold ac
 pub record Joined (layered : Layered) (at : Seen) (told : List StatusAct) : Type 0 where
   pub exchange : Exchanges layered.exchange at.exchange
   pub errors : Queues layered.errors at.errors
-  pub operation : Registers layered.operation at.operation
-  pub questionable : Registers layered.questionable at.questionable
+  pub operation : Registers (start Operation) layered.operation at.operation
+  pub questionable : Registers (start Questionable) layered.questionable at.questionable
+  pub limit : Registers (start Limit) layered.limit at.limit
   pub standard : Standards layered.standard at.standard
   pub status : Statuses layered.status told
   pub scanner : Scans layered.scanner at.scanner
@@ -79,11 +81,6 @@ pub record Begun (layered : Layered) (act : Act) (log : List Act) : Type 0 where
   pub told : List StatusAct
   pub are : IsStatus log told
   pub joined : Joined layered (begun act (seen log)) (own_status act told)
-
--- Where a condition isn't touched, its register was told it before.
-abbrev pub AreTold : Touched → Seen → Type 0
-AreTold touched at = (touched.operation ≡ false → operation (kept at.scanner) ≡ condition at.operation)
-    × (touched.questionable ≡ false → questionable (kept at.scanner) ≡ condition at.questionable)
 
 -- What is kept stands for the log, and a request was raised at its newest act exactly if this says so.
 pub record Happens (layered : Layered) (raised : Bool) (log : List Act) : Type 0 where

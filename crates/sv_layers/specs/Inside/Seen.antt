@@ -1,5 +1,6 @@
 -- What each layer sees of the instrument's acts. An act begins in its own layer. Then it ends, in one register after the other: a register
--- is told its condition, which passes by the filters as they stand, and then the act does to it what it does to a register itself.
+-- is told its condition, which passes by the filters as they stand, and then the act does to it what it does to a register itself. So the
+-- summary of the register of limits is there before the questionable register is told its condition.
 use Rattle.std.specs.Prelude.{◌≡◌, ℕ, Bool, true, false, not, ◌&&◌, List, [], ◌∷◌, if◌then◌else◌}
 use Rattle.sv_errors.specs.Code.{standard_event_of}
 use Rattle.sv_errors.specs.ErrorQueue.{is_full}
@@ -7,7 +8,7 @@ use Rattle.sv_errors.specs.declared.code.Code.{Code}
 use Rattle.sv_errors.specs.declared.error_queue.QueueAct.{QueueAct}
 use Rattle.sv_errors.specs.declared.error_queue.QueueAct.TheVariants as queue
 use Rattle.sv_status.specs.declared.register_name.RegisterName.{RegisterName}
-use Rattle.sv_status.specs.declared.register_name.RegisterName.TheVariants.{Operation, Questionable}
+use Rattle.sv_status.specs.declared.register_name.RegisterName.TheVariants.{Operation, Questionable, Limit}
 use Rattle.sv_status.specs.declared.register.RegisterAct.{RegisterAct}
 use Rattle.sv_status.specs.declared.register.RegisterAct.TheVariants as register
 use Rattle.sv_status.specs.declared.standard_event.StandardAct.{StandardAct}
@@ -17,16 +18,18 @@ use Rattle.sv_scan.specs.declared.acts.ScanAct.{ScanAct}
 use Rattle.sv_scan.specs.declared.acts.ScanAct.TheVariants as scan
 use Rattle.sv_scan.specs.Scan.{state}
 use Rattle.sv_scan.specs.Counted.{kept, is_idle}
-use Rattle.sv_scan.specs.Condition.{bit, operation, questionable}
+use Rattle.sv_scan.specs.Condition.{bit}
 use Rattle.sv_exchange.specs.Exchange.{ExchangeAct, TextDropped, Interrupted}
 use Rattle.sv_layers.specs.Act.{Act, Exchanged, Purged, Scanned, Reported, EntryTaken, Cleared, Preset, OpcAsked, StandardRead, StandardEnabled, EventRead, Enabled, RiseSet, FallSet, ServiceEnabled}
-use Rattle.sv_layers.specs.Event.{is_same}
+use Rattle.sv_layers.specs.Filter.{is_same}
+use Rattle.sv_layers.specs.Condition.{condition}
 
 pub record Seen : Type 0 where
   pub exchange : List ExchangeAct
   pub errors : List QueueAct
   pub operation : List RegisterAct
   pub questionable : List RegisterAct
+  pub limit : List RegisterAct
   pub standard : List StandardAct
   pub scanner : List ScanAct
   pub service : ℕ
@@ -92,17 +95,19 @@ abbrev pub EndsAs : Act → Act → Type 0
 EndsAs other act = ((name : RegisterName) (acts : List RegisterAct) → own name other acts ≡ own name act acts)
     × ((acts : List StandardAct) → own_standard other acts ≡ own_standard act acts)
 
--- an act ends, in one register after the other
-abbrev pub ended : Act → Seen → Seen
-ended act at = record (completed at) {
-  operation = own Operation act (register.Condition (operation (kept at.scanner)) ∷ at.operation);
-  questionable = own Questionable act (register.Condition (questionable (kept at.scanner)) ∷ at.questionable);
+-- an act ends behind those before it: each register is told its condition, and ends the act itself
+abbrev pub ended : Act → List Act → Seen → Seen
+ended act log at = record (completed at) {
+  operation = own Operation act (register.Condition (condition Operation (act ∷ log)) ∷ at.operation);
+  questionable = own Questionable act (register.Condition (condition Questionable (act ∷ log)) ∷ at.questionable);
+  limit = own Limit act (register.Condition (condition Limit (act ∷ log)) ∷ at.limit);
   standard = own_standard act (completed at).standard;
 }
 
 abbrev pub register_acts : RegisterName → Seen → List RegisterAct
 register_acts Operation at = at.operation
 register_acts Questionable at = at.questionable
+register_acts Limit at = at.limit
 
 -- what all layers see of the acts
 abbrev pub seen : List Act → Seen
@@ -111,12 +116,13 @@ seen [] = record {
   errors = [];
   operation = [];
   questionable = [];
+  limit = [];
   standard = [];
   scanner = [];
   service = 0;
   waits = false;
 }
-seen (act ∷ log) = ended act (begun act (seen log))
+seen (act ∷ log) = ended act log (begun act (seen log))
 
 -- whether an act does nothing to a register itself
 abbrev pub is_plain : Act → Bool

@@ -1,37 +1,58 @@
-use Rattle.std.proofs.Common.{ℕ, List, ◌∷◌, ◌∙◌, subst}
-use Rattle.sv_status.specs.declared.register_name.RegisterName.TheVariants.{Operation, Questionable}
-use Rattle.sv_status.specs.declared.register.RegisterAct.{RegisterAct}
-use Rattle.sv_status.specs.declared.register.RegisterAct.TheVariants.{Condition}
+use Rattle.std.proofs.Common.{◌≡◌, ℕ, ◌+◌, Bool, ◌∷◌, List, ◌∙◌, ap, sym, subst}
+use Rattle.sv_status.specs.declared.register_name.RegisterName.TheVariants.{Operation, Questionable, Limit}
 use Rattle.sv_status.specs.declared.standard_event.StandardAct.{StandardAct}
-use Rattle.sv_status.specs.Register.{StandsFor as Registers}
 use Rattle.sv_status.specs.StandardEvent.{StandsFor as Standards}
-use Rattle.sv_scan.specs.Counted.{kept}
-use Rattle.sv_scan.specs.Condition.{operation, questionable}
-use Rattle.sv_layers.specs.Inside.Seen.{begun, own, seen}
-use Rattle.sv_layers.proofs.Followed.{begun_told}
+use Rattle.sv_scan.specs.Condition as scan
+use Rattle.sv_errors.proofs.Since.{then_same}
+use Rattle.sv_layers.specs.Act.{scan_acts}
+use Rattle.sv_layers.specs.Change.{act_of}
+use Rattle.sv_layers.specs.Filter.{start}
+use Rattle.sv_layers.specs.Condition.{counted, condition, limit_summary}
+use Rattle.sv_layers.specs.Inside.Seen.{begun, register_acts, seen}
+use Rattle.sv_layers.proofs.Booleans.{same_bool, neither}
+use Rattle.sv_layers.proofs.SameWords.{same_words}
+use Rattle.sv_layers.proofs.SameSummaries.{same_summary}
+use Rattle.sv_layers.proofs.LimitSummary.{limit_summary_is}
+use Rattle.sv_layers.proofs.Followed.{counted_leaves, begun_scans, begun_stands, ended_stands, questionable_is}
 use Rattle.sv_layers.proofs.layers.Layers.end.Goals as goal
 
 pub returns-clause-stands : goal.returns-clause-stands
 returns-clause-stands g c = λ log act told same h.
-    let at = begun act (seen log) in
+    let other = act_of c.args.change.now in
     let j = rw (← c.self.view_is) at h in
-    let are = begun_told c.touched-touched.result act log (c.touched-touched.ensures.stands at.scanner j.scanner) in
-    let first = c.conditions-now.ensures.operation at.scanner j.scanner in
-    let second = c.conditions-now.ensures.questionable at.scanner j.scanner in
-    let operates = subst (λ (w : ℕ). Registers c.compare.new.register (Condition w ∷ at.operation)) first
-    (c.compare.ensures at.operation j.operation (λ no. first ∙ are.0 no)) in
-    let questions = subst (λ (w : ℕ). Registers c.compare-2.new.register (Condition w ∷ at.questionable)) second
-    (c.compare-2.ensures at.questionable j.questionable (λ no. second ∙ are.1 no)) in
-    let k = rw (← c.self-2.view_is) at (c.complete.ensures.stands (record at {
-      operation = own Operation act (Condition (operation (kept at.scanner)) ∷ at.operation);
-      questionable = own Questionable act (Condition (questionable (kept at.scanner)) ∷ at.questionable);
+    let scans = begun_scans _ act log j.scanner in
+    let left = counted_leaves c.touched-touched.result act log (c.touched-touched.ensures.stands (scan_acts (act ∷ log)) scans) in
+    let operates = c.conditions-now.ensures.operation (scan_acts (act ∷ log)) scans in
+    let questions = c.conditions-now.ensures.questionable (scan_acts (act ∷ log)) scans in
+    let limits = c.conditions-now.ensures.limit (scan_acts (act ∷ log)) scans in
+    let operation = ended_stands Operation other act log _ _ operates (same.0 Operation) (c.change_register.ensures _ _
+    (c.compare.ensures _ _ (begun_stands Operation act log _ j.operation)
+    (λ no. operates ∙ left.0 no ∙ sym (same_words Operation log).0))) in
+    let before = begun_stands Limit act log _ j.limit in
+    let limit = ended_stands Limit other act log _ _ limits (same.0 Limit) (c.change_register-2.ensures _ _
+    (c.compare-2.ensures _ _ before (λ no. limits ∙ left.2 no ∙ sym (same_words Limit log).0))) in
+    let stood : c.summary-stood.result ≡ limit_summary log = same_bool _ _ (c.summary-stood.ensures _ _ before)
+    (then_same (limit_summary_is log) (let is = same_summary Limit log in (is.1, is.0))) in
+    let stands : c.summary-stands.result ≡ limit_summary (act ∷ log) = same_bool _ _ (c.summary-stands.ensures _ _ limit)
+    (then_same (limit_summary_is (act ∷ log)) (let is = same_summary Limit (act ∷ log) in (is.1, is.0))) in
+    let word = questionable_is _ _ (counted (act ∷ log)) (limit_summary (act ∷ log)) questions
+    (c.limit_bit.ensures ∙ ap (scan.bit 9) stands) in
+    let questionable = ended_stands Questionable other act log _ _ word (same.0 Questionable) (c.change_register-3.ensures _ _
+    (c.compare-3.ensures _ _ (begun_stands Questionable act log _ j.questionable) (λ no.
+    let both = neither c.touched-touched.result.questionable c.differ.result no in
+    let moved = sym stands ∙ sym (c.differ.ensures both.1) ∙ stood in
+    word ∙ ap (λ (w : ℕ). w + scan.bit 9 (limit_summary (act ∷ log))) (left.1 both.0)
+    ∙ ap (λ (b : Bool). scan.questionable (counted log) + scan.bit 9 b) moved ∙ sym (same_words Questionable log).0))) in
+    let k = rw (← c.self-2.view_is) at (c.complete.ensures.stands (record (begun act (seen log)) {
+      operation = register_acts Operation (seen (act ∷ log));
+      questionable = register_acts Questionable (seen (act ∷ log));
+      limit = register_acts Limit (seen (act ∷ log));
     }) told (record {
       exchange = j.exchange;
       errors = j.errors;
-      operation = subst (λ (acts : List RegisterAct). Registers c.change_register.new.register acts) (same.0 Operation _)
-          (c.change_register.ensures _ operates);
-      questionable = subst (λ (acts : List RegisterAct). Registers c.change_register-2.new.register acts) (same.0 Questionable _)
-          (c.change_register-2.ensures _ questions);
+      operation = operation;
+      questionable = questionable;
+      limit = limit;
       standard = j.standard;
       status = j.status;
       scanner = j.scanner;
@@ -43,6 +64,7 @@ returns-clause-stands g c = λ log act told same h.
       errors = k.errors;
       operation = k.operation;
       questionable = k.questionable;
+      limit = k.limit;
       standard = subst (λ (acts : List StandardAct). Standards c.change_standard.new.standard acts) (same.1 _)
           (c.change_standard.ensures _ k.standard);
       status = k.status;

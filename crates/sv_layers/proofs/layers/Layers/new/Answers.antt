@@ -10,6 +10,7 @@ returns g c = record {
     errors = c.in_ok-new-2.ensures;
     operation = c.new-3.ensures;
     questionable = c.new-4.ensures;
+    limit = c.nested.ensures;
     standard = c.new-5.ensures;
     status = c.new-6.ensures;
     scanner = c.in_ok-new-3.ensures;

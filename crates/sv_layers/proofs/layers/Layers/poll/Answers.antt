@@ -21,6 +21,7 @@ returns-clause-happens g c = λ log h.
         errors = j.errors;
         operation = j.operation;
         questionable = j.questionable;
+        limit = j.limit;
         standard = j.standard;
         status = c.poll-status.ensures.stands _ j.status;
         scanner = j.scanner;

@@ -13,6 +13,7 @@ returns-clause-happens g c = λ log h.
         errors = j.errors;
         operation = j.operation;
         questionable = j.questionable;
+        limit = j.limit;
         standard = j.standard;
         status = j.status;
         scanner = j.scanner;

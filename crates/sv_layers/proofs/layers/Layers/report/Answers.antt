@@ -21,6 +21,7 @@ returns-clause-stands g c = λ at told h.
       errors = c.report-overflows.ensures.stands at.errors j.errors;
       operation = j.operation;
       questionable = j.questionable;
+      limit = j.limit;
       standard = both;
       status = j.status;
       scanner = j.scanner;

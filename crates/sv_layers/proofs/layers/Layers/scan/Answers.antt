@@ -9,6 +9,7 @@ returns-clause-stands g c = λ at told h.
       errors = j.errors;
       operation = j.operation;
       questionable = j.questionable;
+      limit = j.limit;
       standard = j.standard;
       status = j.status;
       scanner = c.act.ensures.stands at.scanner j.scanner;

@@ -17,9 +17,9 @@ returns g c = λ at told h.
       operates = c.summary.result;
       happened = c.summary-2.result;
       questioned = c.summary-3.result;
-      operation = c.summary.ensures at.operation j.operation;
+      operation = c.summary.ensures _ at.operation j.operation;
       standard = c.summary-2.ensures at.standard j.standard;
-      questionable = c.summary-3.ensures at.questionable j.questionable;
+      questionable = c.summary-3.ensures _ at.questionable j.questionable;
       word_is = rw (
         c.mask_where.ensures ∙ bit_is 7 c.summary.result,
         c.mask_where-2.ensures ∙ bit_is 5 c.summary-2.result,

@@ -28,6 +28,7 @@ returns-clause-happens g c = λ log act before is h.
           errors = j.errors;
           operation = j.operation;
           questionable = j.questionable;
+          limit = j.limit;
           standard = j.standard;
           status = status;
           scanner = j.scanner;

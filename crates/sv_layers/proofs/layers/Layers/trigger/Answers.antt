@@ -19,6 +19,7 @@ returns-in-Ok-clause-happens g c = λ log h.
           errors = j.errors;
           operation = j.operation;
           questionable = j.questionable;
+          limit = j.limit;
           standard = j.standard;
           status = j.status;
           scanner = search rules;

@@ -6,3 +6,6 @@ returns-clause-operation g c = search rules
 
 pub returns-clause-questionable : goal.returns-clause-questionable
 returns-clause-questionable g c = search rules
+
+pub returns-clause-limit : goal.returns-clause-limit
+returns-clause-limit g c = search rules

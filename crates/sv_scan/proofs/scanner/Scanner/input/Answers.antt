@@ -18,7 +18,7 @@ returns-then-is_channel-clause-stands g c acts is =
 
 pub returns-then-is_channel-clause-untouched : goal.returns-then-is_channel-clause-untouched
 returns-then-is_channel-clause-untouched g c known differs =
-    let touched : Bool → Touched = λ questionable. record { operation = false; questionable = questionable } in
+    let touched : Bool → Touched = λ limit. record { operation = false; questionable = false; limit = limit } in
     ap touched (ne_eqb c.args.channel c.self.inside.settings.monitor (rw (← c.self.view_is) at differs))
 
 pub returns-else-is_channel-clause-untouched : goal.returns-else-is_channel-clause-untouched

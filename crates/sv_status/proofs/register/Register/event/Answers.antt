@@ -1,4 +1,4 @@
 use Rattle.sv_status.proofs.register.Register.event.Goals as goal
 
 pub returns : goal.returns
-returns c acts is = (rw (← c.self.view_is) at is).event
+returns c start acts is = (rw (← c.self.view_is) at is).event

@@ -6,4 +6,4 @@ pub returns-clause-answer : goal.returns-clause-answer
 returns-clause-answer c = search rules
 
 pub returns-clause-stands : goal.returns-clause-stands
-returns-clause-stands c acts is = rw c.replace.ensures.after (StandsFor-read _ acts (rw (← c.self.view_is) at is))
+returns-clause-stands c start acts is = rw c.replace.ensures.after (StandsFor-read start _ acts (rw (← c.self.view_is) at is))

@@ -1,0 +1,91 @@
+-- The summary of the register of limits, as a test and as it is said of any register.
+use Rattle.std.proofs.Common.{◌≡◌, ℕ, zero, suc, ◌<◌, ◌^◌, Bool, true, false, List, [], ◌∷◌, refl, ap, ◌∙◌, sym, arith, inl, inr}
+use Rattle.std.specs.Prelude.{◌↔◌, ◌&&◌, ◌||◌, if◌then◌else◌}
+use Rattle.std.specs.Int.{bit_at}
+use Rattle.std.proofs.lemmas.Bool.{cases_lt}
+use Rattle.std.proofs.lemmas.Nat.{mod_below}
+use Rattle.std.proofs.lemmas.Nat.Bits.{bit_at_above}
+use Rattle.sv_errors.specs.Since.{Since, is_since}
+use Rattle.sv_errors.proofs.Since.{both_true, either_true, is_since_is}
+use Rattle.sv_status.specs.declared.register_name.RegisterName.{RegisterName}
+use Rattle.sv_status.specs.declared.register_name.RegisterName.TheVariants.{Operation, Questionable, Limit}
+use Rattle.sv_status.specs.Register.{masked}
+use Rattle.sv_layers.specs.Act.{Act, Enabled, Preset}
+use Rattle.sv_layers.specs.Filter.{is_same, start, enable, has_bit, passes, leaves, some_below}
+use Rattle.sv_layers.specs.Condition.{limit, limit_summary, condition}
+use Rattle.sv_layers.specs.Event.{Passes, NotCleared, EventStands, Summary}
+use Rattle.sv_layers.proofs.Transitions.{has_is}
+
+-- some number below another is such
+found_below : (n : ℕ) (is_such : ℕ → Bool) → some_below n is_such ≡ true → (k : ℕ) × (is_such k ≡ true)
+found_below zero is_such e = absurd cc
+found_below (suc n) is_such e = elim ((either_true (is_such n) (some_below n is_such)).0 e) [
+  | inl here ↦ (n, here)
+  | inr below ↦ found_below n is_such below
+]
+
+pub below_found : (n k : ℕ) (is_such : ℕ → Bool) → k < n → is_such k ≡ true → some_below n is_such ≡ true
+below_found zero k is_such lt e = absurd (omega (arith, lt))
+below_found (suc n) k is_such lt e = elim (cases_lt k n) [
+  | inl less ↦ (either_true (is_such n) (some_below n is_such)).1 (inr (below_found n k is_such less e))
+  | inr least ↦
+      let same : k ≡ n = omega (arith, lt, least) in
+      (either_true (is_such n) (some_below n is_such)).1 (inl (ap is_such (sym same) ∙ e))
+]
+
+-- a mask has no bit 15
+small_of : (b : Bool) (mask word : ℕ) → word < 2 ^ 16 → (if b then masked mask else word) < 2 ^ 16
+small_of true mask word small = let below = mod_below mask (2 ^ 15) (omega arith) in omega (arith, below)
+small_of false mask word small = small
+
+start_small : (name : RegisterName) → start name < 2 ^ 16
+start_small Operation = omega arith
+start_small Questionable = omega arith
+start_small Limit = omega arith
+
+enable_small : (name : RegisterName) (log : List Act) → enable name log < 2 ^ 16
+enable_small name [] = start_small name
+enable_small name (Enabled other mask ∷ log) = small_of (is_same name other) mask (enable name log) (enable_small name log)
+enable_small name (Preset ∷ log) = start_small name
+enable_small name (_ ∷ log) = enable_small name log
+
+-- an enabled bit is below 16
+enabled_below : (name : RegisterName) (log : List Act) (k : ℕ) → bit_at (enable name log) k ≡ 1 → k < 16
+enabled_below name log k e = elim (cases_lt k 16) [
+  | inl lt ↦ lt
+  | inr le ↦ absurd (let none = bit_at_above (enable name log) 16 k (enable_small name log) le in omega (arith, none, e))
+]
+
+-- what passes there passes by the condition of the register
+same_passing : (k : ℕ) (log : List Act) → passes limit Limit k log ≡ passes (condition Limit) Limit k log
+same_passing k [] = refl
+same_passing k (act ∷ before) = refl
+
+stands_is : (k : ℕ) (log : List Act) → (is_since (passes limit Limit k) (leaves Limit) log ≡ true) ↔ EventStands Limit k log
+stands_is k log =
+    let is = is_since_is (passes limit Limit k) (leaves Limit) log in (
+      (λ e. let s = is.0 e in record {
+        ago = s.ago;
+        within = s.within;
+        found = sym (same_passing k _) ∙ s.found;
+        kept = s.kept;
+      }),
+      (λ s. is.1 (record { ago = s.ago; within = s.within; found = same_passing k _ ∙ s.found; kept = s.kept })),
+    )
+
+pub limit_summary_is : (log : List Act) → (limit_summary log ≡ true) ↔ Summary Limit log
+limit_summary_is log =
+    let is_such : ℕ → Bool = λ k. is_since (passes limit Limit k) (leaves Limit) log && has_bit (enable Limit log) k in (
+      (λ e.
+          let found = found_below 16 is_such e in
+          let both = (both_true (is_since (passes limit Limit found.0) (leaves Limit) log) (has_bit (enable Limit log) found.0)).0 found.1 in
+          (found.0, (stands_is found.0 log).0 both.0, (has_is (enable Limit log) found.0).0 both.1)),
+      (λ s. below_found 16 s.0 is_such (enabled_below Limit log s.0 s.2)
+          ((both_true (is_since (passes limit Limit s.0) (leaves Limit) log) (has_bit (enable Limit log) s.0)).1
+          ((stands_is s.0 log).1 s.1, (has_is (enable Limit log) s.0).1 s.2))),
+    )
+
+-- two tests that say the same of each number
+pub some_same : (n : ℕ) (p q : ℕ → Bool) → ((k : ℕ) → p k ≡ q k) → some_below n p ≡ some_below n q
+some_same zero p q same = refl
+some_same (suc n) p q same = ap (λ (b : Bool). b || some_below n p) (same n) ∙ ap (λ (b : Bool). q n || b) (some_same n p q same)

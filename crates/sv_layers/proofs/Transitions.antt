@@ -1,0 +1,62 @@
+-- Whether a bit changes in a direction whose filter is on: as a test, and as it is said of a register.
+use Rattle.std.proofs.Common.{◌≡◌, ℕ, ◌==◌, Bool, true, false, eqb, refl, ◌⊎◌, arith, eq-eqb}
+use Rattle.std.specs.Prelude.{◌↔◌, not, ◌&&◌, ◌||◌}
+use Rattle.std.specs.Int.{bit_at}
+use Rattle.std.proofs.lemmas.Bool.{eqb-true, eqb-false, ne_eqb}
+use Rattle.std.proofs.lemmas.Nat.Bits.{bit_at-lt}
+use Rattle.sv_errors.proofs.Since.{both_true, either_true, then_same}
+use Rattle.sv_layers.specs.Filter.{has_bit}
+use Rattle.sv_layers.proofs.Either.{either_same}
+
+pub has_is : (word k : ℕ) → (has_bit word k ≡ true) ↔ (bit_at word k ≡ 1)
+has_is word k = (eqb-true (bit_at word k) 1, eq-eqb (bit_at word k) 1)
+
+not_true : (b : Bool) → not b ≡ true → b ≡ false
+not_true true e = cc
+not_true false e = refl
+
+lacks_is : (word k : ℕ) → (not (has_bit word k) ≡ true) ↔ (bit_at word k ≡ 0)
+lacks_is word k = (
+  (λ h. let ne = eqb-false (bit_at word k) 1 (not_true (has_bit word k) h) in let small = bit_at-lt word k in omega (arith, ne, small)),
+  (λ e. rw (ne_eqb (bit_at word k) 1 (λ one. absurd (omega (arith, e, one)))) refl),
+)
+
+-- the test of `passes`
+abbrev pub changes : ℕ → ℕ → ℕ → ℕ → ℕ → Bool
+changes k old new up down = (not (has_bit old k) && (has_bit new k && has_bit up k))
+    || (has_bit old k && (not (has_bit new k) && has_bit down k))
+
+rises_is : (k old new up : ℕ) → ((not (has_bit old k) && (has_bit new k && has_bit up k)) ≡ true)
+    ↔ ((bit_at old k ≡ 0) × (bit_at new k ≡ 1) × (bit_at up k ≡ 1))
+rises_is k old new up =
+    let first = both_true (not (has_bit old k)) (has_bit new k && has_bit up k) in
+    let second = both_true (has_bit new k) (has_bit up k) in (
+      (λ e.
+          let h = first.0 e in
+          let both = second.0 h.1 in
+          ((lacks_is old k).0 h.0, (has_is new k).0 both.0, (has_is up k).0 both.1)),
+      (λ h. first.1 ((lacks_is old k).1 h.0, second.1 ((has_is new k).1 h.1, (has_is up k).1 h.2))),
+    )
+
+falls_is : (k old new down : ℕ) → ((has_bit old k && (not (has_bit new k) && has_bit down k)) ≡ true)
+    ↔ ((bit_at old k ≡ 1) × (bit_at new k ≡ 0) × (bit_at down k ≡ 1))
+falls_is k old new down =
+    let first = both_true (has_bit old k) (not (has_bit new k) && has_bit down k) in
+    let second = both_true (not (has_bit new k)) (has_bit down k) in (
+      (λ e.
+          let h = first.0 e in
+          let both = second.0 h.1 in
+          ((has_is old k).0 h.0, (lacks_is new k).0 both.0, (has_is down k).0 both.1)),
+      (λ h. first.1 ((has_is old k).1 h.0, second.1 ((lacks_is new k).1 h.1, (has_is down k).1 h.2))),
+    )
+
+pub changes_is : (k old new up down : ℕ) → (changes k old new up down ≡ true)
+    ↔ (((bit_at old k ≡ 0) × (bit_at new k ≡ 1) × (bit_at up k ≡ 1)) ⊎ ((bit_at old k ≡ 1) × (bit_at new k ≡ 0) × (bit_at down k ≡ 1)))
+changes_is k old new up down =
+    either_same (either_true (not (has_bit old k) && (has_bit new k && has_bit up k)) (has_bit old k && (not (has_bit new k) && has_bit down k)))
+    (rises_is k old new up) (falls_is k old new down)
+
+-- a bit that doesn't change passes no filter
+pub no_change : (b r f : Bool) → ((not b && (b && r)) || (b && (not b && f))) ≡ false
+no_change true r f = refl
+no_change false r f = refl

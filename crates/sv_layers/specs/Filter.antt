@@ -1,0 +1,59 @@
+-- What the event registers (SCPI-1999, chapter 20, STATus) let pass, enable and clear, by searches of the instrument's log.
+use Rattle.std.specs.Prelude.{ℕ, zero, suc, ◌==◌, Bool, true, false, not, ◌&&◌, ◌||◌, List, [], ◌∷◌, if◌then◌else◌}
+use Rattle.std.specs.Int.{bit_at}
+use Rattle.sv_status.specs.declared.register_name.RegisterName.{RegisterName}
+use Rattle.sv_status.specs.declared.register_name.RegisterName.TheVariants.{Operation, Questionable, Limit}
+use Rattle.sv_status.specs.Register.{masked}
+use Rattle.sv_layers.specs.Act.{Act, RiseSet, FallSet, Enabled, Preset, EventRead, Cleared}
+
+abbrev pub is_same : RegisterName → RegisterName → Bool
+is_same Operation Operation = true
+is_same Questionable Questionable = true
+is_same Limit Limit = true
+is_same _ _ = false
+
+-- what an enable starts with, and is preset to
+abbrev pub start : RegisterName → ℕ
+start Operation = 0
+start Questionable = 0
+start Limit = 32767
+
+-- the filters for rising and for falling bits, and the enable: as they were last set or preset, without bit 15
+abbrev pub rise : RegisterName → List Act → ℕ
+rise name [] = 32767
+rise name (RiseSet other mask ∷ log) = if is_same name other then masked mask else rise name log
+rise name (Preset ∷ log) = 32767
+rise name (_ ∷ log) = rise name log
+
+abbrev pub fall : RegisterName → List Act → ℕ
+fall name [] = 0
+fall name (FallSet other mask ∷ log) = if is_same name other then masked mask else fall name log
+fall name (Preset ∷ log) = 0
+fall name (_ ∷ log) = fall name log
+
+abbrev pub enable : RegisterName → List Act → ℕ
+enable name [] = start name
+enable name (Enabled other mask ∷ log) = if is_same name other then masked mask else enable name log
+enable name (Preset ∷ log) = start name
+enable name (_ ∷ log) = enable name log
+
+abbrev pub has_bit : ℕ → ℕ → Bool
+has_bit word k = bit_at word k == 1
+
+-- whether at the newest act a bit of a condition changes in a direction whose filter was on before
+abbrev pub passes : (List Act → ℕ) → RegisterName → ℕ → List Act → Bool
+passes condition name k [] = false
+passes condition name k (act ∷ before) =
+    (not (has_bit (condition before) k) && (has_bit (condition (act ∷ before)) k && has_bit (rise name before) k))
+    || (has_bit (condition before) k && (not (has_bit (condition (act ∷ before)) k) && has_bit (fall name before) k))
+
+-- whether the newest act leaves the event register: it is no `*CLS` and no reading of it
+abbrev pub leaves : RegisterName → List Act → Bool
+leaves name (EventRead other ∷ log) = not (is_same name other)
+leaves name (Cleared ∷ log) = false
+leaves name _ = true
+
+-- whether some number below this one is such
+abbrev pub some_below : ℕ → (ℕ → Bool) → Bool
+some_below zero is_such = false
+some_below (suc n) is_such = is_such n || some_below n is_such
