@@ -14,7 +14,8 @@ pub(crate) fn put_scan(out: &mut String, scanner: &mut Scanner, text: &str) -> R
         "conditions" => {
             let words = scanner.conditions();
             put(out, words.operation)?;
-            put(out, words.questionable)
+            put(out, words.questionable)?;
+            put(out, words.limit)
         }
         _ => match act_of(text) {
             Ok(act) => put(out, scanner.act(act)),
