@@ -52,12 +52,13 @@ for place, volts in enumerate(voltages(meter.query("FETC?"))):
     shown = "overload" if abs(volts) > 1e37 else "%+.6f V" % volts
     print("scan %d, channel %d: %s" % (place // 3 + 1, (1, 4, 2)[place % 3], shown))
 
-# A watch on channel 3, without a scan: bit 11 (2048) of the questionable register tells that the
-# monitored input is outside the limits, and that is bit 3 (8) of the status byte. Channel 3 has
-# 7.5 V, so the request comes as soon as there is a limit of 5 V.
-meter.write("*CLS;ROUT:MON (@3);:CALC:LIM:UPP 5;STAT ON;:STAT:QUES:ENAB 2048;*SRE 8")
+# A watch on channel 3, without a scan: bit 9 (512) of the questionable register tells that a limit
+# was passed, and that is bit 3 (8) of the status byte. Bit 2 (4) of the limits tells that it was
+# the monitored input. Channel 3 has 7.5 V, so the request comes as soon as there is a limit of 5 V.
+meter.write("*CLS;ROUT:MON (@3);:CALC:LIM:UPP 5;STAT ON;:STAT:QUES:ENAB 512;*SRE 8")
 print("outside the limits, status byte:", wait_for_request(meter))
 print("questionable events:", meter.query("STAT:QUES?"))
+print("events of the limits:", meter.query("STAT:QUES:LIM?"))
 print("channel 3: %+.6f V" % voltages(meter.query("MEAS:VOLT? (@3)"))[0])
 
 # A mistake, and what the instrument says of it.

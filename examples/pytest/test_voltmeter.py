@@ -14,7 +14,7 @@ def test_a_limit(meter):
     assert meter.resource.read_stb() == 0       # 1.25 V is inside
     meter.watch(3, lower=-5, upper=5)
     assert meter.wait_for_request() == 64 + 8   # two seconds after power on it rises to 7.5 V
-    assert meter.questionable() == OUTSIDE
+    assert meter.limits() == OUTSIDE
     assert meter.scan([3]) == [7.5]
 
 

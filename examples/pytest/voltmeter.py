@@ -4,7 +4,8 @@ import time
 
 OVERLOAD = 1e37         # an overload reads as 9.9E+37 or -9.9E+37
 REQUEST = 64            # bit 6 of the status byte: the instrument requests service
-ABOVE, BELOW, OUTSIDE = 1024, 512, 2048     # events of the questionable register
+LIMIT = 512             # bit 9 of the questionable register: a limit was passed
+BELOW, ABOVE, OUTSIDE = 1, 2, 4     # events of the limits
 
 
 class VoltmeterError(Exception):
@@ -45,7 +46,7 @@ class Voltmeter:
     def watch(self, channel, lower, upper):
         """From now on the instrument requests service once the channel is outside the limits."""
         self.command("ROUT:MON (@%d);:CALC:LIM:LOW %f;UPP %f;STAT ON" % (channel, lower, upper))
-        self.command("STAT:QUES:ENAB %d;*SRE 8" % OUTSIDE)
+        self.command("STAT:QUES:LIM:ENAB %d;:STAT:QUES:ENAB %d;*SRE 8" % (OUTSIDE, LIMIT))
 
     def wait_for_request(self, seconds=10):
         """Polls until service is requested. Gives the status byte; a poll clears bit 6."""
@@ -57,9 +58,9 @@ class Voltmeter:
             time.sleep(0.01)
         raise TimeoutError("no service request in %g seconds" % seconds)
 
-    def questionable(self):
-        """The questionable events, which are then cleared."""
-        return int(self.resource.query("STAT:QUES?"))
+    def limits(self):
+        """The events of the limits, which are then cleared."""
+        return int(self.resource.query("STAT:QUES:LIM?"))
 
     @contextlib.contextmanager
     def alone(self):

@@ -35,7 +35,8 @@ register_kept start [] = (
   },
 )
 register_kept start (Condition word ∷ acts) = let h = register_kept start acts in (_, registers.StandsFor-condition start h.0 acts word h.1)
-register_kept start (SetFilter up down ∷ acts) = let h = register_kept start acts in (_, registers.StandsFor-filter start h.0 acts up down h.1)
+register_kept start (SetFilter up down ∷ acts) =
+    let h = register_kept start acts in (_, registers.StandsFor-filter start h.0 acts up down h.1)
 register_kept start (SetEnable word ∷ acts) = let h = register_kept start acts in (_, registers.StandsFor-enable start h.0 acts word h.1)
 register_kept start (ReadEvent ∷ acts) = let h = register_kept start acts in (_, registers.StandsFor-read start h.0 acts h.1)
 register_kept start (Preset ∷ acts) = let h = register_kept start acts in (_, registers.StandsFor-preset start h.0 acts h.1)

@@ -60,7 +60,8 @@ pub begun_scans : (contents : Contents) (act : Act) (log : List Act) → Scans c
 begun_scans contents act log = subst (λ (acts : List ScanAct). Scans contents acts) (begun_scanner act log)
 
 pub begun_stands : (name : RegisterName) (act : Act) (log : List Act) (latches : Latches)
-    → StandsFor (start name) latches (register_acts name (begun act (seen log))) → StandsFor (start name) latches (register_acts name (seen log))
+    → StandsFor (start name) latches (register_acts name (begun act (seen log)))
+    → StandsFor (start name) latches (register_acts name (seen log))
 begun_stands name act log latches = subst (λ (acts : List RegisterAct). StandsFor (start name) latches acts) (begun_register name act log)
 
 -- a register that was told its condition, and ended the act as another one ends, has ended it

@@ -78,7 +78,8 @@ limit_summary_is log =
     let is_such : ℕ → Bool = λ k. is_since (passes limit Limit k) (leaves Limit) log && has_bit (enable Limit log) k in (
       (λ e.
           let found = found_below 16 is_such e in
-          let both = (both_true (is_since (passes limit Limit found.0) (leaves Limit) log) (has_bit (enable Limit log) found.0)).0 found.1 in
+          let both =
+          (both_true (is_since (passes limit Limit found.0) (leaves Limit) log) (has_bit (enable Limit log) found.0)).0 found.1 in
           (found.0, (stands_is found.0 log).0 both.0, (has_is (enable Limit log) found.0).0 both.1)),
       (λ s. below_found 16 s.0 is_such (enabled_below Limit log s.0 s.2)
           ((both_true (is_since (passes limit Limit s.0) (leaves Limit) log) (has_bit (enable Limit log) s.0)).1

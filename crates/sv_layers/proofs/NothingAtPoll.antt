@@ -30,7 +30,10 @@ no_pass : (name : RegisterName) (k : ℕ) (log : List Act) → Passes name k (Po
 no_pass name k log passed =
     let told : changes k (condition name log) (condition name log) (rise name log) (fall name log) ≡ true =
     ap (λ (w : ℕ). changes k (condition name log) w (rise name log) (fall name log)) (sym (same_condition name log)) ∙ passed in
-    absurd (let none = sym (no_change (has_bit (condition name log) k) (has_bit (rise name log) k) (has_bit (fall name log) k)) ∙ told in cc)
+    absurd (
+    let none = sym (no_change (has_bit (condition name log) k) (has_bit (rise name log) k) (has_bit (fall name log) k)) ∙ told in
+    cc
+    )
 
 polled_summary : (name : RegisterName) (log : List Act) → Summary name (Polled ∷ log) → Summary name log
 polled_summary name log s = (s.0, (since_same (Passes name s.0) (NotCleared name) Polled log refl (no_pass name s.0 log)).0 s.1, s.2)

@@ -36,7 +36,8 @@ filters_masked (register.Preset ∷ acts) = (refl, refl)
 filters_masked (Clear ∷ acts) = filters_masked acts
 
 -- an act of the register that is named, or of the other
-read_words : (s : ℕ) (b : Bool) (acts : List RegisterAct) (c r f e : ℕ) → Words s acts c r f e → Words s (if b then ReadEvent ∷ acts else acts) c r f e
+read_words : (s : ℕ) (b : Bool) (acts : List RegisterAct) (c r f e : ℕ) → Words s acts c r f e
+    → Words s (if b then ReadEvent ∷ acts else acts) c r f e
 read_words s true acts c r f e h = h
 read_words s false acts c r f e h = h
 

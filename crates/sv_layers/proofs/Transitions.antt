@@ -53,7 +53,9 @@ falls_is k old new down =
 pub changes_is : (k old new up down : ℕ) → (changes k old new up down ≡ true)
     ↔ (((bit_at old k ≡ 0) × (bit_at new k ≡ 1) × (bit_at up k ≡ 1)) ⊎ ((bit_at old k ≡ 1) × (bit_at new k ≡ 0) × (bit_at down k ≡ 1)))
 changes_is k old new up down =
-    either_same (either_true (not (has_bit old k) && (has_bit new k && has_bit up k)) (has_bit old k && (not (has_bit new k) && has_bit down k)))
+    either_same (
+    either_true (not (has_bit old k) && (has_bit new k && has_bit up k)) (has_bit old k && (not (has_bit new k) && has_bit down k))
+    )
     (rises_is k old new up) (falls_is k old new down)
 
 -- a bit that doesn't change passes no filter

@@ -28,7 +28,7 @@ pub enum Change {
     TakeEntry,
     /// `*CLS`: events and error queue are cleared, and an `*OPC` is cancelled.
     ClearStatus,
-    /// `STATus:PRESet`: enables and filters of both registers are preset.
+    /// `STATus:PRESet`: enables and filters of all registers are preset.
     Preset,
     /// `*OPC`: the end of the measurement is to be told.
     AskComplete,

@@ -89,7 +89,8 @@ Holds-input contents log channel microvolts size legal is = record {
   count = is.count;
   run = is.run;
   readings = is.readings;
-  touched = subst (λ (m : ℕ). IsTouched (record { operation = false; questionable = false; limit = channel == m }) (Input channel microvolts ∷ log))
+  touched = subst (λ (m : ℕ).
+      IsTouched (record { operation = false; questionable = false; limit = channel == m }) (Input channel microvolts ∷ log))
       (sym is.monitor) (IsTouched-input channel microvolts log);
 }
 

@@ -27,7 +27,8 @@ IsTouched-triggered source log = ((λ e. absurd cc), (λ e. refl), (λ e. refl))
 
 -- the limits that are passed, by the live input of the monitored channel
 abbrev live_word : ℤ → List ScanAct → ℕ
-live_word live log = bit 0 (limits log && is_below (last_reading log) (lower log)) + bit 1 (limits log && is_above (last_reading log) (upper log))
+live_word live log = bit 0 (limits log && is_below (last_reading log) (lower log))
+    + bit 1 (limits log && is_above (last_reading log) (upper log))
     + bit 2 (limits log && (int_lt live (lower log) || int_lt (upper log) live))
 
 -- an input changes a word where its channel is the monitored one

@@ -49,7 +49,8 @@ tree_rows common branches = rows_of (length branches) common branches
 
 -- the table but for common commands
 abbrev pub other_commands : List Row
-other_commands = system_commands ++ (operation_commands ++ (questionable_commands ++ (limit_commands ++ (setting_commands ++ measuring_commands))))
+other_commands = system_commands
+    ++ (operation_commands ++ (questionable_commands ++ (limit_commands ++ (setting_commands ++ measuring_commands))))
 
 -- the rows of common commands, or the others
 abbrev pub rows_with : Bool → List Row
