@@ -5,3 +5,12 @@ pub mod SameView
 pub mod SameSteps
 pub mod SameEvents
 pub mod RecordsCut
+pub mod SameExchange
+pub mod SameStatus
+pub mod SameInstrument
+pub mod SameDevice
+pub mod SharedSteps
+pub mod SharedEvents
+pub mod SameAhead
+pub mod SharedLogs
+pub mod SharedSending
