@@ -14,3 +14,15 @@ pub mod SharedEvents
 pub mod SameAhead
 pub mod SharedLogs
 pub mod SharedSending
+pub mod ReadsOn
+pub mod LongerText
+pub mod ErrorReplies
+pub mod NoCallTaken
+pub mod BytesBehind
+pub mod Fed
+pub mod Suspended
+pub mod Written
+pub mod FirstPart
+pub mod Beside
+pub mod AllTaken
+pub mod WritesCut

@@ -6,7 +6,7 @@ use Rattle.sv_links.specs.Links.{LinkAct}
 use Rattle.sv_links.specs.Waiting.{WaitAct}
 use Rattle.sv_links.specs.Channels.{ChannelAct}
 use Rattle.sv_exchange.specs.Exchange.{Accepted, has_ended, response, is_something}
-use Rattle.sv_layers.specs.Act.{Exchanged, exchange_acts}
+use Rattle.sv_layers.specs.Act.{Act as InstrumentAct, Exchanged, exchange_acts}
 use Rattle.sv_layers.specs.StatusByte.{IsRaised}
 use Rattle.sv_instrument.specs.HeldUnit.{held}
 use Rattle.sv_instrument.specs.Step.{is_held, is_answerable}
@@ -18,7 +18,7 @@ use Rattle.sv_history.specs.Requests.{HearsOf, request_told}
 use Rattle.sv_history.specs.CoreChannel.{own_call}
 use Rattle.sv_history.specs.Admission.{device_wait, names_another, own_stop, stop_of}
 use Rattle.sv_history.proofs.Cuts.SameExchange.{ended_same, response_same}
-use Rattle.sv_history.proofs.Cuts.SameStatus.{raised_same, never_raised, polled_same}
+use Rattle.sv_history.proofs.Cuts.SameStatus.{SameStatus, raised_same, never_raised, polled_same}
 use Rattle.sv_history.proofs.Cuts.SameInstrument.{SameInstrument, instrument_act, instrument_back}
 
 pub record SameDevice (acts other : List DeviceAct) : Type 0 where
@@ -76,14 +76,19 @@ device_more (act ∷ adds) acts other v = device_act act (adds ++ acts) (adds ++
 abbrev pub Tells : List DeviceAct → List DeviceAct → Type 0
 Tells acts other = (told : List ChannelAct) → HearsOf acts told → HearsOf other told
 
+pub tells_happened : (act : InstrumentAct) (acts other : List DeviceAct) → SameStatus (instrument_acts acts) (instrument_acts other)
+    → Tells acts other → Tells (Happened act ∷ acts) (Happened act ∷ other)
+tells_happened act acts other v tells told (before, raised, hears, so, is) =
+    let same = raised_same act (instrument_acts acts) (instrument_acts other) v in
+    (before, raised, tells before hears, ((λ e. same.0 (so.0 e)), (λ r. so.1 (same.1 r))), is)
+
 pub tells_act : (act : DeviceAct) (acts other : List DeviceAct) → SameDevice acts other → Tells acts other
     → Tells (act ∷ acts) (act ∷ other)
 tells_act (Linked act) acts other v tells told (before, hears, is) = (before, tells before hears, is)
 tells_act (Waited act) acts other v tells told hears = tells told hears
 tells_act (Channel act) acts other v tells told (before, hears, is) = (before, tells before hears, is)
-tells_act (Happened act) acts other v tells told (before, raised, hears, so, is) =
-    let same = raised_same act (instrument_acts acts) (instrument_acts other) v.instrument.status in
-    (before, raised, tells before hears, ((λ e. same.0 (so.0 e)), (λ r. so.1 (same.1 r))), is)
+tells_act (Happened act) acts other v tells told hears =
+    tells_happened act acts other v.instrument.status tells told hears
 tells_act Ticked acts other v tells told hears = tells told hears
 
 -- what is accepted tells nothing

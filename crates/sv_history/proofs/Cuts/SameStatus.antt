@@ -17,7 +17,7 @@ use Rattle.sv_layers.specs.Condition.{condition, is_idle}
 use Rattle.sv_layers.specs.Event.{is_same, rise, fall, enable, Passes, NotCleared, EventStands, Summary}
 use Rattle.sv_layers.specs.Standard as standard
 use Rattle.sv_layers.specs.StatusByte.{SummaryBit, service, Asks, Master, Reason, Lasts, Request, IsRaised, PolledBit, MasterBit}
-use Rattle.sv_history.proofs.Cuts.SameExchange.{SameExchange, exchange_act, exchange_accepted, exchange_back, response_same}
+use Rattle.sv_history.proofs.Cuts.SameExchange.{SameExchange, exchange_same, exchange_act, exchange_accepted, exchange_back, response_same}
 
 -- ---- searches
 
@@ -405,4 +405,20 @@ status_back log other v = record {
   stands = λ k. ((v.stands k).1, (v.stands k).0);
   exchange = exchange_back (exchange_acts log) (exchange_acts other) v.exchange;
   request = (v.request.1, v.request.0);
+}
+
+pub status_same : (log : List Act) → SameStatus log log
+status_same log = record {
+  scanned = refl;
+  queued = refl;
+  rises = λ name. refl;
+  falls = λ name. refl;
+  enables = λ name. refl;
+  standards = refl;
+  serves = refl;
+  events = λ name k. both_ways (EventStands name k log);
+  waits = both_ways (standard.Waits log);
+  stands = λ k. both_ways (standard.Stands k log);
+  exchange = exchange_same (exchange_acts log);
+  request = both_ways (Request log);
 }

@@ -36,7 +36,7 @@ ended_shared None log other same = refl
 ended_shared (Some d) log other same = ap (λ (o : Option (List ℕ)). acts_of d (failed Abort d (core_call_in o))) (same d)
 
 -- the same acts in front leave the same calls without an answer
-calls_behind : (adds log other : List Act) → ((d : ℕ) → unanswered (of d log) ≡ unanswered (of d other))
+pub calls_behind : (adds log other : List Act) → ((d : ℕ) → unanswered (of d log) ≡ unanswered (of d other))
     → (d : ℕ) → unanswered (of d (adds ++ log)) ≡ unanswered (of d (adds ++ other))
 calls_behind [] log other same d = same d
 calls_behind (OnDevice act ∷ adds) log other same d = calls_behind adds log other same d

@@ -10,7 +10,7 @@ use Rattle.sv_history.specs.Settling.{SettlesIn}
 use Rattle.sv_history.specs.History.{own_acts, IsLogOf}
 use Rattle.sv_history.proofs.OneStep.{next_once}
 use Rattle.sv_history.proofs.Cuts.SameDevice.{SameDevice, device_act, device_back, Tells, tells_act, polled_alike}
-use Rattle.sv_history.proofs.Cuts.SharedSteps.{SameCalls, next_shared}
+use Rattle.sv_history.proofs.Cuts.SharedSteps.{SameCalls, calls_back, next_shared}
 use Rattle.sv_history.proofs.Cuts.SharedEvents.{SameNext, own_shared}
 use Rattle.sv_history.proofs.Cuts.SameAhead.{SameAhead, ahead_more, next_call_ahead, next_request_ahead}
 
@@ -21,14 +21,14 @@ pub record SameLogs (first second : ℕ → List ℕ) (log other : List Act) : T
   pub back : Tells (device_acts other) (device_acts log)
   pub each : (d : ℕ) → SameAhead (first d) (second d) (of d log) (of d other)
 
-device_front : (adds log other : List Act) → SameDevice (device_acts log) (device_acts other)
+pub device_front : (adds log other : List Act) → SameDevice (device_acts log) (device_acts other)
     → SameDevice (device_acts (adds ++ log)) (device_acts (adds ++ other))
 device_front [] log other v = v
 device_front (On c act ∷ adds) log other v = device_front adds log other v
 device_front (OnDevice act ∷ adds) log other v =
     device_act act (device_acts (adds ++ log)) (device_acts (adds ++ other)) (device_front adds log other v)
 
-tells_front : (adds log other : List Act) → SameDevice (device_acts log) (device_acts other)
+pub tells_front : (adds log other : List Act) → SameDevice (device_acts log) (device_acts other)
     → Tells (device_acts log) (device_acts other) → Tells (device_acts (adds ++ log)) (device_acts (adds ++ other))
 tells_front [] log other v tells = tells
 tells_front (On c act ∷ adds) log other v tells = tells_front adds log other v tells
@@ -48,28 +48,37 @@ logs_more first second adds log other v = record {
 same_calls : (first second : ℕ → List ℕ) (log other : List Act) → SameLogs first second log other → SameCalls log other
 same_calls first second log other v = record { device = v.device; calls = λ d. (v.each d).call }
 
-calls_also : (first second : ℕ → List ℕ) (log other : List Act) → SameLogs first second log other → SameCalls other log
-calls_also first second log other v =
-    record { device = device_back (device_acts log) (device_acts other) v.device; calls = λ d. sym (v.each d).call }
+-- ---- the steps that are due
+
+-- Logs that are so have the same calls without an answer, and are so behind the same acts.
+pub record IsKept (AreSo : List Act → List Act → Type 0) : Type 0 where
+  pub calls : (log other : List Act) → AreSo log other → SameCalls log other
+  pub more : (adds log other : List Act) → AreSo log other → AreSo (adds ++ log) (adds ++ other)
+
+moved : (AreSo : List Act → List Act → Type 0) (log other a b : List Act) → a ≡ log → b ≡ other → AreSo log other → AreSo a b
+moved AreSo log other a b x y v = subst (λ (l : List Act). AreSo l b) (sym x) (subst (λ (l : List Act). AreSo log l) (sym y) v)
 
 pub logs_moved : (first second : ℕ → List ℕ) (log other a b : List Act) → a ≡ log → b ≡ other → SameLogs first second log other
     → SameLogs first second a b
-logs_moved first second log other a b x y v = subst (λ (l : List Act). SameLogs first second l b) (sym x)
-    (subst (λ (l : List Act). SameLogs first second log l) (sym y) v)
+logs_moved first second = moved (SameLogs first second)
 
--- the steps that are due
-pub settles_same : (n m : ℕ) (config : Config) (first second : ℕ → List ℕ) (log other new also : List Act)
-    → SameLogs first second log other → SettlesIn n config log new → SettlesIn m config other also → SameLogs first second new also
-settles_same zero zero config first second log other new also v x y = logs_moved first second log other new also x.1 y.1 v
-settles_same zero (suc m) config first second log other new also v x y =
-    let so = next_shared config other log (calls_also first second log other v) y.0 y.1 in absurd (x.0 (so.0 ++ log) so.2)
-settles_same (suc n) zero config first second log other new also v x y =
-    let so = next_shared config log other (same_calls first second log other v) x.0 x.1 in absurd (y.0 (so.0 ++ other) so.2)
-settles_same (suc n) (suc m) config first second log other new also v x y =
-    let so = next_shared config log other (same_calls first second log other v) x.0 x.1 in
+pub settles_so : (AreSo : List Act → List Act → Type 0) → IsKept AreSo → (n m : ℕ) (config : Config) (log other new also : List Act)
+    → AreSo log other → SettlesIn n config log new → SettlesIn m config other also → AreSo new also
+settles_so AreSo kept zero zero config log other new also v x y = moved AreSo log other new also x.1 y.1 v
+settles_so AreSo kept zero (suc m) config log other new also v x y =
+    let so = next_shared config other log (calls_back log other (kept.calls log other v)) y.0 y.1 in absurd (x.0 (so.0 ++ log) so.2)
+settles_so AreSo kept (suc n) zero config log other new also v x y =
+    let so = next_shared config log other (kept.calls log other v) x.0 x.1 in absurd (y.0 (so.0 ++ other) so.2)
+settles_so AreSo kept (suc n) (suc m) config log other new also v x y =
+    let so = next_shared config log other (kept.calls log other v) x.0 x.1 in
     let there : y.0 ≡ so.0 ++ other = next_once config other y.0 (so.0 ++ other) y.1 so.2 in
-    settles_same n m config first second x.0 y.0 new also
-    (logs_moved first second (so.0 ++ log) (so.0 ++ other) x.0 y.0 so.1 there (logs_more first second so.0 log other v)) x.2 y.2
+    settles_so AreSo kept n m config x.0 y.0 new also
+    (moved AreSo (so.0 ++ log) (so.0 ++ other) x.0 y.0 so.1 there (kept.more so.0 log other v)) x.2 y.2
+
+settles_same : (n m : ℕ) (config : Config) (first second : ℕ → List ℕ) (log other new also : List Act)
+    → SameLogs first second log other → SettlesIn n config log new → SettlesIn m config other also → SameLogs first second new also
+settles_same n m config first second = settles_so (SameLogs first second)
+    (record { calls = same_calls first second; more = logs_more first second }) n m config
 
 -- the same events
 pub events_same : (config : Config) (first second : ℕ → List ℕ) (one two events : List PlainEvent)

@@ -100,7 +100,7 @@ pub record SameCalls (log other : List Act) : Type 0 where
   pub device : SameDevice (device_acts log) (device_acts other)
   pub calls : (d : ℕ) → unanswered (of d log) ≡ unanswered (of d other)
 
-calls_back : (log other : List Act) → SameCalls log other → SameCalls other log
+pub calls_back : (log other : List Act) → SameCalls log other → SameCalls other log
 calls_back log other v =
     record { device = device_back (device_acts log) (device_acts other) v.device; calls = λ d. sym (v.calls d) }
 
