@@ -21,6 +21,7 @@ pub mod NoCallTaken
 pub mod BytesBehind
 pub mod Fed
 pub mod Suspended
+pub mod WriteOutcome
 pub mod Written
 pub mod FirstPart
 pub mod Beside

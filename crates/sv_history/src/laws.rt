@@ -16,9 +16,9 @@ pub fn isolation()
 {}
 
 /// Where bytes that come on a connection are cut into pieces, and the records in one piece into
-/// fragments, changes nothing that is sent on any port (RFC 5531, section 11: record marking). Where
-/// text is cut into writes, of which only the last tells END, changes nothing that is sent but the
-/// replies to these writes (VXI-11 revision 1.0, section B.6, device_write; IEEE 488.2, 6.1).
+/// fragments, changes nothing that is sent on any port (RFC 5531, section 11: record marking).
+/// Where text is cut into writes, of which only the last has END, changes nothing that is sent but
+/// the replies to them (VXI-11 revision 1.0, section B.6, device_write; IEEE 488.2, 6.1).
 pub fn cuts()
     ensures pieces { RecordsCut }
     ensures writes { WritesCut }

@@ -1,16 +1,14 @@
 -- Behind a call that was answered no whole record is left, and so as many records came to their end as there are: whatever comes next is
 -- read on from the tail alone.
-use Rattle.std.proofs.Common.{◌≡◌, ℕ, ◌+◌, ◌<◌, ◌≤◌, Bool, true, false, cond, List, [], ◌∷◌, ◌++◌, length, drop, Option, Some, None, slice_get, refl, sym, ap, ◌∙◌, inl, inr, append_assoc, append-nil, arith}
+use Rattle.std.proofs.Common.{◌≡◌, ℕ, ◌+◌, ◌<◌, Bool, true, false, cond, List, [], ◌∷◌, ◌++◌, length, drop, Some, None, slice_get, refl, sym, ap, ◌∙◌, append_assoc, append-nil, arith}
 use Rattle.std.specs.Prelude.{◌||◌, is_some}
-use Rattle.std.proofs.lemmas.Bool.{cases_Bool}
 use Rattle.std.proofs.lemmas.List.{length-append, length-drop, append_cancel_right}
 use Rattle.std.proofs.lemmas.Option.{slice_get_within}
 use Rattle.sv_rpc.specs.Stream.{records_of, tail_of}
 use Rattle.sv_history.specs.declared.event.Config.{Config}
-use Rattle.sv_history.specs.declared.event.Role.{Role}
 use Rattle.sv_history.specs.Event.{PlainEvent}
 use Rattle.sv_history.specs.Act.{Act, ConnAct, Opened, Piece, CallTaken, Faulted, Replied, BytesTaken, PortClosed, of}
-use Rattle.sv_history.specs.Connection.{open_role, stream, completed, took_no_call, unanswered, next_call}
+use Rattle.sv_history.specs.Connection.{open_role, stream, completed, took_no_call, unanswered}
 use Rattle.sv_history.specs.Cuts.{without_pieces}
 use Rattle.sv_history.proofs.Cuts.ReadsOn.{resumed_at, records_more}
 use Rattle.sv_history.proofs.Cuts.BytesBehind.{GoesOn, behind_bare, behind_stream}
@@ -96,14 +94,15 @@ module _ (c : ℕ) (config : Config) (past : List PlainEvent) (log : List Act) (
       by_test false is = is
 
   -- where none is left, each of its records came to its end
-  pub fed_all : drop (completed (of c log)) (records_of (stream (of c log))) ≡ [] → length (records_of (stream (of c log))) ≡ completed (of c log)
+  pub fed_all : drop (completed (of c log)) (records_of (stream (of c log))) ≡ []
+      → length (records_of (stream (of c log))) ≡ completed (of c log)
   fed_all none =
       let records = records_of (stream (of c log)) in
       let before = records_of (stream (of c fed.base)) in
       let grown = fed_stream in
       let more = (resumed_at (tail_of (stream (of c fed.base))) grown.0).0 in
       let all : length records ≡ length (before ++ more) =
-      ap (λ (l : List ℕ). length (records_of l)) grown.1 ∙ ap (λ (l : List (List ℕ)). length l) (records_more (stream (of c fed.base)) grown.0)
-      in
+      ap (λ (l : List ℕ). length (records_of l)) grown.1
+      ∙ ap (λ (l : List (List ℕ)). length l) (records_more (stream (of c fed.base)) grown.0) in
       let left : length (drop (completed (of c log)) records) ≡ 0 = ap (λ (l : List (List ℕ)). length l) none in
       omega (arith, all, left, length-append before more, length-drop (completed (of c log)) records, fed_count, fed_within)

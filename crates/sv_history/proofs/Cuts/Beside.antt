@@ -1,11 +1,10 @@
 -- Two logs, in one of which a write was accepted whole, and in the other in two parts: they are the same but for that, and stay so over
 -- the same steps.
-use Rattle.std.proofs.Common.{◌≡◌, ◌≢◌, ℕ, ◌+◌, Bool, false, List, [], ◌∷◌, ◌++◌, Option, None, refl, sym, ap, subst, ◌∙◌, inl, inr}
+use Rattle.std.proofs.Common.{◌≡◌, ◌≢◌, ℕ, Bool, false, List, ◌∷◌, ◌++◌, None, refl, sym, ap, subst, ◌∙◌, inl, inr}
 use Rattle.std.proofs.lemmas.Bool.{cases_eq}
 use Rattle.sv_errors.specs.declared.code.Code.TheVariants.{InputBufferOverrun}
 use Rattle.sv_exchange.specs.Exchange.{Overran}
 use Rattle.sv_layers.specs.Act.{Act as InstrumentAct, Exchanged, Reported, exchange_acts as exchanged}
-use Rattle.sv_history.specs.declared.event.Config.{Config}
 use Rattle.sv_history.specs.Act.{Act, ConnAct, DeviceAct, CallTaken, Replied, Happened, On, OnDevice, of, device_acts, instrument_acts}
 use Rattle.sv_history.specs.Connection.{unanswered}
 use Rattle.sv_history.proofs.Projections.{of_mine, of_other}
@@ -14,11 +13,9 @@ use Rattle.sv_history.proofs.Cuts.SameStatus.{SameStatus, status_same, status_ac
 use Rattle.sv_history.proofs.Cuts.SameDevice.{SameDevice, device_back, Tells, tells_happened, accepts, tells_accepted, tells_also}
 use Rattle.sv_history.proofs.Cuts.SharedEvents.{calls_behind}
 use Rattle.sv_history.proofs.Cuts.SharedLogs.{device_front, tells_front, IsKept}
-use Rattle.sv_history.proofs.Cuts.SharedSteps.{SameCalls}
 use Rattle.sv_history.proofs.Cuts.NoCallTaken.{of_append}
 use Rattle.sv_history.proofs.Cuts.BytesBehind.{CameBehind, behind_device, behind_others, behind_call}
 use Rattle.sv_history.proofs.Cuts.Written.{wrote}
-use Rattle.sv_history.proofs.Cuts.FirstPart.{reported}
 
 -- ---- what all connections share
 
@@ -161,7 +158,8 @@ of_wrote c d call reply bytes ended base ne =
 
 wrote_calls : (c d : ℕ) (call reply bytes : List ℕ) (ended : Bool) (base : List Act) → d ≡ c
     → unanswered (of d (wrote c call reply bytes ended base)) ≡ None
-wrote_calls c d call reply bytes ended base same = subst (λ (n : ℕ). unanswered (of n (wrote c call reply bytes ended base)) ≡ None) (sym same)
+wrote_calls c d call reply bytes ended base same =
+    subst (λ (n : ℕ). unanswered (of n (wrote c call reply bytes ended base)) ≡ None) (sym same)
     (ap unanswered (of_mine c (Replied reply) (OnDevice (accepts bytes ended) ∷ On c (CallTaken call) ∷ base)))
 
 -- the two logs' writes, over one log

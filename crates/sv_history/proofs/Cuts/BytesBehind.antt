@@ -1,11 +1,11 @@
 -- A log with bytes of one connection in front of it: nothing else is different.
 use Rattle.std.proofs.Common.{◌≡◌, ◌≢◌, ℕ, List, [], ◌∷◌, ◌++◌, refl, sym, ap, subst, ◌∙◌}
 use Rattle.std.specs.Prelude.{map}
-use Rattle.sv_history.specs.Act.{Act, ConnAct, DeviceAct, Piece, On, of, device_acts}
+use Rattle.sv_history.specs.Act.{Act, ConnAct, Piece, On, of, device_acts}
 use Rattle.sv_history.specs.Connection.{stream, unanswered}
 use Rattle.sv_history.specs.Cuts.{joined, without_pieces}
 use Rattle.sv_history.proofs.Projections.{of_effect, others_effect, device_effect}
-use Rattle.sv_history.proofs.Cuts.SameView.{Came, came, only_own, came_on}
+use Rattle.sv_history.proofs.Cuts.SameView.{came, only_own, came_on}
 
 abbrev pub CameBehind : ℕ → List Act → List Act → Type 0
 CameBehind c base log = (pieces : List (List ℕ)) × (log ≡ came_on c pieces ++ base)

@@ -33,4 +33,5 @@ success_read xid n = refl
 pub is_served : (xid other n : ℕ) → reply_record other ProgUnavail [] ≡ result_reply xid (Size NoError n) → ⊥
 is_served xid other n same =
     let read : status_in (reply_record other ProgUnavail []) ≡ 0 = ap (λ (l : List ℕ). status_in l) same ∙ success_read xid n in
-    let z : 1 ≡ 0 = sym (unavailable_read other) ∙ read in cc
+    let one : 1 ≡ status_in (reply_record other ProgUnavail []) = sym (unavailable_read other) in
+    let z : 1 ≡ 0 = one ∙ read in cc

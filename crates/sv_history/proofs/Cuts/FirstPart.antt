@@ -26,7 +26,7 @@ use Rattle.sv_instrument.specs.Step.{released, StepOf, IsStep, is_answerable}
 use Rattle.sv_history.specs.declared.event.Config.{Config}
 use Rattle.sv_history.specs.Act.{Act, DeviceAct, Happened, OnDevice, device_acts, link_acts, wait_acts, instrument_acts, exchange_acts, ticks}
 use Rattle.sv_history.specs.PolledStatus.{IsPolled}
-use Rattle.sv_history.specs.Settling.{InstrumentDoes, CanResume, Resumes, TimesOut, IsNext, SettlesIn}
+use Rattle.sv_history.specs.Settling.{InstrumentDoes, Resumes, TimesOut, IsNext, SettlesIn}
 use Rattle.sv_history.specs.Cuts.{AllRest}
 use Rattle.sv_history.proofs.OneStep.{went_on, gave_up}
 use Rattle.sv_history.proofs.Cuts.LongerText.{ends_none, long_too}
@@ -118,7 +118,10 @@ calm_step config log base new rest v (inr (none, inr (still, inr (idle, times)))
 calm_next : (config : Config) (log base new : List Act) → Resting config base → Calm (device_acts log) (device_acts base)
     → InstrumentDoes IsStep log new → IsNext config log new
 calm_next config log base new rest v step =
-    inr ((λ one fires. no_fire config log base one rest.rests v fires), inr ((λ one resumes. no_resume config log base one rest v resumes), inl step))
+    inr (
+      (λ one fires. no_fire config log base one rest.rests v fires),
+      inr ((λ one resumes. no_resume config log base one rest v resumes), inl step),
+    )
 
 -- ---- a unit that is held
 
@@ -138,7 +141,8 @@ released_adds awaited.One log = answered_more (Exchanged UnitDone) _ log
 released_adds awaited.Readings log = answered_more (Exchanged UnitDone) _ log
 
 -- would be released if the instrument were idle
-held_waits : (config : Config) (base : List Act) (what : Awaited) → Rested config base → held (instrument_acts (device_acts base)) ≡ Some what
+held_waits : (config : Config) (base : List Act) (what : Awaited) → Rested config base
+    → held (instrument_acts (device_acts base)) ≡ Some what
     → is_idle (instrument_acts (device_acts base)) ≡ true → ⊥
 held_waits config base what rest holds idle =
     let log = instrument_acts (device_acts base) in

@@ -1,5 +1,5 @@
 -- The records of a stream with more bytes behind it: its own records, and those that are read on from where it ends.
-use Rattle.std.proofs.Common.{◌≡◌, ℕ, zero, suc, ◌+◌, ◌-◌, ◌%◌, ◌<◌, ◌≤◌, ◌^◌, Bool, true, false, leb, List, [], ◌∷◌, ◌++◌, length, take, drop, refl, sym, ap, ◌∙◌, inl, inr, append_assoc, arith, lt-ltb, le-ltb}
+use Rattle.std.proofs.Common.{◌≡◌, ℕ, zero, suc, ◌+◌, ◌-◌, ◌%◌, ◌<◌, ◌^◌, Bool, true, false, leb, List, [], ◌∷◌, ◌++◌, length, take, drop, refl, sym, ap, ◌∙◌, inl, inr, append_assoc, arith, lt-ltb, le-ltb}
 use Rattle.std.specs.Prelude.{nat_lt, if◌then◌else◌}
 use Rattle.std.specs.Int.{w32, from_be_bytes}
 use Rattle.std.proofs.lemmas.Bool.{cases_lt}
@@ -55,7 +55,8 @@ abbrev RecordsThen : Reading → List ℕ → Reading → Type 0
 RecordsThen whole more part = whole.0 ≡ part.0 ++ (resumed_at part.1 more).0
 
 abbrev Resumes : ℕ → List ℕ → Type 0
-Resumes n more = (payload bytes : List ℕ) → length (bytes ++ more) < n → RecordsThen (read n payload (bytes ++ more)) more (read n payload bytes)
+Resumes n more = (payload bytes : List ℕ) → length (bytes ++ more) < n
+    → RecordsThen (read n payload (bytes ++ more)) more (read n payload bytes)
 
 on_more : (n : ℕ) (payload : List ℕ) (last : Bool) (rest more : List ℕ) → Resumes n more → length (rest ++ more) < n
     → RecordsThen (read_on (read n) payload last (rest ++ more)) more (read_on (read n) payload last rest)
@@ -69,9 +70,9 @@ part_more : (n : ℕ) (payload : List ℕ) (last : Bool) (size : ℕ) (rest more
     ≡ (resumed_at (Data (payload ++ rest) (size - length rest) last) more).0
 part_more n payload last size rest more less part = elim (cases_lt (length more) (size - length rest)) [
   | inl few ↦ rw (
-      lt-ltb (length more) (size - length rest) few,
-      lt-ltb (length (rest ++ more)) size (omega (arith, length-append rest more)),
-    ) refl
+    lt-ltb (length more) (size - length rest) few,
+    lt-ltb (length (rest ++ more)) size (omega (arith, length-append rest more)),
+  ) refl
   | inr enough ↦
       let same : length rest + (size - length rest) ≡ size = omega (arith, part) in
       let taken : take size (rest ++ more) ≡ rest ++ take (size - length rest) more =
@@ -98,11 +99,11 @@ data_more n payload last size rest more again less = elim (cases_lt 8192 (length
   | inr within ↦ rw (le-ltb 8192 (length payload + size) within) (elim (cases_lt (length rest) size) [
     | inl part ↦ rw (lt-ltb (length rest) size part) (part_more n payload last size rest more less part)
     | inr whole ↦ rw (
-        le-ltb (length rest) size whole,
-        le-ltb (length (rest ++ more)) size (omega (arith, whole, length-append rest more)),
-        take-append-le size rest more whole,
-        drop-append-le size rest more whole,
-      ) (on_more n (payload ++ take size rest) last (drop size rest) more again
+      le-ltb (length rest) size whole,
+      le-ltb (length (rest ++ more)) size (omega (arith, whole, length-append rest more)),
+      take-append-le size rest more whole,
+      drop-append-le size rest more whole,
+    ) (on_more n (payload ++ take size rest) last (drop size rest) more again
         (omega (arith, length-append (drop size rest) more, length-append rest more, length-drop size rest)))
   ])
 ]

@@ -1,10 +1,10 @@
 -- Behind a log at which nothing is due a call is suspended, and what it waits for isn't there: nothing is due but that it times out.
-use Rattle.std.proofs.Common.{◌≡◌, ◌≢◌, ℕ, ◌+◌, ◌≤◌, Bool, true, false, eqb, List, ◌∷◌, ◌++◌, Option, Some, None, refl, sym, ap, subst, ◌∙◌, inl, inr, eq-eqb}
+use Rattle.std.proofs.Common.{◌≡◌, ◌≢◌, ℕ, ◌+◌, Bool, true, false, eqb, List, ◌∷◌, ◌++◌, Option, Some, None, refl, sym, ap, subst, ◌∙◌, inl, inr, eq-eqb}
 use Rattle.std.specs.Prelude.{map, not}
 use Rattle.std.proofs.lemmas.Bool.{cases_eq, ne_eqb}
 use Rattle.sv_links.specs.declared.waiting.Wait.{Wait}
 use Rattle.sv_links.specs.Links.{holder}
-use Rattle.sv_links.specs.Waiting.{WaitAct, Entered, waits, arrival, is_there, IsExpired, IsOldest}
+use Rattle.sv_links.specs.Waiting.{WaitAct, Entered, waits, is_there, IsExpired, IsOldest}
 use Rattle.sv_layers.specs.Act.{Act as InstrumentAct}
 use Rattle.sv_instrument.specs.Stimulus.{IsFired}
 use Rattle.sv_instrument.specs.Step.{IsStep, is_answerable}
@@ -120,8 +120,8 @@ late_alone config c call named wait last base new rest free (d, for, oldest, wai
             (λ late. (late.0, late.1, rw apart at late.2, rw apart at late.3, late.4))
             (λ e late same. not_late e late same)
             (λ e other late.
-                let far : eqb c e ≡ false = ne_eqb c e (λ k. other (sym k)) in
-                (late.0, late.1, rw far late.2, rw far late.3, late.4))
+            let far : eqb c e ≡ false = ne_eqb c e (λ k. other (sym k)) in
+            (late.0, late.1, rw far late.2, rw far late.3, late.4))
             oldest,
         rw apart at waits_for,
         refl,

@@ -1,5 +1,5 @@
 -- A write, and the same bytes in two writes: what comes behind them adds the same, and so do they to each port but the connection.
-use Rattle.std.proofs.Common.{◌≡◌, ◌≢◌, ℕ, zero, suc, ◌≤◌, Bool, true, false, Some, List, [], ◌∷◌, ◌++◌, length, refl, sym, ap, subst, ◌∙◌, inl, inr, append-nil, arith}
+use Rattle.std.proofs.Common.{◌≡◌, ◌≢◌, ℕ, zero, suc, Bool, true, false, Some, List, [], ◌∷◌, ◌++◌, length, refl, sym, ap, subst, ◌∙◌, inl, inr, append-nil, arith}
 use Rattle.std.specs.Prelude.{◌↔◌, pos}
 use Rattle.std.specs.Int.{bit_at}
 use Rattle.std.specs.List.{AllByRecursion}
@@ -12,7 +12,7 @@ use Rattle.sv_history.specs.declared.event.Config.{Config}
 use Rattle.sv_history.specs.declared.event.Port.{Port}
 use Rattle.sv_history.specs.declared.event.Port.TheVariants.{Conn, Intr}
 use Rattle.sv_history.specs.Event.{PlainEvent}
-use Rattle.sv_history.specs.Act.{Act, ConnAct, DeviceAct, CallTaken, Replied, OnDevice, of, device_acts, wait_acts}
+use Rattle.sv_history.specs.Act.{Act, ConnAct, DeviceAct, CallTaken, Replied, of, device_acts, wait_acts}
 use Rattle.sv_history.specs.Connection.{open_role, unanswered, completed, took_no_call, stream}
 use Rattle.sv_history.specs.Request.{core_call}
 use Rattle.sv_history.specs.Effect.{result_reply}
@@ -21,7 +21,7 @@ use Rattle.sv_history.specs.Requests.{HearsOf}
 use Rattle.sv_history.specs.Settling.{IsNext, SettlesIn}
 use Rattle.sv_history.specs.History.{IsLogOf}
 use Rattle.sv_history.specs.Adding.{all_replies, all_sent, Adds}
-use Rattle.sv_history.specs.Cuts.{without_pieces, Feeds, AllRest, AreCut, WritesCut}
+use Rattle.sv_history.specs.Cuts.{without_pieces, AllRest, AreCut, WritesCut}
 use Rattle.sv_history.proofs.OneLog.{one_log}
 use Rattle.sv_history.proofs.OneStep.{next_once}
 use Rattle.sv_history.proofs.EveryLog.EachEvent.{fit_log, idle_free}
@@ -29,15 +29,15 @@ use Rattle.sv_history.proofs.EveryLog.Steps.{log_settled}
 use Rattle.sv_history.proofs.Cuts.ReadsOn.{same_behind}
 use Rattle.sv_history.proofs.Cuts.SameDevice.{Tells, accepts}
 use Rattle.sv_history.proofs.Cuts.SameAhead.{SameAhead}
-use Rattle.sv_history.proofs.Cuts.SharedLogs.{SameLogs, settles_so}
+use Rattle.sv_history.proofs.Cuts.SharedLogs.{settles_so}
 use Rattle.sv_history.proofs.Cuts.SharedSending.{Begun, adds_same}
 use Rattle.sv_history.proofs.Cuts.BytesBehind.{CameBehind, behind_device, behind_others}
 use Rattle.sv_history.proofs.Cuts.Fed.{Fed, fed, only_bytes}
 use Rattle.sv_history.proofs.Cuts.Suspended.{rested}
 use Rattle.sv_history.proofs.Cuts.Written.{wrote, Wrote, written}
-use Rattle.sv_history.proofs.Cuts.FirstPart.{Resting, reported, BecomesLong, FirstPart, first_part, whole_long}
+use Rattle.sv_history.proofs.Cuts.FirstPart.{Resting, reported, BecomesLong, first_part, whole_long}
 use Rattle.sv_history.proofs.Cuts.Beside.{Beside, reports, parts_shared, long_shared, beside_kept, beside_came, of_wrote, beside_wrote}
-use Rattle.sv_history.proofs.Cuts.AllTaken.{role_bare, call_bare, no_call_bare, fed_bare, fed_all}
+use Rattle.sv_history.proofs.Cuts.AllTaken.{role_bare, call_bare, no_call_bare, fed_all}
 
 -- ---- the logs where the last write is accepted
 
@@ -167,7 +167,7 @@ wrote_by : (c lid : ℕ) (config : Config) (past : List PlainEvent) (log : List 
 wrote_by c lid config past log bytes ended xid io_timeout lock_timeout flags call rest is flag f =
     written c lid bytes ended config f.base f.last call xid io_timeout lock_timeout flags is flag
     (log_settled config (f.earlier ++ past) f.base f.was)
-    (idle_free c f.base call (fit_log config (f.earlier ++ past) f.base f.was) f.taking.next) f.taking f.acts
+    (idle_free c f.base call (fit_log config (f.earlier ++ past) f.base f.was) f.taking.next) f.acts f.taking
 
 resting : (config : Config) (history : List PlainEvent) (before base : List Act) (polled : ℕ) → IsLogOf config history base
     → device_acts base ≡ device_acts before → AllRest (wait_acts (device_acts before)) → IsPolled polled (device_acts base)
@@ -201,7 +201,8 @@ module _ (c lid : ℕ) (x y : List ℕ) (ended : Bool) (config : Config) (past o
   parts : Parts c x y ended config h.before fed_both.last fed_other.last
   parts =
       let both = wrote_by c lid config past h.whole (x ++ y) ended _ _ _ _ h.writes_both.4 rest h.writes_both.5 h.writes_both.6 fed_both in
-      let first = wrote_by c lid config past fed_other.base x false _ _ _ _ h.writes_first.4 rest h.writes_first.5 h.writes_first.6 fed_one in
+      let first = wrote_by c lid config past fed_other.base x false _ _ _ _ h.writes_first.4 rest h.writes_first.5 h.writes_first.6
+      fed_one in
       let at_single = only_bytes c config past fed_both.earlier h.before fed_both.base fed_both.feeding h.one_feeds.was fed_both.was
       fed_both.same in
       let at_first = only_bytes c config past fed_one.earlier h.before fed_one.base fed_one.feeding h.two_feeds.was fed_one.was
