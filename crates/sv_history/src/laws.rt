@@ -2,7 +2,7 @@
 
 ghost use Rattle.sv_history.specs.Laws.{OneLog};
 ghost use Rattle.sv_history.specs.Isolation.{Isolation};
-ghost use Rattle.sv_history.specs.Cuts.{RecordsCut};
+ghost use Rattle.sv_history.specs.Cuts.{RecordsCut, WritesCut};
 
 /// A history has at most one log.
 pub fn one_log()
@@ -17,6 +17,9 @@ pub fn isolation()
 
 /// Where bytes that come on a connection are cut into pieces, and the records in one piece into
 /// fragments, changes nothing that is sent on any port (RFC 5531, section 11: record marking).
-pub fn cut_pieces()
-    ensures { RecordsCut }
+/// Where text is cut into writes, of which only the last has END, changes nothing that is sent but
+/// the replies to them (VXI-11 revision 1.0, section B.6, device_write; IEEE 488.2, 6.1).
+pub fn cuts()
+    ensures pieces { RecordsCut }
+    ensures writes { WritesCut }
 {}

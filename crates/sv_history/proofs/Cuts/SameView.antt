@@ -91,15 +91,15 @@ same_acts [] acts others fits v = v
 same_acts (act ∷ new) acts others fits v = same_act act (new ++ acts) (new ++ others) fits.0 (same_acts new acts others fits.1 v)
 
 -- pieces change nothing but the stream
-record Came (acts base : List ConnAct) (bytes : List ℕ) : Type 0 where
-  role : open_role acts ≡ open_role base
-  call : unanswered acts ≡ unanswered base
-  count : completed acts ≡ completed base
-  no_call : took_no_call acts ≡ took_no_call base
-  replies : all_replies acts ≡ all_replies base
-  streams : stream acts ≡ stream base ++ bytes
+pub record Came (acts base : List ConnAct) (bytes : List ℕ) : Type 0 where
+  pub role : open_role acts ≡ open_role base
+  pub call : unanswered acts ≡ unanswered base
+  pub count : completed acts ≡ completed base
+  pub no_call : took_no_call acts ≡ took_no_call base
+  pub replies : all_replies acts ≡ all_replies base
+  pub streams : stream acts ≡ stream base ++ bytes
 
-came : (pieces : List (List ℕ)) (base : List ConnAct) → Came (map Piece pieces ++ base) base (joined pieces)
+pub came : (pieces : List (List ℕ)) (base : List ConnAct) → Came (map Piece pieces ++ base) base (joined pieces)
 came [] base =
     record { role = refl; call = refl; count = refl; no_call = refl; replies = refl; streams = sym (append-nil (stream base)) }
 came (piece ∷ pieces) base =

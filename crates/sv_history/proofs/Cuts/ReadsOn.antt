@@ -1,0 +1,144 @@
+-- The records of a stream with more bytes behind it: its own records, and those that are read on from where it ends.
+use Rattle.std.proofs.Common.{◌≡◌, ℕ, zero, suc, ◌+◌, ◌-◌, ◌%◌, ◌<◌, ◌^◌, Bool, true, false, leb, List, [], ◌∷◌, ◌++◌, length, take, drop, refl, sym, ap, ◌∙◌, inl, inr, append_assoc, arith, lt-ltb, le-ltb}
+use Rattle.std.specs.Prelude.{nat_lt, if◌then◌else◌}
+use Rattle.std.specs.Int.{w32, from_be_bytes}
+use Rattle.std.proofs.lemmas.Bool.{cases_lt}
+use Rattle.std.proofs.lemmas.List.{length-append, length-drop, take-append-le, drop-append-le, drop_at}
+use Rattle.std.proofs.Math.Seq.{take-append-add, drop-append-add}
+use Rattle.sv_rpc.specs.Record.{Tail, Header, Data, TooLong}
+use Rattle.sv_rpc.specs.Stream.{Reading, read_on, read_data, read, records_of, tail_of}
+
+-- ---- how many fragments may be read changes nothing, where they are enough
+
+abbrev SameRead : ℕ → ℕ → Type 0
+SameRead n m = (payload bytes : List ℕ) → length bytes < n → length bytes < m → read n payload bytes ≡ read m payload bytes
+
+on_any : (n m : ℕ) (payload : List ℕ) (last : Bool) (rest : List ℕ) → SameRead n m → length rest < n → length rest < m
+    → read_on (read n) payload last rest ≡ read_on (read m) payload last rest
+on_any n m payload true rest same less also = rw (same [] rest less also) refl
+on_any n m payload false rest same less also = same payload rest less also
+
+data_any : (n m : ℕ) (payload : List ℕ) (last : Bool) (size : ℕ) (rest : List ℕ) → SameRead n m → length rest < n → length rest < m
+    → read_data (read n) payload last size rest ≡ read_data (read m) payload last size rest
+data_any n m payload last size rest same less also = elim (cases_lt 8192 (length payload + size)) [
+  | inl long ↦ rw (lt-ltb 8192 (length payload + size) long) refl
+  | inr within ↦ rw (le-ltb 8192 (length payload + size) within) (elim (cases_lt (length rest) size) [
+    | inl part ↦ rw (lt-ltb (length rest) size part) refl
+    | inr whole ↦ rw (le-ltb (length rest) size whole) (on_any n m (payload ++ take size rest) last (drop size rest) same
+        (omega (arith, length-drop size rest)) (omega (arith, length-drop size rest)))
+  ])
+]
+
+read_any : (n m : ℕ) → SameRead n m
+unfolding read
+read_any zero m payload bytes less also = absurd (omega (arith, less))
+read_any (suc n) zero payload bytes less also = absurd (omega (arith, also))
+read_any (suc n) (suc m) payload bytes less also = elim (cases_lt (length bytes) 4) [
+  | inl short ↦ rw (lt-ltb (length bytes) 4 short) refl
+  | inr four ↦ rw (le-ltb (length bytes) 4 four) (data_any n m payload (leb (2 ^ 31) (from_be_bytes w32 bytes))
+      (from_be_bytes w32 bytes % 2 ^ 31) (drop 4 bytes) (read_any n m) (omega (arith, length-drop 4 bytes))
+      (omega (arith, length-drop 4 bytes)))
+]
+
+-- ---- more bytes
+
+-- what is read behind a tail
+abbrev pub resumed_at : Tail → List ℕ → Reading
+resumed_at (Header payload header) more = read (length (header ++ more) + 1) payload (header ++ more)
+resumed_at (Data payload missing last) more =
+    if nat_lt (length more) missing then ([], Data (payload ++ more) (missing - length more) last)
+    else read_on (read (length more + 1)) (payload ++ take missing more) last (drop missing more)
+resumed_at TooLong more = ([], TooLong)
+
+-- the records of both
+abbrev RecordsThen : Reading → List ℕ → Reading → Type 0
+RecordsThen whole more part = whole.0 ≡ part.0 ++ (resumed_at part.1 more).0
+
+abbrev Resumes : ℕ → List ℕ → Type 0
+Resumes n more = (payload bytes : List ℕ) → length (bytes ++ more) < n
+    → RecordsThen (read n payload (bytes ++ more)) more (read n payload bytes)
+
+on_more : (n : ℕ) (payload : List ℕ) (last : Bool) (rest more : List ℕ) → Resumes n more → length (rest ++ more) < n
+    → RecordsThen (read_on (read n) payload last (rest ++ more)) more (read_on (read n) payload last rest)
+on_more n payload true rest more again less = ap (λ (l : List (List ℕ)). payload ∷ l) (again [] rest less)
+on_more n payload false rest more again less = again payload rest less
+
+-- the bytes behind a header don't reach its length
+part_more : (n : ℕ) (payload : List ℕ) (last : Bool) (size : ℕ) (rest more : List ℕ) → length (rest ++ more) < n → length rest < size
+    → (if nat_lt (length (rest ++ more)) size then ([], Data (payload ++ (rest ++ more)) (size - length (rest ++ more)) last)
+    else read_on (read n) (payload ++ take size (rest ++ more)) last (drop size (rest ++ more))).0
+    ≡ (resumed_at (Data (payload ++ rest) (size - length rest) last) more).0
+part_more n payload last size rest more less part = elim (cases_lt (length more) (size - length rest)) [
+  | inl few ↦ rw (
+    lt-ltb (length more) (size - length rest) few,
+    lt-ltb (length (rest ++ more)) size (omega (arith, length-append rest more)),
+  ) refl
+  | inr enough ↦
+      let same : length rest + (size - length rest) ≡ size = omega (arith, part) in
+      let taken : take size (rest ++ more) ≡ rest ++ take (size - length rest) more =
+      ap (λ (m : ℕ). take m (rest ++ more)) (sym same) ∙ take-append-add rest more (size - length rest) in
+      let behind : drop size (rest ++ more) ≡ drop (size - length rest) more =
+      ap (λ (m : ℕ). drop m (rest ++ more)) (sym same) ∙ drop-append-add rest more (size - length rest) in
+      rw (
+        le-ltb (length more) (size - length rest) enough,
+        le-ltb (length (rest ++ more)) size (omega (arith, length-append rest more)),
+        taken,
+        behind,
+        append_assoc payload rest (take (size - length rest) more),
+      )
+      (ap (λ (r : Reading). r.0) (on_any n (length more + 1) (payload ++ (rest ++ take (size - length rest) more)) last
+      (drop (size - length rest) more) (read_any n (length more + 1))
+      (omega (arith, length-drop (size - length rest) more, length-append rest more))
+      (omega (arith, length-drop (size - length rest) more))))
+]
+
+data_more : (n : ℕ) (payload : List ℕ) (last : Bool) (size : ℕ) (rest more : List ℕ) → Resumes n more → length (rest ++ more) < n
+    → RecordsThen (read_data (read n) payload last size (rest ++ more)) more (read_data (read n) payload last size rest)
+data_more n payload last size rest more again less = elim (cases_lt 8192 (length payload + size)) [
+  | inl long ↦ rw (lt-ltb 8192 (length payload + size) long) refl
+  | inr within ↦ rw (le-ltb 8192 (length payload + size) within) (elim (cases_lt (length rest) size) [
+    | inl part ↦ rw (lt-ltb (length rest) size part) (part_more n payload last size rest more less part)
+    | inr whole ↦ rw (
+      le-ltb (length rest) size whole,
+      le-ltb (length (rest ++ more)) size (omega (arith, whole, length-append rest more)),
+      take-append-le size rest more whole,
+      drop-append-le size rest more whole,
+    ) (on_more n (payload ++ take size rest) last (drop size rest) more again
+        (omega (arith, length-append (drop size rest) more, length-append rest more, length-drop size rest)))
+  ])
+]
+
+short_more : (n : ℕ) (payload bytes more : List ℕ) → length bytes < 4 → length (bytes ++ more) < suc n
+    → RecordsThen (read (suc n) payload (bytes ++ more)) more (read (suc n) payload bytes)
+unfolding read
+short_more n payload bytes more short less = rw (lt-ltb (length bytes) 4 short)
+    (ap (λ (r : Reading). r.0) (read_any (suc n) (length (bytes ++ more) + 1) payload (bytes ++ more) less (omega arith)))
+
+read_more : (n : ℕ) (more : List ℕ) → Resumes n more
+unfolding read
+read_more zero more payload bytes less = absurd (omega (arith, less))
+read_more (suc n) more payload [] less = short_more n payload [] more (omega arith) less
+read_more (suc n) more payload (a ∷ []) less = short_more n payload (a ∷ []) more (omega arith) less
+read_more (suc n) more payload (a ∷ b ∷ []) less = short_more n payload (a ∷ b ∷ []) more (omega arith) less
+read_more (suc n) more payload (a ∷ b ∷ c ∷ []) less = short_more n payload (a ∷ b ∷ c ∷ []) more (omega arith) less
+read_more (suc n) more payload (a ∷ b ∷ c ∷ d ∷ rest) less =
+    let word = from_be_bytes w32 (a ∷ b ∷ c ∷ d ∷ rest) in
+    rw (le-ltb (length (a ∷ b ∷ c ∷ d ∷ rest)) 4 (omega arith), le-ltb (length (a ∷ b ∷ c ∷ d ∷ (rest ++ more))) 4 (omega arith))
+    (data_more n payload (leb (2 ^ 31) word) (word % 2 ^ 31) rest more (read_more n more) (omega (arith, less)))
+
+pub records_more : (stream more : List ℕ) → records_of (stream ++ more) ≡ records_of stream ++ (resumed_at (tail_of stream) more).0
+records_more stream more =
+    let size = length (stream ++ more) + 1 in
+    read_more size more [] stream (omega arith)
+    ∙ ap (λ (r : Reading). r.0 ++ (resumed_at r.1 more).0)
+    (read_any size (length stream + 1) [] stream (omega (arith, length-append stream more)) (omega arith))
+
+-- Two streams with the same tail: behind their records the same are read, whatever comes.
+pub same_behind : (one two : List ℕ) (n m : ℕ) → length (records_of one) ≡ n → length (records_of two) ≡ m → tail_of one ≡ tail_of two
+    → (more : List ℕ) → drop n (records_of (one ++ more)) ≡ drop m (records_of (two ++ more))
+same_behind one two n m first second same more =
+    ap (λ (l : List (List ℕ)). drop n l) (records_more one more)
+    ∙ drop_at (records_of one) (resumed_at (tail_of one) more).0 n first
+    ∙ ap (λ (t : Tail). (resumed_at t more).0) same
+    ∙ sym (drop_at (records_of two) (resumed_at (tail_of two) more).0 m second)
+    ∙ sym (ap (λ (l : List (List ℕ)). drop m l) (records_more two more))

@@ -1,0 +1,117 @@
+-- What a call of the core program is on a connection, and what a write comes to: it fails, or waits for what isn't there, or its bytes are
+-- accepted.
+use Rattle.std.proofs.Common.{◌≡◌, ◌≢◌, ℕ, suc, Bool, false, eqb, List, [], ◌∷◌, length, Option, Some, None, refl, ap, subst, ◌∙◌, inl, inr, ◌⊎◌, arith}
+use Rattle.std.specs.Prelude.{not, pos, nat_lt, ◌==◌, Result, Ok, Err}
+use Rattle.std.specs.Int.{bit_at}
+use Rattle.std.proofs.lemmas.Bool.{cases_Bool, eqb-true}
+use Rattle.sv_rpc.specs.declared.call.CallFault.{CallFault}
+use Rattle.sv_rpc.specs.declared.call.CallFault.TheVariants.{BadHeader, Version}
+use Rattle.sv_rpc.specs.declared.reply.Reply.TheVariants.{ProgUnavail}
+use Rattle.sv_rpc.specs.Call.{PlainCall, call_at}
+use Rattle.sv_vxi.specs.declared.error_code.ErrorCode.{ErrorCode}
+use Rattle.sv_vxi.specs.declared.error_code.ErrorCode.TheVariants.{NoError, InvalidLink, ParameterError, IoTimeout}
+use Rattle.sv_vxi.specs.declared.error_code.ErrorCode.TheVariants.{Locked as DeviceLocked}
+use Rattle.sv_vxi.specs.ErrorCode.{error_number}
+use Rattle.sv_vxi.specs.Arguments.{DeviceWrite}
+use Rattle.sv_vxi.specs.Results.{Size}
+use Rattle.sv_links.specs.declared.waiting.Wait.{Wait}
+use Rattle.sv_links.specs.declared.waiting.Wait.TheVariants.{Lock, Input as ForInput}
+use Rattle.sv_links.specs.Links.{owner, is_of, holder, is_locked_out}
+use Rattle.sv_links.specs.Waiting.{Entered, is_there}
+use Rattle.sv_exchange.specs.Exchange.{Accepted, has_ended}
+use Rattle.sv_layers.specs.Act.{Exchanged}
+use Rattle.sv_instrument.specs.Step.{is_answerable}
+use Rattle.sv_history.specs.declared.event.Config.{Config}
+use Rattle.sv_history.specs.declared.event.Role.{Role}
+use Rattle.sv_history.specs.declared.event.Role.TheVariants.{Core, Abort, Portmap}
+use Rattle.sv_history.specs.Act.{DeviceAct, Happened, link_acts, instrument_acts, exchange_acts}
+use Rattle.sv_history.specs.CallOutcome.{CallOutcome, answered, only, suspended}
+use Rattle.sv_history.specs.CoreCall.{CoreCall}
+use Rattle.sv_history.specs.Request.{Request, NoCall, Decided, CoreRequest, AbortRequest, PortRequest, program_of, header_reply, unless_decided, request_of, core_call_of, core_call, asked}
+use Rattle.sv_history.specs.CoreChannel.{device_write}
+use Rattle.sv_history.specs.Admission.{stop_of, admitted}
+use Rattle.sv_history.specs.Resuming.{late}
+
+-- ---- what a core call is on a connection of another program
+
+abbrev pub IsCore : Request → CoreCall → Type 0
+IsCore request call = (request ≡ CoreRequest call) ⊎ ((xid : ℕ) × (request ≡ Decided xid ProgUnavail))
+
+core_is : (request : Request) (call : CoreCall) → core_call_of request ≡ Some call → IsCore request call
+core_is NoCall call is = absurd cc
+core_is (Decided xid reply) call is = absurd cc
+core_is (CoreRequest found) call is = let same : found ≡ call = cc in inl (ap (λ (f : CoreCall). CoreRequest f) same)
+core_is (AbortRequest xid lid) call is = absurd cc
+core_is (PortRequest xid args) call is = absurd cc
+
+-- a call of the core program is of no other
+other_program : (found : PlainCall) (call : CoreCall) (role : Role) → eqb (program_of Core) (program_of role) ≡ false
+    → core_call_of (unless_decided Core found (header_reply Core found)) ≡ Some call
+    → unless_decided role found (header_reply role found) ≡ Decided found.xid ProgUnavail
+other_program found call role apart is = elim (cases_Bool (found.prog == program_of Core)) [
+  | inl e ↦
+      let same : found.prog ≡ program_of Core = eqb-true found.prog (program_of Core) e in
+      let far : eqb found.prog (program_of role) ≡ false = ap (λ (n : ℕ). eqb n (program_of role)) same ∙ apart in
+      rw far refl
+  | inr e ↦ absurd (let z : None ≡ Some call = rw e at is in cc)
+]
+
+core_in : (role : Role) (found : Result PlainCall CallFault) (call : CoreCall) → core_call_of (request_of Core found) ≡ Some call
+    → IsCore (request_of role found) call
+core_in Core found call is = core_is (request_of Core found) call is
+core_in Abort (Ok found) call is = inr (found.xid, other_program found call Abort refl is)
+core_in Portmap (Ok found) call is = inr (found.xid, other_program found call Portmap refl is)
+core_in Abort (Err (Version xid)) call is = absurd cc
+core_in Portmap (Err (Version xid)) call is = absurd cc
+core_in Abort (Err BadHeader) call is = absurd cc
+core_in Portmap (Err BadHeader) call is = absurd cc
+
+pub core_asked : (role : Option Role) (bytes : List ℕ) (request : Request) (call : CoreCall) → asked role (Some bytes) ≡ Some request
+    → core_call bytes ≡ Some call → IsCore request call
+core_asked None bytes request call asks is = absurd cc
+core_asked (Some role) bytes request call asks is =
+    let same : request_of role (call_at bytes) ≡ request = cc in
+    subst (λ (r : Request). IsCore r call) same (core_in role (call_at bytes) call is)
+
+-- ---- what a write comes to
+
+-- It fails, or waits for what isn't there, or its bytes are accepted.
+abbrev pub WriteCase : ℕ → ℕ → ℕ → List ℕ → List DeviceAct → CallOutcome → Type 0
+WriteCase c lid flags bytes acts outcome =
+    ((error : ErrorCode) × (error_number error ≢ 0) × (outcome ≡ only (Size error 0)))
+    ⊎ (((wait : Wait) × (last : Option ℕ) × (error_number (late wait) ≢ 0)
+    × (is_there (holder (link_acts acts)) (not (has_ended (exchange_acts acts))) (is_answerable (instrument_acts acts)) (Some lid)
+    (Some wait) ≡ false)
+    × (outcome ≡ suspended (Entered c (Some lid) wait last)))
+    ⊎ ((has_ended (exchange_acts acts) ≡ false)
+    × (outcome ≡ answered (Happened (Exchanged (Accepted bytes (bit_at flags 3 == 1))) ∷ []) (Size NoError (length bytes)))))
+
+some_error : (error : ErrorCode) (n : ℕ) → error_number error ≡ suc n → error_number error ≢ 0
+some_error error n is none = omega (arith, is, none)
+
+accepts_write : (flags : ℕ) (bytes : List ℕ) (acts : List DeviceAct) → nat_lt 4096 (length bytes) ≡ false
+    → has_ended (exchange_acts acts) ≡ false → device_write flags bytes acts
+    ≡ answered (Happened (Exchanged (Accepted bytes (bit_at flags 3 == 1))) ∷ []) (Size NoError (length bytes))
+accepts_write flags bytes acts short free = rw (short, free) refl
+
+pub write_case : (config : Config) (polled c lid io_timeout lock_timeout flags : ℕ) (bytes : List ℕ) (acts : List DeviceAct)
+    → WriteCase c lid flags bytes acts (admitted config polled c (DeviceWrite (pos lid) io_timeout lock_timeout flags bytes)
+    (stop_of c (DeviceWrite (pos lid) io_timeout lock_timeout flags bytes) acts) acts)
+write_case config polled c lid io_timeout lock_timeout flags bytes acts = elim (cases_Bool (is_of c (owner lid (link_acts acts)))) [
+  | inr e ↦ rw e (inl (InvalidLink, some_error InvalidLink 3 refl, refl))
+  | inl e ↦ elim (cases_Bool (nat_lt 4096 (length bytes))) [
+    | inl long ↦ rw (e, long) (inl (ParameterError, some_error ParameterError 4 refl, refl))
+    | inr short ↦ elim (cases_Bool (is_locked_out (holder (link_acts acts)) (Some lid))) [
+      | inl out ↦ elim (cases_Bool (bit_at flags 0 == 1)) [
+        | inl waiting ↦ rw (e, short, out, waiting)
+            (inr (inl (Lock, _, some_error DeviceLocked 10 refl, ap (λ (b : Bool). not b) out, refl)))
+        | inr failing ↦ rw (e, short, out, failing) (inl (DeviceLocked, some_error DeviceLocked 10 refl, refl))
+      ]
+      | inr held ↦ elim (cases_Bool (has_ended (exchange_acts acts))) [
+        | inl ended ↦ rw (e, short, held, ended)
+            (inr (inl (ForInput, _, some_error IoTimeout 14 refl, ap (λ (b : Bool). not b) ended, refl)))
+        | inr free ↦ rw (e, short, held, free) (inr (inr (refl, accepts_write flags bytes acts short free)))
+      ]
+    ]
+  ]
+]
