@@ -138,7 +138,8 @@ zeros n place = elim (cases_lt place n) [
 ]
 
 -- no input was given, and each is 0
-pub StandsFor-new : (n : ℕ) (settings : Settings) → AreDefaults settings → StandsFor (contents_of (replicate n (pos 0)) settings None [] nothing) []
+pub StandsFor-new : (n : ℕ) (settings : Settings) → AreDefaults settings
+    → StandsFor (contents_of (replicate n (pos 0)) settings None [] nothing) []
 StandsFor-new n settings are = record {
   inputs = λ channel known. zeros n (channel - 1);
   list = are.list;
