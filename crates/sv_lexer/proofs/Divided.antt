@@ -1,12 +1,13 @@
 -- A unit divided: white space in front, the header, and what stands behind it.
-use Rattle.std.proofs.Common.{◌≡◌, ℕ, ◌+◌, Bool, true, false, not, ◌&&◌, cond, List, [], ◌∷◌, ◌++◌, length, drop, refl, sym, ap, ◌∙◌, append-nil, arith}
+use Rattle.std.proofs.Common.{◌≡◌, ℕ, suc, ◌+◌, Bool, true, false, not, ◌&&◌, cond, List, [], ◌∷◌, ◌++◌, length, take, drop, refl, sym, ap, ◌∙◌, subst, append-nil, arith}
 use Rattle.std.specs.List.{list_all}
 use Rattle.std.proofs.lemmas.Bool.{and_parts, not-true}
-use Rattle.std.proofs.lemmas.List.{length-take-le}
+use Rattle.std.proofs.lemmas.List.{length-take-le, take-append-drop}
 use Rattle.sv_text.specs.Front.{is_empty}
 use Rattle.sv_text.specs.White.{is_white, trim_start, trim_end, trim}
 use Rattle.sv_text.proofs.Places.{place_within}
 use Rattle.sv_lexer.specs.Unit.{white_size, header_size, header, header_place, rest, rest_place}
+use Rattle.sv_lexer.proofs.Standing.{start_dropped}
 use Rattle.sv_lexer.proofs.Ends.{run, behind_run, header_is, behind_is}
 
 -- a byte that isn't white space
@@ -59,30 +60,83 @@ behind_over (b ∷ head) xs e =
     let parts = and_parts (is_dark b) (list_all is_dark head) e in
     ap (λ (t : Bool). cond t (b ∷ (head ++ xs)) (behind_run (head ++ xs))) (not-true (is_white b) parts.0) ∙ behind_over head xs parts.1
 
-start_dark : (head xs : List ℕ) → is_empty head ≡ false → list_all is_dark head ≡ true → trim_start (head ++ xs) ≡ head ++ xs
-start_dark [] xs s e = let f : true ≡ false = s in absurd cc
+-- where other bytes stand in front, or nothing does
+start_dark : (head xs : List ℕ) → (is_empty head ≡ true → trim_start xs ≡ xs) → list_all is_dark head ≡ true
+    → trim_start (head ++ xs) ≡ head ++ xs
+start_dark [] xs s e = s refl
 start_dark (b ∷ head) xs s e =
     let parts = and_parts (is_dark b) (list_all is_dark head) e in
     ap (λ (t : Bool). cond t (trim_start (head ++ xs)) (b ∷ (head ++ xs))) (not-true (is_white b) parts.0)
 
-white_dark : (head xs : List ℕ) → is_empty head ≡ false → list_all is_dark head ≡ true → white_size (head ++ xs) ≡ 0
-white_dark [] xs s e = let f : true ≡ false = s in absurd cc
+white_dark : (head xs : List ℕ) → (is_empty head ≡ true → xs ≡ []) → list_all is_dark head ≡ true → white_size (head ++ xs) ≡ 0
+white_dark [] xs s e = ap white_size (s refl)
 white_dark (b ∷ head) xs s e =
     let parts = and_parts (is_dark b) (list_all is_dark head) e in
     ap (λ (t : Bool). cond t (1 + white_size (head ++ xs)) 0) (not-true (is_white b) parts.0)
 
--- White space stands in front of these bytes, of which there are some, and none of which is white space.
-pub record IsLed (lead head : List ℕ) : Type 0 where
+-- A unit is white space, a header and what stands behind it, which begins with white space; without a header that is nothing.
+pub record IsDivided (unit lead head body : List ℕ) : Type 0 where
+  pub whole : unit ≡ lead ++ (head ++ body)
   pub white : list_all is_white lead ≡ true
   pub dark : list_all is_dark head ≡ true
-  pub some : is_empty head ≡ false
+  pub gap : run body ≡ []
+  pub none : is_empty head ≡ true → body ≡ []
 
-started : (lead head xs : List ℕ) → IsLed lead head → trim_start (lead ++ (head ++ xs)) ≡ head ++ xs
-started lead head xs led = start_over lead (head ++ xs) led.white ∙ start_dark head xs led.some led.dark
+-- each unit is
+run_both : (xs : List ℕ) → run xs ++ behind_run xs ≡ xs
+run_both [] = refl
+run_both (b ∷ xs) = at (is_white b) (run_both xs)
+  where
+    at : (t : Bool) → run xs ++ behind_run xs ≡ xs → cond t [] (b ∷ run xs) ++ cond t (b ∷ xs) (behind_run xs) ≡ b ∷ xs
+    at true h = refl
+    at false h = ap (λ (l : List ℕ). b ∷ l) h
 
--- the header, whatever stands behind
-pub header_led : (lead head xs : List ℕ) → IsLed lead head → header (lead ++ (head ++ xs)) ≡ head ++ run xs
-header_led lead head xs led = header_is (lead ++ (head ++ xs)) ∙ ap run (started lead head xs led) ∙ run_over head xs led.dark
+lead_white : (unit : List ℕ) → list_all is_white (take (white_size unit) unit) ≡ true
+lead_white [] = refl
+lead_white (b ∷ unit) = at (is_white b) refl (lead_white unit)
+  where
+    at : (t : Bool) → is_white b ≡ t → list_all is_white (take (white_size unit) unit) ≡ true
+        → list_all is_white (take (cond t (1 + white_size unit) 0) (b ∷ unit)) ≡ true
+    at true w h =
+        let n : 1 + white_size unit ≡ suc (white_size unit) = omega arith in
+        rw n (ap (λ (t : Bool). t && list_all is_white (take (white_size unit) unit)) w ∙ h)
+    at false w h = refl
+
+run_dark : (xs : List ℕ) → list_all is_dark (run xs) ≡ true
+run_dark [] = refl
+run_dark (b ∷ xs) = at (is_white b) refl (run_dark xs)
+  where
+    at : (t : Bool) → is_white b ≡ t → list_all is_dark (run xs) ≡ true → list_all is_dark (cond t [] (b ∷ run xs)) ≡ true
+    at true w h = refl
+    at false w h = ap (λ (t : Bool). not t && list_all is_dark (run xs)) w ∙ h
+
+behind_gap : (xs : List ℕ) → run (behind_run xs) ≡ []
+behind_gap [] = refl
+behind_gap (b ∷ xs) = at (is_white b) refl (behind_gap xs)
+  where
+    at : (t : Bool) → is_white b ≡ t → run (behind_run xs) ≡ [] → run (cond t (b ∷ xs) (behind_run xs)) ≡ []
+    at true w h = ap (λ (t : Bool). cond t [] (b ∷ run xs)) w
+    at false w h = h
+
+start_none : (unit : List ℕ) → is_empty (run (trim_start unit)) ≡ true → behind_run (trim_start unit) ≡ []
+start_none [] e = refl
+start_none (b ∷ unit) e = at (is_white b) refl (start_none unit) e
+  where
+    at : (t : Bool) → is_white b ≡ t → (is_empty (run (trim_start unit)) ≡ true → behind_run (trim_start unit) ≡ [])
+        → is_empty (run (cond t (trim_start unit) (b ∷ unit))) ≡ true → behind_run (cond t (trim_start unit) (b ∷ unit)) ≡ []
+    at true w h e = h e
+    at false w h e =
+        let f : false ≡ true = sym (ap (λ (t : Bool). is_empty (cond t [] (b ∷ run unit))) w) ∙ e in absurd cc
+
+pub divided : (unit : List ℕ) → IsDivided unit (take (white_size unit) unit) (run (trim_start unit)) (behind_run (trim_start unit))
+divided unit = record {
+  whole = sym (take-append-drop (white_size unit) unit)
+      ∙ ap (λ (l : List ℕ). take (white_size unit) unit ++ l) (sym (run_both (trim_start unit) ∙ start_dropped unit));
+  white = lead_white unit;
+  dark = run_dark (trim_start unit);
+  gap = behind_gap (trim_start unit);
+  none = start_none unit;
+}
 
 -- Of a unit the header is this, and it stands here, as does the text of its parameters.
 pub record IsPlaced (unit head : List ℕ) (front : ℕ) (body : List ℕ) : Type 0 where
@@ -91,20 +145,40 @@ pub record IsPlaced (unit head : List ℕ) (front : ℕ) (body : List ℕ) : Typ
   pub follows : rest_place unit ≡ front + length head + white_size (trim_end body)
   pub rests : rest unit ≡ trim_start (trim_end body)
 
--- where nothing but white space stands right behind the header
-pub placed : (lead head body : List ℕ) → IsLed lead head → run body ≡ [] → behind_run body ≡ body
-    → IsPlaced (lead ++ (head ++ body)) head (length lead) body
-placed lead head body led none all =
-    let unit : List ℕ = lead ++ (head ++ body) in
-    let is : header unit ≡ head = header_led lead head body led ∙ ap (λ (l : List ℕ). head ++ l) none ∙ append-nil head in
-    let dark : white_size (head ++ body) ≡ 0 = white_dark head body led.some led.dark in
-    let over : white_size unit ≡ length lead + white_size (head ++ body) = white_over lead (head ++ body) led.white in
-    let front : white_size unit ≡ length lead = omega (arith, over, dark) in
-    let long : header_size unit ≡ length head =
-    sym (length-take-le (header_size unit) (trim unit) (place_within is_white (trim unit))) ∙ ap length is in
-    let behind : drop (header_size unit) (trim unit) ≡ trim_end body =
-    behind_is unit ∙ ap (λ (l : List ℕ). trim_end (behind_run l)) (started lead head body led)
-    ∙ ap trim_end (behind_over head body led.dark ∙ all) in
-    let sum : rest_place unit ≡ white_size unit + header_size unit + white_size (drop (header_size unit) (trim unit)) = refl in
-    let last : white_size (drop (header_size unit) (trim unit)) ≡ white_size (trim_end body) = ap white_size behind in
-    record { heads = is; begins = front; follows = omega (arith, sum, front, long, last); rests = ap trim_start behind }
+gap_all : (body : List ℕ) → run body ≡ [] → behind_run body ≡ body
+gap_all [] e = refl
+gap_all (b ∷ body) e = at (is_white b) e
+  where
+    at : (t : Bool) → cond t [] (b ∷ run body) ≡ [] → cond t (b ∷ body) (behind_run body) ≡ b ∷ body
+    at true e = refl
+    at false e = absurd cc
+
+-- the header where these bytes stand behind white space
+pub header_run : (lead head xs : List ℕ) → list_all is_white lead ≡ true → list_all is_dark head ≡ true
+    → (is_empty head ≡ true → trim_start xs ≡ xs) → header (lead ++ (head ++ xs)) ≡ head ++ run xs
+header_run lead head xs white dark none =
+    header_is (lead ++ (head ++ xs)) ∙ ap run (start_over lead (head ++ xs) white ∙ start_dark head xs none dark) ∙ run_over head xs dark
+
+pub placed : (unit lead head body : List ℕ) → IsDivided unit lead head body → IsPlaced unit head (length lead) body
+placed unit lead head body h = subst (λ (l : List ℕ). IsPlaced l head (length lead) body) (sym h.whole) all
+  where
+    start : is_empty head ≡ true → trim_start body ≡ body
+    start e = ap trim_start (h.none e) ∙ sym (h.none e)
+
+    all : IsPlaced (lead ++ (head ++ body)) head (length lead) body
+    all =
+        let unit : List ℕ = lead ++ (head ++ body) in
+        let is : header unit ≡ head =
+        header_run lead head body h.white h.dark start ∙ ap (λ (l : List ℕ). head ++ l) h.gap ∙ append-nil head in
+        let dark : white_size (head ++ body) ≡ 0 = white_dark head body h.none h.dark in
+        let over : white_size unit ≡ length lead + white_size (head ++ body) = white_over lead (head ++ body) h.white in
+        let front : white_size unit ≡ length lead = omega (arith, over, dark) in
+        let long : header_size unit ≡ length head =
+        sym (length-take-le (header_size unit) (trim unit) (place_within is_white (trim unit))) ∙ ap length is in
+        let behind : drop (header_size unit) (trim unit) ≡ trim_end body =
+        behind_is unit
+        ∙ ap (λ (l : List ℕ). trim_end (behind_run l)) (start_over lead (head ++ body) h.white ∙ start_dark head body start h.dark)
+        ∙ ap trim_end (behind_over head body h.dark ∙ gap_all body h.gap) in
+        let sum : rest_place unit ≡ white_size unit + header_size unit + white_size (drop (header_size unit) (trim unit)) = refl in
+        let last : white_size (drop (header_size unit) (trim unit)) ≡ white_size (trim_end body) = ap white_size behind in
+        record { heads = is; begins = front; follows = omega (arith, sum, front, long, last); rests = ap trim_start behind }

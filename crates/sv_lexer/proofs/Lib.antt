@@ -4,7 +4,8 @@ pub mod Tokens
 pub mod Order
 pub mod Ends
 pub mod Divided
-pub mod Spelling
-pub mod Brevity
+pub mod Words
+pub mod Headers
+pub mod Pushes
 pub mod Stages
 pub mod Finished

@@ -5,7 +5,7 @@ use Rattle.sv_text.proofs.Places.{place_within}
 use Rattle.sv_lexer.specs.declared.token.Token.{Token}
 use Rattle.sv_lexer.specs.Token.{StandsAt, IsToken, kind_of, told}
 use Rattle.sv_lexer.specs.Unit.{white_size, header_size, header, header_place, rest, rest_place}
-use Rattle.sv_lexer.specs.Partial.{IsCut}
+use Rattle.sv_lexer.specs.Inside.Finish.{IsCut}
 use Rattle.sv_lexer.specs.Parameters.{cut_outside, parts, part_place, count, parameter, parameter_place}
 use Rattle.sv_lexer.proofs.Standing.{stands_in, stands_take, stands_drop, stands_start, stands_trim, stands_within, slice_stands}
 
@@ -13,12 +13,12 @@ use Rattle.sv_lexer.proofs.Standing.{stands_in, stands_take, stands_drop, stands
 stands_same : (unit text : List ℕ) (p q : ℕ) → p ≡ q → StandsAt unit p text → StandsAt unit q text
 stands_same unit text p q e h = rw (← e) h
 
-header_stands : (unit : List ℕ) → StandsAt unit (header_place unit) (header unit)
+pub header_stands : (unit : List ℕ) → StandsAt unit (header_place unit) (header unit)
 header_stands unit =
     stands_same unit (header unit) (header_place unit + 0) (header_place unit) (omega arith)
     (stands_in unit (trim unit) (header unit) (header_place unit) 0 (stands_trim unit) (stands_take (header_size unit) (trim unit)))
 
-rest_stands : (unit : List ℕ) → StandsAt unit (rest_place unit) (rest unit)
+pub rest_stands : (unit : List ℕ) → StandsAt unit (rest_place unit) (rest unit)
 rest_stands unit =
     let behind : List ℕ = drop (header_size unit) (trim unit) in
     stands_in unit behind (rest unit) (header_place unit + header_size unit) (white_size behind)

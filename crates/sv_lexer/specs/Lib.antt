@@ -3,5 +3,5 @@ pub mod Token
 pub mod Unit
 pub mod Parameters
 pub mod Order
-pub mod Stage
 pub mod Partial
+pub mod Inside

@@ -1,11 +1,12 @@
--- How far a unit was read whose bytes come one by one.
-use Rattle.std.specs.Prelude.{◌≡◌, ℕ, ◌+◌, ◌-◌, ◌^◌, min, max, List, [], ◌∷◌, length, Option, Some, None, nat_le, if◌then◌else◌}
-use Rattle.sv_errors.specs.declared.code.Code.{Code}
-use Rattle.sv_errors.specs.declared.code.Code.TheVariants.{InvalidCharacter, SyntaxError, ProgramMnemonicTooLong}
-use Rattle.sv_lexer.specs.Stage.{next}
-use Rattle.sv_lexer.specs.Unit.{header, header_place, rest, rest_place}
+-- How far a unit was read whose bytes come one by one (IEEE 488.2, 7.3 and 7.6).
+use Rattle.std.specs.Prelude.{◌≡◌, ℕ, ◌+◌, ◌-◌, ◌^◌, ◌<◌, ◌==◌, min, max, not, Bool, true, false, ⊤, List, [], ◌∷◌, ◌++◌, length}
+use Rattle.std.specs.List.{list_all}
+use Rattle.sv_text.specs.Front.{is_empty}
+use Rattle.sv_text.specs.Header.{is_query}
+use Rattle.sv_lexer.specs.Spelled.{is_mnemonic, is_header, words}
+use Rattle.sv_lexer.specs.Unit.{header, header_place, rest, rest_place, is_legal}
 use Rattle.sv_lexer.specs.declared.stage.Stage.{Stage}
-use Rattle.sv_lexer.specs.declared.stage.Stage.TheVariants.{WhiteSpace, Asterisk, Colon, CommonMnemonic, Mnemonic, QuerySign, HeaderSeparator, ProgramData, DataSpace, Illegal}
+use Rattle.sv_lexer.specs.declared.stage.Stage.TheVariants.{WhiteSpace, Asterisk, Colon, CommonMnemonic, Mnemonic, QuerySign, HeaderSeparator, ProgramData, DataSpace, Misspelled, Illegal}
 
 -- what the unit ends in, and how many bytes it has; where its header begins and ends; how many characters the last mnemonic has, and the
 -- longest one in front of that; where its program data begin, and where they end without white space behind them
@@ -19,102 +20,96 @@ pub record Progress : Type 0 where
   pub data_start : ℕ
   pub data_end : ℕ
 
--- in front of the first byte
-abbrev pub unread : Progress
-unread = record {
-  stage = WhiteSpace;
-  size = 0;
-  header_start = 0;
-  header_end = 0;
-  mnemonic = 0;
-  longest = 0;
-  data_start = 0;
-  data_end = 0;
-}
+-- a count, in 64 bits
+abbrev pub kept : ℕ → ℕ
+kept n = min n (2 ^ 64 - 1)
 
--- one more, in 64 bits
-abbrev pub one_more : ℕ → ℕ
-one_more n = min (n + 1) (2 ^ 64 - 1)
+-- where the header of a unit ends, and where its program data end
+abbrev pub header_end : List ℕ → ℕ
+header_end unit = header_place unit + length (header unit)
 
--- each of these where the unit ends in this and has so many bytes, if it was that before
-abbrev pub header_start_in : Stage → ℕ → ℕ → ℕ
-header_start_in WhiteSpace size before = size
-header_start_in _ size before = before
+abbrev pub rest_end : List ℕ → ℕ
+rest_end unit = rest_place unit + length (rest unit)
 
-abbrev pub header_end_in : Stage → ℕ → ℕ → ℕ
-header_end_in Asterisk size before = size
-header_end_in Colon size before = size
-header_end_in CommonMnemonic size before = size
-header_end_in Mnemonic size before = size
-header_end_in QuerySign size before = size
-header_end_in _ size before = before
+-- the last of some words, and the others
+abbrev pub last : List (List ℕ) → List ℕ
+last [] = []
+last (word ∷ []) = word
+last (word ∷ next ∷ words) = last (next ∷ words)
 
-abbrev pub mnemonic_in : Stage → ℕ → ℕ
-mnemonic_in Colon before = 0
-mnemonic_in CommonMnemonic before = one_more before
-mnemonic_in Mnemonic before = one_more before
-mnemonic_in _ before = before
+abbrev pub others : List (List ℕ) → List (List ℕ)
+others [] = []
+others (word ∷ []) = []
+others (word ∷ next ∷ words) = word ∷ others (next ∷ words)
 
-abbrev pub longest_in : Stage → (mnemonic before : ℕ) → ℕ
-longest_in Colon mnemonic before = max before mnemonic
-longest_in _ mnemonic before = before
+-- how many characters the longest of them has
+abbrev pub longest : List (List ℕ) → ℕ
+longest [] = 0
+longest (word ∷ words) = max (length word) (longest words)
 
-abbrev pub data_start_in : Stage → ℕ → ℕ → ℕ
-data_start_in HeaderSeparator size before = size
-data_start_in _ size before = before
+-- an asterisk leads it
+abbrev pub is_common : List ℕ → Bool
+is_common [] = false
+is_common (b ∷ text) = b == 42
 
-abbrev pub data_end_in : Stage → ℕ → ℕ → ℕ
-data_end_in ProgramData size before = size
-data_end_in _ size before = before
+-- A mnemonic has to follow: its last word is empty, and the others are mnemonics.
+pub record Awaits (text : List ℕ) : Type 0 where
+  pub some : is_empty text ≡ false
+  pub unsigned : is_query text ≡ false
+  pub empty : last (words text) ≡ []
+  pub mnemonics : list_all is_mnemonic (others (words text)) ≡ true
 
--- the unit ends in this, with one byte more
-abbrev pub moved : Stage → Progress → Progress
-moved stage p = record {
-  stage = stage;
-  size = one_more p.size;
-  header_start = header_start_in stage (one_more p.size) p.header_start;
-  header_end = header_end_in stage (one_more p.size) p.header_end;
-  mnemonic = mnemonic_in stage p.mnemonic;
-  longest = longest_in stage p.mnemonic p.longest;
-  data_start = data_start_in stage (one_more p.size) p.data_start;
-  data_end = data_end_in stage (one_more p.size) p.data_end;
-}
+-- It is a header, without the query sign that may stand behind it.
+pub record IsUnsigned (text : List ℕ) : Type 0 where
+  pub header : is_header text ≡ true
+  pub unsigned : is_query text ≡ false
 
--- one byte more, and more of them
-abbrev pub read_byte : Progress → ℕ → Progress
-read_byte p b = moved (next p.stage b) p
+-- A header so far ends in this (7.6.1): it is nothing, an asterisk, what a mnemonic has to follow, a common command, another header, or
+-- one of these with its query sign. Behind the header it is a whole one.
+abbrev pub HeaderEnds : Stage → List ℕ → Type 0
+HeaderEnds WhiteSpace text = text ≡ []
+HeaderEnds Asterisk text = text ≡ 42 ∷ []
+HeaderEnds Colon text = (is_common text ≡ false) × Awaits text
+HeaderEnds CommonMnemonic text = (is_common text ≡ true) × IsUnsigned text
+HeaderEnds Mnemonic text = (is_common text ≡ false) × IsUnsigned text
+HeaderEnds QuerySign text = (front : List ℕ) × (text ≡ front ++ 63 ∷ []) × IsUnsigned front
+HeaderEnds _ text = is_header text ≡ true
 
-abbrev pub read_on : Progress → List ℕ → Progress
-read_on p [] = p
-read_on p (b ∷ bytes) = read_on (read_byte p b) bytes
+-- There are program data, and this is where they begin and end.
+pub record HasData (p : Progress) (unit : List ℕ) : Type 0 where
+  pub some : is_empty (rest unit) ≡ false
+  pub begins : p.data_start ≡ kept (rest_place unit)
+  pub ends : p.data_end ≡ kept (rest_end unit)
 
--- These bytes were read, one after the other.
-abbrev pub Reads : Progress → List ℕ → Type 0
-Reads p bytes = p ≡ read_on unread bytes
+-- A unit ends there (7.3): with its header, in white space behind that, with its program data, or in white space behind these.
+abbrev pub UnitEnds : Stage → Progress → List ℕ → Type 0
+UnitEnds HeaderSeparator p unit = (rest unit ≡ []) × (header_end unit < length unit) × (p.data_start ≡ kept (length unit))
+UnitEnds ProgramData p unit = HasData p unit × (rest_end unit ≡ length unit)
+UnitEnds DataSpace p unit = HasData p unit × (rest_end unit < length unit)
+UnitEnds _ p unit = header_end unit ≡ length unit
 
--- what is wrong with it if it ends here
-abbrev pub length_fault_of : Progress → Option Code
-length_fault_of p = if nat_le (max p.longest p.mnemonic) 12 then None else Some ProgramMnemonicTooLong
+-- The unit ends in this, its header begins and ends there, and the words of its header have so many characters.
+pub record IsRead (stage : Stage) (p : Progress) (unit : List ℕ) : Type 0 where
+  pub spelled : HeaderEnds stage (header unit)
+  pub ends : UnitEnds stage p unit
+  pub begins : p.header_start ≡ kept (header_place unit)
+  pub closes : is_empty (header unit) ≡ false → p.header_end ≡ kept (header_end unit)
+  pub mnemonic : p.mnemonic ≡ kept (length (last (words (header unit))))
+  pub front : p.longest ≡ kept (longest (others (words (header unit))))
 
-abbrev pub fault_of : Stage → Progress → Option Code
-fault_of CommonMnemonic p = length_fault_of p
-fault_of Mnemonic p = length_fault_of p
-fault_of QuerySign p = length_fault_of p
-fault_of HeaderSeparator p = length_fault_of p
-fault_of ProgramData p = length_fault_of p
-fault_of DataSpace p = length_fault_of p
-fault_of Illegal p = Some InvalidCharacter
-fault_of _ p = Some SyntaxError
+-- What is so at each stage: of a unit that is misspelled, that it has no header, whatever bytes come.
+abbrev pub At : Stage → Progress → List ℕ → Type 0
+At Misspelled p unit = (more : List ℕ) → is_header (header (unit ++ more)) ≡ false
+At Illegal p unit = ⊤
+At stage p unit = IsRead stage p unit
 
--- where its program data begin or end then: behind the header, where there are none
-abbrev pub data_of : Stage → (behind_header in_data : ℕ) → ℕ
-data_of ProgramData behind_header in_data = in_data
-data_of DataSpace behind_header in_data = in_data
-data_of _ behind_header in_data = behind_header
+-- an illegal byte came
+abbrev pub is_illegal : Stage → Bool
+is_illegal Illegal = true
+is_illegal _ = false
 
--- At these places of a unit its header and the text of its parameters begin and end.
-pub record IsCut (unit : List ℕ) (header_start header_end data_start data_end : ℕ) : Type 0 where
-  pub header_begins : header_start ≡ header_place unit
-  pub header_ends : header_end ≡ header_place unit + length (header unit)
-  pub data_begins : data_start ≡ rest_place unit
-  pub data_ends : data_end ≡ rest_place unit + length (rest unit)
+-- These bytes were read: the stage is illegal exactly if one of them is.
+pub record Reads (p : Progress) (unit : List ℕ) : Type 0 where
+  pub size : p.size ≡ kept (length unit)
+  pub legal : list_all is_legal unit ≡ not (is_illegal p.stage)
+  pub known : At p.stage p unit

@@ -24,7 +24,7 @@ is_mnemonic (b ∷ bytes) = is_letter b && list_all is_word_byte bytes
 abbrev pub is_brief : List ℕ → Bool
 is_brief word = nat_le (length word) 12
 
-abbrev words_of : Lead → List ℕ → List (List ℕ)
+abbrev pub words_of : Lead → List ℕ → List (List ℕ)
 words_of Common body = body ∷ []
 words_of Root body = cut_at 58 body
 words_of Onward body = cut_at 58 body

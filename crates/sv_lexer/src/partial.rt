@@ -2,7 +2,9 @@
 
 ghost use Rattle.std.specs.Prelude.{◌≡◌, ◌≤◌, ℕ, List, [], ◌∷◌, ◌++◌, None, Some, MatchResult, length};
 ghost use Rattle.sv_lexer.specs.Unit.{unit_fault};
-ghost use Rattle.sv_lexer.specs.Partial.{Reads, IsCut, data_of, fault_of, length_fault_of, moved};
+ghost use Rattle.sv_lexer.specs.Inside.Finish.{IsCut, data_of, fault_of, length_fault_of};
+ghost use Rattle.sv_lexer.specs.Inside.Moved.{moved};
+ghost use Rattle.sv_lexer.specs.Partial.{Reads};
 
 use crate::parts::Unit;
 use crate::stage::{Stage, next};

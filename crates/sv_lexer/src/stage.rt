@@ -2,7 +2,7 @@
 
 ghost use Rattle.std.specs.Prelude.{◌≡◌};
 ghost use Rattle.sv_lexer.specs.Spelled.{is_word_byte as is_word};
-ghost use Rattle.sv_lexer.specs.Stage.{behind_graphic as graphic, behind_space as space, begun, next as next_of};
+ghost use Rattle.sv_lexer.specs.Inside.Stage.{behind_graphic as graphic, behind_space as space, begun, next as next_of};
 
 use sv_text::is_space;
 

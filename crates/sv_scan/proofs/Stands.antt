@@ -10,13 +10,14 @@ use Rattle.sv_scan.specs.declared.settings.Settings.{Settings}
 use Rattle.sv_scan.specs.declared.acts.ScanAct.{ScanAct}
 use Rattle.sv_scan.specs.declared.acts.ScanAct.TheVariants.{Input, Sample}
 use Rattle.sv_errors.specs.Limits.{is_channel}
-use Rattle.sv_scan.specs.Setting.{scan_list, monitor, range, upper, lower, limits, source, count, input}
+use Rattle.sv_scan.specs.Setting.{range, input}
 use Rattle.sv_scan.specs.Scan.{before_init, samples, readings, reading, reading_in, channel_at, list_since}
 use Rattle.sv_scan.specs.Counted.{kept, counts}
 use Rattle.sv_scan.specs.Answered.{refused_by}
 use Rattle.sv_scan.specs.Stands.{Run, Contents, Holds, StandsFor}
 use Rattle.sv_scan.specs.Representation.{contents_of}
 use Rattle.sv_scan.specs.Touched.{IsTouched, nothing}
+use Rattle.sv_scan.specs.Together.{AreDefaults}
 use Rattle.sv_scan.proofs.Searches.{length-readings, list_is}
 use Rattle.sv_scan.proofs.Untouched.{IsTouched-all, IsTouched-input}
 
@@ -138,20 +139,18 @@ zeros n place = elim (cases_lt place n) [
 ]
 
 -- no input was given, and each is 0
-pub StandsFor-new : (n : ℕ) (settings : Settings) → settings.list ≡ scan_list [] → settings.monitor ≡ monitor [] → settings.range ≡ range []
-    → settings.upper ≡ upper [] → settings.lower ≡ lower []
-    → settings.limits ≡ limits [] → settings.source ≡ source [] → settings.count ≡ count []
+pub StandsFor-new : (n : ℕ) (settings : Settings) → AreDefaults settings
     → StandsFor (contents_of (replicate n (pos 0)) settings None [] nothing) []
-StandsFor-new n settings list monitor range upper lower limits source count = record {
+StandsFor-new n settings are = record {
   inputs = λ channel known. zeros n (channel - 1);
-  list = list;
-  monitor = monitor;
-  range = range;
-  upper = upper;
-  lower = lower;
-  limits = limits;
-  source = source;
-  count = count;
+  list = are.list;
+  monitor = are.monitor;
+  range = are.range;
+  upper = are.upper;
+  lower = are.lower;
+  limits = are.limits;
+  source = are.source;
+  count = are.count;
   run = refl;
   readings = refl;
   touched = tt;

@@ -3,6 +3,7 @@ pub mod Scan
 pub mod Counted
 pub mod Condition
 pub mod Touched
+pub mod Together
 pub mod Stands
 pub mod Representation
 pub mod Answered

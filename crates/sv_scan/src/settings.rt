@@ -1,8 +1,5 @@
 //! The settings, all together.
 
-ghost use Rattle.std.specs.Prelude.{◌≡◌, [], unwrap_or};
-ghost use Rattle.sv_scan.specs.Setting.{scan_list, monitor, range, upper, lower, limits, source, count, gives_list, gives_monitor, gives_range, gives_upper, gives_lower, gives_limits, gives_source, gives_count};
-
 use crate::possible::least_range;
 use crate::scan_list::ScanList;
 use crate::setting::Setting;
@@ -30,16 +27,11 @@ pub(crate) struct Settings {
 }
 
 impl Settings {
+    ghost use Rattle.sv_scan.specs.Together.{AreDefaults, IsSet};
+
     /// Each has its default.
     pub(crate) fn new() -> Settings
-        ensures list { result.list ≡ scan_list [] }
-        ensures monitor { result.monitor ≡ monitor [] }
-        ensures range { result.range ≡ range [] }
-        ensures upper { result.upper ≡ upper [] }
-        ensures lower { result.lower ≡ lower [] }
-        ensures limits { result.limits ≡ limits [] }
-        ensures source { result.source ≡ source [] }
-        ensures count { result.count ≡ count [] }
+        ensures { AreDefaults result }
     {
         Settings {
             list: ScanList::of(1),
@@ -55,14 +47,7 @@ impl Settings {
 
     /// The one that is given takes its value, and the others stay.
     pub(crate) fn set(&mut self, setting: Setting)
-        ensures list { self.new.list ≡ unwrap_or (gives_list setting) self.old.list }
-        ensures monitor { self.new.monitor ≡ unwrap_or (gives_monitor setting) self.old.monitor }
-        ensures range { self.new.range ≡ unwrap_or (gives_range setting) self.old.range }
-        ensures upper { self.new.upper ≡ unwrap_or (gives_upper setting) self.old.upper }
-        ensures lower { self.new.lower ≡ unwrap_or (gives_lower setting) self.old.lower }
-        ensures limits { self.new.limits ≡ unwrap_or (gives_limits setting) self.old.limits }
-        ensures source { self.new.source ≡ unwrap_or (gives_source setting) self.old.source }
-        ensures count { self.new.count ≡ unwrap_or (gives_count setting) self.old.count }
+        ensures { IsSet setting self.old self.new }
     {
         match setting {
             Setting::List(list) => self.list = list,

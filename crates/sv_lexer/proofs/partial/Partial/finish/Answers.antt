@@ -1,13 +1,13 @@
 use Rattle.std.proofs.Common.{◌∙◌, ◌≤◌, ◌-◌, ◌^◌, length, sym, subst, arith}
-use Rattle.sv_lexer.specs.Partial.{Progress, IsCut, data_of}
+use Rattle.sv_lexer.specs.Partial.{Progress}
+use Rattle.sv_lexer.specs.Inside.Finish.{IsCut, data_of}
 use Rattle.sv_lexer.proofs.Finished.{fault_is, cut_is}
 use Rattle.sv_lexer.proofs.Tokens.{cut_within}
 use Rattle.sv_lexer.proofs.partial.Partial.finish.Goals as goal
 
 pub returns-in-Some : goal.returns-in-Some
 returns-in-Some c =
-    let room : length c.args.text.now ≤ 2 ^ 64 - 1 = omega arith in
-    fault_is _ _ room c.requires ∙ sym c.fault.ensures ∙ c.in-Some.is
+    fault_is _ _ c.requires ∙ sym c.fault.ensures ∙ c.in-Some.is
 
 pub cut-requires-clause-parts : goal.cut-requires-clause-parts
 cut-requires-clause-parts c =
@@ -27,5 +27,4 @@ cut-requires-clause-data c =
 
 pub returns-in-None : goal.returns-in-None
 returns-in-None c =
-    let room : length c.args.text.now ≤ 2 ^ 64 - 1 = omega arith in
-    (c.cut.ensures, fault_is _ _ room c.requires ∙ sym c.fault.ensures ∙ c.in-None.is)
+    (c.cut.ensures, fault_is _ _ c.requires ∙ sym c.fault.ensures ∙ c.in-None.is)

@@ -1,6 +1,7 @@
 use Rattle.std.proofs.Common.{◌≡◌, ◌∙◌, ap}
-use Rattle.sv_lexer.specs.Partial.{Progress, moved}
-use Rattle.sv_lexer.specs.Stage.{next}
+use Rattle.sv_lexer.specs.Partial.{Progress}
+use Rattle.sv_lexer.specs.Inside.Moved.{moved}
+use Rattle.sv_lexer.specs.Inside.Stage.{next}
 use Rattle.sv_lexer.specs.declared.stage.Stage.{Stage}
 use Rattle.sv_lexer.proofs.Finished.{reads_push}
 use Rattle.sv_lexer.proofs.partial.Partial.push.Goals as goal

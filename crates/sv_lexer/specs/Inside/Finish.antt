@@ -1,0 +1,35 @@
+-- A unit that ends here.
+use Rattle.std.specs.Prelude.{◌≡◌, ℕ, ◌+◌, max, List, length, Option, Some, None, nat_le, if◌then◌else◌}
+use Rattle.sv_errors.specs.declared.code.Code.{Code}
+use Rattle.sv_errors.specs.declared.code.Code.TheVariants.{InvalidCharacter, SyntaxError, ProgramMnemonicTooLong}
+use Rattle.sv_lexer.specs.Unit.{header, header_place, rest, rest_place}
+use Rattle.sv_lexer.specs.declared.stage.Stage.{Stage}
+use Rattle.sv_lexer.specs.declared.stage.Stage.TheVariants.{CommonMnemonic, Mnemonic, QuerySign, HeaderSeparator, ProgramData, DataSpace, Illegal}
+use Rattle.sv_lexer.specs.Partial.{Progress}
+
+-- what is wrong with it if it ends here
+abbrev pub length_fault_of : Progress → Option Code
+length_fault_of p = if nat_le (max p.longest p.mnemonic) 12 then None else Some ProgramMnemonicTooLong
+
+abbrev pub fault_of : Stage → Progress → Option Code
+fault_of CommonMnemonic p = length_fault_of p
+fault_of Mnemonic p = length_fault_of p
+fault_of QuerySign p = length_fault_of p
+fault_of HeaderSeparator p = length_fault_of p
+fault_of ProgramData p = length_fault_of p
+fault_of DataSpace p = length_fault_of p
+fault_of Illegal p = Some InvalidCharacter
+fault_of _ p = Some SyntaxError
+
+-- where its program data begin or end then: behind the header, where there are none
+abbrev pub data_of : Stage → (behind_header in_data : ℕ) → ℕ
+data_of ProgramData behind_header in_data = in_data
+data_of DataSpace behind_header in_data = in_data
+data_of _ behind_header in_data = behind_header
+
+-- At these places of a unit its header and the text of its parameters begin and end.
+pub record IsCut (unit : List ℕ) (header_start header_end data_start data_end : ℕ) : Type 0 where
+  pub header_begins : header_start ≡ header_place unit
+  pub header_ends : header_end ≡ header_place unit + length (header unit)
+  pub data_begins : data_start ≡ rest_place unit
+  pub data_ends : data_end ≡ rest_place unit + length (rest unit)
