@@ -124,3 +124,46 @@ pub(crate) fn play_without<W: Write + Drop>(
     }
     Ok(())
 }
+
+/// A script with a close of this connection behind so many lines.
+fn closed(alloc: Global, script: &str, conn: u8, place: usize) -> io::Result<String> {
+    let mut made = String::new(alloc);
+    for (number, line) in script.lines().enumerate() {
+        if number == place {
+            let close = format!(in alloc; "close c{conn}\n")?;
+            made.push_str(&close)?;
+        }
+        made.push_str(line)?;
+        made.push('\n')?;
+    }
+    Ok(made)
+}
+
+/// Prints what a script prints with a close of this connection behind each number of lines.
+fn play_closes<W: Write + Drop>(
+    alloc: Global,
+    script: &str,
+    conn: u8,
+    writer: &mut BufWriter<W>,
+) -> io::Result<()> {
+    for place in 0..script.lines().count() {
+        let heap = Rationed::new(alloc);
+        let made = closed(alloc, script, conn, place)?;
+        let outcome = outcome(alloc, &heap, Manner::ample(), &made)?;
+        write!(writer, "close c{conn} behind {place}\n{outcome}")?;
+    }
+    Ok(())
+}
+
+/// Prints what a script prints with a close of each of three connections behind each number of
+/// lines.
+pub(crate) fn play_closed<W: Write + Drop>(
+    alloc: Global,
+    script: &str,
+    writer: &mut BufWriter<W>,
+) -> io::Result<()> {
+    for conn in 0..3 {
+        play_closes(alloc, script, conn, writer)?;
+    }
+    Ok(())
+}
