@@ -1,7 +1,7 @@
 //! A row: what stands in front of its sweeps, and the sweeps.
 
-use crate::failing;
 use crate::scripted::Scripted;
+use crate::{failing, pacing};
 use rationing::Rationed;
 use std::alloc::Global;
 use std::io::{self, BufWriter, Error, ErrorKind, Write};
@@ -94,6 +94,9 @@ pub(crate) fn play<W: Write + Drop>(
     writeln!(writer, "= {title}")?;
     if let Some(peers) = behind.strip_prefix("peers ") {
         return failing::play(alloc, peers, writer);
+    }
+    if let Some(lines) = behind.strip_prefix("pace\n") {
+        return pacing::play(lines, writer);
     }
     let heap = Rationed::new(alloc);
     let mut driver = match made(alloc, &heap, row) {
