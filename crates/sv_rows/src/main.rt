@@ -8,6 +8,8 @@
 //!
 //! - none: a script; printed is what its replay prints, and its fault where it has one;
 //! - `! singly`: the same, where bytes come and go singly, each behind an interruption;
+//! - `! reads`: as singly, where the first, second, .. read fails; printed is for each how often the
+//!   input was read, what the output took, and the fault; behind that the same without one;
 //! - `! input fails`: a script, behind which the input fails; printed is what the output took, and
 //!   the fault, on a line of its own;
 //! - `! output takes N`, `! output stops at N`: a script, whose output takes so many bytes and then
@@ -84,6 +86,7 @@ fn play<W: Write + Drop>(
     match kind {
         "closed" => replays::play_closed(alloc, text, writer),
         "events" => events::play(alloc, text, writer),
+        "reads" => replays::play_reads(alloc, text, writer),
         "growth" => growth::play(alloc, false, text, writer),
         "growth, refused" => growth::play(alloc, true, text, writer),
         "scenario" => scenarios::show(alloc, text, writer),

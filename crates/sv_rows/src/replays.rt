@@ -8,6 +8,9 @@ use std::alloc::Global;
 use std::io::{self, BufWriter, Write};
 use sv_replay::{RunFault, run_replay};
 
+/// Above how many reads a row can't be played.
+const MOST_READS: u64 = 1_000;
+
 /// The manner that these words tell.
 fn manner_of(words: &str) -> io::Result<Manner> {
     let ample = Manner::ample();
@@ -72,10 +75,21 @@ fn outcome(
     manner: Manner,
     script: &str,
 ) -> io::Result<String> {
+    Ok(read_out(alloc, heap, manner, script)?.0)
+}
+
+/// The same, and how often the reader was read.
+fn read_out(
+    alloc: Global,
+    heap: &Rationed<Global>,
+    manner: Manner,
+    script: &str,
+) -> io::Result<(String, u64)> {
     let mut source = Source {
         rest: script.as_bytes(),
         manner,
         was_interrupted: false,
+        reads: 0,
     };
     let sink = Sink {
         taken: Vec::new(alloc),
@@ -85,7 +99,8 @@ fn outcome(
     let mut writer = BufWriter::new(alloc, sink)?;
     let answer = run_replay(heap, &mut source, &mut writer);
     let narrow = manner.room < usize::MAX;
-    told(alloc, writer.get_ref().taken.as_slice(), narrow, answer)
+    let told = told(alloc, writer.get_ref().taken.as_slice(), narrow, answer)?;
+    Ok((told, source.reads))
 }
 
 /// Prints what comes of a script in the manner that these words tell.
@@ -166,4 +181,28 @@ pub(crate) fn play_closed<W: Write + Drop>(
         play_closes(alloc, script, conn, writer)?;
     }
     Ok(())
+}
+
+/// Prints what a script prints where the first, second, .. read fails, behind how often its reader
+/// was read; at the end the same where none fails.
+pub(crate) fn play_reads<W: Write + Drop>(
+    alloc: Global,
+    script: &str,
+    writer: &mut BufWriter<W>,
+) -> io::Result<()> {
+    for fails_at in 1..MOST_READS {
+        let heap = Rationed::new(alloc);
+        let singly = true;
+        let manner = Manner {
+            singly,
+            fails_at,
+            ..Manner::ample()
+        };
+        let (outcome, reads) = read_out(alloc, &heap, manner, script)?;
+        write!(writer, "{reads} reads\n{outcome}")?;
+        if reads < fails_at {
+            return Ok(());
+        }
+    }
+    Err(bad())
 }
