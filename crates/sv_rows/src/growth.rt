@@ -110,7 +110,7 @@ impl Growing<'_> {
             self.happen(brought)?;
         }
         if self.happen(line)? {
-            self.told.push_str("again\n")?;
+            self.told.push_str("twice\n")?;
         }
         Ok(())
     }

@@ -23,7 +23,8 @@ fn sleeps(pace: &mut Pace, now: u64) -> io::Result<u32> {
     Err(bad())
 }
 
-/// Looks in vain so often, each time as soon as it may: prints how often it sleeps in front of each.
+/// Looks in vain so often, each time as soon as it may: prints how often it sleeps in front of
+/// each.
 fn miss<W: Write + Drop>(pace: &mut Pace, count: u64, writer: &mut BufWriter<W>) -> io::Result<()> {
     for _ in 0..count {
         pace.work(0);
