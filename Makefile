@@ -20,7 +20,7 @@ DOC = $(DESTDIR)$(PREFIX)/share/doc/scanvolt
 DATA_FILES := examples/bench.scenario examples/identity.replay examples/scan.replay
 DOC_FILES := LICENSE CHANGELOG.md docs/INSTRUMENT.md docs/REPLAY.md examples/identity.md examples/scan.md
 
-.PHONY: test lint check scanvolt run serve bench echo clients hostile install uninstall dist packages
+.PHONY: test lint check scanvolt run serve bench echo clients hostile soak install uninstall dist packages
 
 # What a proof doesn't see (tools/lint); then proves every crate and its tests from nothing, tries
 # the must-fail edits, and runs the programs and the tests.
@@ -70,6 +70,11 @@ clients: $(PROOF)
 # never read, beside one that must lose no reply.
 hostile: $(PROOF)
 	@tools/hostile $(SERVER)
+
+# Serves under such peers for MINUTES (15 if not said), and a minute each with few file descriptors and
+# with memory that is used up; beside them no reply and no request for service may be lost.
+soak: $(PROOF)
+	@tools/soak $(SERVER) $(MINUTES)
 
 # Installs the proved program, its man page, the scenario and scripts of the examples, and the licence.
 install: $(PROVED)

@@ -7,11 +7,10 @@ use std::alloc::Global;
 use std::io;
 use std::net::{Ipv4Addr, SocketAddr, SocketAddrV4};
 use std::time::{Duration, Instant};
+use sv_pace::{Pace, rest};
 
 /// How many connections there may be.
 const CONNECTIONS: usize = 16;
-/// For so many microseconds after work it looks again without sleeping.
-const WINDOW: u64 = 50;
 
 /// Takes the connections that are there, as far as there is a place.
 fn accept(
@@ -47,42 +46,82 @@ fn echo(connections: &mut Vec<Option<Connection>, Global>, number: usize, buffer
     }
 }
 
-/// Serves a port for so many looks.
-pub(crate) fn serve(rt: &HostRuntime, port: u16, looks: u32) -> io::Result<()> {
-    let mut poll = Poll::new(rt)?;
-    let addr = SocketAddr::V4(SocketAddrV4::new(Ipv4Addr::LOCALHOST, port));
-    let mut listener = TcpListener::bind(rt, addr)?;
-    let door = Token(CONNECTIONS);
-    poll.registry()
-        .register(&mut listener, door, Interest::READABLE)?;
-    let mut events = Events::with_capacity(rt.alloc(), 64)?;
-    let mut connections = Vec::with_capacity(rt.alloc(), CONNECTIONS)?;
-    for _ in 0..CONNECTIONS {
-        connections.push(None)?;
+/// What a port is served with.
+#[derive(Drop)]
+struct Served {
+    poll: Poll,
+    events: Events<Global>,
+    listener: TcpListener,
+    connections: Vec<Option<Connection>, Global>,
+    buffer: Vec<u8, Global>,
+}
+
+impl Served {
+    /// Listens on a port.
+    fn listen(rt: &HostRuntime, port: u16) -> io::Result<Served> {
+        let poll = Poll::new(rt)?;
+        let addr = SocketAddr::V4(SocketAddrV4::new(Ipv4Addr::LOCALHOST, port));
+        let mut listener = TcpListener::bind(rt, addr)?;
+        poll.registry()
+            .register(&mut listener, Token(CONNECTIONS), Interest::READABLE)?;
+        let mut connections = Vec::with_capacity(rt.alloc(), CONNECTIONS)?;
+        for _ in 0..CONNECTIONS {
+            connections.push(None)?;
+        }
+        Ok(Served {
+            poll,
+            events: Events::with_capacity(rt.alloc(), 64)?,
+            listener,
+            connections,
+            buffer: vec![in rt.alloc(); 0; 16_384]?,
+        })
     }
-    let mut buffer = vec![in rt.alloc(); 0; 16_384]?;
-    println!(rt; "ready {port}")?;
-    let start = Instant::now(rt)?;
-    let mut worked = Duration::ZERO;
-    for _ in 0..looks {
-        let now = start.elapsed(rt)?;
-        let limit = if now.saturating_sub(worked) < Duration::from_micros(WINDOW) {
-            Duration::ZERO
-        } else {
-            Duration::from_millis(1)
-        };
-        poll.poll(&mut events, Some(limit))?;
-        for event in events.iter() {
+
+    /// Waits at most so long, and gives back what came; whether anything did.
+    fn look(&mut self, limit: Duration) -> io::Result<bool> {
+        self.poll.poll(&mut self.events, Some(limit))?;
+        for event in self.events.iter() {
             let Token(number) = event.token();
             if number == CONNECTIONS {
-                accept(&listener, &poll, &mut connections)?;
+                accept(&self.listener, &self.poll, &mut self.connections)?;
             } else {
-                echo(&mut connections, number, &mut buffer);
+                echo(&mut self.connections, number, &mut self.buffer);
             }
         }
-        if !events.is_empty() {
-            worked = now;
-        }
+        Ok(!self.events.is_empty())
+    }
+}
+
+/// Serves a port for so many looks.
+pub(crate) fn serve(rt: &HostRuntime, port: u16, looks: u32) -> io::Result<()> {
+    let mut served = Served::listen(rt, port)?;
+    println!(rt; "ready {port}")?;
+    let start = Instant::now(rt)?;
+    let mut pace = Pace::new();
+    let mut tries = 0u32;
+    for _ in 0..looks {
+        let now = start.elapsed(rt)?.as_nanos().min(u128::from(u64::MAX)) as u64;
+        let eager = pace.is_eager(now);
+        let limit = if eager {
+            Duration::ZERO
+        } else {
+            Duration::from_nanos(rest(now))
+        };
+        let came = served.look(limit)?;
+        tries = keep(&mut pace, now, tries, eager, came);
     }
     Ok(())
+}
+
+/// Keeps what came of a look, and tells how many were made in vain since the last one that ended a
+/// wait.
+fn keep(pace: &mut Pace, now: u64, tries: u32, eager: bool, came: bool) -> u32 {
+    if came {
+        pace.work(now);
+    }
+    if eager && !came {
+        return tries.saturating_add(1);
+    }
+    pace.end(tries, eager);
+    0
 }

@@ -4,7 +4,6 @@
 
 mod door;
 mod net;
-mod pace;
 mod serving;
 mod socket;
 mod watch;

@@ -1,12 +1,12 @@
 //! Sweep after sweep.
 
 use crate::net::Net;
-use crate::pace::Pace;
 use crate::watch::Watch;
 use std::alloc::Allocator;
 use std::io;
 use std::net::Net as Network;
 use std::time::{Clock, Duration, Instant};
+use sv_pace::{Pace, rest};
 use sv_serve::Driver;
 use sv_server::Port;
 
@@ -50,7 +50,8 @@ fn has_work<N: Network + Drop, A: Allocator>(driver: &Driver<Net<N, A>, A>) -> b
 }
 
 /// Makes so many sweeps. Behind each it waits until a socket is reported, or the next whole
-/// millisecond; for 50 microseconds after something was reported it looks again without sleeping.
+/// millisecond; for 50 microseconds after something was reported it looks again without sleeping,
+/// where that found something of late.
 ///
 /// # Errors
 /// Where the system tells no time, or fails to wait.
@@ -67,12 +68,20 @@ pub fn serve<N: Network + Drop, A: Allocator>(
         driver.sweep(pace.ticks(now));
         now = if has_work(driver) {
             let reported = watch.wait(driver.wire(), Duration::ZERO)?;
-            pace.seen(reported, since(clock, start)?)
+            worked(&mut pace, reported, since(clock, start)?)
         } else {
             look(clock, start, watch, driver.wire(), &mut pace)?
         };
     }
     Ok(())
+}
+
+/// Keeps whether something was reported. This is when, and now.
+fn worked(pace: &mut Pace, reported: bool, now: u64) -> u64 {
+    if reported {
+        pace.work(now);
+    }
+    now
 }
 
 /// Waits until something is reported, or the next whole millisecond, and tells when that was. A
@@ -85,13 +94,15 @@ fn look<N: Network + Drop, A: Allocator>(
     pace: &mut Pace,
 ) -> io::Result<u64> {
     let mut now = since(clock, start)?;
-    for _ in 0..LOOKS {
+    for looks in 0..LOOKS {
         if !pace.is_eager(now) {
-            let reported = watch.wait(net, pace.rest(now))?;
-            return Ok(pace.seen(reported, since(clock, start)?));
+            pace.end(looks, false);
+            let reported = watch.wait(net, Duration::from_nanos(rest(now)))?;
+            return Ok(worked(pace, reported, since(clock, start)?));
         }
         if watch.wait(net, Duration::ZERO)? {
-            return Ok(pace.seen(true, now));
+            pace.end(looks, true);
+            return Ok(worked(pace, true, now));
         }
         now = since(clock, start)?;
     }

@@ -8,7 +8,7 @@ use Rattle.sv_history.specs.declared.event.Port.TheVariants.{Conn, Intr}
 use Rattle.sv_history.specs.declared.event.Refused.{Refused}
 use Rattle.sv_history.specs.declared.event.Role.{Role}
 use Rattle.sv_history.specs.Act.{Act}
-use Rattle.sv_history.specs.Event.{PlainEvent, Open, Bytes, Turn, Took, Close, Dialed}
+use Rattle.sv_history.specs.Event.{PlainEvent, Open, Bytes, Turn, Refuse, Took, Close, Dialed}
 use Rattle.sv_history.specs.History.{IsLogOf, Answers, history_after}
 use Rattle.sv_history.specs.Print.{is_no_memory}
 use Rattle.sv_serve.specs.declared.wire.Answer.{Answer}
@@ -81,19 +81,23 @@ ReadsUpTo hears most c config before after = ((most ≡ 0) × (after ≡ before)
 abbrev pub ReadsFrom : {W : Type 0} → (W → Heard → W → Type 0) → ℕ → Config → Moment W → Moment W → Type 0
 ReadsFrom hears c config before after = (most : ℕ) × HasRoom c config before most × ReadsUpTo hears most c config before after
 
--- A connection whose call finds no memory is closed.
-abbrev pub EndsTurn : {W : Type 0} → (W → Heard → W → Type 0) → ℕ → Result Did Refused → Config → Moment W → Moment W → Type 0
-EndsTurn hears c (Ok did) = Stays
-EndsTurn hears c (Err refused) = ClosesIf hears c (is_no_memory refused)
+-- a call is answered that there is no room for it, if this is so
+abbrev pub RefusesIf : {W : Type 0} → ℕ → Bool → Config → Moment W → Moment W → Type 0
+RefusesIf c true = Applies (Refuse c)
+RefusesIf c false = Stays
 
-abbrev pub TurnsIf : {W : Type 0} → (W → Heard → W → Type 0) → ℕ → Bool → Config → Moment W → Moment W → Type 0
-TurnsIf hears c false config before after = after ≡ before
-TurnsIf hears c true config before after =
-    (result : Result Did Refused) × (Given (Turn c) result then EndsTurn hears c result) config before after
+-- A call that finds no memory is refused: it is answered so, and its connection stays.
+abbrev pub EndsTurn : {W : Type 0} → ℕ → Result Did Refused → Config → Moment W → Moment W → Type 0
+EndsTurn c (Ok did) = Stays
+EndsTurn c (Err refused) = RefusesIf c (is_no_memory refused)
+
+abbrev pub TurnsIf : {W : Type 0} → ℕ → Bool → Config → Moment W → Moment W → Type 0
+TurnsIf c false config before after = after ≡ before
+TurnsIf c true config before after = (result : Result Did Refused) × (Given (Turn c) result then EndsTurn c result) config before after
 
 -- a call is taken, where one is there
-abbrev pub Turns : {W : Type 0} → (W → Heard → W → Type 0) → ℕ → Config → Moment W → Moment W → Type 0
-Turns hears c config before after = (ready : Bool) × IsReady c config before ready × TurnsIf hears c ready config before after
+abbrev pub Turns : {W : Type 0} → ℕ → Config → Moment W → Moment W → Type 0
+Turns c config before after = (ready : Bool) × IsReady c config before ready × TurnsIf c ready config before after
 
 -- whether this one is wanted
 abbrev pub is_wanted : Dial → Option Dial → Bool

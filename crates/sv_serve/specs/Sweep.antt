@@ -53,5 +53,5 @@ Passes ticks = Each ticks (λ i. Plays then TicksOnce) then Plays
 -- passes; then what waits is written, on connections first; and then those that only wait to be closed are.
 abbrev pub Sweeps : {W : Type 0} → (W → Heard → W → Type 0) → ℕ → Config → Moment W → Moment W → Type 0
 Sweeps hears ticks = Accepts hears Core then Accepts hears Abort then Accepts hears Portmap then Each 16 (ReadsFrom hears)
-    then Each 16 (Turns hears) then Each 16 (Dials hears) then Passes ticks then Each 16 (λ c. WritesTo hears (Conn c))
+    then Each 16 Turns then Each 16 (Dials hears) then Passes ticks then Each 16 (λ c. WritesTo hears (Conn c))
     then Each 16 (λ c. WritesTo hears (Intr c)) then Each 16 (Ends hears)

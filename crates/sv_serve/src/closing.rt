@@ -81,7 +81,7 @@ impl<W: Wire + Drop, A: Allocator> Driver<W, A> {
     }
 
     /// Closes a connection, if this is so.
-    pub(crate) fn close_if(&mut self, conn: u8, so: bool)
+    fn close_if(&mut self, conn: u8, so: bool)
         requires { conn < 16 }
         ensures { Goes (ClosesIf W.hears conn so) self.old self.new }
     {

@@ -19,8 +19,8 @@ impl<W: Wire + Drop, A: Allocator> Driver<W, A> {
     /// is written, on connections first. Last, connections that only wait to be closed, and on
     /// which no byte waits, are closed.
     ///
-    /// Where reading or writing fails, the connection or the channel is closed; where a call finds
-    /// no memory, its connection is.
+    /// Where reading or writing fails, the connection or the channel is closed. Where a call finds
+    /// no memory, it is refused: it is answered so, and its connection stays.
     pub fn sweep(&mut self, ticks: u32)
         ensures { Goes (Sweeps W.hears ticks) self.old self.new }
     {

@@ -3,7 +3,7 @@
 ghost use Rattle.std.specs.Prelude.{◌≡◌, ◌<◌};
 ghost use Rattle.sv_history.specs.Print.{is_no_memory};
 ghost use Rattle.sv_serve.specs.Moment.{Goes, Each};
-ghost use Rattle.sv_serve.specs.Steps.{Turns, TurnsIf, EndsTurn};
+ghost use Rattle.sv_serve.specs.Steps.{Turns, TurnsIf, EndsTurn, RefusesIf};
 
 use crate::driver::{CONNECTIONS, Driver};
 use crate::wire::Wire;
@@ -20,7 +20,7 @@ fn is_no_memory(refused: Refused) -> bool
 impl<W: Wire + Drop, A: Allocator> Driver<W, A> {
     /// Takes a call of each connection that has one.
     pub(crate) fn turn_each(&mut self)
-        ensures { Goes (Each 16 (Turns W.hears)) self.old self.new }
+        ensures { Goes (Each 16 Turns) self.old self.new }
     {
         for conn in 0..CONNECTIONS {
             self.turn(conn);
@@ -30,7 +30,7 @@ impl<W: Wire + Drop, A: Allocator> Driver<W, A> {
     /// Takes a call of a connection, if it has one.
     fn turn(&mut self, conn: u8)
         requires { conn < 16 }
-        ensures { Goes (Turns W.hears conn) self.old self.new }
+        ensures { Goes (Turns conn) self.old self.new }
     {
         let ready = self.server.ready(conn);
         self.take(conn, ready);
@@ -39,7 +39,7 @@ impl<W: Wire + Drop, A: Allocator> Driver<W, A> {
     /// Takes a call of a connection, if this is so.
     fn take(&mut self, conn: u8, ready: bool)
         requires { conn < 16 }
-        ensures { Goes (TurnsIf W.hears conn ready) self.old self.new }
+        ensures { Goes (TurnsIf conn ready) self.old self.new }
     {
         if ready {
             let answer = self.give(Event::Turn { conn });
@@ -47,14 +47,24 @@ impl<W: Wire + Drop, A: Allocator> Driver<W, A> {
         }
     }
 
-    /// Closes a connection whose call found no memory.
+    /// Refuses a call that found no memory: its connection stays.
     fn end_turn(&mut self, conn: u8, answer: Result<Did, Refused>)
         requires { conn < 16 }
-        ensures { Goes (EndsTurn W.hears conn answer) self.old self.new }
+        ensures { Goes (EndsTurn conn answer) self.old self.new }
     {
         match answer {
             Ok(_) => {}
-            Err(refused) => self.close_if(conn, is_no_memory(refused)),
+            Err(refused) => self.refuse_if(conn, is_no_memory(refused)),
+        }
+    }
+
+    /// Refuses the next call of a connection, if this is so.
+    fn refuse_if(&mut self, conn: u8, so: bool)
+        requires { conn < 16 }
+        ensures { Goes (RefusesIf conn so) self.old self.new }
+    {
+        if so {
+            let _ = self.give(Event::Refuse { conn });
         }
     }
 }

@@ -13,11 +13,11 @@ loop-conn-preserved g c = λ config history stands.
     let (h1, s1, p1) = c.turn.ensures config h0 s0 in (
       h1,
       s1,
-      one_more (Turns g.W.Wire.hears) config c.loop-conn.conn (c.loop-conn.conn + 1)
+      one_more Turns config c.loop-conn.conn (c.loop-conn.conn + 1)
           _ (moment c.loop-conn.self h0) _ (omega arith) p0 p1,
     )
 
 pub returns : goal.returns
 returns g c = λ config history stands.
     let (h0, s0, p0) = c.loop-conn.invariant config history stands in
-    (h0, s0, as_many (Turns g.W.Wire.hears) config c.loop-conn.conn 16 _ (moment c.loop-conn.self h0) (omega arith) p0)
+    (h0, s0, as_many Turns config c.loop-conn.conn 16 _ (moment c.loop-conn.self h0) (omega arith) p0)

@@ -1,0 +1,156 @@
+//! Times and counts of a loop of sweeps.
+
+ghost use Rattle.std.specs.Prelude.{◌≡◌, ◌↔◌, ◌-◌, ◌/◌, ◌%◌, ◌<◌, ◌≤◌, min, true, List, [], ◌∷◌};
+ghost use Rattle.sv_pace.specs.Pace.{Wait, StandsFor, IsDue, after_wait, longer};
+
+use std::marker::Model;
+
+/// Most milliseconds that pass at a sweep.
+const MOST_TICKS: u64 = 1_000;
+/// For so many nanoseconds after work it may look again without sleeping.
+const WINDOW: u64 = 50_000;
+/// Nanoseconds of a millisecond.
+const MILLISECOND: u64 = 1_000_000;
+/// It sleeps so often at most before it looks again.
+const MOST_SLEEPS: u32 = 1_024;
+
+/// What a loop of sweeps keeps of the time, in nanoseconds since its beginning, and of its waits.
+///
+/// Looking has to earn its keep: where it found nothing of late, as on a machine whose cores are
+/// busy, the server sleeps at once, and looks again now and then.
+#[derive(Drop)]
+pub struct Pace {
+    /// When the last sweep began.
+    swept: u64,
+    /// When something was reported last.
+    worked: u64,
+    /// Whether looking found nothing last.
+    missed: bool,
+    /// How often it then sleeps before it looks again.
+    pause: u32,
+    /// How often of these still.
+    left: u32,
+}
+
+impl Model for Pace {
+    ghost use Rattle.std.specs.Prelude.{◌≤◌};
+    ghost use Rattle.sv_pace.specs.Pace.{Kept};
+
+    ghost Value = { Kept };
+
+    ghost view = { λ a. record {
+      swept = a.swept;
+      worked = a.worked;
+      missed = a.missed;
+      pause = a.pause;
+      left = a.left;
+    } };
+
+    ghost invariant = { λ a. a.pause ≤ 1024 };
+}
+
+/// How often it sleeps behind one more look in vain.
+fn longer(missed: bool, pause: u32) -> u32
+    requires { pause ≤ 1024 }
+    ensures value { result ≡ longer missed pause }
+    ensures within { result ≤ 1024 }
+{
+    if missed {
+        (pause * 2).max(1).min(MOST_SLEEPS)
+    } else {
+        0
+    }
+}
+
+impl Pace {
+    /// At the beginning, where nothing was waited for.
+    pub fn new() -> Pace
+        ensures times { (result.swept ≡ 0) × (result.worked ≡ 0) }
+        ensures stands { StandsFor result [] }
+    {
+        Pace {
+            swept: 0,
+            worked: 0,
+            missed: false,
+            pause: 0,
+            left: 0,
+        }
+    }
+
+    /// How many whole milliseconds came since the last sweep, at most 1,000. This is one, now.
+    pub fn ticks(&mut self, now: u64) -> u32
+        ensures count { result ≡ min (now / 1000000 - self.old.swept / 1000000) 1000 }
+        ensures kept { self.new ≡ record self.old { swept = now } }
+    {
+        let whole = (now / MILLISECOND).saturating_sub(self.swept / MILLISECOND);
+        self.swept = now;
+        whole.min(MOST_TICKS) as u32
+    }
+
+    /// Keeps when something was reported.
+    pub fn work(&mut self, now: u64)
+        ensures { self.new ≡ record self.old { worked = now } }
+    {
+        self.worked = now;
+    }
+
+    /// Whether it looks again without sleeping: something was reported less than 50 microseconds
+    /// ago, and looking earned its keep of late, or is to be tried again.
+    pub fn is_eager(&self, now: u64) -> bool
+        ensures { (waits : List Wait) → StandsFor self.now waits
+            → (result ≡ true) ↔ ((now - self.now.worked < 50000) × IsDue waits) }
+    {
+        (self.left == 0) & (now.saturating_sub(self.worked) < WINDOW)
+    }
+
+    /// Keeps how a wait ended: how often it looked before it found something, or gave up and slept.
+    pub fn end(&mut self, looks: u32, found: bool)
+        ensures times { (self.new.swept ≡ self.old.swept) × (self.new.worked ≡ self.old.worked) }
+        ensures stands { (waits : List Wait) → StandsFor self.old waits
+            → StandsFor self.new (after_wait looks found waits) }
+    {
+        match (looks, found) {
+            (0, true) => {}
+            (0, false) => self.sleep(),
+            (_, true) => self.earn(),
+            (_, false) => self.miss(),
+        }
+    }
+
+    /// It slept at once.
+    fn sleep(&mut self)
+        ensures times { (self.new.swept ≡ self.old.swept) × (self.new.worked ≡ self.old.worked) }
+        ensures stands { (waits : List Wait) → StandsFor self.old waits
+            → StandsFor self.new (Wait.Slept ∷ waits) }
+    {
+        self.left = self.left.saturating_sub(1);
+    }
+
+    /// Looking found something.
+    fn earn(&mut self)
+        ensures times { (self.new.swept ≡ self.old.swept) × (self.new.worked ≡ self.old.worked) }
+        ensures stands { (waits : List Wait) → StandsFor self.new (Wait.Found ∷ waits) }
+    {
+        self.missed = false;
+        self.pause = 0;
+        self.left = 0;
+    }
+
+    /// Looking found nothing.
+    fn miss(&mut self)
+        ensures times { (self.new.swept ≡ self.old.swept) × (self.new.worked ≡ self.old.worked) }
+        ensures stands { (waits : List Wait) → StandsFor self.old waits
+            → StandsFor self.new (Wait.Missed ∷ waits) }
+    {
+        self.pause = longer(self.missed, self.pause);
+        self.missed = true;
+        self.left = self.pause;
+    }
+}
+
+/// How many nanoseconds it is to the next whole millisecond.
+pub fn rest(now: u64) -> u64
+    ensures { result ≡ 1000000 - now % 1000000 }
+{
+    MILLISECOND - now % MILLISECOND
+}

@@ -1,0 +1,1 @@
+"""Peers that misbehave, and those beside them: what tools/hostile and tools/soak share."""

@@ -1,0 +1,89 @@
+"""A server that is attacked."""
+import os
+import random
+import socket
+import subprocess
+import threading
+import time
+
+from attacking.calls import PATIENCE, Lost, words
+
+
+def row(what, found, aim):
+    print("%-66s %10s  %s" % (what, found, aim), flush=True)
+
+
+class Server:
+    """The program, serving, and what the system says of it. Others may be its environment and what
+    is done in its process before it begins.
+    """
+
+    def __init__(self, program, scenario, environment=None, before=None):
+        self.ports = free_ports(3)
+        self.refusals = ()      # errors that calls may answer under a limit
+        options = zip(("--core", "--abort", "--portmap"), map(str, self.ports))
+        command = [program, "serve"] + [word for option in options for word in option]
+        command += ["--scenario", scenario, "--sweeps", "4294967295"]
+        self.process = subprocess.Popen(command, stdout=subprocess.PIPE, env=environment,
+                                        preexec_fn=before)
+        self.core, self.abort, self.portmap = self.ports
+        expected = b"ready %d %d %d\n" % tuple(self.ports)
+        timer = threading.Timer(PATIENCE, self.process.kill)
+        timer.start()
+        line = self.process.stdout.readline()
+        timer.cancel()
+        if line != expected:
+            self.process.kill()
+            self.process.wait()
+            raise Lost("it printed %r instead of %r" % (line, expected))
+
+    def outcomes(self, error):
+        """The results that a create_intr_chan may have that is to answer this."""
+        return [words(error)] + [words(other) for other in self.refusals]
+
+    def alive(self):
+        return self.process.poll() is None
+
+    def memory(self):
+        """The resident memory in KiB."""
+        with open("/proc/%d/status" % self.process.pid) as status:
+            return next(int(line.split()[1]) for line in status if line.startswith("VmRSS:"))
+
+    def descriptors(self):
+        """How many file descriptors it has."""
+        return len(os.listdir("/proc/%d/fd" % self.process.pid))
+
+    def seconds(self):
+        """The seconds of processor time so far."""
+        with open("/proc/%d/stat" % self.process.pid) as stat:
+            fields = stat.read().rsplit(")", 1)[1].split()
+        return (int(fields[11]) + int(fields[12])) / os.sysconf("SC_CLK_TCK")
+
+    def share(self, seconds):
+        """The share of a core, in percent, that it uses in so many seconds."""
+        used, begun = self.seconds(), time.monotonic()
+        time.sleep(seconds)
+        return 100 * (self.seconds() - used) / (time.monotonic() - begun)
+
+
+    def end(self):
+        """Ends it."""
+        self.process.kill()
+        self.process.wait()
+        self.process.stdout.close()
+
+
+def free_ports(count):
+    """Free ports below those that the system gives to clients."""
+    sockets = []
+    while len(sockets) < count:
+        trial = socket.socket()
+        try:
+            trial.bind(("127.0.0.1", random.randrange(15000, 32000)))
+            sockets.append(trial)
+        except OSError:
+            trial.close()
+    ports = [trial.getsockname()[1] for trial in sockets]
+    for trial in sockets:
+        trial.close()
+    return ports
