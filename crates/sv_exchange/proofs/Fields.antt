@@ -2,8 +2,9 @@
 use Rattle.std.proofs.Common.{◌≡◌, ℕ, ◌+◌, ◌-◌, ◌≤◌, Bool, true, false, ◌&&◌, ◌||◌, cond, List, [], ◌∷◌, ◌++◌, length, take, drop, refl, sym, ap, ◌∙◌, nat_lt, slice_range, arith}
 use Rattle.std.proofs.lemmas.List.{length-append, length-drop, length-take-le, drop-take, drop-drop, take_rest}
 use Rattle.std.proofs.Math.Seq.{take-append-add, drop-append-add}
+use Rattle.std.specs.Prelude.{if◌then◌else◌}
 use Rattle.sv_exchange.specs.Contents.{Contents}
-use Rattle.sv_exchange.specs.Fields.{contents_of, IsText, IsOut, first_size, second_at, has_line, after_accept, with_answer}
+use Rattle.sv_exchange.specs.Fields.{contents_of, IsText, IsOut, first_size, second_at, has_line, after_accept, after_finish, with_answer}
 
 -- the later text is what one write brought
 pub few_later : (text : List ℕ) (at end behind : ℕ) (ended : Bool) → IsText ended (length text) at end behind
@@ -127,3 +128,34 @@ pub with_all : (answering : Bool) (response answer : List ℕ) (taken : ℕ) →
     → with_answer answering response answer ≡ with_answer answering (drop taken response) answer
 with_all true response answer taken out = rw (out.1) refl
 with_all false response answer taken out = refl
+
+-- what is left to read, with a new line behind the answers
+read_closed : (answering : Bool) (response closed : List ℕ) (read : ℕ) → closed ≡ (if answering then response ++ 10 ∷ [] else response)
+    → IsOut answering (length response) read
+    → drop read closed ≡ (if answering then drop read response ++ 10 ∷ [] else drop read response)
+read_closed true response closed read is out = rw (out.1, is) refl
+read_closed false response closed read is out = ap (drop read) is
+
+-- the next message becomes the current one, field by field, where it is looked for behind these bytes
+pub finish_fields : (text given : List ℕ) (cursor end next_start size behind : ℕ) (ended pending long told lost answering : Bool)
+    (response closed : List ℕ) (read : ℕ) (new_ended new_pending : Bool) → given ≡ text
+    → (let later = take (length given - next_start) (drop next_start given) in (size ≡ first_size later) × (behind ≡ second_at later)
+    × (new_ended ≡ (has_line later || pending)) × (new_pending ≡ (has_line later && pending)))
+    → closed ≡ (if answering then response ++ 10 ∷ [] else response) → IsOut answering (length response) read
+    → contents_of text next_start (next_start + size) (next_start + behind) new_ended new_pending false false false false closed read
+    ≡ after_finish (contents_of text cursor end next_start ended pending long told lost answering response read)
+finish_fields text given cursor end next_start size behind ended pending long told lost answering response closed read new_ended new_pending
+    given_is first closed_is out =
+    let later_is : take (length given - next_start) (drop next_start given) ≡ drop next_start text =
+    ap (λ (l : List ℕ). take (length l - next_start) (drop next_start l)) given_is ∙ take_rest text next_start in
+    let of_size : next_start + size - next_start ≡ size = omega arith in
+    let rest : slice_range text next_start (next_start + size) ≡ take (first_size (drop next_start text)) (drop next_start text) =
+    ap (λ (n : ℕ). take n (drop next_start text)) (of_size ∙ first.0 ∙ ap first_size later_is) in
+    let later : drop (next_start + behind) text ≡ drop (second_at (drop next_start text)) (drop next_start text) =
+    sym (drop-drop behind next_start text) ∙ ap (λ (n : ℕ). drop n (drop next_start text)) (first.1 ∙ ap second_at later_is) in
+    let ended_is : new_ended ≡ (has_line (drop next_start text) || pending) =
+    first.2 ∙ ap (λ (l : List ℕ). has_line l || pending) later_is in
+    let pending_is : new_pending ≡ (has_line (drop next_start text) && pending) =
+    first.3 ∙ ap (λ (l : List ℕ). has_line l && pending) later_is in
+    let output = read_closed answering response closed read closed_is out in
+    rw (rest, later, ended_is, pending_is, output) refl

@@ -2,7 +2,7 @@ use Rattle.std.proofs.Common.{◌≤◌, length, arith}
 use Rattle.std.proofs.lemmas.Grind.{common_steps}
 use Rattle.sv_exchange.proofs.Dues.{at_finish}
 use Rattle.sv_exchange.proofs.Stands.{finish_stands}
-use Rattle.sv_exchange.proofs.Fields.{few_later}
+use Rattle.sv_exchange.proofs.Fields.{few_later, finish_fields}
 use Rattle.sv_exchange.proofs.exchange.Exchange.finish.Goals as goal
 
 pub returns-clause-stands : goal.returns-clause-stands
@@ -11,7 +11,14 @@ returns-clause-stands g c =
     λ acts s. finish_stands c.args.self.now _ acts (at_finish c.args.self.now c.requires) few (grind (arith, common_steps)) s
 
 pub returns-clause-value : goal.returns-clause-value
-returns-clause-value g c = grind (arith, common_steps)
+returns-clause-value g c =
+    let first = c.first_message-cut.ensures in
+    let fields = finish_fields c.self.inside.text.items c.deref.result.now c.self.inside.cursor c.self.inside.end c.self.inside.next_start
+    _ _ c.self.inside.ended c.self.inside.end_pending c.self.inside.overlong c.self.inside.overrun_reported
+    c.self.inside.answers_dropped c.self.inside.answering c.self.inside.response.items _ c.self.inside.read _ _
+    c.deref.ensures.value (first.size, first.next_start, first.ended, first.end_pending) c.end_response.ensures.items
+    c.self.invariant.0.output in
+    rw (← c.self.view_is) fields
 
 pub returns-clause-measure : goal.returns-clause-measure
 returns-clause-measure g c = grind (arith, common_steps)
