@@ -1,22 +1,28 @@
 -- Two logs of the instrument that are the same but for where program text was accepted: no search of its status tells them apart.
 use Rattle.std.proofs.Common.{◌≡◌, ℕ, Bool, true, false, List, [], ◌∷◌, refl, sym, ap, ◌∙◌, inl, inr, arith}
-use Rattle.std.specs.Prelude.{◌↔◌, if◌then◌else◌}
+use Rattle.std.specs.Prelude.{◌↔◌, ◌+◌, not, if◌then◌else◌}
 use Rattle.std.specs.Int.{bit_at}
 use Rattle.sv_errors.specs.declared.error_queue.QueueAct.{QueueAct}
 use Rattle.sv_errors.specs.declared.error_queue.QueueAct.TheVariants as queue_act
 use Rattle.sv_errors.specs.ErrorQueue.{entries, is_any, is_full}
 use Rattle.sv_errors.specs.Since.{Since}
-use Rattle.sv_errors.proofs.Since.{since_empty, since_step}
+use Rattle.sv_errors.proofs.Since.{since_empty, since_step, then_same}
 use Rattle.sv_status.specs.declared.register_name.RegisterName.{RegisterName}
-use Rattle.sv_status.specs.declared.register_name.RegisterName.TheVariants.{Operation, Questionable}
+use Rattle.sv_status.specs.declared.register_name.RegisterName.TheVariants.{Operation, Questionable, Limit}
 use Rattle.sv_status.specs.Register.{masked}
 use Rattle.sv_scan.specs.declared.acts.ScanAct.{ScanAct}
+use Rattle.sv_scan.specs.Counted.{kept}
+use Rattle.sv_scan.specs.Condition as scan
 use Rattle.sv_exchange.specs.Exchange.{Accepted, TextDropped, Interrupted, response, is_something}
 use Rattle.sv_layers.specs.Act.{Act, Exchanged, Purged, Scanned, Reported, EntryTaken, Cleared, Preset, OpcAsked, StandardRead, StandardEnabled, EventRead, Enabled, RiseSet, FallSet, ServiceEnabled, Polled, exchange_acts, scan_acts, queue_acts}
-use Rattle.sv_layers.specs.Condition.{condition, is_idle}
-use Rattle.sv_layers.specs.Event.{is_same, rise, fall, enable, Passes, NotCleared, EventStands, Summary}
+use Rattle.sv_layers.specs.Filter.{is_same, rise, fall, enable, has_bit, passes}
+use Rattle.sv_layers.specs.Condition.{limit_summary, condition, counted, is_idle}
+use Rattle.sv_layers.specs.Event.{Passes, NotCleared, EventStands, Summary}
 use Rattle.sv_layers.specs.Standard as standard
 use Rattle.sv_layers.specs.StatusByte.{SummaryBit, service, Asks, Master, Reason, Lasts, Request, IsRaised, PolledBit, MasterBit}
+use Rattle.sv_layers.proofs.Booleans.{same_bool}
+use Rattle.sv_layers.proofs.Transitions.{changes, no_change}
+use Rattle.sv_layers.proofs.LimitSummary.{limit_summary_is}
 use Rattle.sv_history.proofs.Cuts.SameExchange.{SameExchange, exchange_same, exchange_act, exchange_accepted, exchange_back, response_same}
 
 -- ---- searches
@@ -43,14 +49,12 @@ since_over F K act log none kept =
       (λ s. step.1 (kept s, inr s)),
     )
 
-then_also : {P Q R : Type 0} → P ↔ Q → Q ↔ R → P ↔ R
-then_also f g = ((λ p. g.0 (f.0 p)), (λ r. f.1 (g.1 r)))
-
 -- ---- two logs
 
 pub record SameStatus (log other : List Act) : Type 0 where
   pub scanned : scan_acts log ≡ scan_acts other
   pub queued : queue_acts log ≡ queue_acts other
+  pub limits : limit_summary log ≡ limit_summary other
   pub rises : (name : RegisterName) → rise name log ≡ rise name other
   pub falls : (name : RegisterName) → fall name log ≡ fall name other
   pub enables : (name : RegisterName) → enable name log ≡ enable name other
@@ -63,9 +67,12 @@ pub record SameStatus (log other : List Act) : Type 0 where
   pub request : Request log ↔ Request other
 
 pub condition_same : (name : RegisterName) (log other : List Act) → scan_acts log ≡ scan_acts other
-    → condition name log ≡ condition name other
-condition_same Operation log other same = rw same refl
-condition_same Questionable log other same = rw same refl
+    → limit_summary log ≡ limit_summary other → condition name log ≡ condition name other
+condition_same Operation log other same summary = ap (λ (l : List ScanAct). scan.operation (kept l)) same
+condition_same Limit log other same summary = ap (λ (l : List ScanAct). scan.limit (kept l)) same
+condition_same Questionable log other same summary =
+    ap (λ (l : List ScanAct). scan.questionable (kept l) + scan.bit 9 (limit_summary log)) same
+    ∙ ap (λ (b : Bool). scan.questionable (counted other) + scan.bit 9 b) summary
 
 pub idle_same : (log other : List Act) → scan_acts log ≡ scan_acts other → is_idle log ≡ is_idle other
 idle_same log other same = rw same refl
@@ -118,17 +125,18 @@ exchange_more _ log other v = v
 
 -- ---- events of a status register
 
-passes_act : (name : RegisterName) (k : ℕ) (act : Act) (log other : List Act) → SameStatus log other
-    → Passes name k (act ∷ log) ↔ Passes name k (act ∷ other)
-passes_act name k act log other v = rw (
-  condition_same name (act ∷ log) (act ∷ other) (scan_act act log other v.scanned),
-  condition_same name log other v.scanned,
-  v.rises name,
-  v.falls name,
-) (both_ways (Passes name k (act ∷ other)))
+passes_act : (name : RegisterName) (k : ℕ) (act : Act) (log other : List Act) → condition name (act ∷ log) ≡ condition name (act ∷ other)
+    → condition name log ≡ condition name other → SameStatus log other → Passes name k (act ∷ log) ↔ Passes name k (act ∷ other)
+passes_act name k act log other now was v =
+    let same : passes (condition name) name k (act ∷ log) ≡ passes (condition name) name k (act ∷ other) =
+    ap (λ (w : ℕ). changes k w (condition name (act ∷ log)) (rise name log) (fall name log)) was
+    ∙ ap (λ (w : ℕ). changes k (condition name other) w (rise name log) (fall name log)) now
+    ∙ ap (λ (w : ℕ). changes k (condition name other) (condition name (act ∷ other)) w (fall name log)) (v.rises name)
+    ∙ ap (λ (w : ℕ). changes k (condition name other) (condition name (act ∷ other)) (rise name other) w) (v.falls name) in
+    ((λ h. sym same ∙ h), (λ h. same ∙ h))
 
 not_cleared_act : (name : RegisterName) (act : Act) (log other : List Act) → NotCleared name (act ∷ log) ↔ NotCleared name (act ∷ other)
-not_cleared_act name (EventRead which) log other = both_ways (is_same name which ≡ false)
+not_cleared_act name (EventRead which) log other = both_ways (not (is_same name which) ≡ true)
 not_cleared_act name act log other = ((λ h. h), (λ h. h))
 
 -- ---- standard events
@@ -186,6 +194,13 @@ summary_same name log other mask events = (
   (λ s. (s.0, (events s.0).0 s.1, ap (λ (w : ℕ). bit_at w s.0) (sym mask) ∙ s.2)),
   (λ s. (s.0, (events s.0).1 s.1, ap (λ (w : ℕ). bit_at w s.0) mask ∙ s.2)),
 )
+
+limit_summary_same : (log other : List Act) → enable Limit log ≡ enable Limit other
+    → ((k : ℕ) → EventStands Limit k log ↔ EventStands Limit k other) → limit_summary log ≡ limit_summary other
+limit_summary_same log other mask events =
+    let also = limit_summary_is other in
+    let same = summary_same Limit log other mask events in
+    same_bool (limit_summary log) (limit_summary other) (limit_summary_is log) (then_same also (same.1, same.0))
 
 standard_summary_same : (log other : List Act) → standard.enable log ≡ standard.enable other
     → ((k : ℕ) → standard.Stands k log ↔ standard.Stands k other) → standard.Summary log ↔ standard.Summary other
@@ -256,8 +271,16 @@ request_act act log other now was before =
 -- all searches behind the same act
 pub status_act : (act : Act) (log other : List Act) → SameStatus log other → SameStatus (act ∷ log) (act ∷ other)
 status_act act log other v =
+    let scanned = scan_act act log other v.scanned in
+    let limit_is = ap (λ (l : List ScanAct). scan.limit (kept l)) scanned in
+    let limit_events = λ (k : ℕ). since_alike (Passes Limit k) (NotCleared Limit) act log other
+    (passes_act Limit k act log other limit_is (condition_same Limit log other v.scanned v.limits) v)
+    (not_cleared_act Limit act log other) (v.events Limit k) in
+    let limits = limit_summary_same (act ∷ log) (act ∷ other) (enable_act Limit act log other (v.enables Limit)) limit_events in
     let events = λ (name : RegisterName) (k : ℕ). since_alike (Passes name k) (NotCleared name) act log other
-    (passes_act name k act log other v) (not_cleared_act name act log other) (v.events name k) in
+    (passes_act name k act log other (condition_same name (act ∷ log) (act ∷ other) scanned limits)
+    (condition_same name log other v.scanned v.limits) v)
+    (not_cleared_act name act log other) (v.events name k) in
     let stands = λ (k : ℕ). since_alike (standard.Occurs k) standard.NotCleared act log other (occurs_act k act log other v)
     (kept_act act log other) (v.stands k) in
     let exchange = exchange_more act log other v.exchange in
@@ -274,6 +297,7 @@ status_act act log other v =
     record {
       scanned = scan_act act log other v.scanned;
       queued = queue_more act log other v.queued;
+      limits = limits;
       rises = λ name. rise_act name act log other (v.rises name);
       falls = λ name. fall_act name act log other (v.falls name);
       enables = λ name. enable_act name act log other (v.enables name);
@@ -292,15 +316,23 @@ status_act act log other v =
 abbrev accepted : List ℕ → Bool → Act
 accepted bytes ended = Exchanged (Accepted bytes ended)
 
+never_passes_by : (name : RegisterName) (k : ℕ) (bytes : List ℕ) (ended : Bool) (log : List Act)
+    → condition name (accepted bytes ended ∷ log) ≡ condition name log → Passes name k (accepted bytes ended ∷ log) → ⊥
+never_passes_by name k bytes ended log same h =
+    let told : changes k (condition name log) (condition name log) (rise name log) (fall name log) ≡ true =
+    sym (ap (λ (w : ℕ). changes k (condition name log) w (rise name log) (fall name log)) same) ∙ h in
+    let none = sym (no_change (has_bit (condition name log) k) (has_bit (rise name log) k) (has_bit (fall name log) k)) ∙ told in
+    absurd cc
+
+limits_over : (bytes : List ℕ) (ended : Bool) (log : List Act) → limit_summary (accepted bytes ended ∷ log) ≡ limit_summary log
+limits_over bytes ended log = limit_summary_same (accepted bytes ended ∷ log) log refl
+    (λ k. since_over (Passes Limit k) (NotCleared Limit) (accepted bytes ended) log (never_passes_by Limit k bytes ended log refl)
+    (λ s. refl))
+
 never_passes : (name : RegisterName) (k : ℕ) (bytes : List ℕ) (ended : Bool) (log : List Act)
     → Passes name k (accepted bytes ended ∷ log) → ⊥
-never_passes name k bytes ended log h =
-    let same : condition name (accepted bytes ended ∷ log) ≡ condition name log =
-    condition_same name (accepted bytes ended ∷ log) log refl in
-    elim h [
-      | inl rises ↦ absurd (let z : 0 ≡ 1 = sym rises.0 ∙ ap (λ (w : ℕ). bit_at w k) (sym same) ∙ rises.1 in cc)
-      | inr falls ↦ absurd (let z : 1 ≡ 0 = sym falls.0 ∙ ap (λ (w : ℕ). bit_at w k) (sym same) ∙ falls.1 in cc)
-    ]
+never_passes name k bytes ended log =
+    never_passes_by name k bytes ended log (condition_same name (accepted bytes ended ∷ log) log refl (limits_over bytes ended log))
 
 pending_over : (bytes : List ℕ) (ended : Bool) (log : List Act) → standard.Waits log → standard.IsPending (accepted bytes ended ∷ log)
 pending_over bytes ended [] s = absurd ((since_empty standard.IsAsked standard.IsPending).0 s).0
@@ -329,7 +361,7 @@ bits_over bytes ended log = record {
     event_over : (name : RegisterName) (k : ℕ) (bytes : List ℕ) (ended : Bool) (log : List Act)
         → EventStands name k (accepted bytes ended ∷ log) ↔ EventStands name k log
     event_over name k bytes ended log = since_over (Passes name k) (NotCleared name) (accepted bytes ended) log
-        (never_passes name k bytes ended log) (λ s. tt)
+        (never_passes name k bytes ended log) (λ s. refl)
 
     stand_over : (k : ℕ) (bytes : List ℕ) (ended : Bool) (log : List Act)
         → standard.Stands k (accepted bytes ended ∷ log) ↔ standard.Stands k log
@@ -350,19 +382,20 @@ pub status_accepted : (bytes : List ℕ) (ended : Bool) (log other : List Act) �
 status_accepted bytes ended log other v = record {
   scanned = v.scanned;
   queued = v.queued;
+  limits = limits_over bytes ended log ∙ v.limits;
   rises = v.rises;
   falls = v.falls;
   enables = v.enables;
   standards = v.standards;
   serves = v.serves;
-  events = λ name k. then_also (since_over (Passes name k) (NotCleared name) (accepted bytes ended) log
-      (never_passes name k bytes ended log) (λ s. tt)) (v.events name k);
-  waits = then_also (since_over standard.IsAsked standard.IsPending (accepted bytes ended) log (λ h. h)
+  events = λ name k. then_same (since_over (Passes name k) (NotCleared name) (accepted bytes ended) log
+      (never_passes name k bytes ended log) (λ s. refl)) (v.events name k);
+  waits = then_same (since_over standard.IsAsked standard.IsPending (accepted bytes ended) log (λ h. h)
       (pending_over bytes ended log)) v.waits;
-  stands = λ k. then_also (since_over (standard.Occurs k) standard.NotCleared (accepted bytes ended) log
+  stands = λ k. then_same (since_over (standard.Occurs k) standard.NotCleared (accepted bytes ended) log
       (λ h. never_completes bytes ended log h.1) (λ s. tt)) (v.stands k);
   exchange = exchange_accepted bytes ended (exchange_acts log) (exchange_acts other) v.exchange;
-  request = then_also (request_over bytes ended log) v.request;
+  request = then_same (request_over bytes ended log) v.request;
 }
 
 -- ---- what is told
@@ -395,6 +428,7 @@ pub status_back : (log other : List Act) → SameStatus log other → SameStatus
 status_back log other v = record {
   scanned = sym v.scanned;
   queued = sym v.queued;
+  limits = sym v.limits;
   rises = λ name. sym (v.rises name);
   falls = λ name. sym (v.falls name);
   enables = λ name. sym (v.enables name);
@@ -411,6 +445,7 @@ pub status_same : (log : List Act) → SameStatus log log
 status_same log = record {
   scanned = refl;
   queued = refl;
+  limits = refl;
   rises = λ name. refl;
   falls = λ name. refl;
   enables = λ name. refl;
