@@ -52,9 +52,8 @@ pub(crate) fn release<A: Allocator>(
     ensures behaves { (log : List Act) → Stands layers.old log
         → Behaves (λ new. new ≡ released awaited log) layers.new result log }
     ensures advances { Advances layers.old layers.new result.held }
-    ensures few { result.raised ≤ 8 }
+    ensures free { (result.held ≡ None) × (result.raised ≤ 8) }
     ensures capacity { 8192 ≤ vec_capacity answer.new }
-    ensures free { result.held ≡ None }
 {
     match awaited {
         Awaited::Nothing => end(layers, 0),

@@ -46,11 +46,8 @@ put_readings-requires-clause-room g c =
 pub returns-in-Nothing-clause-advances : goal.returns-in-Nothing-clause-advances
 returns-in-Nothing-clause-advances g c = c.end.ensures.advances
 
-pub returns-in-Nothing-clause-few : goal.returns-in-Nothing-clause-few
-returns-in-Nothing-clause-few g c = omega (arith, c.end.ensures.few)
-
 pub returns-in-Nothing-clause-free : goal.returns-in-Nothing-clause-free
-returns-in-Nothing-clause-free g c = c.end.ensures.free
+returns-in-Nothing-clause-free g c = (c.end.ensures.free, omega (arith, c.end.ensures.few))
 
 pub returns-in-Nothing-clause-capacity : goal.returns-in-Nothing-clause-capacity
 returns-in-Nothing-clause-capacity g c = c.requires.room
@@ -58,11 +55,8 @@ returns-in-Nothing-clause-capacity g c = c.requires.room
 pub returns-in-One-clause-advances : goal.returns-in-One-clause-advances
 returns-in-One-clause-advances g c = c.reply.ensures.advances
 
-pub returns-in-One-clause-few : goal.returns-in-One-clause-few
-returns-in-One-clause-few g c = omega (arith, c.reply.ensures.few)
-
 pub returns-in-One-clause-free : goal.returns-in-One-clause-free
-returns-in-One-clause-free g c = c.reply.ensures.free
+returns-in-One-clause-free g c = (c.reply.ensures.free, omega (arith, c.reply.ensures.few))
 
 pub returns-in-One-clause-capacity : goal.returns-in-One-clause-capacity
 returns-in-One-clause-capacity g c = c.requires.room
@@ -70,11 +64,8 @@ returns-in-One-clause-capacity g c = c.requires.room
 pub returns-in-Readings-clause-advances : goal.returns-in-Readings-clause-advances
 returns-in-Readings-clause-advances g c = c.reply-in-Readings.ensures.advances
 
-pub returns-in-Readings-clause-few : goal.returns-in-Readings-clause-few
-returns-in-Readings-clause-few g c = omega (arith, c.reply-in-Readings.ensures.few)
-
 pub returns-in-Readings-clause-free : goal.returns-in-Readings-clause-free
-returns-in-Readings-clause-free g c = c.reply-in-Readings.ensures.free
+returns-in-Readings-clause-free g c = (c.reply-in-Readings.ensures.free, omega (arith, c.reply-in-Readings.ensures.few))
 
 pub returns-in-Readings-clause-capacity : goal.returns-in-Readings-clause-capacity
 returns-in-Readings-clause-capacity g c = omega (arith, c.put_readings.ensures.capacity, c.clear.ensures.capacity, c.requires.room)

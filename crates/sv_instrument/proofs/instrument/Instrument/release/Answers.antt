@@ -16,7 +16,7 @@ returns-in-Idle-clause-steps g c = λ log h.
     let b = c.release-done.ensures.behaves log s.layers in (
       b.new,
       step_of log b.new _ (due (exchange_acts log)) is refl (idle, b.makes),
-      ran_of _ log b.new _ b.acted (sym c.release-done.ensures.free ∙ b.held) (released_path log b.new _ _ is b.begins s.path),
+      ran_of _ log b.new _ b.acted (sym c.release-done.ensures.free.0 ∙ b.held) (released_path log b.new _ _ is b.begins s.path),
     )
 
 pub returns-in-Waiting-clause-steps : goal.returns-in-Waiting-clause-steps
