@@ -1,7 +1,7 @@
 -- What is kept of waits, after one more.
-use Rattle.std.proofs.Common.{◌≡◌, ℕ, ◌-◌, ◌≤◌, Bool, true, false, List, ◌∷◌, refl, sym, ap, ◌∙◌, arith}
+use Rattle.std.proofs.Common.{◌≡◌, ℕ, ◌-◌, Bool, true, false, List, ◌∷◌, refl, ap, ◌∙◌, arith}
 use Rattle.std.specs.Prelude.{zero, suc}
-use Rattle.sv_pace.specs.Pace.{Wait, Found, Missed, Slept, Kept, StandsFor, longer, is_any, misses, sleeps, pause_after, after_wait, IsDue}
+use Rattle.sv_pace.specs.Pace.{Wait, Missed, Slept, Kept, StandsFor, longer, is_any, misses, pause_after, after_wait}
 
 -- looking found nothing
 pub one_missed : (swept worked pause left : ℕ) (missed : Bool) (next : ℕ) (waits : List Wait)

@@ -1,5 +1,5 @@
 -- When a server looks again without sleeping, by what came of it before. The newest comes first.
-use Rattle.std.specs.Prelude.{◌≡◌, ℕ, zero, suc, ◌+◌, ◌-◌, ◌*◌, ◌≤◌, min, max, Bool, true, false, List, [], ◌∷◌}
+use Rattle.std.specs.Prelude.{◌≡◌, ℕ, zero, suc, ◌-◌, ◌*◌, ◌≤◌, min, max, Bool, true, false, List, [], ◌∷◌}
 
 -- What came of a wait: looking found something, or it found nothing in its time; or the server slept at once.
 pub data Wait : Type 0 where

@@ -10,3 +10,4 @@ pub mod Printed
 pub mod Going
 pub mod Entries
 pub mod Scenarios
+mod Heard

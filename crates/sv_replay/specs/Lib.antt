@@ -5,6 +5,7 @@ pub mod Laws
 pub mod Script
 pub mod Run
 pub mod Stage
+pub mod Reads
 pub mod Text
 pub mod Entry
 pub mod Scenario

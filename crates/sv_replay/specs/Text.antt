@@ -2,7 +2,7 @@
 use Rattle.std.specs.Prelude.{◌≡◌, ℕ, ◌+◌, ◌==◌, ◌≤◌, Bool, true, false, List, [], ◌++◌, length, take, Option, Some, None, Result, Ok, Err, slice_range}
 use Rattle.std.specs.List.{position, position_or_len}
 use Rattle.std.specs.Io.KnownBytes.{Consumes, IsAtEnd}
-use Rattle.sv_replay.specs.declared.text.InputFault.{InputFault}
+use Rattle.sv_replay.specs.declared.input.InputFault.{InputFault}
 
 -- the text, and how often a reader was read for it
 pub record Held : Type 0 where

@@ -2,7 +2,7 @@
 
 ghost use Rattle.std.specs.Prelude.{◌≡◌};
 
-use crate::text::InputFault;
+use crate::input::InputFault;
 use std::alloc::AllocError;
 use sv_server::ReplayFault;
 use thiserror::Error;

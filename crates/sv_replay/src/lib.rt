@@ -5,6 +5,7 @@
 mod entry;
 mod fault;
 mod hex;
+mod input;
 pub mod laws;
 mod line;
 mod number;
@@ -15,6 +16,7 @@ mod text;
 
 pub use entry::{Entry, Stimulus};
 pub use fault::RunFault;
+pub use input::{InputFault, Source};
 pub use line::{Line, read_line};
 pub use run::run_replay;
 pub use scenario::{ScenarioFault, read_scenario};

@@ -7,14 +7,16 @@ ghost use Rattle.sv_history.specs.Event.{PlainEvent};
 ghost use Rattle.sv_server.specs.Server.State.{StandsFor};
 ghost use Rattle.sv_replay.specs.Text.{nothing_held, first_end};
 ghost use Rattle.sv_replay.specs.Run.{set_up, Runs};
+ghost use Rattle.sv_replay.specs.Reads.{Gave, Reads, IsTurned, IsReadOut, OnInput};
 ghost use Rattle.sv_replay.specs.Stage.{IsStage, LineRuns, Goes, WhileGoing};
 
 use crate::fault::RunFault;
+use crate::input::Source;
 use crate::line::read_line;
 use crate::perform::perform;
 use crate::text::{LONGEST_LINE, Text};
 use std::alloc::{AllocError, Allocator};
-use std::io::{BufWriter, Read, Write};
+use std::io::{BufWriter, Write};
 use sv_server::{Config, Server};
 
 /// What the server is set up with.
@@ -45,7 +47,7 @@ struct Run<A: Allocator> {
 /// read 4,294,967,294 times, `Memory` where memory was refused at the start or to an event, and
 /// `Output` where the writer failed, also where it failed to pass on what was printed before
 /// another fault.
-pub fn run_replay<A: Allocator + Copy, R: Read, W: Write + Drop, B: Allocator>(
+pub fn run_replay<A: Allocator + Copy, R: Source, W: Write + Drop, B: Allocator>(
     alloc: A,
     reader: &mut R,
     writer: &mut BufWriter<W, B>,
@@ -56,6 +58,8 @@ pub fn run_replay<A: Allocator + Copy, R: Read, W: Write + Drop, B: Allocator>(
         (writer_contents W.contents writer.new) text
         × Runs read (R.remaining reader.new) result text }
     ensures end { OnOk result (IsAtEnd (R.remaining reader.new)) }
+    // The input's fault comes where the last read failed, or behind 4,294,967,294 of them.
+    ensures reads { IsReadOut R.gives reader.old reader.new result }
     // Unless the output failed, nothing that was printed is left in the buffer.
     ensures flushed { result ≢ Err RunFault.Output → writer_buffer writer.new ≡ [] }
 {
@@ -81,7 +85,7 @@ fn pass_on<W: Write + Drop, B: Allocator>(
 }
 
 /// Runs the replay, and leaves what it printed last with the writer.
-fn run_lines<A: Allocator + Copy, R: Read, W: Write>(
+fn run_lines<A: Allocator + Copy, R: Source, W: Write>(
     alloc: A,
     reader: &mut R,
     writer: &mut W,
@@ -91,6 +95,7 @@ fn run_lines<A: Allocator + Copy, R: Read, W: Write>(
         × Appends (W.contents writer.old) (W.contents writer.new) text
         × Runs read (R.remaining reader.new) result text }
     ensures end { OnOk result (IsAtEnd (R.remaining reader.new)) }
+    ensures reads { IsReadOut R.gives reader.old reader.new result }
 {
     let mut run = start(alloc)?;
     for _ in 0..u64::MAX {
@@ -134,7 +139,8 @@ fn do_line<A: Allocator, W: Write>(
     writer: &mut W,
 ) -> Result<(), RunFault>
     requires { length bytes.old ≡ 65536 }
-    ensures { (history : List PlainEvent) → StandsFor server.old set_up history
+    ensures input { OnInput result ⊥ }
+    ensures runs { (history : List PlainEvent) → StandsFor server.old set_up history
         → (text : List ℕ) × (after : List PlainEvent)
         × LineRuns line.now number history result text after
         × StandsFor server.new set_up after
@@ -154,7 +160,11 @@ fn do_line<A: Allocator, W: Write>(
 
 impl<A: Allocator> Run<A> {
     /// Does the next line, or reads on where no line is whole; false at the end.
-    fn turn<R: Read, W: Write>(&mut self, reader: &mut R, writer: &mut W) -> Result<bool, RunFault>
+    fn turn<R: Source, W: Write>(
+        &mut self,
+        reader: &mut R,
+        writer: &mut W,
+    ) -> Result<bool, RunFault>
         requires countable { self.old.lines < 2 ^ 64 - 1 }
         ensures goes { (read text : List ℕ)
             → IsStage self.old.server self.old.text.text self.old.lines read text
@@ -170,6 +180,9 @@ impl<A: Allocator> Run<A> {
             → self.new.lines + length self.new.text.text ≤ 131072 * self.new.text.reads) }
         ensures few { WhileGoing result (self.old.text.reads ≤ 4294967294
             → self.new.text.reads ≤ 4294967294) }
+        ensures heard { (first : R) (reads : List Gave) → Reads R.gives first reads reader.old
+            → length reads ≡ self.old.text.reads
+            → IsTurned R.gives first reader.new self.new.text.reads result }
     {
         match self.text.whole_line() {
             Some(len) => {
@@ -190,7 +203,7 @@ impl<A: Allocator> Run<A> {
     }
 
     /// Reads on; where the reader is at its end, does the last line. False at the end.
-    fn read_on<R: Read, W: Write>(
+    fn read_on<R: Source, W: Write>(
         &mut self,
         reader: &mut R,
         writer: &mut W,
@@ -211,6 +224,9 @@ impl<A: Allocator> Run<A> {
             → self.new.lines + length self.new.text.text ≤ 131072 * self.new.text.reads) }
         ensures few { WhileGoing result (self.old.text.reads ≤ 4294967294
             → self.new.text.reads ≤ 4294967294) }
+        ensures heard { (first : R) (reads : List Gave) → Reads R.gives first reads reader.old
+            → length reads ≡ self.old.text.reads
+            → IsTurned R.gives first reader.new self.new.text.reads result }
     {
         if self.text.len() > LONGEST_LINE {
             return Err(RunFault::BadLine(self.lines + 1));

@@ -1,11 +1,12 @@
 //! The text of a replay, read in pieces.
 
-ghost use Rattle.std.specs.Prelude.{◌≡◌, ◌+◌, ◌-◌, ◌<◌, ◌≤◌, length, take, drop, slice_range, IfOk, OnOk, OnErr, IsErr};
+ghost use Rattle.std.specs.Prelude.{◌≡◌, ◌+◌, ◌-◌, ◌<◌, ◌≤◌, length, take, drop, slice_range, IfOk, OnOk, OnErr, IsErr, List};
+ghost use Rattle.sv_replay.specs.Reads.{Gave, Reads, IsReadOn};
 ghost use Rattle.sv_replay.specs.Text.{Filled, IsBehind, first_end, nothing_held};
 
+use crate::input::{InputFault, Source};
 use memchr::memchr;
 use std::alloc::{AllocError, Allocator, Global};
-use std::io::{ErrorKind, Read};
 use std::marker::Model;
 
 /// How many bytes a line may have, without its new line.
@@ -14,10 +15,6 @@ pub const LONGEST_LINE: usize = 65_536;
 const SIZE: usize = 131_072;
 /// How often a reader is read; the read after these is an input fault.
 const MOST_READS: u32 = 4_294_967_294;
-
-/// The reader failed, or was read too often.
-#[derive(Clone, Copy, Debug, PartialEq, Eq)]
-pub struct InputFault;
 
 /// Text that was read and not yet used.
 #[derive(Drop)]
@@ -112,12 +109,14 @@ impl<A: Allocator> Text<A> {
     /// Reads once, behind the text, and tells whether more may come: at the reader's end it
     /// doesn't, and an interrupted read gives nothing, but another may. Where too little of the
     /// buffer is free behind the text, it moves to the front first.
-    pub fn fill<R: Read>(&mut self, reader: &mut R) -> Result<bool, InputFault>
+    pub fn fill<R: Source>(&mut self, reader: &mut R) -> Result<bool, InputFault>
         requires { length self.old.text ≤ 65536 }
         ensures took { Filled (R.remaining reader.old)
             (R.remaining reader.new) self.old.text self.new.text result }
         ensures counted { OnOk result (self.new.reads ≡ self.old.reads + 1) }
-        ensures kept { OnErr result (self.new.reads ≡ self.old.reads) }
+        ensures heard { (first : R) (reads : List Gave)
+            → Reads R.gives first reads reader.old → length reads ≡ self.old.reads
+            → IsReadOn R.gives first reader.new self.new.reads result }
         ensures limit { 4294967294 ≤ self.old.reads → IsErr result }
         ensures within { length self.new.text ≤ 131072 }
     {
@@ -159,7 +158,7 @@ fn make_room(buffer: &mut [u8], start: usize, end: usize) -> usize
 
 /// Reads once, behind so many bytes of a buffer, and tells how many bytes came, or none at the
 /// reader's end.
-fn read_behind<R: Read>(
+fn read_behind<R: Source>(
     reader: &mut R,
     buffer: &mut [u8],
     at: usize,
@@ -168,16 +167,7 @@ fn read_behind<R: Read>(
     ensures front { take at buffer.new ≡ take at buffer.old }
     ensures came { IsBehind (R.remaining reader.old) (R.remaining reader.new)
         (drop at buffer.new) result }
+    ensures heard { R.gives reader.old result reader.new }
 {
-    match reader.read(&mut buffer[at..]) {
-        Ok(0) => Ok(None),
-        Ok(count) => Ok(Some(count)),
-        Err(e) => {
-            if e.kind() == ErrorKind::Interrupted {
-                Ok(Some(0))
-            } else {
-                Err(InputFault)
-            }
-        }
-    }
+    reader.give(&mut buffer[at..])
 }

@@ -1,11 +1,13 @@
 use Rattle.std.proofs.Common.{arith}
+use Rattle.std.specs.Prelude.{⊤}
 use Rattle.sv_replay.specs.PlainLine.{plain_line}
 use Rattle.sv_replay.specs.Run.{set_up}
+use Rattle.sv_replay.proofs.Heard.{on_input, of_replay}
 use Rattle.sv_replay.proofs.Staged.{line_stops}
 use Rattle.sv_replay.proofs.run.do_line.Goals as goal
 
-pub returns-in_err-perform-in-Some : goal.returns-in_err-perform-in-Some
-returns-in_err-perform-in-Some g c = λ history s.
+pub returns-in_err-perform-in-Some-clause-runs : goal.returns-in_err-perform-in-Some-clause-runs
+returns-in_err-perform-in-Some-clause-runs g c = λ history s.
     let (text, after, stops, stands, put) = c.in_err-perform-in-Some.ensures set_up history s in (
       text,
       after,
@@ -17,7 +19,11 @@ returns-in_err-perform-in-Some g c = λ history s.
       put,
     )
 
-pub returns-in_ok-perform-in-Some : goal.returns-in_ok-perform-in-Some
-returns-in_ok-perform-in-Some g c = λ history s.
+pub returns-in_ok-perform-in-Some-clause-runs : goal.returns-in_ok-perform-in-Some-clause-runs
+returns-in_ok-perform-in-Some-clause-runs g c = λ history s.
     let (text, after, prints, stands, put) = c.in_ok-perform-in-Some.ensures set_up history s in
     (text, after, (plain_line c.in-Some.said, omega arith, c.in-Some.ensures.found, prints), stands, put)
+
+pub returns-in_err-perform-in-Some-clause-input : goal.returns-in_err-perform-in-Some-clause-input
+returns-in_err-perform-in-Some-clause-input g c =
+    on_input c.from_residual.result _ _ c.from_residual.ensures.0 c.from_residual.ensures.1 (of_replay ⊤ c.in_err-perform-in-Some.field-0.0)

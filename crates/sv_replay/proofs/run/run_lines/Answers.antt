@@ -1,6 +1,7 @@
-use Rattle.std.proofs.Common.{false, true, ap, length, arith}
+use Rattle.std.proofs.Common.{false, true, ap, length, arith, sym, refl, []}
 use Rattle.std.specs.Prelude.{Ok, Err}
 use Rattle.sv_replay.specs.Text.{Held}
+use Rattle.sv_replay.proofs.Heard.{on_input}
 use Rattle.sv_replay.proofs.Going.{so_far_start, so_far_turn, so_far_stop, so_far_end, so_far_at_end, no_memory}
 use Rattle.sv_replay.proofs.run.run_lines.Goals as goal
 
@@ -15,6 +16,7 @@ loop-init g c =
       omega (arith, zero_lines, ap (λ (h : Held). h.reads) none),
       omega (arith, zero_lines, ap (λ (h : Held). length h.text) none),
       omega (arith, ap (λ (h : Held). h.reads) none),
+      ([], refl, sym (ap (λ (h : Held). h.reads) none)),
     )
 
 pub returns-in_err-turn-clause-runs : goal.returns-in_err-turn-clause-runs
@@ -46,4 +48,24 @@ loop-preserved g c =
       omega (arith, rw e at c.in_ok-turn.ensures.counted, c.loop.invariant.1),
       (rw e at c.in_ok-turn.ensures.bounded) c.loop.invariant.2,
       (rw e at c.in_ok-turn.ensures.few) c.loop.invariant.3,
+      (let (reads, made, as_many) = c.loop.invariant.4 in
+          let (others, they, count, on) = rw e at (c.in_ok-turn.ensures.heard _ reads made as_many) in (others, they, count)),
     )
+
+pub returns-in_err-run-clause-reads : goal.returns-in_err-run-clause-reads
+returns-in_err-run-clause-reads g c =
+    ([], refl, on_input c.from_residual.result _ _ c.from_residual.ensures.0 c.from_residual.ensures.1 tt)
+
+pub returns-in_err-turn-clause-reads : goal.returns-in_err-turn-clause-reads
+returns-in_err-turn-clause-reads g c =
+    let (reads, made, as_many) = c.loop.invariant.4 in
+    let (others, they, going, on) = c.in_err-turn.ensures.heard _ reads made as_many in (
+      others,
+      they,
+      on_input c.from_residual-in_err-turn.result _ _ c.from_residual-in_err-turn.ensures.0 c.from_residual-in_err-turn.ensures.1 on,
+    )
+
+pub returns-then-not-branch-clause-reads : goal.returns-then-not-branch-clause-reads
+returns-then-not-branch-clause-reads g c =
+    let (reads, made, as_many) = c.loop.invariant.4 in
+    let (others, they, going, on) = c.in_ok-turn.ensures.heard _ reads made as_many in (others, they, tt)

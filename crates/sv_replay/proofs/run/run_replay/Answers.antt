@@ -1,3 +1,4 @@
+use Rattle.sv_replay.proofs.Heard.{read_out}
 use Rattle.sv_replay.proofs.Going.{so_far_told, end_told}
 use Rattle.sv_replay.proofs.run.run_replay.Goals as goal
 
@@ -8,3 +9,7 @@ returns-clause-runs g c =
 
 pub returns-clause-end : goal.returns-clause-end
 returns-clause-end g c = end_told _ c.run_lines-answer.result c.pass_on.result c.run_lines-answer.ensures.end c.pass_on.ensures.answer
+
+pub returns-clause-reads : goal.returns-clause-reads
+returns-clause-reads g c =
+    read_out _ _ _ c.run_lines-answer.result c.pass_on.result c.pass_on.ensures.answer c.run_lines-answer.ensures.reads

@@ -1,0 +1,49 @@
+-- What a reader was heard to give, and what a run answers.
+use Rattle.std.proofs.Common.{◌≡◌, ◌⊎◌, ℕ, Bool, true, false, List, [], ◌∷◌, length, Result, Ok, Err, Option, refl, subst, sym, ap, ◌∙◌, inl, inr, arith, IsErr, IsErrAnd}
+use Rattle.std.specs.Prelude.{⊤}
+use Rattle.sv_replay.specs.declared.fault.RunFault.{RunFault}
+use Rattle.sv_replay.specs.declared.fault.RunFault.TheVariants.{BadLine, Input, Output, Memory}
+use Rattle.sv_replay.specs.declared.input.InputFault.{InputFault}
+use Rattle.sv_server.specs.declared.replay.ReplayFault.{ReplayFault}
+use Rattle.sv_server.specs.declared.replay.ReplayFault.TheVariants.{NoMemory, Write}
+use Rattle.sv_replay.specs.Run.{run_fault}
+use Rattle.sv_replay.specs.Stage.{WhileGoing}
+use Rattle.sv_replay.specs.Reads.{Gave, Reads, HasFailed, IsLast, IsReadOn, OnInput, IsTurned, IsReadOut}
+
+-- a fault that is passed on
+pub on_input : {A : Type 0} (result : Result A RunFault) (fault : RunFault) (fact : Type 0) → IsErr result
+    → IsErrAnd result (λ e. e ≡ fault) → OnInput {A = A} (Err fault) fact → OnInput result fact
+on_input (Ok a) fault fact failed is on = absurd cc
+on_input {A = A} (Err e) fault fact failed is on = subst (λ (f : RunFault). OnInput {A = A} (Err f) fact) (sym is) on
+
+-- a fault that is not the input's
+pub other_fault : {A : Type 0} (result : Result A RunFault) (fact : Type 0) → OnInput result ⊥ → OnInput result fact
+other_fault (Ok a) fact none = tt
+other_fault (Err (BadLine n)) fact none = tt
+other_fault (Err Input) fact none = absurd none
+other_fault (Err Output) fact none = tt
+other_fault (Err Memory) fact none = tt
+
+-- the fault of a replay is not
+pub of_replay : (A : Type 0) (fault : ReplayFault) → OnInput {A = A} (Err (run_fault fault)) ⊥
+of_replay A NoMemory = tt
+of_replay A Write = tt
+
+-- a run that stops doesn't go on
+pub not_going : (result : Result Bool RunFault) (fact : Type 0) → IsErr result → WhileGoing result fact
+not_going (Ok more) fact failed = absurd cc
+not_going (Err e) fact failed = tt
+
+-- a fault of a read that is passed on
+pub read_failed : {S : Type 0} (gives : S → Gave → S → Type 0) (first last : S) (count : ℕ) (reads : List Gave)
+    (result : Result Bool InputFault)
+    → IsErr result → Reads gives first reads last → IsLast reads → IsReadOn gives first last count result
+read_failed gives first last count reads (Ok more) failed made is = absurd cc
+read_failed gives first last count reads (Err fault) failed made is = (reads, made, is)
+
+-- the answer of a run, or the output's fault in its place
+pub read_out : {S : Type 0} (gives : S → Gave → S → Type 0) (first last : S) (answer result : Result ⊤ RunFault)
+    → (result ≡ answer) ⊎ (result ≡ Err Output) → IsReadOut gives first last answer → IsReadOut gives first last result
+read_out gives first last answer result (inl same) out = subst (λ (r : Result ⊤ RunFault). IsReadOut gives first last r) (sym same) out
+read_out gives first last answer result (inr failed) (reads, made, on) =
+    subst (λ (r : Result ⊤ RunFault). IsReadOut gives first last r) (sym failed) (reads, made, tt)

@@ -1,0 +1,47 @@
+-- How often a reader was read, and what its reads gave.
+use Rattle.std.specs.Prelude.{◌≡◌, ◌⊎◌, ℕ, ◌≤◌, List, [], ◌∷◌, length, Option, Bool, true, false, Result, Ok, Err, ⊤}
+use Rattle.sv_replay.specs.declared.fault.RunFault.{RunFault}
+use Rattle.sv_replay.specs.declared.fault.RunFault.TheVariants.{BadLine, Input, Output, Memory}
+use Rattle.sv_replay.specs.declared.input.InputFault.{InputFault}
+use Rattle.sv_replay.specs.Stage.{WhileGoing}
+
+-- what a read gave: so many bytes, or none at the reader's end, or a fault
+abbrev pub Gave : Type 0
+Gave = Result (Option ℕ) InputFault
+
+-- These reads, the newest first, led a reader from one state to another.
+abbrev pub Reads : {S : Type 0} → (S → Gave → S → Type 0) → S → List Gave → S → Type 0
+Reads gives first [] last = last ≡ first
+Reads gives first (gave ∷ reads) last = (between : _) × Reads gives first reads between × gives between gave last
+
+-- the newest read failed
+abbrev pub HasFailed : List Gave → Type 0
+HasFailed [] = ⊥
+HasFailed (Ok gave ∷ reads) = ⊥
+HasFailed (Err fault ∷ reads) = ⊤
+
+-- No read is to follow: the newest one failed, or there were as many as there may be.
+abbrev pub IsLast : List Gave → Type 0
+IsLast reads = HasFailed reads ⊎ (length reads ≡ 4294967294)
+
+-- The reader was read so often as is counted, where reading goes on or is at the reader's end; a fault comes where no read is to follow.
+abbrev pub IsReadOn : {S : Type 0} → (S → Gave → S → Type 0) → S → S → ℕ → Result Bool InputFault → Type 0
+IsReadOn gives first last count (Ok more) = (reads : List Gave) × Reads gives first reads last × (length reads ≡ count)
+IsReadOn gives first last count (Err fault) = (reads : List Gave) × Reads gives first reads last × IsLast reads
+
+-- This holds where the answer is the input's fault.
+abbrev pub OnInput : {A : Type 0} → Result A RunFault → Type 0 → Type 0
+OnInput (Ok a) fact = ⊤
+OnInput (Err (BadLine n)) fact = ⊤
+OnInput (Err Input) fact = fact
+OnInput (Err Output) fact = ⊤
+OnInput (Err Memory) fact = ⊤
+
+-- The same of a turn of a run.
+abbrev pub IsTurned : {S : Type 0} → (S → Gave → S → Type 0) → S → S → ℕ → Result Bool RunFault → Type 0
+IsTurned gives first last count result = (reads : List Gave) × Reads gives first reads last × WhileGoing result (length reads ≡ count)
+    × OnInput result (IsLast reads)
+
+-- These reads were made in a run. Where its answer is the input's fault, none was to follow.
+abbrev pub IsReadOut : {S : Type 0} → (S → Gave → S → Type 0) → S → S → Result ⊤ RunFault → Type 0
+IsReadOut gives first last result = (reads : List Gave) × Reads gives first reads last × OnInput result (IsLast reads)

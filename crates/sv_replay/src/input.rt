@@ -1,0 +1,46 @@
+//! What a replay is read from, and what a read gives.
+
+ghost use Rattle.std.specs.Prelude.{◌<◌, length};
+ghost use Rattle.sv_replay.specs.Text.{IsBehind};
+
+use std::io::{ErrorKind, Read};
+
+/// The reader failed, or was read too often.
+#[derive(Clone, Copy, Debug, PartialEq, Eq)]
+pub struct InputFault;
+
+/// A reader whose reads a contract can name. Each reader is one; of what its reads lead to nothing
+/// is known.
+pub trait Source: Read {
+    ghost use Rattle.std.specs.Prelude.{⊤};
+    ghost use Rattle.sv_replay.specs.Reads.{Gave};
+
+    /// What a read leads to that gives so many bytes, or none at the reader's end, or a fault.
+    ghost gives: { Self → Gave → Self → Type 0 } = { λ before gave after. ⊤ };
+
+    /// Reads once, into a buffer with room. An interrupted read gives no bytes, but another may.
+    ///
+    /// # Errors
+    /// Where the reader fails.
+    fn give(&mut self, buffer: &mut [u8]) -> Result<Option<usize>, InputFault>
+        requires { 0 < length buffer.old }
+        ensures came { IsBehind (Self.Read.remaining self.old) (Self.Read.remaining self.new)
+            buffer.new result }
+        ensures heard { gives self.old result self.new };
+}
+
+impl<R: Read> Source for R {
+    fn give(&mut self, buffer: &mut [u8]) -> Result<Option<usize>, InputFault> {
+        match self.read(buffer) {
+            Ok(0) => Ok(None),
+            Ok(count) => Ok(Some(count)),
+            Err(e) => {
+                if e.kind() == ErrorKind::Interrupted {
+                    Ok(Some(0))
+                } else {
+                    Err(InputFault)
+                }
+            }
+        }
+    }
+}
