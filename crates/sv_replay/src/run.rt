@@ -208,8 +208,7 @@ impl<A: Allocator> Run<A> {
         reader: &mut R,
         writer: &mut W,
     ) -> Result<bool, RunFault>
-        requires no_line { first_end self.old.text.text ≡ None }
-        requires countable { self.old.lines < 2 ^ 64 - 1 }
+        requires { (first_end self.old.text.text ≡ None) × (self.old.lines < 2 ^ 64 - 1) }
         ensures goes { (read text : List ℕ)
             → IsStage self.old.server self.old.text.text self.old.lines read text
             → (more other : List ℕ)
