@@ -1,10 +1,10 @@
 -- A unit whose bytes were read one by one is what it is when it is read at once.
-use Rattle.std.proofs.Common.{◌≡◌, ℕ, ◌+◌, ◌-◌, ◌^◌, ◌<◌, ◌≤◌, ◌==◌, Bool, true, false, not, ◌&&◌, ◌||◌, cond, List, [], ◌∷◌, ◌++◌, length, take, get_or, max, nat_lt, nat_le, Option, Some, None, inl, inr, refl, sym, ap, ◌∙◌, subst, append_assoc, append-nil, arith}
+use Rattle.std.proofs.Common.{◌≡◌, ℕ, ◌-◌, ◌^◌, ◌≤◌, ◌==◌, Bool, true, false, not, ◌&&◌, ◌||◌, cond, List, [], ◌∷◌, ◌++◌, length, max, nat_lt, nat_le, Option, Some, None, inl, inr, refl, sym, ap, ◌∙◌, subst, append-nil, arith}
 use Rattle.std.specs.List.{list_all}
 use Rattle.std.specs.Char.{is_ascii_graphic}
 use Rattle.std.proofs.lemmas.Bool.{cases_lt, le-leb, lt-leb}
 use Rattle.std.proofs.lemmas.Bool.Decides.{nat_tests}
-use Rattle.std.proofs.lemmas.List.{length_push, take_more}
+use Rattle.std.proofs.lemmas.List.{length_push}
 use Rattle.sv_errors.specs.declared.code.Code.{Code}
 use Rattle.sv_errors.specs.declared.code.Code.TheVariants.{InvalidCharacter, SyntaxError, ProgramMnemonicTooLong}
 use Rattle.sv_text.specs.White.{is_white}
@@ -67,36 +67,31 @@ legal_next stage b =
 
 -- nothing was read
 pub reads_none : (p : Progress) → p.stage ≡ WhiteSpace → p.size ≡ 0 → p.header_start ≡ 0 → p.mnemonic ≡ 0 → p.longest ≡ 0 → Reads p []
-reads_none p stage size start mnemonic front = record {
-  size = size;
-  legal = ap (λ (s : Stage). not (is_illegal s)) (sym stage);
-  known = subst (λ (s : Stage). At s p []) (sym stage) (record {
+unfolding Reads
+reads_none p stage size start mnemonic front = (
+  size,
+  ap (λ (s : Stage). not (is_illegal s)) (sym stage),
+  subst (λ (s : Stage). At s p []) (sym stage) (record {
     spelled = refl;
     ends = refl;
     begins = start;
     closes = λ some. (let f : true ≡ false = some in absurd cc);
     mnemonic = mnemonic;
     front = front;
-  });
-}
+  }),
+)
 
 -- a byte behind those that were read
 pub reads_push : (p new : Progress) (unit : List ℕ) (b : ℕ) → new ≡ moved (next p.stage b) p → Reads p unit → Reads new (unit ++ b ∷ [])
+unfolding Reads
 reads_push p new unit b is h =
     let long = length_push unit b in
-    let size : one_more p.size ≡ kept (length (unit ++ b ∷ [])) = omega (arith, long, h.size) in
-    subst (λ (q : Progress). Reads q (unit ++ b ∷ [])) (sym is) (record {
-      size = size;
-      legal = all_push is_legal unit b ∙ ap (λ (t : Bool). t && is_legal b) h.legal ∙ legal_next p.stage b;
-      known = at_next p.stage p unit b size h.known;
-    })
-
--- and the next one of some bytes
-pub reads_more : (p : Progress) (before bytes : List ℕ) (i : ℕ) → i < length bytes
-    → Reads p (before ++ take i bytes ++ get_or bytes i 0 ∷ []) → Reads p (before ++ take (i + 1) bytes)
-reads_more p before bytes i lt h =
-    subst (Reads p)
-    (append_assoc before (take i bytes) (get_or bytes i 0 ∷ []) ∙ ap (λ (l : List ℕ). before ++ l) (sym (take_more bytes i 0 lt))) h
+    let size : one_more p.size ≡ kept (length (unit ++ b ∷ [])) = omega (arith, long, h.0) in
+    subst (λ (q : Progress). Reads q (unit ++ b ∷ [])) (sym is) (
+      size,
+      all_push is_legal unit b ∙ ap (λ (t : Bool). t && is_legal b) h.1 ∙ legal_next p.stage b,
+      at_next p.stage p unit b size h.2,
+    )
 
 -- ---- what is wrong with it
 
@@ -183,7 +178,8 @@ fault_at stage p unit legal h = spelled stage p unit refl legal h
 
 -- the fault of the unit is the fault of what was read
 pub fault_is : (p : Progress) (unit : List ℕ) → Reads p unit → unit_fault unit ≡ fault_of p.stage p
-fault_is p unit h = fault_at p.stage p unit h.legal h.known
+unfolding Reads
+fault_is p unit h = fault_at p.stage p unit h.1 h.2
 
 -- ---- where its parts stand
 
@@ -236,4 +232,5 @@ cut_at _ p unit room none h = absurd cc
 -- where there is no fault, its parts stand where they were read
 pub cut_is : (p : Progress) (unit : List ℕ) → length unit ≤ 2 ^ 64 - 1 → Reads p unit → fault_of p.stage p ≡ None
     → IsCut unit p.header_start p.header_end (data_of p.stage p.header_end p.data_start) (data_of p.stage p.header_end p.data_end)
-cut_is p unit room h none = cut_at p.stage p unit room none h.known
+unfolding Reads
+cut_is p unit room h none = cut_at p.stage p unit room none h.2

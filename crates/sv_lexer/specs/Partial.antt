@@ -108,8 +108,6 @@ abbrev pub is_illegal : Stage → Bool
 is_illegal Illegal = true
 is_illegal _ = false
 
--- These bytes were read: the stage is illegal exactly if one of them is.
-pub record Reads (p : Progress) (unit : List ℕ) : Type 0 where
-  pub size : p.size ≡ kept (length unit)
-  pub legal : list_all is_legal unit ≡ not (is_illegal p.stage)
-  pub known : At p.stage p unit
+-- These bytes were read. The stage is illegal exactly if one of them is.
+unfoldable pub Reads : Progress → List ℕ → Type 0
+Reads p unit = (p.size ≡ kept (length unit)) × (list_all is_legal unit ≡ not (is_illegal p.stage)) × At p.stage p unit
