@@ -3,6 +3,7 @@
 ghost use Rattle.std.specs.Prelude.{◌≡◌, ℕ, ◌+◌, ◌*◌, ◌<◌, ◌≤◌, ◌==◌, Bool, true, false, not, List, [], ◌∷◌, ◌++◌, Option, length, take, drop, nat_lt, vec_len, vec_capacity, IsTrue, IfOk, if◌then◌else◌};
 ghost use Rattle.sv_lexer.specs.Unit.{IsLexed};
 ghost use Rattle.sv_exchange.specs.Exchange.{ExchangeAct, Accepted, TextDropped, Overran, UnitDone, UnitDue, Answered, AnswersDropped, Finished, Interrupted, ResponseRead, OverrunDue, InterruptDue, FinishDue, due, has_ended, answers, response, fits_response, is_something};
+ghost use Rattle.sv_exchange.specs.Limits.{max_message, max_response};
 ghost use Rattle.sv_exchange.specs.ReadGiven.{IsReadOf};
 ghost use Rattle.sv_exchange.specs.Contents.{Contents, StandsFor, empty, is_open, shown_by, next_of, IsUnitDue, may_respond, work_of, plain_next};
 ghost use Rattle.sv_exchange.specs.Fields.{after_accept, after_finish, after_answer, with_answer};
@@ -124,7 +125,7 @@ impl<A: Allocator> Exchange<A> {
     /// bytes.
     pub fn accept(&mut self, bytes: &[u8], ended: bool)
         requires open { IsTrue (is_open self.old) }
-        requires short { length bytes.now ≤ 4096 }
+        requires short { length bytes.now ≤ max_message }
         ensures value { self.new ≡ after_accept self.old bytes.now ended }
         ensures bounded { work_of self.new ≤ work_of self.old + 3 * length bytes.now + 4 }
         ensures stands { (acts : List ExchangeAct) → StandsFor self.old acts
@@ -254,7 +255,7 @@ impl<A: Allocator> Exchange<A> {
         requires { IsTrue (may_respond self.old) }
         ensures value { self.new ≡ after_answer self.old answer.now result }
         ensures fits { result ≡ nat_lt
-            (length (with_answer self.old.answering self.old.output answer.now)) 8192 }
+            (length (with_answer self.old.answering self.old.output answer.now)) max_response }
         ensures measure { work_of self.new ≤ work_of self.old }
         ensures stays_open { is_open self.new ≡ is_open self.old }
         ensures stands { (acts : List ExchangeAct) → StandsFor self.old acts

@@ -11,7 +11,7 @@ use Rattle.sv_errors.specs.declared.code.Code.TheVariants.{DataOutOfRange, TooMu
 use Rattle.sv_lexer.specs.declared.token.Kind.TheVariants.{Number, Base, Word, Expression, Other}
 use Rattle.sv_text.specs.Cut.{cut_at}
 use Rattle.sv_text.proofs.Parts.{parts_some}
-use Rattle.sv_value.specs.Channels.{Span as Ends, inner, listed, next, read_items, read_list, run, span}
+use Rattle.sv_value.specs.Channels.{max_listed, Span as Ends, inner, listed, next, read_items, read_list, run, span}
 use Rattle.sv_value.specs.Value.{ReadIsChannelList}
 use Rattle.sv_value.proofs.Spans.{run-up, run-down, run-one, length-run}
 
@@ -51,22 +51,22 @@ ends-channels first last h =
     run-channels ((first - last) + (last - first)) first last refl (leb-true 1 first f.0) (leb-true first 32 f.1) (leb-true 1 last l.0)
     (leb-true last 32 l.1)
 
--- 1 to 32 of them
-are-listed : (before list : List ℕ) → list_all is_channel before ≡ true → length before ≤ 32 → 1 ≤ length before → before ≡ list
+-- one at least, and no more than a list may have
+are-listed : (before list : List ℕ) → list_all is_channel before ≡ true → length before ≤ max_listed → 1 ≤ length before → before ≡ list
     → is_channel_list list ≡ true
-are-listed before list all most some e = rw (← e) (rw (le-leb 1 (length before) some, le-leb (length before) 32 most) all)
+are-listed before list all most some e = rw (← e) (rw (le-leb 1 (length before) some, le-leb (length before) max_listed most) all)
 
 -- the channels of an item behind others, if the items behind it go on well
 item-channels : (o : Option Ends) (before list : List ℕ) (others : List ℕ → Result (List ℕ) Code) → list_all is_channel before ≡ true
-    → ((so_far : List ℕ) → list_all is_channel so_far ≡ true → length so_far ≤ 32 → 1 ≤ length so_far → others so_far ≡ Ok list
+    → ((so_far : List ℕ) → list_all is_channel so_far ≡ true → length so_far ≤ max_listed → 1 ≤ length so_far → others so_far ≡ Ok list
     → is_channel_list list ≡ true)
     → next o before others ≡ Ok list → is_channel_list list ≡ true
 item-channels None before list others all go h = absurd cc
 item-channels (Some ends) before list others all go h =
-    at (is_channel ends.first && is_channel ends.last) (nat_lt 32 (length (before ++ run ends.first ends.last))) refl refl h
+    at (is_channel ends.first && is_channel ends.last) (nat_lt max_listed (length (before ++ run ends.first ends.last))) refl refl h
   where
     at : (legal full : Bool) → (is_channel ends.first && is_channel ends.last) ≡ legal
-        → nat_lt 32 (length (before ++ run ends.first ends.last)) ≡ full
+        → nat_lt max_listed (length (before ++ run ends.first ends.last)) ≡ full
         → cond (not legal) (Err DataOutOfRange) (cond full (Err TooMuchData) (others (before ++ run ends.first ends.last))) ≡ Ok list
         → is_channel_list list ≡ true
     at false full is_legal is_full e = absurd cc
@@ -77,9 +77,9 @@ item-channels (Some ends) before list others all go h =
         let size = length-append before (run ends.first ends.last) in
         go (before ++ run ends.first ends.last)
         (list_all-append is_channel before (run ends.first ends.last) ∙ rw (all, channels) refl)
-        (ltb-false 32 (length (before ++ run ends.first ends.last)) is_full) (omega (arith, size, run_size)) e
+        (ltb-false max_listed (length (before ++ run ends.first ends.last)) is_full) (omega (arith, size, run_size)) e
 
-listed-channels : (items : List (List ℕ)) (before list : List ℕ) → list_all is_channel before ≡ true → length before ≤ 32
+listed-channels : (items : List (List ℕ)) (before list : List ℕ) → list_all is_channel before ≡ true → length before ≤ max_listed
     → 1 ≤ length before + length items → listed before items ≡ Ok list → is_channel_list list ≡ true
 listed-channels [] before list all most some h = are-listed before list all most (omega (arith, some)) cc
 listed-channels (item ∷ items) before list all most some h =

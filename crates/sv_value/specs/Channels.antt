@@ -48,13 +48,17 @@ span item = span_of (cut_at 58 item)
 abbrev pub run : ℕ → ℕ → List ℕ
 run first last = if nat_le first last then range_with_len first (last - first + 1) else reverse (range_with_len last (first - last + 1))
 
--- the channels of an item behind others, and those of the items behind it; or what is wrong with it: an end that is no channel, then more
--- than 32 channels so far. An item that is no span was refused before.
+-- how many channels a list may have
+abbrev pub max_listed : ℕ
+max_listed = 32
+
+-- the channels of an item behind others, and those of the items behind it; or what is wrong with it: an end that is no channel, then too
+-- many channels so far. An item that is no span was refused before.
 abbrev pub next : Option Span → List ℕ → (List ℕ → Result (List ℕ) Code) → Result (List ℕ) Code
 next None before others = Err InvalidExpression
 next (Some ends) before others =
     if not (is_channel ends.first && is_channel ends.last) then Err DataOutOfRange
-    else if nat_lt 32 (length (before ++ run ends.first ends.last)) then Err TooMuchData
+    else if nat_lt max_listed (length (before ++ run ends.first ends.last)) then Err TooMuchData
     else others (before ++ run ends.first ends.last)
 
 -- the channels of all items behind others, or what is wrong with the first that is at fault

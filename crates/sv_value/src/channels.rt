@@ -5,7 +5,7 @@ ghost use Rattle.std.specs.Char.{is_ascii_digit};
 ghost use Rattle.std.specs.List.{list_all};
 ghost use Rattle.sv_errors.specs.declared.code.Code.{Code as ErrorCode};
 ghost use Rattle.sv_text.specs.Cut.{cut_at};
-ghost use Rattle.sv_value.specs.Channels.{inner as inner_of, listed as listed_behind, next, read_list, run, span as ends, span_of};
+ghost use Rattle.sv_value.specs.Channels.{inner as inner_of, listed as listed_behind, max_listed, next, read_list, run, span as ends, span_of};
 ghost use Rattle.sv_value.specs.Plain.{ends_up_to, number_up_to};
 
 use crate::digits::value_after;
@@ -14,7 +14,7 @@ use sv_errors::{Code, is_channel};
 use sv_text::{first_part, trim};
 
 /// The most channels of a list.
-const MOST: usize = 32;
+pub(crate) const MAX_LISTED: usize = 32;
 
 /// The two ends of an item, counted to a bound that is past every channel.
 #[derive(Clone, Copy, Debug)]
@@ -24,7 +24,7 @@ struct Span {
 }
 
 /// The channels of a list, or what is wrong with it.
-pub(crate) fn channels_of(text: &[u8]) -> Result<ArrayVec<u8, 32>, Code>
+pub(crate) fn channels_of(text: &[u8]) -> Result<ArrayVec<u8, MAX_LISTED>, Code>
     ensures { MatchResult result (λ list. read_list text.now ≡ Ok list.items)
         (λ code. read_list text.now ≡ Err code) }
 {
@@ -60,7 +60,7 @@ fn are_spans(items: &[u8]) -> bool
 }
 
 /// The channels of all items, or what is wrong with the first that is at fault.
-fn listed(items: &[u8]) -> Result<ArrayVec<u8, 32>, Code>
+fn listed(items: &[u8]) -> Result<ArrayVec<u8, MAX_LISTED>, Code>
     ensures { MatchResult result (λ list. listed_behind [] (cut_at 44 items.now) ≡ Ok list.items)
         (λ code. listed_behind [] (cut_at 44 items.now) ≡ Err code) }
 {
@@ -75,7 +75,7 @@ fn listed(items: &[u8]) -> Result<ArrayVec<u8, 32>, Code>
 }
 
 /// Adds the channels of an item, or tells what is wrong with it.
-fn add(list: &mut ArrayVec<u8, 32>, item: &[u8]) -> Result<(), Code>
+fn add(list: &mut ArrayVec<u8, MAX_LISTED>, item: &[u8]) -> Result<(), Code>
     ensures { MatchResult result
         (λ done. (others : List ℕ → Result (List ℕ) ErrorCode)
         → next (ends item.now) list.old.items others ≡ others list.new.items)
@@ -89,7 +89,7 @@ fn add(list: &mut ArrayVec<u8, 32>, item: &[u8]) -> Result<(), Code>
         return Err(Code::DataOutOfRange);
     }
     let (first, last) = (span.first as u8, span.last as u8);
-    if list.len() + usize::from(first.abs_diff(last)) >= MOST {
+    if list.len() + usize::from(first.abs_diff(last)) >= MAX_LISTED {
         return Err(Code::TooMuchData);
     }
     push_run(list, first, last);
@@ -97,8 +97,8 @@ fn add(list: &mut ArrayVec<u8, 32>, item: &[u8]) -> Result<(), Code>
 }
 
 /// Pushes the channels from one end to the other, upwards or downwards.
-fn push_run(list: &mut ArrayVec<u8, 32>, first: u8, last: u8)
-    requires { length list.old.items + (first - last) + (last - first) < 32 }
+fn push_run(list: &mut ArrayVec<u8, MAX_LISTED>, first: u8, last: u8)
+    requires { length list.old.items + (first - last) + (last - first) < max_listed }
     ensures { list.new.items ≡ list.old.items ++ run first last }
 {
     let mut channel = first;

@@ -10,7 +10,7 @@ ghost use Rattle.sv_errors.specs.declared.code.Code.TheVariants.{SuffixNotAllowe
 
 use crate::amount::Amount;
 use crate::based::based;
-use crate::channels::channels_of;
+use crate::channels::{MAX_LISTED, channels_of};
 use crate::choice::{keyword_of, switch_of};
 use crate::decimal::Decimal;
 use crate::suffix;
@@ -105,7 +105,7 @@ pub fn keyword(token: &Token<'_>) -> Result<Source, Code>
 /// [`Code::DataOutOfRange`] where an end of an item is no channel and [`Code::TooMuchData`] where
 /// there are more than 32 channels so far; [`Code::SyntaxError`] or [`Code::DataTypeError`] for
 /// other data.
-pub fn channel_list(token: &Token<'_>) -> Result<ArrayVec<u8, 32>, Code>
+pub fn channel_list(token: &Token<'_>) -> Result<ArrayVec<u8, MAX_LISTED>, Code>
     ensures value { MatchResult result (λ list. read_channels token.now.kind token.now.text.now
         ≡ Ok list.items) (λ code. read_channels token.now.kind token.now.text.now ≡ Err code) }
     ensures range { IfOk result (λ list. is_channel_list list.items ≡ true) }
