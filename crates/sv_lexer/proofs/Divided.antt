@@ -2,11 +2,12 @@
 use Rattle.std.proofs.Common.{◌≡◌, ℕ, suc, ◌+◌, Bool, true, false, not, ◌&&◌, cond, List, [], ◌∷◌, ◌++◌, length, take, drop, refl, sym, ap, ◌∙◌, subst, append-nil, arith}
 use Rattle.std.specs.List.{list_all}
 use Rattle.std.proofs.lemmas.Bool.{and_parts, not-true}
-use Rattle.std.proofs.lemmas.List.{length-take-le, take-append-drop}
+use Rattle.std.proofs.lemmas.List.{length-append, length-take-le, take-append-drop}
 use Rattle.sv_text.specs.Front.{is_empty}
 use Rattle.sv_text.specs.White.{is_white, trim_start, trim_end, trim}
 use Rattle.sv_text.proofs.Places.{place_within}
 use Rattle.sv_lexer.specs.Unit.{white_size, header_size, header, header_place, rest, rest_place}
+use Rattle.sv_lexer.specs.Partial.{header_end}
 use Rattle.sv_lexer.proofs.Standing.{start_dropped}
 use Rattle.sv_lexer.proofs.Ends.{run, behind_run, header_is, behind_is}
 
@@ -144,6 +145,8 @@ pub record IsPlaced (unit head : List ℕ) (front : ℕ) (body : List ℕ) : Typ
   pub begins : header_place unit ≡ front
   pub follows : rest_place unit ≡ front + length head + white_size (trim_end body)
   pub rests : rest unit ≡ trim_start (trim_end body)
+  pub closes : header_end unit ≡ front + length head
+  pub size : length unit ≡ front + length head + length body
 
 gap_all : (body : List ℕ) → run body ≡ [] → behind_run body ≡ body
 gap_all [] e = refl
@@ -181,4 +184,19 @@ placed unit lead head body h = subst (λ (l : List ℕ). IsPlaced l head (length
         ∙ ap trim_end (behind_over head body h.dark ∙ gap_all body h.gap) in
         let sum : rest_place unit ≡ white_size unit + header_size unit + white_size (drop (header_size unit) (trim unit)) = refl in
         let last : white_size (drop (header_size unit) (trim unit)) ≡ white_size (trim_end body) = ap white_size behind in
-        record { heads = is; begins = front; follows = omega (arith, sum, front, long, last); rests = ap trim_start behind }
+        let outer = length-append lead (head ++ body) in
+        let inner = length-append head body in
+        let heads : length (header unit) ≡ length head = ap length is in
+        record {
+          heads = is;
+          begins = front;
+          follows = omega (arith, sum, front, long, last);
+          rests = ap trim_start behind;
+          closes = omega (arith, front, heads);
+          size = omega (arith, outer, inner);
+        }
+
+-- what is so of a unit for all its parts
+pub by_parts : {C : Type 0} (unit : List ℕ)
+    → ((lead head body : List ℕ) → IsDivided unit lead head body → IsPlaced unit head (length lead) body → C) → C
+by_parts unit so = let d = divided unit in so _ _ _ d (placed unit _ _ _ d)

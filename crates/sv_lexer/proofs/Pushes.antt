@@ -2,7 +2,7 @@
 use Rattle.std.proofs.Common.{◌≡◌, ℕ, ◌+◌, ◌<◌, Bool, true, false, not, ◌&&◌, cond, List, [], ◌∷◌, ◌++◌, length, refl, sym, ap, ◌∙◌, append_assoc, append-nil, arith}
 use Rattle.std.specs.List.{list_all}
 use Rattle.std.proofs.lemmas.Bool.{and_parts}
-use Rattle.std.proofs.lemmas.List.{length-append, length_push, nil_from_length}
+use Rattle.std.proofs.lemmas.List.{length_push, nil_from_length}
 use Rattle.std.proofs.lemmas.List.Folds.{list_all-append}
 use Rattle.sv_text.specs.Front.{is_empty}
 use Rattle.sv_text.specs.White.{is_white, trim_start, trim_end}
@@ -11,7 +11,7 @@ use Rattle.sv_lexer.specs.Partial.{header_end, rest_end}
 use Rattle.sv_lexer.proofs.Standing.{white_rest, stands_within}
 use Rattle.sv_lexer.proofs.Tokens.{rest_stands}
 use Rattle.sv_lexer.proofs.Ends.{run, end_cons, end_white, end_over, end_push, white_kept}
-use Rattle.sv_lexer.proofs.Divided.{is_dark, IsDivided, IsPlaced, divided, placed, header_run, white_over, white_same}
+use Rattle.sv_lexer.proofs.Divided.{is_dark, IsDivided, IsPlaced, placed, by_parts, header_run, white_over, white_same}
 
 -- a test of all bytes, with one more
 pub all_push : (test : ℕ → Bool) (bytes : List ℕ) (b : ℕ) → list_all test (bytes ++ b ∷ []) ≡ (list_all test bytes && test b)
@@ -71,74 +71,40 @@ some_dark (b ∷ xs) e = refl
 unlike : (head : List ℕ) → is_empty head ≡ false → (body : List ℕ) → is_empty head ≡ true → body ≡ []
 unlike head some body e = let f : false ≡ true = sym some ∙ e in absurd cc
 
-long : (unit lead head body : List ℕ) → IsDivided unit lead head body → length unit ≡ length lead + length head + length body
-long unit lead head body d =
-    let outer = length-append lead (head ++ body) in
-    let inner = length-append head body in
-    let all : length unit ≡ length (lead ++ (head ++ body)) = ap length d.whole in
-    omega (arith, all, outer, inner)
-
 -- where a unit ends with its header, nothing stands behind that
-none_behind : (unit lead head body : List ℕ) → IsDivided unit lead head body → header_end unit ≡ length unit → body ≡ []
-none_behind unit lead head body d ends =
-    let p = placed unit lead head body d in
-    let size = long unit lead head body d in
-    let heads : length (header unit) ≡ length head = ap length p.heads in
-    nil_from_length body (omega (arith, size, heads, p.begins, ends))
-
-some_behind : (unit lead head body : List ℕ) → IsDivided unit lead head body → header_end unit < length unit → is_empty body ≡ false
-some_behind unit lead head body d ends =
-    let p = placed unit lead head body d in
-    let size = long unit lead head body d in
-    let heads : length (header unit) ≡ length head = ap length p.heads in
-    some_length body (omega (arith, size, heads, p.begins, ends))
+none_behind : (unit head : List ℕ) (front : ℕ) (body : List ℕ) → IsPlaced unit head front body → header_end unit ≡ length unit → body ≡ []
+none_behind unit head front body p ends = nil_from_length body (omega (arith, p.closes, p.size, ends))
 
 pub rest_none : (unit : List ℕ) → header_end unit ≡ length unit → rest unit ≡ []
-rest_none unit ends =
-    let d = divided unit in (placed unit _ _ _ d).rests ∙ ap (λ (l : List ℕ). trim_start (trim_end l)) (none_behind unit _ _ _ d ends)
+rest_none unit ends = by_parts unit
+    (λ lead head body d p. p.rests ∙ ap (λ (l : List ℕ). trim_start (trim_end l)) (none_behind unit head (length lead) body p ends))
 
 -- without program data, these would begin where the header ends
 pub rest_there : (unit : List ℕ) → rest unit ≡ [] → rest_place unit ≡ header_end unit
-rest_there unit e = at _ _ _ (divided unit)
-  where
-    at : (lead head body : List ℕ) → IsDivided unit lead head body → rest_place unit ≡ header_end unit
-    at lead head body d =
-        let p = placed unit lead head body d in
-        let white = end_white body (sym (rest_blank body) ∙ ap is_empty (sym p.rests ∙ e)) in
-        let none : white_size (trim_end body) ≡ 0 = ap white_size white in
-        let heads : length (header unit) ≡ length head = ap length p.heads in
-        omega (arith, p.follows, p.begins, heads, none)
+rest_there unit e = by_parts unit
+    (λ lead head body d p. let none : white_size (trim_end body) ≡ 0 =
+    ap white_size (end_white body (sym (rest_blank body) ∙ ap is_empty (sym p.rests ∙ e))) in
+    omega (arith, p.follows, p.closes, none))
 
 -- with program data, there is more than the header
 pub rest_within : (unit : List ℕ) → is_empty (rest unit) ≡ false → header_end unit < length unit
-rest_within unit e = at _ _ _ (divided unit)
-  where
-    at : (lead head body : List ℕ) → IsDivided unit lead head body → header_end unit < length unit
-    at lead head body d =
-        let p = placed unit lead head body d in
-        let size = long unit lead head body d in
-        let heads : length (header unit) ≡ length head = ap length p.heads in
-        let dark : list_all is_white body ≡ false = sym (rest_blank body) ∙ ap is_empty (sym p.rests) ∙ e in
-        let some = length_some body (some_dark body dark) in
-        omega (arith, size, heads, p.begins, some)
+rest_within unit e = by_parts unit
+    (λ lead head body d p. let some = length_some body (some_dark body (sym (rest_blank body) ∙ ap is_empty (sym p.rests) ∙ e)) in
+    omega (arith, p.size, p.closes, some))
 
 -- ---- the header
 
 -- the header where bytes more come behind it
 header_over : (unit more : List ℕ) → header_end unit ≡ length unit → (is_empty (header unit) ≡ true → trim_start more ≡ more)
     → header (unit ++ more) ≡ header unit ++ run more
-header_over unit more ends start = at _ _ _ (divided unit)
-  where
-    at : (lead head body : List ℕ) → IsDivided unit lead head body → header (unit ++ more) ≡ header unit ++ run more
-    at lead head body d =
-        let p = placed unit lead head body d in
-        let whole : unit ++ more ≡ lead ++ (head ++ more) =
-        ap (λ (l : List ℕ). l ++ more)
-        (d.whole ∙ ap (λ (l : List ℕ). lead ++ (head ++ l)) (none_behind unit lead head body d ends)
-        ∙ ap (λ (l : List ℕ). lead ++ l) (append-nil head))
-        ∙ append_assoc lead head more in
-        ap header whole ∙ header_run lead head more d.white d.dark (λ e. start (ap is_empty p.heads ∙ e))
-        ∙ ap (λ (l : List ℕ). l ++ run more) (sym p.heads)
+header_over unit more ends start = by_parts unit
+    (λ lead head body d p. let whole : unit ++ more ≡ lead ++ (head ++ more) =
+    ap (λ (l : List ℕ). l ++ more)
+    (d.whole ∙ ap (λ (l : List ℕ). lead ++ (head ++ l)) (none_behind unit head (length lead) body p ends)
+    ∙ ap (λ (l : List ℕ). lead ++ l) (append-nil head))
+    ∙ append_assoc lead head more in
+    ap header whole ∙ header_run lead head more d.white d.dark (λ e. start (ap is_empty p.heads ∙ e))
+    ∙ ap (λ (l : List ℕ). l ++ run more) (sym p.heads))
 
 pub header_on : (unit : List ℕ) (b : ℕ) (more : List ℕ) → header_end unit ≡ length unit → is_white b ≡ false
     → header ((unit ++ b ∷ []) ++ more) ≡ header unit ++ b ∷ run more
@@ -161,31 +127,22 @@ pub record IsLonger (unit : List ℕ) (b : ℕ) : Type 0 where
   pub ends : header_end (unit ++ b ∷ []) ≡ length (unit ++ b ∷ [])
 
 pub longer : (unit : List ℕ) (b : ℕ) → header_end unit ≡ length unit → is_white b ≡ false → IsLonger unit b
-longer unit b ends w = at _ _ _ (divided unit)
-  where
-    at : (lead head body : List ℕ) → IsDivided unit lead head body → IsLonger unit b
-    at lead head body d =
-        let p = placed unit lead head body d in
-        let none = none_behind unit lead head body d ends in
-        let new : IsDivided (unit ++ b ∷ []) lead (head ++ b ∷ []) [] = record {
-          whole = ap (λ (l : List ℕ). l ++ b ∷ [])
-              (d.whole ∙ ap (λ (l : List ℕ). lead ++ (head ++ l)) none ∙ ap (λ (l : List ℕ). lead ++ l) (append-nil head))
-              ∙ append_assoc lead head (b ∷ []) ∙ ap (λ (l : List ℕ). lead ++ l) (sym (append-nil (head ++ b ∷ [])));
-          white = d.white;
-          dark = all_push is_dark head b ∙ ap (λ (t : Bool). t && is_dark b) d.dark ∙ ap not w;
-          gap = refl;
-          none = λ e. refl;
-        } in
-        let q = placed (unit ++ b ∷ []) lead (head ++ b ∷ []) [] new in
-        let size = long unit lead head body d in
-        let nil : length body ≡ 0 = ap length none in
-        let heads : length (header (unit ++ b ∷ [])) ≡ length head + 1 = ap length q.heads ∙ length_push head b in
-        let all = length_push unit b in
-        record {
-          heads = q.heads ∙ ap (λ (l : List ℕ). l ++ b ∷ []) (sym p.heads);
-          begins = q.begins ∙ sym p.begins;
-          ends = omega (arith, size, nil, heads, all, q.begins);
-        }
+longer unit b ends w = by_parts unit
+    (λ lead head body d p. let none = none_behind unit head (length lead) body p ends in
+    let q = placed (unit ++ b ∷ []) lead (head ++ b ∷ []) [] (record {
+      whole = ap (λ (l : List ℕ). l ++ b ∷ [])
+          (d.whole ∙ ap (λ (l : List ℕ). lead ++ (head ++ l)) none ∙ ap (λ (l : List ℕ). lead ++ l) (append-nil head))
+          ∙ append_assoc lead head (b ∷ []) ∙ ap (λ (l : List ℕ). lead ++ l) (sym (append-nil (head ++ b ∷ [])));
+      white = d.white;
+      dark = all_push is_dark head b ∙ ap (λ (t : Bool). t && is_dark b) d.dark ∙ ap not w;
+      gap = refl;
+      none = λ e. refl;
+    }) in
+    record {
+      heads = q.heads ∙ ap (λ (l : List ℕ). l ++ b ∷ []) (sym p.heads);
+      begins = q.begins ∙ sym p.begins;
+      ends = omega (arith, q.closes, q.size);
+    })
 
 -- White space more, where there is nothing else.
 pub record IsWider (unit : List ℕ) (b : ℕ) : Type 0 where
@@ -193,24 +150,19 @@ pub record IsWider (unit : List ℕ) (b : ℕ) : Type 0 where
   pub begins : header_place (unit ++ b ∷ []) ≡ length (unit ++ b ∷ [])
 
 pub wider : (unit : List ℕ) (b : ℕ) → header unit ≡ [] → is_white b ≡ true → IsWider unit b
-wider unit b e w = at _ _ _ (divided unit)
-  where
-    at : (lead head body : List ℕ) → IsDivided unit lead head body → IsWider unit b
-    at lead head body d =
-        let p = placed unit lead head body d in
-        let empty : head ≡ [] = sym p.heads ∙ e in
-        let all : unit ≡ lead =
-        d.whole ∙ ap (λ (l : List ℕ). lead ++ (l ++ body)) empty ∙ ap (λ (l : List ℕ). lead ++ l) (d.none (ap is_empty empty))
-        ∙ append-nil lead in
-        let new : IsDivided (unit ++ b ∷ []) (lead ++ b ∷ []) [] [] = record {
-          whole = ap (λ (l : List ℕ). l ++ b ∷ []) all ∙ sym (append-nil (lead ++ b ∷ []));
-          white = all_push is_white lead b ∙ ap (λ (t : Bool). t && is_white b) d.white ∙ w;
-          dark = refl;
-          gap = refl;
-          none = λ e. refl;
-        } in
-        let q = placed (unit ++ b ∷ []) (lead ++ b ∷ []) [] [] new in
-        record { heads = q.heads; begins = q.begins ∙ ap (λ (l : List ℕ). length (l ++ b ∷ [])) (sym all) }
+wider unit b e w = by_parts unit
+    (λ lead head body d p. let empty : head ≡ [] = sym p.heads ∙ e in
+    let all : unit ≡ lead =
+    d.whole ∙ ap (λ (l : List ℕ). lead ++ (l ++ body)) empty ∙ ap (λ (l : List ℕ). lead ++ l) (d.none (ap is_empty empty))
+    ∙ append-nil lead in
+    let q = placed (unit ++ b ∷ []) (lead ++ b ∷ []) [] [] (record {
+      whole = ap (λ (l : List ℕ). l ++ b ∷ []) all ∙ sym (append-nil (lead ++ b ∷ []));
+      white = all_push is_white lead b ∙ ap (λ (t : Bool). t && is_white b) d.white ∙ w;
+      dark = refl;
+      gap = refl;
+      none = λ e. refl;
+    }) in
+    record { heads = q.heads; begins = q.begins ∙ ap (λ (l : List ℕ). length (l ++ b ∷ [])) (sym all) })
 
 -- ---- behind the header
 
@@ -245,24 +197,18 @@ pub record IsGap (unit new : List ℕ) : Type 0 where
   pub ends : header_end new < length new
 
 pub gap_on : (unit : List ℕ) (b : ℕ) → is_empty (header unit) ≡ false → rest unit ≡ [] → is_white b ≡ true → IsGap unit (unit ++ b ∷ [])
-gap_on unit b some e w = at _ _ _ (divided unit)
-  where
-    at : (lead head body : List ℕ) → IsDivided unit lead head body → IsGap unit (unit ++ b ∷ [])
-    at lead head body d =
-        let p = placed unit lead head body d in
-        let blank : list_all is_white body ≡ true = sym (rest_blank body) ∙ ap is_empty (sym p.rests ∙ e) in
-        let white : list_all is_white (body ++ b ∷ []) ≡ true =
-        all_push is_white body b ∙ ap (λ (t : Bool). t && is_white b) blank ∙ w in
-        let new = more_behind unit lead head body b d (ap is_empty (sym p.heads) ∙ some) (white_run (body ++ b ∷ []) white) in
-        let q = placed (unit ++ b ∷ []) lead head (body ++ b ∷ []) new in
-        let size = long unit lead head body d in
-        let heads : length (header (unit ++ b ∷ [])) ≡ length head = ap length q.heads in
-        let all = length_push unit b in
-        record {
-          same = same_of unit (unit ++ b ∷ []) head (length lead) body (body ++ b ∷ []) p q;
-          rests = q.rests ∙ ap trim_start (end_white (body ++ b ∷ []) white);
-          ends = omega (arith, size, heads, all, q.begins);
-        }
+gap_on unit b some e w = by_parts unit
+    (λ lead head body d p. let blank : list_all is_white body ≡ true = sym (rest_blank body) ∙ ap is_empty (sym p.rests ∙ e) in
+    let white : list_all is_white (body ++ b ∷ []) ≡ true =
+    all_push is_white body b ∙ ap (λ (t : Bool). t && is_white b) blank ∙ w in
+    let new = more_behind unit lead head body b d (ap is_empty (sym p.heads) ∙ some) (white_run (body ++ b ∷ []) white) in
+    let q = placed (unit ++ b ∷ []) lead head (body ++ b ∷ []) new in
+    let more = length_push body b in
+    record {
+      same = same_of unit (unit ++ b ∷ []) head (length lead) body (body ++ b ∷ []) p q;
+      rests = q.rests ∙ ap trim_start (end_white (body ++ b ∷ []) white);
+      ends = omega (arith, q.closes, q.size, more);
+    })
 
 -- Program data: where there were none, they begin here.
 pub record IsData (unit new : List ℕ) : Type 0 where
@@ -273,48 +219,41 @@ pub record IsData (unit new : List ℕ) : Type 0 where
 
 pub data_on : (unit : List ℕ) (b : ℕ) → is_empty (header unit) ≡ false → header_end unit < length unit → is_white b ≡ false
     → IsData unit (unit ++ b ∷ [])
-data_on unit b some lt w = at _ _ _ (divided unit)
+data_on unit b some lt w = by_parts unit (λ lead head body d p. at lead head body d p)
   where
-    at : (lead head body : List ℕ) → IsDivided unit lead head body → IsData unit (unit ++ b ∷ [])
-    at lead head body d =
-        let p = placed unit lead head body d in
-        let full = some_behind unit lead head body d lt in
+    dark : (t : Bool) → (t && is_white b) ≡ false
+    dark true = w
+    dark false = refl
+
+    starts : (t : Bool) (head : List ℕ) (front : ℕ) (body : List ℕ) → list_all is_white body ≡ t → IsPlaced unit head front body
+        → front + length head + white_size (body ++ b ∷ []) ≡ cond t (length unit) (rest_place unit)
+    starts true head front body e p =
+        let none : white_size (b ∷ []) ≡ 0 = ap (λ (t : Bool). cond t (1 + 0) 0) w in
+        let over : white_size (body ++ b ∷ []) ≡ length body + white_size (b ∷ []) = white_over body (b ∷ []) e in
+        omega (arith, none, over, p.size)
+    starts false head front body e p =
+        let same : white_size (body ++ b ∷ []) ≡ white_size body = white_same body (b ∷ []) e in
+        let before : white_size (trim_end body) ≡ white_size body = white_kept body e in
+        omega (arith, same, before, p.follows)
+
+    at : (lead head body : List ℕ) → IsDivided unit lead head body → IsPlaced unit head (length lead) body → IsData unit (unit ++ b ∷ [])
+    at lead head body d p =
+        let full = some_length body (omega (arith, p.size, p.closes, lt)) in
         let new = more_behind unit lead head body b d (ap is_empty (sym p.heads) ∙ some) (gap_more body (b ∷ []) full d.gap) in
         let q = placed (unit ++ b ∷ []) lead head (body ++ b ∷ []) new in
         let kept : trim_end (body ++ b ∷ []) ≡ body ++ b ∷ [] = end_push body b w in
         let follows : rest_place (unit ++ b ∷ []) ≡ length lead + length head + white_size (body ++ b ∷ []) =
         q.follows ∙ ap (λ (l : List ℕ). length lead + length head + white_size l) kept in
         let rests : rest (unit ++ b ∷ []) ≡ trim_start (body ++ b ∷ []) = q.rests ∙ ap trim_start kept in
-        let size = long unit lead head body d in
         let sum = white_rest (body ++ b ∷ []) in
         let tail : length (rest (unit ++ b ∷ [])) ≡ length (trim_start (body ++ b ∷ [])) = ap length rests in
-        let more = length_push body b in
-        let all = length_push unit b in
         record {
           same = same_of unit (unit ++ b ∷ []) head (length lead) body (body ++ b ∷ []) p q;
           some = ap is_empty rests ∙ start_blank (body ++ b ∷ []) ∙ all_push is_white body b ∙ dark (list_all is_white body);
-          begins = follows ∙ starts (list_all is_white body) refl p size
+          begins = follows ∙ starts (list_all is_white body) head (length lead) body refl p
               ∙ ap (λ (t : Bool). cond t (length unit) (rest_place unit)) (sym (ap is_empty p.rests ∙ rest_blank body));
-          ends = omega (arith, follows, size, sum, tail, more, all);
+          ends = omega (arith, follows, sum, tail, q.size);
         }
-      where
-        dark : (t : Bool) → (t && is_white b) ≡ false
-        dark true = w
-        dark false = refl
-
-        starts : (t : Bool) → list_all is_white body ≡ t → IsPlaced unit head (length lead) body
-            → length unit ≡ length lead + length head + length body
-            → length lead + length head + white_size (body ++ b ∷ []) ≡ cond (list_all is_white body) (length unit) (rest_place unit)
-        starts true e p size =
-            let none : white_size (b ∷ []) ≡ 0 = ap (λ (t : Bool). cond t (1 + 0) 0) w in
-            let over : white_size (body ++ b ∷ []) ≡ length body + white_size (b ∷ []) = white_over body (b ∷ []) e in
-            let here : length lead + length head + white_size (body ++ b ∷ []) ≡ length unit = omega (arith, none, over, size) in
-            here ∙ ap (λ (t : Bool). cond t (length unit) (rest_place unit)) (sym e)
-        starts false e p size =
-            let same : white_size (body ++ b ∷ []) ≡ white_size body = white_same body (b ∷ []) e in
-            let before : white_size (trim_end body) ≡ white_size body = white_kept body e in
-            let here : length lead + length head + white_size (body ++ b ∷ []) ≡ rest_place unit = omega (arith, same, before, p.follows) in
-            here ∙ ap (λ (t : Bool). cond t (length unit) (rest_place unit)) (sym e)
 
 -- White space behind program data.
 pub record IsSpaced (unit new : List ℕ) : Type 0 where
@@ -325,25 +264,21 @@ pub record IsSpaced (unit new : List ℕ) : Type 0 where
 
 pub space_on : (unit : List ℕ) (b : ℕ) → is_empty (header unit) ≡ false → is_empty (rest unit) ≡ false → is_white b ≡ true
     → IsSpaced unit (unit ++ b ∷ [])
-space_on unit b some e w = at _ _ _ (divided unit)
-  where
-    at : (lead head body : List ℕ) → IsDivided unit lead head body → IsSpaced unit (unit ++ b ∷ [])
-    at lead head body d =
-        let p = placed unit lead head body d in
-        let dark : list_all is_white body ≡ false = sym (rest_blank body) ∙ ap is_empty (sym p.rests) ∙ e in
-        let gap = gap_more body (b ∷ []) (some_dark body dark) d.gap in
-        let new = more_behind unit lead head body b d (ap is_empty (sym p.heads) ∙ some) gap in
-        let q = placed (unit ++ b ∷ []) lead head (body ++ b ∷ []) new in
-        let kept : trim_end (body ++ b ∷ []) ≡ trim_end body = end_over body (b ∷ []) (ap (λ (t : Bool). t && true) w) in
-        let rests : rest (unit ++ b ∷ []) ≡ rest unit = q.rests ∙ ap trim_start kept ∙ sym p.rests in
-        let begins : rest_place (unit ++ b ∷ []) ≡ rest_place unit =
-        q.follows ∙ ap (λ (l : List ℕ). length lead + length head + white_size l) kept ∙ sym p.follows in
-        let within = stands_within unit (rest unit) (rest_place unit) (rest_stands unit) in
-        let tail : length (rest (unit ++ b ∷ [])) ≡ length (rest unit) = ap length rests in
-        let all = length_push unit b in
-        record {
-          same = same_of unit (unit ++ b ∷ []) head (length lead) body (body ++ b ∷ []) p q;
-          rests = rests;
-          begins = begins;
-          ends = omega (arith, within, begins, tail, all);
-        }
+space_on unit b some e w = by_parts unit
+    (λ lead head body d p. let dark : list_all is_white body ≡ false = sym (rest_blank body) ∙ ap is_empty (sym p.rests) ∙ e in
+    let gap = gap_more body (b ∷ []) (some_dark body dark) d.gap in
+    let new = more_behind unit lead head body b d (ap is_empty (sym p.heads) ∙ some) gap in
+    let q = placed (unit ++ b ∷ []) lead head (body ++ b ∷ []) new in
+    let kept : trim_end (body ++ b ∷ []) ≡ trim_end body = end_over body (b ∷ []) (ap (λ (t : Bool). t && true) w) in
+    let rests : rest (unit ++ b ∷ []) ≡ rest unit = q.rests ∙ ap trim_start kept ∙ sym p.rests in
+    let begins : rest_place (unit ++ b ∷ []) ≡ rest_place unit =
+    q.follows ∙ ap (λ (l : List ℕ). length lead + length head + white_size l) kept ∙ sym p.follows in
+    let within = stands_within unit (rest unit) (rest_place unit) (rest_stands unit) in
+    let tail : length (rest (unit ++ b ∷ [])) ≡ length (rest unit) = ap length rests in
+    let all = length_push unit b in
+    record {
+      same = same_of unit (unit ++ b ∷ []) head (length lead) body (body ++ b ∷ []) p q;
+      rests = rests;
+      begins = begins;
+      ends = omega (arith, within, begins, tail, all);
+    })
