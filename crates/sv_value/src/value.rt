@@ -98,14 +98,15 @@ pub fn keyword(token: &Token<'_>) -> Result<Source, Code>
     }
 }
 
-/// A channel list, as `(@1,5:3)`: its channels in order, at most 32, each 1 to 32.
+/// A channel list, as `(@1,5:3)`: its channels in order, at most
+/// [`LONGEST_LIST`](sv_errors::LONGEST_LIST).
 ///
 /// # Errors
 /// [`Code::InvalidExpression`] where it isn't spelled so, then, from the left,
 /// [`Code::DataOutOfRange`] where an end of an item is no channel and [`Code::TooMuchData`] where
-/// there are more than 32 channels so far; [`Code::SyntaxError`] or [`Code::DataTypeError`] for
+/// there are more than that so far; [`Code::SyntaxError`] or [`Code::DataTypeError`] for
 /// other data.
-pub fn channel_list(token: &Token<'_>) -> Result<ArrayVec<u8, 32>, Code>
+pub fn channel_list(token: &Token<'_>) -> Result<ArrayVec<u8, LONGEST_LIST>, Code>
     ensures value { MatchResult result (λ list. read_channels token.now.kind token.now.text.now
         ≡ Ok list.items) (λ code. read_channels token.now.kind token.now.text.now ≡ Err code) }
     ensures range { IfOk result (λ list. is_channel_list list.items ≡ true) }

@@ -1,7 +1,8 @@
 use Rattle.sv_scan.proofs.Stands.{StandsFor-new}
+use Rattle.sv_errors.specs.Limits.{channel_count}
 use Rattle.sv_scan.proofs.scanner.Scanner.new.Goals as goal
 
 pub returns : goal.returns
 returns g c =
     let s = c.new.ensures in rw (c.in_ok-with_capacity.ensures.items)
-    (StandsFor-new 32 c.new.result s.list s.monitor s.range s.upper s.lower s.limits s.source s.count)
+    (StandsFor-new channel_count c.new.result s.list s.monitor s.range s.upper s.lower s.limits s.source s.count)
