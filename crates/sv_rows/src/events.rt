@@ -6,8 +6,6 @@
 //! | a line of a replay, other than `tick N` | this happens |
 //! | `took c0 44` | the peer takes so many bytes of a port |
 //! | `memory N` | from here on the Nth allocation is refused |
-//! | `memory ?` | whether memory was asked for since, up to that allocation |
-//! | `times N` | what stands behind it, up to the next such line, comes so many times |
 //! | `ask 0` | what is told of a connection |
 //! | `show c0` | the bytes that wait on a port |
 //!
@@ -22,7 +20,7 @@ use sv_replay::{Line, read_line};
 use sv_server::{Config, Did, Event, Port, Server};
 
 /// The longest line.
-const LONGEST: usize = 32_800;
+const LONGEST: usize = 16_384;
 
 /// The server of a row, whose memory the row may refuse.
 type Played<'a> = Server<&'a Rationed<Global>>;
@@ -110,22 +108,6 @@ fn show<W: Write + Drop>(
     writeln!(writer)
 }
 
-/// Refuses an allocation, or prints whether it was asked for.
-fn ration<W: Write + Drop>(
-    heap: &Rationed<Global>,
-    text: &str,
-    writer: &mut BufWriter<W>,
-) -> io::Result<()> {
-    match (text, heap.waits()) {
-        ("?", true) => writeln!(writer, "memory was not asked for"),
-        ("?", false) => writeln!(writer, "memory was asked for"),
-        (text, _) => {
-            heap.refuse(number(text)?);
-            Ok(())
-        }
-    }
-}
-
 /// Does what a line says.
 fn step<W: Write + Drop>(
     heap: &Rationed<Global>,
@@ -135,7 +117,10 @@ fn step<W: Write + Drop>(
 ) -> io::Result<()> {
     let (word, rest) = line.split_once(' ').unwrap_or((line, ""));
     match word {
-        "memory" => ration(heap, rest, writer),
+        "memory" => {
+            heap.refuse(number(rest)?);
+            Ok(())
+        }
         "ask" => ask(server, conn_of(rest)?, writer),
         "show" => show(server, rest, writer),
         "took" => {
@@ -146,33 +131,6 @@ fn step<W: Write + Drop>(
         }
         _ => replayed(server, line, writer),
     }
-}
-
-/// Does what lines say.
-fn steps<W: Write + Drop>(
-    heap: &Rationed<Global>,
-    server: &mut Played<'_>,
-    lines: &str,
-    writer: &mut BufWriter<W>,
-) -> io::Result<()> {
-    for line in lines.split('\n') {
-        step(heap, server, line, writer)?;
-    }
-    Ok(())
-}
-
-/// Does so often what lines say. The first line has the number.
-fn repeat<W: Write + Drop>(
-    heap: &Rationed<Global>,
-    server: &mut Played<'_>,
-    section: &str,
-    writer: &mut BufWriter<W>,
-) -> io::Result<()> {
-    let (count, lines) = section.split_once('\n').unwrap_or((section, ""));
-    for _ in 0..number(count)? {
-        steps(heap, server, lines, writer)?;
-    }
-    Ok(())
 }
 
 /// Plays the lines of a text on a new server.
@@ -195,10 +153,8 @@ pub(crate) fn play<W: Write + Drop>(
     };
     let heap = Rationed::new(alloc);
     let mut server = Server::new(&heap, config)?;
-    let (front, _) = lines.split_once("\ntimes ").unwrap_or((lines, ""));
-    steps(&heap, &mut server, front, writer)?;
-    for section in lines.split("\ntimes ").skip(1) {
-        repeat(&heap, &mut server, section, writer)?;
+    for line in lines.split('\n') {
+        step(&heap, &mut server, line, writer)?;
     }
     Ok(())
 }
