@@ -6,6 +6,8 @@
 //! | a line of a replay, other than `tick N` | this happens |
 //! | `took c0 44` | the peer takes so many bytes of a port |
 //! | `memory N` | from here on the Nth allocation is refused |
+//! | `memory ?` | whether memory was asked for since, up to that allocation |
+//! | `times N` | what stands behind it, up to the next such line, comes so many times |
 //! | `ask 0` | what is told of a connection |
 //! | `show c0` | the bytes that wait on a port |
 //!
@@ -20,7 +22,7 @@ use sv_replay::{Line, read_line};
 use sv_server::{Config, Did, Event, Port, Server};
 
 /// The longest line.
-const LONGEST: usize = 16_384;
+const LONGEST: usize = 32_800;
 
 /// The server of a row, whose memory the row may refuse.
 type Played<'a> = Server<&'a Rationed<Global>>;
@@ -108,6 +110,22 @@ fn show<W: Write + Drop>(
     writeln!(writer)
 }
 
+/// Refuses an allocation, or prints whether it was asked for.
+fn ration<W: Write + Drop>(
+    heap: &Rationed<Global>,
+    text: &str,
+    writer: &mut BufWriter<W>,
+) -> io::Result<()> {
+    match (text, heap.waits()) {
+        ("?", true) => writeln!(writer, "memory was not asked for"),
+        ("?", false) => writeln!(writer, "memory was asked for"),
+        (text, _) => {
+            heap.refuse(number(text)?);
+            Ok(())
+        }
+    }
+}
+
 /// Does what a line says.
 fn step<W: Write + Drop>(
     heap: &Rationed<Global>,
@@ -117,10 +135,7 @@ fn step<W: Write + Drop>(
 ) -> io::Result<()> {
     let (word, rest) = line.split_once(' ').unwrap_or((line, ""));
     match word {
-        "memory" => {
-            heap.refuse(number(rest)?);
-            Ok(())
-        }
+        "memory" => ration(heap, rest, writer),
         "ask" => ask(server, conn_of(rest)?, writer),
         "show" => show(server, rest, writer),
         "took" => {
@@ -131,6 +146,33 @@ fn step<W: Write + Drop>(
         }
         _ => replayed(server, line, writer),
     }
+}
+
+/// Does what lines say.
+fn steps<W: Write + Drop>(
+    heap: &Rationed<Global>,
+    server: &mut Played<'_>,
+    lines: &str,
+    writer: &mut BufWriter<W>,
+) -> io::Result<()> {
+    for line in lines.split('\n') {
+        step(heap, server, line, writer)?;
+    }
+    Ok(())
+}
+
+/// Does so often what lines say. The first line has the number.
+fn repeat<W: Write + Drop>(
+    heap: &Rationed<Global>,
+    server: &mut Played<'_>,
+    section: &str,
+    writer: &mut BufWriter<W>,
+) -> io::Result<()> {
+    let (count, lines) = section.split_once('\n').unwrap_or((section, ""));
+    for _ in 0..number(count)? {
+        steps(heap, server, lines, writer)?;
+    }
+    Ok(())
 }
 
 /// Plays the lines of a text on a new server.
@@ -153,8 +195,10 @@ pub(crate) fn play<W: Write + Drop>(
     };
     let heap = Rationed::new(alloc);
     let mut server = Server::new(&heap, config)?;
-    for line in lines.split('\n') {
-        step(&heap, &mut server, line, writer)?;
+    let (front, _) = lines.split_once("\ntimes ").unwrap_or((lines, ""));
+    steps(&heap, &mut server, front, writer)?;
+    for section in lines.split("\ntimes ").skip(1) {
+        repeat(&heap, &mut server, section, writer)?;
     }
     Ok(())
 }

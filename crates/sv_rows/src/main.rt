@@ -8,20 +8,30 @@
 //!
 //! - none: a script; printed is what its replay prints, and its fault where it has one;
 //! - `! singly`: the same, where bytes come and go singly, each behind an interruption;
+//! - `! reads`: as singly, where the first, second, .. read fails; printed is for each how often
+//!   the input was read, what the output took, and the fault; behind that the same without one;
 //! - `! input fails`: a script, behind which the input fails; printed is what the output took, and
 //!   the fault, on a line of its own;
 //! - `! output takes N`, `! output stops at N`: a script, whose output takes so many bytes and then
 //!   fails, or takes none without a word; printed is how many it took, and the same;
 //! - `! without TEXT`: a script; printed are the lines of its replay that don't end in this text;
+//! - `! closed`: a script of three connections; printed is what its replay prints with a close of
+//!   each of them behind each number of its lines;
 //! - `! memory`, `! memory, output takes N`: a script, of whose replay each allocation is refused
 //!   in turn; printed is each outcome that differs from the one in front of it, `again` behind one
 //!   that came more than once in a row, and behind `all` that with all memory;
+//! - `! growth`: a script at a server, of whose memory each allocation is refused in turn; what
+//!   finds none is asked for again; printed is each outcome as with `! memory`, where `no server`
+//!   says that a server had to be made again, `changed` that a refusal changed what the server
+//!   tells, and `twice` that the second try found no memory either;
+//! - `! growth, refused`: the same, but the caller refuses what finds no memory and sends it again;
 //! - `! events`: events and questions, a line each (`events.rt`); printed is what each tells;
 //! - `! scenario`: a scenario; printed are its entries, or its fault;
 //! - `! scenario, memory`: a scenario, of whose reading each allocation is refused in turn.
 #![tactic(auto)]
 
 mod events;
+mod growth;
 mod replays;
 mod scenarios;
 mod streams;
@@ -74,7 +84,11 @@ fn play<W: Write + Drop>(
     writer: &mut BufWriter<W>,
 ) -> io::Result<()> {
     match kind {
+        "closed" => replays::play_closed(alloc, text, writer),
         "events" => events::play(alloc, text, writer),
+        "reads" => replays::play_reads(alloc, text, writer),
+        "growth" => growth::play(alloc, false, text, writer),
+        "growth, refused" => growth::play(alloc, true, text, writer),
         "scenario" => scenarios::show(alloc, text, writer),
         "scenario, memory" => scenarios::show_each(alloc, text, writer),
         _ => match kind.strip_prefix("without ") {

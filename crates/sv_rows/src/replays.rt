@@ -8,6 +8,9 @@ use std::alloc::Global;
 use std::io::{self, BufWriter, Write};
 use sv_replay::{RunFault, run_replay};
 
+/// Above how many reads a row can't be played.
+const MOST_READS: u64 = 1_000;
+
 /// The manner that these words tell.
 fn manner_of(words: &str) -> io::Result<Manner> {
     let ample = Manner::ample();
@@ -72,10 +75,21 @@ fn outcome(
     manner: Manner,
     script: &str,
 ) -> io::Result<String> {
+    Ok(read_out(alloc, heap, manner, script)?.0)
+}
+
+/// The same, and how often the reader was read.
+fn read_out(
+    alloc: Global,
+    heap: &Rationed<Global>,
+    manner: Manner,
+    script: &str,
+) -> io::Result<(String, u64)> {
     let mut source = Source {
         rest: script.as_bytes(),
         manner,
         was_interrupted: false,
+        reads: 0,
     };
     let sink = Sink {
         taken: Vec::new(alloc),
@@ -85,7 +99,8 @@ fn outcome(
     let mut writer = BufWriter::new(alloc, sink)?;
     let answer = run_replay(heap, &mut source, &mut writer);
     let narrow = manner.room < usize::MAX;
-    told(alloc, writer.get_ref().taken.as_slice(), narrow, answer)
+    let told = told(alloc, writer.get_ref().taken.as_slice(), narrow, answer)?;
+    Ok((told, source.reads))
 }
 
 /// Prints what comes of a script in the manner that these words tell.
@@ -123,4 +138,71 @@ pub(crate) fn play_without<W: Write + Drop>(
         }
     }
     Ok(())
+}
+
+/// A script with a close of this connection behind so many lines.
+fn closed(alloc: Global, script: &str, conn: u8, place: usize) -> io::Result<String> {
+    let mut made = String::new(alloc);
+    for (number, line) in script.lines().enumerate() {
+        if number == place {
+            let close = format!(in alloc; "close c{conn}\n")?;
+            made.push_str(&close)?;
+        }
+        made.push_str(line)?;
+        made.push('\n')?;
+    }
+    Ok(made)
+}
+
+/// Prints what a script prints with a close of this connection behind each number of lines.
+fn play_closes<W: Write + Drop>(
+    alloc: Global,
+    script: &str,
+    conn: u8,
+    writer: &mut BufWriter<W>,
+) -> io::Result<()> {
+    for place in 0..script.lines().count() {
+        let heap = Rationed::new(alloc);
+        let made = closed(alloc, script, conn, place)?;
+        let outcome = outcome(alloc, &heap, Manner::ample(), &made)?;
+        write!(writer, "close c{conn} behind {place}\n{outcome}")?;
+    }
+    Ok(())
+}
+
+/// Prints what a script prints with a close of each of three connections behind each number of
+/// lines.
+pub(crate) fn play_closed<W: Write + Drop>(
+    alloc: Global,
+    script: &str,
+    writer: &mut BufWriter<W>,
+) -> io::Result<()> {
+    for conn in 0..3 {
+        play_closes(alloc, script, conn, writer)?;
+    }
+    Ok(())
+}
+
+/// Prints what a script prints where the first, second, .. read fails, behind how often its reader
+/// was read; at the end the same where none fails.
+pub(crate) fn play_reads<W: Write + Drop>(
+    alloc: Global,
+    script: &str,
+    writer: &mut BufWriter<W>,
+) -> io::Result<()> {
+    for fails_at in 1..MOST_READS {
+        let heap = Rationed::new(alloc);
+        let singly = true;
+        let manner = Manner {
+            singly,
+            fails_at,
+            ..Manner::ample()
+        };
+        let (outcome, reads) = read_out(alloc, &heap, manner, script)?;
+        write!(writer, "{reads} reads\n{outcome}")?;
+        if reads < fails_at {
+            return Ok(());
+        }
+    }
+    Err(bad())
 }

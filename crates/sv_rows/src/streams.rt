@@ -9,6 +9,8 @@ pub(crate) struct Manner {
     pub(crate) singly: bool,
     /// Whether the reader fails at its end.
     pub(crate) input_fails: bool,
+    /// The number of the read that fails; 0 where none does.
+    pub(crate) fails_at: u64,
     /// How many bytes the writer takes.
     pub(crate) room: usize,
     /// Whether the writer then takes none, and doesn't say why.
@@ -21,6 +23,7 @@ impl Manner {
         Manner {
             singly: false,
             input_fails: false,
+            fails_at: 0,
             room: usize::MAX,
             is_silent: false,
         }
@@ -38,10 +41,16 @@ pub(crate) struct Source<'a> {
     pub(crate) rest: &'a [u8],
     pub(crate) manner: Manner,
     pub(crate) was_interrupted: bool,
+    /// How often it was read.
+    pub(crate) reads: u64,
 }
 
 impl Read for Source<'_> {
     fn read(&mut self, buf: &mut [u8]) -> Result<usize> {
+        self.reads = self.reads.saturating_add(1);
+        if self.reads == self.manner.fails_at {
+            return Err(Error::from(ErrorKind::BrokenPipe));
+        }
         self.was_interrupted = self.manner.singly & !self.was_interrupted;
         if self.was_interrupted {
             return Err(Error::from(ErrorKind::Interrupted));
