@@ -20,7 +20,7 @@ def test_a_limit(meter):
 
 def test_an_error(meter):
     with pytest.raises(VoltmeterError) as caught:
-        meter.scan([1, 33])
+        meter.scan([1, 129])
     assert (caught.value.number, caught.value.text) == (-222, "Data out of range")
     assert meter.scan([1]) == [1.25]            # the queue is empty again
 

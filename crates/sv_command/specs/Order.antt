@@ -1,6 +1,7 @@
 -- What each command asks for, by itself or with its parameter (IEEE 488.2, chapter 10; SCPI-1999, volume 2).
 use Rattle.std.specs.Prelude.{ℕ, List, [], ◌∷◌, Option, Some, None, Result, Ok, Err, bit_and}
 use Rattle.sv_errors.specs.declared.code.Code.{Code}
+use Rattle.sv_errors.specs.Limits.{most_scans}
 use Rattle.sv_errors.specs.declared.code.Code.TheVariants.{MissingParameter, TooMuchData, InvalidExpression, UndefinedHeader}
 use Rattle.sv_lexer.specs.declared.token.Kind.{Kind}
 use Rattle.sv_lexer.specs.declared.token.Token.{Token}
@@ -60,7 +61,7 @@ setting_order id.UpperLimit given = then_value (λ volts. order.Set (setting.Upp
 setting_order id.LowerLimit given = then_value (λ volts. order.Set (setting.Lower volts)) (one read_voltage given)
 setting_order id.LimitState given = then_value (λ on. order.Set (setting.Limits on)) (one read_boolean given)
 setting_order id.TriggerSource given = then_value (λ source. order.Set (setting.Source source)) (one read_source given)
-setting_order id.TriggerCount given = then_value (λ scans. order.Set (setting.Count scans)) (one (read_whole 1 16) given)
+setting_order id.TriggerCount given = then_value (λ scans. order.Set (setting.Count scans)) (one (read_whole 1 most_scans) given)
 setting_order command given = Err UndefinedHeader
 
 -- commands of the scanner

@@ -2,12 +2,13 @@
 
 ghost use Rattle.std.specs.Prelude.{◌≡◌, Ok};
 ghost use Rattle.sv_scan.specs.declared.setting.Setting.TheVariants.{List, Monitor, Limits, Source as SourceSet, Count};
+ghost use Rattle.sv_errors.specs.Limits.{most_scans};
 ghost use Rattle.sv_value.specs.Value.{read_voltage, read_whole, read_boolean, read_source, read_channels};
 ghost use Rattle.sv_command.specs.declared.order.Order.TheVariants.{EnableStandard, EnableService, Enable, SetRise, SetFall, Set};
 ghost use Rattle.sv_command.specs.Order.{one, maybe, then_value, without_six, given as given_by, read_channel, only_channel};
 
 use crate::order::Order;
-use sv_errors::Code;
+use sv_errors::{Code, MOST_SCANS};
 use sv_lexer::Token;
 use sv_scan::{ScanList, Setting};
 use sv_status::RegisterName;
@@ -86,10 +87,10 @@ fn mask_16(given: Option<Token<'_>>) -> Result<u16, Code>
 /// To set how many scans a measurement has.
 pub(crate) fn set_count(given: Option<Token<'_>>) -> Result<Order, Code>
     ensures { result ≡ then_value (λ scans. Set (Count scans))
-        (one (read_whole 1 16) (given_by given.entry)) }
+        (one (read_whole 1 most_scans) (given_by given.entry)) }
 {
     match given {
-        Some(token) => match whole(&token, 1, 16) {
+        Some(token) => match whole(&token, 1, u16::from(MOST_SCANS)) {
             Ok(scans) => Ok(Order::Set(Setting::Count(scans as u8))),
             Err(code) => Err(code),
         },

@@ -9,19 +9,19 @@ use Rattle.sv_errors.specs.declared.code.Code.{Code}
 use Rattle.sv_errors.specs.declared.code.Code.TheVariants.{QueueOverflow}
 use Rattle.sv_errors.specs.declared.error_queue.QueueAct.{QueueAct}
 use Rattle.sv_errors.specs.declared.error_queue.QueueAct.TheVariants.{Report, Take, Clear}
-use Rattle.sv_errors.specs.ErrorQueue.{Counted, left, is_any, admit, take_one, counted, entries, is_full, up_to, reported, is_report, is_overtaken, shown, queued, StandsFor}
+use Rattle.sv_errors.specs.ErrorQueue.{Counted, left, is_any, admit, take_one, counted, entries, is_full, up_to, reported, is_report, is_overtaken, shown, queued, StandsFor, most}
 
 -- ---- what is left of the admitted reports
 
 -- a report that finds room is the newest of it
-left-admitted : (before : Counted) (place : ℕ) → before.taken ≤ length before.admitted → length (left before) < 16
+left-admitted : (before : Counted) (place : ℕ) → before.taken ≤ length before.admitted → length (left before) < most
     → left (admit before place) ≡ left before ++ place ∷ []
-left-admitted before place few room = rw (lt-ltb (length (left before)) 16 room)
+left-admitted before place few room = rw (lt-ltb (length (left before)) most room)
     (drop-append-le before.taken before.admitted (place ∷ []) few)
 
 -- a report that finds none changes nothing
-admit-full : (before : Counted) (place : ℕ) → 16 ≤ length (left before) → admit before place ≡ before
-admit-full before place full = rw (le-ltb (length (left before)) 16 full) refl
+admit-full : (before : Counted) (place : ℕ) → most ≤ length (left before) → admit before place ≡ before
+admit-full before place full = rw (le-ltb (length (left before)) most full) refl
 
 any_or_none : (places : List ℕ) → (is_any places ≡ true) × (1 ≤ length places) ⊎ (is_any places ≡ false) × (places ≡ [])
 any_or_none [] = inr (refl, refl)
@@ -37,9 +37,9 @@ left-taken before = elim (any_or_none (left before)) [
 -- no more are taken than were admitted
 taken-admitted : (before : Counted) (place : ℕ) → before.taken ≤ length before.admitted
     → (admit before place).taken ≤ length (admit before place).admitted
-taken-admitted before place few = elim (cases_lt (length (left before)) 16) [
-  | inl room ↦ rw (lt-ltb (length (left before)) 16 room) (omega (arith, length-append before.admitted (place ∷ [])))
-  | inr full ↦ rw (le-ltb (length (left before)) 16 full) few
+taken-admitted before place few = elim (cases_lt (length (left before)) most) [
+  | inl room ↦ rw (lt-ltb (length (left before)) most room) (omega (arith, length-append before.admitted (place ∷ [])))
+  | inr full ↦ rw (le-ltb (length (left before)) most full) few
 ]
 
 taken-taken : (before : Counted) → before.taken ≤ length before.admitted → (take_one before).taken ≤ length (take_one before).admitted
@@ -132,25 +132,25 @@ record IsFull (acts : List QueueAct) : Type 0 where
   front : List ℕ
   last : ℕ
   split : entries acts ≡ front ++ last ∷ []
-  size : length front ≡ 15
+  size : length front ≡ (most - 1)
   older : AllByRecursion (λ place. place < length acts) front
   newest : (last ≡ length acts) ⊎ (last < length acts) × (shown acts last ≡ QueueOverflow)
 
--- There are at most 16 entries, each at a place of the acts.
+-- There are at most so many entries, each at a place of the acts.
 record IsValid (acts : List QueueAct) : Type 0 where
   taken : (counted acts).taken ≤ length (counted acts).admitted
-  few : length (entries acts) ≤ 16
+  few : length (entries acts) ≤ most
   within : AllByRecursion (λ place. place ≤ length acts) (entries acts)
-  full : length (entries acts) ≡ 16 → IsFull acts
+  full : length (entries acts) ≡ most → IsFull acts
 
 -- ---- a report that finds room
 
-entries-reported : (code : Code) (acts : List QueueAct) → IsValid acts → length (entries acts) < 16
+entries-reported : (code : Code) (acts : List QueueAct) → IsValid acts → length (entries acts) < most
     → entries (Report code ∷ acts) ≡ entries acts ++ (length acts + 1) ∷ []
 entries-reported code acts is room = left-admitted (counted acts) (length acts + 1) is.taken room
 
-reported-full : (code : Code) (acts : List QueueAct) → IsValid acts → length (entries acts) < 16
-    → length (entries (Report code ∷ acts)) ≡ 16
+reported-full : (code : Code) (acts : List QueueAct) → IsValid acts → length (entries acts) < most
+    → length (entries (Report code ∷ acts)) ≡ most
     → IsFull (Report code ∷ acts)
 reported-full code acts is room many =
     let split = entries-reported code acts is room in
@@ -164,7 +164,7 @@ reported-full code acts is room many =
       newest = inl (add-one (length acts));
     }
 
-valid-reported : (code : Code) (acts : List QueueAct) → IsValid acts → length (entries acts) < 16 → IsValid (Report code ∷ acts)
+valid-reported : (code : Code) (acts : List QueueAct) → IsValid acts → length (entries acts) < most → IsValid (Report code ∷ acts)
 valid-reported code acts is room =
     let split = entries-reported code acts is room in
     let wider = all-weaker (λ place. place ≤ length acts) (λ place. place ≤ length (Report code ∷ acts)) (entries acts)
@@ -179,16 +179,16 @@ valid-reported code acts is room =
 
 -- ---- a report that finds none
 
-entries-overflowed : (code : Code) (acts : List QueueAct) → 16 ≤ length (entries acts) → entries (Report code ∷ acts) ≡ entries acts
+entries-overflowed : (code : Code) (acts : List QueueAct) → most ≤ length (entries acts) → entries (Report code ∷ acts) ≡ entries acts
 entries-overflowed code acts full = ap left (admit-full (counted acts) (length acts + 1) full)
 
 -- the newest entry shows the overflow
-shown-overflowed : (code : Code) (acts : List QueueAct) (last : ℕ) → length (entries acts) ≡ 16
+shown-overflowed : (code : Code) (acts : List QueueAct) (last : ℕ) → length (entries acts) ≡ most
     → (last ≡ length acts) ⊎ (last < length acts) × (shown acts last ≡ QueueOverflow)
     → shown (Report code ∷ acts) last ≡ QueueOverflow
 shown-overflowed code acts last many (inl e) =
     ap (shown (Report code ∷ acts)) e ∙ shown-next (Report code) acts
-    ∙ ap (λ (b : Bool). cond (b && true) QueueOverflow (reported acts)) (eq-eqb (length (entries acts)) 16 many)
+    ∙ ap (λ (b : Bool). cond (b && true) QueueOverflow (reported acts)) (eq-eqb (length (entries acts)) most many)
 shown-overflowed code acts last many (inr older) = shown-older last (Report code) acts older.0 ∙ older.1
 
 newest-within : (acts : List QueueAct) (last : ℕ) → (last ≡ length acts) ⊎ (last < length acts) × (shown acts last ≡ QueueOverflow)
@@ -196,7 +196,7 @@ newest-within : (acts : List QueueAct) (last : ℕ) → (last ≡ length acts) �
 newest-within acts last (inl e) = omega arith
 newest-within acts last (inr older) = omega (arith, older.0)
 
-overflowed-full : (code : Code) (acts : List QueueAct) → length (entries acts) ≡ 16 → IsFull acts → IsFull (Report code ∷ acts)
+overflowed-full : (code : Code) (acts : List QueueAct) → length (entries acts) ≡ most → IsFull acts → IsFull (Report code ∷ acts)
 overflowed-full code acts many is = record {
   front = is.front;
   last = is.last;
@@ -207,11 +207,11 @@ overflowed-full code acts many is = record {
   newest = inr (newest-within acts is.last is.newest, shown-overflowed code acts is.last many is.newest);
 }
 
-valid-overflowed : (code : Code) (acts : List QueueAct) → IsValid acts → 16 ≤ length (entries acts) → IsValid (Report code ∷ acts)
+valid-overflowed : (code : Code) (acts : List QueueAct) → IsValid acts → most ≤ length (entries acts) → IsValid (Report code ∷ acts)
 valid-overflowed code acts is full =
     let same = entries-overflowed code acts full in
     let few = is.few in
-    let many : length (entries acts) ≡ 16 = omega arith in
+    let many : length (entries acts) ≡ most = omega arith in
     record {
       taken = taken-admitted (counted acts) (length acts + 1) is.taken;
       few = omega (arith, ap length same);
@@ -244,7 +244,7 @@ valid-taken acts is =
 -- all acts keep this
 valid : (acts : List QueueAct) → IsValid acts
 valid [] = record { taken = omega arith; few = omega arith; within = tt; full = λ many. absurd (omega arith) }
-valid (Report code ∷ acts) = elim (cases_lt (length (entries acts)) 16) [
+valid (Report code ∷ acts) = elim (cases_lt (length (entries acts)) most) [
   | inl room ↦ valid-reported code acts (valid acts) room
   | inr full ↦
       valid-overflowed code acts (valid acts) full
@@ -265,18 +265,18 @@ pub length-queued : (acts : List QueueAct) → length (queued acts) ≡ length (
 length-queued acts = length-map (entries acts) (shown acts)
 
 -- whether the queue is full, and that it never has more
-pub full-queued : (acts : List QueueAct) → is_full acts ≡ (length (queued acts) == 16)
-full-queued acts = ap (λ (n : ℕ). n == 16) (sym (length-queued acts))
+pub full-queued : (acts : List QueueAct) → is_full acts ≡ (length (queued acts) == most)
+full-queued acts = ap (λ (n : ℕ). n == most) (sym (length-queued acts))
 
-pub queued-few : (acts : List QueueAct) → length (queued acts) ≤ 16
+pub queued-few : (acts : List QueueAct) → length (queued acts) ≤ most
 queued-few acts = omega (arith, length-queued acts, (valid acts).few)
 
 -- a report that finds room becomes the newest
-pub queued-reported : (code : Code) (acts : List QueueAct) → length (queued acts) < 16
+pub queued-reported : (code : Code) (acts : List QueueAct) → length (queued acts) < most
     → queued (Report code ∷ acts) ≡ queued acts ++ code ∷ []
 queued-reported code acts few =
-    let room : length (entries acts) < 16 = omega (arith, few, length-queued acts) in
-    let quiet : (is_full acts && true) ≡ false = ap (λ (b : Bool). b && true) (ne_eqb (length (entries acts)) 16 (λ e. omega arith)) in
+    let room : length (entries acts) < most = omega (arith, few, length-queued acts) in
+    let quiet : (is_full acts && true) ≡ false = ap (λ (b : Bool). b && true) (ne_eqb (length (entries acts)) most (λ e. omega arith)) in
     ap (map (shown (Report code ∷ acts))) (entries-reported code acts (valid acts) room)
     ∙ map_push (shown (Report code ∷ acts)) (entries acts) (length acts + 1)
     ∙ ap (λ (cs : List Code). cs ++ shown (Report code ∷ acts) (length acts + 1) ∷ []) (shown-entries (Report code) acts quiet)
@@ -289,13 +289,13 @@ full-shown : (acts : List QueueAct) (now : List QueueAct) (is : IsFull acts)
 full-shown acts now is = ap (map (shown now)) is.split ∙ map_push (shown now) is.front is.last
 
 -- a report that finds none shows the overflow in the place of the newest
-pub queued-overflowed : (code : Code) (acts : List QueueAct) → length (queued acts) ≡ 16
-    → queued (Report code ∷ acts) ≡ take 15 (queued acts) ++ QueueOverflow ∷ []
+pub queued-overflowed : (code : Code) (acts : List QueueAct) → length (queued acts) ≡ most
+    → queued (Report code ∷ acts) ≡ take (most - 1) (queued acts) ++ QueueOverflow ∷ []
 queued-overflowed code acts full =
     let many = sym (length-queued acts) ∙ full in
     let is = (valid acts).full many in
-    let front : take 15 (queued acts) ≡ map (shown acts) is.front =
-    ap (take 15) (full-shown acts acts is) ∙ take_at (map (shown acts) is.front) (shown acts is.last ∷ []) 15
+    let front : take (most - 1) (queued acts) ≡ map (shown acts) is.front =
+    ap (take (most - 1)) (full-shown acts acts is) ∙ take_at (map (shown acts) is.front) (shown acts is.last ∷ []) (most - 1)
     (length-map is.front (shown acts) ∙ is.size) in
     ap (map (shown (Report code ∷ acts))) (entries-overflowed code acts (omega arith))
     ∙ full-shown acts (Report code ∷ acts) is
@@ -306,12 +306,12 @@ queued-overflowed code acts full =
 
 -- a report, whether it finds room or not
 pub queued-report : (code : Code) (acts : List QueueAct) → queued (Report code ∷ acts)
-    ≡ (if is_full acts then take 15 (queued acts) ++ QueueOverflow ∷ [] else queued acts ++ code ∷ [])
-queued-report code acts = elim (cases_lt (length (queued acts)) 16) [
-  | inl room ↦ rw (full-queued acts, ne_eqb (length (queued acts)) 16 (λ e. omega arith)) (queued-reported code acts room)
+    ≡ (if is_full acts then take (most - 1) (queued acts) ++ QueueOverflow ∷ [] else queued acts ++ code ∷ [])
+queued-report code acts = elim (cases_lt (length (queued acts)) most) [
+  | inl room ↦ rw (full-queued acts, ne_eqb (length (queued acts)) most (λ e. omega arith)) (queued-reported code acts room)
   | inr full ↦
-      let many : length (queued acts) ≡ 16 = omega (arith, full, queued-few acts) in
-      rw (full-queued acts, eq-eqb (length (queued acts)) 16 many) (queued-overflowed code acts many)
+      let many : length (queued acts) ≡ most = omega (arith, full, queued-few acts) in
+      rw (full-queued acts, eq-eqb (length (queued acts)) most many) (queued-overflowed code acts many)
 ]
 
 -- a taking leaves out the oldest
@@ -327,16 +327,17 @@ queued-cleared acts = refl
 -- ---- the codes that stand for the acts
 
 -- a report that finds room
-pub StandsFor-reported : (codes : List Code) (code : Code) (acts : List QueueAct) → length codes < 16 → StandsFor codes acts
+pub StandsFor-reported : (codes : List Code) (code : Code) (acts : List QueueAct) → length codes < most → StandsFor codes acts
     → StandsFor (codes ++ code ∷ []) (Report code ∷ acts)
 StandsFor-reported codes code acts room stands =
     ap (λ (cs : List Code). cs ++ code ∷ []) stands ∙ sym (queued-reported code acts (omega (arith, room, ap length stands)))
 
 -- a report that finds none
-pub StandsFor-overflowed : (codes : List Code) (code : Code) (acts : List QueueAct) → length codes ≡ 16 → StandsFor codes acts
-    → StandsFor (take 15 codes ++ QueueOverflow ∷ []) (Report code ∷ acts)
+pub StandsFor-overflowed : (codes : List Code) (code : Code) (acts : List QueueAct) → length codes ≡ most → StandsFor codes acts
+    → StandsFor (take (most - 1) codes ++ QueueOverflow ∷ []) (Report code ∷ acts)
 StandsFor-overflowed codes code acts full stands =
-    ap (λ (cs : List Code). take 15 cs ++ QueueOverflow ∷ []) stands ∙ sym (queued-overflowed code acts (sym (ap length stands) ∙ full))
+    ap (λ (cs : List Code). take (most - 1) cs ++ QueueOverflow ∷ []) stands
+    ∙ sym (queued-overflowed code acts (sym (ap length stands) ∙ full))
 
 -- a taking
 pub StandsFor-taken : (codes : List Code) (acts : List QueueAct) → StandsFor codes acts → StandsFor (drop 1 codes) (Take ∷ acts)

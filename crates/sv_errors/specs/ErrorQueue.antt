@@ -23,7 +23,7 @@ abbrev pub is_any : List ℕ → Bool
 is_any [] = false
 is_any (place ∷ places) = true
 
--- a report finds room where fewer than 16 entries are left; taking from an empty queue takes none
+-- a report finds room where fewer than the most entries are left; taking from an empty queue takes none
 abbrev pub admit : Counted → ℕ → Counted
 admit before place = if nat_lt (length (left before)) most then record before { admitted = before.admitted ++ place ∷ [] } else before
 
@@ -40,7 +40,7 @@ counted (Clear ∷ acts) = record { admitted = []; taken = 0 }
 abbrev pub entries : List QueueAct → List ℕ
 entries acts = left (counted acts)
 
--- whether a report overflows: it finds 16 entries
+-- whether a report overflows: it finds the most entries
 abbrev pub is_full : List QueueAct → Bool
 is_full acts = length (entries acts) == most
 

@@ -1,14 +1,30 @@
 -- How far the instrument's numbers reach.
-use Rattle.std.specs.Prelude.{ℕ, ◌&&◌, Bool, List, length, nat_le}
+use Rattle.std.specs.Prelude.{ℕ, ◌*◌, ◌&&◌, Bool, List, length, nat_le}
 use Rattle.std.specs.List.{list_all}
 
--- channels are numbered from 1 to 32
-abbrev pub is_channel : ℕ → Bool
-is_channel number = nat_le 1 number && nat_le number 32
+-- how many channels there are; they are numbered from 1
+abbrev pub channel_count : ℕ
+channel_count = 32
 
--- a list of channels has 1 to 32 of them
+-- how many channels a list may have
+abbrev pub longest_list : ℕ
+longest_list = 32
+
+-- how many scans a measurement may have
+abbrev pub most_scans : ℕ
+most_scans = 16
+
+-- how many readings
+abbrev pub most_readings : ℕ
+most_readings = most_scans * longest_list
+
+-- whether there is a channel of this number
+abbrev pub is_channel : ℕ → Bool
+is_channel number = nat_le 1 number && nat_le number channel_count
+
+-- whether a list is one of channels
 abbrev pub is_channel_list : List ℕ → Bool
-is_channel_list channels = nat_le 1 (length channels) && (nat_le (length channels) 32 && list_all is_channel channels)
+is_channel_list channels = nat_le 1 (length channels) && (nat_le (length channels) longest_list && list_all is_channel channels)
 
 -- the largest magnitude of a voltage that is given to the instrument, in microvolts: 1,000 V
 abbrev pub most_microvolts : ℕ

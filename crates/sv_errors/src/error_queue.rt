@@ -1,7 +1,7 @@
 //! The error queue (SCPI-1999, volume 2, section 21.8).
 
 ghost use Rattle.std.specs.Prelude.{◌≡◌, ◌==◌, ◌≤◌, [], ◌∷◌, List, length, IfOk};
-ghost use Rattle.sv_errors.specs.ErrorQueue.{StandsFor, entries, is_full, oldest as oldest_of};
+ghost use Rattle.sv_errors.specs.ErrorQueue.{StandsFor, entries, is_full, most, oldest as oldest_of};
 
 use crate::code::Code;
 use crate::layer::Layer;
@@ -10,7 +10,7 @@ use std::alloc::{AllocError, Allocator, Global};
 use std::marker::Model;
 
 /// How many entries there may be.
-const MOST: usize = 16;
+pub const MOST_ERRORS: usize = 16;
 
 /// What happens to the error queue.
 #[derive(Clone, Copy, Debug, PartialEq, Eq)]
@@ -34,8 +34,8 @@ pub enum QueueAnswer {
     Cleared,
 }
 
-/// The errors that were reported and not taken yet, oldest first, at most 16. A report to a full
-/// queue replaces the newest entry by [`Code::QueueOverflow`].
+/// The errors that were reported and not taken yet, oldest first, at most [`MOST_ERRORS`]. A report
+/// to a full queue replaces the newest entry by [`Code::QueueOverflow`].
 #[derive(Drop)]
 pub struct ErrorQueue<A: Allocator = Global> {
     codes: HeapCircularBuffer<Code, A>,
@@ -48,10 +48,11 @@ impl<A: Allocator> Model for ErrorQueue<A> {
     ghost Value = { List Code };
 
     ghost use Rattle.std.specs.Prelude.{◌≡◌, ◌≤◌, length};
+    ghost use Rattle.sv_errors.specs.ErrorQueue.{most};
 
     ghost view = { λ a. a.codes.items };
 
-    ghost invariant = { λ a. (a.codes.capacity ≡ 16) × (length a.codes.items ≤ 16) };
+    ghost invariant = { λ a. (a.codes.capacity ≡ most) × (length a.codes.items ≤ most) };
 }
 
 impl<A: Allocator> ErrorQueue<A> {
@@ -59,7 +60,7 @@ impl<A: Allocator> ErrorQueue<A> {
     pub fn new(alloc: A) -> Result<ErrorQueue<A>, AllocError>
         ensures { IfOk result (λ queue. StandsFor queue []) }
     {
-        let codes = HeapCircularBuffer::with_capacity(alloc, MOST)?;
+        let codes = HeapCircularBuffer::with_capacity(alloc, MOST_ERRORS)?;
         Ok(ErrorQueue { codes })
     }
 
@@ -69,9 +70,9 @@ impl<A: Allocator> ErrorQueue<A> {
         ensures stands { (acts : List QueueAct) → StandsFor self.old acts
             → StandsFor self.new (QueueAct.Report code ∷ acts) }
         ensures answer { (acts : List QueueAct) → StandsFor self.old acts → result ≡ is_full acts }
-        ensures full { result ≡ (length self.old == 16) }
+        ensures full { result ≡ (length self.old == most) }
     {
-        let full = self.codes.len() >= MOST;
+        let full = self.codes.len() >= MOST_ERRORS;
         if full {
             self.codes.pop_back();
             self.codes.push_back(Code::QueueOverflow);
@@ -102,7 +103,7 @@ impl<A: Allocator> ErrorQueue<A> {
     pub fn count(&self) -> u8
         ensures answer { (acts : List QueueAct) → StandsFor self.now acts
             → result ≡ length (entries acts) }
-        ensures few { result ≤ 16 }
+        ensures few { result ≤ most }
     {
         self.codes.len() as u8
     }

@@ -11,7 +11,9 @@ mod limits;
 mod source;
 
 pub use code::Code;
-pub use error_queue::{ErrorQueue, QueueAct, QueueAnswer};
+pub use error_queue::{ErrorQueue, MOST_ERRORS, QueueAct, QueueAnswer};
 pub use layer::{Layer, act_each};
-pub use limits::{CHANNELS, MOST_MICROVOLTS, is_channel, is_channel_list};
+pub use limits::{
+    CHANNELS, LONGEST_LIST, MOST_MICROVOLTS, MOST_READINGS, MOST_SCANS, is_channel, is_channel_list,
+};
 pub use source::Source;

@@ -5,11 +5,17 @@ ghost use Rattle.std.specs.List.{list_all};
 ghost use Rattle.sv_errors.specs.Limits.{is_channel as is_channel_number, is_channel_list as is_list_of_channels};
 
 /// How many channels there are; they are numbered from 1.
-pub const CHANNELS: u8 = 32;
+pub const CHANNELS: usize = 32;
+/// How many channels a list may have.
+pub const LONGEST_LIST: usize = 32;
+/// How many scans a measurement may have.
+pub const MOST_SCANS: u8 = 16;
+/// How many readings: those of so many scans of the longest list.
+pub const MOST_READINGS: usize = MOST_SCANS as usize * LONGEST_LIST;
 /// The largest magnitude of a voltage that is given to the instrument, in microvolts: 1,000 V.
 pub const MOST_MICROVOLTS: u32 = 1_000_000_000;
 
-/// Whether there is a channel of this number: 1 to 32.
+/// Whether there is a channel of this number: 1 to [`CHANNELS`].
 pub fn is_channel(number: u64) -> bool
     ensures { result ≡ is_channel_number number }
 {
@@ -23,9 +29,9 @@ fn are_channels(numbers: &[u8]) -> bool
     numbers.iter().all(|number| is_channel(u64::from(*number)))
 }
 
-/// Whether these can be listed as channels: 1 to 32 numbers, each of a channel.
+/// Whether these can be listed as channels: 1 to [`LONGEST_LIST`] numbers, each of a channel.
 pub fn is_channel_list(channels: &[u8]) -> bool
     ensures { result ≡ is_list_of_channels channels.now }
 {
-    1 <= channels.len() && (channels.len() <= CHANNELS as usize && are_channels(channels))
+    1 <= channels.len() && (channels.len() <= LONGEST_LIST && are_channels(channels))
 }

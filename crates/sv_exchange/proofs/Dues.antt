@@ -5,6 +5,7 @@ use Rattle.std.proofs.lemmas.List.{length-drop, get_or-drop}
 use Rattle.sv_exchange.specs.Exchange.{ExchangeAct, text, messages, message, finished, current, units, units_done, has_ended, is_long, has_overrun, has_dropped, next_unit, answers, response, is_something, Due, OverrunDue, InterruptDue, UnitDue, FinishDue, due, due_unit}
 use Rattle.sv_exchange.specs.Contents.{Contents, StandsFor, IsShown, IsUnitDue, symbols, following, shown, shown_by, next_of, unit_of}
 use Rattle.sv_exchange.proofs.Cuts.{messages_some}
+use Rattle.sv_exchange.specs.Limits.{max_message}
 
 -- whether there is a message behind the current one
 ended_by : (parts : List (List ℕ)) (k : ℕ) (message : List ℕ) (ended : Bool) (later : List ℕ) (mark : Bool)
@@ -36,7 +37,7 @@ message_is contents acts s = part_at (messages (text acts)) (finished acts) s.me
 
 -- whether it is too long
 pub long_is : (contents : Contents) (acts : List ExchangeAct) → StandsFor contents acts → is_long acts ≡ contents.overlong
-long_is contents acts s = ap (λ (m : List ℕ). nat_lt 4096 (length m)) (message_is contents acts s) ∙ sym s.size
+long_is contents acts s = ap (λ (m : List ℕ). nat_lt max_message (length m)) (message_is contents acts s) ∙ sym s.size
 
 -- what can be read, by what is kept
 pub shown_is : (answering : Bool) (out : List ℕ) (given : List (List ℕ)) (readable : List ℕ) → IsShown answering out given readable

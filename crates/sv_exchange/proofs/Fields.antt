@@ -5,10 +5,11 @@ use Rattle.std.proofs.Math.Seq.{take-append-add, drop-append-add}
 use Rattle.std.specs.Prelude.{if◌then◌else◌}
 use Rattle.sv_exchange.specs.Contents.{Contents}
 use Rattle.sv_exchange.specs.Fields.{contents_of, IsText, IsOut, first_size, second_at, has_line, after_accept, after_finish, with_answer}
+use Rattle.sv_exchange.specs.Limits.{max_message}
 
 -- the later text is what one write brought
 pub few_later : (text : List ℕ) (at end behind : ℕ) (ended : Bool) → IsText ended (length text) at end behind
-    → length (drop behind text) ≤ 4096
+    → length (drop behind text) ≤ max_message
 few_later text at end behind true t = omega (arith, length-drop behind text)
 few_later text at end behind false t = omega (arith, length-drop behind text)
 
@@ -71,19 +72,21 @@ pub accept_holds : (text text' bytes : List ℕ) (at at' end behind before size 
     (ended ended' mark mark' long told lost answering given : Bool) (response : List ℕ) (taken : ℕ)
     → end ≡ length text → text' ≡ drop at text ++ bytes → before ≡ length (drop at text) → size ≡ first_size bytes
     → second ≡ second_at bytes → ended' ≡ (has_line bytes || given)
-    → mark' ≡ (has_line bytes && given) → at' ≡ cond (long || nat_lt 4096 (before + size)) (before + size) 0
+    → mark' ≡ (has_line bytes && given) → at' ≡ cond (long || nat_lt max_message (before + size)) (before + size) 0
     → contents_of text' at' (before + size) (before + second) ended' mark'
-    (long || nat_lt 4096 (before + size)) told lost answering response taken
+    (long || nat_lt max_message (before + size)) told lost answering response taken
     ≡ after_accept (contents_of text at end behind ended mark long told lost answering response taken) bytes given
 accept_holds text text' bytes at at' end behind before size second ended ended' mark mark' long told lost answering given response taken all
     text_is before_is size_is second_is ended_is mark_is at_is =
     let rest = rest_is_all text at end all in
     let before_rest : before ≡ length (slice_range text at end) = before_is ∙ sym (ap length rest) in
-    let long_is : (long || nat_lt 4096 (before + size)) ≡ (long || nat_lt 4096 (length (slice_range text at end) + first_size bytes)) =
+    let long_is : (long || nat_lt max_message (before + size))
+    ≡ (long || nat_lt max_message (length (slice_range text at end) + first_size bytes)) =
     rw (before_rest, size_is) refl in
     let rest_is : slice_range text' at' (before + size)
-    ≡ cond (long || nat_lt 4096 (before + size)) [] (slice_range text at end ++ take (first_size bytes) bytes) =
-    rw (text_is, rest, ← size_is) (rest_with (drop at text) bytes before size at' (long || nat_lt 4096 (before + size)) before_is at_is) in
+    ≡ cond (long || nat_lt max_message (before + size)) [] (slice_range text at end ++ take (first_size bytes) bytes) =
+    rw (text_is, rest, ← size_is)
+    (rest_with (drop at text) bytes before size at' (long || nat_lt max_message (before + size)) before_is at_is) in
     let later_is : drop (before + second) text' ≡ drop (second_at bytes) bytes =
     rw (text_is, ← second_is) (drop_over before second (drop at text) bytes before_is) in
     let made : List ℕ → Bool → List ℕ → Bool → Bool → Contents =
@@ -99,7 +102,7 @@ accept_holds text text' bytes at at' end behind before size second ended ended' 
       output =
           drop taken response;
     } in
-    let new_long : Bool = long || nat_lt 4096 (before + size) in
+    let new_long : Bool = long || nat_lt max_message (before + size) in
     ap (λ (r : List ℕ). made r ended' (drop (before + second) text') mark' new_long) rest_is
     ∙ ap (λ (e : Bool). made (cond new_long [] (slice_range text at end ++ take (first_size bytes) bytes)) e
     (drop (before + second) text') mark' new_long) ended_is

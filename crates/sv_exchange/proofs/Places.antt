@@ -4,6 +4,7 @@ use Rattle.sv_exchange.specs.Read.{up_to, read_count}
 use Rattle.std.specs.List.{position, position_or_len}
 use Rattle.std.proofs.lemmas.Bool.{cases_lt, lt-ltb, le-ltb}
 use Rattle.sv_text.proofs.Places.{place_within}
+use Rattle.sv_exchange.specs.Limits.{max_read}
 
 -- among the first k
 pub place-take : (p : ℕ → Bool) (bytes : List ℕ) (k : ℕ)
@@ -30,7 +31,7 @@ up_to_place p bytes =
     ]
 
 -- how many bytes a read gives that looks for the termination character within its limit
-pub count_by_place : (response : List ℕ) (most last limit place count : ℕ) → limit ≡ min most (min 8192 (length response))
+pub count_by_place : (response : List ℕ) (most last limit place count : ℕ) → limit ≡ min most (min max_read (length response))
     → place ≡ position_or_len (λ b. b == last) (take limit response)
     → count ≡ min limit (place + 1) → count ≡ read_count response most (Some last)
 count_by_place response most last limit place count e f h =

@@ -10,6 +10,7 @@ use Rattle.sv_text.proofs.Places.{place_within}
 use Rattle.sv_exchange.proofs.Cuts.{messages-append, first_cut}
 use Rattle.sv_exchange.proofs.Responses.{response_after, response-finished, response-read}
 use Rattle.sv_exchange.proofs.Dues.{at_unit, readable_is}
+use Rattle.sv_exchange.specs.Limits.{max_message, max_response}
 
 -- bytes that aren't something are none
 nothing_there : (bytes : List ℕ) → is_something bytes ≡ false → bytes ≡ []
@@ -59,7 +60,7 @@ said_after true out (answer ∷ others) readable said = ap (λ (l : List ℕ). l
 said_after false out given readable said = ap (λ (g : List (List ℕ)). response_after g readable) said.0 ∙ said.1
 
 -- a message was finished
-pub finish_stands : (contents new : Contents) (acts : List ExchangeAct) → contents.ended ≡ true → length contents.later ≤ 4096
+pub finish_stands : (contents new : Contents) (acts : List ExchangeAct) → contents.ended ≡ true → length contents.later ≤ max_message
     → new ≡ after_finish contents
     → StandsFor contents acts → StandsFor new (Finished ∷ acts)
 finish_stands contents new acts ended few is s =
@@ -75,7 +76,7 @@ finish_stands contents new acts ended few is s =
       message = first;
       executed = [];
       text_left = ap (λ (n : ℕ). drop n (messages (text acts))) next ∙ sym (drop-drop 1 (finished acts) (messages (text acts))) ∙ behind;
-      size = sym (le-ltb 4096 (length first) (omega (arith, length-take-le (first_size contents.later) contents.later size)));
+      size = sym (le-ltb max_message (length first) (omega (arith, length-take-le (first_size contents.later) contents.later size)));
       units_left = λ short. refl;
       count = refl;
       no_response = λ later. absurd cc;
@@ -117,11 +118,11 @@ joined_with false out given readable answer said = ap (λ (g : List (List ℕ)).
 -- whether an answer fits
 pub fits_is : (contents : Contents) (acts : List ExchangeAct) (answer : List ℕ) (size : ℕ)
     → length (with_answer contents.answering contents.output answer) ≡ size → StandsFor contents acts
-    → fits_response (answers acts) answer ≡ nat_lt size 8192
+    → fits_response (answers acts) answer ≡ nat_lt size max_response
 fits_is contents acts answer size e s =
-    ap (λ (l : List ℕ). nat_lt (length l) 8192)
+    ap (λ (l : List ℕ). nat_lt (length l) max_response)
     (joined_with contents.answering contents.output (answers acts) (response acts) answer s.shows)
-    ∙ ap (λ (n : ℕ). nat_lt n 8192) e
+    ∙ ap (λ (n : ℕ). nat_lt n max_response) e
 
 -- an answer was put behind those before it
 pub answered_stands : (contents new : Contents) (acts : List ExchangeAct) (answer : List ℕ) → IsTrue (may_respond contents)
@@ -179,15 +180,16 @@ not_true true h = absurd cc
 not_true false h = refl
 
 -- while a message is too long it stays so
-long_on : (long : Bool) (message first rest : List ℕ) (n : ℕ) → long ≡ nat_lt 4096 (length message) → length first ≡ n
+long_on : (long : Bool) (message first rest : List ℕ) (n : ℕ) → long ≡ nat_lt max_message (length message) → length first ≡ n
     → (long ≡ false → message ≡ rest)
-    → (long || nat_lt 4096 (length rest + n)) ≡ nat_lt 4096 (length (message ++ first))
+    → (long || nat_lt max_message (length rest + n)) ≡ nat_lt max_message (length (message ++ first))
 long_on true message first rest n e f whole =
-    let more : 4096 < length (message ++ first) = omega (arith, length-append message first, ltb-true 4096 (length message) (sym e)) in
-    sym (lt-ltb 4096 (length (message ++ first)) more)
+    let more : max_message < length (message ++ first) =
+    omega (arith, length-append message first, ltb-true max_message (length message) (sym e)) in
+    sym (lt-ltb max_message (length (message ++ first)) more)
 long_on false message first rest n e f whole =
     let size : length rest + n ≡ length (message ++ first) = omega (arith, length-append message first, ap length (whole refl)) in
-    ap (nat_lt 4096) size
+    ap (nat_lt max_message) size
 
 -- of a message that isn't too long all bytes are kept
 grown : (long more : Bool) (message first rest : List ℕ) → (long || more) ≡ false → (long ≡ false → message ≡ rest)
@@ -206,7 +208,7 @@ accept_stands contents new acts bytes ended open_now is s =
     let size : length first ≡ first_size bytes = length-take-le (first_size bytes) bytes (place_within (λ b. b == 10) bytes) in
     let alone : drop (finished acts) (messages (text acts)) ≡ s.message ∷ [] =
     s.text_left ∙ ap (λ (ms : List (List ℕ)). s.message ∷ ms) (following_open contents.ended contents.later contents.end_pending unended) in
-    let more : Bool = nat_lt 4096 (length contents.rest + first_size bytes) in
+    let more : Bool = nat_lt max_message (length contents.rest + first_size bytes) in
     let rest : (contents.overlong || more) ≡ false → s.message ++ first ≡ cond (contents.overlong || more) [] (contents.rest ++ first) =
     λ short. grown contents.overlong more s.message first contents.rest short (s.whole unended) in
     rw is (record {

@@ -3,6 +3,7 @@ use Rattle.std.specs.Prelude.{◌≡◌, ◌≢◌, ℕ, ◌+◌, ◌*◌, ◌==
 use Rattle.sv_exchange.specs.declared.exchange.Next.{Next}
 use Rattle.sv_exchange.specs.declared.exchange.Next.TheVariants as next
 use Rattle.sv_exchange.specs.Exchange.{ExchangeAct, Symbol, Byte, end_mark, text, messages, finished, current, units_done, has_overrun, has_dropped, answers, units, is_something, joined, response, Due, NothingDue, OverrunDue, InterruptDue, UnitDue, FinishDue, due_unit}
+use Rattle.sv_exchange.specs.Limits.{max_message}
 
 -- what is left of the current message, whether it has ended, and then the text behind it with its mark; what happened to the message; and
 -- the answers that were given to it, or else what can be read
@@ -51,7 +52,7 @@ pub record StandsFor (contents : Contents) (acts : List ExchangeAct) : Type 0 wh
   pub message : List ℕ
   pub executed : List (List ℕ)
   pub text_left : drop (finished acts) (messages (text acts)) ≡ message ∷ following contents.ended contents.later contents.end_pending
-  pub size : contents.overlong ≡ nat_lt 4096 (length message)
+  pub size : contents.overlong ≡ nat_lt max_message (length message)
   pub units_left : contents.overlong ≡ false → units message ≡ executed ++ units contents.rest
   pub count : length executed ≡ units_done (current acts)
   pub no_response : (units_done (current acts) == 0) ≡ false → response acts ≡ []

@@ -5,6 +5,7 @@ use Rattle.std.specs.List.{list_any}
 use Rattle.sv_errors.specs.Since.{since, newest, since_place}
 use Rattle.sv_text.specs.Cut.{cut_at, onto}
 use Rattle.sv_text.specs.White.{trim}
+use Rattle.sv_exchange.specs.Limits.{max_message, max_response}
 
 -- what happens to program text and responses
 pub data ExchangeAct : Type 0 where
@@ -104,7 +105,7 @@ abbrev pub has_ended : List ExchangeAct → Bool
 has_ended acts = nat_lt (finished acts + 1) (length (messages (text acts)))
 
 abbrev pub is_long : List ExchangeAct → Bool
-is_long acts = nat_lt 4096 (length (message acts))
+is_long acts = nat_lt max_message (length (message acts))
 
 abbrev pub is_something : List ℕ → Bool
 is_something [] = false
@@ -179,6 +180,6 @@ due acts =
     if is_long acts && not (has_overrun (current acts)) then OverrunDue
     else due_unit (next_unit acts) ((units_done (current acts) == 0) && is_something (response acts)) (has_ended acts)
 
--- whether an answer has room in a response of 8,192 bytes, behind the answers before it and with the new line
+-- whether an answer has room in a response, behind the answers before it and with the new line
 abbrev pub fits_response : List (List ℕ) → List ℕ → Bool
-fits_response before answer = nat_lt (length (joined (before ++ answer ∷ []))) 8192
+fits_response before answer = nat_lt (length (joined (before ++ answer ∷ []))) max_response

@@ -2,6 +2,7 @@
 use Rattle.std.specs.Prelude.{◌≡◌, ℕ, ◌+◌, ◌==◌, ◌<◌, ◌≤◌, Bool, true, false, ◌&&◌, ◌||◌, List, [], ◌∷◌, ◌++◌, length, take, drop, nat_lt, slice_range, if◌then◌else◌}
 use Rattle.std.specs.List.{position_or_len}
 use Rattle.sv_exchange.specs.Contents.{Contents}
+use Rattle.sv_exchange.specs.Limits.{max_message, max_text, max_response}
 
 -- how many bytes the first message has
 abbrev pub first_size : List ℕ → ℕ
@@ -18,7 +19,7 @@ second_at bytes = if has_line bytes then first_size bytes + 1 else length bytes
 -- more text
 abbrev pub after_accept : Contents → List ℕ → Bool → Contents
 after_accept contents bytes ended =
-    let overlong = contents.overlong || nat_lt 4096 (length contents.rest + first_size bytes) in
+    let overlong = contents.overlong || nat_lt max_message (length contents.rest + first_size bytes) in
     record contents {
       rest = if overlong then [] else contents.rest ++ take (first_size bytes) bytes;
       ended = has_line bytes || ended;
@@ -67,13 +68,13 @@ contents_of text cursor end next_start ended end_pending overlong overrun_report
 
 -- While answers are collected none of them was read, and a new line fits behind them.
 abbrev pub IsOut : Bool → ℕ → ℕ → Type 0
-IsOut true size read = (size < 8192) × (read ≡ 0)
-IsOut false size read = (size ≤ 8192) × (read ≤ size)
+IsOut true size read = (size < max_response) × (read ≡ 0)
+IsOut false size read = (size ≤ max_response) × (read ≤ size)
 
 -- Of a message that hasn't ended no more is kept than it may be long.
 abbrev pub IsText : Bool → ℕ → ℕ → ℕ → ℕ → Type 0
-IsText true size cursor end next_start = (size ≤ 8192) × (size ≤ next_start + 4096)
-IsText false size cursor end next_start = (end ≡ size) × (next_start ≡ size) × (end ≤ cursor + 4096)
+IsText true size cursor end next_start = (size ≤ max_text) × (size ≤ next_start + max_message)
+IsText false size cursor end next_start = (end ≡ size) × (next_start ≡ size) × (end ≤ cursor + max_message)
 
 -- The fields are in order, and what they hold has room.
 pub record IsValid (text : List ℕ) (cursor end next_start : ℕ) (ended : Bool) (space : ℕ) (response : List ℕ) (read : ℕ) (answering : Bool)
@@ -81,5 +82,5 @@ pub record IsValid (text : List ℕ) (cursor end next_start : ℕ) (ended : Bool
   pub order : (cursor ≤ end) × (end ≤ next_start) × (next_start ≤ length text)
   pub bounds : IsText ended (length text) cursor end next_start
   pub output : IsOut answering (length response) read
-  pub enough : 8192 ≤ space
-  pub many : 8192 ≤ slots
+  pub enough : max_text ≤ space
+  pub many : max_response ≤ slots

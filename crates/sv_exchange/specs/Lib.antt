@@ -1,3 +1,4 @@
+pub mod Limits
 pub mod Exchange
 pub mod Read
 pub mod Contents

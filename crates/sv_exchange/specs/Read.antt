@@ -1,5 +1,6 @@
 -- What a read gives of a response (VXI-11 revision 1.0, device_read).
 use Rattle.std.specs.Prelude.{ℕ, ◌+◌, ◌-◌, ◌==◌, Bool, false, ◌&&◌, List, length, min, Option, Some, None, position, nat_lt, slice_get}
+use Rattle.sv_exchange.specs.Limits.{max_read}
 
 -- how many bytes there are up to the first termination character, with it; all bytes where there is none
 abbrev pub up_to : Option ℕ → ℕ → ℕ
@@ -10,9 +11,10 @@ abbrev pub term_end : Option ℕ → List ℕ → ℕ
 term_end (Some term) bytes = up_to (position (λ b. b == term) bytes) (length bytes)
 term_end None bytes = length bytes
 
--- the shortest of the prefixes that end at the termination character, at the count asked for, at 8,192 bytes, and at the response's end
+-- the shortest of the prefixes that end at the termination character, at the count asked for, at the most that a read gives, and at the
+-- response's end
 abbrev pub read_count : List ℕ → ℕ → Option ℕ → ℕ
-read_count response most term = min (term_end term response) (min most (min 8192 (length response)))
+read_count response most term = min (term_end term response) (min most (min max_read (length response)))
 
 abbrev pub is_byte : Option ℕ → ℕ → Bool
 is_byte (Some b) term = b == term

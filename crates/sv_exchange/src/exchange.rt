@@ -3,11 +3,13 @@
 ghost use Rattle.std.specs.Prelude.{◌≡◌, ℕ, ◌+◌, ◌*◌, ◌<◌, ◌≤◌, ◌==◌, Bool, true, false, not, List, [], ◌∷◌, ◌++◌, Option, length, take, drop, nat_lt, vec_len, vec_capacity, IsTrue, IfOk, if◌then◌else◌};
 ghost use Rattle.sv_lexer.specs.Unit.{IsLexed};
 ghost use Rattle.sv_exchange.specs.Exchange.{ExchangeAct, Accepted, TextDropped, Overran, UnitDone, UnitDue, Answered, AnswersDropped, Finished, Interrupted, ResponseRead, OverrunDue, InterruptDue, FinishDue, due, has_ended, answers, response, fits_response, is_something};
+ghost use Rattle.sv_exchange.specs.Limits.{max_message, max_response};
 ghost use Rattle.sv_exchange.specs.ReadGiven.{IsReadOf};
 ghost use Rattle.sv_exchange.specs.Contents.{Contents, StandsFor, empty, is_open, shown_by, next_of, IsUnitDue, may_respond, work_of, plain_next};
 ghost use Rattle.sv_exchange.specs.Fields.{after_accept, after_finish, after_answer, with_answer};
 
 use crate::ahead::Ahead;
+use crate::limits::{MAX_MESSAGE, MAX_RESPONSE, MAX_TEXT};
 use crate::message::first_message;
 use crate::read::{Read, read_of};
 use std::alloc::{AllocError, Allocator, Global};
@@ -15,13 +17,6 @@ use std::marker::Model;
 use sv_errors::Code;
 use sv_lexer::Unit;
 use sv_text::{append, drop_front};
-
-/// How long a program message may be, and how many bytes are written at once.
-const MAX_MESSAGE: usize = 4096;
-/// How long a response may be, with its new line.
-const MAX_RESPONSE: usize = 8192;
-/// How much text may wait: a message that hasn't ended, and a write.
-const MAX_TEXT: usize = 8192;
 
 /// What is due.
 #[derive(Clone, Copy)]
@@ -39,7 +34,8 @@ pub enum Next<'a> {
 }
 
 /// The exchange of messages with an instrument (IEEE 488.2, 6.1 and 6.3): program text that waits,
-/// cut into messages and units, and the response. It holds no more than 8,192 bytes of each.
+/// cut into messages and units, and the response. It holds no more
+/// than [`MAX_TEXT`] bytes of the one, and [`MAX_RESPONSE`] of the other.
 #[derive(Drop)]
 pub struct Exchange<A: Allocator = Global> {
     /// Program text, whose units are executed up to `cursor`.
@@ -120,11 +116,11 @@ impl<A: Allocator> Exchange<A> {
 
     /// Takes in the bytes of a write, and whether END came with the last of them (VXI-11,
     /// device_write). A message ends at END or at a new line (IEEE 488.2, 7.5). Of one that is too
-    /// long, above 4,096 bytes, none are kept. It has to be open for a write, of at most 4,096
-    /// bytes.
+    /// long, above [`MAX_MESSAGE`] bytes, none are kept. It has to be open for a write, of at most
+    /// as many.
     pub fn accept(&mut self, bytes: &[u8], ended: bool)
         requires open { IsTrue (is_open self.old) }
-        requires short { length bytes.now ≤ 4096 }
+        requires short { length bytes.now ≤ max_message }
         ensures value { self.new ≡ after_accept self.old bytes.now ended }
         ensures bounded { work_of self.new ≤ work_of self.old + 3 * length bytes.now + 4 }
         ensures stands { (acts : List ExchangeAct) → StandsFor self.old acts
@@ -248,13 +244,13 @@ impl<A: Allocator> Exchange<A> {
 
     /// Puts an answer behind those of the units before, with a semicolon between (IEEE 488.2,
     /// 8.4.1); a unit has to have been executed before. It tells whether it fits: where the
-    /// response would be longer than 8,192 bytes, all answers of the message are dropped, and no
-    /// further unit of it is executed.
+    /// response would be longer than [`MAX_RESPONSE`] bytes, all answers of the message are
+    /// dropped, and no further unit of it is executed.
     pub fn respond(&mut self, answer: &[u8]) -> bool
         requires { IsTrue (may_respond self.old) }
         ensures value { self.new ≡ after_answer self.old answer.now result }
         ensures fits { result ≡ nat_lt
-            (length (with_answer self.old.answering self.old.output answer.now)) 8192 }
+            (length (with_answer self.old.answering self.old.output answer.now)) max_response }
         ensures measure { work_of self.new ≤ work_of self.old }
         ensures stays_open { is_open self.new ≡ is_open self.old }
         ensures stands { (acts : List ExchangeAct) → StandsFor self.old acts

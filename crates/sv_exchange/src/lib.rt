@@ -8,8 +8,10 @@
 
 mod ahead;
 mod exchange;
+mod limits;
 mod message;
 mod read;
 
 pub use exchange::{Exchange, Next};
+pub use limits::{MAX_MESSAGE, MAX_READ, MAX_RESPONSE};
 pub use read::Read;

@@ -4,10 +4,8 @@ ghost use Rattle.std.specs.Prelude.{◌≡◌, ◌≤◌, length};
 ghost use Rattle.sv_exchange.specs.Read.{read_count, ends_at_term};
 ghost use Rattle.sv_exchange.specs.ReadGiven.{IsReadOf};
 
+use crate::limits::MAX_READ;
 use sv_text::place_of;
-
-/// How many bytes are given at once.
-const MAX_READ: usize = 8192;
 
 /// The next bytes of a response, and why they end there.
 #[derive(Clone, Copy)]

@@ -11,6 +11,7 @@ use Rattle.sv_links.specs.declared.waiting.Wait.{Wait}
 use Rattle.sv_links.specs.declared.waiting.Wait.TheVariants.{Lock, Input, Response, Dial}
 use Rattle.sv_links.specs.Links.{live, lids_left, holder, is_locked_out}
 use Rattle.sv_links.specs.Waiting.{Entered, creating}
+use Rattle.sv_links.specs.Limits.{max_links}
 use Rattle.sv_exchange.specs.Exchange.{has_ended}
 use Rattle.sv_instrument.specs.Step.{is_answerable}
 use Rattle.sv_history.specs.declared.event.Config.{Config}
@@ -46,9 +47,9 @@ device_wait (DeviceRead lid request_size io_timeout lock_timeout flags term_char
     if is_answerable (instrument_acts acts) then None else Some Response
 device_wait _ acts = None
 
--- whether a link more may be made, with those for which create_links wait: of 32, and while there are numbers
+-- whether a link more may be made, with those for which create_links wait, and while there are numbers
 abbrev pub may_make_more : List DeviceAct → Bool
-may_make_more acts = nat_lt (length (live (link_acts acts)) + creating (wait_acts acts)) 32 && lids_left (link_acts acts)
+may_make_more acts = nat_lt (length (live (link_acts acts)) + creating (wait_acts acts)) max_links && lids_left (link_acts acts)
 
 -- a link has the name inst0, is made while one more may be, and, where it asks for the lock, once no link has it
 abbrev pub link_stop : Bool → ℕ → List ℕ → List DeviceAct → Option Stop

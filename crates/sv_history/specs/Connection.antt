@@ -4,11 +4,13 @@ use Rattle.std.specs.Prelude.{ℕ, ◌+◌, ◌-◌, ◌==◌, ◌&&◌, ◌||�
 use Rattle.sv_rpc.specs.Record.{Tail, Header, Data, TooLong}
 use Rattle.sv_rpc.specs.RecordBuf.{used_by}
 use Rattle.sv_rpc.specs.Stream.{records_of, tail_of}
+use Rattle.sv_rpc.specs.Limits.{capacity}
 use Rattle.sv_links.specs.Channels.{ChannelAct, waiting as channel_waiting}
 use Rattle.sv_history.specs.declared.event.Role.{Role}
 use Rattle.sv_history.specs.declared.event.Port.{Port}
 use Rattle.sv_history.specs.declared.event.Port.TheVariants.{Conn, Intr}
 use Rattle.sv_history.specs.Act.{Act, ConnAct, Opened, Piece, CallTaken, Faulted, Replied, BytesTaken, PortClosed, of}
+use Rattle.sv_history.specs.Limits.{max_output}
 
 -- what it is open for, where its newest opening or closing is an opening
 abbrev pub open_role : List ConnAct → Option Role
@@ -105,8 +107,8 @@ is_faulted acts = took_no_call acts || (is_too_long (tail_of (stream acts)) && (
 
 -- how many bytes may come: a record counts until it comes to its end
 abbrev pub room : List ConnAct → ℕ
-room acts = if is_open acts then 16384 - used_by (drop (completed acts) (records_of (stream acts))) (tail_of (stream acts)) else 0
+room acts = if is_open acts then capacity - used_by (drop (completed acts) (records_of (stream acts))) (tail_of (stream acts)) else 0
 
 -- how many outgoing bytes are free
 abbrev pub free : List ConnAct → ℕ
-free acts = 16384 - length (untaken acts)
+free acts = max_output - length (untaken acts)

@@ -3,6 +3,7 @@ use Rattle.std.specs.Prelude.{ℕ, ℤ, pos, negsuc, Bool, false, [], length, Op
 use Rattle.sv_vxi.specs.declared.error_code.ErrorCode.{ErrorCode}
 use Rattle.sv_vxi.specs.Arguments.{Arguments, is_create_link, CreateLink, DeviceWrite, DeviceRead, DeviceReadstb, DeviceDocmd}
 use Rattle.sv_vxi.specs.Results.{Outcome, Link, Size, Read, Status, Plain, Data}
+use Rattle.sv_exchange.specs.Limits.{max_message}
 
 -- a call of the core channel: its transaction and its arguments
 pub record CoreCall : Type 0 where
@@ -22,7 +23,7 @@ lid_of None = None
 
 -- whether a write brings more than 4,096 bytes
 abbrev pub is_too_long : Arguments → Bool
-is_too_long (DeviceWrite lid io_timeout lock_timeout flags bytes) = nat_lt 4096 (length bytes)
+is_too_long (DeviceWrite lid io_timeout lock_timeout flags bytes) = nat_lt max_message (length bytes)
 is_too_long _ = false
 
 -- the result of a read that gives nothing

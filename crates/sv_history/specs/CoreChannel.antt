@@ -10,6 +10,7 @@ use Rattle.sv_vxi.specs.Results.{Outcome, Link, Size, Read, Status, Plain}
 use Rattle.sv_links.specs.Links.{Made, Destroyed, Locked, Unlocked, owner, is_of, made, lids_left, holder, is_locked_out, is_this}
 use Rattle.sv_exchange.specs.Exchange.{Accepted, TextDropped, ResponseRead, has_ended, response, is_something}
 use Rattle.sv_exchange.specs.Read.{read_count, ends_at_term}
+use Rattle.sv_exchange.specs.Limits.{max_message}
 use Rattle.sv_history.specs.declared.event.Config.{Config}
 use Rattle.sv_layers.specs.Act.{Exchanged, Reported, Purged, Polled}
 use Rattle.sv_instrument.specs.Step.{is_answerable}
@@ -30,7 +31,7 @@ make_link config c lock_device acts =
     if not (lids_left (link_acts acts)) then only (Link OutOfResources (pos 0) 0 0)
     else (let lid = made (link_acts acts) + 1 in
     answered ((if lock_device then Linked (Locked lid) ∷ [] else []) ++ Linked (Made lid c) ∷ [])
-    (Link NoError (pos lid) config.abort 4096))
+    (Link NoError (pos lid) config.abort max_message))
 
 -- a link is destroyed
 abbrev pub destroy_link : Option ℕ → CallOutcome
@@ -52,7 +53,7 @@ device_unlock None acts = only (Plain InvalidLink)
 -- the bytes of a write are accepted where no message waits to be executed
 abbrev pub device_write : ℕ → List ℕ → List DeviceAct → CallOutcome
 device_write flags bytes acts =
-    if nat_lt 4096 (length bytes) then only (Size ParameterError 0)
+    if nat_lt max_message (length bytes) then only (Size ParameterError 0)
     else (if has_ended (exchange_acts acts) then only (Size IoTimeout 0)
     else answered (Happened (Exchanged (Accepted bytes (bit_at flags 3 == 1))) ∷ []) (Size NoError (length bytes)))
 

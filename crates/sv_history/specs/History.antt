@@ -28,6 +28,7 @@ use Rattle.sv_history.specs.Execution.{request_effect, aborts}
 use Rattle.sv_history.specs.Resuming.{failed, connected}
 use Rattle.sv_history.specs.PolledStatus.{IsPolled}
 use Rattle.sv_history.specs.Settling.{Settles}
+use Rattle.sv_history.specs.Limits.{longest_reply}
 
 -- the acts of a suspended call of this connection that another one's call ends
 abbrev pub abort_acts : Option ℕ → List Act → List Act
@@ -96,11 +97,12 @@ last_clock = 9223372036854775807
 
 -- why a Turn of an open connection is refused: only one that isn't idle wants room for the longest reply
 abbrev pub turn_refusal : List ConnAct → Option Refused
-turn_refusal acts = if is_idle acts then None else (if nat_lt (free acts) 8232 then Some NoRoom else None)
+turn_refusal acts = if is_idle acts then None else (if nat_lt (free acts) longest_reply then Some NoRoom else None)
 
 -- why a Refuse of an open connection is
 abbrev pub refuse_refusal : List ConnAct → Option Refused
-refuse_refusal acts = if is_none (refusable acts) then Some NotRefusable else (if nat_lt (free acts) 8232 then Some NoRoom else None)
+refuse_refusal acts =
+    if is_none (refusable acts) then Some NotRefusable else (if nat_lt (free acts) longest_reply then Some NoRoom else None)
 
 -- why so many bytes can't have been taken, of those that wait
 abbrev pub took_refusal : ℕ → List ℕ → Option Refused

@@ -20,7 +20,7 @@ use Rattle.sv_history.specs.Request.{core_call_in}
 abbrev pub has_channel : ℕ → List DeviceAct → Bool
 has_channel c acts = is_channel_open c (channel_acts acts)
 
--- a link asks for service requests, with a handle of at most 40 bytes, or asks no more
+-- a link asks for service requests, with a handle, or asks no more
 abbrev pub enable_srq : ℕ → Bool → ℕ → List ℕ → CallOutcome
 enable_srq c true lid handle = if nat_lt max_handle (length handle) then only (Plain ParameterError)
     else answered (Channel (SrqEnabled lid c handle) ∷ []) (Plain NoError)

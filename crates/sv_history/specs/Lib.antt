@@ -1,3 +1,4 @@
+pub mod Limits
 pub mod Event
 pub mod Act
 pub mod Connection

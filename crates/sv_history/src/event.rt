@@ -72,7 +72,7 @@ pub enum Event<'a> {
     },
     /// The live voltage of a channel changes.
     Input {
-        /// The channel, 1 to 32.
+        /// The channel, 1 to [`CHANNELS`](sv_errors::CHANNELS).
         channel: u8,
         /// The voltage in microvolts, within plus or minus 1,000,000,000.
         microvolts: i64,
@@ -137,7 +137,7 @@ pub enum Refused {
     /// The next call can't be refused.
     #[error("the next call can't be refused")]
     NotRefusable = 7,
-    /// The channel isn't 1 to 32.
+    /// There is no channel of this number.
     #[error("there is no such channel")]
     BadChannel = 8,
     /// The voltage is beyond plus or minus 1,000,000,000 microvolts.

@@ -5,11 +5,9 @@ ghost use Rattle.sv_instrument.specs.Representation.{StandsFor};
 
 use std::alloc::{AllocError, Allocator, Global};
 use std::marker::Model;
+use sv_exchange::MAX_RESPONSE;
 use sv_header::{Path, Table};
 use sv_layers::{Awaited, Layers};
-
-/// How long the answer of a unit may be, in bytes.
-const LONGEST_ANSWER: usize = 8192;
 
 /// The instrument: what happens to it, and what it answers.
 #[derive(Drop)]
@@ -22,7 +20,7 @@ pub struct Instrument<A: Allocator = Global> {
     pub(crate) layers: Layers<A>,
     /// What the unit will answer that is held.
     pub(crate) held: Option<Awaited>,
-    /// The answer of a unit.
+    /// The answer of a unit, at most as long as a response.
     pub(crate) answer: Vec<u8, A>,
 }
 
@@ -32,11 +30,12 @@ impl<A: Allocator> Model for Instrument<A> {
     ghost Value = { Kept };
 
     ghost use Rattle.std.specs.Prelude.{◌≤◌, vec_capacity};
+    ghost use Rattle.sv_exchange.specs.Limits.{max_response};
     ghost use Rattle.sv_instrument.specs.Representation.{IsHeldRight};
 
     ghost view = { λ a. record { layers = a.layers; held = a.held; path = a.path } };
 
-    ghost invariant = { λ a. (8192 ≤ vec_capacity a.answer) × IsHeldRight a.held a.layers };
+    ghost invariant = { λ a. (max_response ≤ vec_capacity a.answer) × IsHeldRight a.held a.layers };
 }
 
 impl<A: Allocator + Copy> Instrument<A> {
@@ -47,7 +46,7 @@ impl<A: Allocator + Copy> Instrument<A> {
     pub fn new(alloc: A) -> Result<Instrument<A>, AllocError>
         ensures { IfOk result (λ instrument. StandsFor instrument []) }
     {
-        let answer = Vec::with_capacity(alloc, LONGEST_ANSWER)?;
+        let answer = Vec::with_capacity(alloc, MAX_RESPONSE)?;
         let table = Table::new(alloc)?;
         let layers = Layers::new(alloc)?;
         Ok(Instrument {

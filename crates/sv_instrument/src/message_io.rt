@@ -4,6 +4,7 @@ ghost use Rattle.std.specs.Prelude.{◌≡◌, ◌≤◌, ◌||◌, not, List, �
 ghost use Rattle.sv_errors.specs.declared.code.Code.TheVariants.{QueryUnterminated};
 ghost use Rattle.sv_exchange.specs.Exchange.{Accepted, TextDropped, ResponseRead, has_ended, response, is_something};
 ghost use Rattle.sv_exchange.specs.Contents.{is_open, shown_by};
+ghost use Rattle.sv_exchange.specs.Limits.{max_message};
 ghost use Rattle.sv_exchange.specs.ReadGiven.{IsReadOf};
 ghost use Rattle.sv_layers.specs.Act.{Act, Exchanged, Reported, Purged, exchange_acts};
 ghost use Rattle.sv_instrument.specs.Step.{is_answerable};
@@ -14,7 +15,7 @@ use crate::unit_effects::change;
 use crate::unit_outcome::one;
 use std::alloc::Allocator;
 use sv_errors::Code;
-use sv_exchange::Read;
+use sv_exchange::{MAX_MESSAGE, Read};
 use sv_header::Path;
 use sv_layers::Change;
 
@@ -29,11 +30,11 @@ impl<A: Allocator> Instrument<A> {
     }
 
     /// Takes in the bytes of a write, and whether END came with the last of them (VXI-11,
-    /// device_write). A write has to be taken now, of at most 4,096 bytes. It tells how many
-    /// requests for service were raised, as all calls here do that change something.
+    /// device_write). A write has to be taken now, of at most [`MAX_MESSAGE`] bytes. It tells how
+    /// many requests for service were raised, as all calls here do that change something.
     pub fn write(&mut self, bytes: &[u8], ended: bool) -> u8
         requires open { IsTrue (is_open self.old.layers.exchange) }
-        requires short { length bytes.now ≤ 4096 }
+        requires short { length bytes.now ≤ max_message }
         ensures { (log : List Act) → StandsFor self.old log
             → Ran self.new result log (Exchanged (Accepted bytes.now ended) ∷ log) }
     {

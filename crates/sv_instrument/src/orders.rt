@@ -2,6 +2,7 @@
 
 ghost use Rattle.std.specs.Prelude.{◌≤◌, List, vec_capacity};
 ghost use Rattle.sv_exchange.specs.Contents.{IsUnitDue, next_of};
+ghost use Rattle.sv_exchange.specs.Limits.{max_response};
 ghost use Rattle.sv_layers.specs.Act.{Act};
 ghost use Rattle.sv_layers.specs.Inside.Kept.{StandsFor as Stands};
 ghost use Rattle.sv_instrument.specs.CommandEffect.{Performs};
@@ -23,12 +24,12 @@ pub(crate) fn perform<A: Allocator>(
     order: Order,
 ) -> Outcome
     requires due { IsUnitDue (next_of layers.old.exchange) }
-    requires room { 8192 ≤ vec_capacity answer.old }
+    requires room { max_response ≤ vec_capacity answer.old }
     ensures behaves { (log : List Act) → Stands layers.old log
         → Behaves (Performs order log) layers.new result log }
     ensures advances { Advances layers.old layers.new result.held }
     ensures few { result.raised ≤ 8 }
-    ensures capacity { 8192 ≤ vec_capacity answer.new }
+    ensures capacity { max_response ≤ vec_capacity answer.new }
 {
     let change = match order {
         Order::ClearStatus => Change::ClearStatus,

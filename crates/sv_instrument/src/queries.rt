@@ -2,6 +2,7 @@
 
 ghost use Rattle.std.specs.Prelude.{◌≡◌, ◌≤◌, List, vec_capacity, None};
 ghost use Rattle.sv_exchange.specs.Contents.{IsUnitDue, next_of};
+ghost use Rattle.sv_exchange.specs.Limits.{max_response};
 ghost use Rattle.sv_layers.specs.Act.{Act};
 ghost use Rattle.sv_layers.specs.Inside.Kept.{StandsFor as Stands};
 ghost use Rattle.sv_instrument.specs.CommandEffect.{question_fault, taken, Replies};
@@ -25,12 +26,12 @@ pub(crate) fn ask<A: Allocator>(
     question: Question,
 ) -> Outcome
     requires due { IsUnitDue (next_of layers.old.exchange) }
-    requires room { 8192 ≤ vec_capacity answer.old }
+    requires room { max_response ≤ vec_capacity answer.old }
     ensures behaves { (log : List Act) → Stands layers.old log
         → Behaves (Replies (question_fault question log) question log) layers.new result log }
     ensures advances { Advances layers.old layers.new result.held }
     ensures few { result.raised ≤ 7 }
-    ensures capacity { 8192 ≤ vec_capacity answer.new }
+    ensures capacity { max_response ≤ vec_capacity answer.new }
 {
     match refused(layers, question) {
         Some(code) => carry_out(layers, Change::Report(code)),
@@ -70,10 +71,10 @@ fn take<A: Allocator>(layers: &mut Layers<A>, question: Question) -> u8
 /// Puts the answer of a query, as it is now, in the place of what is there. Readings that can't be
 /// fetched aren't put.
 pub(crate) fn put_answer<A: Allocator>(out: &mut Vec<u8, A>, layers: &Layers<A>, question: Question)
-    requires { 8192 ≤ vec_capacity out.old }
+    requires { max_response ≤ vec_capacity out.old }
     ensures says { (log : List Act) → Stands layers.now log → question_fault question log ≡ None
         → Says question log out.new.items }
-    ensures capacity { 8192 ≤ vec_capacity out.new }
+    ensures capacity { max_response ≤ vec_capacity out.new }
 {
     out.clear();
     let scanner = layers.scanner();

@@ -15,8 +15,8 @@ use sv_layers::Change;
 use sv_scan::{ScanAct, State};
 
 impl<A: Allocator> Instrument<A> {
-    /// The voltage of a channel's input is this from now on, in microvolts. A channel that isn't 1
-    /// to 32 has no input: nothing changes. It tells how many requests for service were raised, as
+    /// The voltage of a channel's input is this from now on, in microvolts. A channel that there
+    /// isn't has no input: nothing changes. It tells how many requests for service were raised, as
     /// all calls below do.
     pub fn input(&mut self, channel: u8, microvolts: i64) -> u8
         ensures { (log : List Act) → StandsFor self.old log

@@ -3,6 +3,7 @@
 ghost use Rattle.std.specs.Prelude.{◌≡◌, ◌≤◌, ℕ, List, Some, None, vec_capacity};
 ghost use Rattle.sv_exchange.specs.Exchange.{next_unit};
 ghost use Rattle.sv_exchange.specs.Contents.{IsUnitDue, next_of};
+ghost use Rattle.sv_exchange.specs.Limits.{max_response};
 ghost use Rattle.sv_layers.specs.Act.{Act, exchange_acts};
 ghost use Rattle.sv_layers.specs.Inside.Kept.{StandsFor as Stands};
 ghost use Rattle.sv_instrument.specs.Step.{released};
@@ -27,13 +28,13 @@ pub(crate) fn start<A: Allocator>(
     answer: &mut Vec<u8, A>,
 ) -> Outcome
     requires due { IsUnitDue (next_of layers.old.exchange) }
-    requires room { 8192 ≤ vec_capacity answer.old }
+    requires room { max_response ≤ vec_capacity answer.old }
     ensures behaves { (log : List Act) → Stands layers.old log → (unit : List ℕ)
         × (next_unit (exchange_acts log) ≡ Some unit)
         × Behaves (Follows unit path.old path.new log) layers.new result log }
     ensures advances { Advances layers.old layers.new result.held }
     ensures few { result.raised ≤ 8 }
-    ensures capacity { 8192 ≤ vec_capacity answer.new }
+    ensures capacity { max_response ≤ vec_capacity answer.new }
 {
     match read_unit(table, path, layers.exchange().lexed()) {
         Ok(order) => perform(layers, answer, order),
@@ -48,12 +49,12 @@ pub(crate) fn release<A: Allocator>(
     awaited: Awaited,
 ) -> Outcome
     requires due { IsUnitDue (next_of layers.old.exchange) }
-    requires room { 8192 ≤ vec_capacity answer.old }
+    requires room { max_response ≤ vec_capacity answer.old }
     ensures behaves { (log : List Act) → Stands layers.old log
         → Behaves (λ new. new ≡ released awaited log) layers.new result log }
     ensures advances { Advances layers.old layers.new result.held }
     ensures free { (result.held ≡ None) × (result.raised ≤ 8) }
-    ensures capacity { 8192 ≤ vec_capacity answer.new }
+    ensures capacity { max_response ≤ vec_capacity answer.new }
 {
     match awaited {
         Awaited::Nothing => end(layers, 0),

@@ -3,6 +3,7 @@
 ghost use Rattle.std.specs.Prelude.{◌≡◌, ◌+◌, ◌*◌, ◌<◌, ◌≤◌, List, ◌∷◌, drop, length, IsTrue, if◌then◌else◌};
 ghost use Rattle.sv_exchange.specs.Exchange.{Accepted, TextDropped, Overran, UnitDone, Answered, AnswersDropped, Finished, Interrupted, ResponseRead, OverrunDue, InterruptDue, FinishDue, answers, fits_response};
 ghost use Rattle.sv_exchange.specs.Contents.{empty, is_open, shown_by, next_of, IsUnitDue, may_respond, work_of};
+ghost use Rattle.sv_exchange.specs.Limits.{max_message};
 ghost use Rattle.sv_layers.specs.Act.{Act, Exchanged, Purged, exchange_acts};
 ghost use Rattle.sv_layers.specs.Inside.Kept.{StandsFor, Happens};
 
@@ -20,11 +21,11 @@ pub struct Response {
 
 impl<A: Allocator> Layers<A> {
     /// Takes in the bytes of a write, and whether END came with the last of them. It has to be open
-    /// for a write, of at most 4,096 bytes. It tells whether a request for service is raised, as
-    /// all calls below do.
+    /// for a write, of at most [`MAX_MESSAGE`](sv_exchange::MAX_MESSAGE) bytes. It tells whether a
+    /// request for service is raised, as all calls below do.
     pub fn accept(&mut self, bytes: &[u8], ended: bool) -> bool
         requires open { IsTrue (is_open self.old.exchange) }
-        requires short { length bytes.now ≤ 4096 }
+        requires short { length bytes.now ≤ max_message }
         ensures happens { (log : List Act) → StandsFor self.old log
             → Happens self.new result (Exchanged (Accepted bytes.now ended) ∷ log) }
         ensures bounded { work_of self.new.exchange

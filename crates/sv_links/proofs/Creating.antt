@@ -1,18 +1,19 @@
 -- The create_links that wait, counted over entries and over connections.
 use Rattle.std.proofs.Common.{◌≡◌, ◌≢◌, ℕ, ◌+◌, ◌<◌, Bool, true, false, eqb, List, [], ◌∷◌, ◌++◌, length, Option, Some, None, refl, sym, ap, ◌∙◌, arith, inl, inr, eq-eqb, suc, zero}
 use Rattle.std.specs.Prelude.{not, filter, is_some, is_none, option_map, ◌&&◌}
-use Rattle.std.specs.List.{AllByRecursion}
+use Rattle.std.specs.List.{AllByRecursion, range_with_len}
 use Rattle.std.proofs.lemmas.Bool.{cases_Bool, eqb-true, ne_eqb, true≢false}
 use Rattle.sv_links.specs.declared.waiting.Entry.{Entry}
 use Rattle.sv_links.specs.declared.waiting.Wait.{Wait}
+use Rattle.sv_links.specs.Limits.{max_connections}
 use Rattle.sv_links.specs.Waiting.{WaitAct, waits, link, is_lock, is_creating, creating}
 use Rattle.sv_links.specs.Queue.{IsQueue, IsEntry, IsFree, IsOnce, IsBelow, creates, creations, without}
 use Rattle.sv_links.proofs.Queues.{Among, among_from_find, once-filter, below_less, all_filter, kept_free}
 
--- numbers below one
-abbrev upto : ℕ → List ℕ
-upto zero = []
-upto (suc n) = upto n ++ n ∷ []
+-- so many numbers from one on, and one more
+range_push : (a n b : ℕ) → a + n ≡ b → range_with_len a (suc n) ≡ range_with_len a n ++ b ∷ []
+range_push a zero b e = ap (λ (m : ℕ). m ∷ []) (omega (arith, e))
+range_push a (suc n) b e = ap (λ (ns : List ℕ). a ∷ ns) (range_push (a + 1) n b (omega (arith, e)))
 
 abbrev one_if : Bool → ℕ
 one_if true = 1
@@ -69,14 +70,15 @@ all_to P Q f (x ∷ xs) h = (f x h.0, all_to P Q f xs h.1)
 -- as many entries pass as connections do
 tally : (p : Entry → Bool) (test : ℕ → Bool) (n : ℕ) (xs : List Entry) → IsOnce xs → IsBelow n xs
     → AllByRecursion (λ x. p x ≡ test x.conn) xs → ((c : ℕ) → c < n → test c ≡ true → Among c xs)
-    → length (filter p xs) ≡ length (filter test (upto n))
+    → length (filter p xs) ≡ length (filter test (range_with_len 0 n))
 tally p test zero [] once below same among = refl
 tally p test zero (x ∷ xs) once below same among = absurd (omega (arith, below.0))
 tally p test (suc n) xs once below same among =
     let rest = tally p test n (without n xs) (once-filter (λ x. not (eqb x.conn n)) xs once) (below_less n xs below)
     (all_filter (λ x. p x ≡ test x.conn) (λ x. not (eqb x.conn n)) xs same)
     (λ c lt k. among-without c n xs (omega (arith, lt)) (among c (omega (arith, lt)) k)) in
-    let end = pushed test (upto n) n in
+    let end = ap (λ (ns : List ℕ). length (filter test ns)) (range_push 0 n n (omega arith))
+    ∙ pushed test (range_with_len 0 n) n in
     elim (cases_Bool (test n)) [
       | inl e ↦
           let one = taken p n xs once (among n (omega arith) e)
@@ -95,8 +97,9 @@ not_lock : (o : Option Wait) (b : Bool) → (is_lock o && b) ≡ true → o ≡ 
 not_lock None b e none = true≢false (sym e)
 not_lock (Some wait) b e none = true≢false (ap is_some none)
 
-pub creations-all : (acts : List WaitAct) (xs : List Entry) → IsOnce xs → IsBelow 16 xs → IsQueue xs acts → creations xs ≡ creating acts
-creations-all acts xs once below is = tally creates (is_creating acts) 16 xs once below
+pub creations-all : (acts : List WaitAct) (xs : List Entry) → IsOnce xs → IsBelow max_connections xs → IsQueue xs acts
+    → creations xs ≡ creating acts
+creations-all acts xs once below is = tally creates (is_creating acts) max_connections xs once below
     (all_to (IsEntry acts) (λ x. creates x ≡ is_creating acts x.conn) (same_creates acts) xs is.each)
     (λ c lt e. among_from_find c xs (λ none. not_lock (waits c acts) (is_none (link c acts)) e
     (is.all c ∙ ap (λ o. option_map (λ (x : Entry). x.wait) o) none)))

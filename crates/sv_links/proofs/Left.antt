@@ -6,6 +6,7 @@ use Rattle.std.proofs.lemmas.Bool.{cases_Bool, ltb-true, ltb-false, lt-ltb, le-l
 use Rattle.std.proofs.lemmas.List.{length-append, length-drop, drop_at, drop-drop, drop-append-le}
 use Rattle.std.proofs.lemmas.List.Sums.{sum_by-cons}
 use Rattle.sv_links.specs.Channels.{left_of}
+use Rattle.sv_links.specs.Limits.{longest_call}
 use Rattle.sv_links.specs.ChannelRepresentation.{left_in}
 
 -- the sizes of what is left of calls are what is left of their sizes
@@ -99,7 +100,7 @@ length-left count (size ∷ sizes) = elim (cases_Bool (ltb count size)) [
   | inr e ↦ rw e (omega (arith, length-left (count - size) sizes))
 ]
 
--- so many sizes, none above 88, are at most so much
-pub sum-bounded : (sizes : List ℕ) → AllByRecursion (λ size. size ≤ 88) sizes → sum sizes ≤ 88 * length sizes
+-- so many sizes, none above that of the longest call, are at most so much
+pub sum-bounded : (sizes : List ℕ) → AllByRecursion (λ size. size ≤ longest_call) sizes → sum sizes ≤ longest_call * length sizes
 sum-bounded [] h = omega arith
 sum-bounded (size ∷ sizes) h = omega (arith, sum-cons size sizes, h.0, sum-bounded sizes h.1)

@@ -1,5 +1,5 @@
--- A service request's call has at most 88 bytes.
-use Rattle.std.proofs.Common.{◌≡◌, ℕ, ◌<◌, ◌≤◌, List, [], ◌∷◌, ◌++◌, length, Result, refl, sym, ap, ◌∙◌, arith}
+-- A service request's call is no longer than it may be.
+use Rattle.std.proofs.Common.{◌≡◌, ℕ, ◌+◌, ◌<◌, ◌≤◌, List, [], ◌∷◌, ◌++◌, length, Result, refl, sym, ap, ◌∙◌, arith}
 use Rattle.std.specs.Prelude.{map, replicate}
 use Rattle.std.specs.List.{concat}
 use Rattle.std.proofs.lemmas.List.{length-append, length-replicate, append-nil}
@@ -11,6 +11,7 @@ use Rattle.sv_xdr.specs.Writer.{text_of, rest_of, WritesEach}
 use Rattle.sv_xdr.proofs.Whole.{room_left, whole_is_written}
 use Rattle.sv_rpc.specs.Reply.{call_fields}
 use Rattle.sv_links.specs.declared.request.Peer.{Peer}
+use Rattle.sv_links.specs.Limits.{max_handle, longest_text}
 use Rattle.sv_links.specs.Request.{request, device_intr_srq}
 
 -- the header of a call, and the handle behind it
@@ -23,7 +24,7 @@ text xid peer handle = concat (map spelling (call_fields xid peer.prog peer.vers
 header_is_40 : (xid : ℕ) (peer : Peer) → length (concat (header xid peer)) ≡ 40
 header_is_40 xid peer = refl
 
-handle_is_short : (handle : List ℕ) → length handle ≤ 40 → length (spelling (Opaque handle)) ≤ 44
+handle_is_short : (handle : List ℕ) → length handle ≤ max_handle → length (spelling (Opaque handle)) ≤ 4 + max_handle
 handle_is_short handle h = omega (
   arith,
   length-append handle (replicate (pad_len (length handle)) 0),
@@ -35,7 +36,8 @@ text_parts xid peer handle =
     concat-append (header xid peer) (spelling (Opaque handle) ∷ [])
     ∙ ap (λ (t : List ℕ). concat (header xid peer) ++ t) (append-nil (spelling (Opaque handle)))
 
-pub text_is_short : (xid : ℕ) (peer : Peer) (handle : List ℕ) → length handle ≤ 40 → length (text xid peer handle) ≤ 84
+pub text_is_short : (xid : ℕ) (peer : Peer) (handle : List ℕ) → length handle ≤ max_handle
+    → length (text xid peer handle) ≤ longest_text
 text_is_short xid peer handle h = omega (
   arith,
   ap length (text_parts xid peer handle),
@@ -49,7 +51,7 @@ request_is_some xid peer handle = omega arith
 
 -- the header of a call and the handle are all written where they have room
 pub text_is_written : (xid : ℕ) (peer : Peer) (handle : List ℕ) (r s : Result Unit XdrFault) (old mid new : Writer) → text_of old ≡ []
-    → length handle ≤ 40 → 84 ≤ length (rest_of old)
+    → length handle ≤ max_handle → longest_text ≤ length (rest_of old)
     → WritesEach (header xid peer) r old mid
     → WritesEach (spelling (Opaque handle) ∷ []) s mid new
     → text_of new ≡ text xid peer handle

@@ -8,6 +8,7 @@ use Rattle.std.proofs.lemmas.List.Folds.{concat-append}
 use Rattle.sv_links.specs.declared.channel.Stage.{Stage}
 use Rattle.sv_links.specs.declared.channel.Stage.TheVariants.{Closed, Open}
 use Rattle.sv_links.specs.declared.request.Peer.{Peer}
+use Rattle.sv_links.specs.Limits.{max_calls}
 use Rattle.sv_links.specs.Request.{request}
 use Rattle.sv_links.specs.Channels.{left_of, may_call, called}
 use Rattle.sv_links.specs.ChannelRepresentation.{Channel, IsQueued, left_in}
@@ -47,10 +48,10 @@ sizes_are : (kept : Channel) (count : ℕ) (calls : List (List ℕ)) → IsQueue
     → length kept.sizes ≡ length (left_of count calls)
 sizes_are kept count calls is = ap length is.1 ∙ length-map (left_of count calls) length
 
-pub may_be_sent : (kept : Channel) (count : ℕ) (calls : List (List ℕ)) → IsQueued kept count calls → length kept.sizes < 32
+pub may_be_sent : (kept : Channel) (count : ℕ) (calls : List (List ℕ)) → IsQueued kept count calls → length kept.sizes < max_calls
     → kept.made < 4294967295 → may_call count calls ≡ true
 may_be_sent kept count calls is h k =
-    rw (← sizes_are kept count calls is, ← is.0, lt-ltb (length kept.sizes) 32 h, lt-ltb kept.made 4294967295 k) refl
+    rw (← sizes_are kept count calls is, ← is.0, lt-ltb (length kept.sizes) max_calls h, lt-ltb kept.made 4294967295 k) refl
 
 and_false : (b : Bool) (m : ℕ) → 4294967295 ≤ m → (b && nat_lt m 4294967295) ≡ false
 and_false true m h = rw (le-ltb m 4294967295 h) refl
@@ -59,7 +60,7 @@ and_false false m h = refl
 pub is_last : (kept : Channel) (count : ℕ) (calls : List (List ℕ)) → IsQueued kept count calls → 4294967295 ≤ kept.made
     → may_call count calls ≡ false
 is_last kept count calls is h =
-    rw (← is.0) (and_false (nat_lt (length (left_of count calls)) 32) kept.made h)
+    rw (← is.0) (and_false (nat_lt (length (left_of count calls)) max_calls) kept.made h)
 
 -- the calls behind which one was sent, if it may be
 abbrev with_call : Peer → List ℕ → List (List ℕ) → Bool → List (List ℕ)
@@ -68,7 +69,7 @@ with_call peer handle calls can = if can then calls ++ request (length calls + 1
 -- a call is sent, as it may be
 pub IsQueued-sent : (old new : Channel) (peer : Peer) (handle : List ℕ) (count : ℕ) (calls : List (List ℕ)) (size : ℕ)
     → new.made ≡ old.made + 1 → new.sizes ≡ old.sizes ++ size ∷ [] → new.bytes ≡ old.bytes ++ request (old.made + 1) peer handle
-    → length new.bytes ≡ length old.bytes + size → length old.sizes < 32 → old.made < 4294967295
+    → length new.bytes ≡ length old.bytes + size → length old.sizes < max_calls → old.made < 4294967295
     → IsQueued old count calls → IsQueued new count (called (Some peer) count calls handle)
 IsQueued-sent old new peer handle count calls size made sizes bytes total few left is =
     let call = request (length calls + 1) peer handle in

@@ -8,6 +8,7 @@ use Rattle.std.proofs.lemmas.List.Elements.{All-filter, All-push, All-from_recur
 use Rattle.sv_links.specs.declared.links.Link.{Link}
 use Rattle.sv_links.specs.declared.links.CreateRefused.{CreateRefused}
 use Rattle.sv_links.specs.declared.links.CreateRefused.TheVariants.{OutOfResources, NoMemory}
+use Rattle.sv_links.specs.Limits.{max_links}
 use Rattle.sv_links.specs.Links.{LinkAct, Made, Destroyed, live, may_make}
 use Rattle.sv_links.specs.Table.{Table, IsTable, IsRising, count_of}
 use Rattle.sv_links.proofs.Slots.{keep, kept-filter, kept-put, kept-count}
@@ -73,25 +74,25 @@ pub count_is : (table : Table) (acts : List LinkAct) → IsTable table acts → 
 count_is table acts is = kept-count table.slots (live acts) is.kept
 
 pub may_is : (table : Table) (acts : List LinkAct) → IsTable table acts
-    → may_make acts ≡ (nat_lt (count_of table) 32 && nat_lt table.made 2147483647)
+    → may_make acts ≡ (nat_lt (count_of table) max_links && nat_lt table.made 2147483647)
 may_is table acts is = rw (count_is table acts is, is.made) refl
 
-full : (n m : ℕ) → 32 ≤ n → (nat_lt n 32 && nat_lt m 2147483647) ≡ false
-full n m h = rw (le-ltb n 32 h) refl
+full : (n m : ℕ) → max_links ≤ n → (nat_lt n max_links && nat_lt m 2147483647) ≡ false
+full n m h = rw (le-ltb n max_links h) refl
 
 used : (b : Bool) (m : ℕ) → 2147483647 ≤ m → (b && nat_lt m 2147483647) ≡ false
 used true m h = rw (le-ltb m 2147483647 h) refl
 used false m h = refl
 
-pub is_full : (table : Table) (acts : List LinkAct) → IsTable table acts → 32 ≤ count_of table → may_make acts ≡ false
+pub is_full : (table : Table) (acts : List LinkAct) → IsTable table acts → max_links ≤ count_of table → may_make acts ≡ false
 is_full table acts is h = may_is table acts is ∙ full (count_of table) table.made h
 
 pub is_used : (table : Table) (acts : List LinkAct) → IsTable table acts → 2147483647 ≤ table.made → may_make acts ≡ false
-is_used table acts is h = may_is table acts is ∙ used (nat_lt (count_of table) 32) table.made h
+is_used table acts is h = may_is table acts is ∙ used (nat_lt (count_of table) max_links) table.made h
 
-pub has_place : (table : Table) (acts : List LinkAct) → IsTable table acts → count_of table < 32 → table.made < 2147483647
+pub has_place : (table : Table) (acts : List LinkAct) → IsTable table acts → count_of table < max_links → table.made < 2147483647
     → may_make acts ≡ true
-has_place table acts is h k = may_is table acts is ∙ rw (lt-ltb (count_of table) 32 h, lt-ltb table.made 2147483647 k) refl
+has_place table acts is h k = may_is table acts is ∙ rw (lt-ltb (count_of table) max_links h, lt-ltb table.made 2147483647 k) refl
 
 -- the errors differ
 abbrev is_shortage : Result ℕ CreateRefused → Bool

@@ -5,6 +5,7 @@ use Rattle.sv_links.specs.declared.enabled.Enabled.{Enabled}
 use Rattle.sv_links.specs.declared.request.Peer.{Peer}
 use Rattle.sv_links.specs.declared.channel.Stage.{Stage}
 use Rattle.sv_links.specs.declared.channel.Stage.TheVariants.{Closed, Prepared, Open}
+use Rattle.sv_links.specs.Limits.{max_connections, max_enabled}
 use Rattle.sv_links.specs.Channels.{ChannelAct, enabled, peer, taken, calls, left_of}
 
 -- how far it is; how many calls were sent on it; the bytes that wait, and of each call that isn't taken to its end how many they are
@@ -52,9 +53,9 @@ abbrev pub IsSorted : List Enabled → Type 0
 IsSorted [] = ⊤
 IsSorted (link ∷ links) = AllByRecursion (λ other. link.lid < other.lid) links × IsSorted links
 
--- There is room for a link to ask: it asks already, or fewer than 32 do.
+-- There is room for a link to ask: it asks already, or fewer than max_enabled do.
 abbrev pub HasRoomFor : ℕ → Channels → Type 0
-HasRoomFor lid kept = length (filter (λ other. not (other.lid == lid)) kept.enabled) < 32
+HasRoomFor lid kept = length (filter (λ other. not (other.lid == lid)) kept.enabled) < max_enabled
 
 -- the links without those of these numbers, and without those of a connection
 abbrev pub disabled : List ℕ → List Enabled → List Enabled
@@ -79,5 +80,5 @@ IsReady kept c = (other : Channel) → is_prepared (slice_index_or kept.channels
 -- These are kept, and no other channel is open.
 pub record AreChannels (kept : Channels) (acts : List ChannelAct) : Type 0 where
   pub enabled : kept.enabled ≡ enabled acts
-  pub each : (c : ℕ) (other : Channel) → c < 16 → IsChannel (slice_index_or kept.channels c other) c acts
-  pub beyond : (c : ℕ) → 16 ≤ c → peer c acts ≡ None
+  pub each : (c : ℕ) (other : Channel) → c < max_connections → IsChannel (slice_index_or kept.channels c other) c acts
+  pub beyond : (c : ℕ) → max_connections ≤ c → peer c acts ≡ None

@@ -4,6 +4,7 @@ use Rattle.std.specs.Prelude.{ℕ, ◌+◌, ◌-◌, ◌==◌, max, ◌&&◌, Bo
 use Rattle.std.specs.List.{concat, filter_map, fold, range_with_len}
 use Rattle.sv_links.specs.declared.enabled.Enabled.{Enabled}
 use Rattle.sv_links.specs.declared.request.Peer.{Peer}
+use Rattle.sv_links.specs.Limits.{max_calls}
 use Rattle.sv_links.specs.Request.{request}
 
 -- what happens to them: a link of a connection asks for service requests, with a handle, or asks no more; the channel of a connection
@@ -61,9 +62,9 @@ abbrev pub left_of : ℕ → List (List ℕ) → List (List ℕ)
 left_of count [] = []
 left_of count (call ∷ calls) = if nat_lt count (length call) then drop count call ∷ calls else left_of (count - length call) calls
 
--- whether a call more may be sent behind these: while fewer than 32 aren't taken to their end, and while there are numbers
+-- whether a call more may be sent behind these: while fewer than max_calls aren't taken to their end, and while there are numbers
 abbrev pub may_call : ℕ → List (List ℕ) → Bool
-may_call count calls = nat_lt (length (left_of count calls)) 32 && nat_lt (length calls) 4294967295
+may_call count calls = nat_lt (length (left_of count calls)) max_calls && nat_lt (length calls) 4294967295
 
 -- these calls with one more behind them, for a handle, if it may be sent; its number is how many were sent so far, and one
 abbrev pub called : Option Peer → ℕ → List (List ℕ) → List ℕ → List (List ℕ)

@@ -1,3 +1,4 @@
+pub mod Limits
 pub mod Links
 pub mod Table
 pub mod Waiting

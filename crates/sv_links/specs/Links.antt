@@ -1,5 +1,6 @@
 -- Links (VXI-11 revision 1.0, sections B.4.4 and B.6): which live, who owns one, and which holds the lock. Acts are read from the newest.
 use Rattle.std.specs.Prelude.{ℕ, ◌+◌, ◌==◌, not, ◌&&◌, ◌||◌, Bool, true, false, List, [], ◌∷◌, ◌++◌, length, map, filter, find, reverse, option_map, Option, Some, None, nat_lt}
+use Rattle.sv_links.specs.Limits.{max_links}
 use Rattle.sv_links.specs.declared.links.Link.{Link}
 
 -- what happens to links
@@ -41,9 +42,9 @@ lowest conn acts = find (λ lid. true) (links_of conn acts)
 abbrev pub lids_left : List LinkAct → Bool
 lids_left acts = nat_lt (made acts) 2147483647
 
--- whether a link more may be made: of 32, and of those numbers
+-- whether a link more may be made: of max_links, and of those numbers
 abbrev pub may_make : List LinkAct → Bool
-may_make acts = nat_lt (length (live acts)) 32 && lids_left acts
+may_make acts = nat_lt (length (live acts)) max_links && lids_left acts
 
 -- the acts of closing a connection: its links are destroyed, in the order of their making
 abbrev pub closing : ℕ → List LinkAct → List LinkAct

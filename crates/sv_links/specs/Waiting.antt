@@ -1,8 +1,10 @@
 -- Calls that wait (VXI-11 revision 1.0, section B.4.4: locks and timeouts): which, for what, until when, and in which order they came. Acts
 -- are read from the newest.
 use Rattle.std.specs.Prelude.{◌≡◌, ℕ, ◌==◌, ◌≤◌, not, ◌&&◌, Bool, true, false, List, [], ◌∷◌, length, filter, is_none, option_map, Option, Some, None, if◌then◌else◌}
+use Rattle.std.specs.List.{range_with_len}
 use Rattle.sv_errors.specs.Since.{newest}
 use Rattle.sv_links.specs.declared.waiting.Wait.{Wait}
+use Rattle.sv_links.specs.Limits.{max_connections}
 use Rattle.sv_links.specs.Links.{is_locked_out}
 use Rattle.sv_links.specs.declared.waiting.Wait.TheVariants.{Lock, Input, Response, Dial}
 
@@ -48,9 +50,9 @@ abbrev pub is_lock : Option Wait → Bool
 is_lock (Some Lock) = true
 is_lock _ = false
 
--- the numbers of connections
+-- the numbers of connections, rising from 0
 abbrev pub connections : List ℕ
-connections = 0 ∷ 1 ∷ 2 ∷ 3 ∷ 4 ∷ 5 ∷ 6 ∷ 7 ∷ 8 ∷ 9 ∷ 10 ∷ 11 ∷ 12 ∷ 13 ∷ 14 ∷ 15 ∷ []
+connections = range_with_len 0 max_connections
 
 -- whether what a call waits for is there, with this holder of the lock, and where a write, or a read, would be taken
 abbrev pub is_there : Option ℕ → Bool → Bool → Option ℕ → Option Wait → Bool
@@ -72,7 +74,7 @@ IsExpired clock acts c = (wait : Wait) × (last : ℕ) × (waits c acts ≡ Some
 abbrev pub is_creating : List WaitAct → ℕ → Bool
 is_creating acts c = is_lock (waits c acts) && is_none (link c acts)
 
--- how many do, of sixteen connections
+-- how many do, of all connections
 abbrev pub creating : List WaitAct → ℕ
 creating acts = length (filter (is_creating acts) connections)
 

@@ -2,18 +2,17 @@
 
 ghost use Rattle.std.specs.Prelude.{◌≡◌, ◌+◌, ◌≤◌, ℕ, List, [], length, OnOk, OnErr, is_some, Some, None, true, false};
 ghost use Rattle.std.specs.List.{fold};
+ghost use Rattle.sv_links.specs.Limits.{max_handle, max_queued};
 ghost use Rattle.sv_links.specs.Channels.{called, handles_of};
 ghost use Rattle.sv_links.specs.ChannelRepresentation.{opened_for, is_prepared, IsQueued, left_in};
 
 use crate::enabled::Enabled;
-use crate::request::{LONGEST_CALL, Peer, put_request};
+use crate::limits::{MAX_CALLS, MAX_QUEUED};
+use crate::request::{Peer, put_request};
 use arrayvec::ArrayVec;
 use std::alloc::{AllocError, Allocator};
 use std::marker::Model;
 use sv_text::drop_front;
-
-/// How many calls may wait that weren't taken to their end.
-const MOST: usize = 32;
 
 /// How far a channel is.
 #[derive(Clone, Copy, Debug, PartialEq, Eq)]
@@ -33,7 +32,7 @@ pub(crate) struct Channel<A: Allocator> {
     /// How many calls were sent.
     made: u32,
     /// How many bytes wait of each call that isn't taken to its end.
-    sizes: ArrayVec<u8, MOST>,
+    sizes: ArrayVec<u8, MAX_CALLS>,
     /// The bytes that wait.
     bytes: Vec<u8, A>,
 }
@@ -45,6 +44,7 @@ impl<A: Allocator> Model for Channel<A> {
 
     ghost use Rattle.std.specs.Prelude.{◌≡◌, ◌≤◌, length, vec_capacity, sum};
     ghost use Rattle.std.specs.List.{AllByRecursion};
+    ghost use Rattle.sv_links.specs.Limits.{max_calls, longest_call, max_queued};
     ghost use Rattle.sv_links.specs.declared.channel.Stage.TheVariants.{Closed};
 
     ghost view = { λ a. record {
@@ -55,8 +55,9 @@ impl<A: Allocator> Model for Channel<A> {
     } };
 
     ghost invariant = { λ a. (length a.bytes.items ≡ sum a.sizes.items)
-        × AllByRecursion (λ size. size ≤ 88) a.sizes.items × (length a.sizes.items ≤ 32)
-        × ((a.stage ≡ Closed → ⊥) → 2816 ≤ vec_capacity a.bytes) };
+        × AllByRecursion (λ size. size ≤ longest_call) a.sizes.items
+        × (length a.sizes.items ≤ max_calls)
+        × ((a.stage ≡ Closed → ⊥) → max_queued ≤ vec_capacity a.bytes) };
 }
 
 impl<A: Allocator> Channel<A> {
@@ -91,7 +92,7 @@ impl<A: Allocator> Channel<A> {
         ensures err { OnErr result (self.new ≡ self.old) }
     {
         if self.stage == Stage::Closed {
-            self.bytes.reserve(MOST * LONGEST_CALL)?;
+            self.bytes.reserve(MAX_QUEUED)?;
             self.stage = Stage::Prepared;
         }
         Ok(())
@@ -144,7 +145,7 @@ impl<A: Allocator> Channel<A> {
     /// The bytes that wait.
     pub(crate) fn waiting(&self) -> &[u8]
         ensures same { result.now ≡ self.now.bytes }
-        ensures bounded { length result.now ≤ 2816 }
+        ensures bounded { length result.now ≤ max_queued }
     {
         self.bytes.as_slice()
     }
@@ -160,17 +161,17 @@ impl<A: Allocator> Channel<A> {
         let_go(&mut self.sizes, count);
     }
 
-    /// Sends a call with this handle behind those that wait, while there are fewer than 32 and a
-    /// number is left.
+    /// Sends a call with this handle behind those that wait, while there are fewer than
+    /// [`MAX_CALLS`] and a number is left.
     fn request(&mut self, peer: Peer, handle: &[u8])
         requires open { self.old.stage ≡ Stage.Open peer }
-        requires short { length handle.now ≤ 40 }
+        requires short { length handle.now ≤ max_handle }
         ensures stage { self.new.stage ≡ self.old.stage }
         ensures queued { (count : ℕ) (calls : List (List ℕ)) → IsQueued self.old count calls
             → IsQueued self.new count
             (called (Some peer) count calls handle.now) }
     {
-        if self.sizes.len() >= MOST || self.made == u32::MAX {
+        if self.sizes.len() >= MAX_CALLS || self.made == u32::MAX {
             return;
         }
         let before = self.bytes.len();
@@ -199,7 +200,7 @@ impl<A: Allocator> Channel<A> {
 }
 
 /// Lets so many bytes of calls go, whose sizes these are.
-fn let_go(sizes: &mut ArrayVec<u8, MOST>, count: usize)
+fn let_go(sizes: &mut ArrayVec<u8, MAX_CALLS>, count: usize)
     ensures { sizes.new.items ≡ left_in count sizes.old.items }
 {
     let mut left = count;

@@ -1,17 +1,16 @@
 //! Links that ask for service requests (VXI-11 revision 1.0, device_enable_srq).
 
 ghost use Rattle.std.specs.Prelude.{◌≡◌, ◌≤◌, length};
+ghost use Rattle.sv_links.specs.Limits.{max_handle};
 
+use crate::limits::MAX_HANDLE;
 use arrayvec::ArrayVec;
 use std::marker::Model;
 
-/// The longest handle, in bytes.
-const LONGEST: usize = 40;
-
-/// What a controller knows a link by that asks for service: at most 40 bytes.
+/// What a controller knows a link by that asks for service: at most [`MAX_HANDLE`] bytes.
 #[derive(Debug, Drop)]
 pub(crate) struct Handle {
-    bytes: ArrayVec<u8, LONGEST>,
+    bytes: ArrayVec<u8, MAX_HANDLE>,
 }
 
 impl Model for Handle {
@@ -25,7 +24,7 @@ impl Model for Handle {
 impl Handle {
     /// The handle of these bytes; an empty one where they are too many.
     fn new(given: &[u8]) -> Handle
-        ensures { length given.now ≤ 40 → result ≡ given.now }
+        ensures { length given.now ≤ max_handle → result ≡ given.now }
     {
         let mut bytes = ArrayVec::new();
         if bytes.try_extend_from_slice(given).is_err() {
@@ -37,7 +36,7 @@ impl Handle {
     /// Its bytes.
     fn bytes(&self) -> &[u8]
         ensures same { result.now ≡ self.now }
-        ensures short { length result.now ≤ 40 }
+        ensures short { length result.now ≤ max_handle }
     {
         self.bytes.as_slice()
     }
@@ -55,10 +54,10 @@ pub(crate) struct Enabled {
 }
 
 impl Enabled {
-    /// A link with its handle, of at most 40 bytes.
+    /// A link with its handle, of at most [`MAX_HANDLE`] bytes.
     pub(crate) fn new(lid: u32, conn: u8, handle: &[u8]) -> Enabled
         ensures link { (result.lid ≡ lid) × (result.conn ≡ conn) }
-        ensures handle { length handle.now ≤ 40 → result.handle ≡ handle.now }
+        ensures handle { length handle.now ≤ max_handle → result.handle ≡ handle.now }
     {
         Enabled {
             lid,
@@ -70,7 +69,7 @@ impl Enabled {
     /// The bytes of its handle.
     pub(crate) fn handle(&self) -> &[u8]
         ensures same { result.now ≡ self.now.handle }
-        ensures short { length result.now ≤ 40 }
+        ensures short { length result.now ≤ max_handle }
     {
         self.handle.bytes()
     }

@@ -2,22 +2,19 @@
 //! channel of each connection.
 
 ghost use Rattle.std.specs.Prelude.{◌≡◌, ◌<◌, ◌≤◌, ◌==◌, ◌++◌, ℕ, List, [], ◌∷◌, map, length, filter, not, IfOk, OnOk, OnErr, false, true};
+ghost use Rattle.sv_links.specs.Limits.{max_connections, max_handle, max_queued};
 ghost use Rattle.sv_links.specs.Channels.{ChannelAct, SrqEnabled, SrqDisabled, ChannelOpened, ChannelClosed, Requested, ChannelTaken, is_channel_open, waiting};
 ghost use Rattle.sv_links.specs.ChannelRepresentation.{AreChannels, IsReady, HasRoomFor, bytes_of, disabled, of_others};
 
 use crate::channel::Channel;
 use crate::enabled::Enabled;
+use crate::limits::{MAX_CONNECTIONS, MAX_ENABLED};
 use crate::request::Peer;
 use std::alloc::{AllocError, Allocator, Global};
 use std::marker::Model;
 
-/// How many connections there may be.
-const CONNECTIONS: usize = 16;
-/// How many links may ask for service requests.
-const MOST: usize = 32;
-
-/// The links that ask for service requests, at most 32, and the interrupt channels, at most one of
-/// each of sixteen connections.
+/// The links that ask for service requests, and the interrupt channels, at most one of each
+/// connection.
 #[derive(Drop)]
 pub struct Intr<A: Allocator = Global> {
     enabled: Vec<Enabled, A>,
@@ -30,25 +27,27 @@ impl<A: Allocator> Model for Intr<A> {
     ghost Value = { Channels };
 
     ghost use Rattle.std.specs.Prelude.{◌≡◌, ◌≤◌, length, vec_capacity};
+    ghost use Rattle.sv_links.specs.Limits.{max_connections, max_enabled};
     ghost use Rattle.sv_links.specs.ChannelRepresentation.{IsSorted};
 
     ghost view = { λ a. record { enabled = a.enabled.items; channels = a.channels.items } };
 
-    ghost invariant = { λ a. (length a.channels.items ≡ 16) × (length a.enabled.items ≤ 32)
-        × (32 ≤ vec_capacity a.enabled) × IsSorted a.enabled.items };
+    ghost invariant = { λ a. (length a.channels.items ≡ max_connections)
+        × (length a.enabled.items ≤ max_enabled)
+        × (max_enabled ≤ vec_capacity a.enabled) × IsSorted a.enabled.items };
 }
 
 impl<A: Allocator + Copy> Intr<A> {
-    /// No link asks, and no channel is open. Takes the memory of 32 handles.
+    /// No link asks, and no channel is open. Takes the memory of all handles.
     ///
     /// # Errors
     /// Where memory is refused.
     pub fn new(alloc: A) -> Result<Intr<A>, AllocError>
         ensures { IfOk result (λ intr. AreChannels intr []) }
     {
-        let enabled = Vec::with_capacity(alloc, MOST)?;
-        let mut channels = Vec::with_capacity(alloc, CONNECTIONS)?;
-        for _ in 0..CONNECTIONS {
+        let enabled = Vec::with_capacity(alloc, MAX_ENABLED)?;
+        let mut channels = Vec::with_capacity(alloc, MAX_CONNECTIONS)?;
+        for _ in 0..MAX_CONNECTIONS {
             channels.push(Channel::new(alloc))?;
         }
         Ok(Intr { enabled, channels })
@@ -56,22 +55,22 @@ impl<A: Allocator + Copy> Intr<A> {
 }
 
 impl<A: Allocator> Intr<A> {
-    /// Whether the channel of a connection, 0 to 15, is open.
+    /// Whether the channel of a connection, below [`MAX_CONNECTIONS`], is open.
     pub fn is_open(&self, conn: u8) -> bool
-        requires { conn < 16 }
+        requires { conn < max_connections }
         ensures { (acts : List ChannelAct) → AreChannels self.now acts
             → result ≡ is_channel_open conn acts }
     {
         self.channels[usize::from(conn)].is_open()
     }
 
-    /// Takes the memory of the channel of a connection, 0 to 15, so that it may be opened; where
-    /// it is open nothing changes.
+    /// Takes the memory of the channel of a connection, below [`MAX_CONNECTIONS`], so that it may
+    /// be opened; where it is open nothing changes.
     ///
     /// # Errors
     /// Where memory is refused; nothing changes then.
     pub fn prepare(&mut self, conn: u8) -> Result<(), AllocError>
-        requires { conn < 16 }
+        requires { conn < max_connections }
         ensures ready { OnOk result ((acts : List ChannelAct) → AreChannels self.old acts
             → is_channel_open conn acts ≡ false → IsReady self.new conn) }
         ensures others { OnOk result ((other : ℕ) → IsReady self.old other
@@ -84,9 +83,9 @@ impl<A: Allocator> Intr<A> {
         self.channels[usize::from(conn)].prepare()
     }
 
-    /// The channel of a connection, 0 to 15, isn't to be opened any more.
+    /// The channel of a connection, below [`MAX_CONNECTIONS`], isn't to be opened any more.
     pub fn cancel(&mut self, conn: u8)
-        requires { conn < 16 }
+        requires { conn < max_connections }
         ensures unready { IsReady self.new conn → ⊥ }
         ensures others { (other : ℕ) → (other ≡ conn → ⊥) → IsReady self.old other
             → IsReady self.new other }
@@ -97,9 +96,10 @@ impl<A: Allocator> Intr<A> {
         self.channels[usize::from(conn)].cancel();
     }
 
-    /// Opens the channel of a connection, 0 to 15, which has to be prepared, with nothing to send.
+    /// Opens the channel of a connection, below [`MAX_CONNECTIONS`], which has to be prepared, with
+    /// nothing to send.
     pub fn open(&mut self, conn: u8, peer: Peer)
-        requires { conn < 16 }
+        requires { conn < max_connections }
         ensures others { (other : ℕ) → (other ≡ conn → ⊥) → IsReady self.old other
             → IsReady self.new other }
         ensures stands { IsReady self.old conn → (acts : List ChannelAct)
@@ -110,10 +110,10 @@ impl<A: Allocator> Intr<A> {
         self.channels[usize::from(conn)].open(peer);
     }
 
-    /// Closes the channel of a connection, 0 to 15, with what waits on it; tells whether it was
-    /// open.
+    /// Closes the channel of a connection, below [`MAX_CONNECTIONS`], with what waits on it; tells
+    /// whether it was open.
     pub fn close(&mut self, conn: u8) -> bool
-        requires { conn < 16 }
+        requires { conn < max_connections }
         ensures answer { (acts : List ChannelAct) → AreChannels self.old acts
             → result ≡ is_channel_open conn acts }
         ensures others { (other : ℕ) → IsReady self.old other → IsReady self.new other }
@@ -127,16 +127,16 @@ impl<A: Allocator> Intr<A> {
         was_open
     }
 
-    /// A link of a connection asks for service requests with this handle, of at most 40 bytes. It
-    /// has to ask already, or fewer than 32 links do.
+    /// A link of a connection asks for service requests with this handle, of at most
+    /// [`MAX_HANDLE`](crate::MAX_HANDLE) bytes. It has to ask already, or fewer links do than may.
     pub fn enable(&mut self, lid: u32, conn: u8, handle: &[u8])
-        ensures stands { length handle.now ≤ 40 → HasRoomFor lid self.old
+        ensures stands { length handle.now ≤ max_handle → HasRoomFor lid self.old
             → (acts : List ChannelAct) → AreChannels self.old acts
             → AreChannels self.new (SrqEnabled lid conn handle.now ∷ acts) }
         ensures ready { self.new.channels ≡ self.old.channels }
     {
         self.disable(lid);
-        if self.enabled.len() >= MOST {
+        if self.enabled.len() >= MAX_ENABLED {
             return;
         }
         let place = self.enabled.iter().filter(|other| other.lid < lid).count();
@@ -174,18 +174,19 @@ impl<A: Allocator> Intr<A> {
         ensures ready { (other : ℕ) → IsReady self.old other → IsReady self.new other }
         ensures enabled { self.new.enabled ≡ self.old.enabled }
     {
-        for conn in 0..CONNECTIONS {
+        for conn in 0..MAX_CONNECTIONS {
             self.channels[conn].request_each(conn as u8, self.enabled.as_slice());
         }
     }
 
-    /// The bytes that wait on the channel of a connection, 0 to 15; none where it isn't open.
+    /// The bytes that wait on the channel of a connection, below [`MAX_CONNECTIONS`]; none where it
+    /// isn't open.
     pub fn waiting(&self, conn: u8) -> &[u8]
-        requires { conn < 16 }
+        requires { conn < max_connections }
         ensures same { result.now ≡ bytes_of self.now conn }
         ensures answer { (acts : List ChannelAct) → AreChannels self.now acts
             → result.now ≡ waiting conn acts }
-        ensures bounded { length result.now ≤ 2816 }
+        ensures bounded { length result.now ≤ max_queued }
     {
         let channel = &self.channels[usize::from(conn)];
         if channel.is_open() {
@@ -195,10 +196,10 @@ impl<A: Allocator> Intr<A> {
         }
     }
 
-    /// Lets bytes go that the peer took from the channel of a connection, 0 to 15; so many have to
-    /// wait there.
+    /// Lets bytes go that the peer took from the channel of a connection, below
+    /// [`MAX_CONNECTIONS`]; so many have to wait there.
     pub fn take(&mut self, conn: u8, count: usize)
-        requires within { conn < 16 }
+        requires within { conn < max_connections }
         requires waits { count ≤ length (bytes_of self.old conn) }
         ensures stands { (acts : List ChannelAct) → AreChannels self.old acts
             → is_channel_open conn acts ≡ true

@@ -12,11 +12,13 @@
 mod channel;
 mod enabled;
 mod intr;
+mod limits;
 mod links;
 mod request;
 mod waiting;
 
 pub use intr::Intr;
+pub use limits::{MAX_CONNECTIONS, MAX_HANDLE, MAX_LINKS};
 pub use links::{CreateRefused, Link, Links};
 pub use request::Peer;
 pub use waiting::{Entry, Wait, Waiting, is_locked_out};

@@ -1,16 +1,16 @@
 //! Links: which connection made one, while it lives, and which holds the lock.
 
 ghost use Rattle.std.specs.Prelude.{◌≡◌, ◌+◌, ◌<◌, ◌≤◌, ◌^◌, ◌↔◌, not, ℕ, List, [], ◌∷◌, ◌++◌, length, IfOk, OnOk, OnErr, IsOk, Some, Err, true, false};
+ghost use Rattle.sv_links.specs.Limits.{max_links};
 ghost use Rattle.sv_links.specs.Links.{LinkAct, Made, Destroyed, Locked, Unlocked, closing, made, live, lids_left, owner, may_make, lowest, holder, is_locked_out, is_this};
 ghost use Rattle.sv_links.specs.Table.{IsTable, count_of};
 
+use crate::limits::MAX_LINKS;
 use slab::Slab;
 use std::alloc::{AllocError, Allocator, Global};
 use std::marker::Model;
 use thiserror::Error;
 
-/// How many links may live.
-const MOST: usize = 32;
 /// The last number of a link.
 const LAST: u32 = i32::MAX as u32;
 
@@ -26,7 +26,7 @@ pub struct Link {
 /// Why no link was made.
 #[derive(Clone, Copy, Debug, PartialEq, Eq, Error)]
 pub enum CreateRefused {
-    /// There are 32, or no number is left (VXI-11 error 9).
+    /// There are [`MAX_LINKS`], or no number is left (VXI-11 error 9).
     #[error("no further link may be made")]
     OutOfResources,
     /// No memory was left.
@@ -34,7 +34,7 @@ pub enum CreateRefused {
     NoMemory,
 }
 
-/// The live links, at most 32, how many were ever made, and which holds the lock.
+/// The live links, at most [`MAX_LINKS`], how many were ever made, and which holds the lock.
 #[derive(Drop)]
 pub struct Links<A: Allocator = Global> {
     made: u32,
@@ -51,6 +51,7 @@ impl<A: Allocator> Model for Links<A> {
 
     ghost use Rattle.std.specs.Prelude.{◌≤◌};
     ghost use Rattle.slab.specs.Slab.{slab_len, HasRoomFor};
+    ghost use Rattle.sv_links.specs.Limits.{max_links};
 
     ghost view = { λ a. record {
       made = a.made;
@@ -59,7 +60,7 @@ impl<A: Allocator> Model for Links<A> {
       spare = a.spare;
     } };
 
-    ghost invariant = { λ a. (a.made ≤ 2147483647) × (slab_len a.links ≤ 32)
+    ghost invariant = { λ a. (a.made ≤ 2147483647) × (slab_len a.links ≤ max_links)
         × HasRoomFor a.links a.spare };
 }
 
@@ -76,10 +77,10 @@ impl<A: Allocator> Links<A> {
         }
     }
 
-    /// How many links live, at most 32.
+    /// How many links live, at most [`MAX_LINKS`].
     pub fn count(&self) -> u8
         ensures value { result ≡ count_of self.now }
-        ensures bounded { result ≤ 32 }
+        ensures bounded { result ≤ max_links }
         ensures answer { (acts : List LinkAct) → IsTable self.now acts
             → result ≡ length (live acts) }
     {
@@ -117,8 +118,8 @@ impl<A: Allocator> Links<A> {
     /// wanting only where none was reserved.
     ///
     /// # Errors
-    /// Where there are 32 links or no number is left; else where memory is refused. Nothing changes
-    /// then.
+    /// Where there are [`MAX_LINKS`] links or no number is left; else where memory is refused.
+    /// Nothing changes then.
     pub fn create(&mut self, conn: u8) -> Result<u32, CreateRefused>
         ensures number { IfOk result (λ lid. lid < 2 ^ 31) }
         ensures ok { (acts : List LinkAct) → IsTable self.old acts → IfOk result
@@ -129,7 +130,7 @@ impl<A: Allocator> Links<A> {
         ensures lacks { result ≡ Err CreateRefused.NoMemory → self.old.spare ≡ 0 }
         ensures err { OnErr result (self.new ≡ self.old) }
     {
-        if self.links.len() >= MOST || self.made >= LAST {
+        if self.links.len() >= MAX_LINKS || self.made >= LAST {
             return Err(CreateRefused::OutOfResources);
         }
         let lid = self.made + 1;

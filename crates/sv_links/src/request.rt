@@ -1,19 +1,16 @@
 //! The call that tells a service request (VXI-11 revision 1.0, device_intr_srq).
 
 ghost use Rattle.std.specs.Prelude.{◌≡◌, ◌+◌, ◌≤◌, ◌++◌, length, vec_len, vec_capacity};
+ghost use Rattle.sv_links.specs.Limits.{max_handle, longest_call};
 ghost use Rattle.sv_links.specs.Request.{request};
 
+use crate::limits::LONGEST_TEXT;
 use std::alloc::Allocator;
 use sv_rpc::{put_record, write_call};
 use sv_xdr::Writer;
 
 /// The procedure device_intr_srq.
 const DEVICE_INTR_SRQ: u32 = 30;
-/// The longest call with the header of its fragment, in bytes.
-pub(crate) const LONGEST_CALL: usize = 88;
-/// The same without the header of its fragment: the call's header (40 bytes), and a handle of 40
-/// bytes behind its length.
-const LONGEST_TEXT: usize = LONGEST_CALL - 4;
 
 /// Whom an interrupt channel calls.
 #[derive(Clone, Copy, Debug, PartialEq, Eq)]
@@ -26,8 +23,8 @@ pub struct Peer {
 
 /// Puts a call behind the outgoing bytes.
 pub(crate) fn put_request<A: Allocator>(out: &mut Vec<u8, A>, xid: u32, peer: Peer, handle: &[u8])
-    requires room { vec_len out.old + 88 ≤ vec_capacity out.old }
-    requires short { length handle.now ≤ 40 }
+    requires room { vec_len out.old + longest_call ≤ vec_capacity out.old }
+    requires short { length handle.now ≤ max_handle }
     ensures sent { out.new.items ≡ out.old.items ++ request xid peer handle.now }
     ensures capacity { vec_capacity out.old ≤ vec_capacity out.new }
 {

@@ -1,15 +1,14 @@
 //! Calls that wait (VXI-11 revision 1.0, section B.4.4).
 
 ghost use Rattle.std.specs.Prelude.{◌≡◌, ◌<◌, ◌≤◌, ◌++◌, ℕ, List, [], ◌∷◌, ◌+◌, map, option_map, Some, None, true, IfOk, IfSome, MatchOption};
+ghost use Rattle.sv_links.specs.Limits.{max_connections, max_waiting};
 ghost use Rattle.sv_links.specs.Links.{is_locked_out as locked_out};
 ghost use Rattle.sv_links.specs.Waiting.{WaitAct, Entered, Again, Left, waits as waits_for, is_there, creating, IsAble, IsExpired, IsOldest};
 ghost use Rattle.sv_links.specs.Queue.{entry_of, IsQueue, IsEntry, anew, without, creates, creations, rank_of, rank, is_past};
 
+use crate::limits::MAX_WAITING;
 use std::alloc::{AllocError, Allocator, Global};
 use std::marker::Model;
-
-/// How many calls may wait: one of each connection.
-const MOST: usize = 16;
 
 /// What a call waits for.
 #[derive(Clone, Copy, Debug, PartialEq, Eq)]
@@ -27,7 +26,7 @@ pub enum Wait {
 /// A call that waits.
 #[derive(Clone, Copy, Debug, PartialEq, Eq)]
 pub struct Entry {
-    /// Its connection, 0 to 15.
+    /// Its connection, below [`MAX_CONNECTIONS`](crate::MAX_CONNECTIONS).
     pub conn: u8,
     /// The link that it names; a create_link names none.
     pub lid: Option<u32>,
@@ -95,8 +94,7 @@ impl Entry {
     }
 }
 
-/// The calls that wait, at most one of each of sixteen connections, in the order in which they
-/// came.
+/// The calls that wait, at most one of each connection, in the order in which they came.
 #[derive(Drop)]
 pub struct Waiting<A: Allocator = Global> {
     entries: Vec<Entry, A>,
@@ -109,12 +107,13 @@ impl<A: Allocator> Model for Waiting<A> {
     ghost Value = { List Entry };
 
     ghost use Rattle.std.specs.Prelude.{◌≤◌, vec_capacity};
+    ghost use Rattle.sv_links.specs.Limits.{max_connections, max_waiting};
     ghost use Rattle.sv_links.specs.Queue.{IsOnce, IsBelow};
 
     ghost view = { λ a. a.entries.items };
 
-    ghost invariant = { λ a. IsOnce a.entries.items × IsBelow 16 a.entries.items
-        × (16 ≤ vec_capacity a.entries) };
+    ghost invariant = { λ a. IsOnce a.entries.items × IsBelow max_connections a.entries.items
+        × (max_waiting ≤ vec_capacity a.entries) };
 }
 
 impl<A: Allocator> Waiting<A> {
@@ -126,13 +125,14 @@ impl<A: Allocator> Waiting<A> {
         ensures { IfOk result (λ waiting. IsQueue waiting []) }
     {
         Ok(Waiting {
-            entries: Vec::with_capacity(alloc, MOST)?,
+            entries: Vec::with_capacity(alloc, MAX_WAITING)?,
         })
     }
 
-    /// The call of a connection, 0 to 15, begins to wait, behind all that wait.
+    /// The call of a connection, below [`MAX_CONNECTIONS`](crate::MAX_CONNECTIONS), begins to wait,
+    /// behind all that wait.
     pub fn enter(&mut self, entry: Entry)
-        requires { entry.conn < 16 }
+        requires { entry.conn < max_connections }
         ensures value { self.new ≡ without entry.conn self.old ++ entry ∷ [] }
         ensures stands { (acts : List WaitAct) → IsQueue self.old acts → IsQueue self.new
             (Entered entry.conn entry.lid entry.wait entry.deadline ∷ acts) }
@@ -164,7 +164,7 @@ impl<A: Allocator> Waiting<A> {
     /// How many create_links wait for the lock.
     pub fn creating(&self) -> u8
         ensures value { result ≡ creations self.now }
-        ensures bounded { result ≤ 16 }
+        ensures bounded { result ≤ max_waiting }
         ensures answer { (acts : List WaitAct) → IsQueue self.now acts → result ≡ creating acts }
     {
         self.entries.iter().filter(|entry| entry.creates()).count() as u8
@@ -202,7 +202,7 @@ impl<A: Allocator> Waiting<A> {
             (option_map (λ entry. entry.conn) result) }
         ensures entry { (acts : List WaitAct) → IsQueue self.now acts
             → IfSome result (λ entry. IsEntry acts entry) }
-        ensures within { IfSome result (λ entry. (entry.conn < 16)
+        ensures within { IfSome result (λ entry. (entry.conn < max_connections)
             × (entry_of entry.conn self.now ≡ Some entry)) }
         ensures measure { IfSome result (λ entry. rank (without entry.conn self.now)
             + rank_of entry.wait ≤ rank self.now) }
@@ -221,7 +221,7 @@ impl<A: Allocator> Waiting<A> {
             → IsOldest acts (IsExpired clock acts) (option_map (λ entry. entry.conn) result) }
         ensures entry { (acts : List WaitAct) → IsQueue self.now acts
             → IfSome result (λ entry. IsEntry acts entry) }
-        ensures within { IfSome result (λ entry. (entry.conn < 16)
+        ensures within { IfSome result (λ entry. (entry.conn < max_connections)
             × (entry_of entry.conn self.now ≡ Some entry)) }
         ensures measure { IfSome result (λ entry. rank (without entry.conn self.now)
             + rank_of entry.wait ≤ rank self.now) }

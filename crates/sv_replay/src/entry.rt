@@ -15,7 +15,7 @@ use sv_server::{Event, input_refusal};
 pub enum Stimulus {
     /// The live voltage of a channel changes.
     Input {
-        /// The channel, 1 to 32.
+        /// The channel, from 1 on.
         channel: u8,
         /// The voltage in microvolts, within plus or minus 1,000,000,000.
         microvolts: i64,

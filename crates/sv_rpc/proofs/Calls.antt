@@ -7,6 +7,7 @@ use Rattle.sv_xdr.specs.Reader.{unsigned_at, opaque_at}
 use Rattle.sv_xdr.proofs.Fields.{IsBytes, bytes_after, unsigned_begins, unsigned_takes, opaque_again, opaque_at-takes}
 use Rattle.sv_rpc.specs.declared.call.CallFault.{CallFault}
 use Rattle.sv_rpc.specs.declared.call.CallFault.TheVariants.{BadHeader, Version}
+use Rattle.sv_rpc.specs.Limits.{max_auth}
 use Rattle.sv_rpc.specs.Call.{PlainCall, Auth, heading, IsCall, IsOtherVersion, CallIs, ◌>>=◌, body_at, call_at}
 use Rattle.sv_rpc.specs.Laws.{OneCall}
 
@@ -32,9 +33,9 @@ call_reads bytes call h =
       unsigned_begins prog.0 vers.0 call.vers vers.1,
       unsigned_begins vers.0 proc.0 call.proc proc.1,
       unsigned_begins proc.0 flavor.0 h.0.flavor flavor.1,
-      opaque_again 400 flavor.0 h.0.body credential.0 credential.1 h.2,
+      opaque_again max_auth flavor.0 h.0.body credential.0 credential.1 h.2,
       unsigned_begins credential.0 flavor2.0 h.1.flavor flavor2.1,
-      opaque_again 400 flavor2.0 h.1.body verifier.0 verifier.1 h.3,
+      opaque_again max_auth flavor2.0 h.1.body verifier.0 verifier.1 h.3,
       verifier.2,
     ) refl
 
@@ -96,16 +97,18 @@ unsigned_step bytes f r fits good e then =
 -- likewise opaque data
 opaque_step : {P : Type 0} (bytes : List ℕ) (f : List ℕ × List ℕ → Result PlainCall CallFault) (r : Result PlainCall CallFault)
     → IsBytes bytes
-    → Good r → (opaque_at 400 bytes >>= f) ≡ r
-    → ((text after : List ℕ) → Begins bytes (Opaque text) after → length text ≤ 400 → IsBytes after → f (text, after) ≡ r → P) → P
+    → Good r → (opaque_at max_auth bytes >>= f) ≡ r
+    → ((text after : List ℕ) → Begins bytes (Opaque text) after → length text ≤ max_auth → IsBytes after
+    → f (text, after) ≡ r → P) → P
 opaque_step bytes f r fits good e then =
-    let s = bind_good (opaque_at 400 bytes) f r good e in
-    let b = opaque_at-takes 400 bytes s.0.0 s.0.1 fits s.1 in
+    let s = bind_good (opaque_at max_auth bytes) f r good e in
+    let b = opaque_at-takes max_auth bytes s.0.0 s.0.1 fits s.1 in
     then s.0.0 s.0.1 b.0 b.1 (bytes_after (Opaque s.0.0) bytes s.0.1 fits b.0) s.2
 
 -- what is read behind the version is spelled there
 body_takes : (xid : ℕ) (bytes : List ℕ) (r : Result PlainCall CallFault) → IsBytes bytes → Good r → body_at xid bytes ≡ r
-    → (call : PlainCall) × (xid ≡ call.xid) × (Ok call ≡ r) × (c v : Auth) × (length c.body ≤ 400) × (length v.body ≤ 400)
+    → (call : PlainCall) × (xid ≡ call.xid) × (Ok call ≡ r) × (c v : Auth) × (length c.body ≤ max_auth)
+    × (length v.body ≤ max_auth)
     × BeginsAll bytes (drop 3 (heading call c v)) call.args
 unfolding body_at
 body_takes xid bytes r fits good e =

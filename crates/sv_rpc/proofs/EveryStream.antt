@@ -5,6 +5,7 @@ use Rattle.std.specs.Int.{w32, from_be_bytes}
 use Rattle.std.proofs.lemmas.Bool.{cases_lt}
 use Rattle.std.proofs.lemmas.List.{append-nil, length-append, length-drop, length-take-le, take-append-drop, get_or-drop}
 use Rattle.sv_xdr.proofs.Fields.{IsBytes, bytes_are}
+use Rattle.sv_rpc.specs.Limits.{max_record}
 use Rattle.sv_rpc.specs.Record.{header_of, fragment, Sent, Tail, Header, Data, TooLong, IsTail, Splits}
 use Rattle.sv_rpc.specs.Stream.{Reading, read_on, read_data, read, reading, records_of, tail_of}
 use Rattle.sv_rpc.specs.Laws.{ReadAsSplit}
@@ -40,7 +41,8 @@ concat_more [] text = append-nil text
 concat_more (first ∷ front) text = ap (λ (l : List ℕ). first ++ l) (concat_more front text) ∙ sym (append_assoc first (concat front) text)
 
 -- a last fragment, and a stream behind it that splits
-last_more : (front : List (List ℕ)) (text rest : List ℕ) (all : List (List ℕ)) (tail : Tail) → length (concat front ++ text) ≤ 8192
+last_more : (front : List (List ℕ)) (text rest : List ℕ) (all : List (List ℕ)) (tail : Tail)
+    → length (concat front ++ text) ≤ max_record
     → Splits rest all tail → SplitsSo front (fragment true text ++ rest) ((concat front ++ text) ∷ all, tail)
 last_more front text rest all tail short splits =
     let first : Sent = record { front = front; final = text } in
@@ -86,14 +88,14 @@ header_in_front _ four fits = absurd (omega arith)
 
 -- what is read behind a header splits
 data_splits : (n : ℕ) (front : List (List ℕ)) (last : Bool) (size : ℕ) (rest : List ℕ)
-    → ((others : List (List ℕ)) (bytes : List ℕ) → length bytes < n → IsBytes bytes → length (concat others) ≤ 8192
+    → ((others : List (List ℕ)) (bytes : List ℕ) → length bytes < n → IsBytes bytes → length (concat others) ≤ max_record
     → SplitsSo others bytes (read n (concat others) bytes))
-    → length rest < n → IsBytes rest → length (concat front) ≤ 8192 → size < 2 ^ 31
+    → length rest < n → IsBytes rest → length (concat front) ≤ max_record → size < 2 ^ 31
     → SplitsSo front (header_of last size ++ rest) (read_data (read n) (concat front) last size rest)
-data_splits n front last size rest again short fits kept small = elim (cases_lt 8192 (length (concat front) + size)) [
-  | inl long ↦ rw (lt-ltb 8192 (length (concat front) + size) long)
+data_splits n front last size rest again short fits kept small = elim (cases_lt max_record (length (concat front) + size)) [
+  | inl long ↦ rw (lt-ltb max_record (length (concat front) + size) long)
       (tail_alone front (header_of last size ++ rest) TooLong (front, size, last, rest, refl, kept, small, long))
-  | inr within ↦ rw (le-ltb 8192 (length (concat front) + size) within) (elim (cases_lt (length rest) size) [
+  | inr within ↦ rw (le-ltb max_record (length (concat front) + size) within) (elim (cases_lt (length rest) size) [
     | inl less ↦ rw (lt-ltb (length rest) size less) (tail_alone front (header_of last size ++ rest)
         (Data (concat front ++ rest) (size - length rest) last) (
           front,
@@ -122,7 +124,7 @@ data_splits n front last size rest again short fits kept small = elim (cases_lt 
     fewer : length (drop size rest) < n
     fewer = omega (arith, length-drop size rest)
 
-    whole_fragment : (b : Bool) → size ≤ length rest → length (concat front) + size ≤ 8192
+    whole_fragment : (b : Bool) → size ≤ length rest → length (concat front) + size ≤ max_record
         → SplitsSo front (header_of b size ++ rest) (read_on (read n) (concat front ++ take size rest) b (drop size rest))
     whole_fragment true whole within =
         subst (λ (l : List ℕ). SplitsSo front l (read_on (read n) (concat front ++ take size rest) true (drop size rest)))
@@ -141,7 +143,8 @@ data_splits n front last size rest again short fits kept small = elim (cases_lt 
         (subst (λ (p : List ℕ). SplitsSo (front ++ take size rest ∷ []) (drop size rest) (read n p (drop size rest))) joined next))
 
 -- behind fragments that aren't the last of their record the bytes split as they are read
-read_splits : (n : ℕ) (front : List (List ℕ)) (bytes : List ℕ) → length bytes < n → IsBytes bytes → length (concat front) ≤ 8192
+read_splits : (n : ℕ) (front : List (List ℕ)) (bytes : List ℕ) → length bytes < n → IsBytes bytes
+    → length (concat front) ≤ max_record
     → SplitsSo front bytes (read n (concat front) bytes)
 unfolding read
 read_splits zero front bytes less fits kept = absurd (omega arith)

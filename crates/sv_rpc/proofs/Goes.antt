@@ -4,6 +4,7 @@ use Rattle.std.specs.Prelude.{sum}
 use Rattle.std.specs.Int.{w32, from_be_bytes}
 use Rattle.std.proofs.lemmas.Bool.{cases_lt, le-ltb, lt-ltb}
 use Rattle.std.proofs.lemmas.List.{length-append, drop-append-le, append_assoc}
+use Rattle.sv_rpc.specs.Limits.{max_record}
 use Rattle.sv_rpc.specs.Record.{Tail, Header, Data, TooLong, Splits, header_of}
 use Rattle.sv_rpc.specs.RecordBuf.{Records, StandsFor}
 use Rattle.sv_rpc.specs.declared.record_buf.Place.{Place}
@@ -36,11 +37,11 @@ header_goes : (records : List (List ℕ)) (payload header : List ℕ) (byte size
     → size < 2 ^ 31
     → GoesOn (held records (Header payload header)) (after_header records (Header payload header) size last) (byte ∷ [])
 header_goes records payload header byte size last whole small stream dropped st =
-    elim (cases_lt 8192 (length payload + size)) [
-      | inl long ↦ rw (lt-ltb 8192 (length payload + size) long)
+    elim (cases_lt max_record (length payload + size)) [
+      | inl long ↦ rw (lt-ltb max_record (length payload + size) long)
           (same_records records (Header payload header) TooLong stream (byte ∷ []) dropped st
           (header_too_long stream st.all payload header byte size last st.splits whole small long))
-      | inr short ↦ rw (le-ltb 8192 (length payload + size) short) (elim (cases_lt 0 size) [
+      | inr short ↦ rw (le-ltb max_record (length payload + size) short) (elim (cases_lt 0 size) [
         | inl some ↦ rw (lt-ltb 0 size some)
             (same_records records (Header payload header) (Data payload size last) stream (byte ∷ []) dropped st
             (header_ends stream st.all payload header byte size last st.splits whole some short))

@@ -1,6 +1,7 @@
 -- The records that stand in a buffer stay in front while bytes come.
 use Rattle.std.proofs.Common.{◌≡◌, ℕ, ◌+◌, ◌-◌, ◌%◌, ◌^◌, Bool, true, false, cond, leb, ltb, List, [], ◌∷◌, ◌++◌, length, refl, sym, ap, ◌∙◌, append_assoc, append-nil}
 use Rattle.std.specs.Int.{w32, from_be_bytes}
+use Rattle.sv_rpc.specs.Limits.{max_record}
 use Rattle.sv_rpc.specs.Record.{Tail, Header, Data, TooLong}
 use Rattle.sv_rpc.specs.RecordBuf.{Records}
 use Rattle.sv_rpc.specs.Representation.{Keeps, payload_of, after_byte, after_header, after_data, finished}
@@ -35,7 +36,8 @@ byte_keeps records (Header payload header) byte =
     byte_cases records (Header payload (header ++ byte ∷ []))
     (after_header records (Header payload header) (word % 2 ^ 31) (leb (2 ^ 31) word))
     (ltb (length header) 3)
-    (header_cases records (Header payload header) (word % 2 ^ 31) (ltb 8192 (length payload + word % 2 ^ 31)) (ltb 0 (word % 2 ^ 31))
+    (header_cases records (Header payload header) (word % 2 ^ 31) (ltb max_record (length payload + word % 2 ^ 31))
+    (ltb 0 (word % 2 ^ 31))
     (leb (2 ^ 31) word))
 byte_keeps records (Data payload missing last) byte = ([], sym (append-nil records))
 byte_keeps records TooLong byte = ([], sym (append-nil records))

@@ -5,6 +5,7 @@ use Rattle.std.specs.Int.{w32, from_be_bytes}
 use Rattle.std.proofs.lemmas.Bool.{le-leb, lt-leb}
 use Rattle.std.proofs.lemmas.Nat.{from_be_bytes-to_be_bytes_4}
 use Rattle.std.proofs.lemmas.List.{append-nil, length-append, take_at, drop_at}
+use Rattle.sv_rpc.specs.Limits.{max_record}
 use Rattle.sv_rpc.specs.Record.{header_of, fragment, Sent, bytes_of, record_of, IsTaken, Tail, Header, Data, TooLong, IsTail, Splits}
 use Rattle.sv_rpc.specs.Stream.{Reading, read_on, read_data, read, reading}
 use Rattle.sv_rpc.specs.Laws.{OneReading, ReadAlone}
@@ -43,25 +44,26 @@ header_reads last size payload rest reading small next (suc n) more =
     rw (le-ltb (length (header_of last size ++ rest)) 4 (omega (arith, w)), w.0, w.1, w.2) (next n (omega (arith, w)))
 
 -- a header that makes the record too long
-long_reads : (last : Bool) (size : ℕ) (payload rest : List ℕ) → size < 2 ^ 31 → 8192 < length payload + size
+long_reads : (last : Bool) (size : ℕ) (payload rest : List ℕ) → size < 2 ^ 31 → max_record < length payload + size
     → Reads payload (header_of last size ++ rest) ([], TooLong)
 long_reads last size payload rest small long = header_reads last size payload rest ([], TooLong) small
-    (λ n more. rw (lt-ltb 8192 (length payload + size) long) refl)
+    (λ n more. rw (lt-ltb max_record (length payload + size) long) refl)
 
 -- a header and less than its data
-part_reads : (last : Bool) (missing : ℕ) (payload text : List ℕ) → 0 < missing → length payload + (length text + missing) ≤ 8192
+part_reads : (last : Bool) (missing : ℕ) (payload text : List ℕ) → 0 < missing
+    → length payload + (length text + missing) ≤ max_record
     → Reads payload (header_of last (length text + missing) ++ text) ([], Data (payload ++ text) missing last)
 part_reads last missing payload text some fits =
     let left : length text + missing - length text ≡ missing = omega arith in
     header_reads last (length text + missing) payload text ([], Data (payload ++ text) missing last) (omega arith)
     (λ n more. rw (
-      le-ltb 8192 (length payload + (length text + missing)) fits,
+      le-ltb max_record (length payload + (length text + missing)) fits,
       lt-ltb (length text) (length text + missing) (omega arith),
       left,
     ) refl)
 
 -- a whole fragment
-fragment_reads : (last : Bool) (payload text rest : List ℕ) (reading : Reading) → length payload + length text ≤ 8192
+fragment_reads : (last : Bool) (payload text rest : List ℕ) (reading : Reading) → length payload + length text ≤ max_record
     → ((n : ℕ) → length rest < n → read_on (read n) (payload ++ text) last rest ≡ reading)
     → Reads payload (fragment last text ++ rest) reading
 fragment_reads last payload text rest reading fits next =
@@ -69,7 +71,7 @@ fragment_reads last payload text rest reading fits next =
     rw (append_assoc (header_of last (length text)) text rest)
     (header_reads last (length text) payload (text ++ rest) reading (omega arith)
     (λ n more. rw (
-      le-ltb 8192 (length payload + length text) fits,
+      le-ltb max_record (length payload + length text) fits,
       le-ltb (length (text ++ rest)) (length text) long,
       take_at text rest (length text) refl,
       drop_at text rest (length text) refl,
@@ -81,7 +83,8 @@ moved : (payload a b : List ℕ) (reading : Reading) → b ≡ a → Reads paylo
 moved payload a b reading same reads = subst (λ bytes. Reads payload bytes reading) (sym same) reads
 
 -- the fragments in front of the last one
-fronts_read : (front : List (List ℕ)) (payload rest : List ℕ) (reading : Reading) → length payload + length (concat front) ≤ 8192
+fronts_read : (front : List (List ℕ)) (payload rest : List ℕ) (reading : Reading)
+    → length payload + length (concat front) ≤ max_record
     → Reads (payload ++ concat front) rest reading
     → Reads payload (flat_map (fragment false) front ++ rest) reading
 fronts_read [] payload rest reading fits next = rw append-nil at next

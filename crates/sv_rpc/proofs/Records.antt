@@ -5,6 +5,7 @@ use Rattle.std.specs.Prelude.{sum}
 use Rattle.std.proofs.lemmas.List.{length-append, length-take-le, drop-drop, drop-append-le, drop_all}
 use Rattle.sv_rpc.specs.declared.record_buf.Place.{Place}
 use Rattle.sv_rpc.specs.declared.record_buf.Place.TheVariants as place
+use Rattle.sv_rpc.specs.Limits.{capacity}
 use Rattle.sv_rpc.specs.Record.{Header, Data}
 use Rattle.sv_rpc.specs.RecordBuf.{Records, StandsFor, IsRoom, used_by, room_of}
 use Rattle.sv_rpc.specs.Representation.{IsValid, InRoom, IsPlace, IsBeforeHeader, IsInData, held_of, cut, tail_of, finished, begun_of, after_data}
@@ -18,7 +19,7 @@ room_answer held stream dropped room e s = (
   held.tail,
   s.splits,
   s.bounded,
-  e ∙ ap (λ (rs : List (List ℕ)). 16384 - used_by rs held.tail) s.kept,
+  e ∙ ap (λ (rs : List (List ℕ)). capacity - used_by rs held.tail) s.kept,
 )
 
 -- one record fewer
@@ -37,7 +38,7 @@ drop_answer old new stream dropped e some s =
 -- the room, by the lengths of the parts
 pub room_by_parts : (bytes lengths header : List ℕ) (space slots payload header_len begun : ℕ) (spot : Place)
     → IsValid bytes lengths header space slots payload header_len spot
-    → begun ≡ begun_of spot header_len → 16384 - (4 * length lengths + length bytes + 4 + begun)
+    → begun ≡ begun_of spot header_len → capacity - (4 * length lengths + length bytes + 4 + begun)
     ≡ room_of (held_of bytes lengths (take header_len header) spot)
 room_by_parts bytes lengths header space slots payload header_len begun place.Header k e =
     omega (
@@ -53,8 +54,8 @@ room_by_parts bytes lengths header space slots payload header_len begun place.To
 pub finish_room : (bytes lengths header : List ℕ) (space slots payload header_len : ℕ) (spot : Place)
     → IsValid bytes lengths header space slots payload header_len spot
     → IsBeforeHeader (tail_of spot (drop (sum lengths) bytes) (take header_len header))
-    → used_by (cut lengths bytes) (tail_of spot (drop (sum lengths) bytes) (take header_len header)) ≤ 16384
-    → 4 * length lengths + length bytes + 4 ≤ 16384
+    → used_by (cut lengths bytes) (tail_of spot (drop (sum lengths) bytes) (take header_len header)) ≤ capacity
+    → 4 * length lengths + length bytes + 4 ≤ capacity
 finish_room bytes lengths header space slots payload header_len place.Header k h room =
     omega (arith, used_at_header lengths bytes (take header_len header) payload k.whole)
 finish_room bytes lengths header space slots payload header_len (place.Data missing last) k h room = absurd h
@@ -63,7 +64,8 @@ finish_room bytes lengths header space slots payload header_len place.TooLong k 
 -- with its length the record is whole
 pub finish_keeps : (bytes lengths lengths' header : List ℕ) (space slots slots' payload header_len : ℕ) (spot : Place)
     → IsValid bytes lengths header space slots payload header_len spot
-    → IsBeforeHeader (tail_of spot (drop (sum lengths) bytes) (take header_len header)) → 4 * length lengths + length bytes + 4 ≤ 16384
+    → IsBeforeHeader (tail_of spot (drop (sum lengths) bytes) (take header_len header))
+    → 4 * length lengths + length bytes + 4 ≤ capacity
     → lengths' ≡ lengths ++ payload ∷ [] → slots' ≡ slots
     → IsValid bytes lengths' header space slots' 0 header_len spot
 finish_keeps bytes lengths lengths' header space slots slots' payload header_len place.Header k h room e f = record {
@@ -105,7 +107,7 @@ at_data place.TooLong payload header missing last h = absurd h
 pub data_room : (bytes lengths header : List ℕ) (space slots payload header_len n missing : ℕ) (last : Bool) (spot : Place)
     → IsValid bytes lengths header space slots payload header_len spot
     → spot ≡ place.Data missing last → InRoom (held_of bytes lengths (take header_len header) spot) n
-    → 4 * length lengths + length bytes + 4 + n ≤ 16384
+    → 4 * length lengths + length bytes + 4 + n ≤ capacity
 data_room bytes lengths header space slots payload header_len n missing last place.Header k e room = absurd cc
 data_room bytes lengths header space slots payload header_len n missing last (place.Data m l) k e room =
     omega (arith, used_in_data lengths bytes payload m l k.whole)
@@ -114,7 +116,7 @@ data_room bytes lengths header space slots payload header_len n missing last pla
 -- the fields with a piece of data
 pub data_keeps : (bytes bytes' lengths header piece : List ℕ) (space space' slots payload header_len : ℕ) (spot spot' : Place)
     → IsValid bytes lengths header space slots payload header_len spot → bytes' ≡ bytes ++ piece → space ≤ space'
-    → 4 * length lengths + length bytes + 4 + length piece ≤ 16384
+    → 4 * length lengths + length bytes + 4 + length piece ≤ capacity
     → IsPlace spot' (payload + length piece) header_len
     → IsValid bytes' lengths header space' slots (payload + length piece) header_len spot'
 data_keeps bytes bytes' lengths header piece space space' slots payload header_len spot spot' k e f room at =
@@ -189,8 +191,8 @@ data_finished bytes bytes' lengths header piece n missing last spot old new is a
 -- where a fragment ends, there is room for its record
 pub ended_room : (bytes bytes' lengths header piece : List ℕ) (n : ℕ) → sum lengths + n ≡ length bytes → bytes' ≡ bytes ++ piece
     → header ≡ []
-    → 4 * length lengths + length bytes + 4 + length piece ≤ 16384
-    → used_by (cut lengths bytes') (Header (drop (sum lengths) bytes') header) ≤ 16384
+    → 4 * length lengths + length bytes + 4 + length piece ≤ capacity
+    → used_by (cut lengths bytes') (Header (drop (sum lengths) bytes') header) ≤ capacity
 ended_room bytes bytes' lengths header piece n whole e none room =
     let size : length bytes' ≡ length bytes + length piece = ap length e ∙ length-append bytes piece in
     omega (arith, used_at_header lengths bytes' header (n + length piece) (omega arith), ap length none)

@@ -4,6 +4,7 @@ use Rattle.std.specs.Prelude.{sum_by}
 use Rattle.std.proofs.lemmas.Bool.{cases_lt, le-ltb, lt-ltb}
 use Rattle.std.proofs.lemmas.List.{length-append}
 use Rattle.std.proofs.lemmas.List.Sums.{sum_by-append, sum_by-cons}
+use Rattle.sv_rpc.specs.Limits.{max_record}
 use Rattle.sv_rpc.specs.Record.{Tail, Header, Data, TooLong}
 use Rattle.sv_rpc.specs.RecordBuf.{Records}
 use Rattle.sv_rpc.specs.Representation.{InRoom, Fits, IsInHeader, spare_of, after_byte, after_header}
@@ -22,9 +23,9 @@ spare_is_small (b ∷ payload) = omega arith
 header_room : (records : List (List ℕ)) (payload header : List ℕ) (size n : ℕ) (last : Bool) → Fits records (Header payload []) (4 + n)
     → InRoom (after_header records (Header payload header) size last) n
 header_room records payload header size n last fits =
-    elim (cases_lt 8192 (length payload + size)) [
-      | inl long ↦ rw (lt-ltb 8192 (length payload + size) long) tt
-      | inr short ↦ rw (le-ltb 8192 (length payload + size) short) (elim (cases_lt 0 size) [
+    elim (cases_lt max_record (length payload + size)) [
+      | inl long ↦ rw (lt-ltb max_record (length payload + size) long) tt
+      | inr short ↦ rw (le-ltb max_record (length payload + size) short) (elim (cases_lt 0 size) [
         | inl some ↦ rw (lt-ltb 0 size some) (omega (arith, spare_is_small payload))
         | inr none ↦ rw (le-ltb 0 size none) (empty last)
       ])

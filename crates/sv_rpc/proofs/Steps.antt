@@ -7,6 +7,7 @@ use Rattle.std.proofs.lemmas.Nat.{be_bytes_4}
 use Rattle.std.proofs.lemmas.List.{append-nil, length-append, map_push}
 use Rattle.std.proofs.lemmas.List.Concat.{flat_map-append}
 use Rattle.std.proofs.lemmas.List.Folds.{concat-append}
+use Rattle.sv_rpc.specs.Limits.{max_record}
 use Rattle.sv_rpc.specs.Record.{header_of, fragment, Sent, bytes_of, record_of, IsTaken, Tail, Header, Data, TooLong, IsTail, Splits}
 
 -- a property of all elements and of one more at the end
@@ -29,7 +30,7 @@ longer stream piece all s t splits behind = record {
 -- the stream with one more whole record, and nothing behind it
 one_more : (stream piece : List ℕ) (all : List (List ℕ)) (text : List ℕ) (s : Tail) (splits : Splits stream all s) (sent : Sent)
     → splits.rest ++ piece ≡ bytes_of sent
-    → text ≡ record_of sent → length text ≤ 8192 → Splits (stream ++ piece) (all ++ text ∷ []) (Header [] [])
+    → text ≡ record_of sent → length text ≤ max_record → Splits (stream ++ piece) (all ++ text ∷ []) (Header [] [])
 one_more stream piece all text s splits sent is text_is taken = record {
   sent = splits.sent ++ sent ∷ [];
   rest = [];
@@ -56,7 +57,7 @@ header_grows stream all payload header byte splits short =
 -- the byte that completes the header of a fragment with data that may be taken
 pub header_ends : (stream : List ℕ) (all : List (List ℕ)) (payload header : List ℕ) (byte size : ℕ) (last : Bool)
     → Splits stream all (Header payload header)
-    → header ++ byte ∷ [] ≡ header_of last size → 0 < size → length payload + size ≤ 8192
+    → header ++ byte ∷ [] ≡ header_of last size → 0 < size → length payload + size ≤ max_record
     → Splits (stream ++ byte ∷ []) all (Data payload size last)
 header_ends stream all payload header byte size last splits is some fits =
     let b = splits.behind in
@@ -90,7 +91,8 @@ empty_last_ends stream all payload header byte splits is =
 -- the byte that completes the header of a fragment that makes the record too long
 pub header_too_long : (stream : List ℕ) (all : List (List ℕ)) (payload header : List ℕ) (byte size : ℕ) (last : Bool)
     → Splits stream all (Header payload header)
-    → header ++ byte ∷ [] ≡ header_of last size → size < 2 ^ 31 → 8192 < length payload + size → Splits (stream ++ byte ∷ []) all TooLong
+    → header ++ byte ∷ [] ≡ header_of last size → size < 2 ^ 31 → max_record < length payload + size
+    → Splits (stream ++ byte ∷ []) all TooLong
 header_too_long stream all payload header byte size last splits is small long =
     let b = splits.behind in
     longer stream (byte ∷ []) all (Header payload header) _ splits

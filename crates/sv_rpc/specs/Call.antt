@@ -3,6 +3,7 @@ use Rattle.std.specs.Prelude.{◌≢◌, ℕ, ◌≤◌, List, [], ◌∷◌, le
 use Rattle.sv_xdr.specs.declared.fault.XdrFault.{XdrFault}
 use Rattle.sv_xdr.specs.Spelling.{Field, Unsigned, Opaque, BeginsAll}
 use Rattle.sv_xdr.specs.Reader.{unsigned_at, opaque_at}
+use Rattle.sv_rpc.specs.Limits.{max_auth}
 use Rattle.sv_rpc.specs.declared.call.Call.{Call}
 use Rattle.sv_rpc.specs.declared.call.CallFault.{CallFault}
 use Rattle.sv_rpc.specs.declared.call.CallFault.TheVariants.{BadHeader, Version}
@@ -18,7 +19,7 @@ pub record PlainCall : Type 0 where
 abbrev pub plain_call : Call → PlainCall
 plain_call call = record { xid = call.xid; prog = call.prog; vers = call.vers; proc = call.proc; args = call.args.now }
 
--- who asks, which nothing depends on (8.2): a flavor, and a body of at most 400 bytes
+-- who asks, which nothing depends on (8.2): a flavor, and a body of at most max_auth bytes
 pub record Auth : Type 0 where
   pub flavor : ℕ
   pub body : List ℕ
@@ -31,7 +32,7 @@ heading call credential verifier =
 
 -- The record is this call, under some credential and verifier.
 abbrev pub IsCall : List ℕ → PlainCall → Type 0
-IsCall bytes call = (credential verifier : Auth) × (length credential.body ≤ 400) × (length verifier.body ≤ 400)
+IsCall bytes call = (credential verifier : Auth) × (length credential.body ≤ max_auth) × (length verifier.body ≤ max_auth)
     × BeginsAll bytes (heading call credential verifier) call.args
 
 -- The record is a call under another version of RPC, whatever follows the version.
@@ -58,9 +59,9 @@ body_at xid bytes = do
   vers ← unsigned_at prog.1
   proc ← unsigned_at vers.1
   flavor ← unsigned_at proc.1
-  credential ← opaque_at 400 flavor.1
+  credential ← opaque_at max_auth flavor.1
   kind ← unsigned_at credential.1
-  verifier ← opaque_at 400 kind.1
+  verifier ← opaque_at max_auth kind.1
   Ok (record { xid = xid; prog = prog.0; vers = vers.0; proc = proc.0; args = verifier.1 })
 
 -- the record as a call, read from left to right

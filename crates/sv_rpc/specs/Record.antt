@@ -2,10 +2,7 @@
 use Rattle.std.specs.Prelude.{◌≡◌, ℕ, ◌+◌, ◌<◌, ◌≤◌, ◌^◌, Bool, true, false, List, ◌++◌, length, map}
 use Rattle.std.specs.List.{concat, flat_map, AllByRecursion}
 use Rattle.sv_xdr.specs.Spelling.{Unsigned, spelling}
-
--- the longest record that is taken, in bytes
-abbrev pub max_record : ℕ
-max_record = 8192
+use Rattle.sv_rpc.specs.Limits.{max_record}
 
 -- A fragment's header is a word: its top bit marks the last fragment of a record, the 31 low bits are the length of the fragment's data.
 abbrev pub header_of : Bool → ℕ → List ℕ

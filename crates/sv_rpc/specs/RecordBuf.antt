@@ -3,6 +3,7 @@ use Rattle.std.specs.Prelude.{◌≡◌, ℕ, ◌+◌, ◌-◌, ◌≤◌, List,
 use Rattle.std.specs.Borrow.{Bor}
 use Rattle.sv_rpc.specs.declared.record_buf.RpcFault.{RpcFault}
 use Rattle.sv_rpc.specs.declared.record_buf.RpcFault.TheVariants.{RecordTooLong}
+use Rattle.sv_rpc.specs.Limits.{capacity}
 use Rattle.sv_rpc.specs.Record.{Tail, Header, Data, TooLong, Splits}
 
 -- the whole records that weren't dropped, and what stands behind them
@@ -25,11 +26,11 @@ pub record StandsFor (held : Records) (stream : List ℕ) (dropped : ℕ) : Type
 abbrev pub used_by : List (List ℕ) → Tail → ℕ
 used_by records (Header payload header) = sum_by (λ r. 4 + length r) records + (4 + length payload + length header)
 used_by records (Data payload missing last) = sum_by (λ r. 4 + length r) records + (4 + length payload)
-used_by records TooLong = 16384
+used_by records TooLong = capacity
 
 -- how many bytes may be pushed
 abbrev pub room_of : Records → ℕ
-room_of held = 16384 - used_by held.records held.tail
+room_of held = capacity - used_by held.records held.tail
 
 -- the next record; behind the last one its fault, or none yet
 abbrev pub at_end : Tail → Result (Option (List ℕ)) RpcFault
@@ -49,7 +50,7 @@ IsNext stream dropped answer = (all : List (List ℕ)) × (tail : Tail) × Split
 -- The room is counted over the stream's records without those that were dropped.
 abbrev pub IsRoom : List ℕ → ℕ → ℕ → Type 0
 IsRoom stream dropped room = (all : List (List ℕ)) × (tail : Tail) × Splits stream all tail × (dropped ≤ length all)
-    × (room ≡ 16384 - used_by (drop dropped all) tail)
+    × (room ≡ capacity - used_by (drop dropped all) tail)
 
 -- the answer as plain data
 abbrev pub plain_record : Result (Option (Bor (List ℕ))) RpcFault → Result (Option (List ℕ)) RpcFault

@@ -3,6 +3,7 @@ use Rattle.std.specs.Prelude.{◌≡◌, ℕ, ◌+◌, ◌-◌, ◌*◌, ◌%◌
 use Rattle.std.specs.Int.{w32, from_be_bytes}
 use Rattle.sv_rpc.specs.declared.record_buf.Place.{Place}
 use Rattle.sv_rpc.specs.declared.record_buf.Place.TheVariants as place
+use Rattle.sv_rpc.specs.Limits.{capacity, max_records, max_record}
 use Rattle.sv_rpc.specs.Record.{Tail, Header, Data, TooLong}
 use Rattle.sv_rpc.specs.RecordBuf.{Records, StandsFor, used_by}
 
@@ -25,8 +26,8 @@ spare_of [] = 4
 spare_of (b ∷ payload) = 0
 
 abbrev pub Fits : List (List ℕ) → Tail → ℕ → Type 0
-Fits records (Header payload header) n = used_by records (Header payload header) + n ≤ 16384 + spare_of payload
-Fits records (Data payload missing last) n = used_by records (Data payload missing last) + n ≤ 16384
+Fits records (Header payload header) n = used_by records (Header payload header) + n ≤ capacity + spare_of payload
+Fits records (Data payload missing last) n = used_by records (Data payload missing last) + n ≤ capacity
 Fits records TooLong n = Unit {0}
 
 abbrev pub InRoom : Records → ℕ → Type 0
@@ -36,21 +37,21 @@ InRoom held n = Fits held.records held.tail n
 abbrev pub begun_of : Place → ℕ → ℕ
 begun_of place.Header header_len = header_len
 begun_of (place.Data missing last) header_len = 0
-begun_of place.TooLong header_len = 16384
+begun_of place.TooLong header_len = capacity
 
 -- the place is one that a record may be at
 abbrev pub IsPlace : Place → ℕ → ℕ → Type 0
-IsPlace place.Header payload header_len = (payload ≤ 8192) × (header_len < 4)
-IsPlace (place.Data missing last) payload header_len = (0 < missing) × (payload + missing ≤ 8192) × (header_len ≡ 0)
+IsPlace place.Header payload header_len = (payload ≤ max_record) × (header_len < 4)
+IsPlace (place.Data missing last) payload header_len = (0 < missing) × (payload + missing ≤ max_record) × (header_len ≡ 0)
 IsPlace place.TooLong payload header_len = Unit {0}
 
 pub record IsValid (bytes lengths header : List ℕ) (space slots payload header_len : ℕ) (place : Place) : Type 0 where
   pub whole : sum lengths + payload ≡ length bytes
   pub four : length header ≡ 4
   pub at : IsPlace place payload header_len
-  pub enough : 16384 ≤ space
-  pub many : 4096 ≤ slots
-  pub counted : 4 * length lengths + length bytes ≤ 16384
+  pub enough : capacity ≤ space
+  pub many : max_records ≤ slots
+  pub counted : 4 * length lengths + length bytes ≤ capacity
 
 abbrev pub IsInHeader : Tail → Type 0
 IsInHeader (Header payload header) = Unit {0}
@@ -81,7 +82,7 @@ finished records tail = record { records = records ++ payload_of tail ∷ []; ta
 abbrev pub after_header : List (List ℕ) → Tail → ℕ → Bool → Records
 after_header records tail size last =
     let payload = payload_of tail in
-    if nat_lt 8192 (length payload + size) then record { records = records; tail = TooLong }
+    if nat_lt max_record (length payload + size) then record { records = records; tail = TooLong }
     else (if nat_lt 0 size then record { records = records; tail = Data payload size last }
     else (if last then finished records tail else record { records = records; tail = Header payload [] }))
 

@@ -2,7 +2,8 @@
 -- gives splits the stream, and nothing else does.
 use Rattle.std.specs.Prelude.{ℕ, zero, suc, ◌+◌, ◌-◌, ◌%◌, ◌^◌, Bool, true, false, List, [], ◌∷◌, ◌++◌, length, take, drop, nat_le, nat_lt, if◌then◌else◌}
 use Rattle.std.specs.Int.{w32, from_be_bytes}
-use Rattle.sv_rpc.specs.Record.{max_record, Tail, Header, Data, TooLong}
+use Rattle.sv_rpc.specs.Limits.{max_record}
+use Rattle.sv_rpc.specs.Record.{Tail, Header, Data, TooLong}
 
 -- whole records, and what stands behind them
 abbrev pub Reading : Type 0

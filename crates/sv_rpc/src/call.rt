@@ -7,7 +7,7 @@ ghost use Rattle.sv_rpc.specs.Call.{PlainCall, CallIs, plain_call, body_at, call
 use sv_xdr::{Reader, XdrFault};
 use thiserror::Error;
 
-/// The longest credential or verifier, in bytes (RFC 5531, section 8.2).
+/// How long the body of a credential or a verifier may be, in bytes (RFC 5531, section 8.2).
 const MAX_AUTH: u32 = 400;
 
 /// A call, without its credential and verifier.
@@ -51,8 +51,8 @@ impl From<XdrFault> for CallFault {
 
 /// Reads the bytes of a record as a call (RFC 5531, section 9). The transaction, the message type
 /// and the version of RPC are read first, so `Version` comes whatever follows them; any fault of
-/// another field is `BadHeader`. Credential and verifier are of at most 400 bytes each, and aren't
-/// looked at.
+/// another field is `BadHeader`, as where a credential or a verifier is longer than it may be.
+/// Neither is looked at.
 pub fn read_call(bytes: &[u8]) -> Result<Call<'_>, CallFault>
     // What is read is spelled there.
     ensures found { CallIs bytes.now (plain_call_result result) }

@@ -2,6 +2,7 @@
 
 ghost use Rattle.std.specs.Prelude.{◌≡◌, ◌≢◌, ℕ, ◌+◌, ◌-◌, ◌%◌, ◌<◌, ◌≤◌, ◌^◌, List, [], ◌∷◌, ◌++◌, length, take, drop, nat_le, vec_len, vec_capacity, IfOk};
 ghost use Rattle.std.specs.Int.{w32, from_be_bytes};
+ghost use Rattle.sv_rpc.specs.Limits.{capacity};
 ghost use Rattle.sv_rpc.specs.Record.{header_of};
 ghost use Rattle.sv_rpc.specs.RecordBuf.{Records, StandsFor, IsNext, IsRoom, no_records, room_of, next_among, used_by, plain_record};
 ghost use Rattle.sv_rpc.specs.Representation.{InRoom, GoesOn, Keeps, IsInHeader, IsBeforeHeader, IsInData, after_byte, after_header, after_data, finished};
@@ -14,16 +15,16 @@ use thiserror::Error;
 
 /// How many bytes the records in a buffer may take, with 4 for each.
 const CAPACITY: usize = 16384;
-/// The longest record, in bytes.
-const MAX_RECORD: usize = 8192;
-/// How many records fit: the shortest is empty and counts 4.
+/// How many records may stand in a buffer: the shortest is empty and takes 4 bytes.
 const MAX_RECORDS: usize = CAPACITY / 4;
+/// How long a record may be that is taken, in bytes.
+const MAX_RECORD: usize = 8192;
 
 /// Why no further record comes.
 #[derive(Clone, Copy, Debug, PartialEq, Eq, Error)]
 pub enum RpcFault {
-    /// A fragment's header made its record longer than 8,192 bytes. No record follows.
-    #[error("a record is longer than 8192 bytes")]
+    /// A fragment's header made its record longer than a record may be. No record follows.
+    #[error("a record is longer than {max} bytes", max = MAX_RECORD)]
     RecordTooLong = 1,
 }
 
@@ -87,8 +88,8 @@ impl<A: Allocator + Copy> RecordBuf<A> {
 }
 
 impl<A: Allocator> RecordBuf<A> {
-    /// How many bytes may be pushed: of 16,384, what is left behind 4 and the length of each whole
-    /// record that wasn't dropped, 4 and what came of the unfinished one, and what came of an
+    /// How many bytes may be pushed: of the capacity, what is left behind 4 and the length of each
+    /// whole record that wasn't dropped, 4 and what came of the unfinished one, and what came of an
     /// unfinished fragment header. It is 0 once a record was too long.
     pub fn room(&self) -> usize
         ensures value { result ≡ room_of self.now }
@@ -246,7 +247,7 @@ impl<A: Allocator> RecordBuf<A> {
     /// Makes what came of the unfinished record a whole one.
     fn finish(&mut self)
         requires header { IsBeforeHeader self.old.tail }
-        requires fits { used_by self.old.records self.old.tail ≤ 16384 }
+        requires fits { used_by self.old.records self.old.tail ≤ capacity }
         ensures { self.new ≡ finished self.old.records self.old.tail }
     {
         self.lengths.push_reserved(self.payload as u16);

@@ -12,26 +12,26 @@ use Rattle.std.specs.Prelude.{◌==◌, nat_le, ◌&&◌}
 use Rattle.sv_scan.specs.declared.setting.Reading.{Reading}
 use Rattle.sv_scan.specs.declared.touched.Touched.{Touched}
 use Rattle.sv_scan.specs.declared.setting.State.TheVariants.{Idle, Waiting, Scanning}
-use Rattle.sv_errors.specs.Limits.{is_channel, is_channel_list}
+use Rattle.sv_errors.specs.Limits.{is_channel, is_channel_list, longest_list, most_scans, most_readings}
 use Rattle.sv_scan.specs.Scan.{channel_at, state_by, is_bounded}
 use Rattle.sv_scan.specs.Counted.{is_scanning}
 use Rattle.sv_scan.specs.Stands.{Run, Contents}
 use Rattle.sv_scan.specs.Representation.{IsValid, IsRun, IsRunOf, run_state}
 
 -- a list that may be scanned
-size_is : (n : ℕ) → nat_le 1 n ≡ true → nat_le n 32 ≡ true → (1 ≤ n) × (n ≤ 32)
+size_is : (n : ℕ) → nat_le 1 n ≡ true → nat_le n longest_list ≡ true → (1 ≤ n) × (n ≤ longest_list)
 size_is n some few = grind (arith, nat_tests)
 
-pub size_in : (channels : List ℕ) → is_channel_list channels ≡ true → (1 ≤ length channels) × (length channels ≤ 32)
+pub size_in : (channels : List ℕ) → is_channel_list channels ≡ true → (1 ≤ length channels) × (length channels ≤ longest_list)
 size_in channels possible =
-    let parts = and_parts (nat_le 1 (length channels)) (nat_le (length channels) 32 && list_all is_channel channels) possible in
-    size_is (length channels) parts.0 (and_parts (nat_le (length channels) 32) (list_all is_channel channels) parts.1).0
+    let parts = and_parts (nat_le 1 (length channels)) (nat_le (length channels) longest_list && list_all is_channel channels) possible in
+    size_is (length channels) parts.0 (and_parts (nat_le (length channels) longest_list) (list_all is_channel channels) parts.1).0
 
 pub channel_in : (channels : List ℕ) (read : ℕ) → is_channel_list channels ≡ true → is_channel (channel_at channels read) ≡ true
 channel_in channels read possible =
     let size = size_in channels possible in
-    let parts = and_parts (nat_le 1 (length channels)) (nat_le (length channels) 32 && list_all is_channel channels) possible in
-    let all = (and_parts (nat_le (length channels) 32) (list_all is_channel channels) parts.1).1 in
+    let parts = and_parts (nat_le 1 (length channels)) (nat_le (length channels) longest_list && list_all is_channel channels) possible in
+    let all = (and_parts (nat_le (length channels) longest_list) (list_all is_channel channels) parts.1).1 in
     All-get_or (λ (channel : ℕ). is_channel channel ≡ true) channels (read % length channels) 0
     (mod_below read (length channels) (omega arith)) (AllPass-from_list_all is_channel channels all)
 
@@ -53,15 +53,15 @@ short_in : (r : Run) (read : ℕ) → is_scanning (state_by r.triggers read (len
 short_in r read e = eqb-false read (r.triggers * length r.channels)
     (is_short (read == r.scans * length r.channels) (read == r.triggers * length r.channels) e)
 
--- there are at most 512 readings
-few_of : (r : Run) (read : ℕ) → IsRun r read → read ≤ 512
+-- there are no more readings than there may be
+few_of : (r : Run) (read : ℕ) → IsRun r read → read ≤ most_readings
 few_of r read run =
     let size = size_in r.channels run.channels in
-    let triggers : r.triggers ≤ 16 = omega (arith, run.scans, run.triggers) in
-    let bound : r.triggers * length r.channels ≤ 16 * 32 = mul-le-mul triggers size.1 in
+    let triggers : r.triggers ≤ most_scans = omega (arith, run.scans, run.triggers) in
+    let bound : r.triggers * length r.channels ≤ most_scans * longest_list = mul-le-mul triggers size.1 in
     omega (arith, run.read)
 
-pub few_in : (run : Option Run) (read : ℕ) → IsRunOf run read → read ≤ 512
+pub few_in : (run : Option Run) (read : ℕ) → IsRunOf run read → read ≤ most_readings
 few_in None read e = omega (arith, e)
 few_in (Some r) read run = few_of r read run
 
@@ -75,7 +75,8 @@ read_more r read run short = record {
 }
 
 -- so there is room for one more
-room_in : (r : Run) (read capacity : ℕ) → 512 ≤ capacity → IsRun r read → (read ≡ r.triggers * length r.channels → ⊥) → read < capacity
+room_in : (r : Run) (read capacity : ℕ) → most_readings ≤ capacity → IsRun r read → (read ≡ r.triggers * length r.channels → ⊥)
+    → read < capacity
 room_in r read capacity room run short = omega (arith, room, few_of r (read + 1) (read_more r read run short))
 
 pub has_room : (contents : Contents) (capacity : ℕ) (r : Run) → contents.run ≡ Some r → IsValid contents capacity

@@ -9,7 +9,7 @@ use Rattle.sv_scan.specs.declared.setting.Reading.{Reading}
 use Rattle.sv_scan.specs.declared.settings.Settings.{Settings}
 use Rattle.sv_scan.specs.declared.acts.ScanAct.{ScanAct}
 use Rattle.sv_scan.specs.declared.acts.ScanAct.TheVariants.{Input, Sample}
-use Rattle.sv_errors.specs.Limits.{is_channel}
+use Rattle.sv_errors.specs.Limits.{is_channel, channel_count}
 use Rattle.sv_scan.specs.Setting.{range, input}
 use Rattle.sv_scan.specs.Scan.{before_init, samples, readings, reading, reading_in, channel_at, list_since}
 use Rattle.sv_scan.specs.Counted.{kept, counts}
@@ -52,11 +52,11 @@ is_refused (Some other) code e = refl
 -- ---- the scanner after an act that counts
 
 -- where a channel's input is
-is_in : (channel : ℕ) → is_channel channel ≡ true → (1 ≤ channel) × (channel ≤ 32)
+is_in : (channel : ℕ) → is_channel channel ≡ true → (1 ≤ channel) × (channel ≤ channel_count)
 is_in channel legal = grind (arith, nat_tests)
 
 -- an input
-input_after : (inputs : List ℤ) (channel other : ℕ) (microvolts before : ℤ) → length inputs ≡ 32 → is_channel channel ≡ true
+input_after : (inputs : List ℤ) (channel other : ℕ) (microvolts before : ℤ) → length inputs ≡ channel_count → is_channel channel ≡ true
     → is_channel other ≡ true → slice_index_or inputs (other - 1) (pos 0) ≡ before
     → slice_index_or (slice_set inputs (channel - 1) microvolts) (other - 1) (pos 0) ≡ (if channel == other then microvolts else before)
 input_after inputs channel other microvolts before size legal known same =
@@ -72,7 +72,7 @@ input_after inputs channel other microvolts before size legal known same =
     let apart : other - 1 ≢ channel - 1 = λ (h : other - 1 ≡ channel - 1). ne (omega arith) in
     get_or-set_other inputs (channel - 1) (other - 1) microvolts (pos 0) apart ∙ same)
 
-pub Holds-input : (contents : Contents) (log : List ScanAct) (channel : ℕ) (microvolts : ℤ) → length contents.inputs ≡ 32
+pub Holds-input : (contents : Contents) (log : List ScanAct) (channel : ℕ) (microvolts : ℤ) → length contents.inputs ≡ channel_count
     → is_channel channel ≡ true → Holds contents log
     → Holds (record contents {
       inputs = slice_set contents.inputs (channel - 1) microvolts;

@@ -7,7 +7,7 @@ use Rattle.sv_scan.specs.declared.setting.State.{State}
 use Rattle.sv_scan.specs.declared.setting.State.TheVariants.{Idle}
 use Rattle.sv_scan.specs.declared.settings.Settings.{Settings}
 use Rattle.sv_scan.specs.declared.touched.Touched.{Touched}
-use Rattle.sv_errors.specs.Limits.{is_channel, is_channel_list}
+use Rattle.sv_errors.specs.Limits.{is_channel, is_channel_list, channel_count, most_scans, most_readings}
 use Rattle.sv_scan.specs.Setting.{is_possible}
 use Rattle.sv_scan.specs.Scan.{state_by, is_bounded}
 use Rattle.sv_scan.specs.Stands.{Run, Contents}
@@ -22,11 +22,11 @@ abbrev pub run_complete : Option Run → ℕ → Bool
 run_complete None samples = false
 run_complete (Some run) samples = samples == run.scans * length run.channels
 
--- A measurement has a list that may be scanned, up to 16 scans, no more triggers than scans, and no more samples than its triggered scans
--- have.
+-- A measurement has a list that may be scanned, no more scans than there may be, no more triggers than scans, and no more samples than
+-- its triggered scans have.
 pub record IsRun (run : Run) (samples : ℕ) : Type 0 where
   pub channels : is_channel_list run.channels ≡ true
-  pub scans : run.scans ≤ 16
+  pub scans : run.scans ≤ most_scans
   pub triggers : run.triggers ≤ run.scans
   pub read : samples ≤ run.triggers * length run.channels
 
@@ -34,11 +34,11 @@ abbrev pub IsRunOf : Option Run → ℕ → Type 0
 IsRunOf None samples = samples ≡ 0
 IsRunOf (Some run) samples = IsRun run samples
 
--- There are 32 inputs and room for 512 readings; list, monitor, range, limits, count and measurement are legal, and no reading is beyond
--- 1,000 V.
+-- There are inputs of all channels and room for all readings; list, monitor, range, limits, count and measurement are legal, and no
+-- reading is beyond 1,000 V.
 pub record IsValid (contents : Contents) (capacity : ℕ) : Type 0 where
-  pub inputs : length contents.inputs ≡ 32
-  pub room : 512 ≤ capacity
+  pub inputs : length contents.inputs ≡ channel_count
+  pub room : most_readings ≤ capacity
   pub list : is_channel_list contents.list ≡ true
   pub monitor : is_channel contents.monitor ≡ true
   pub range : int_le (pos 0) contents.range ≡ true

@@ -1,6 +1,6 @@
 -- Settings and inputs: the value last given, found by a search of the acts that count, which are read from the newest.
 use Rattle.std.specs.Prelude.{ℕ, ℤ, pos, neg_ℤ, int_le, nat_le, ◌==◌, ◌&&◌, Bool, true, false, List, [], ◌∷◌, Option, Some, None, unwrap_or, if◌then◌else◌}
-use Rattle.sv_errors.specs.Limits.{is_channel, is_channel_list, most_microvolts}
+use Rattle.sv_errors.specs.Limits.{is_channel, is_channel_list, most_microvolts, most_scans}
 use Rattle.sv_scan.specs.declared.setting.Setting.{Setting}
 use Rattle.sv_scan.specs.declared.setting.Setting.TheVariants.{List as SetList, Monitor, Range, Upper, Lower, Limits, Source as SetSource, Count}
 use Rattle.sv_errors.specs.declared.source.Source.{Source}
@@ -100,7 +100,7 @@ is_possible (Upper limit) = is_limit limit
 is_possible (Lower limit) = is_limit limit
 is_possible (Limits on) = true
 is_possible (SetSource source) = true
-is_possible (Count scans) = nat_le 1 scans && nat_le scans 16
+is_possible (Count scans) = nat_le 1 scans && nat_le scans most_scans
 
 -- whether it can be changed in the idle state alone
 abbrev pub is_fixed : Setting → Bool

@@ -1,7 +1,7 @@
 //! The settings as they are now.
 
 ghost use Rattle.std.specs.Prelude.{◌≡◌, ◌≤◌, true, List, unsigned_abs};
-ghost use Rattle.sv_errors.specs.Limits.{is_channel, is_channel_list};
+ghost use Rattle.sv_errors.specs.Limits.{is_channel, is_channel_list, most_scans};
 ghost use Rattle.sv_scan.specs.declared.acts.ScanAct.{ScanAct};
 ghost use Rattle.sv_scan.specs.Setting.{scan_list as scan_list_of, monitor as monitor_of, range as range_of, upper as upper_of, lower as lower_of, limits as limits_of, source as source_of, count as count_of};
 ghost use Rattle.sv_scan.specs.Counted.{kept};
@@ -12,7 +12,7 @@ use std::alloc::Allocator;
 use sv_errors::Source;
 
 impl<A: Allocator> Scanner<A> {
-    /// The channels that a scan reads, in their order: 1 to 32 of them, each 1 to 32.
+    /// The channels that a scan reads, in their order; at least one.
     pub fn list(&self) -> &[u8]
         ensures answer { (acts : List ScanAct) → StandsFor self.now acts
             → result.now ≡ scan_list_of (kept acts) }
@@ -21,7 +21,7 @@ impl<A: Allocator> Scanner<A> {
         self.settings.list.channels()
     }
 
-    /// The channel whose live input is compared with the limits: 1 to 32.
+    /// The channel whose live input is compared with the limits.
     pub fn monitor(&self) -> u8
         ensures answer { (acts : List ScanAct) → StandsFor self.now acts
             → result ≡ monitor_of (kept acts) }
@@ -73,11 +73,11 @@ impl<A: Allocator> Scanner<A> {
         self.settings.source
     }
 
-    /// How many scans a measurement has: 1 to 16.
+    /// How many scans a measurement has: 1 to [`MOST_SCANS`](sv_errors::MOST_SCANS).
     pub fn count(&self) -> u8
         ensures answer { (acts : List ScanAct) → StandsFor self.now acts
             → result ≡ count_of (kept acts) }
-        ensures bounded { (1 ≤ result) × (result ≤ 16) }
+        ensures bounded { (1 ≤ result) × (result ≤ most_scans) }
     {
         self.settings.count
     }

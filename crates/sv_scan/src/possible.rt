@@ -4,10 +4,8 @@ ghost use Rattle.std.specs.Prelude.{◌≡◌};
 ghost use Rattle.sv_scan.specs.Setting.{is_limit as is_limit_value, is_possible as may_have, is_fixed as has_to_wait, least_range as least_range_of};
 
 use crate::setting::Setting;
-use sv_errors::{MOST_MICROVOLTS, is_channel, is_channel_list};
+use sv_errors::{MOST_MICROVOLTS, MOST_SCANS, is_channel, is_channel_list};
 
-/// How many scans a measurement may have.
-const MAX_COUNT: u8 = 16;
 /// The ranges, in microvolts: 1, 10 and 100 V.
 const RANGES: (i64, i64, i64) = (1_000_000, 10_000_000, 100_000_000);
 
@@ -43,7 +41,7 @@ pub(crate) fn is_possible(setting: &Setting) -> bool
         Setting::Lower(limit) => is_limit(*limit),
         Setting::Limits(_on) => true,
         Setting::Source(_source) => true,
-        Setting::Count(scans) => 1 <= *scans && *scans <= MAX_COUNT,
+        Setting::Count(scans) => 1 <= *scans && *scans <= MOST_SCANS,
     }
 }
 

@@ -6,9 +6,10 @@ ghost use Rattle.sv_scan.specs.Scan.{reading_in as reading_of, is_bounded};
 ghost use Rattle.sv_scan.specs.Condition.{is_overload as overloads, is_below as lies_below, is_above as lies_above};
 
 use crate::setting::Reading;
+use sv_errors::CHANNELS;
 
 /// The voltage of a channel's input, in microvolts.
-pub(crate) fn voltage(inputs: &[i64; 32], channel: u8) -> i64
+pub(crate) fn voltage(inputs: &[i64; CHANNELS], channel: u8) -> i64
     requires { IsTrue (is_channel channel) }
     ensures { result ≡ slice_index_or inputs.now (channel - 1) (pos 0) }
 {

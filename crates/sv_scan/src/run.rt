@@ -1,6 +1,7 @@
 //! A measurement from its initiation on.
 
 ghost use Rattle.std.specs.Prelude.{◌≡◌, ◌+◌, ◌*◌, ◌<◌, ◌==◌, length};
+ghost use Rattle.sv_errors.specs.Limits.{most_scans};
 ghost use Rattle.sv_scan.specs.Scan.{state_by, channel_at};
 
 use crate::scan_list::ScanList;
@@ -70,7 +71,7 @@ impl Run {
 
     /// It had one trigger more.
     pub(crate) fn trigger(&mut self)
-        requires { self.old.triggers < 16 }
+        requires { self.old.triggers < most_scans }
         ensures { self.new ≡ record self.old { triggers = self.old.triggers + 1 } }
     {
         self.triggers += 1;

@@ -10,7 +10,7 @@ ghost use Rattle.sv_scan.specs.Counted.{kept, setting_fault, init_fault, trigger
 ghost use Rattle.sv_scan.specs.Condition.{operation, questionable, limit, is_outside as lies_outside};
 ghost use Rattle.sv_scan.specs.Answered.{refused_by};
 ghost use Rattle.sv_scan.specs.Touched.{nothing};
-ghost use Rattle.sv_errors.specs.Limits.{is_channel as is_there};
+ghost use Rattle.sv_errors.specs.Limits.{is_channel as is_there, most_readings};
 ghost use Rattle.sv_scan.specs.Stands.{StandsFor};
 ghost use Rattle.sv_scan.specs.Representation.{run_state};
 
@@ -25,17 +25,14 @@ use crate::touched::Touched;
 use crate::words::{Conditions, limit_word, operation_word, questionable_word};
 use std::alloc::{AllocError, Allocator, Global};
 use std::marker::Model;
-use sv_errors::{Code, Layer, Source, is_channel};
+use sv_errors::{CHANNELS, Code, Layer, MOST_READINGS, Source, is_channel};
 
-/// How many readings there may be: 16 scans of 32 channels.
-const MAX_READINGS: usize = 512;
-
-/// The measuring part of the instrument: 32 inputs, its settings, the measurement that is under way
-/// or was the last, and its readings.
+/// The measuring part of the instrument: its inputs, its settings, the measurement that is under
+/// way or was the last, and its readings.
 #[derive(Drop)]
 pub struct Scanner<A: Allocator = Global> {
     /// The input of each channel, in microvolts; that of channel 1 first.
-    inputs: [i64; 32],
+    inputs: [i64; CHANNELS],
     /// What is set.
     pub(crate) settings: Settings,
     /// The measurement since the last initiation.
@@ -67,10 +64,10 @@ impl<A: Allocator> Scanner<A> {
         ensures { IfOk result (λ scanner. StandsFor scanner []) }
     {
         Ok(Scanner {
-            inputs: [0; 32],
+            inputs: [0; CHANNELS],
             settings: Settings::new(),
             run: None,
-            readings: Vec::with_capacity(alloc, MAX_READINGS)?,
+            readings: Vec::with_capacity(alloc, MOST_READINGS)?,
             touched: Touched {
                 operation: false,
                 questionable: false,
@@ -80,7 +77,7 @@ impl<A: Allocator> Scanner<A> {
     }
 
     /// The voltage of a channel's input is this from now on, in microvolts. It touches no condition
-    /// where the channel isn't the monitored one. A channel that isn't 1 to 32 has no input:
+    /// where the channel isn't the monitored one. A channel that there isn't has no input:
     /// nothing changes.
     pub fn input(&mut self, channel: u8, microvolts: i64)
         ensures stands { (acts : List ScanAct) → StandsFor self.old acts
@@ -366,12 +363,13 @@ impl<A: Allocator> Scanner<A> {
     }
 
     /// The readings of the measurement that is under way or was the last, oldest first, whether
-    /// they are complete or not. There are at most 512, and no voltage of them is beyond 1,000 V in
+    /// they are complete or not. There are at most
+    /// [`MOST_READINGS`], and no voltage of them is beyond 1,000 V in
     /// magnitude.
     pub fn readings_so_far(&self) -> &[Reading]
         ensures answer { (acts : List ScanAct) → StandsFor self.now acts
             → result.now ≡ readings_of (kept acts) }
-        ensures few { length result.now ≤ 512 }
+        ensures few { length result.now ≤ most_readings }
         ensures bounded { list_all is_bounded result.now ≡ true }
     {
         self.readings.as_slice()

@@ -7,10 +7,10 @@ use sv_errors::Source;
 /// the idle state alone.
 #[derive(Clone, Copy, Debug)]
 pub enum Setting {
-    /// The channels that a scan reads, in their order: 1 to 32 of them, each 1 to 32. At first
+    /// The channels that a scan reads, in their order; at least one. At first
     /// channel 1.
     List(ScanList),
-    /// The channel whose live input is compared with the limits: 1 to 32. At first 1.
+    /// The channel whose live input is compared with the limits. At first 1.
     Monitor(u8),
     /// The range, in microvolts, 0 to 100 V: the least of 1, 10 and 100 V that isn't below it. At
     /// first 10 V.
@@ -23,7 +23,8 @@ pub enum Setting {
     Limits(bool),
     /// Where triggers come from. At first [`Source::Immediate`].
     Source(Source),
-    /// How many scans a measurement has, one for each trigger: 1 to 16. At first 1.
+    /// How many scans a measurement has, one for each trigger: 1 to
+    /// [`MOST_SCANS`](sv_errors::MOST_SCANS). At first 1.
     Count(u8),
 }
 

@@ -5,6 +5,7 @@ ghost use Rattle.std.specs.Prelude.{◌≡◌, ◌≢◌, ◌+◌, ◌≤◌, �
 ghost use Rattle.sv_rpc.specs.RecordBuf.{StandsFor, room_of, no_records};
 ghost use Rattle.sv_history.specs.Act.{ConnAct, Opened, Piece, CallTaken, Faulted, Replied, BytesTaken, PortClosed};
 ghost use Rattle.sv_history.specs.Connection.{is_open, unanswered, is_busy, next_call, is_idle, is_faulted, room, free, waiting};
+ghost use Rattle.sv_history.specs.Limits.{longest_reply, max_output};
 ghost use Rattle.sv_server.specs.Connection.Representation.{IsConnection};
 ghost use Rattle.sv_server.specs.Connection.Inside.NextCall.{kept_next};
 ghost use Rattle.sv_server.specs.Device.Inside.Outcome.{answer_bytes, IsShort};
@@ -19,8 +20,8 @@ use sv_history::Role;
 use sv_rpc::{RecordBuf, RpcFault};
 use sv_text::drop_front;
 
-/// How many outgoing bytes may wait.
-const OUTGOING: usize = 16384;
+/// How many outgoing bytes may wait that the peer hasn't taken.
+const MAX_OUTPUT: usize = 16384;
 
 /// A connection, open or not: what it is for, what came, what waits to be sent. A call that was
 /// taken stays in its input until it is answered, and room for the longest reply is kept for it.
@@ -41,6 +42,7 @@ impl<A: Allocator> Model for Connection<A> {
     ghost Value = { Connection };
 
     ghost use Rattle.std.specs.Prelude.{◌≡◌, ◌≢◌, ◌+◌, ◌≤◌, true, None, [], length, vec_capacity};
+    ghost use Rattle.sv_history.specs.Limits.{longest_reply, max_output};
 
     ghost view = { λ a. record {
       role = a.role;
@@ -50,9 +52,10 @@ impl<A: Allocator> Model for Connection<A> {
       busy = a.busy;
     } };
 
-    ghost invariant = { λ a. (length a.output.items ≤ 16384) × (16384 ≤ vec_capacity a.output)
+    ghost invariant = { λ a. (length a.output.items ≤ max_output)
+        × (max_output ≤ vec_capacity a.output)
         × (a.busy ≡ true → (a.role ≢ None) × (a.input.records ≢ [])
-        × (length a.output.items + 8232 ≤ 16384)) };
+        × (length a.output.items + longest_reply ≤ max_output)) };
 }
 
 impl<A: Allocator + Copy> Connection<A> {
@@ -63,7 +66,7 @@ impl<A: Allocator + Copy> Connection<A> {
         Ok(Connection {
             role: None,
             input: RecordBuf::new(alloc)?,
-            output: Vec::with_capacity(alloc, OUTGOING)?,
+            output: Vec::with_capacity(alloc, MAX_OUTPUT)?,
             faulted: false,
             busy: false,
         })
@@ -89,7 +92,7 @@ impl<A: Allocator> Connection<A> {
     /// The bytes that wait to be sent; none where it isn't open.
     pub fn waiting(&self) -> &[u8]
         ensures within { length result.now ≤ length self.now.output }
-        ensures bounded { length result.now ≤ 16384 }
+        ensures bounded { length result.now ≤ max_output }
         ensures answer { (acts : List ConnAct) → IsConnection self.now acts
             → result.now ≡ waiting acts }
     {
@@ -218,17 +221,17 @@ impl<A: Allocator> Connection<A> {
 
     /// Whether there is room for the longest reply.
     pub fn has_reply_room(&self) -> bool
-        ensures value { result ≡ not (nat_lt 16384 (length self.now.output + 8232)) }
+        ensures value { result ≡ not (nat_lt max_output (length self.now.output + longest_reply)) }
         ensures answer { (acts : List ConnAct) → IsConnection self.now acts
-            → result ≡ not (nat_lt (free acts) 8232) }
+            → result ≡ not (nat_lt (free acts) longest_reply) }
     {
-        self.output.len() + LONGEST_REPLY <= OUTGOING
+        self.output.len() + LONGEST_REPLY <= MAX_OUTPUT
     }
 
     /// Takes the next call, which stays in the input until it is answered.
     pub fn take_call(&mut self)
         requires next { IsSome (kept_next self.old) }
-        requires room { length self.old.output + 8232 ≤ 16384 }
+        requires room { length self.old.output + longest_reply ≤ max_output }
         requires open { self.old.role ≢ None }
         ensures { (acts : List ConnAct) (call : List ℕ) → IsConnection self.old acts
             → next_call acts ≡ Some call → IsConnection self.new (CallTaken call ∷ acts) }

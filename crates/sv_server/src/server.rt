@@ -11,6 +11,7 @@ ghost use Rattle.sv_history.specs.Connection.{is_open, waiting_on, room, is_idle
 ghost use Rattle.sv_history.specs.History.{abort_acts, is_shut, is_port_shut, IsLogOf, Answers, history_after};
 ghost use Rattle.sv_history.specs.Requests.{HearsOf};
 ghost use Rattle.sv_history.specs.Queries.{Answered, WaitOn};
+ghost use Rattle.sv_history.specs.Limits.{max_output};
 ghost use Rattle.sv_server.specs.Connection.Representation.{Connection as KeptConnection, IsConnection};
 ghost use Rattle.sv_server.specs.Server.State.{Represents, StandsFor};
 ghost use Rattle.sv_server.specs.Server.Inside.Acting.{Acts};
@@ -88,7 +89,7 @@ impl<A: Allocator> Server<A> {
     pub fn waiting(&self, port: Port) -> &[u8]
         ensures waiting { (config : Config) (history : List PlainEvent)
             → StandsFor self.now config history → WaitOn port config history result.now }
-        ensures bounded { length result.now ≤ 16384 }
+        ensures bounded { length result.now ≤ max_output }
     {
         self.outgoing(port)
     }
@@ -98,7 +99,7 @@ impl<A: Allocator> Server<A> {
         ensures exact { (config : Config) (log : List Act) (told : List ChannelAct)
             → Represents self.now config log → HearsOf (device_acts log) told
             → result.now ≡ waiting_on told port log }
-        ensures bounded { length result.now ≤ 16384 }
+        ensures bounded { length result.now ≤ max_output }
     {
         match port {
             Port::Conn(conn) => match self.connection(conn) {

@@ -4,13 +4,14 @@ use crate::codes::code_of;
 use crate::line::{Fault, cut, put_text, value_of};
 use crate::values::parameter;
 use std::alloc::Global;
+use sv_errors::LONGEST_LIST;
 use sv_value::printing::{
     put_channels, put_error, put_overload, put_source, put_switch, put_voltage, put_whole,
 };
 use sv_value::{channel_list, keyword, microvolts};
 
-/// Room for any of them: a list of 32 channels is the longest.
-const MOST: usize = 3 + 4 * 32;
+/// Room for any of them: the longest list of channels, each of three digits.
+const MOST: usize = 3 + 4 * LONGEST_LIST;
 
 /// Tells how response data are printed.
 pub(crate) fn put_response(alloc: Global, out: &mut String, text: &str) -> Result<(), Fault> {

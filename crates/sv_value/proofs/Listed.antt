@@ -5,7 +5,7 @@ use Rattle.std.specs.List.{list_all}
 use Rattle.std.proofs.lemmas.Bool.{cases_lt, le-leb, leb-true, ltb-false}
 use Rattle.std.proofs.lemmas.List.{length-append}
 use Rattle.std.proofs.lemmas.List.Folds.{list_all-append}
-use Rattle.sv_errors.specs.Limits.{is_channel, is_channel_list}
+use Rattle.sv_errors.specs.Limits.{is_channel, is_channel_list, channel_count, longest_list}
 use Rattle.sv_errors.specs.declared.code.Code.{Code}
 use Rattle.sv_errors.specs.declared.code.Code.TheVariants.{DataOutOfRange, TooMuchData, InvalidExpression}
 use Rattle.sv_lexer.specs.declared.token.Kind.TheVariants.{Number, Base, Word, Expression, Other}
@@ -16,12 +16,12 @@ use Rattle.sv_value.specs.Value.{ReadIsChannelList}
 use Rattle.sv_value.proofs.Spans.{run-up, run-down, run-one, length-run}
 
 -- one more channel in front
-cons-channel : (c : ℕ) (cs : List ℕ) → 1 ≤ c → c ≤ 32 → list_all is_channel cs ≡ true → list_all is_channel (c ∷ cs) ≡ true
-cons-channel c cs some most h = rw (le-leb 1 c some, le-leb c 32 most) h
+cons-channel : (c : ℕ) (cs : List ℕ) → 1 ≤ c → c ≤ channel_count → list_all is_channel cs ≡ true → list_all is_channel (c ∷ cs) ≡ true
+cons-channel c cs some most h = rw (le-leb 1 c some, le-leb c channel_count most) h
 
 -- a run between two channels
-run-channels : (k first last : ℕ) → (first - last) + (last - first) ≡ k → 1 ≤ first → first ≤ 32 → 1 ≤ last → last ≤ 32
-    → list_all is_channel (run first last) ≡ true
+run-channels : (k first last : ℕ) → (first - last) + (last - first) ≡ k → 1 ≤ first → first ≤ channel_count → 1 ≤ last
+    → last ≤ channel_count → list_all is_channel (run first last) ≡ true
 run-channels zero first last size f1 f2 l1 l2 =
     let e : first ≡ last = omega (arith, size) in
     rw e (ap (list_all is_channel) (run-one last) ∙ cons-channel last [] l1 l2 refl)
@@ -46,27 +46,27 @@ both false b h = absurd cc
 ends-channels : (first last : ℕ) → (is_channel first && is_channel last) ≡ true → list_all is_channel (run first last) ≡ true
 ends-channels first last h =
     let one = both (is_channel first) (is_channel last) h in
-    let f = both (nat_le 1 first) (nat_le first 32) one.0 in
-    let l = both (nat_le 1 last) (nat_le last 32) one.1 in
-    run-channels ((first - last) + (last - first)) first last refl (leb-true 1 first f.0) (leb-true first 32 f.1) (leb-true 1 last l.0)
-    (leb-true last 32 l.1)
+    let f = both (nat_le 1 first) (nat_le first channel_count) one.0 in
+    let l = both (nat_le 1 last) (nat_le last channel_count) one.1 in
+    run-channels ((first - last) + (last - first)) first last refl (leb-true 1 first f.0)
+    (leb-true first channel_count f.1) (leb-true 1 last l.0) (leb-true last channel_count l.1)
 
--- 1 to 32 of them
-are-listed : (before list : List ℕ) → list_all is_channel before ≡ true → length before ≤ 32 → 1 ≤ length before → before ≡ list
+-- as many as a list may have, and at least one
+are-listed : (before list : List ℕ) → list_all is_channel before ≡ true → length before ≤ longest_list → 1 ≤ length before → before ≡ list
     → is_channel_list list ≡ true
-are-listed before list all most some e = rw (← e) (rw (le-leb 1 (length before) some, le-leb (length before) 32 most) all)
+are-listed before list all most some e = rw (← e) (rw (le-leb 1 (length before) some, le-leb (length before) longest_list most) all)
 
 -- the channels of an item behind others, if the items behind it go on well
 item-channels : (o : Option Ends) (before list : List ℕ) (others : List ℕ → Result (List ℕ) Code) → list_all is_channel before ≡ true
-    → ((so_far : List ℕ) → list_all is_channel so_far ≡ true → length so_far ≤ 32 → 1 ≤ length so_far → others so_far ≡ Ok list
+    → ((so_far : List ℕ) → list_all is_channel so_far ≡ true → length so_far ≤ longest_list → 1 ≤ length so_far → others so_far ≡ Ok list
     → is_channel_list list ≡ true)
     → next o before others ≡ Ok list → is_channel_list list ≡ true
 item-channels None before list others all go h = absurd cc
 item-channels (Some ends) before list others all go h =
-    at (is_channel ends.first && is_channel ends.last) (nat_lt 32 (length (before ++ run ends.first ends.last))) refl refl h
+    at (is_channel ends.first && is_channel ends.last) (nat_lt longest_list (length (before ++ run ends.first ends.last))) refl refl h
   where
     at : (legal full : Bool) → (is_channel ends.first && is_channel ends.last) ≡ legal
-        → nat_lt 32 (length (before ++ run ends.first ends.last)) ≡ full
+        → nat_lt longest_list (length (before ++ run ends.first ends.last)) ≡ full
         → cond (not legal) (Err DataOutOfRange) (cond full (Err TooMuchData) (others (before ++ run ends.first ends.last))) ≡ Ok list
         → is_channel_list list ≡ true
     at false full is_legal is_full e = absurd cc
@@ -77,9 +77,9 @@ item-channels (Some ends) before list others all go h =
         let size = length-append before (run ends.first ends.last) in
         go (before ++ run ends.first ends.last)
         (list_all-append is_channel before (run ends.first ends.last) ∙ rw (all, channels) refl)
-        (ltb-false 32 (length (before ++ run ends.first ends.last)) is_full) (omega (arith, size, run_size)) e
+        (ltb-false longest_list (length (before ++ run ends.first ends.last)) is_full) (omega (arith, size, run_size)) e
 
-listed-channels : (items : List (List ℕ)) (before list : List ℕ) → list_all is_channel before ≡ true → length before ≤ 32
+listed-channels : (items : List (List ℕ)) (before list : List ℕ) → list_all is_channel before ≡ true → length before ≤ longest_list
     → 1 ≤ length before + length items → listed before items ≡ Ok list → is_channel_list list ≡ true
 listed-channels [] before list all most some h = are-listed before list all most (omega (arith, some)) cc
 listed-channels (item ∷ items) before list all most some h =

@@ -8,7 +8,7 @@ use Rattle.std.specs.Int.{abs_diff}
 use Rattle.sv_errors.specs.declared.code.Code.{Code}
 use Rattle.sv_errors.specs.declared.code.Code.TheVariants.{TooMuchData}
 use Rattle.sv_value.specs.declared.channels.Span.{Span}
-use Rattle.sv_errors.specs.Limits.{is_channel}
+use Rattle.sv_errors.specs.Limits.{is_channel, channel_count, longest_list}
 use Rattle.sv_value.specs.Channels.{Span as Ends, next, run, span_of}
 use Rattle.sv_value.specs.Plain.{ends_up_to}
 
@@ -99,7 +99,7 @@ capped-some (Some e) span h = (e, refl, cc, cc)
 -- a channel's number is far from the bound
 channel-same : (n m : ℕ) → min n 1000000000000000000 ≡ m → is_channel m ≡ true → n ≡ m
 channel-same n m e c =
-    let most = leb-true m 32 (second (nat_le 1 m) (nat_le m 32) c) in
+    let most = leb-true m channel_count (second (nat_le 1 m) (nat_le m channel_count) c) in
     omega (arith, e, most)
   where
     second : (a b : Bool) → (a && b) ≡ true → b ≡ true
@@ -109,25 +109,26 @@ channel-same n m e c =
 -- an item's channels behind others, where there is room for them
 pub add-done : (o : Option Ends) (span : Span) (before : List ℕ) → ends_up_to o ≡ Some span → is_channel span.first ≡ true
     → is_channel span.last ≡ true
-    → length before + abs_diff span.first span.last < 32 → (others : List ℕ → Result (List ℕ) Code)
+    → length before + abs_diff span.first span.last < longest_list → (others : List ℕ → Result (List ℕ) Code)
     → next o before others ≡ others (before ++ run span.first span.last)
 add-done o span before h first last room others =
     let some = capped-some o span h in
     let f = channel-same some.0.first span.first some.2 first in
     let l = channel-same some.0.last span.last some.3 last in
     let size = run-fits before span.first span.last in
-    rw (some.1, f, l, first, last, le-ltb 32 (length (before ++ run span.first span.last)) (omega (arith, size, room))) refl
+    rw (some.1, f, l, first, last, le-ltb longest_list (length (before ++ run span.first span.last)) (omega (arith, size, room))) refl
 
 -- and where there is none
 pub add-full : (o : Option Ends) (span : Span) (before : List ℕ) → ends_up_to o ≡ Some span → is_channel span.first ≡ true
     → is_channel span.last ≡ true
-    → 32 ≤ length before + abs_diff span.first span.last → (others : List ℕ → Result (List ℕ) Code) → next o before others ≡ Err TooMuchData
+    → longest_list ≤ length before + abs_diff span.first span.last → (others : List ℕ → Result (List ℕ) Code)
+    → next o before others ≡ Err TooMuchData
 add-full o span before h first last room others =
     let some = capped-some o span h in
     let f = channel-same some.0.first span.first some.2 first in
     let l = channel-same some.0.last span.last some.3 last in
     let size = run-fits before span.first span.last in
-    rw (some.1, f, l, first, last, lt-ltb 32 (length (before ++ run span.first span.last)) (omega (arith, size, room))) refl
+    rw (some.1, f, l, first, last, lt-ltb longest_list (length (before ++ run span.first span.last)) (omega (arith, size, room))) refl
 
 -- an item of three parts or more is none
 pub span-more : (a b : List ℕ) (others : List (List ℕ)) → 1 ≤ length others → span_of (a ∷ b ∷ others) ≡ None

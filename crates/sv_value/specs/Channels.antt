@@ -4,7 +4,7 @@ use Rattle.sv_text.specs.Front.{is_empty}
 use Rattle.std.specs.List.{list_all, range_with_len}
 use Rattle.std.specs.Char.{is_ascii_digit}
 use Rattle.std.specs.Str.Parse.{digits_value}
-use Rattle.sv_errors.specs.Limits.{is_channel}
+use Rattle.sv_errors.specs.Limits.{is_channel, longest_list}
 use Rattle.sv_errors.specs.declared.code.Code.{Code}
 use Rattle.sv_errors.specs.declared.code.Code.TheVariants.{DataOutOfRange, TooMuchData, InvalidExpression}
 use Rattle.sv_text.specs.White.{trim}
@@ -49,12 +49,12 @@ abbrev pub run : ℕ → ℕ → List ℕ
 run first last = if nat_le first last then range_with_len first (last - first + 1) else reverse (range_with_len last (first - last + 1))
 
 -- the channels of an item behind others, and those of the items behind it; or what is wrong with it: an end that is no channel, then more
--- than 32 channels so far. An item that is no span was refused before.
+-- than a list may have so far. An item that is no span was refused before.
 abbrev pub next : Option Span → List ℕ → (List ℕ → Result (List ℕ) Code) → Result (List ℕ) Code
 next None before others = Err InvalidExpression
 next (Some ends) before others =
     if not (is_channel ends.first && is_channel ends.last) then Err DataOutOfRange
-    else if nat_lt 32 (length (before ++ run ends.first ends.last)) then Err TooMuchData
+    else if nat_lt longest_list (length (before ++ run ends.first ends.last)) then Err TooMuchData
     else others (before ++ run ends.first ends.last)
 
 -- the channels of all items behind others, or what is wrong with the first that is at fault

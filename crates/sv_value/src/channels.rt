@@ -1,6 +1,7 @@
 //! Channel lists.
 
 ghost use Rattle.std.specs.Prelude.{◌≡◌, ◌<◌, ◌+◌, ◌-◌, [], ◌∷◌, ◌++◌, ℕ, List, true, false, min, length, is_some, Some, None, Result, Ok, Err, MatchOption, MatchResult};
+ghost use Rattle.sv_errors.specs.Limits.{longest_list};
 ghost use Rattle.std.specs.Char.{is_ascii_digit};
 ghost use Rattle.std.specs.List.{list_all};
 ghost use Rattle.sv_errors.specs.declared.code.Code.{Code as ErrorCode};
@@ -10,11 +11,8 @@ ghost use Rattle.sv_value.specs.Plain.{ends_up_to, number_up_to};
 
 use crate::digits::value_after;
 use arrayvec::ArrayVec;
-use sv_errors::{Code, is_channel};
+use sv_errors::{Code, LONGEST_LIST, is_channel};
 use sv_text::{first_part, trim};
-
-/// The most channels of a list.
-const MOST: usize = 32;
 
 /// The two ends of an item, counted to a bound that is past every channel.
 #[derive(Clone, Copy, Debug)]
@@ -24,7 +22,7 @@ struct Span {
 }
 
 /// The channels of a list, or what is wrong with it.
-pub(crate) fn channels_of(text: &[u8]) -> Result<ArrayVec<u8, 32>, Code>
+pub(crate) fn channels_of(text: &[u8]) -> Result<ArrayVec<u8, LONGEST_LIST>, Code>
     ensures { MatchResult result (λ list. read_list text.now ≡ Ok list.items)
         (λ code. read_list text.now ≡ Err code) }
 {
@@ -60,7 +58,7 @@ fn are_spans(items: &[u8]) -> bool
 }
 
 /// The channels of all items, or what is wrong with the first that is at fault.
-fn listed(items: &[u8]) -> Result<ArrayVec<u8, 32>, Code>
+fn listed(items: &[u8]) -> Result<ArrayVec<u8, LONGEST_LIST>, Code>
     ensures { MatchResult result (λ list. listed_behind [] (cut_at 44 items.now) ≡ Ok list.items)
         (λ code. listed_behind [] (cut_at 44 items.now) ≡ Err code) }
 {
@@ -75,7 +73,7 @@ fn listed(items: &[u8]) -> Result<ArrayVec<u8, 32>, Code>
 }
 
 /// Adds the channels of an item, or tells what is wrong with it.
-fn add(list: &mut ArrayVec<u8, 32>, item: &[u8]) -> Result<(), Code>
+fn add(list: &mut ArrayVec<u8, LONGEST_LIST>, item: &[u8]) -> Result<(), Code>
     ensures { MatchResult result
         (λ done. (others : List ℕ → Result (List ℕ) ErrorCode)
         → next (ends item.now) list.old.items others ≡ others list.new.items)
@@ -89,7 +87,7 @@ fn add(list: &mut ArrayVec<u8, 32>, item: &[u8]) -> Result<(), Code>
         return Err(Code::DataOutOfRange);
     }
     let (first, last) = (span.first as u8, span.last as u8);
-    if list.len() + usize::from(first.abs_diff(last)) >= MOST {
+    if list.len() + usize::from(first.abs_diff(last)) >= LONGEST_LIST {
         return Err(Code::TooMuchData);
     }
     push_run(list, first, last);
@@ -97,8 +95,8 @@ fn add(list: &mut ArrayVec<u8, 32>, item: &[u8]) -> Result<(), Code>
 }
 
 /// Pushes the channels from one end to the other, upwards or downwards.
-fn push_run(list: &mut ArrayVec<u8, 32>, first: u8, last: u8)
-    requires { length list.old.items + (first - last) + (last - first) < 32 }
+fn push_run(list: &mut ArrayVec<u8, LONGEST_LIST>, first: u8, last: u8)
+    requires { length list.old.items + (first - last) + (last - first) < longest_list }
     ensures { list.new.items ≡ list.old.items ++ run first last }
 {
     let mut channel = first;

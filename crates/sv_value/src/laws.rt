@@ -9,7 +9,7 @@ pub fn printed_is_read()
     ensures { PrintedIsRead }
 {}
 
-/// What is read as a channel list has 1 to 32 channels, each 1 to 32.
+/// What is read as a channel list is one: as many channels as a list may have, and at least one.
 pub fn read_is_channel_list()
     ensures { ReadIsChannelList }
 {}

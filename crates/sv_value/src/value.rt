@@ -15,7 +15,7 @@ use crate::choice::{keyword_of, switch_of};
 use crate::decimal::Decimal;
 use crate::suffix;
 use arrayvec::ArrayVec;
-use sv_errors::{Code, Source};
+use sv_errors::{Code, LONGEST_LIST, Source};
 use sv_lexer::{Kind, Token};
 
 /// A voltage, in microvolts, up to 1,000 V in magnitude: a decimal number, and `V`, `KV`, `MV` (a
@@ -98,14 +98,15 @@ pub fn keyword(token: &Token<'_>) -> Result<Source, Code>
     }
 }
 
-/// A channel list, as `(@1,5:3)`: its channels in order, at most 32, each 1 to 32.
+/// A channel list, as `(@1,5:3)`: its channels in order, at most
+/// [`LONGEST_LIST`](sv_errors::LONGEST_LIST).
 ///
 /// # Errors
 /// [`Code::InvalidExpression`] where it isn't spelled so, then, from the left,
 /// [`Code::DataOutOfRange`] where an end of an item is no channel and [`Code::TooMuchData`] where
-/// there are more than 32 channels so far; [`Code::SyntaxError`] or [`Code::DataTypeError`] for
+/// there are more than that so far; [`Code::SyntaxError`] or [`Code::DataTypeError`] for
 /// other data.
-pub fn channel_list(token: &Token<'_>) -> Result<ArrayVec<u8, 32>, Code>
+pub fn channel_list(token: &Token<'_>) -> Result<ArrayVec<u8, LONGEST_LIST>, Code>
     ensures value { MatchResult result (λ list. read_channels token.now.kind token.now.text.now
         ≡ Ok list.items) (λ code. read_channels token.now.kind token.now.text.now ≡ Err code) }
     ensures range { IfOk result (λ list. is_channel_list list.items ≡ true) }

@@ -7,7 +7,8 @@ use Rattle.sv_xdr.specs.Garbage.{◌>>=◌}
 use Rattle.sv_xdr.specs.Spelling.{Field, Unsigned, Signed, Boolean, Opaque, Begins, BeginsAll}
 use Rattle.sv_xdr.specs.Reader.{opaque_at}
 use Rattle.sv_xdr.proofs.Fields.{IsBytes, bytes_after, unsigned_takes, signed_takes, boolean_takes, opaque_at-takes}
-use Rattle.sv_vxi.specs.Arguments.{GenericParms, Arguments, procedure_of, argument_fields, InBounds, max_handle, core_calls, abort_calls, is_one_of, ArgumentsAre}
+use Rattle.sv_vxi.specs.Limits.{max_handle}
+use Rattle.sv_vxi.specs.Arguments.{GenericParms, Arguments, procedure_of, argument_fields, InBounds, core_calls, abort_calls, is_one_of, ArgumentsAre}
 use Rattle.sv_vxi.specs.Reading.{any_length, create_link_at, device_write_at, device_read_at, generic, generic_at, device_lock_at, device_enable_srq_at, device_docmd_at, create_intr_chan_at, of_link, link_at, arguments_at}
 use Rattle.sv_vxi.proofs.Spelled.{arguments_read}
 

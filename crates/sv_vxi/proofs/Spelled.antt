@@ -4,7 +4,8 @@ use Rattle.sv_xdr.specs.Spelling.{Opaque, Begins, BeginsAll}
 use Rattle.sv_xdr.specs.Reader.{opaque_at}
 use Rattle.sv_xdr.specs.declared.garbage.Garbage.{Garbage}
 use Rattle.sv_xdr.proofs.Fields.{unsigned_begins, signed_begins, boolean_begins, opaque_again, word_fits}
-use Rattle.sv_vxi.specs.Arguments.{GenericParms, Arguments, DeviceAbort, CreateLink, DeviceWrite, DeviceRead, DeviceReadstb, DeviceTrigger, DeviceClear, DeviceRemote, DeviceLocal, DeviceLock, DeviceUnlock, DeviceEnableSrq, DeviceDocmd, DestroyLink, CreateIntrChan, DestroyIntrChan, procedure_of, generic_fields, link_fields, max_handle, BeginsWith, ArgumentsAre}
+use Rattle.sv_vxi.specs.Limits.{max_handle}
+use Rattle.sv_vxi.specs.Arguments.{GenericParms, Arguments, DeviceAbort, CreateLink, DeviceWrite, DeviceRead, DeviceReadstb, DeviceTrigger, DeviceClear, DeviceRemote, DeviceLocal, DeviceLock, DeviceUnlock, DeviceEnableSrq, DeviceDocmd, DestroyLink, CreateIntrChan, DestroyIntrChan, procedure_of, generic_fields, link_fields, BeginsWith, ArgumentsAre}
 use Rattle.sv_vxi.specs.Reading.{any_length, create_link_at, device_write_at, device_read_at, generic, generic_at, device_lock_at, device_enable_srq_at, device_docmd_at, create_intr_chan_at, of_link, link_at, arguments_at}
 
 -- opaque data that are spelled are read, whatever their length

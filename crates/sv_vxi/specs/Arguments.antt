@@ -5,6 +5,7 @@ use Rattle.std.specs.List.{list_any}
 use Rattle.sv_vxi.specs.declared.arguments.LockWait.{LockWait}
 use Rattle.sv_xdr.specs.declared.garbage.Garbage.{Garbage}
 use Rattle.sv_xdr.specs.Spelling.{Field, Unsigned, Signed, Boolean, Opaque, BeginsAll}
+pub use Rattle.sv_vxi.specs.Limits.{max_handle}
 
 -- what five calls have in common: Device_GenericParms; timeouts are in milliseconds
 pub record GenericParms : Type 0 where
@@ -93,10 +94,6 @@ argument_fields (DestroyLink lid) = link_fields lid
 argument_fields (CreateIntrChan host_addr host_port prog_num prog_vers prog_family) =
     Unsigned host_addr ∷ Unsigned host_port ∷ Unsigned prog_num ∷ Unsigned prog_vers ∷ Unsigned prog_family ∷ []
 argument_fields DestroyIntrChan = []
-
--- the longest handle, in bytes
-abbrev pub max_handle : ℕ
-max_handle = 40
 
 -- no field is longer than it may be
 abbrev pub InBounds : Arguments → Type 0

@@ -1,3 +1,4 @@
+pub mod Limits
 pub mod Arguments
 pub mod Reading
 pub mod ErrorCode

@@ -6,7 +6,8 @@ use Rattle.sv_xdr.specs.Reader.{unsigned_at, signed_at, boolean_at, opaque_at}
 use Rattle.sv_vxi.specs.declared.arguments.GenericParms.{GenericParms as Parms}
 use Rattle.sv_vxi.specs.declared.arguments.Args.{Args}
 use Rattle.sv_vxi.specs.declared.arguments.Args.TheVariants as args
-use Rattle.sv_vxi.specs.Arguments.{GenericParms, Arguments, DeviceAbort, CreateLink, DeviceWrite, DeviceRead, DeviceReadstb, DeviceTrigger, DeviceClear, DeviceRemote, DeviceLocal, DeviceLock, DeviceUnlock, DeviceEnableSrq, DeviceDocmd, DestroyLink, CreateIntrChan, DestroyIntrChan, is_one_of, max_handle}
+use Rattle.sv_vxi.specs.Limits.{max_handle}
+use Rattle.sv_vxi.specs.Arguments.{GenericParms, Arguments, DeviceAbort, CreateLink, DeviceWrite, DeviceRead, DeviceReadstb, DeviceTrigger, DeviceClear, DeviceRemote, DeviceLocal, DeviceLock, DeviceUnlock, DeviceEnableSrq, DeviceDocmd, DestroyLink, CreateIntrChan, DestroyIntrChan, is_one_of}
 
 -- the longest opaque data that a length can tell
 abbrev pub any_length : ℕ

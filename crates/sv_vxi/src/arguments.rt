@@ -105,7 +105,7 @@ pub enum Args<'a> {
         lid: i32,
         /// Whether service requests are sent.
         enable: bool,
-        /// What they are sent with, at most 40 bytes.
+        /// What they are sent with, no longer than a handle may be.
         handle: &'a [u8],
     },
     /// Of device_docmd.

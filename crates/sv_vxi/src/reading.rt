@@ -14,12 +14,13 @@ use crate::procedure::{
 };
 use sv_xdr::{Garbage, Reader};
 
-/// The longest handle of an interrupt, in bytes.
+/// How long the handle of a service request may be, in bytes (VXI-11 revision 1.0, section B.6,
+/// device_enable_srq).
 const MAX_HANDLE: u32 = 40;
 
 /// Reads the arguments of a call; bytes behind the last field are ignored. They are garbage where
 /// the bytes don't begin with a spelling of them, as where a boolean is neither 0 nor 1, or a
-/// handle is longer than 40 bytes. `proc` has to be a call of the core channel or device_abort.
+/// handle is longer than it may be. `proc` has to be a call of the core channel or device_abort.
 pub fn read_args(proc: u32, bytes: &[u8]) -> Result<Args<'_>, Garbage>
     requires { is_one_of (core_calls ++ abort_calls) proc ≡ true }
     // What is read is spelled there, and is garbage only if nothing is.

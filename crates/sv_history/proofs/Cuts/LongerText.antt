@@ -5,6 +5,7 @@ use Rattle.std.specs.List.{AllByRecursion}
 use Rattle.std.proofs.lemmas.Bool.{ltb-true, ne_eqb}
 use Rattle.sv_text.specs.Cut.{onto}
 use Rattle.sv_exchange.specs.Exchange.{ExchangeAct, Accepted, Symbol, Byte, End, end_mark, text, messages, finished, message, has_ended, is_long}
+use Rattle.sv_exchange.specs.Limits.{max_message}
 use Rattle.sv_history.proofs.Cuts.SameExchange.{text_cut}
 
 -- ---- messages
@@ -97,6 +98,7 @@ longer x y ended acts =
 pub long_too : (x y : List ℕ) (ended : Bool) (acts : List ExchangeAct) → is_long (Accepted x false ∷ acts) ≡ true
     → is_long (Accepted (x ++ y) ended ∷ acts) ≡ true
 long_too x y ended acts long =
-    let more : 4096 < length (message (Accepted x false ∷ acts)) = ltb-true 4096 (length (message (Accepted x false ∷ acts))) long in
+    let more : max_message < length (message (Accepted x false ∷ acts)) =
+    ltb-true max_message (length (message (Accepted x false ∷ acts))) long in
     let least = longer x y ended acts in
-    lt-ltb 4096 (length (message (Accepted (x ++ y) ended ∷ acts))) (omega (arith, more, least))
+    lt-ltb max_message (length (message (Accepted (x ++ y) ended ∷ acts))) (omega (arith, more, least))

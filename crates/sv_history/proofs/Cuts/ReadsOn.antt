@@ -7,6 +7,7 @@ use Rattle.std.proofs.lemmas.List.{length-append, length-drop, take-append-le, d
 use Rattle.std.proofs.Math.Seq.{take-append-add, drop-append-add}
 use Rattle.sv_rpc.specs.Record.{Tail, Header, Data, TooLong}
 use Rattle.sv_rpc.specs.Stream.{Reading, read_on, read_data, read, records_of, tail_of}
+use Rattle.sv_rpc.specs.Limits.{max_record}
 
 -- ---- how many fragments may be read changes nothing, where they are enough
 
@@ -20,9 +21,9 @@ on_any n m payload false rest same less also = same payload rest less also
 
 data_any : (n m : ℕ) (payload : List ℕ) (last : Bool) (size : ℕ) (rest : List ℕ) → SameRead n m → length rest < n → length rest < m
     → read_data (read n) payload last size rest ≡ read_data (read m) payload last size rest
-data_any n m payload last size rest same less also = elim (cases_lt 8192 (length payload + size)) [
-  | inl long ↦ rw (lt-ltb 8192 (length payload + size) long) refl
-  | inr within ↦ rw (le-ltb 8192 (length payload + size) within) (elim (cases_lt (length rest) size) [
+data_any n m payload last size rest same less also = elim (cases_lt max_record (length payload + size)) [
+  | inl long ↦ rw (lt-ltb max_record (length payload + size) long) refl
+  | inr within ↦ rw (le-ltb max_record (length payload + size) within) (elim (cases_lt (length rest) size) [
     | inl part ↦ rw (lt-ltb (length rest) size part) refl
     | inr whole ↦ rw (le-ltb (length rest) size whole) (on_any n m (payload ++ take size rest) last (drop size rest) same
         (omega (arith, length-drop size rest)) (omega (arith, length-drop size rest)))
@@ -94,9 +95,9 @@ part_more n payload last size rest more less part = elim (cases_lt (length more)
 
 data_more : (n : ℕ) (payload : List ℕ) (last : Bool) (size : ℕ) (rest more : List ℕ) → Resumes n more → length (rest ++ more) < n
     → RecordsThen (read_data (read n) payload last size (rest ++ more)) more (read_data (read n) payload last size rest)
-data_more n payload last size rest more again less = elim (cases_lt 8192 (length payload + size)) [
-  | inl long ↦ rw (lt-ltb 8192 (length payload + size) long) refl
-  | inr within ↦ rw (le-ltb 8192 (length payload + size) within) (elim (cases_lt (length rest) size) [
+data_more n payload last size rest more again less = elim (cases_lt max_record (length payload + size)) [
+  | inl long ↦ rw (lt-ltb max_record (length payload + size) long) refl
+  | inr within ↦ rw (le-ltb max_record (length payload + size) within) (elim (cases_lt (length rest) size) [
     | inl part ↦ rw (lt-ltb (length rest) size part) (part_more n payload last size rest more less part)
     | inr whole ↦ rw (
       le-ltb (length rest) size whole,

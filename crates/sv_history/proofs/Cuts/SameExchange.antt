@@ -4,6 +4,7 @@ use Rattle.std.specs.Prelude.{slice_index_or, slice_get, nat_lt, not, ◌&&◌, 
 use Rattle.std.proofs.lemmas.Bool.{cases_Bool}
 use Rattle.std.proofs.lemmas.List.{map-append}
 use Rattle.sv_exchange.specs.Exchange.{ExchangeAct, Accepted, TextDropped, Overran, UnitDone, Answered, AnswersDropped, Finished, Interrupted, ResponseRead, Symbol, Byte, end_mark, text, messages, finished, current, units_done, has_overrun, has_dropped, answered, answers, message, has_ended, joined, is_answered, whole_response, read_since, response, is_something, units, next_unit, Due, OverrunDue, due_unit, due}
+use Rattle.sv_exchange.specs.Limits.{max_message}
 
 -- what is found without a look at the text
 pub record SameExchange (acts other : List ExchangeAct) : Type 0 where
@@ -172,7 +173,7 @@ ended_same acts other v same = ap (λ (l : List Symbol). nat_lt (finished acts +
 
 abbrev unit_by : Bool → Bool → List ℕ → ℕ → Option (List ℕ)
 unit_by ended dropped found n =
-    if ended && (not (nat_lt 4096 (length found)) && not dropped) then slice_get (units found) n else None
+    if ended && (not (nat_lt max_message (length found)) && not dropped) then slice_get (units found) n else None
 
 pub next_unit_same : (acts other : List ExchangeAct) → SameExchange acts other → text acts ≡ text other → next_unit acts ≡ next_unit other
 next_unit_same acts other v same =
@@ -184,7 +185,7 @@ next_unit_same acts other v same =
 
 abbrev due_by : List ℕ → Bool → Option (List ℕ) → ℕ → List ℕ → Bool → Due
 due_by found overrun unit n readable ended =
-    if nat_lt 4096 (length found) && not overrun then OverrunDue
+    if nat_lt max_message (length found) && not overrun then OverrunDue
     else due_unit unit ((n == 0) && is_something readable) ended
 
 pub due_same : (acts other : List ExchangeAct) → SameExchange acts other → text acts ≡ text other → due acts ≡ due other

@@ -7,6 +7,7 @@ use Rattle.sv_xdr.proofs.Fields.{IsBytes}
 use Rattle.sv_rpc.specs.Record.{Sent, fragment, bytes_of, record_of, IsTaken, Tail, Header, IsTail}
 use Rattle.sv_rpc.specs.Stream.{tail_of}
 use Rattle.sv_rpc.proofs.EveryStream.{every_stream}
+use Rattle.sv_rpc.specs.Limits.{max_record}
 use Rattle.sv_history.proofs.Cuts.SameRecords.{SameRecords, bytes_join, bytes_back, taken_join, records_join, read_behind, same_moved}
 
 -- ---- what stands behind the whole records: fragments without data, which aren't the last of their record
@@ -88,7 +89,7 @@ next_records sent empty next more none = map-append record_of sent (with_front e
     ∙ ap (λ (r : List ℕ). map record_of sent ++ (r ∷ map record_of more)) (front_record empty next none)
 
 next_taken : (empty : List (List ℕ)) (next : Sent) → concat empty ≡ [] → IsTaken next → IsTaken (with_front empty next)
-next_taken empty next none taken = subst (λ (r : List ℕ). length r ≤ 8192) (sym (front_record empty next none)) taken
+next_taken empty next none taken = subst (λ (r : List ℕ). length r ≤ max_record) (sym (front_record empty next none)) taken
 
 -- ---- records in other fragments
 
@@ -103,7 +104,7 @@ taken_same : (some others : List Sent) → map record_of some ≡ map record_of 
 taken_same some [] e h = tt
 taken_same [] (b ∷ others) e h = absurd (let z : [] ≡ record_of b ∷ map record_of others = e in cc)
 taken_same (a ∷ some) (b ∷ others) e h = (
-  subst (λ (r : List ℕ). length r ≤ 8192) (head_same (record_of a) (record_of b) (map record_of some) (map record_of others) e) h.0,
+  subst (λ (r : List ℕ). length r ≤ max_record) (head_same (record_of a) (record_of b) (map record_of some) (map record_of others) e) h.0,
   taken_same some others (rest_same (record_of a) (record_of b) (map record_of some) (map record_of others) e) h.1,
 )
 

@@ -54,8 +54,8 @@ abbrev pub suspends : ℕ → List ℕ → Option ℕ → Wait → Option ℕ �
 suspends c call named wait last base = OnDevice (Waited (Entered c named wait last)) ∷ On c (CallTaken call) ∷ base
 
 -- what is waited for is there
-abbrev pub IsThere : Option ℕ → Wait → List Act → Bool
-IsThere named wait log = is_there (holder (link_acts (device_acts log))) (not (has_ended (exchange_acts (device_acts log))))
+abbrev pub is_there_in : Option ℕ → Wait → List Act → Bool
+is_there_in named wait log = is_there (holder (link_acts (device_acts log))) (not (has_ended (exchange_acts (device_acts log))))
     (is_answerable (instrument_acts (device_acts log))) named (Some wait)
 
 does_before : (IsSuch : List InstrumentAct → List InstrumentAct → Type 0) (c : ℕ) (call : List ℕ) (named : Option ℕ) (wait : Wait)
@@ -65,7 +65,7 @@ does_before IsSuch c call named wait last base new (adds, such, is) = (map OnDev
 
 -- no call can resume that couldn't
 none_resumes : (config : Config) (c : ℕ) (call : List ℕ) (named : Option ℕ) (wait : Wait) (last : Option ℕ) (base new : List Act)
-    → Rested config base → waits c (wait_acts (device_acts base)) ≡ None → IsThere named wait base ≡ false
+    → Rested config base → waits c (wait_acts (device_acts base)) ≡ None → is_there_in named wait base ≡ false
     → Resumes config (suspends c call named wait last base) new → ⊥
 none_resumes config c call named wait last base new rest free there (d, for, polled, oldest, waits_for, said, is) =
     elim (cases_eq d c) [
@@ -134,7 +134,7 @@ late_alone config c call named wait last base new rest free (d, for, oldest, wai
         sym late.2 ∙ ap (λ (n : ℕ). waits n (wait_acts (device_acts base))) same ∙ free in cc
 
 pub only_late : (config : Config) (c : ℕ) (call : List ℕ) (named : Option ℕ) (wait : Wait) (last : Option ℕ) (base new : List Act)
-    → IsSettled config base → waits c (wait_acts (device_acts base)) ≡ None → IsThere named wait base ≡ false
+    → IsSettled config base → waits c (wait_acts (device_acts base)) ≡ None → is_there_in named wait base ≡ false
     → IsNext config (suspends c call named wait last base) new → new ≡ gave_up (suspends c call named wait last base) c wait
 only_late config c call named wait last base new settled free there next =
     by_step (rested config base settled) next

@@ -19,6 +19,7 @@ use Rattle.sv_links.specs.declared.waiting.Wait.TheVariants.{Lock, Input as ForI
 use Rattle.sv_links.specs.Links.{owner, is_of, holder, is_locked_out}
 use Rattle.sv_links.specs.Waiting.{Entered, is_there}
 use Rattle.sv_exchange.specs.Exchange.{Accepted, has_ended}
+use Rattle.sv_exchange.specs.Limits.{max_message}
 use Rattle.sv_layers.specs.Act.{Exchanged}
 use Rattle.sv_instrument.specs.Step.{is_answerable}
 use Rattle.sv_history.specs.declared.event.Config.{Config}
@@ -89,7 +90,7 @@ WriteCase c lid flags bytes acts outcome =
 some_error : (error : ErrorCode) (n : ℕ) → error_number error ≡ suc n → error_number error ≢ 0
 some_error error n is none = omega (arith, is, none)
 
-accepts_write : (flags : ℕ) (bytes : List ℕ) (acts : List DeviceAct) → nat_lt 4096 (length bytes) ≡ false
+accepts_write : (flags : ℕ) (bytes : List ℕ) (acts : List DeviceAct) → nat_lt max_message (length bytes) ≡ false
     → has_ended (exchange_acts acts) ≡ false → device_write flags bytes acts
     ≡ answered (Happened (Exchanged (Accepted bytes (bit_at flags 3 == 1))) ∷ []) (Size NoError (length bytes))
 accepts_write flags bytes acts short free = rw (short, free) refl
@@ -99,7 +100,7 @@ pub write_case : (config : Config) (polled c lid io_timeout lock_timeout flags :
     (stop_of c (DeviceWrite (pos lid) io_timeout lock_timeout flags bytes) acts) acts)
 write_case config polled c lid io_timeout lock_timeout flags bytes acts = elim (cases_Bool (is_of c (owner lid (link_acts acts)))) [
   | inr e ↦ rw e (inl (InvalidLink, some_error InvalidLink 3 refl, refl))
-  | inl e ↦ elim (cases_Bool (nat_lt 4096 (length bytes))) [
+  | inl e ↦ elim (cases_Bool (nat_lt max_message (length bytes))) [
     | inl long ↦ rw (e, long) (inl (ParameterError, some_error ParameterError 4 refl, refl))
     | inr short ↦ elim (cases_Bool (is_locked_out (holder (link_acts acts)) (Some lid))) [
       | inl out ↦ elim (cases_Bool (bit_at flags 0 == 1)) [

@@ -80,8 +80,8 @@ beside_settled c x y ended config before whole last h line =
       | inr long ↦ overlong long.0 long.1
     ]
   where
-    one_log_at : device_acts h.single ≡ device_acts before
-    one_log_at = behind_device c before h.single h.at_single
+    single_at : device_acts h.single ≡ device_acts before
+    single_at = behind_device c before h.single h.at_single
 
     first_at : device_acts h.first ≡ device_acts before
     first_at = behind_device c before h.first h.at_first
@@ -97,7 +97,7 @@ beside_settled c x y ended config before whole last h line =
         (accepts (x ++ y) ended ∷ device_acts before) (accepts y ended ∷ accepts x false ∷ device_acts before) (λ d. refl) (λ d. refl)
         (others_before c x y ended config before whole last h
         (λ d ne. ap (of d) same ∙ of_wrote c d h.one.call h.one.reply x false h.first ne))
-        (ap (λ (l : List DeviceAct). accepts (x ++ y) ended ∷ l) one_log_at)
+        (ap (λ (l : List DeviceAct). accepts (x ++ y) ended ∷ l) single_at)
         (ap (λ (l : List DeviceAct). accepts y ended ∷ l) (second_at ∙ ap device_acts same)
         ∙ ap (λ (l : List DeviceAct). accepts y ended ∷ accepts x false ∷ l) first_at)
         (parts_shared x y ended (device_acts before)) in
@@ -108,7 +108,7 @@ beside_settled c x y ended config before whole last h line =
     overlong same long =
         let start = wrote c h.both.call h.both.reply (x ++ y) ended h.single in
         let also = wrote c h.other.call h.other.reply y ended h.second in
-        let here = subst (λ (l : List DeviceAct). BecomesLong x l) (first_at ∙ sym one_log_at) long in
+        let here = subst (λ (l : List DeviceAct). BecomesLong x l) (first_at ∙ sym single_at) long in
         let next = whole_long config c h.both.call h.both.reply x y ended h.single h.rests_single here in
         let rest = settles_behind h.both.steps config start (reported start) whole next h.both.settles in
         let v = beside_wrote c (reported start) also h.both.call h.both.reply (x ++ y) ended h.single h.other.call h.other.reply y ended
@@ -116,7 +116,7 @@ beside_settled c x y ended config before whole last h line =
         (λ d. refl) (λ d. refl)
         (others_before c x y ended config before whole last h
         (λ d ne. ap (of d) same ∙ of_wrote c d h.one.call h.one.reply x false h.first ne))
-        (ap (λ (l : List DeviceAct). reports (accepts (x ++ y) ended ∷ l)) one_log_at)
+        (ap (λ (l : List DeviceAct). reports (accepts (x ++ y) ended ∷ l)) single_at)
         (ap (λ (l : List DeviceAct). accepts y ended ∷ l) (second_at ∙ ap device_acts same)
         ∙ ap (λ (l : List DeviceAct). accepts y ended ∷ reports (accepts x false ∷ l)) first_at)
         (long_shared x y ended (device_acts before)) in

@@ -33,7 +33,7 @@ use Rattle.sv_history.proofs.Cuts.ErrorReplies.{tells_none, is_served}
 use Rattle.sv_history.proofs.Cuts.NoCallTaken.{settles_none, bare_of}
 use Rattle.sv_history.proofs.Cuts.Fed.{Taking}
 use Rattle.sv_history.proofs.Cuts.WriteOutcome.{core_asked, WriteCase, write_case}
-use Rattle.sv_history.proofs.Cuts.Suspended.{suspends, IsThere, only_late}
+use Rattle.sv_history.proofs.Cuts.Suspended.{suspends, is_there_in, only_late}
 
 -- ---- the reply tells which
 
@@ -96,7 +96,7 @@ module _ (c lid : ℕ) (bytes : List ℕ) (ended : Bool) (config : Config) (base
       ∙ ap (λ (l : List ConnAct). Replied told ∷ without_pieces l) (of_mine c (CallTaken call) base)) acts
 
   -- where it is suspended, it isn't
-  never_waits : (steps : ℕ) (wait : Wait) (last : Option ℕ) → error_number (late wait) ≢ 0 → IsThere (Some lid) wait base ≡ false
+  never_waits : (steps : ℕ) (wait : Wait) (last : Option ℕ) → error_number (late wait) ≢ 0 → is_there_in (Some lid) wait base ≡ false
       → SettlesIn steps config (suspends c call (Some lid) wait last base) log → ⊥
   never_waits zero wait last error there settles =
       let here : bare c log ≡ CallTaken call ∷ bare c base =

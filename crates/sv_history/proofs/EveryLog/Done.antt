@@ -11,6 +11,7 @@ use Rattle.sv_links.specs.Links.{Made, made, owner, is_of, holder, is_this, is_l
 use Rattle.sv_links.specs.Channels.{SrqEnabled}
 use Rattle.sv_links.proofs.LinksAlike.{owner_is_of}
 use Rattle.sv_exchange.specs.Exchange.{has_ended, response, is_something}
+use Rattle.sv_exchange.specs.Limits.{max_message}
 use Rattle.sv_instrument.specs.Step.{is_answerable}
 use Rattle.sv_history.specs.declared.event.Config.{Config}
 use Rattle.sv_history.specs.Act.{DeviceAct, Linked, Waited, Channel, Happened, Ticked, link_acts, instrument_acts, exchange_acts}
@@ -42,10 +43,11 @@ each_done config polled c (CreateLink client_id false lock_timeout device) acts 
   | inl e ↦ rw e ((refl, refl, refl), tt)
   | inr e ↦ rw e tt
 ]
-each_done config polled c (DeviceWrite lid io_timeout lock_timeout flags bytes) acts = elim (cases_Bool (nat_lt 4096 (length bytes))) [
-  | inl e ↦ rw e tt
-  | inr e ↦ elim (cases_Bool (has_ended (exchange_acts acts))) [ inl k ↦ rw (e, k) tt | inr k ↦ rw (e, k) (tt, tt) ]
-]
+each_done config polled c (DeviceWrite lid io_timeout lock_timeout flags bytes) acts =
+    elim (cases_Bool (nat_lt max_message (length bytes))) [
+      | inl e ↦ rw e tt
+      | inr e ↦ elim (cases_Bool (has_ended (exchange_acts acts))) [ inl k ↦ rw (e, k) tt | inr k ↦ rw (e, k) (tt, tt) ]
+    ]
 each_done config polled c (DeviceRead lid request_size io_timeout lock_timeout flags term_char) acts =
     elim (cases_Bool (is_answerable (instrument_acts acts))) [
       | inl k ↦ elim (cases_Bool (is_something (response (exchange_acts acts)))) [

@@ -9,6 +9,7 @@ use Rattle.sv_rpc.specs.Record.{Tail, Header, Data, TooLong}
 use Rattle.sv_rpc.specs.RecordBuf.{room_of, used_by, next_among}
 use Rattle.sv_rpc.specs.Stream.{read, records_of, tail_of}
 use Rattle.sv_rpc.proofs.OneReading.{read_alone}
+use Rattle.sv_rpc.specs.Limits.{capacity}
 use Rattle.sv_history.specs.Act.{ConnAct, CallTaken}
 use Rattle.sv_history.specs.Connection.{is_open, stream, completed, took_no_call, is_busy, next_call, is_idle, is_too_long, is_faulted, room}
 use Rattle.sv_server.specs.Connection.Representation.{Connection, IsConnection}
@@ -116,8 +117,8 @@ faulted_told kept acts is fault e =
 pub room_is : (kept : Connection) (acts : List ConnAct) → IsConnection kept acts → is_some kept.role ≡ true → room_of kept.input ≡ room acts
 room_is kept acts is opened =
     let open_now : is_open acts ≡ true = ap is_some (sym is.role) ∙ opened in
-    rw open_now (ap (λ (rs : List (List ℕ)). 16384 - used_by rs kept.input.tail) (records_are kept acts is)
-    ∙ ap (λ (t : Tail). 16384 - used_by (drop (completed acts) (records_of (stream acts))) t) (tail_is kept acts is))
+    rw open_now (ap (λ (rs : List (List ℕ)). capacity - used_by rs kept.input.tail) (records_are kept acts is)
+    ∙ ap (λ (t : Tail). capacity - used_by (drop (completed acts) (records_of (stream acts))) t) (tail_is kept acts is))
 
 pub no_room : (kept : Connection) (acts : List ConnAct) → IsConnection kept acts → kept.role ≡ None → 0 ≡ room acts
 no_room kept acts is shut =

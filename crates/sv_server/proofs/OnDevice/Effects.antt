@@ -5,6 +5,7 @@ use Rattle.sv_links.specs.Links.{LinkAct, live}
 use Rattle.sv_links.specs.Table.{Table, IsTable}
 use Rattle.sv_links.specs.Queue.{creations}
 use Rattle.sv_links.specs.ChannelRepresentation.{Channels, IsReady}
+use Rattle.sv_links.specs.Limits.{max_links}
 use Rattle.sv_layers.specs.Act.{Act as InstrumentAct}
 use Rattle.sv_instrument.specs.Representation.{Kept, StandsFor}
 use Rattle.sv_history.specs.declared.event.Config.{Config}
@@ -23,7 +24,7 @@ device_done kept instrument config acts adds (links, before, set_up, clock, wait
 -- what happens to links, and with them to those that ask for service requests
 pub device_linked : (kept : KeptDevice) (links : Table) (intr : Channels) (config : Config) (acts : List DeviceAct) (adds : List LinkAct)
     → IsDevice kept config acts → IsTable links (adds ++ link_acts acts)
-    → length (live (adds ++ link_acts acts)) + creations kept.waiting ≤ 32 → creations kept.waiting ≤ links.spare
+    → length (live (adds ++ link_acts acts)) + creations kept.waiting ≤ max_links → creations kept.waiting ≤ links.spare
     → AreTold intr (map Linked adds ++ acts) → ((c : ℕ) → IsReady kept.intr c → IsReady intr c)
     → IsDevice (record kept { links = links; intr = intr }) config (map Linked adds ++ acts)
 device_linked kept links intr config acts adds is stands few spare told still = (

@@ -12,6 +12,7 @@ use Rattle.sv_links.specs.Channels.{ChannelAct, SrqDisabled}
 use Rattle.sv_links.specs.ChannelRepresentation.{IsSorted, disabled, of_others}
 use Rattle.sv_links.proofs.Asking.{below, above, sorted-filter}
 use Rattle.sv_links.proofs.Tables.{Below, above-filter, other_than}
+use Rattle.sv_links.specs.Limits.{max_links}
 use Rattle.sv_history.specs.Act.{DeviceAct, Linked, link_acts}
 use Rattle.sv_server.specs.Device.Representation.{AreOwned}
 use Rattle.sv_history.specs.Requests.{HearsOf}
@@ -227,9 +228,9 @@ no_more_than (link ∷ links) xs sorted owned = omega (
   fewer link.lid link.conn xs owned.0,
 )
 
--- one of 32 live links has room to ask
+-- one of the live links has room to ask
 pub room_for : (links : List Enabled) (acts : List LinkAct) (lid conn : ℕ) → IsSorted links → AreOwned links acts
-    → owner lid acts ≡ Some conn → length (live acts) ≤ 32 → length (filter (λ other. not (other.lid == lid)) links) < 32
+    → owner lid acts ≡ Some conn → length (live acts) ≤ max_links → length (filter (λ other. not (other.lid == lid)) links) < max_links
 room_for links acts lid conn sorted owned own within =
     let left : length (filter (λ (other : Enabled). not (eqb other.lid lid)) links) ≤ length (filter (other_than lid) (live acts))
     = no_more_than (filter (λ other. not (eqb other.lid lid)) links) (filter (other_than lid) (live acts))

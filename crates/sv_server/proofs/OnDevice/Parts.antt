@@ -20,6 +20,8 @@ use Rattle.sv_links.specs.Waiting.{WaitAct, Entered, Again, Left, waits}
 use Rattle.sv_links.specs.Queue.{IsQueue, creates, creations, without}
 use Rattle.sv_links.proofs.Counted.{creations-without, creations-push, creations-other}
 use Rattle.sv_links.proofs.Live.{closing-live, destroyed-live}
+use Rattle.sv_links.specs.Limits.{max_links}
+use Rattle.sv_exchange.specs.Limits.{max_message}
 use Rattle.sv_history.specs.declared.event.Config.{Config}
 use Rattle.sv_history.specs.Act.{DeviceAct, Linked, Waited, link_acts, wait_acts}
 use Rattle.sv_instrument.specs.Representation.{Kept, StandsFor}
@@ -252,19 +254,19 @@ left_there true false may = absurd (may refl)
 left_there false false may = absurd (may refl)
 
 pub lids_there : (acts : List LinkAct) → (may_make acts ≡ false → ⊥) → lids_left acts ≡ true
-lids_there acts may = left_there (nat_lt (length (live acts)) 32) (lids_left acts) may
+lids_there acts may = left_there (nat_lt (length (live acts)) max_links) (lids_left acts) may
 
 pub told_as : (config : Config) (kept : Device) (told : Outcome) (lid n : ℕ) → kept.config ≡ config → lid ≡ n
-    → told ≡ Link NoError (pos lid) kept.config.abort 4096 → Link NoError (pos n) config.abort 4096 ≡ told
+    → told ≡ Link NoError (pos lid) kept.config.abort max_message → Link NoError (pos n) config.abort max_message ≡ told
 told_as config kept told lid n set_up number is =
-    ap (λ (k : ℕ). Link NoError (pos k) config.abort 4096) (sym number) ∙ ap (λ (k : Config). Link NoError (pos lid) k.abort 4096)
-    (sym set_up)
+    ap (λ (k : ℕ). Link NoError (pos k) config.abort max_message) (sym number)
+    ∙ ap (λ (k : Config). Link NoError (pos lid) k.abort max_message) (sym set_up)
     ∙ sym is
 
 pub made_ends : (kept : Device) (links : Table) (config : Config) (acts : List DeviceAct) (c lid : ℕ) (told : Outcome)
     → IsDevice kept config acts → HasPlace kept acts → lids_left (link_acts acts) ≡ true → lid ≡ made (link_acts acts) + 1
     → IsTable links (Made lid c ∷ link_acts acts) → kept.links.spare ≤ links.spare + 1
-    → told ≡ Link NoError (pos lid) kept.config.abort 4096
+    → told ≡ Link NoError (pos lid) kept.config.abort max_message
     → IsResult (make_link config c false acts).result told
     × IsDevice (record kept { links = links }) config ((make_link config c false acts).adds ++ acts)
 made_ends kept links config acts c lid told is place left number table spare tells = rw left (
@@ -277,7 +279,7 @@ pub locked_ends : (kept : Device) (mid links : Table) (config : Config) (acts : 
     → IsDevice kept config acts → HasPlace kept acts → lids_left (link_acts acts) ≡ true → lid ≡ made (link_acts acts) + 1
     → IsTable mid (Made lid c ∷ link_acts acts) → IsTable links (Locked lid ∷ Made lid c ∷ link_acts acts)
     → kept.links.spare ≤ mid.spare + 1 → links.spare ≡ mid.spare
-    → told ≡ Link NoError (pos lid) kept.config.abort 4096
+    → told ≡ Link NoError (pos lid) kept.config.abort max_message
     → IsResult (make_link config c true acts).result told
     × IsDevice (record kept { links = links }) config ((make_link config c true acts).adds ++ acts)
 locked_ends kept mid links config acts c lid told is place left number table locked spare same tells = rw left (

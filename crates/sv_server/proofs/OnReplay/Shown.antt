@@ -25,6 +25,7 @@ use Rattle.sv_server.specs.Server.Inside.Acting.{Acts, IsRefusal}
 use Rattle.sv_server.specs.declared.replay.print.WriteFault.{WriteFault}
 use Rattle.std.specs.Io.KnownBytes.{Appends}
 use Rattle.sv_history.specs.Print.{with_took, port_line}
+use Rattle.sv_history.specs.Limits.{max_output}
 use Rattle.sv_server.specs.Replay.TakenByWriter.{IsFront, IsTakenByWriter}
 use Rattle.sv_server.specs.Replay.Inside.Showing.{StandsBy, ShowsPort, log_with_took, told_with_took}
 
@@ -129,7 +130,8 @@ told_with_channel c (byte ∷ bytes) told some = refl
 -- what is shown is taken
 pub stands_taken : (port : Port) (bytes : List ℕ) (config : Config) (history : List PlainEvent) (told : List ChannelAct) (log : List Act)
     (old new : State) (result : Result Did Refused) → StandsBy old config history told log
-    → bytes ≡ waiting_on told port log → 0 < length bytes → length bytes ≤ 16384 → Acts config (Took port (length bytes)) log result new
+    → bytes ≡ waiting_on told port log → 0 < length bytes → length bytes ≤ max_output
+    → Acts config (Took port (length bytes)) log result new
     → StandsBy new config (with_took port (waiting_on told port log) history) (told_with_took port (waiting_on told port log) told)
     (log_with_took port (waiting_on told port log) log)
 stands_taken (Intr c) bytes config history told log old new result (is_log, rep, settled, tells) is some few acts =

@@ -6,6 +6,7 @@ use Rattle.sv_errors.specs.declared.code.Code.TheVariants.{QueryUnterminated}
 use Rattle.sv_vxi.specs.declared.error_code.ErrorCode.TheVariants.{NoError, IoTimeout}
 use Rattle.sv_vxi.specs.Results.{Outcome as VxiOutcome, Size}
 use Rattle.sv_exchange.specs.Exchange.{Accepted, TextDropped, has_ended, response, is_something}
+use Rattle.sv_exchange.specs.Limits.{max_message}
 use Rattle.sv_layers.specs.Act.{Exchanged, Reported}
 use Rattle.sv_instrument.specs.Step.{is_answerable}
 use Rattle.sv_history.specs.declared.event.Config.{Config}
@@ -30,7 +31,7 @@ use Rattle.sv_server.specs.Device.Inside.Outcome.{IsResult, OutcomeIs, EndsAs, R
 use Rattle.sv_history.specs.Request.{CoreRequest}
 
 pub written_ends : (config : Config) (acts : List DeviceAct) (new : Device) (flags : ℕ) (bytes : List ℕ) (ended : Bool) (told : VxiOutcome)
-    → nat_lt 4096 (length bytes) ≡ false → has_ended (exchange_acts acts) ≡ false → ended ≡ (bit_at flags 3 == 1)
+    → nat_lt max_message (length bytes) ≡ false → has_ended (exchange_acts acts) ≡ false → ended ≡ (bit_at flags 3 == 1)
     → told ≡ Size NoError (length bytes) → IsDevice new config (Happened (Exchanged (Accepted bytes ended)) ∷ acts)
     → IsResult (device_write flags bytes acts).result told × IsDevice new config ((device_write flags bytes acts).adds ++ acts)
 written_ends config acts new flags bytes ended told short unended end tells stands = rw (short, unended)

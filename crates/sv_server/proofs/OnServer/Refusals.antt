@@ -18,6 +18,7 @@ use Rattle.sv_server.specs.Connection.Representation.{Connection}
 use Rattle.sv_server.specs.Server.State.{State, Represents}
 use Rattle.sv_server.specs.Server.Inside.Acting.{Acts, Refuses, IsInput}
 use Rattle.sv_history.proofs.Projections.{of_mine, of_other}
+use Rattle.sv_history.specs.Limits.{longest_reply}
 use Rattle.sv_server.proofs.OnServer.Taken.{taken_acted}
 use Rattle.sv_server.proofs.OnServer.Logs.{acted, busy_idle}
 use Rattle.sv_server.proofs.OnServer.Turning.{not_busy}
@@ -32,7 +33,7 @@ refusable_is acts role found opened next = ap (λ (r : Option Role). refusable_c
 pub refused_none : (acts : List ConnAct) → refusable acts ≡ None → refuse_refusal acts ≡ Some NotRefusable
 refused_none acts e = rw e refl
 
-pub refused_not : (acts : List ConnAct) (call : CoreCall) → refusable acts ≡ Some call → nat_lt (free acts) 8232 ≡ false
+pub refused_not : (acts : List ConnAct) (call : CoreCall) → refusable acts ≡ Some call → nat_lt (free acts) longest_reply ≡ false
     → refuse_refusal acts ≡ None
 refused_not acts call e roomy = rw (e, roomy) refl
 
@@ -45,7 +46,7 @@ other_reason false false e = absurd (let z : None ≡ Some NoMemory = e in cc)
 pub refuse_refused : (config : Config) (c : ℕ) (log : List Act) (r : Refused) (kept : Connection) (new : State)
     → is_shut c log ≡ false → Refuses (of c log) (Err r) kept → Acts config (Refuse c) log (Err r) new
 refuse_refused config c log NoMemory kept new open_now why =
-    absurd (other_reason (is_none (refusable (of c log))) (nat_lt (free (of c log)) 8232) why)
+    absurd (other_reason (is_none (refusable (of c log))) (nat_lt (free (of c log)) longest_reply) why)
 refuse_refused config c log _ kept new open_now why = λ told tells. rw open_now why
 
 -- what it leaves of the server

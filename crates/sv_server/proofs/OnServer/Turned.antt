@@ -20,6 +20,7 @@ use Rattle.sv_history.specs.Effect.{Effect}
 use Rattle.sv_history.specs.Request.{Request, NoCall, Decided, CoreRequest, PortRequest, abort_request, unless_decided, header_reply, request_of, core_call_of, core_call, asked, next_request}
 use Rattle.sv_history.specs.declared.event.Role.{Role}
 use Rattle.sv_history.specs.declared.event.Role.TheVariants.{Core, Abort, Portmap}
+use Rattle.sv_history.specs.Limits.{longest_reply}
 use Rattle.sv_rpc.specs.declared.reply.Reply.{Reply}
 use Rattle.sv_rpc.specs.declared.reply.Reply.TheVariants.{Mismatch}
 use Rattle.sv_rpc.specs.declared.call.CallFault.{CallFault}
@@ -72,8 +73,8 @@ held_as outcome c role bytes request device config acts effect old new asks ends
     inr ((rw is at ends).0, rw read behind)
 
 -- a Turn that finds room is not refused
-pub refusal_none : (acts : List ConnAct) → nat_lt (free acts) 8232 ≡ false → turn_refusal acts ≡ None
-refusal_none acts roomy = if_none (is_idle acts) (nat_lt (free acts) 8232) roomy
+pub refusal_none : (acts : List ConnAct) → nat_lt (free acts) longest_reply ≡ false → turn_refusal acts ≡ None
+refusal_none acts roomy = if_none (is_idle acts) (nat_lt (free acts) longest_reply) roomy
 
 -- what its next call asks for
 pub asks_for : (acts : List ConnAct) (role : Role) (bytes : List ℕ) (request : Request) → open_role acts ≡ Some role

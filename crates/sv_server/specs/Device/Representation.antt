@@ -9,6 +9,7 @@ use Rattle.sv_links.specs.Waiting.{WaitAct}
 use Rattle.sv_links.specs.Queue.{IsQueue, creations}
 use Rattle.sv_links.specs.Channels.{ChannelAct}
 use Rattle.sv_links.specs.ChannelRepresentation.{Channels, AreChannels, IsReady}
+use Rattle.sv_links.specs.Limits.{max_links}
 use Rattle.sv_instrument.specs.Representation.{Kept, StandsFor}
 use Rattle.sv_history.specs.declared.event.Config.{Config}
 use Rattle.sv_layers.specs.Act.{Act as InstrumentAct}
@@ -26,11 +27,11 @@ pub record Device : Type 0 where
 
 -- There are places, and memory, for the links of all create_links that wait.
 abbrev pub IsReserved : Device → List DeviceAct → Type 0
-IsReserved kept acts = (length (live (link_acts acts)) + creations kept.waiting ≤ 32) × (creations kept.waiting ≤ kept.links.spare)
+IsReserved kept acts = (length (live (link_acts acts)) + creations kept.waiting ≤ max_links) × (creations kept.waiting ≤ kept.links.spare)
 
 -- There are those for one more.
 abbrev pub HasPlace : Device → List DeviceAct → Type 0
-HasPlace kept acts = (length (live (link_acts acts)) + creations kept.waiting < 32) × (creations kept.waiting < kept.links.spare)
+HasPlace kept acts = (length (live (link_acts acts)) + creations kept.waiting < max_links) × (creations kept.waiting < kept.links.spare)
 
 -- Each link that asks for service requests lives, on the connection that it is of.
 abbrev pub AreOwned : List Enabled → List LinkAct → Type 0

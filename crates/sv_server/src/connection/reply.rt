@@ -2,22 +2,24 @@
 
 ghost use Rattle.std.specs.Prelude.{◌≡◌, ◌+◌, ◌≤◌, ◌++◌, [], true, length, vec_len, vec_capacity};
 ghost use Rattle.sv_xdr.specs.Writer.{text_of, rest_of};
+ghost use Rattle.sv_history.specs.Limits.{longest_reply};
 ghost use Rattle.sv_server.specs.Device.Inside.Outcome.{answer_text, answer_bytes, HasAtMost, IsShort};
 
 use std::alloc::Allocator;
+use sv_exchange::MAX_READ;
 use sv_rpc::{Reply, put_record, write_reply};
 use sv_vxi::{VxiResult, write_result};
 use sv_xdr::Writer;
 
-/// The longest reply with the header of its fragment, in bytes.
-pub const LONGEST_REPLY: usize = 8232;
+/// The longest reply with the header of its fragment, in bytes: ten words, and what a read gives.
+pub const LONGEST_REPLY: usize = 40 + MAX_READ;
 /// The same without the header of its fragment: the reply's header (24 bytes), error, reason and
-/// length (4 each), and 8,192 bytes.
+/// length (4 each), and the bytes of a read.
 const LONGEST_TEXT: usize = LONGEST_REPLY - 4;
 /// The most data of a brief answer, in bytes: that of all but long responses.
 const BRIEF_DATA: usize = 256;
 /// The longest reply with a brief answer, without the header of its fragment.
-const BRIEF_TEXT: usize = LONGEST_TEXT - 8192 + BRIEF_DATA;
+const BRIEF_TEXT: usize = LONGEST_TEXT - MAX_READ + BRIEF_DATA;
 
 /// What a call is answered.
 #[derive(Clone, Copy)]
@@ -32,11 +34,11 @@ pub enum Answer<'a> {
 
 /// Puts a reply behind the outgoing bytes.
 pub fn put_reply<A: Allocator>(out: &mut Vec<u8, A>, xid: u32, answer: &Answer<'_>)
-    requires room { vec_len out.old + 8232 ≤ vec_capacity out.old }
+    requires room { vec_len out.old + longest_reply ≤ vec_capacity out.old }
     requires short { IsShort answer.now }
     ensures sent { out.new.items ≡ out.old.items ++ answer_bytes xid answer.now }
     ensures capacity { vec_capacity out.old ≤ vec_capacity out.new }
-    ensures bounded { vec_len out.new ≤ vec_len out.old + 8232 }
+    ensures bounded { vec_len out.new ≤ vec_len out.old + longest_reply }
 {
     if is_brief(answer) {
         put_through(out, &mut [0; BRIEF_TEXT], xid, answer);
@@ -67,11 +69,11 @@ fn is_brief(answer: &Answer<'_>) -> bool
 /// Writes a reply into a text that has room for it, and puts it behind the outgoing bytes.
 fn put_through<A: Allocator>(out: &mut Vec<u8, A>, text: &mut [u8], xid: u32, answer: &Answer<'_>)
     requires fits { length (answer_text xid answer.now) ≤ length text.old }
-    requires room { vec_len out.old + 8232 ≤ vec_capacity out.old }
+    requires room { vec_len out.old + longest_reply ≤ vec_capacity out.old }
     requires short { IsShort answer.now }
     ensures sent { out.new.items ≡ out.old.items ++ answer_bytes xid answer.now }
     ensures capacity { vec_capacity out.old ≤ vec_capacity out.new }
-    ensures bounded { vec_len out.new ≤ vec_len out.old + 8232 }
+    ensures bounded { vec_len out.new ≤ vec_len out.old + longest_reply }
 {
     let mut writer = Writer::new(text);
     write_answer(&mut writer, xid, answer);

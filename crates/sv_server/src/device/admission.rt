@@ -21,11 +21,11 @@ use crate::device::core_call::{is_too_long, lid_of};
 use crate::device::error_results::failure;
 use crate::device::interrupts::channel_fault;
 use std::alloc::{AllocError, Allocator};
-use sv_links::{Entry, Wait, is_locked_out};
+use sv_links::{Entry, MAX_LINKS, Wait, is_locked_out};
 use sv_vxi::{Args, ErrorCode, LockWait};
 
 /// How many links may live or be waited for.
-const MOST_LINKS: u8 = 32;
+const MOST_LINKS: u8 = MAX_LINKS as u8;
 
 /// What stops a call.
 #[derive(Clone, Copy)]

@@ -5,10 +5,8 @@ ghost use Rattle.sv_vxi.specs.Reading.{plain_arguments};
 ghost use Rattle.sv_history.specs.CoreCall.{lid_of as lid_for, is_too_long as too_long};
 ghost use Rattle.sv_history.specs.CoreChannel.{term_of as term_for};
 
+use sv_exchange::MAX_MESSAGE;
 use sv_vxi::{Args, Flags};
-
-/// The most that a write may bring, in bytes.
-pub const MAX_WRITE: usize = 4096;
 
 /// A call of the core channel.
 #[derive(Clone, Copy)]
@@ -34,7 +32,7 @@ pub fn is_too_long(args: &Args<'_>) -> bool
     ensures { result ≡ too_long (plain_arguments args.now) }
 {
     if let Args::DeviceWrite { bytes, .. } = *args {
-        return bytes.len() > MAX_WRITE;
+        return bytes.len() > MAX_MESSAGE;
     }
     false
 }

@@ -8,6 +8,7 @@ ghost use Rattle.sv_layers.specs.Act.{Polled, Purged};
 ghost use Rattle.sv_instrument.specs.Stimulus.{trigger_acts};
 ghost use Rattle.sv_history.specs.declared.event.Config.{Config as Configured};
 ghost use Rattle.sv_links.specs.Links.{holder, is_locked_out};
+ghost use Rattle.sv_exchange.specs.Limits.{max_message};
 ghost use Rattle.sv_history.specs.Act.{DeviceAct, Happened, link_acts, instrument_acts};
 ghost use Rattle.sv_history.specs.CallOutcome.{answered};
 ghost use Rattle.sv_server.specs.Device.Representation.{IsDevice, HasPlace};
@@ -16,9 +17,10 @@ ghost use Rattle.sv_server.specs.Device.Inside.Outcome.{IsDeviceAt, IsGranted, O
 
 use crate::device::Device;
 use crate::device::call_outcome::CallOutcome;
-use crate::device::core_call::{MAX_WRITE, lid_of, term_of};
+use crate::device::core_call::{lid_of, term_of};
 use crate::device::error_results::{failure, no_link, nothing_read, plain, written};
 use std::alloc::Allocator;
+use sv_exchange::MAX_MESSAGE;
 use sv_vxi::{Args, ErrorCode, Flags, VxiResult};
 
 impl<A: Allocator> Device<A> {
@@ -36,14 +38,15 @@ impl<A: Allocator> Device<A> {
     /// A link that was made, as it is told.
     fn told_link(&self, lid: u32) -> VxiResult<'static>
         requires { lid < 2 ^ 31 }
-        ensures told { plain_result result ≡ Link NoError (pos lid) self.now.config.abort 4096 }
+        ensures told { plain_result result
+            ≡ Link NoError (pos lid) self.now.config.abort max_message }
         ensures short { data_of (plain_result result) ≡ [] }
     {
         VxiResult::Link {
             error: ErrorCode::NoError,
             lid: lid as i32,
             abort_port: self.config.abort,
-            max_recv_size: MAX_WRITE as u32,
+            max_recv_size: MAX_MESSAGE as u32,
         }
     }
 
@@ -145,7 +148,7 @@ impl<A: Allocator> Device<A> {
         ensures short { IsBrief result }
         ensures waiting { self.new.waiting ≡ self.old.waiting }
     {
-        if bytes.len() > MAX_WRITE {
+        if bytes.len() > MAX_MESSAGE {
             return CallOutcome::Result(written(ErrorCode::ParameterError, 0));
         }
         if !self.instrument.can_write() {

@@ -22,11 +22,8 @@ use crate::device::Device;
 use crate::device::call_outcome::CallOutcome;
 use crate::device::error_results::{failure, plain};
 use std::alloc::Allocator;
-use sv_links::{Peer, Wait};
+use sv_links::{MAX_HANDLE, Peer, Wait};
 use sv_vxi::{Args, ErrorCode};
-
-/// The longest handle of a link, in bytes.
-const MAX_HANDLE: usize = 40;
 
 /// Whether an interrupt channel may be opened to there: an address in 127.0.0.0/8, and a port of 1
 /// to 65535.

@@ -12,6 +12,7 @@ ghost use Rattle.sv_history.specs.Requests.{HearsOf};
 ghost use Rattle.sv_history.specs.Interrupts.{dial_by as called_by, dial_of};
 ghost use Rattle.sv_history.specs.History.{is_channel_shut};
 ghost use Rattle.sv_history.specs.Queries.{Answered};
+ghost use Rattle.sv_history.specs.Limits.{max_output};
 ghost use Rattle.sv_server.specs.Server.State.{Represents, StandsFor};
 ghost use Rattle.sv_server.specs.Server.Inside.Acting.{Acts};
 
@@ -83,7 +84,7 @@ impl<A: Allocator> Server<A> {
         ensures exact { (config : Config) (log : List Act) (told : List ChannelAct)
             → Represents self.now config log → HearsOf (device_acts log) told
             → result.now ≡ channel_bytes conn told }
-        ensures bounded { length result.now ≤ 16384 }
+        ensures bounded { length result.now ≤ max_output }
     {
         if usize::from(conn) >= CONNECTIONS {
             return &[];

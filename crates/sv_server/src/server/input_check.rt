@@ -8,7 +8,7 @@ use sv_errors::{MOST_MICROVOLTS, is_channel};
 use sv_history::{Did, Refused};
 
 /// Why an Input of this channel and this voltage, in microvolts, is refused: `BadChannel` where the
-/// channel isn't 1 to 32, else `BadInput` where the voltage is beyond plus or minus 1,000,000,000.
+/// channel isn't there, else `BadInput` where the voltage is beyond plus or minus 1,000,000,000.
 pub fn input_refusal(channel: u8, microvolts: i64) -> Option<Refused>
     ensures { result ≡ refusal_of channel microvolts }
 {

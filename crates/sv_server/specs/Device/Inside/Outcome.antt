@@ -14,6 +14,7 @@ use Rattle.sv_links.specs.Links.{holder, is_locked_out}
 use Rattle.sv_links.specs.Waiting.{Left, waits}
 use Rattle.sv_links.specs.Queue.{creates, creations, without, anew}
 use Rattle.sv_exchange.specs.Exchange.{response}
+use Rattle.sv_exchange.specs.Limits.{max_read}
 use Rattle.sv_history.specs.declared.event.Config.{Config}
 use Rattle.sv_history.specs.Act.{DeviceAct, Waited, Faulted, Replied, link_acts, wait_acts, exchange_acts}
 use Rattle.sv_history.specs.Reply.{reply_record}
@@ -65,7 +66,7 @@ HasAtMost most (answers.Result outcome) = length (data_of (plain_result outcome)
 
 -- an answer whose data have room in a reply
 abbrev pub IsShort : Answer → Type 0
-IsShort answer = HasAtMost 8192 answer
+IsShort answer = HasAtMost max_read answer
 
 -- a call of the core channel, what a record asks for, and what stops a call
 abbrev pub plain_core_call : TakenCall → CoreCall

@@ -1,4 +1,5 @@
 use Rattle.std.proofs.Common.{◌≡◌, ◌<◌, ◌+◌, ◌-◌, ◌++◌, length}
+use Rattle.sv_errors.specs.Limits.{longest_list}
 use Rattle.sv_value.specs.Channels.{run}
 use Rattle.sv_value.proofs.channels.push_run.Given as goal
 
@@ -6,7 +7,7 @@ use Rattle.sv_value.proofs.channels.push_run.Given as goal
 abbrev pub invariant-loop-channel : goal.invariant-loop-channel
 invariant-loop-channel l = record {
   same : l.list.items ++ run l.channel l.last ≡ l.fn.list.items ++ run l.first l.last;
-  fits : length l.list.items + (l.channel - l.last) + (l.last - l.channel) < 32;
+  fits : length l.list.items + (l.channel - l.last) + (l.last - l.channel) < longest_list;
 }
 
 abbrev pub decreases-loop-channel : goal.decreases-loop-channel

@@ -1,4 +1,4 @@
--- The ring keeps all codes, since there are at most 16.
+-- The ring keeps all codes, since there are no more than it has room for.
 use Rattle.std.proofs.Common.{◌≡◌, ℕ, ◌-◌, ◌<◌, ◌≤◌, List, [], ◌∷◌, ◌++◌, length, take, drop, ap, ◌∙◌, arith, rules, length-append}
 use Rattle.std.proofs.lemmas.List.{length-map}
 use Rattle.std.specs.Prelude.{◌==◌, nat_le}
@@ -8,7 +8,7 @@ use Rattle.sv_errors.specs.declared.code.Code.{Code}
 use Rattle.sv_errors.specs.declared.code.Code.TheVariants.{QueueOverflow}
 use Rattle.sv_errors.specs.declared.error_queue.QueueAct.{QueueAct}
 use Rattle.sv_errors.specs.declared.error_queue.QueueAct.TheVariants.{Report}
-use Rattle.sv_errors.specs.ErrorQueue.{StandsFor, entries, shown}
+use Rattle.sv_errors.specs.ErrorQueue.{StandsFor, entries, shown, most}
 use Rattle.sv_errors.proofs.Queue.{StandsFor-reported, StandsFor-overflowed}
 use Rattle.sv_errors.proofs.error_queue.ErrorQueue.report.Goals as goal
 
@@ -17,20 +17,20 @@ keep_all : (capacity : ℕ) (codes : List Code) → length codes ≤ capacity �
 keep_all capacity codes few = let e : length codes - capacity ≡ 0 = omega arith in ap (λ (n : ℕ). drop n codes) e
 
 -- where there is room
-reported : (capacity : ℕ) (codes : List Code) (code : Code) (acts : List QueueAct) → capacity ≡ 16 → length codes < 16
+reported : (capacity : ℕ) (codes : List Code) (code : Code) (acts : List QueueAct) → capacity ≡ most → length codes < most
     → StandsFor codes acts → StandsFor (keep_last capacity (codes ++ code ∷ [])) (Report code ∷ acts)
 reported capacity codes code acts size room stands =
     keep_all capacity (codes ++ code ∷ []) (omega (arith, length-append codes (code ∷ []))) ∙ StandsFor-reported codes code acts room stands
 
 -- where there is none
-overflowed : (capacity : ℕ) (codes : List Code) (code : Code) (acts : List QueueAct) → capacity ≡ 16 → length codes ≡ 16
+overflowed : (capacity : ℕ) (codes : List Code) (code : Code) (acts : List QueueAct) → capacity ≡ most → length codes ≡ most
     → StandsFor codes acts
     → StandsFor (keep_last capacity (take (length codes - 1) codes ++ QueueOverflow ∷ [])) (Report code ∷ acts)
 overflowed capacity codes code acts size full stands =
-    let front : length codes - 1 ≡ 15 = omega arith in
+    let front : length codes - 1 ≡ (most - 1) = omega arith in
     ap (λ (n : ℕ). keep_last capacity (take n codes ++ QueueOverflow ∷ [])) front
-    ∙ keep_all capacity (take 15 codes ++ QueueOverflow ∷ [])
-    (omega (arith, length-append (take 15 codes) (QueueOverflow ∷ []), length-take-le 15 codes (omega arith)))
+    ∙ keep_all capacity (take (most - 1) codes ++ QueueOverflow ∷ [])
+    (omega (arith, length-append (take (most - 1) codes) (QueueOverflow ∷ []), length-take-le (most - 1) codes (omega arith)))
     ∙ StandsFor-overflowed codes code acts full stands
 
 pub returns-then-full-clause-stands : goal.returns-then-full-clause-stands
@@ -50,5 +50,5 @@ returns-then-full-clause-full g c = search rules
 
 pub returns-then-full-clause-answer : goal.returns-then-full-clause-answer
 returns-then-full-clause-answer g c =
-    let full : nat_le 16 c.len-full.result ≡ (length c.args.self.now == 16) = search rules in
-    λ acts stands. full ∙ ap (λ (n : ℕ). n == 16) (ap length stands ∙ length-map (entries acts) (shown acts))
+    let full : nat_le most c.len-full.result ≡ (length c.args.self.now == most) = search rules in
+    λ acts stands. full ∙ ap (λ (n : ℕ). n == most) (ap length stands ∙ length-map (entries acts) (shown acts))

@@ -4,6 +4,7 @@ use Rattle.sv_exchange.proofs.Stands.{accept_stands, not_true}
 use Rattle.sv_exchange.proofs.Fields.{accept_holds, open_end}
 use Rattle.sv_exchange.proofs.exchange.Exchange.accept.Goals as goal
 use Rattle.sv_exchange.proofs.exchange.Exchange.accept.Goals.{then-self, else-self}
+use Rattle.sv_exchange.specs.Limits.{max_message}
 
 pub returns-clause-value : goal.returns-clause-value
 returns-clause-value g c =
@@ -12,7 +13,7 @@ returns-clause-value g c =
     let text_is : c.append.new.bytes.items ≡ drop c.self.inside.cursor c.self.inside.text.items ++ c.args.bytes.now =
     grind (arith, common_steps) in
     let before_is : c.len-before.result ≡ length (drop c.self.inside.cursor c.self.inside.text.items) = grind (arith, common_steps) in
-    let at_is : c.if-self.self ≡ cond (c.self.inside.overlong || nat_lt 4096 (c.len-before.result + c.first_message-cut.result.size))
+    let at_is : c.if-self.self ≡ cond (c.self.inside.overlong || nat_lt max_message (c.len-before.result + c.first_message-cut.result.size))
     (c.len-before.result + c.first_message-cut.result.size) 0 =
     elim c.if-self.branch [ then-self w ↦ rw w.if-self.true w.self-is | else-self w ↦ rw w.if-self.false w.self-is ] in
     let cut = c.first_message-cut.ensures in

@@ -4,6 +4,7 @@ use Rattle.sv_exchange.proofs.Fields.{size_with, with_all}
 use Rattle.sv_exchange.proofs.Stands.{fits_is, answered_stands, dropped_stands}
 use Rattle.sv_exchange.proofs.exchange.Exchange.respond.Goals as goal
 use Rattle.sv_exchange.proofs.exchange.Exchange.respond.Goals.{then-self, else-self}
+use Rattle.sv_exchange.specs.Limits.{max_response}
 
 pub returns-then-answer-before-clause-stands : goal.returns-then-answer-before-clause-stands
 returns-then-answer-before-clause-stands g c =
@@ -14,7 +15,7 @@ returns-then-answer-before-clause-stands g c =
     c.self.invariant.0.output before in
     let may = rw (← c.self.view_is) at c.requires in
     rw (← c.self.view_is) (λ acts s. (
-      sym (fits_is _ acts c.args.answer.now _ size s ∙ le-ltb (c.if-self.before + length c.args.answer.now) 8192 (omega arith)),
+      sym (fits_is _ acts c.args.answer.now _ size s ∙ le-ltb (c.if-self.before + length c.args.answer.now) max_response (omega arith)),
       dropped_stands _ _ acts may (rw c.clear.ensures.items refl) s,
     ))
 
@@ -27,7 +28,7 @@ returns-clause-stands g c =
     c.self.invariant.0.output before in
     let may = rw (← c.self.view_is) at c.requires in
     rw (← c.self.view_is) (λ acts s. (
-      sym (fits_is _ acts c.args.answer.now _ size s ∙ lt-ltb (c.if-self.before + length c.args.answer.now) 8192 (omega arith)),
+      sym (fits_is _ acts c.args.answer.now _ size s ∙ lt-ltb (c.if-self.before + length c.args.answer.now) max_response (omega arith)),
       answered_stands _ _ acts c.args.answer.now may
           (rw (
             c.put_answer.ensures.items,

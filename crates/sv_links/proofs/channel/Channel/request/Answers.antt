@@ -15,7 +15,7 @@ put_request-requires-clause-room g c =
       c.self.invariant.0,
       sum-bounded inside.sizes.items c.self.invariant.1,
       c.self.invariant.3 (open≢closed inside.stage c.args.peer is_open),
-      c.if-len-ge-MOST.false,
+      c.if-len-ge-MAX_CALLS.false,
       c.len.ensures.value,
       inside.bytes.ok.0,
     )
@@ -40,5 +40,5 @@ returns-clause-queued g c count calls is =
       c.len-before.ensures,
       inside.bytes.ok.0,
       c.put_request.new.out.ok.0,
-    )) (omega (arith, c.if-len-ge-MOST.false, c.len.ensures.value)) (omega (arith, c.if-self.false))
+    )) (omega (arith, c.if-len-ge-MAX_CALLS.false, c.len.ensures.value)) (omega (arith, c.if-self.false))
     (rw (← c.self.view_is) at is)

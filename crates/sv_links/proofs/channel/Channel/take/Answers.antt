@@ -1,5 +1,6 @@
 use Rattle.std.proofs.Common.{length, refl, ap, arith}
 use Rattle.std.proofs.lemmas.List.{length-drop}
+use Rattle.sv_links.specs.Limits.{longest_call}
 use Rattle.sv_links.specs.ChannelRepresentation.{Channel}
 use Rattle.sv_links.proofs.Left.{sum-left, all-left, length-left}
 use Rattle.sv_links.proofs.Sent.{IsQueued-taken}
@@ -13,7 +14,7 @@ invariant_of-self g c =
     let within = rw (← c.self.view_is) at c.requires in
     let rest = sum-left c.args.count sizes (omega (arith, within, c.self.invariant.0)) in (
       rw c.let_go.ensures (omega (arith, ap length items, length-drop c.args.count bytes, within, rest, c.self.invariant.0)),
-      rw c.let_go.ensures (all-left 88 c.args.count sizes c.self.invariant.1),
+      rw c.let_go.ensures (all-left longest_call c.args.count sizes c.self.invariant.1),
       rw c.let_go.ensures (omega (arith, length-left c.args.count sizes, c.self.invariant.2)),
       λ there. rw (c.drop_front.ensures.capacity) (c.self.invariant.3 there),
     )

@@ -8,6 +8,7 @@ use Rattle.std.proofs.lemmas.Bool.{cond-true}
 use Rattle.std.proofs.lemmas.List.Edits.{length-insert}
 use Rattle.std.proofs.lemmas.List.Filters.{length-filter_both}
 use Rattle.sv_links.specs.declared.enabled.Enabled.{Enabled}
+use Rattle.sv_links.specs.Limits.{max_enabled}
 use Rattle.sv_links.specs.ChannelRepresentation.{Channel, Channels, AreChannels, IsSorted}
 use Rattle.sv_links.proofs.Asking.{below, above, other_links, sorted-inserted, inserted}
 use Rattle.sv_links.proofs.Acts.{AreChannels-enabled}
@@ -32,7 +33,7 @@ items_are : (g : given.Over) (c : goal.After-insert g) → c.insert.new.self.ite
     (length (below c.args.lid (other_links c.args.lid c.args.self.now.enabled))) c.new.result
 items_are g c =
     let others = c.self.inside.enabled.items in
-    let done = c.insert.ensures.succeeds (omega (arith, c.if-len-ge-MOST.false, c.len.ensures, c.self.invariant.2)) in
+    let done = c.insert.ensures.succeeds (omega (arith, c.if-len-ge-MAX_ENABLED.false, c.len.ensures, c.self.invariant.2)) in
     c.insert.ensures.items ∙ cond-true (is_ok c.insert.result) (insert others c.count-place.result c.new.result) others done
     ∙ ap (λ (place : ℕ). insert others place c.new.result) (place_is g c)
     ∙ ap (λ (links : List Enabled). insert links (length (below c.args.lid links)) c.new.result) (others_are g c)
@@ -42,8 +43,8 @@ invariant_of-self g c =
     let lid = c.args.lid in
     let others = other_links lid c.args.self.now.enabled in
     let test : Enabled → Bool = λ other. ltb other.lid lid in
-    let few : length others < 32 =
-    omega (arith, c.if-len-ge-MOST.false, c.len.ensures, c.self.inside.enabled.ok.0, ap length (others_are g c)) in
+    let few : length others < max_enabled =
+    omega (arith, c.if-len-ge-MAX_ENABLED.false, c.len.ensures, c.self.inside.enabled.ok.0, ap length (others_are g c)) in
     let within : length (below lid others) ≤ length others =
     omega (arith, length-filter_both test (λ other. not (test other)) (λ _. refl) others) in (
       c.self.invariant.0,

@@ -1,6 +1,7 @@
 use Rattle.std.proofs.Common.{◌≡◌, ◌<◌, ◌≤◌, ℕ, List, ◌∷◌, length, true}
 use Rattle.std.specs.Prelude.{slice_index_or}
 use Rattle.sv_links.specs.Channels.{ChannelAct, Requested}
+use Rattle.sv_links.specs.Limits.{max_connections}
 use Rattle.sv_links.specs.ChannelRepresentation.{Channel, AreChannels, IsChannel, IsReady, is_prepared}
 use Rattle.sv_links.proofs.intr.Intr.raise.Given as goal
 
@@ -8,7 +9,7 @@ use Rattle.sv_links.proofs.intr.Intr.raise.Given as goal
 abbrev pub invariant-loop-conn : goal.invariant-loop-conn
 invariant-loop-conn g l = record {
   enabled : l.self-inside.enabled ≡ l.initial.self-inside.enabled;
-  long : length l.self-inside.channels.items ≡ 16;
+  long : length l.self-inside.channels.items ≡ max_connections;
   sent : (c : ℕ) (other : Channel) (acts : List ChannelAct) → c < l.conn → AreChannels l.fn.self acts
       → IsChannel (slice_index_or l.self-inside.channels.items c other) c (Requested ∷ acts);
   rest : (c : ℕ) (other : Channel) → l.conn ≤ c

@@ -1,5 +1,6 @@
 use Rattle.std.proofs.Common.{rules, arith}
 use Rattle.std.proofs.lemmas.List.Edits.{map_over_more}
+use Rattle.sv_links.specs.Limits.{max_connections}
 use Rattle.sv_links.specs.Queue.{anew}
 use Rattle.sv_links.proofs.Queues.{IsQueue-anew, once-anew, below-anew, written}
 use Rattle.sv_links.proofs.Anew.{rank-anew, creations-anew}
@@ -18,7 +19,7 @@ invariant_of-self g c =
     let items = written f vec.len c.loop-entry.entry-index vec.items c.deref_mut-entry-items.result.now c.loop-entry.entry-items
     lent.value lent.len c.loop-entry.auto.entry-items c.loop-entry-test.false c.loop-entry.invariant in (
       rw items (once-anew c.args.conn c.args.wait c.args.deadline vec.items c.self.invariant.0),
-      rw items (below-anew c.args.conn c.args.wait c.args.deadline 16 vec.items c.self.invariant.1),
+      rw items (below-anew c.args.conn c.args.wait c.args.deadline max_connections vec.items c.self.invariant.1),
       c.self.invariant.2,
     )
 

@@ -1,6 +1,7 @@
 use Rattle.std.proofs.Common.{rules, arith, ◌≡◌, ◌≤◌, ◌∙◌, tests}
 use Rattle.std.proofs.lemmas.Iterator.{YieldsList-from_slice}
 use Rattle.std.proofs.lemmas.Iterator.Consumers.{count_from_yields_List, YieldsList-from_filter, YieldsList-at}
+use Rattle.sv_links.specs.Limits.{max_connections, max_waiting}
 use Rattle.sv_links.specs.Queue.{creates, creations}
 use Rattle.sv_links.proofs.Counted.{length-filter_le}
 use Rattle.sv_links.proofs.Queues.{at_most}
@@ -15,10 +16,15 @@ counted g c =
     (YieldsList-from_slice c.self.inside.entries.items cc)) c.filter.ensures.closure
     (λ x r q k. search (rules, tests)))
 
-few : (g : given.Over) (c : goal.After-count g) → c.count.result ≤ 16
+few : (g : given.Over) (c : goal.After-count g) → c.count.result ≤ max_waiting
 few g c =
     let items = c.self.inside.entries.items in
-    omega (arith, counted g c, length-filter_le creates items, at_most 16 items c.self.invariant.0 c.self.invariant.1)
+    omega (
+      arith,
+      counted g c,
+      length-filter_le creates items,
+      at_most max_connections items c.self.invariant.0 c.self.invariant.1,
+    )
 
 pub overflow_cast-result : goal.overflow_cast-result
 overflow_cast-result g c = let few = few g c in search (rules, few, arith)

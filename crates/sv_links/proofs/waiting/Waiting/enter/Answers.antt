@@ -1,4 +1,5 @@
 use Rattle.std.proofs.Common.{rules, arith, ap, ◌∙◌, List, ◌++◌, ◌∷◌, []}
+use Rattle.sv_links.specs.Limits.{max_connections}
 use Rattle.sv_links.specs.Queue.{IsFree}
 use Rattle.sv_links.specs.declared.waiting.Entry.{Entry}
 use Rattle.sv_links.proofs.Queues.{IsQueue-entered, free-without, once-push, below-push, has_room}
@@ -8,7 +9,8 @@ pub push_reserved-requires : goal.push_reserved-requires
 push_reserved-requires g c =
     let items = c.self.view_is ∙ c.leave.ensures.value in
     let free : IsFree c.args.entry.conn c.self.inside.entries.items = rw items (free-without c.args.entry.conn c.args.self.now) in
-    let room = has_room c.args.entry 16 c.self.inside.entries.items free c.requires c.self.invariant.0 c.self.invariant.1 in
+    let room = has_room c.args.entry max_connections c.self.inside.entries.items free c.requires c.self.invariant.0
+    c.self.invariant.1 in
     search (rules, room, arith)
 
 pub invariant_of-self : goal.invariant_of-self
@@ -17,7 +19,7 @@ invariant_of-self g c =
     let free : IsFree c.args.entry.conn c.self.inside.entries.items = rw items (free-without c.args.entry.conn c.args.self.now) in
     let items = c.self.inside.entries.items in (
       rw c.push_reserved.ensures.items (once-push c.args.entry items free c.self.invariant.0),
-      rw c.push_reserved.ensures.items (below-push c.args.entry 16 items c.requires c.self.invariant.1),
+      rw c.push_reserved.ensures.items (below-push c.args.entry max_connections items c.requires c.self.invariant.1),
       search rules,
     )
 

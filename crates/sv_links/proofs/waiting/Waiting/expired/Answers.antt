@@ -3,6 +3,7 @@ use Rattle.std.specs.Prelude.{find, ◌≡◌}
 use Rattle.std.proofs.lemmas.Iterator.{YieldsList-from_slice}
 use Rattle.std.proofs.lemmas.Iterator.Search.{find_from_yields_List}
 use Rattle.sv_links.specs.declared.waiting.Entry.{Entry}
+use Rattle.sv_links.specs.Limits.{max_connections}
 use Rattle.sv_links.specs.Queue.{IsEntry, is_past}
 use Rattle.sv_links.proofs.Queues.{oldest_expired}
 use Rattle.sv_links.proofs.Found.{found-each, found-within, found-rank}
@@ -32,8 +33,8 @@ returns-clause-entry g c acts is =
 
 pub returns-clause-within : goal.returns-clause-within
 returns-clause-within g c =
-    rw (result_is g c, ← c.self.view_is) (found-within (passes c.args.clock) 16 c.self.inside.entries.items c.self.invariant.1
-    c.self.invariant.0)
+    rw (result_is g c, ← c.self.view_is) (found-within (passes c.args.clock) max_connections c.self.inside.entries.items
+    c.self.invariant.1 c.self.invariant.0)
 
 pub returns-clause-measure : goal.returns-clause-measure
 returns-clause-measure g c = rw (result_is g c, ← c.self.view_is) (found-rank (passes c.args.clock) c.self.inside.entries.items)

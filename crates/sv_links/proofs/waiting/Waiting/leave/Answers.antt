@@ -2,6 +2,7 @@ use Rattle.std.proofs.Common.{rules, eqb, Bool}
 use Rattle.std.specs.Prelude.{not}
 use Rattle.std.proofs.lemmas.Fn.{filter_same}
 use Rattle.sv_links.specs.declared.waiting.Entry.{Entry}
+use Rattle.sv_links.specs.Limits.{max_connections}
 use Rattle.sv_links.proofs.Queues.{IsQueue-left, once-filter, below-filter}
 use Rattle.sv_links.proofs.waiting.Waiting.leave.Goals as goal
 
@@ -9,8 +10,11 @@ pub invariant_of-self : goal.invariant_of-self
 invariant_of-self g c =
     let p : Entry → Bool = λ entry. not (eqb entry.conn c.args.conn) in
     let kept = filter_same _ p _ (λ x b f' k. search rules) _ _ c.retain.ensures.filtered in
-    let items = c.self.inside.entries.items in
-    (rw kept (once-filter p items c.self.invariant.0), rw kept (below-filter p 16 items c.self.invariant.1), search rules)
+    let items = c.self.inside.entries.items in (
+      rw kept (once-filter p items c.self.invariant.0),
+      rw kept (below-filter p max_connections items c.self.invariant.1),
+      search rules,
+    )
 
 pub returns-clause-value : goal.returns-clause-value
 returns-clause-value g c =

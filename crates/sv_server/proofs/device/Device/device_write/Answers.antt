@@ -3,6 +3,7 @@ use Rattle.std.proofs.lemmas.Bool.{le-ltb}
 use Rattle.sv_history.specs.Act.{instrument_acts}
 use Rattle.sv_server.proofs.OnServer.Turned.{flipped}
 use Rattle.sv_exchange.specs.Exchange.{Accepted}
+use Rattle.sv_exchange.specs.Limits.{max_message}
 use Rattle.sv_layers.specs.Act.{Exchanged}
 use Rattle.sv_server.proofs.OnDevice.Raising.{device_ran}
 use Rattle.sv_server.proofs.OnServer.Calls.{written_ends}
@@ -15,5 +16,5 @@ returns-clause-ends g c = λ config acts old.
     let unended = flipped _ (sym (c.if-not-can_write.ensures.answer log is.1)) in
     let stands = device_ran _ c.write-raised.new.self _ config acts (Exchanged (Accepted c.args.bytes.now c.has_end.result) ∷ [])
     c.write-raised.result is (c.write-raised.ensures log is.1) c.raise.ensures.stands in
-    written_ends config acts _ c.args.flags.0 c.args.bytes.now c.has_end.result _ (le-ltb 4096 _ c.if-bytes-gt-MAX_WRITE.false)
+    written_ends config acts _ c.args.flags.0 c.args.bytes.now c.has_end.result _ (le-ltb max_message _ c.if-bytes-gt-MAX_MESSAGE.false)
     unended c.has_end.ensures c.written-2.ensures stands

@@ -2,6 +2,7 @@ use Rattle.std.proofs.Common.{◌≤◌, length, sym}
 use Rattle.std.proofs.lemmas.Bool.{le-ltb}
 use Rattle.sv_history.specs.Act.{link_acts}
 use Rattle.sv_links.specs.Links.{owner}
+use Rattle.sv_links.specs.Limits.{max_handle}
 use Rattle.sv_server.proofs.OnDevice.Parts.{ready_same}
 use Rattle.sv_server.proofs.OnDevice.Channeled.{device_disabled, device_enabled, owner_is}
 use Rattle.sv_server.proofs.device.Device.enable_srq.Goals as goal
@@ -18,8 +19,8 @@ returns-then-not-enable-clause-ends g c = λ config acts old owns.
 pub returns-clause-ends : goal.returns-clause-ends
 returns-clause-ends g c = λ config acts old owns.
     let is = rw (← c.self.view_is) at old in
-    let short : length c.args.handle.now ≤ 40 = c.if-handle-gt-MAX_HANDLE.false in
-    rw (c.if-not-enable.false, le-ltb 40 (length c.args.handle.now) short) (
+    let short : length c.args.handle.now ≤ max_handle = c.if-handle-gt-MAX_HANDLE.false in
+    rw (c.if-not-enable.false, le-ltb max_handle (length c.args.handle.now) short) (
       sym c.plain-2.ensures,
       device_enabled _ c.enable.new.self config acts c.args.lid c.args.conn c.args.handle.now is
           (owner_is c.args.conn (owner c.args.lid (link_acts acts)) owns) (c.enable.ensures.stands short)

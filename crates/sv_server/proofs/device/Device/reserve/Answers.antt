@@ -4,6 +4,7 @@ use Rattle.std.specs.Prelude.{nat_lt}
 use Rattle.sv_links.specs.Links.{live, lids_left}
 use Rattle.sv_links.specs.Waiting.{creating}
 use Rattle.sv_links.specs.Queue.{creations}
+use Rattle.sv_links.specs.Limits.{max_links}
 use Rattle.sv_history.specs.Act.{link_acts, wait_acts}
 use Rattle.sv_server.proofs.OnDevice.Parts.{device_more}
 use Rattle.sv_server.proofs.OnDevice.Granted.{both_true, on_ok}
@@ -19,6 +20,6 @@ returns-clause-ok g c = λ config acts old.
       more,
       λ makes may.
           let many = length (live (link_acts acts)) + creating (wait_acts acts) in
-          let few : many < 32 = ltb-true many 32 (both_true (nat_lt many 32) (lids_left (link_acts acts)) may).0 in
+          let few : many < max_links = ltb-true many max_links (both_true (nat_lt many max_links) (lids_left (link_acts acts)) may).0 in
           (omega (arith, few, count), omega (arith, room, c.creating.ensures.value)),
     ))

@@ -5,6 +5,7 @@ use Rattle.sv_history.specs.Act.{Replied, CallTaken}
 use Rattle.sv_history.specs.Connection.{next_call, free}
 use Rattle.sv_history.specs.Effect.{result_reply}
 use Rattle.sv_history.specs.Refusing.{refusable}
+use Rattle.sv_history.specs.Limits.{longest_reply}
 use Rattle.sv_server.specs.Connection.Representation.{IsConnection}
 use Rattle.sv_server.specs.Device.Inside.Outcome.{plain_core_call}
 use Rattle.sv_server.proofs.OnServer.Turned.{flipped}
@@ -18,7 +19,7 @@ returns-clause-acts g c = λ acts is.
     let next : next_call acts ≡ Some bytes = sym (c.in-Some.ensures.answer acts is) in
     let known : refusable acts ≡ Some (plain_core_call call) =
     refusable_is acts c.args.role (Some bytes) (sym is.role ∙ c.requires) next ∙ sym c.in-Some-refusable.ensures in
-    let roomy : nat_lt (free acts) 8232 ≡ false = flipped _ (sym (c.if-not-has_reply_room.ensures.answer acts is)) in (
+    let roomy : nat_lt (free acts) longest_reply ≡ false = flipped _ (sym (c.if-not-has_reply_room.ensures.answer acts is)) in (
       refused_not acts (plain_core_call call) known roomy,
       bytes,
       plain_core_call call,

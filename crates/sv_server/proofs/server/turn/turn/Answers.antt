@@ -2,6 +2,7 @@ use Rattle.std.proofs.Common.{rules, ◌≡◌, false, refl, sym, ap, ◌∙◌}
 use Rattle.std.specs.Prelude.{nat_lt, Some, is_none}
 use Rattle.sv_history.specs.Act.{of, device_acts}
 use Rattle.sv_history.specs.Connection.{next_call, free}
+use Rattle.sv_history.specs.Limits.{longest_reply}
 use Rattle.sv_server.specs.Device.Inside.Outcome.{plain_request}
 use Rattle.sv_server.proofs.OnServer.Turned.{flipped, held_as, asks_for, refusal_none}
 use Rattle.sv_server.proofs.server.turn.turn.Goals as goal
@@ -9,7 +10,8 @@ use Rattle.sv_server.proofs.server.turn.turn.Goals as goal
 pub returns-in_default-execute-clause-acts : goal.returns-in_default-execute-clause-acts
 returns-in_default-execute-clause-acts g c = λ config log mine all.
     let next : next_call (of c.args.conn log) ≡ Some c.in-Some.call.now = sym (c.in-Some.ensures.answer _ mine) in
-    let roomy : nat_lt (free (of c.args.conn log)) 8232 ≡ false = flipped _ (sym (c.if-not-has_reply_room.ensures.answer _ mine)) in (
+    let roomy : nat_lt (free (of c.args.conn log)) longest_reply ≡ false =
+    flipped _ (sym (c.if-not-has_reply_room.ensures.answer _ mine)) in (
       refusal_none (of c.args.conn log) roomy,
       c.in-Some.call.now,
       plain_request c.request_of-request.result,
@@ -23,7 +25,8 @@ returns-in_default-execute-clause-acts g c = λ config log mine all.
 pub returns-clause-acts : goal.returns-clause-acts
 returns-clause-acts g c = λ config log mine all.
     let next : next_call (of c.args.conn log) ≡ Some c.in-Some.call.now = sym (c.in-Some.ensures.answer _ mine) in
-    let roomy : nat_lt (free (of c.args.conn log)) 8232 ≡ false = flipped _ (sym (c.if-not-has_reply_room.ensures.answer _ mine)) in (
+    let roomy : nat_lt (free (of c.args.conn log)) longest_reply ≡ false =
+    flipped _ (sym (c.if-not-has_reply_room.ensures.answer _ mine)) in (
       refusal_none (of c.args.conn log) roomy,
       ap is_none next,
       c.in-Some.call.now,

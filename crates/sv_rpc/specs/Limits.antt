@@ -1,0 +1,18 @@
+-- How long records and their parts may be.
+use Rattle.std.specs.Prelude.{ℕ, ◌/◌}
+
+-- how many bytes the records in a buffer may take, with 4 for each
+abbrev pub capacity : ℕ
+capacity = 16384
+
+-- how many records may stand in a buffer: the shortest is empty and takes 4 bytes
+abbrev pub max_records : ℕ
+max_records = capacity / 4
+
+-- how long a record may be that is taken, in bytes
+abbrev pub max_record : ℕ
+max_record = 8192
+
+-- how long the body of a credential or a verifier may be, in bytes (RFC 5531, section 8.2)
+abbrev pub max_auth : ℕ
+max_auth = 400
