@@ -8,7 +8,7 @@ use Rattle.sv_errors.specs.declared.error_queue.QueueAct.TheVariants.{Report, Ta
 
 -- how many entries there may be
 abbrev pub most : ℕ
-most = 16
+most = 64
 
 -- the places of the reports since the last clearing that found room, in order, and how many of these were taken
 pub record Counted : Type 0 where

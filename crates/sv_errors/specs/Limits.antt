@@ -4,11 +4,11 @@ use Rattle.std.specs.List.{list_all}
 
 -- how many channels there are; they are numbered from 1
 abbrev pub channel_count : ℕ
-channel_count = 32
+channel_count = 128
 
 -- how many channels a list may have
 abbrev pub longest_list : ℕ
-longest_list = 32
+longest_list = 128
 
 -- how many scans a measurement may have
 abbrev pub most_scans : ℕ

@@ -10,7 +10,7 @@ use std::alloc::{AllocError, Allocator, Global};
 use std::marker::Model;
 
 /// How many entries there may be.
-pub const MOST_ERRORS: usize = 16;
+pub const MOST_ERRORS: usize = 64;
 
 /// What happens to the error queue.
 #[derive(Clone, Copy, Debug, PartialEq, Eq)]

@@ -5,9 +5,9 @@ ghost use Rattle.std.specs.List.{list_all};
 ghost use Rattle.sv_errors.specs.Limits.{is_channel as is_channel_number, is_channel_list as is_list_of_channels};
 
 /// How many channels there are; they are numbered from 1.
-pub const CHANNELS: usize = 32;
+pub const CHANNELS: usize = 128;
 /// How many channels a list may have.
-pub const LONGEST_LIST: usize = 32;
+pub const LONGEST_LIST: usize = 128;
 /// How many scans a measurement may have.
 pub const MOST_SCANS: u8 = 16;
 /// How many readings: those of so many scans of the longest list.

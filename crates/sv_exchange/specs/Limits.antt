@@ -11,7 +11,7 @@ max_text = 8192
 
 -- how long a response may be, with its new line
 abbrev pub max_response : ℕ
-max_response = 8192
+max_response = 32768
 
 -- how much of it a read gives at once
 abbrev pub max_read : ℕ

@@ -5,6 +5,6 @@ pub const MAX_MESSAGE: usize = 4096;
 /// How much text may wait: a message that hasn't ended, and a write.
 pub(crate) const MAX_TEXT: usize = 8192;
 /// How long a response may be, with its new line.
-pub const MAX_RESPONSE: usize = 8192;
+pub const MAX_RESPONSE: usize = 32_768;
 /// How much of it a read gives at once.
 pub const MAX_READ: usize = 8192;
