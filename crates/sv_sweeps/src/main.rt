@@ -13,6 +13,18 @@
 //! | `sweep TICKS memory N` | the same, and the Nth allocation behind this fails |
 //! | `CALL: ANSWER` | behind a sweep, what the wire answers in it to a call |
 //!
+//! A row whose first line is `peers N` has a line of hexadecimal for each peer, which sends that on
+//! the core channel: so many sweeps are made. Printed is what each gets on its connection and its
+//! interrupt channel, as `c0 80..` and `i0 80..`; and then, with the first, second, .. accept,
+//! read, write, dial and question whether a dialed peer answered failing in turn, whether a call
+//! for the peer failed (`struck`) or it got every byte all the same (`whole`).
+//!
+//! A row whose first line is `pace` asks what a loop of sweeps decides, by nanoseconds since its
+//! beginning: `ticks NOW`, how many milliseconds pass; `rest NOW`, how long the next one is off;
+//! `work NOW`, something is reported; `eager NOW`, whether it looks again without sleeping; `found
+//! N` and `nothing N`, a wait ends behind so many looks in vain; `vain N`, so many waits end so,
+//! each as soon as it may look again: printed is how often it sleeps at once in front of each.
+//!
 //! Calls are printed, a line each, as `core 0` for a connection that may come under number 0, and
 //! `core -` where it is to be dropped; `read 0`; `write c0 80..` with the bytes in hexadecimal, or
 //! `write i0 80..` for an interrupt channel; `dial 0 7f000001:4242`; `dialed 0`; `close c0`. In
@@ -22,6 +34,9 @@
 //! all is taken, and all else is pending.
 #![tactic(auto)]
 
+mod failing;
+mod pacing;
+mod peers;
 mod row;
 mod scripted;
 

@@ -1,6 +1,7 @@
 //! A row: what stands in front of its sweeps, and the sweeps.
 
 use crate::scripted::Scripted;
+use crate::{failing, pacing};
 use rationing::Rationed;
 use std::alloc::Global;
 use std::io::{self, BufWriter, Error, ErrorKind, Write};
@@ -14,11 +15,16 @@ const MEMORY: &str = " memory ";
 /// The driver of a row.
 type Played<'a> = Driver<Scripted, &'a Rationed<Global>>;
 
+/// What is told of a row that can't be played.
+pub(crate) fn bad() -> Error {
+    Error::from(ErrorKind::InvalidData)
+}
+
 /// A number.
-fn number(text: &str) -> io::Result<u64> {
+pub(crate) fn number(text: &str) -> io::Result<u64> {
     match text.parse::<u64>() {
         Ok(number) => Ok(number),
-        Err(_) => Err(Error::from(ErrorKind::InvalidData)),
+        Err(_) => Err(bad()),
     }
 }
 
@@ -47,7 +53,7 @@ fn made<'a>(alloc: Global, heap: &'a Rationed<Global>, row: &str) -> io::Result<
     };
     let server = Server::new(heap, config)?;
     let Ok(scenario) = read_scenario(heap, entries.as_bytes()) else {
-        return Err(Error::from(ErrorKind::InvalidData));
+        return Err(bad());
     };
     let wire = Scripted::new(alloc, String::from_str(alloc, row)?);
     heap.refuse(refused);
@@ -84,8 +90,14 @@ pub(crate) fn play<W: Write + Drop>(
     row: &str,
     writer: &mut BufWriter<W>,
 ) -> io::Result<()> {
-    let (title, _) = row.split_once('\n').unwrap_or((row, ""));
+    let (title, behind) = row.split_once('\n').unwrap_or((row, ""));
     writeln!(writer, "= {title}")?;
+    if let Some(peers) = behind.strip_prefix("peers ") {
+        return failing::play(alloc, peers, writer);
+    }
+    if let Some(lines) = behind.strip_prefix("pace\n") {
+        return pacing::play(lines, writer);
+    }
     let heap = Rationed::new(alloc);
     let mut driver = match made(alloc, &heap, row) {
         Ok(driver) => driver,

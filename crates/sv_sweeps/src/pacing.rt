@@ -1,0 +1,71 @@
+//! Rows of what a loop of sweeps decides by times and counts.
+
+use crate::row::{bad, number};
+use std::io::{self, BufWriter, Write};
+use sv_pace::{Pace, rest};
+
+/// Above how many sleeps a row can't be played.
+const MOST: u32 = 10_000;
+
+/// The number of looks of a text.
+fn looks_of(text: &str) -> io::Result<u32> {
+    Ok(number(text)?.min(u64::from(u32::MAX)) as u32)
+}
+
+/// Sleeps at once until it may look again, and tells how often.
+fn sleeps(pace: &mut Pace, now: u64) -> io::Result<u32> {
+    for count in 0..MOST {
+        if pace.is_eager(now) {
+            return Ok(count);
+        }
+        pace.end(0, false);
+    }
+    Err(bad())
+}
+
+/// Looks in vain so often, each time as soon as it may: prints how often it sleeps in front of
+/// each.
+fn miss<W: Write + Drop>(pace: &mut Pace, count: u64, writer: &mut BufWriter<W>) -> io::Result<()> {
+    for _ in 0..count {
+        pace.work(0);
+        write!(writer, " {}", sleeps(pace, 0)?)?;
+        pace.end(1, false);
+    }
+    writeln!(writer)
+}
+
+/// Does what a line says.
+fn step<W: Write + Drop>(pace: &mut Pace, line: &str, writer: &mut BufWriter<W>) -> io::Result<()> {
+    let (word, text) = line.split_once(' ').unwrap_or((line, ""));
+    match word {
+        "ticks" => writeln!(writer, "{line}: {}", pace.ticks(number(text)?)),
+        "rest" => writeln!(writer, "{line}: {}", rest(number(text)?)),
+        "eager" => writeln!(writer, "{line}: {}", pace.is_eager(number(text)?)),
+        "work" => {
+            pace.work(number(text)?);
+            Ok(())
+        }
+        "found" => {
+            pace.end(looks_of(text)?, true);
+            Ok(())
+        }
+        "nothing" => {
+            pace.end(looks_of(text)?, false);
+            Ok(())
+        }
+        "vain" => {
+            write!(writer, "{line}:")?;
+            miss(pace, number(text)?, writer)
+        }
+        _ => Err(bad()),
+    }
+}
+
+/// Plays the lines of a row.
+pub(crate) fn play<W: Write + Drop>(lines: &str, writer: &mut BufWriter<W>) -> io::Result<()> {
+    let mut pace = Pace::new();
+    for line in lines.lines() {
+        step(&mut pace, line, writer)?;
+    }
+    Ok(())
+}

@@ -1,0 +1,206 @@
+//! Peers that send all their bytes at once, over a wire of which one call fails.
+
+ghost use Rattle.std.specs.Prelude.{◌≤◌, length};
+ghost use Rattle.sv_serve.specs.Heard.{IsWithin};
+
+use std::alloc::Global;
+use sv_serve::{Answer, Wire};
+use sv_server::{Dial, Port, Role};
+
+/// What a wire is asked for.
+#[derive(Clone, Copy, Debug, PartialEq, Eq)]
+pub(crate) enum Call {
+    Accept,
+    Read,
+    Write,
+    Dial,
+    Dialed,
+}
+
+/// A peer of the core channel.
+#[derive(Drop)]
+pub(crate) struct Peer {
+    /// What it sends, and how much of that was read.
+    sends: Vec<u8>,
+    read: usize,
+    /// Under which number it came, as long as it is there.
+    conn: Option<u8>,
+    /// Whether it came.
+    came: bool,
+    /// Whether a call for it failed.
+    pub(crate) struck: bool,
+    /// What it got on its connection, and on its interrupt channel.
+    pub(crate) got: Vec<u8>,
+    pub(crate) called: Vec<u8>,
+}
+
+impl Peer {
+    /// A peer that is to come.
+    pub(crate) fn new(alloc: Global, sends: Vec<u8>) -> Peer {
+        Peer {
+            sends,
+            read: 0,
+            conn: None,
+            came: false,
+            struck: false,
+            got: Vec::new(alloc),
+            called: Vec::new(alloc),
+        }
+    }
+
+    /// Puts what it sends into a buffer, as much as that has room for.
+    fn give(&mut self, buffer: &mut [u8]) -> Answer<usize>
+        ensures { IsWithin result (length buffer.old) }
+    {
+        let rest = self.sends.get(self.read..).unwrap_or(&[]);
+        let count = rest.len().min(buffer.len());
+        if count == 0 {
+            return Answer::Pending;
+        }
+        buffer[..count].copy_from_slice(&rest[..count]);
+        self.read = self.read.saturating_add(count);
+        Answer::Got(count)
+    }
+
+    /// Takes what it is sent.
+    fn take(&mut self, port: Port, bytes: &[u8]) -> Answer<usize>
+        ensures { IsWithin result (length bytes.now) }
+    {
+        let taken = match port {
+            Port::Conn(_) => self.got.extend_from_slice(bytes),
+            Port::Intr(_) => self.called.extend_from_slice(bytes),
+        };
+        match taken {
+            Ok(()) => Answer::Got(bytes.len()),
+            Err(_) => Answer::Failed,
+        }
+    }
+}
+
+/// A wire of peers, of which one call fails.
+#[derive(Drop)]
+pub(crate) struct Peers {
+    pub(crate) peers: Vec<Peer>,
+    fails: Call,
+    /// How many calls of that kind are left up to the one that fails, which is among them.
+    left: u64,
+}
+
+/// The number of a port.
+fn number(port: Port) -> u8 {
+    match port {
+        Port::Conn(conn) => conn,
+        Port::Intr(conn) => conn,
+    }
+}
+
+impl Peers {
+    /// A wire of which a call fails: the one with this number among those of this kind.
+    pub(crate) fn new(peers: Vec<Peer>, fails: Call, left: u64) -> Peers {
+        Peers { peers, fails, left }
+    }
+
+    /// Whether the failure is still to come.
+    pub(crate) fn is_whole(&self) -> bool {
+        self.left > 0
+    }
+
+    /// Whether this call fails.
+    fn strikes(&mut self, call: Call) -> bool {
+        if call != self.fails || self.left == 0 {
+            return false;
+        }
+        self.left -= 1;
+        self.left == 0
+    }
+
+    /// The peer under a number.
+    fn peer(&mut self, conn: u8) -> Option<&mut Peer> {
+        self.peers.iter_mut().find(|peer| peer.conn == Some(conn))
+    }
+
+    /// Whether this call for a peer fails.
+    fn strikes_at(&mut self, call: Call, conn: u8) -> bool {
+        let fails = self.strikes(call);
+        if fails {
+            if let Some(peer) = self.peer(conn) {
+                peer.struck = true;
+            }
+        }
+        fails
+    }
+
+    /// Lets the next peer come, under this number; whether one did.
+    fn come(&mut self, conn: u8) -> bool {
+        match self.peers.iter_mut().find(|peer| !peer.came) {
+            Some(peer) => {
+                peer.came = true;
+                peer.conn = Some(conn);
+                true
+            }
+            None => false,
+        }
+    }
+}
+
+impl Wire for Peers {
+    fn accept(&mut self, role: Role, conn: Option<u8>) -> Answer<()> {
+        if self.strikes(Call::Accept) {
+            return Answer::Failed;
+        }
+        let came = match (role, conn) {
+            (Role::Core, Some(conn)) => self.come(conn),
+            _ => false,
+        };
+        if came {
+            Answer::Got(())
+        } else {
+            Answer::Pending
+        }
+    }
+
+    fn read(&mut self, conn: u8, buffer: &mut [u8]) -> Answer<usize> {
+        if self.strikes_at(Call::Read, conn) {
+            return Answer::Failed;
+        }
+        match self.peer(conn) {
+            Some(peer) => peer.give(buffer),
+            None => Answer::Failed,
+        }
+    }
+
+    fn write(&mut self, port: Port, bytes: &[u8]) -> Answer<usize> {
+        if self.strikes_at(Call::Write, number(port)) {
+            return Answer::Failed;
+        }
+        match self.peer(number(port)) {
+            Some(peer) => peer.take(port, bytes),
+            None => Answer::Failed,
+        }
+    }
+
+    fn dial(&mut self, conn: u8, _dial: Dial) -> Answer<()> {
+        if self.strikes_at(Call::Dial, conn) {
+            return Answer::Failed;
+        }
+        Answer::Pending
+    }
+
+    fn dialed(&mut self, conn: u8) -> Answer<()> {
+        if self.strikes_at(Call::Dialed, conn) {
+            return Answer::Failed;
+        }
+        Answer::Got(())
+    }
+
+    fn close(&mut self, port: Port) {
+        match port {
+            Port::Conn(conn) => {
+                if let Some(peer) = self.peer(conn) {
+                    peer.conn = None;
+                }
+            }
+            Port::Intr(_) => {}
+        }
+    }
+}
