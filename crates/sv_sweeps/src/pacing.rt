@@ -7,9 +7,9 @@ use sv_pace::{Pace, rest};
 /// Above how many sleeps a row can't be played.
 const MOST: u32 = 10_000;
 
-/// The number of looks of a text.
-fn looks_of(text: &str) -> io::Result<u32> {
-    Ok(number(text)?.min(u64::from(u32::MAX)) as u32)
+/// A number of looks.
+fn looks_of(number: u64) -> u32 {
+    number.min(u64::from(u32::MAX)) as u32
 }
 
 /// Sleeps at once until it may look again, and tells how often.
@@ -37,28 +37,28 @@ fn miss<W: Write + Drop>(pace: &mut Pace, count: u64, writer: &mut BufWriter<W>)
 /// Does what a line says.
 fn step<W: Write + Drop>(pace: &mut Pace, line: &str, writer: &mut BufWriter<W>) -> io::Result<()> {
     let (word, text) = line.split_once(' ').unwrap_or((line, ""));
+    let number = number(text)?;
     match word {
-        "ticks" => writeln!(writer, "{line}: {}", pace.ticks(number(text)?)),
-        "rest" => writeln!(writer, "{line}: {}", rest(number(text)?)),
-        "eager" => writeln!(writer, "{line}: {}", pace.is_eager(number(text)?)),
-        "work" => {
-            pace.work(number(text)?);
-            Ok(())
-        }
-        "found" => {
-            pace.end(looks_of(text)?, true);
-            Ok(())
-        }
-        "nothing" => {
-            pace.end(looks_of(text)?, false);
-            Ok(())
-        }
+        "ticks" => writeln!(writer, "{line}: {}", pace.ticks(number)),
+        "rest" => writeln!(writer, "{line}: {}", rest(number)),
+        "eager" => writeln!(writer, "{line}: {}", pace.is_eager(number)),
         "vain" => {
             write!(writer, "{line}:")?;
-            miss(pace, number(text)?, writer)
+            miss(pace, number, writer)
         }
-        _ => Err(bad()),
+        _ => keep(pace, word, number),
     }
+}
+
+/// Does what a line says that prints nothing.
+fn keep(pace: &mut Pace, word: &str, number: u64) -> io::Result<()> {
+    match word {
+        "work" => pace.work(number),
+        "found" => pace.end(looks_of(number), true),
+        "nothing" => pace.end(looks_of(number), false),
+        _ => return Err(bad()),
+    }
+    Ok(())
 }
 
 /// Plays the lines of a row.
