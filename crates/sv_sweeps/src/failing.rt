@@ -17,9 +17,6 @@ struct Row<'a> {
     lines: &'a str,
 }
 
-/// The driver of a row.
-type Played = Driver<Peers, Global>;
-
 /// What is failing in turn, with its word.
 const CALLS: [(Call, &str); 5] = [
     (Call::Accept, "accept"),
@@ -41,8 +38,8 @@ fn peers(alloc: Global, lines: &str) -> io::Result<Vec<Peer>> {
     Ok(peers)
 }
 
-/// A driver behind which so many sweeps are, in each of which a millisecond passes.
-fn played(alloc: Global, sweeps: u64, wire: Peers) -> io::Result<Played> {
+/// What is with the peers of a wire behind so many sweeps, in each of which a millisecond passes.
+fn played(alloc: Global, sweeps: u64, wire: Peers) -> io::Result<Peers> {
     let config = Config {
         core: 4096,
         abort: 4097,
@@ -53,7 +50,7 @@ fn played(alloc: Global, sweeps: u64, wire: Peers) -> io::Result<Played> {
     for _ in 0..sweeps {
         driver.sweep(1);
     }
-    Ok(driver)
+    Ok(driver.wire().clone()?)
 }
 
 /// Prints bytes that came on a port, if there are any.
@@ -84,9 +81,20 @@ fn outcome(peer: &Peer, whole: &Peer) -> &'static str {
     }
 }
 
-/// Prints for each peer whether a call for it failed, or else whether it got every byte. If no call
-/// failed, it prints nothing, and that is told.
+/// Prints for each peer whether a call for it failed, or else whether it got every byte.
 fn compare<W: Write + Drop>(
+    peers: &Peers,
+    whole: &Peers,
+    writer: &mut BufWriter<W>,
+) -> io::Result<()> {
+    for (number, (peer, other)) in peers.peers.iter().zip(&whole.peers).enumerate() {
+        write!(writer, " {number} {}", outcome(peer, other))?;
+    }
+    writeln!(writer)
+}
+
+/// Prints what came of a call that failed. If none did, it prints nothing, and that is told.
+fn tell<W: Write + Drop>(
     peers: &Peers,
     whole: &Peers,
     (word, left): (&str, u64),
@@ -96,10 +104,7 @@ fn compare<W: Write + Drop>(
         return Ok(false);
     }
     write!(writer, "{word} {left}:")?;
-    for (number, (peer, other)) in peers.peers.iter().zip(&whole.peers).enumerate() {
-        write!(writer, " {number} {}", outcome(peer, other))?;
-    }
-    writeln!(writer)?;
+    compare(peers, whole, writer)?;
     Ok(true)
 }
 
@@ -113,8 +118,8 @@ fn fail_once<W: Write + Drop>(
     writer: &mut BufWriter<W>,
 ) -> io::Result<bool> {
     let wire = Peers::new(peers(alloc, row.lines)?, call, left);
-    let driver = played(alloc, row.sweeps, wire)?;
-    compare(driver.wire(), whole, (word, left), writer)
+    let peers = played(alloc, row.sweeps, wire)?;
+    tell(&peers, whole, (word, left), writer)
 }
 
 /// Plays a row with each call of a kind failing in turn.
@@ -169,7 +174,7 @@ pub(crate) fn play<W: Write + Drop>(
     };
     let wire = Peers::new(peers(alloc, lines)?, Call::Accept, 0);
     let whole = played(alloc, row.sweeps, wire)?;
-    report(alloc, row, whole.wire(), writer)
+    report(alloc, row, &whole, writer)
 }
 
 /// Prints what each peer gets, and then what comes of each failure of the wire.

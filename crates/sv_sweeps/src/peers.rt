@@ -18,7 +18,7 @@ pub(crate) enum Call {
 }
 
 /// A peer of the core channel.
-#[derive(Drop)]
+#[derive(Clone, Drop)]
 pub(crate) struct Peer {
     /// What it sends, and how much of that was read.
     sends: Vec<u8>,
@@ -78,7 +78,7 @@ impl Peer {
 }
 
 /// A wire of peers, of which one call fails.
-#[derive(Drop)]
+#[derive(Clone, Drop)]
 pub(crate) struct Peers {
     pub(crate) peers: Vec<Peer>,
     fails: Call,
