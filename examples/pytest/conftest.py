@@ -17,7 +17,7 @@ from voltmeter import Voltmeter
 HERE = pathlib.Path(__file__).resolve().parent
 TOP = HERE.parent.parent
 BUILT = [TOP / "crates/scanvolt/out/scanvolt", TOP / "out/unproved/scanvolt"]
-SWEEPS = 10**8          # it ends after so many sweeps, a day when idle, if nobody ends it
+SWEEPS = 10**8          # it ends after so many sweeps, an hour at least, if nobody ends it
 
 
 def program():

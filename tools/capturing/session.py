@@ -2,14 +2,13 @@
 
 A sweep of `scanvolt serve` takes connections, reads them, takes one call of each, dials, lets the
 whole milliseconds pass that are over, and writes. So a call is taken where its last byte came, or
-behind the reply of the call before it. Ticks pass behind it: those that were over when the last
-sweep began are in front of it. An idle server sweeps each 1.1 ms, a bit after the millisecond.
+behind the reply of the call before it. Milliseconds that were over when something came have passed
+in front of it: a sweep of their own has them, where the server slept meanwhile.
 """
 from .flows import Connection, Flow, Point, Reply
 from .rpc import CREATE_INTR_CHAN, CREATE_LINK, DESTROY_INTR_CHAN, GETPORT, RESULT, result, word
 
 MILLISECOND = 10 ** 6
-IDLE = 550_000          # how long the last sweep of an idle server is ago, on average
 WRITING = 100_000       # from the beginning of a sweep to its write
 READING = 50_000        # from a write to the next sweep's reads
 TOGETHER = 500_000      # what comes within so many nanoseconds may have met one sweep
@@ -84,7 +83,7 @@ class Session:
         """Connections open and bytes come, and calls are taken."""
         if not burst:
             return
-        point = self.point(burst[0].time - IDLE)
+        point = self.point(burst[0].time)
         for what in burst:
             if what.kind == "opened":
                 self.open(what.stream, point)

@@ -7,10 +7,12 @@ use std::alloc::Global;
 use std::io;
 use std::net::{Ipv4Addr, SocketAddr, SocketAddrV4};
 use std::time::{Duration, Instant};
-use sv_pace::{Pace, rest};
+use sv_pace::Pace;
 
 /// How many connections there may be.
 const CONNECTIONS: usize = 16;
+/// How many milliseconds it sleeps at most.
+const STILL: u32 = 100;
 
 /// Takes the connections that are there, as far as there is a place.
 fn accept(
@@ -101,11 +103,12 @@ pub(crate) fn serve(rt: &HostRuntime, port: u16, looks: u32) -> io::Result<()> {
     let mut tries = 0u32;
     for _ in 0..looks {
         let now = start.elapsed(rt)?.as_nanos().min(u128::from(u64::MAX)) as u64;
+        let _ = pace.ticks(now);
         let eager = pace.is_eager(now);
         let limit = if eager {
             Duration::ZERO
         } else {
-            Duration::from_nanos(rest(now))
+            Duration::from_nanos(pace.rest(now, STILL))
         };
         let came = served.look(limit)?;
         tries = keep(&mut pace, now, tries, eager, came);

@@ -2,6 +2,8 @@ pub mod Projections
 pub mod Telling
 pub mod OneStep
 pub mod StillSettled
+mod AlwaysTold
+mod Stillness
 mod OneLog
 mod EveryLog
 mod Isolation

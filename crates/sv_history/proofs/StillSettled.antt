@@ -49,10 +49,10 @@ gives_back config log other new same (c, wait, oldest, for, is) = (
 )
 
 -- of two kinds of steps that are there where they are there of another log
-abbrev Back : (List Act → Type 0) → (List Act → Type 0) → Type 0
+abbrev pub Back : (List Act → Type 0) → (List Act → Type 0) → Type 0
 Back Here There = (new : List Act) → Here new → (there : List Act) × There there
 
-first_back : (A B C D : List Act → Type 0) → Back A C → Back C A → Back B D → Back (First A B) (First C D)
+pub first_back : (A B C D : List Act → Type 0) → Back A C → Back C A → Back B D → Back (First A B) (First C D)
 first_back A B C D to from on new (inl a) = ((to new a).0, inl (to new a).1)
 first_back A B C D to from on new (inr b) =
     ((on new b.1).0, inr ((λ one c. b.0 (from one c).0 (from one c).1), (on new b.1).1))

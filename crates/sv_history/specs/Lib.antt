@@ -19,6 +19,7 @@ pub mod PolledStatus
 pub mod Settling
 pub mod History
 pub mod Queries
+pub mod Still
 pub mod Adding
 pub mod Isolation
 pub mod Cuts

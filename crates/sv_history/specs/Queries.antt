@@ -1,5 +1,5 @@
 -- What the server answers when it is asked, recomputed from a history alone.
-use Rattle.std.specs.Prelude.{◌≡◌, ℕ, List}
+use Rattle.std.specs.Prelude.{◌≡◌, ◌↔◌, ℕ, Bool, true, List}
 use Rattle.sv_links.specs.Channels.{ChannelAct}
 use Rattle.sv_history.specs.declared.event.Config.{Config}
 use Rattle.sv_history.specs.declared.event.Port.{Port}
@@ -17,3 +17,7 @@ WaitOn port config history bytes = (log : List Act) × (told : List ChannelAct) 
 -- The result is this function of the history's log.
 abbrev pub Answered : {A : Type 0} → (List Act → A) → Config → List PlainEvent → A → Type 0
 Answered answer config history result = (log : List Act) × IsLogOf config history log × (result ≡ answer log)
+
+-- The result tells whether the history's log is such.
+abbrev pub Decided : (List Act → Type 0) → Config → List PlainEvent → Bool → Type 0
+Decided IsSuch config history result = (log : List Act) × IsLogOf config history log × ((result ≡ true) ↔ IsSuch log)

@@ -3,6 +3,7 @@
 ghost use Rattle.sv_history.specs.Laws.{OneLog};
 ghost use Rattle.sv_history.specs.Isolation.{Isolation};
 ghost use Rattle.sv_history.specs.Cuts.{RecordsCut, WritesCut};
+ghost use Rattle.sv_history.specs.Still.{TimeOnlyCounts};
 
 /// A history has at most one log.
 pub fn one_log()
@@ -22,4 +23,9 @@ pub fn isolation()
 pub fn cuts()
     ensures pieces { RecordsCut }
     ensures writes { WritesCut }
+{}
+
+/// While nothing waits for time, milliseconds that pass only count: nothing else comes of them.
+pub fn stillness()
+    ensures { TimeOnlyCounts }
 {}

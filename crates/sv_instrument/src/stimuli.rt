@@ -1,8 +1,11 @@
 //! What happens to the instrument from outside of messages: inputs, triggers and time.
 
-ghost use Rattle.std.specs.Prelude.{List, ◌∷◌, ◌++◌};
+ghost use Rattle.std.specs.Prelude.{◌≡◌, List, ◌∷◌, ◌++◌};
 ghost use Rattle.sv_scan.specs.declared.acts.ScanAct.TheVariants.{Input};
+ghost use Rattle.sv_scan.specs.Counted.{is_scanning as scans};
+ghost use Rattle.sv_scan.specs.Scan.{state};
 ghost use Rattle.sv_layers.specs.Act.{Act, Scanned};
+ghost use Rattle.sv_layers.specs.Condition.{counted};
 ghost use Rattle.sv_instrument.specs.Stimulus.{trigger_acts, external_acts, tick_acts};
 ghost use Rattle.sv_instrument.specs.Representation.{StandsFor, Ran};
 
@@ -61,6 +64,17 @@ impl<A: Allocator> Instrument<A> {
             State::Scanning => change(&mut self.layers, Change::Scan(ScanAct::Sample)),
             State::Idle => 0,
             State::Waiting => 0,
+        }
+    }
+    /// Whether a scan is under way, of which the next millisecond reads a channel.
+    pub fn is_scanning(&self) -> bool
+        ensures { (log : List Act) → StandsFor self.now log
+            → result ≡ scans (state (counted log)) }
+    {
+        match self.layers.scanner().state() {
+            State::Scanning => true,
+            State::Idle => false,
+            State::Waiting => false,
         }
     }
 }

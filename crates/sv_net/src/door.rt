@@ -39,6 +39,11 @@ impl Door {
         self.knocked.set(true);
     }
 
+    /// Whether a connection may be there.
+    pub(crate) fn is_knocked(&self) -> bool {
+        self.knocked.get()
+    }
+
     /// Whether a connection may be there, and the last one could be accepted.
     pub(crate) fn is_waiting(&self) -> bool {
         self.knocked.get() & !self.failed.get()

@@ -95,6 +95,11 @@ impl<N: Network + Drop, A: Allocator> Net<N, A> {
         self.doors[0].is_waiting() | self.doors[1].is_waiting() | self.doors[2].is_waiting()
     }
 
+    /// Whether one may be there, though the last accept failed.
+    pub(crate) fn is_knocked(&self) -> bool {
+        self.doors[0].is_knocked() | self.doors[1].is_knocked() | self.doors[2].is_knocked()
+    }
+
     /// The socket of a connection or an interrupt channel, if there is one.
     pub(crate) fn socket(&self, port: Port) -> Option<&Socket> {
         match self.sockets.get(socket_number(port)) {

@@ -6,12 +6,14 @@ use std::alloc::Allocator;
 use std::io;
 use std::net::Net as Network;
 use std::time::{Clock, Duration, Instant};
-use sv_pace::{Pace, rest};
+use sv_pace::Pace;
 use sv_serve::Driver;
 use sv_server::Port;
 
 /// How often it looks again without sleeping, at most.
 const LOOKS: u32 = 1_000;
+/// How many milliseconds it sleeps at most, where nothing waits for time.
+const STILL: u32 = 100;
 
 /// Nanoseconds since the beginning, by the machine's clock.
 fn since(clock: &impl Clock, start: Instant) -> io::Result<u64> {
@@ -49,9 +51,10 @@ fn has_work<N: Network + Drop, A: Allocator>(driver: &Driver<Net<N, A>, A>) -> b
     driver.wire().is_called() || (0..16).any(|conn| has_work_on(driver, conn))
 }
 
-/// Makes so many sweeps. Behind each it waits until a socket is reported, or the next whole
-/// millisecond; for 50 microseconds after something was reported it looks again without sleeping,
-/// where that found something of late.
+/// Makes so many sweeps. Behind each it waits until a socket is reported, or time matters: for the
+/// next whole millisecond, or up to 100 of them where nothing waits for time. For 50 microseconds
+/// after something was reported it looks again without sleeping, where that found something of
+/// late.
 ///
 /// # Errors
 /// Where the system tells no time, or fails to wait.
@@ -65,15 +68,31 @@ pub fn serve<N: Network + Drop, A: Allocator>(
     let mut pace = Pace::new();
     let mut now = since(clock, start)?;
     for _ in 0..sweeps {
-        driver.sweep(pace.ticks(now));
+        sweep(watch, driver, pace.ticks(now));
         now = if has_work(driver) {
-            let reported = watch.wait(driver.wire(), Duration::ZERO)?;
+            let reported = watch.wait(Duration::ZERO)?;
             worked(&mut pace, reported, since(clock, start)?)
         } else {
-            look(clock, start, watch, driver.wire(), &mut pace)?
+            look(clock, start, watch, driver, &mut pace)?
         };
     }
     Ok(())
+}
+
+/// Makes a sweep. Milliseconds that passed while it waited come in front of what was reported then,
+/// which the next sweep finds.
+fn sweep<N: Network + Drop, A: Allocator>(
+    watch: &Watch<A>,
+    driver: &mut Driver<Net<N, A>, A>,
+    ticks: u32,
+) {
+    if ticks == 0 {
+        watch.report(driver.wire());
+        driver.sweep(0);
+    } else {
+        driver.sweep(ticks);
+        watch.report(driver.wire());
+    }
 }
 
 /// Keeps whether something was reported. This is when, and now.
@@ -84,23 +103,40 @@ fn worked(pace: &mut Pace, reported: bool, now: u64) -> u64 {
     now
 }
 
-/// Waits until something is reported, or the next whole millisecond, and tells when that was. A
-/// look that doesn't sleep takes no time.
+/// Whether time does nothing as long as it sleeps: nothing waits for it, no call for room, and no
+/// accept is to be tried again.
+fn is_idle<N: Network + Drop, A: Allocator>(driver: &Driver<Net<N, A>, A>) -> bool {
+    let (net, server) = (driver.wire(), driver.server());
+    driver.is_still(STILL) && !net.is_knocked() && !(0..16).any(|conn| server.ready(conn))
+}
+
+/// How long it may sleep.
+fn rest<N: Network + Drop, A: Allocator>(
+    driver: &Driver<Net<N, A>, A>,
+    pace: &Pace,
+    now: u64,
+) -> Duration {
+    let ticks = if is_idle(driver) { STILL } else { 1 };
+    Duration::from_nanos(pace.rest(now, ticks))
+}
+
+/// Waits until something is reported, or time matters, and tells when that was. A look that doesn't
+/// sleep takes no time.
 fn look<N: Network + Drop, A: Allocator>(
     clock: &impl Clock,
     start: Instant,
     watch: &mut Watch<A>,
-    net: &Net<N, A>,
+    driver: &Driver<Net<N, A>, A>,
     pace: &mut Pace,
 ) -> io::Result<u64> {
     let mut now = since(clock, start)?;
     for looks in 0..LOOKS {
         if !pace.is_eager(now) {
             pace.end(looks, false);
-            let reported = watch.wait(net, Duration::from_nanos(rest(now)))?;
+            let reported = watch.wait(rest(driver, pace, now))?;
             return Ok(worked(pace, reported, since(clock, start)?));
         }
-        if watch.wait(net, Duration::ZERO)? {
+        if watch.wait(Duration::ZERO)? {
             pace.end(looks, true);
             return Ok(worked(pace, true, now));
         }

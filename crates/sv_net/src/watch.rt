@@ -40,15 +40,15 @@ impl<A: Allocator> Watch<A> {
     ///
     /// # Errors
     /// Where the system fails to wait.
-    pub(crate) fn wait<N: Network + Drop, B: Allocator>(
-        &mut self,
-        net: &Net<N, B>,
-        limit: Duration,
-    ) -> io::Result<bool> {
+    pub(crate) fn wait(&mut self, limit: Duration) -> io::Result<bool> {
         self.poll.poll(&mut self.events, Some(limit))?;
+        Ok(!self.events.is_empty())
+    }
+
+    /// Tells the sockets what was reported to the last wait.
+    pub(crate) fn report<N: Network + Drop, B: Allocator>(&self, net: &Net<N, B>) {
         for event in self.events.iter() {
             net.report(event);
         }
-        Ok(!self.events.is_empty())
     }
 }

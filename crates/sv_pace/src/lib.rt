@@ -4,4 +4,4 @@
 
 mod pace;
 
-pub use pace::{Pace, rest};
+pub use pace::Pace;

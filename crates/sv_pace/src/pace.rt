@@ -1,6 +1,6 @@
 //! Times and counts of a loop of sweeps.
 
-ghost use Rattle.std.specs.Prelude.{◌≡◌, ◌↔◌, ◌-◌, ◌/◌, ◌%◌, ◌<◌, ◌≤◌, min, true, List, [], ◌∷◌};
+ghost use Rattle.std.specs.Prelude.{◌≡◌, ◌↔◌, ◌-◌, ◌*◌, ◌/◌, ◌<◌, ◌≤◌, min, true, List, [], ◌∷◌};
 ghost use Rattle.sv_pace.specs.Pace.{Wait, StandsFor, IsDue, after_wait, longer};
 
 use std::marker::Model;
@@ -146,11 +146,13 @@ impl Pace {
         self.missed = true;
         self.left = self.pause;
     }
-}
 
-/// How many nanoseconds it is to the next whole millisecond.
-pub fn rest(now: u64) -> u64
-    ensures { result ≡ 1000000 - now % 1000000 }
-{
-    MILLISECOND - now % MILLISECOND
+    /// How many nanoseconds it may sleep: until so many milliseconds came since the last sweep. Of
+    /// the first of them a part was gone already; 0 where they came.
+    pub fn rest(&self, now: u64, ticks: u32) -> u64
+        ensures { result ≡ ticks * 1000000 - (now - self.now.swept / 1000000 * 1000000) }
+    {
+        let passed = now.saturating_sub(self.swept / MILLISECOND * MILLISECOND);
+        (u64::from(ticks) * MILLISECOND).saturating_sub(passed)
+    }
 }

@@ -3,3 +3,4 @@ pub mod Moment
 pub mod Asked
 pub mod Steps
 pub mod Sweep
+pub mod Still

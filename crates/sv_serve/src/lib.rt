@@ -8,6 +8,7 @@ mod closing;
 mod driver;
 mod passing;
 mod reading;
+mod still;
 mod sweeping;
 mod turning;
 mod wire;

@@ -2,7 +2,7 @@
 //! channels, the instrument and the clock, and what each call does to them. It knows no connection
 //! but by its number, and no bytes of a call but its arguments.
 
-ghost use Rattle.std.specs.Prelude.{◌≡◌, ◌+◌, ◌<◌, ◌≤◌, ℕ, List, [], ◌∷◌, ◌++◌, length, map, option_map, Some, None, is_some, IfOk, IfSome, IsTrue, ◌==◌, true, false};
+ghost use Rattle.std.specs.Prelude.{◌≡◌, ◌↔◌, ◌+◌, ◌<◌, ◌≤◌, ℕ, List, [], ◌∷◌, ◌++◌, length, map, option_map, Some, None, is_some, IfOk, IfSome, IsTrue, ◌==◌, true, false};
 ghost use Rattle.sv_links.specs.Links.{closing};
 ghost use Rattle.sv_links.specs.Waiting.{Left, IsExpired, IsOldest};
 ghost use Rattle.sv_links.specs.Queue.{IsEntry, creates, creations, without};
@@ -15,6 +15,7 @@ ghost use Rattle.sv_history.specs.declared.event.Config.{Config};
 ghost use Rattle.sv_links.specs.Channels.{ChannelClosed};
 ghost use Rattle.sv_history.specs.Act.{DeviceAct, Linked, Waited, Channel, Happened, Ticked, link_acts, wait_acts, instrument_acts, ticks};
 ghost use Rattle.sv_history.specs.Settling.{CanResume};
+ghost use Rattle.sv_history.specs.Still.{IsStill};
 ghost use Rattle.sv_server.specs.Device.Inside.WaitingCall.{IsKept};
 ghost use Rattle.sv_server.specs.Server.Inside.Acting.{InstrumentSteps};
 ghost use Rattle.sv_layers.specs.Act.{Act as InstrumentAct};
@@ -102,6 +103,15 @@ impl<A: Allocator> Device<A> {
             → result ≡ (config.clock + ticks acts == 9223372036854775807) }
     {
         self.clock == LAST_CLOCK
+    }
+
+    /// Whether nothing waits for one of the next so many milliseconds.
+    pub fn is_still(&self, ticks: u32) -> bool
+        ensures { (config : Config) (acts : List DeviceAct) → IsDevice self.now config acts
+            → (result ≡ true) ↔ IsStill ticks config acts }
+    {
+        let last = self.clock + u64::from(ticks);
+        !self.instrument.is_scanning() && self.waiting.expired(last).is_none()
     }
 
     /// A millisecond passes, and in a scan the next channel is read.

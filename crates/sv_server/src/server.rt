@@ -10,7 +10,8 @@ ghost use Rattle.sv_history.specs.Act.{Act, of, device_acts, wait_acts};
 ghost use Rattle.sv_history.specs.Connection.{is_open, waiting_on, room, is_idle, is_faulted};
 ghost use Rattle.sv_history.specs.History.{abort_acts, is_shut, is_port_shut, IsLogOf, Answers, history_after};
 ghost use Rattle.sv_history.specs.Requests.{HearsOf};
-ghost use Rattle.sv_history.specs.Queries.{Answered, WaitOn};
+ghost use Rattle.sv_history.specs.Queries.{Answered, Decided, WaitOn};
+ghost use Rattle.sv_history.specs.Still.{IsStill};
 ghost use Rattle.sv_history.specs.Limits.{max_output};
 ghost use Rattle.sv_server.specs.Connection.Representation.{Connection as KeptConnection, IsConnection};
 ghost use Rattle.sv_server.specs.Server.State.{Represents, StandsFor};
@@ -164,6 +165,16 @@ impl<A: Allocator> Server<A> {
             Some(connection) => connection.is_faulted(),
             None => false,
         }
+    }
+
+    /// Whether nothing waits for one of the next so many milliseconds: no scan is under way, and no
+    /// deadline of a call that waits is that near. They only count, then, as long as nothing else
+    /// happens.
+    pub fn is_still(&self, ticks: u32) -> bool
+        ensures { (config : Config) (history : List PlainEvent) → StandsFor self.now config history
+            → Decided (λ log. IsStill ticks config (device_acts log)) config history result }
+    {
+        self.device.is_still(ticks)
     }
 
     /// The connection of this number; none above 15, of which nothing is ever recorded.

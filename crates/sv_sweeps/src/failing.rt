@@ -10,6 +10,13 @@ use sv_server::{Config, Server};
 /// Above how many calls a row can't be played.
 const MOST: u64 = 1_000;
 
+/// How many sweeps there are, and the peers, a line of hexadecimal each.
+#[derive(Clone, Copy)]
+struct Row<'a> {
+    sweeps: u64,
+    lines: &'a str,
+}
+
 /// The driver of a row.
 type Played = Driver<Peers, Global>;
 
@@ -77,56 +84,101 @@ fn outcome(peer: &Peer, whole: &Peer) -> &'static str {
     }
 }
 
-/// Prints for each peer whether a call for it failed, or else whether it got every byte.
+/// Prints for each peer whether a call for it failed, or else whether it got every byte. If no call
+/// failed, it prints nothing, and that is told.
 fn compare<W: Write + Drop>(
-    driver: &Played,
-    whole: &Played,
+    peers: &Peers,
+    whole: &Peers,
+    (word, left): (&str, u64),
     writer: &mut BufWriter<W>,
-) -> io::Result<()> {
-    let pairs = driver.wire().peers.iter().zip(&whole.wire().peers);
-    for (number, (peer, other)) in pairs.enumerate() {
+) -> io::Result<bool> {
+    if peers.is_whole() {
+        return Ok(false);
+    }
+    write!(writer, "{word} {left}:")?;
+    for (number, (peer, other)) in peers.peers.iter().zip(&whole.peers).enumerate() {
         write!(writer, " {number} {}", outcome(peer, other))?;
     }
-    writeln!(writer)
+    writeln!(writer)?;
+    Ok(true)
+}
+
+/// Plays a row with one call failing; whether there was that call.
+fn fail_once<W: Write + Drop>(
+    alloc: Global,
+    row: Row<'_>,
+    (call, word): (Call, &str),
+    left: u64,
+    whole: &Peers,
+    writer: &mut BufWriter<W>,
+) -> io::Result<bool> {
+    let wire = Peers::new(peers(alloc, row.lines)?, call, left);
+    let driver = played(alloc, row.sweeps, wire)?;
+    compare(driver.wire(), whole, (word, left), writer)
 }
 
 /// Plays a row with each call of a kind failing in turn.
 fn fail_each<W: Write + Drop>(
     alloc: Global,
-    (sweeps, lines): (u64, &str),
-    (call, word): (Call, &str),
-    whole: &Played,
+    row: Row<'_>,
+    kind: (Call, &str),
+    whole: &Peers,
     writer: &mut BufWriter<W>,
 ) -> io::Result<()> {
     for left in 1..MOST {
-        let wire = Peers::new(peers(alloc, lines)?, call, left);
-        let driver = played(alloc, sweeps, wire)?;
-        if driver.wire().is_whole() {
+        if !fail_once(alloc, row, kind, left, whole, writer)? {
             return Ok(());
         }
-        write!(writer, "{word} {left}:")?;
-        compare(&driver, whole, writer)?;
     }
     Err(bad())
+}
+
+/// Plays a row with each call of each kind failing in turn.
+fn fail_all<W: Write + Drop>(
+    alloc: Global,
+    row: Row<'_>,
+    whole: &Peers,
+    writer: &mut BufWriter<W>,
+) -> io::Result<()> {
+    for kind in CALLS {
+        fail_each(alloc, row, kind, whole, writer)?;
+    }
+    Ok(())
+}
+
+/// Prints what each peer gets.
+fn show_each<W: Write + Drop>(peers: &Peers, writer: &mut BufWriter<W>) -> io::Result<()> {
+    for (number, peer) in peers.peers.iter().enumerate() {
+        show('c', number, &peer.got, writer)?;
+        show('i', number, &peer.called, writer)?;
+    }
+    Ok(())
 }
 
 /// Plays a row, whose first line is how many sweeps there are: prints what each peer gets, and then
 /// what comes of each failure of the wire.
 pub(crate) fn play<W: Write + Drop>(
     alloc: Global,
-    row: &str,
+    text: &str,
     writer: &mut BufWriter<W>,
 ) -> io::Result<()> {
-    let (first, lines) = row.split_once('\n').unwrap_or((row, ""));
-    let sweeps = number(first)?;
+    let (first, lines) = text.split_once('\n').unwrap_or((text, ""));
+    let row = Row {
+        sweeps: number(first)?,
+        lines,
+    };
     let wire = Peers::new(peers(alloc, lines)?, Call::Accept, 0);
-    let whole = played(alloc, sweeps, wire)?;
-    for (number, peer) in whole.wire().peers.iter().enumerate() {
-        show('c', number, &peer.got, writer)?;
-        show('i', number, &peer.called, writer)?;
-    }
-    for kind in CALLS {
-        fail_each(alloc, (sweeps, lines), kind, &whole, writer)?;
-    }
-    Ok(())
+    let whole = played(alloc, row.sweeps, wire)?;
+    report(alloc, row, whole.wire(), writer)
+}
+
+/// Prints what each peer gets, and then what comes of each failure of the wire.
+fn report<W: Write + Drop>(
+    alloc: Global,
+    row: Row<'_>,
+    whole: &Peers,
+    writer: &mut BufWriter<W>,
+) -> io::Result<()> {
+    show_each(whole, writer)?;
+    fail_all(alloc, row, whole, writer)
 }

@@ -12,6 +12,7 @@
 //! | `sweep TICKS` | a sweep in which so many milliseconds pass |
 //! | `sweep TICKS memory N` | the same, and the Nth allocation behind this fails |
 //! | `CALL: ANSWER` | behind a sweep, what the wire answers in it to a call |
+//! | `still N` | behind a sweep, printed with whether nothing waits for so many milliseconds |
 //!
 //! A row whose first line is `peers N` has a line of hexadecimal for each peer, which sends that on
 //! the core channel: so many sweeps are made. Printed is what each gets on its connection and its
@@ -20,7 +21,7 @@
 //! for the peer failed (`struck`) or it got every byte all the same (`whole`).
 //!
 //! A row whose first line is `pace` asks what a loop of sweeps decides, by nanoseconds since its
-//! beginning: `ticks NOW`, how many milliseconds pass; `rest NOW`, how long the next one is off;
+//! beginning: `ticks NOW`, how many milliseconds pass; `rest NOW TICKS`, how long it may sleep;
 //! `work NOW`, something is reported; `eager NOW`, whether it looks again without sleeping; `found
 //! N` and `nothing N`, a wait ends behind so many looks in vain; `vain N`, so many waits end so,
 //! each as soon as it may look again: printed is how often it sleeps at once in front of each.

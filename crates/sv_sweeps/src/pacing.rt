@@ -2,14 +2,14 @@
 
 use crate::row::{bad, number};
 use std::io::{self, BufWriter, Write};
-use sv_pace::{Pace, rest};
+use sv_pace::Pace;
 
 /// Above how many sleeps a row can't be played.
 const MOST: u32 = 10_000;
 
-/// The number of looks of a text.
-fn looks_of(text: &str) -> io::Result<u32> {
-    Ok(number(text)?.min(u64::from(u32::MAX)) as u32)
+/// A number of looks or of milliseconds.
+fn count_of(number: u64) -> u32 {
+    number.min(u64::from(u32::MAX)) as u32
 }
 
 /// Sleeps at once until it may look again, and tells how often.
@@ -37,28 +37,29 @@ fn miss<W: Write + Drop>(pace: &mut Pace, count: u64, writer: &mut BufWriter<W>)
 /// Does what a line says.
 fn step<W: Write + Drop>(pace: &mut Pace, line: &str, writer: &mut BufWriter<W>) -> io::Result<()> {
     let (word, text) = line.split_once(' ').unwrap_or((line, ""));
+    let (first, second) = text.split_once(' ').unwrap_or((text, "0"));
+    let (first, second) = (number(first)?, number(second)?);
     match word {
-        "ticks" => writeln!(writer, "{line}: {}", pace.ticks(number(text)?)),
-        "rest" => writeln!(writer, "{line}: {}", rest(number(text)?)),
-        "eager" => writeln!(writer, "{line}: {}", pace.is_eager(number(text)?)),
-        "work" => {
-            pace.work(number(text)?);
-            Ok(())
-        }
-        "found" => {
-            pace.end(looks_of(text)?, true);
-            Ok(())
-        }
-        "nothing" => {
-            pace.end(looks_of(text)?, false);
-            Ok(())
-        }
+        "ticks" => writeln!(writer, "{line}: {}", pace.ticks(first)),
+        "rest" => writeln!(writer, "{line}: {}", pace.rest(first, count_of(second))),
+        "eager" => writeln!(writer, "{line}: {}", pace.is_eager(first)),
         "vain" => {
             write!(writer, "{line}:")?;
-            miss(pace, number(text)?, writer)
+            miss(pace, first, writer)
         }
-        _ => Err(bad()),
+        _ => keep(pace, word, first),
     }
+}
+
+/// Does what a line says that prints nothing.
+fn keep(pace: &mut Pace, word: &str, number: u64) -> io::Result<()> {
+    match word {
+        "work" => pace.work(number),
+        "found" => pace.end(count_of(number), true),
+        "nothing" => pace.end(count_of(number), false),
+        _ => return Err(bad()),
+    }
+    Ok(())
 }
 
 /// Plays the lines of a row.

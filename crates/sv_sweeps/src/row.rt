@@ -5,7 +5,7 @@ use crate::{failing, pacing};
 use rationing::Rationed;
 use std::alloc::Global;
 use std::io::{self, BufWriter, Error, ErrorKind, Write};
-use sv_replay::read_scenario;
+use sv_replay::{Entry, read_scenario};
 use sv_serve::Driver;
 use sv_server::{Config, Server};
 
@@ -40,22 +40,38 @@ fn setting<'a>(word: &str, text: &'a str) -> io::Result<(u64, &'a str)> {
     }
 }
 
-/// A driver as a row wants it, whose heap the row may ration.
-fn made<'a>(alloc: Global, heap: &'a Rationed<Global>, row: &str) -> io::Result<Played<'a>> {
+/// What stands in front of the sweeps of a row: what the clock has, which allocation fails, and the
+/// entries of the scenario.
+fn front(row: &str) -> io::Result<(u64, u64, &str)> {
     let (front, _) = row.split_once("\nsweep ").unwrap_or((row, ""));
     let (_, settings) = front.split_once('\n').unwrap_or((front, ""));
     let (clock, settings) = setting("clock ", settings)?;
     let (refused, entries) = setting("memory ", settings)?;
+    Ok((clock, refused, entries))
+}
+
+/// The scenario of these lines.
+fn scenario<'a>(
+    heap: &'a Rationed<Global>,
+    entries: &str,
+) -> io::Result<Vec<Entry, &'a Rationed<Global>>> {
+    match read_scenario(heap, entries.as_bytes()) {
+        Ok(scenario) => Ok(scenario),
+        Err(_) => Err(bad()),
+    }
+}
+
+/// A driver as a row wants it, whose heap the row may ration.
+fn made<'a>(alloc: Global, heap: &'a Rationed<Global>, row: &str) -> io::Result<Played<'a>> {
+    let (clock, refused, entries) = front(row)?;
+    let wire = Scripted::new(alloc, String::from_str(alloc, row)?);
+    let scenario = scenario(heap, entries)?;
     let config = Config {
         core: 4096,
         abort: 4097,
         clock: clock.min(9_223_372_036_854_775_807),
     };
     let server = Server::new(heap, config)?;
-    let Ok(scenario) = read_scenario(heap, entries.as_bytes()) else {
-        return Err(bad());
-    };
-    let wire = Scripted::new(alloc, String::from_str(alloc, row)?);
     heap.refuse(refused);
     Ok(Driver::new(heap, server, wire, scenario)?)
 }
@@ -83,8 +99,50 @@ fn sweep<W: Write + Drop>(
     Ok(())
 }
 
-/// Plays a row, and prints its title and what is asked in each of its sweeps, or `memory` where
-/// there was none for its driver.
+/// Prints, for each line `still N` behind a sweep, whether nothing waits for so many milliseconds.
+fn show_still<W: Write + Drop>(
+    driver: &Played<'_>,
+    lines: &str,
+    writer: &mut BufWriter<W>,
+) -> io::Result<()> {
+    for line in lines.lines() {
+        if let Some(text) = line.strip_prefix("still ") {
+            let ticks = number(text)?.min(u64::from(u32::MAX)) as u32;
+            writeln!(writer, "{line}: {}", driver.is_still(ticks))?;
+        }
+    }
+    Ok(())
+}
+
+/// Makes each sweep of a row.
+fn sweep_each<W: Write + Drop>(
+    heap: &Rationed<Global>,
+    driver: &mut Played<'_>,
+    row: &str,
+    writer: &mut BufWriter<W>,
+) -> io::Result<()> {
+    for (place, section) in row.split("\nsweep ").enumerate().skip(1) {
+        let (line, behind) = section.split_once('\n').unwrap_or((section, ""));
+        sweep(heap, driver, place, line, writer)?;
+        show_still(driver, behind, writer)?;
+    }
+    Ok(())
+}
+
+/// Plays the sweeps of a row, or prints `memory` where there was none for its driver.
+fn play_sweeps<W: Write + Drop>(
+    alloc: Global,
+    row: &str,
+    writer: &mut BufWriter<W>,
+) -> io::Result<()> {
+    let heap = Rationed::new(alloc);
+    match made(alloc, &heap, row) {
+        Ok(mut driver) => sweep_each(&heap, &mut driver, row, writer),
+        Err(fault) => told(fault, writer),
+    }
+}
+
+/// Plays a row, and prints its title and what comes of it.
 pub(crate) fn play<W: Write + Drop>(
     alloc: Global,
     row: &str,
@@ -98,16 +156,7 @@ pub(crate) fn play<W: Write + Drop>(
     if let Some(lines) = behind.strip_prefix("pace\n") {
         return pacing::play(lines, writer);
     }
-    let heap = Rationed::new(alloc);
-    let mut driver = match made(alloc, &heap, row) {
-        Ok(driver) => driver,
-        Err(fault) => return told(fault, writer),
-    };
-    for (place, section) in row.split("\nsweep ").enumerate().skip(1) {
-        let (line, _) = section.split_once('\n').unwrap_or((section, ""));
-        sweep(&heap, &mut driver, place, line, writer)?;
-    }
-    Ok(())
+    play_sweeps(alloc, row, writer)
 }
 
 /// Prints that memory was refused; any other fault is passed on.

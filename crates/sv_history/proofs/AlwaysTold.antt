@@ -1,0 +1,158 @@
+-- Whatever the acts, a poll would give some byte, and interrupt channels are told some list.
+use Rattle.std.proofs.Common.{◌≡◌, ℕ, Bool, true, false, eqb, List, [], ◌∷◌, refl, ap, ◌⊎◌, inl, inr, bit_and, bit_or, arith}
+use Rattle.std.specs.Prelude.{◌↔◌, ◌&&◌, ◌||◌, not, bit_xor}
+use Rattle.std.specs.Int.{bit_at}
+use Rattle.std.proofs.lemmas.Bool.{cases_eq}
+use Rattle.std.proofs.lemmas.Nat.Bits.{bit_at-lt, bit_at-pow_other}
+use Rattle.sv_errors.proofs.Since.{since_empty, since_step, then_same, both_true, either_true}
+use Rattle.sv_status.proofs.Words.{both_bits, either_bit, not_zero, rose}
+use Rattle.sv_links.specs.Channels.{ChannelAct}
+use Rattle.sv_layers.specs.Act.{Act as InstrumentAct, Polled}
+use Rattle.sv_layers.specs.StatusByte.{SummaryBit, service, Asks, Master, Reason, Lasts, Request, IsRaised, PolledBit}
+use Rattle.sv_layers.proofs.SameSummaries.{same_summaries, no_summary}
+use Rattle.sv_layers.proofs.AlwaysTold.{one_account}
+use Rattle.sv_history.specs.Act.{DeviceAct, Linked, Waited, Channel, Happened, Ticked, instrument_acts}
+use Rattle.sv_history.specs.Requests.{HearsOf, link_told, request_told}
+use Rattle.sv_history.specs.PolledStatus.{IsPolled}
+
+-- ---- tests
+
+-- A test tells whether it is so.
+abbrev Test : Type 0 → Type 0
+Test P = (is : Bool) × ((is ≡ true) ↔ P)
+
+none_test : {P : Type 0} → (P → ⊥) → Test P
+none_test none = (false, ((λ e. absurd cc), (λ p. absurd (none p))))
+
+same_test : {P Q : Type 0} → Test P → P ↔ Q → Test Q
+same_test p same = (p.0, then_same p.1 same)
+
+both_test : {P Q : Type 0} → Test P → Test Q → Test (P × Q)
+both_test p q =
+    let both = both_true p.0 q.0 in
+    (p.0 && q.0, ((λ e. let h = both.0 e in (p.1.0 h.0, q.1.0 h.1)), (λ h. both.1 (p.1.1 h.0, q.1.1 h.1))))
+
+either_test : {P Q : Type 0} → Test P → Test Q → Test (P ⊎ Q)
+either_test p q =
+    let either = either_true p.0 q.0 in (
+      p.0 || q.0,
+      (
+        (λ e. elim (either.0 e) [ inl h ↦ inl (p.1.0 h) | inr h ↦ inr (q.1.0 h) ]),
+        (λ s. elim s [ inl h ↦ either.1 (inl (p.1.1 h)) | inr h ↦ either.1 (inr (q.1.1 h)) ]),
+      ),
+    )
+
+not_by : {P : Type 0} (is : Bool) → (is ≡ true) ↔ P → Test (P → ⊥)
+not_by true same = none_test (λ none. none (same.0 refl))
+not_by false same = (true, ((λ e. λ p. absurd (let z : false ≡ true = same.1 p in cc)), (λ none. refl)))
+
+not_test : {P : Type 0} → Test P → Test (P → ⊥)
+not_test p = not_by p.0 p.1
+
+-- ---- a request for service
+
+summary_word : (log : List InstrumentAct) → (word : ℕ) × ((k : ℕ) → (bit_at word k ≡ 1) ↔ SummaryBit k log)
+summary_word [] = (0, same_summaries 0 [] no_summary)
+summary_word (act ∷ log) = let told = one_account (act ∷ log) in (told.1.0, same_summaries told.1.0 (act ∷ log) told.1.2)
+
+asking_word : (log : List InstrumentAct) → (word : ℕ) × ((k : ℕ) → (bit_at word k ≡ 1) ↔ Asks k log)
+asking_word log =
+    let summary = summary_word log in (
+      bit_and summary.0 (service log),
+      λ k.
+          let both = both_bits summary.0 (service log) k in (
+            (λ e. let h = both.0 e in ((summary.1 k).0 h.0, h.1)),
+            (λ asks. both.1 ((summary.1 k).1 asks.0, asks.1)),
+          ),
+    )
+
+master_test : (log : List InstrumentAct) → Test (Master log)
+master_test log =
+    let asks = asking_word log in
+    let some = not_zero asks.0 in (
+      not (eqb asks.0 0),
+      (
+        (λ e. let h = some.0 e in (h.0, (asks.1 h.0).0 h.1)),
+        (λ m. some.1 (m.0, (asks.1 m.0).1 m.1)),
+      ),
+    )
+
+zero_bit : (w k : ℕ) → (bit_at w k ≡ 1 → ⊥) → bit_at w k ≡ 0
+zero_bit w k none = elim (cases_eq (bit_at w k) 1) [ inl one ↦ absurd (none one) | inr other ↦ (let lt = bit_at-lt w k in omega arith) ]
+
+reason_test : (act : InstrumentAct) (log : List InstrumentAct) → Test (Reason (act ∷ log))
+reason_test act log =
+    let was = asking_word log in
+    let now = asking_word (act ∷ log) in
+    let some = not_zero (bit_and (bit_xor was.0 now.0) now.0) in (
+      not (eqb (bit_and (bit_xor was.0 now.0) now.0) 0),
+      (
+        (λ e.
+            let h = some.0 e in
+            let r = (rose was.0 now.0 h.0).0 h.1 in
+            (h.0, (now.1 h.0).0 r.1, λ old. let one = (was.1 h.0).1 old in absurd (omega arith))),
+        (λ r. some.1 (
+          r.0,
+          (rose was.0 now.0 r.0).1 (zero_bit was.0 r.0 (λ one. r.2 ((was.1 r.0).0 one)), (now.1 r.0).1 r.1),
+        )),
+      ),
+    )
+
+lasts_test : (act : InstrumentAct) (log : List InstrumentAct) → Test (Lasts (act ∷ log))
+lasts_test Polled log = none_test (λ lasts. lasts)
+lasts_test act log = master_test (act ∷ log)
+
+request_test : (log : List InstrumentAct) → Test (Request log)
+request_test [] = none_test (λ s. ((since_empty Reason Lasts).0 s).0)
+request_test (act ∷ log) =
+    let law = since_step Reason Lasts act log in
+    same_test (both_test (lasts_test act log) (either_test (reason_test act log) (request_test log))) (law.1, law.0)
+
+raised_test : (act : InstrumentAct) (log : List InstrumentAct) → Test (IsRaised (act ∷ log))
+raised_test act log = both_test (request_test (act ∷ log)) (not_test (request_test log))
+
+-- ---- what a poll would give
+
+six_alone : (k : ℕ) → (bit_at 64 k ≡ 1) ↔ (k ≡ 6)
+six_alone k = (
+  (λ h. elim (cases_eq k 6) [ inl e ↦ e | inr ne ↦ absurd (let none = bit_at-pow_other 6 k ne in omega arith) ]),
+  (λ e. ap (bit_at 64) e),
+)
+
+polled_by : (log : List InstrumentAct) (word : ℕ) (is : Bool) → ((k : ℕ) → (bit_at word k ≡ 1) ↔ SummaryBit k log)
+    → (is ≡ true) ↔ Request log → (polled : ℕ) × ((k : ℕ) → (bit_at polled k ≡ 1) ↔ PolledBit k log)
+polled_by log word true bits same = (
+  bit_or word 64,
+  λ k.
+      let either = either_bit word 64 k in (
+        (λ e. elim (either.0 e) [ inl h ↦ inl ((bits k).0 h) | inr h ↦ inr ((six_alone k).0 h, same.0 refl) ]),
+        (λ s. elim s [ inl h ↦ either.1 (inl ((bits k).1 h)) | inr h ↦ either.1 (inr ((six_alone k).1 h.0)) ]),
+      ),
+)
+polled_by log word false bits same = (
+  word,
+  λ k. (
+    (λ e. inl ((bits k).0 e)),
+    (λ s. elim s [ inl h ↦ (bits k).1 h | inr h ↦ absurd (let z : false ≡ true = same.1 h.1 in cc) ]),
+  ),
+)
+
+pub some_polled : (acts : List DeviceAct) → (polled : ℕ) × IsPolled polled acts
+some_polled acts =
+    let log = instrument_acts acts in
+    let summary = summary_word log in
+    let request = request_test log in
+    polled_by log summary.0 request.0 summary.1 request.1
+
+-- ---- what interrupt channels are told
+
+pub some_told : (acts : List DeviceAct) → (told : List ChannelAct) × HearsOf acts told
+some_told [] = ([], refl)
+some_told (Channel act ∷ acts) = let before = some_told acts in (act ∷ before.0, (before.0, before.1, refl))
+some_told (Linked act ∷ acts) = let before = some_told acts in (link_told act before.0, (before.0, before.1, refl))
+some_told (Happened act ∷ acts) =
+    let before = some_told acts in
+    let raised = raised_test act (instrument_acts acts) in
+    (request_told raised.0 before.0, (before.0, raised.0, before.1, raised.1, refl))
+some_told (Waited act ∷ acts) = some_told acts
+some_told (Ticked ∷ acts) = some_told acts

@@ -1,0 +1,36 @@
+//! Whether there is nothing to do but by the wire.
+
+ghost use Rattle.std.specs.Prelude.{◌≡◌, ◌↔◌, ◌+◌, false, List};
+ghost use Rattle.sv_history.specs.declared.event.Config.{Config};
+ghost use Rattle.sv_history.specs.Event.{PlainEvent};
+ghost use Rattle.sv_server.specs.Server.State.{StandsFor};
+ghost use Rattle.sv_serve.specs.Moment.{moment};
+ghost use Rattle.sv_serve.specs.Sweep.{IsNoneDue};
+ghost use Rattle.sv_serve.specs.Still.{StaysStill};
+
+use crate::driver::Driver;
+use crate::wire::Wire;
+use std::alloc::Allocator;
+
+impl<W: Wire + Drop, A: Allocator> Driver<W, A> {
+    /// Whether nothing waits for one of the next so many milliseconds: no scan is under way, no
+    /// deadline of a call that waits is that near, and no entry of the scenario. Then they may
+    /// pass at once in a later sweep.
+    pub fn is_still(&self, ticks: u32) -> bool
+        ensures { (config : Config) (history : List PlainEvent)
+            → StandsFor self.now.server config history
+            → StaysStill ticks config (moment self.now history) result }
+    {
+        self.server.is_still(ticks) && !self.is_due_within(ticks)
+    }
+
+    /// Whether an entry of the scenario is due within so many milliseconds.
+    fn is_due_within(&self, ticks: u32) -> bool
+        ensures { (result ≡ false) ↔ IsNoneDue (self.now.ticks + ticks) self.now.ahead }
+    {
+        match self.scenario.get(self.next) {
+            Some(entry) => entry.tick.saturating_sub(self.ticks) <= u64::from(ticks),
+            None => false,
+        }
+    }
+}
