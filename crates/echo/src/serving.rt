@@ -7,12 +7,10 @@ use std::alloc::Global;
 use std::io;
 use std::net::{Ipv4Addr, SocketAddr, SocketAddrV4};
 use std::time::{Duration, Instant};
-use sv_pace::Pace;
+use sv_pace::{Pace, STILL};
 
 /// How many connections there may be.
 const CONNECTIONS: usize = 16;
-/// How many milliseconds it sleeps at most.
-const STILL: u32 = 100;
 
 /// Takes the connections that are there, as far as there is a place.
 fn accept(

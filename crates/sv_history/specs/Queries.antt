@@ -1,10 +1,10 @@
 -- What the server answers when it is asked, recomputed from a history alone.
-use Rattle.std.specs.Prelude.{◌≡◌, ◌↔◌, ℕ, Bool, true, List}
+use Rattle.std.specs.Prelude.{◌≡◌, ◌≢◌, ◌↔◌, ℕ, suc, ◌≤◌, Bool, true, List, []}
 use Rattle.sv_links.specs.Channels.{ChannelAct}
 use Rattle.sv_history.specs.declared.event.Config.{Config}
 use Rattle.sv_history.specs.declared.event.Port.{Port}
 use Rattle.sv_history.specs.Event.{PlainEvent}
-use Rattle.sv_history.specs.Act.{Act, device_acts}
+use Rattle.sv_history.specs.Act.{Act, of, device_acts}
 use Rattle.sv_history.specs.Connection.{waiting_on}
 use Rattle.sv_history.specs.Requests.{HearsOf}
 use Rattle.sv_history.specs.History.{IsLogOf}
@@ -21,3 +21,7 @@ Answered answer config history result = (log : List Act) × IsLogOf config histo
 -- The result tells whether the history's log is such.
 abbrev pub Decided : (List Act → Type 0) → Config → List PlainEvent → Bool → Type 0
 Decided IsSuch config history result = (log : List Act) × IsLogOf config history log × ((result ≡ true) ↔ IsSuch log)
+
+-- Nothing was recorded of connections of this number and above, and of the one below it something was.
+abbrev pub IsUsed : ℕ → List Act → Type 0
+IsUsed n log = ((c : ℕ) → n ≤ c → of c log ≡ []) × ((c : ℕ) → n ≡ suc c → of c log ≢ [])

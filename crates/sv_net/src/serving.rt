@@ -6,14 +6,12 @@ use std::alloc::Allocator;
 use std::io;
 use std::net::Net as Network;
 use std::time::{Clock, Duration, Instant};
-use sv_pace::Pace;
+use sv_pace::{Pace, STILL};
 use sv_serve::Driver;
 use sv_server::Port;
 
 /// How often it looks again without sleeping, at most.
 const LOOKS: u32 = 1_000;
-/// How many milliseconds it sleeps at most, where nothing waits for time.
-const STILL: u32 = 100;
 
 /// Nanoseconds since the beginning, by the machine's clock.
 fn since(clock: &impl Clock, start: Instant) -> io::Result<u64> {
@@ -48,7 +46,8 @@ fn has_work_for<N: Network + Drop, A: Allocator>(driver: &Driver<Net<N, A>, A>, 
 
 /// Whether a sweep finds something to do without a report.
 fn has_work<N: Network + Drop, A: Allocator>(driver: &Driver<Net<N, A>, A>) -> bool {
-    driver.wire().is_called() || (0..16).any(|conn| has_work_on(driver, conn))
+    let net = driver.wire();
+    net.is_called() || (0..net.count()).any(|conn| has_work_on(driver, conn))
 }
 
 /// Makes so many sweeps. Behind each it waits until a socket is reported, or time matters: for the
@@ -73,7 +72,7 @@ pub fn serve<N: Network + Drop, A: Allocator>(
             let reported = watch.wait(Duration::ZERO)?;
             worked(&mut pace, reported, since(clock, start)?)
         } else {
-            look(clock, start, watch, driver, &mut pace)?
+            look(clock, start, watch, driver, &mut pace, now)?
         };
     }
     Ok(())
@@ -107,7 +106,7 @@ fn worked(pace: &mut Pace, reported: bool, now: u64) -> u64 {
 /// accept is to be tried again.
 fn is_idle<N: Network + Drop, A: Allocator>(driver: &Driver<Net<N, A>, A>) -> bool {
     let (net, server) = (driver.wire(), driver.server());
-    driver.is_still(STILL) && !net.is_knocked() && !(0..16).any(|conn| server.ready(conn))
+    driver.is_still(STILL) && !net.is_knocked() && !(0..net.count()).any(|conn| server.ready(conn))
 }
 
 /// How long it may sleep.
@@ -120,16 +119,17 @@ fn rest<N: Network + Drop, A: Allocator>(
     Duration::from_nanos(pace.rest(now, ticks))
 }
 
-/// Waits until something is reported, or time matters, and tells when that was. A look that doesn't
-/// sleep takes no time.
+/// Waits until something is reported, or time matters, and tells when that was. The last sweep began
+/// then; a sweep, and a look that doesn't sleep, take no time.
 fn look<N: Network + Drop, A: Allocator>(
     clock: &impl Clock,
     start: Instant,
     watch: &mut Watch<A>,
     driver: &Driver<Net<N, A>, A>,
     pace: &mut Pace,
+    began: u64,
 ) -> io::Result<u64> {
-    let mut now = since(clock, start)?;
+    let mut now = began;
     for looks in 0..LOOKS {
         if !pace.is_eager(now) {
             pace.end(looks, false);

@@ -4,4 +4,4 @@
 
 mod pace;
 
-pub use pace::Pace;
+pub use pace::{Pace, STILL};

@@ -5,6 +5,8 @@ ghost use Rattle.sv_pace.specs.Pace.{Wait, StandsFor, IsDue, after_wait, longer}
 
 use std::marker::Model;
 
+/// How many milliseconds a server sleeps at most, where nothing waits for time.
+pub const STILL: u32 = 100;
 /// Most milliseconds that pass at a sweep.
 const MOST_TICKS: u64 = 1_000;
 /// For so many nanoseconds after work it may look again without sleeping.

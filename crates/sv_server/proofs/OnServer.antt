@@ -1,5 +1,6 @@
 -- Lemmas of the server: logs, turns, steps that are due.
 pub mod Taken
+pub mod Used
 pub mod Aborting
 pub mod Logs
 pub mod Going

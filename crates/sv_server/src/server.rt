@@ -10,7 +10,7 @@ ghost use Rattle.sv_history.specs.Act.{Act, of, device_acts, wait_acts};
 ghost use Rattle.sv_history.specs.Connection.{is_open, waiting_on, room, is_idle, is_faulted};
 ghost use Rattle.sv_history.specs.History.{abort_acts, is_shut, is_port_shut, IsLogOf, Answers, history_after};
 ghost use Rattle.sv_history.specs.Requests.{HearsOf};
-ghost use Rattle.sv_history.specs.Queries.{Answered, Decided, WaitOn};
+ghost use Rattle.sv_history.specs.Queries.{Answered, Decided, WaitOn, IsUsed};
 ghost use Rattle.sv_history.specs.Still.{IsStill};
 ghost use Rattle.sv_history.specs.Limits.{max_output};
 ghost use Rattle.sv_server.specs.Connection.Representation.{Connection as KeptConnection, IsConnection};
@@ -29,6 +29,7 @@ use crate::connection::Connection;
 use crate::device::Device;
 use crate::server::input_check::may_input;
 use crate::server::refusing::refuse;
+use crate::server::settling::is_quiet;
 use crate::server::turn::{Turned, turn};
 use std::alloc::{AllocError, Allocator, Global};
 use std::marker::Model;
@@ -43,6 +44,8 @@ pub(crate) const CONNECTIONS: usize = 16;
 pub struct Server<A: Allocator = Global> {
     pub(crate) connections: Vec<Connection<A>, A>,
     pub(crate) device: Device<A>,
+    /// No connection of this number or above was ever opened.
+    used: u8,
 }
 
 impl<A: Allocator> Model for Server<A> {
@@ -52,7 +55,11 @@ impl<A: Allocator> Model for Server<A> {
 
     ghost use Rattle.std.specs.Prelude.{◌≡◌, length};
 
-    ghost view = { λ a. record { connections = a.connections.items; device = a.device } };
+    ghost view = { λ a. record {
+      connections = a.connections.items;
+      device = a.device;
+      used = a.used;
+    } };
 
     ghost invariant = { λ a. length a.connections.items ≡ 16 };
 }
@@ -67,6 +74,7 @@ impl<A: Allocator + Copy> Server<A> {
         Ok(Server {
             connections: connections(alloc)?,
             device: Device::new(alloc, config)?,
+            used: 0,
         })
     }
 }
@@ -167,6 +175,15 @@ impl<A: Allocator> Server<A> {
         }
     }
 
+    /// How many numbers were used: one more than the highest number of a connection that was ever
+    /// opened; 0 where none was. Nothing is to do on those that weren't.
+    pub fn used(&self) -> u8
+        ensures { (config : Config) (history : List PlainEvent) → StandsFor self.now config history
+            → (log : List Act) × IsLogOf config history log × IsUsed result log }
+    {
+        self.used
+    }
+
     /// Whether nothing waits for one of the next so many milliseconds: no scan is under way, and no
     /// deadline of a call that waits is that near. They only count, then, as long as nothing else
     /// happens.
@@ -205,6 +222,7 @@ impl<A: Allocator> Server<A> {
             return Err(Refused::ConnInUse);
         }
         connection.open(role);
+        self.used = self.used.max(conn + 1);
         Ok(Did::Done)
     }
 
@@ -433,8 +451,9 @@ impl<A: Allocator> Server<A> {
             → StandsFor self.new config (history_after (plain event.entry) result history) }
         ensures err { OnErr result (self.new ≡ self.old) }
     {
+        let quiet = is_quiet(event);
         let did = self.act(event)?;
-        self.settle();
+        self.settle_unless(quiet);
         Ok(did)
     }
 }

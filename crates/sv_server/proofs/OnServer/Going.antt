@@ -25,6 +25,7 @@ use Rattle.sv_server.specs.Device.Inside.Outcome.{MayGoOn, WaitsOn}
 use Rattle.sv_history.proofs.Projections.{others_effect}
 use Rattle.sv_server.proofs.OnDevice.Effects.{of_same}
 use Rattle.sv_server.proofs.OnServer.Taken.{taken_without, taken_anew, taken_one}
+use Rattle.sv_server.proofs.OnServer.Used.{unanswered_used}
 use Rattle.sv_server.proofs.OnServer.Logs.{shared_acts, resumed}
 
 -- ---- the call of a connection that waits
@@ -65,10 +66,12 @@ within_of state config log c rep does above =
 pub gave_up_stands : (state : State) (config : Config) (log : List Act) (c : ℕ) (effect : Effect) (kept : Connection) (device : KeptDevice)
     → Represents state config log → length state.connections ≡ 16 → c < 16
     → Concludes effect config (of c log) (device_acts log) kept device → device.waiting ≡ without c state.device.waiting
-    → Represents (record { connections = set state.connections c kept; device = device }) config (acts_of c effect ++ log)
-gave_up_stands state config log c effect kept device rep sixteen lt done left =
+    → (call : List ℕ) → unanswered (of c log) ≡ Some call
+    → Represents (record state { connections = set state.connections c kept; device = device }) config (acts_of c effect ++ log)
+gave_up_stands state config log c effect kept device rep sixteen lt done left call known =
     resumed state config log c effect kept device rep sixteen lt done
     (rw left (taken_without c log (acts_of c effect ++ log) state.device.waiting (λ d ne. others_effect c d effect log ne) rep.taken))
+    (unanswered_used (of c log) call known)
 
 -- ---- it goes on
 
@@ -89,10 +92,10 @@ pub went_on_stands : (state : State) (config : Config) (log : List Act) (c : ℕ
     (device : KeptDevice)
     → Represents state config log → length state.connections ≡ 16 → c < 16 → unanswered (of c log) ≡ Some call
     → WentOn effect c (core_call call) config (of c log) (device_acts log) state.device.waiting kept device
-    → Represents (record { connections = set state.connections c kept; device = device }) config (acts_of c effect ++ log)
+    → Represents (record state { connections = set state.connections c kept; device = device }) config (acts_of c effect ++ log)
 went_on_stands state config log c call effect kept device rep sixteen lt known (done, waits) =
     resumed state config log c effect kept device rep sixteen lt done
-    (went_taken c log call effect state.device.waiting device.waiting known waits rep.taken)
+    (went_taken c log call effect state.device.waiting device.waiting known waits rep.taken) (unanswered_used (of c log) call known)
 
 -- a create_link that can go on finds the lock free
 free_for : (locked : Option ℕ) (can_write can_read : Bool) (wait : Wait) (lid : Option ℕ)

@@ -22,6 +22,8 @@ use Rattle.sv_server.specs.Server.State.{State, Represents, IsTaken}
 use Rattle.sv_history.specs.History.{is_shut}
 use Rattle.sv_history.proofs.Projections.{of_mine, of_other, of_shared, device_shared, of_effect, others_effect, device_effect}
 use Rattle.sv_server.proofs.OnDevice.Effects.{of_taken, others_taken, device_taken}
+use Rattle.sv_history.specs.Queries.{IsUsed}
+use Rattle.sv_server.proofs.OnServer.Used.{open_used, behind, used_acted, used_act, used_same}
 use Rattle.sv_server.proofs.OnServer.Taken.{taken_acted, taken_without, taken_push}
 
 -- the connection of a number
@@ -54,9 +56,9 @@ open_known state config log c b rep is = elim (cases_lt c 16) [
 pub acted : (state : State) (config : Config) (log new : List Act) (c : ℕ) (kept : Connection) (device : KeptDevice)
     → Represents state config log → length state.connections ≡ 16 → c < 16
     → IsConnection kept (of c new) → IsDevice device config (device_acts new) → ((d : ℕ) → d ≢ c → of d new ≡ of d log)
-    → AllByRecursion (IsTaken new) device.waiting
-    → Represents (record { connections = set state.connections c kept; device = device }) config new
-acted state config log new c kept device rep sixteen lt mine all others taken = record {
+    → AllByRecursion (IsTaken new) device.waiting → (n : ℕ) → IsUsed n new
+    → Represents (record { connections = set state.connections c kept; device = device; used = n }) config new
+acted state config log new c kept device rep sixteen lt mine all others taken n used = record {
   each = λ d other below. elim (cases_eq d c) [
     | inl e ↦
         let at : get_or (set state.connections c kept) d other ≡ kept =
@@ -68,6 +70,7 @@ acted state config log new c kept device rep sixteen lt mine all others taken = 
         rw (at, others d ne) (rep.each d other below)
   ];
   beyond = λ d h. others d (λ e. absurd (omega arith)) ∙ rep.beyond d h;
+  used = used;
   device = all;
   taken = taken;
 }
@@ -77,12 +80,13 @@ pub one_act : (state : State) (config : Config) (log : List Act) (c : ℕ) (old 
     → Represents state config log → length state.connections ≡ 16 → c < 16 → old ≡ get_or state.connections c old
     → (IsConnection old (of c log) → IsConnection new (act ∷ of c log))
     → ((call : List ℕ) → unanswered (of c log) ≡ Some call → unanswered (act ∷ of c log) ≡ Some call)
-    → Represents (record state { connections = set state.connections c new }) config (On c act ∷ log)
-one_act state config log c old new act rep sixteen lt e goes known =
+    → (n : ℕ) → IsUsed n (On c act ∷ log)
+    → Represents (record state { connections = set state.connections c new; used = n }) config (On c act ∷ log)
+one_act state config log c old new act rep sixteen lt e goes known n used =
     acted state config log (On c act ∷ log) c new state.device rep sixteen lt
     (rw of_mine (goes (connection_of state config log c old rep lt e))) rep.device (λ d ne. of_other c d act log ne)
     (taken_acted c log (On c act ∷ log) state.device.waiting (λ d ne. of_other c d act log ne)
-    (λ call h. ap unanswered (of_mine c act log) ∙ known call h) rep.taken)
+    (λ call h. ap unanswered (of_mine c act log) ∙ known call h) rep.taken) n used
 
 -- no call of a connection that is shut waits
 pub none_taken : (kept : Connection) (acts : List ConnAct) (call : List ℕ) → IsConnection kept acts → kept.busy ≡ false
@@ -96,6 +100,7 @@ pub shared_acts : (state : State) (config : Config) (log : List Act) (device : K
 shared_acts state config log device adds rep all same = record {
   each = λ c other below. rw (of_shared c adds log) (rep.each c other below);
   beyond = λ c above. of_shared c adds log ∙ rep.beyond c above;
+  used = used_same state.used log (map OnDevice adds ++ log) rep.used (λ c. of_shared c adds log);
   device = rw (device_shared adds log) all;
   taken = rw same (taken_acted 0 log (map OnDevice adds ++ log) state.device.waiting (λ d ne. of_shared d adds log)
       (λ call known. ap unanswered (of_shared 0 adds log) ∙ known) rep.taken);
@@ -117,10 +122,11 @@ pub closes : (state : State) (config : Config) (log : List Act) (c : ℕ) (old n
     → (IsConnection old (of c log) → IsConnection new (PortClosed ∷ of c log))
     → ((acts : List DeviceAct) → IsDevice state.device config acts
     → IsDevice device config (Channel (ChannelClosed c) ∷ map Linked (closing c (link_acts acts)) ++ Waited (Left c) ∷ acts))
-    → device.waiting ≡ without c state.device.waiting
+    → device.waiting ≡ without c state.device.waiting → is_open (of c log) ≡ true
     → let adds = Channel (ChannelClosed c) ∷ map Linked (closing c (link_acts (device_acts log))) ++ Waited (Left c) ∷ [] in
-    Represents (record { connections = set state.connections c new; device = device }) config (map OnDevice adds ++ On c PortClosed ∷ log)
-closes state config log c old new device rep sixteen lt e goes freed left =
+    Represents (record state { connections = set state.connections c new; device = device }) config
+    (map OnDevice adds ++ On c PortClosed ∷ log)
+closes state config log c old new device rep sixteen lt e goes freed left opened =
     let links = map Linked (closing c (link_acts (device_acts log))) in
     let adds = Channel (ChannelClosed c) ∷ links ++ Waited (Left c) ∷ [] in
     let others = λ (d : ℕ) (ne : d ≢ c). of_shared d adds (On c PortClosed ∷ log) ∙ of_other c d PortClosed log ne in
@@ -131,6 +137,9 @@ closes state config log c old new device rep sixteen lt e goes freed left =
     ∙ append_assoc (Channel (ChannelClosed c) ∷ links) (Waited (Left c) ∷ []) (device_acts log))) (freed (device_acts log) rep.device))
     others
     (rw left (taken_without c log (map OnDevice adds ++ On c PortClosed ∷ log) state.device.waiting others rep.taken))
+    state.used
+    (used_same state.used (On c PortClosed ∷ log) (map OnDevice adds ++ On c PortClosed ∷ log)
+    (used_act state.used c PortClosed log rep.used (open_used (of c log) opened)) (λ d. of_shared d adds (On c PortClosed ∷ log)))
 
 -- a call that is busy isn't idle
 pub busy_idle : (acts : List ConnAct) (call : List ℕ) → unanswered acts ≡ Some call → is_busy acts ≡ false → ⊥
@@ -155,20 +164,25 @@ pub turned : (state : State) (config : Config) (log : List Act) (c : ℕ) (call 
     (device : KeptDevice)
     → Represents state config log → length state.connections ≡ 16 → c < 16 → is_busy (of c log) ≡ false
     → Concludes effect config (CallTaken call ∷ of c log) (device_acts log) kept device
-    → HeldAs effect c (core_call call) state.device.waiting device.waiting
-    → Represents (record { connections = set state.connections c kept; device = device }) config
+    → HeldAs effect c (core_call call) state.device.waiting device.waiting → of c log ≢ []
+    → Represents (record state { connections = set state.connections c kept; device = device }) config
     ((acts_of c effect ++ On c (CallTaken call) ∷ []) ++ log)
-turned state config log c call effect kept device rep sixteen lt idle (mine, all) held =
+turned state config log c call effect kept device rep sixteen lt idle (mine, all) held there =
     acted state config log _ c kept device rep sixteen lt (rw (of_taken c effect call log) mine) (rw (device_taken c effect call log) all)
     (λ d ne. others_taken c d effect call log ne)
-    (held_taken c log call effect state.device.waiting device.waiting idle rep.taken held)
+    (held_taken c log call effect state.device.waiting device.waiting idle rep.taken held) state.used
+    (used_acted state.used c log ((acts_of c effect ++ On c (CallTaken call) ∷ []) ++ log) rep.used there
+    (λ z. behind effect.own (CallTaken call ∷ of c log) (λ y. absurd cc) (sym (of_taken c effect call log) ∙ z))
+    (λ d ne. others_taken c d effect call log ne))
 
 -- a call that waited, and was given up or went on
 pub resumed : (state : State) (config : Config) (log : List Act) (c : ℕ) (effect : Effect) (kept : Connection) (device : KeptDevice)
     → Represents state config log → length state.connections ≡ 16 → c < 16
     → Concludes effect config (of c log) (device_acts log) kept device
-    → AllByRecursion (IsTaken (acts_of c effect ++ log)) device.waiting
-    → Represents (record { connections = set state.connections c kept; device = device }) config (acts_of c effect ++ log)
-resumed state config log c effect kept device rep sixteen lt (mine, all) taken =
+    → AllByRecursion (IsTaken (acts_of c effect ++ log)) device.waiting → of c log ≢ []
+    → Represents (record state { connections = set state.connections c kept; device = device }) config (acts_of c effect ++ log)
+resumed state config log c effect kept device rep sixteen lt (mine, all) taken there =
     acted state config log _ c kept device rep sixteen lt (rw (of_effect c effect log) mine) (rw (device_effect c effect log) all)
-    (λ d ne. others_effect c d effect log ne) taken
+    (λ d ne. others_effect c d effect log ne) taken state.used
+    (used_acted state.used c log (acts_of c effect ++ log) rep.used there
+    (λ z. behind effect.own (of c log) there (sym (of_effect c effect log) ∙ z)) (λ d ne. others_effect c d effect log ne))

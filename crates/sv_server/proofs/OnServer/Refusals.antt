@@ -1,5 +1,5 @@
 -- A Refuse: what refuses it, and what it takes; and what refuses an Input.
-use Rattle.std.proofs.Common.{◌≡◌, ◌≢◌, ℕ, ◌<◌, Bool, true, false, cond, List, ◌∷◌, ◌++◌, length, set, nat_lt, Option, Some, None, refl, sym, ap, ◌∙◌, subst}
+use Rattle.std.proofs.Common.{◌≡◌, ◌≢◌, ℕ, ◌<◌, Bool, true, false, cond, List, [], ◌∷◌, ◌++◌, length, set, nat_lt, Option, Some, None, refl, sym, ap, ◌∙◌, subst}
 use Rattle.std.specs.Prelude.{ℤ, not, is_none, Ok, Err}
 use Rattle.sv_errors.specs.Limits.{is_channel}
 use Rattle.sv_history.specs.declared.event.Config.{Config}
@@ -20,6 +20,7 @@ use Rattle.sv_server.specs.Server.Inside.Acting.{Acts, Refuses, IsInput}
 use Rattle.sv_history.proofs.Projections.{of_mine, of_other}
 use Rattle.sv_history.specs.Limits.{longest_reply}
 use Rattle.sv_server.proofs.OnServer.Taken.{taken_acted}
+use Rattle.sv_server.proofs.OnServer.Used.{unshut_used, used_acted}
 use Rattle.sv_server.proofs.OnServer.Logs.{acted, busy_idle}
 use Rattle.sv_server.proofs.OnServer.Turning.{not_busy}
 
@@ -67,7 +68,9 @@ refuse_done state config log c kept rep sixteen lt open_now (none, bytes, call, 
           (sym (ap (λ (found : Option (List ℕ)). refuse_acts c found (refusable (of c log))) next ∙ ap (refuse_acts c (Some bytes)) known))
           (acted state config log (On c answered ∷ mid) c kept state.device rep sixteen lt (rw here mine) rep.device others
           (taken_acted c log (On c answered ∷ mid) state.device.waiting others
-          (λ other waits. absurd {0} (busy_idle (of c log) other waits (not_busy c log bytes next))) rep.taken)),
+          (λ other waits. absurd {0} (busy_idle (of c log) other waits (not_busy c log bytes next))) rep.taken) state.used
+          (used_acted state.used c log (On c answered ∷ mid) rep.used (unshut_used c log open_now)
+          (λ z. let e : answered ∷ CallTaken bytes ∷ of c log ≡ [] = sym here ∙ z in absurd cc) others)),
     )
 
 -- an Input that is refused

@@ -1,25 +1,27 @@
 -- An event that was done, and the steps that are due after it, leave what stands for the longer history; and a history has one log.
-use Rattle.std.proofs.Common.{◌≡◌, ℕ, zero, suc, ap, List, [], ◌∷◌, ◌++◌, None, Some, inl, inr, sym, subst}
+use Rattle.std.proofs.Common.{◌≡◌, ℕ, zero, suc, ap, Bool, true, false, List, [], ◌∷◌, ◌++◌, None, Some, inl, inr, refl, sym, subst}
 use Rattle.std.specs.Prelude.{Option, Result, Ok, Err, IsErr, IsErrAnd}
 use Rattle.sv_history.specs.declared.event.Config.{Config}
 use Rattle.sv_history.specs.declared.event.Did.{Did}
 use Rattle.sv_history.specs.declared.event.Refused.{Refused}
 use Rattle.sv_history.specs.declared.event.Refused.TheVariants.{NoMemory, ConnInUse, NoConn, NoRoom, NotSent, NoDial, NotRefusable, BadChannel, BadInput, TimeOver}
-use Rattle.sv_history.specs.Event.{PlainEvent, IsEvent}
-use Rattle.sv_history.specs.Act.{Act, device_acts}
+use Rattle.sv_history.specs.declared.event.Port.TheVariants.{Conn, Intr}
+use Rattle.sv_history.specs.Event.{PlainEvent, IsEvent, Open, Bytes, Took}
+use Rattle.sv_history.specs.Act.{Act, Opened, Piece, BytesTaken, device_acts}
 use Rattle.sv_history.specs.Settling.{IsSettled, SettlesIn}
-use Rattle.sv_links.specs.Channels.{ChannelAct}
+use Rattle.sv_links.specs.Channels.{ChannelAct, ChannelTaken}
 use Rattle.sv_history.specs.Requests.{HearsOf}
 use Rattle.sv_history.specs.History.{own_acts, refusal, Answers}
 use Rattle.sv_server.specs.Server.State.{State, Represents, StandsFor}
-use Rattle.sv_server.specs.Server.Inside.Acting.{Acts, IsRefusal, Settled}
+use Rattle.sv_server.specs.Server.Inside.Acting.{Acts, IsRefusal, Settled, is_quiet}
+use Rattle.sv_history.proofs.StillSettled.{still_settled, channel_settled}
 use Rattle.sv_server.proofs.OnServer.Steps.{polled_now, told_now}
 
 nothing_due : (n : ℕ) (config : Config) (log new : List Act) → SettlesIn n config log new → IsSettled config new
 nothing_due zero config log new (none, same) = subst (λ (end : List Act). IsSettled config end) (sym same) none
 nothing_due (suc n) config log new (middle, next, more) = nothing_due n config middle new more
 
-pub stands_after : (config : Config) (history : List PlainEvent) (event : PlainEvent) (old mid new : State) (did : Did)
+stands_after : (config : Config) (history : List PlainEvent) (event : PlainEvent) (old mid new : State) (did : Did)
     → StandsFor old config history → IsEvent event
     → ((k : Config) (log : List Act) → Represents old k log → Acts k event log (Ok did) mid)
     → ((k : Config) (log : List Act) → Represents mid k log → Settled k log new)
@@ -35,6 +37,41 @@ stands_after config history event old mid new did s is_event acts settles =
       represents = held;
       settled = nothing_due steps.0 config (own_acts config polled event s.log ++ s.log) last steps.1;
     }
+
+-- an event that makes no step due leaves none
+quiet_settled : (config : Config) (polled : ℕ) (event : PlainEvent) (log : List Act) → is_quiet event ≡ true → IsSettled config log
+    → IsSettled config (own_acts config polled event log ++ log)
+quiet_settled config polled (Open c role) log quiet none = still_settled c (Opened role) config log none
+quiet_settled config polled (Bytes c piece) log quiet none = still_settled c (Piece piece) config log none
+quiet_settled config polled (Took (Conn c) count) log quiet none = still_settled c (BytesTaken count) config log none
+quiet_settled config polled (Took (Intr c) count) log quiet none = channel_settled (ChannelTaken c count) config log none
+quiet_settled config polled _ log quiet none = absurd cc
+
+stands_at_once : (config : Config) (history : List PlainEvent) (event : PlainEvent) (old mid : State) (did : Did)
+    → is_quiet event ≡ true → StandsFor old config history → IsEvent event
+    → ((k : Config) (log : List Act) → Represents old k log → Acts k event log (Ok did) mid)
+    → StandsFor mid config (event ∷ history)
+stands_at_once config history event old mid did quiet s is_event acts =
+    let (free, done, makes) = acts config s.log s.represents in
+    let (polled, said) = polled_now old.device config (device_acts s.log) s.represents.device in
+    let (told, tells) = told_now old.device config (device_acts s.log) s.represents.device in
+    let none = quiet_settled config polled event s.log quiet s.settled in
+    record {
+      log = own_acts config polled event s.log ++ s.log;
+      is_log = (s.log, polled, told, is_event, s.is_log, tells, free told tells, said, (zero, (none, refl)));
+      represents = makes polled said;
+      settled = none;
+    }
+
+pub stands_unless : (config : Config) (history : List PlainEvent) (event : PlainEvent) (old mid new : State) (did : Did) (quiet : Bool)
+    → is_quiet event ≡ quiet → StandsFor old config history → IsEvent event
+    → ((k : Config) (log : List Act) → Represents old k log → Acts k event log (Ok did) mid)
+    → ((k : Config) (log : List Act) → Represents mid k log → quiet ≡ false → Settled k log new) → (quiet ≡ true → new ≡ mid)
+    → StandsFor new config (event ∷ history)
+stands_unless config history event old mid new did true quiet s is_event acts settles same =
+    rw (same refl) (stands_at_once config history event old mid did quiet s is_event acts)
+stands_unless config history event old mid new did false loud s is_event acts settles same =
+    stands_after config history event old mid new did s is_event acts (λ k log rep. settles k log rep refl)
 
 -- where nothing was recorded nothing is due
 pub none_due : (config : Config) → IsSettled config []

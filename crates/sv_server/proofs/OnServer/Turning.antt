@@ -20,6 +20,7 @@ use Rattle.sv_server.specs.Server.State.{State, Represents}
 use Rattle.sv_server.specs.Server.Inside.Acting.{Acts, Turns}
 use Rattle.sv_history.proofs.Projections.{device_effect}
 use Rattle.sv_server.proofs.OnDevice.Effects.{device_taken}
+use Rattle.sv_server.proofs.OnServer.Used.{unshut_used}
 use Rattle.sv_server.proofs.OnServer.Logs.{acted, turned}
 use Rattle.sv_server.proofs.OnServer.Aborting.{request_aborts}
 
@@ -55,12 +56,12 @@ none_next (Some call) e = absurd cc
 pub turn_idle : (state : State) (config : Config) (log : List Act) (c : ℕ) (kept : Connection) (device : KeptDevice)
     → Represents state config log → length state.connections ≡ 16 → c < 16 → is_shut c log ≡ false
     → Turns config c log state.device.waiting (Ok Idle) kept device
-    → Acts config (Turn c) log (Ok DidNothing) (record { connections = set state.connections c kept; device = device })
+    → Acts config (Turn c) log (Ok DidNothing) (record state { connections = set state.connections c kept; device = device })
 turn_idle state config log c kept device rep sixteen lt open_now (none, idle, mine, all, same) = (
   λ told tells. rw open_now none,
   rw idle refl,
   λ polled said. rw (none_next (next_call (of c log)) idle)
-      (acted state config log log c kept device rep sixteen lt mine all (λ d ne. refl) (rw same rep.taken)),
+      (acted state config log log c kept device rep sixteen lt mine all (λ d ne. refl) (rw same rep.taken) state.used rep.used),
 )
 
 -- ---- a Turn that takes one
@@ -77,7 +78,7 @@ pub turn_done : (state new : State) (config : Config) (log : List Act) (c : ℕ)
     (device : KeptDevice)
     → Represents state config log → length state.connections ≡ 16 → c < 16 → is_shut c log ≡ false
     → Turns config c log state.device.waiting (Ok (Done aborted)) kept device
-    → ((k : Config) (mid : List Act) → Represents (record { connections = set state.connections c kept; device = device }) k mid
+    → ((k : Config) (mid : List Act) → Represents (record state { connections = set state.connections c kept; device = device }) k mid
     → ((d : ℕ) → aborted ≡ Some d → waits d (wait_acts (device_acts mid)) ≡ None → ⊥) → Represents new k (abort_acts aborted mid ++ mid))
     → Acts config (Turn c) log (Ok DidSo) new
 turn_done state new config log c aborted kept device rep sixteen lt open_now (none, idle, call, request, is, (next, asks, so)) ends = (
@@ -87,7 +88,8 @@ turn_done state new config log c aborted kept device rep sixteen lt open_now (no
       let effect = request_effect config polled c request (device_acts log) in
       let acts = acts_of c effect ++ On c (CallTaken call) ∷ [] in
       let (done, held) = so polled said in
-      let mid = turned state config log c call effect kept device rep sixteen lt (not_busy c log call next) done held in
+      let mid = turned state config log c call effect kept device rep sixteen lt (not_busy c log call next) done held
+      (unshut_used c log open_now) in
       let waiting = λ (d : ℕ) (e : aborted ≡ Some d).
       let (empty, does) = request_aborts config polled c request (device_acts log) d (sym is ∙ e) in
       let same = device_taken c effect call log ∙ ap (λ (adds : List DeviceAct). adds ++ device_acts log) empty in

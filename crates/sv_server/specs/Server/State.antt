@@ -12,11 +12,13 @@ use Rattle.sv_history.specs.Request.{core_call}
 use Rattle.sv_server.specs.Connection.Representation.{Connection, IsConnection}
 use Rattle.sv_server.specs.Device.Representation.{Device, IsDevice}
 use Rattle.sv_history.specs.Settling.{IsSettled}
+use Rattle.sv_history.specs.Queries.{IsUsed}
 use Rattle.sv_history.specs.History.{IsLogOf}
 
 pub record State : Type 0 where
   pub connections : List Connection
   pub device : Device
+  pub used : ℕ
 
 -- A call that waits was taken and isn't answered; a create_link waits for the lock.
 abbrev pub IsTaken : List Act → Entry → Type 0
@@ -27,6 +29,7 @@ IsTaken log entry = (call : List ℕ) × (unanswered (of entry.conn log) ≡ Som
 pub record Represents (state : State) (config : Config) (log : List Act) : Type 0 where
   pub each : (c : ℕ) (other : Connection) → c < 16 → IsConnection (slice_index_or state.connections c other) (of c log)
   pub beyond : (c : ℕ) → 16 ≤ c → of c log ≡ []
+  pub used : IsUsed state.used log
   pub device : IsDevice state.device config (device_acts log)
   pub taken : AllByRecursion (IsTaken log) state.device.waiting
 

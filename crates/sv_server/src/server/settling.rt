@@ -7,6 +7,7 @@ ghost use Rattle.sv_instrument.specs.Stimulus.{IsFired};
 ghost use Rattle.sv_instrument.specs.Step.{IsStep};
 ghost use Rattle.sv_instrument.specs.Representation.{left_of};
 ghost use Rattle.sv_history.specs.declared.event.Config.{Config};
+ghost use Rattle.sv_history.specs.Event.{plain};
 ghost use Rattle.sv_history.specs.Act.{Act, of, device_acts, wait_acts};
 ghost use Rattle.sv_history.specs.Connection.{unanswered};
 ghost use Rattle.sv_history.specs.Request.{core_call_in};
@@ -16,11 +17,12 @@ ghost use Rattle.sv_history.specs.Resuming.{resumed, failed, late as late_error}
 ghost use Rattle.sv_history.specs.Settling.{CanResume, InstrumentDoes, Resumes, TimesOut, IsSettled};
 ghost use Rattle.sv_server.specs.Server.State.{Represents};
 ghost use Rattle.sv_server.specs.Device.Inside.WaitingCall.{IsKept};
-ghost use Rattle.sv_server.specs.Server.Inside.Acting.{TakesStep, Steps, GoesTo, Settled};
+ghost use Rattle.sv_server.specs.Server.Inside.Acting.{TakesStep, Steps, GoesTo, Settled, is_quiet};
 
 use crate::server::Server;
 use crate::server::resuming::{give_up, resume};
 use std::alloc::Allocator;
+use sv_history::Event;
 use sv_links::{Entry, Wait};
 use sv_vxi::ErrorCode;
 
@@ -33,6 +35,17 @@ enum Stepped {
     Instrument,
     /// A suspended call resumed or timed out.
     Call,
+}
+
+/// Whether an event makes no step due: a connection opens, or bytes come or go.
+pub(crate) fn is_quiet(event: Event<'_>) -> bool
+    ensures { result ≡ is_quiet (plain event.entry) }
+{
+    match event {
+        Event::Open { .. } | Event::Bytes { .. } | Event::Took { .. } => true,
+        Event::Turn { .. } | Event::Refuse { .. } | Event::Close { .. } => false,
+        Event::Dialed { .. } | Event::Input { .. } | Event::External | Event::Tick => false,
+    }
 }
 
 /// The error of a call that waited too long for this.
@@ -175,8 +188,20 @@ impl<A: Allocator> Server<A> {
         }
     }
 
+    /// Takes the steps that are due after an event, unless it makes none due.
+    pub(crate) fn settle_unless(&mut self, quiet: bool)
+        ensures settled { (config : Config) (log : List Act) → Represents self.old config log
+            → quiet ≡ false → Settled config log self.new }
+        ensures unchanged { quiet ≡ true → self.new ≡ self.old }
+    {
+        if quiet {
+            return;
+        }
+        self.settle();
+    }
+
     /// Takes the steps that are due, until none is.
-    pub(crate) fn settle(&mut self)
+    fn settle(&mut self)
         ensures { (config : Config) (log : List Act) → Represents self.old config log
             → Settled config log self.new }
     {

@@ -12,7 +12,7 @@ use Rattle.sv_server.specs.declared.server.turn.Turned.TheVariants.{Idle, Done}
 use Rattle.sv_server.specs.declared.server.settling.Stepped.{Stepped}
 use Rattle.sv_server.specs.declared.server.settling.Stepped.TheVariants.{Nothing, Instrument, Call}
 use Rattle.sv_links.specs.Channels.{ChannelAct}
-use Rattle.sv_history.specs.Event.{PlainEvent}
+use Rattle.sv_history.specs.Event.{PlainEvent, Open, Bytes, Took}
 use Rattle.sv_history.specs.Requests.{HearsOf}
 use Rattle.sv_layers.specs.Act.{Act as InstrumentAct}
 use Rattle.sv_history.specs.Act.{Act, ConnAct, DeviceAct, CallTaken, Replied, Happened, of, device_acts, instrument_acts}
@@ -41,6 +41,13 @@ Acts config event log (Ok what) new = IsRefusal config event log None × (what �
 Acts config event log (Err NoMemory) new = IsRefusal config event log None
     × ((polled : ℕ) → IsPolled polled (device_acts log) → wants_memory (device_acts (own_acts config polled event log)) ≡ true)
 Acts config event log (Err refused) new = IsRefusal config event log (Some refused)
+
+-- an event that makes no step due
+abbrev pub is_quiet : PlainEvent → Bool
+is_quiet (Open c role) = true
+is_quiet (Bytes c piece) = true
+is_quiet (Took port count) = true
+is_quiet _ = false
 
 -- The call that was taken comes to this.
 abbrev pub Concludes : Effect → Config → List ConnAct → List DeviceAct → Connection → Device → Type 0

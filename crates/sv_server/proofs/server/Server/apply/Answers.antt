@@ -4,7 +4,7 @@ use Rattle.sv_history.specs.declared.event.Did.{Did}
 use Rattle.sv_history.specs.declared.event.Refused.{Refused}
 use Rattle.sv_history.specs.Event.{plain}
 use Rattle.sv_history.specs.History.{Answers}
-use Rattle.sv_server.proofs.OnServer.Standing.{answered, passed_on, stands_after}
+use Rattle.sv_server.proofs.OnServer.Standing.{answered, passed_on, stands_unless}
 use Rattle.sv_server.proofs.server.Server.apply.Goals as goal
 
 pub returns-in_err-did-clause-answers : goal.returns-in_err-did-clause-answers
@@ -27,7 +27,8 @@ returns-clause-answers g c = λ config history s. (
 
 pub returns-clause-stands : goal.returns-clause-stands
 returns-clause-stands g c = λ config history s.
-    stands_after config history _ c.args.self.now _ _ c.in_ok-did.did s c.act.ensures.within c.in_ok-did.ensures.acts c.settle.ensures
+    stands_unless config history _ c.args.self.now _ _ c.in_ok-did.did _ (sym c.is_quiet-quiet.ensures) s c.act.ensures.within
+    c.in_ok-did.ensures.acts c.settle_unless.ensures.settled c.settle_unless.ensures.unchanged
 
 pub returns-in_err-did-clause-stands : goal.returns-in_err-did-clause-stands
 returns-in_err-did-clause-stands g c = search rules

@@ -2,6 +2,7 @@ use Rattle.std.proofs.Common.{refl, sym, ◌∙◌, arith}
 use Rattle.std.proofs.lemmas.Bool.{le-ltb, lt-ltb}
 use Rattle.sv_history.specs.Act.{Piece, of}
 use Rattle.sv_server.proofs.OnServer.Logs.{connection_of, open_is, shut_is, one_act}
+use Rattle.sv_server.proofs.OnServer.Used.{open_used, used_act}
 use Rattle.sv_server.proofs.server.Server.bytes.Goals as goal
 
 pub returns-then-room-piece-clause-acts : goal.returns-then-room-piece-clause-acts
@@ -23,5 +24,6 @@ returns-clause-acts g c = λ config log rep.
       λ told tells. rw (shut_is c.args.conn log _ (omega arith) opened, le-ltb _ _ (rw room at c.if-room-piece.false)) refl,
       refl,
       λ polled said. rw c.from-2.ensures (one_act _ config log c.args.conn c.index_mut-connection.result.now c.push.new.self
-          (Piece c.args.piece.now) state c.self.invariant (omega arith) at (c.push.ensures (of c.args.conn log)) (λ call known. known)),
+          (Piece c.args.piece.now) state c.self.invariant (omega arith) at (c.push.ensures (of c.args.conn log)) (λ call known. known) _
+          (used_act c.self.inside.used c.args.conn (Piece c.args.piece.now) log state.used (open_used (of c.args.conn log) opened))),
     )

@@ -20,5 +20,5 @@ returns-clause-acts g c = λ config log rep.
       λ polled said. rw (c.from-2.ensures, append_assoc (map OnDevice adds) (On c.args.conn PortClosed ∷ []) log)
           (closes _ config log c.args.conn c.index_mut-connection.result.now c.close.new.self c.close_connection.new.self state
           c.self.invariant (omega arith) at (c.close.ensures (of c.args.conn log)) (c.close_connection.ensures.stands config)
-          c.close_connection.ensures.waiting),
+          c.close_connection.ensures.waiting opened),
     )

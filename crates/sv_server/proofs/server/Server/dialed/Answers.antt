@@ -27,5 +27,5 @@ returns-clause-acts g c = λ config log rep.
       λ polled said. rw c.from-2.ensures (gave_up_stands _ config log c.args.conn _ c.dialed.new.connection c.dialed.new.device state
           c.self.invariant (omega arith)
           (c.dialed.ensures.concludes config (of c.args.conn log) (device_acts log) is (ap is_some known) state.device dialing)
-          c.dialed.ensures.waiting),
+          c.dialed.ensures.waiting call known),
     )

@@ -14,4 +14,4 @@ returns-clause-stands g c = λ config log rep does.
     rw c.from.ensures (gave_up_stands _ config log c.args.conn _ c.give_up.new.connection c.give_up.new.device state c.self.invariant
     c.requires
     (c.give_up.ensures.concludes config (of c.args.conn log) (device_acts log) is
-    (ap is_some known) state.device) c.give_up.ensures.waiting)
+    (ap is_some known) state.device) c.give_up.ensures.waiting call known)

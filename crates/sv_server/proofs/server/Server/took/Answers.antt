@@ -3,6 +3,7 @@ use Rattle.std.proofs.lemmas.Bool.{le-ltb}
 use Rattle.sv_history.specs.Act.{BytesTaken, of}
 use Rattle.sv_history.specs.Connection.{waiting}
 use Rattle.sv_server.proofs.OnServer.Logs.{connection_of, open_is, shut_is, one_act}
+use Rattle.sv_server.proofs.OnServer.Used.{open_used, used_act}
 use Rattle.sv_server.proofs.server.Server.took.Goals as goal
 
 pub returns-clause-acts : goal.returns-clause-acts
@@ -19,5 +20,6 @@ returns-clause-acts g c = λ config log rep.
       ) refl,
       refl,
       λ polled said. rw c.from-2.ensures (one_act _ config log c.args.conn c.index_mut-connection.result.now c.took.new.self
-          (BytesTaken c.args.count) state c.self.invariant (omega arith) at (c.took.ensures (of c.args.conn log)) (λ call known. known)),
+          (BytesTaken c.args.count) state c.self.invariant (omega arith) at (c.took.ensures (of c.args.conn log)) (λ call known. known) _
+          (used_act c.self.inside.used c.args.conn (BytesTaken c.args.count) log state.used (open_used (of c.args.conn log) opened))),
     )

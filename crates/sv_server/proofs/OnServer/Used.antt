@@ -1,0 +1,73 @@
+-- Which numbers of connections were used, over acts of one connection and of what all share.
+use Rattle.std.proofs.Common.{◌≡◌, ◌≢◌, ℕ, suc, ◌+◌, ◌<◌, ◌≤◌, Bool, true, false, List, [], ◌∷◌, ◌++◌, sym, ap, subst, ◌∙◌, arith, inl, inr, Some}
+use Rattle.std.specs.Prelude.{◌||◌, not, max, nat_lt}
+use Rattle.std.proofs.lemmas.Bool.{cases_eq}
+use Rattle.sv_history.specs.Act.{Act, ConnAct, On, of}
+use Rattle.sv_history.specs.Connection.{is_open, unanswered}
+use Rattle.sv_history.specs.History.{is_shut}
+use Rattle.sv_history.specs.Queries.{IsUsed}
+use Rattle.sv_history.proofs.Projections.{of_mine, of_other}
+
+-- something was recorded of an open connection
+pub open_used : (acts : List ConnAct) → is_open acts ≡ true → acts ≢ []
+open_used [] opened none = absurd cc
+open_used (act ∷ acts) opened none = absurd cc
+
+-- and of one with a call that isn't answered
+pub unanswered_used : (acts : List ConnAct) (call : List ℕ) → unanswered acts ≡ Some call → acts ≢ []
+unanswered_used [] call known none = absurd cc
+unanswered_used (act ∷ acts) call known none = absurd cc
+
+or_true : (a b : Bool) → b ≡ true → (a || b) ≡ true
+or_true true b e = cc
+or_true false b e = e
+
+pub unshut_used : (c : ℕ) (log : List Act) → is_shut c log ≡ false → of c log ≢ []
+unshut_used c log unshut none =
+    let shut : is_shut c log ≡ true = or_true (nat_lt 15 c) (not (is_open (of c log))) (ap (λ (l : List ConnAct). not (is_open l)) none) in
+    let z : true ≡ false = sym shut ∙ unshut in absurd cc
+
+-- of what is in front of something, something stands
+pub behind : (front acts : List ConnAct) → acts ≢ [] → front ++ acts ≢ []
+behind [] acts some none = some none
+behind (act ∷ front) acts some none = absurd cc
+
+-- a used connection acts
+pub used_acted : (n c : ℕ) (log new : List Act) → IsUsed n log → of c log ≢ [] → of c new ≢ []
+    → ((d : ℕ) → d ≢ c → of d new ≡ of d log) → IsUsed n new
+used_acted n c log new (none, some) there still others = (
+  λ d above. elim (cases_eq d c) [
+    | inl e ↦ absurd (there (subst (λ (k : ℕ). of k log ≡ []) e (none d above)))
+    | inr ne ↦ others d ne ∙ none d above
+  ],
+  λ d is. elim (cases_eq d c) [
+    | inl e ↦ subst (λ (k : ℕ). of k new ≢ []) (sym e) still
+    | inr ne ↦ λ z. some d is (sym (others d ne) ∙ z)
+  ],
+)
+
+pub used_act : (n c : ℕ) (act : ConnAct) (log : List Act) → IsUsed n log → of c log ≢ [] → IsUsed n (On c act ∷ log)
+used_act n c act log used there = used_acted n c log (On c act ∷ log) used there
+    (λ z. let e : act ∷ of c log ≡ [] = sym (of_mine c act log) ∙ z in absurd cc) (λ d ne. of_other c d act log ne)
+
+-- no connection acts
+pub used_same : (n : ℕ) (log new : List Act) → IsUsed n log → ((d : ℕ) → of d new ≡ of d log) → IsUsed n new
+used_same n log new (none, some) same = ((λ d above. same d ∙ none d above), (λ d is z. some d is (sym (same d) ∙ z)))
+
+-- a connection opens
+next_of : (n c m d : ℕ) → m ≡ max n (c + 1) → m ≡ suc d → d ≢ c → n ≡ suc d
+next_of n c m d most is ne = grind (arith, most, is, ne)
+
+above_of : (n c m d : ℕ) → m ≡ max n (c + 1) → m ≤ d → (n ≤ d) × (c < d)
+above_of n c m d most above = (grind (arith, most, above), grind (arith, most, above))
+
+pub used_opened : (n c m : ℕ) (act : ConnAct) (log : List Act) → m ≡ max n (c + 1) → IsUsed n log → IsUsed m (On c act ∷ log)
+used_opened n c m act log most (none, some) = (
+  λ d above.
+      let (low, past) = above_of n c m d most above in
+      of_other c d act log (λ e. absurd (omega (arith, e, past))) ∙ none d low,
+  λ d is. elim (cases_eq d c) [
+    | inl e ↦ λ z. let w : act ∷ of c log ≡ [] = sym (of_mine c act log) ∙ subst (λ (k : ℕ). of k (On c act ∷ log) ≡ []) e z in absurd cc
+    | inr ne ↦ λ z. some d (next_of n c m d most is ne) (sym (of_other c d act log ne) ∙ z)
+  ],
+)
