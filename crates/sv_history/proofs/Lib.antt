@@ -2,7 +2,7 @@ pub mod Projections
 pub mod Telling
 pub mod OneStep
 pub mod StillSettled
-mod AlwaysTold
+pub mod AlwaysTold
 mod Stillness
 mod OneLog
 mod EveryLog

@@ -27,8 +27,6 @@ pub struct Net<N: Network + Drop, A: Allocator = Global> {
     registry: Registry,
     doors: [Door; 3],
     sockets: Vec<Option<Socket>, A>,
-    /// No connection of this number or above has a socket.
-    count: u8,
 }
 
 /// Which of the doors.
@@ -72,7 +70,6 @@ impl<N: Network + Drop, A: Allocator> Net<N, A> {
             registry,
             doors: [core, abort, portmap],
             sockets,
-            count: 0,
         })
     }
 
@@ -103,21 +100,6 @@ impl<N: Network + Drop, A: Allocator> Net<N, A> {
         self.doors[0].is_knocked() | self.doors[1].is_knocked() | self.doors[2].is_knocked()
     }
 
-    /// How many numbers connections have: none of this number or above has a socket.
-    pub(crate) fn count(&self) -> u8 {
-        self.count
-    }
-
-    /// Counts the numbers anew.
-    fn recount(&mut self) {
-        self.count = 0;
-        for conn in 0..16u8 {
-            if self.socket(Port::Conn(conn)).is_some() {
-                self.count = conn + 1;
-            }
-        }
-    }
-
     /// The socket of a connection or an interrupt channel, if there is one.
     pub(crate) fn socket(&self, port: Port) -> Option<&Socket> {
         match self.sockets.get(socket_number(port)) {
@@ -133,7 +115,6 @@ impl<N: Network + Drop, A: Allocator> Net<N, A> {
         if let Some(place) = self.sockets.get_mut(number) {
             *place = Some(socket);
         }
-        self.recount();
         Ok(())
     }
 
@@ -190,6 +171,5 @@ impl<N: Network + Drop, A: Allocator> Wire for Net<N, A> {
         if let Some(place) = self.sockets.get_mut(socket_number(port)) {
             *place = None;
         }
-        self.recount();
     }
 }

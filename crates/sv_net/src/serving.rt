@@ -46,8 +46,8 @@ fn has_work_for<N: Network + Drop, A: Allocator>(driver: &Driver<Net<N, A>, A>, 
 
 /// Whether a sweep finds something to do without a report.
 fn has_work<N: Network + Drop, A: Allocator>(driver: &Driver<Net<N, A>, A>) -> bool {
-    let net = driver.wire();
-    net.is_called() || (0..net.count()).any(|conn| has_work_on(driver, conn))
+    let used = driver.server().used();
+    driver.wire().is_called() || (0..used).any(|conn| has_work_on(driver, conn))
 }
 
 /// Makes so many sweeps. Behind each it waits until a socket is reported, or time matters: for the
@@ -106,7 +106,8 @@ fn worked(pace: &mut Pace, reported: bool, now: u64) -> u64 {
 /// accept is to be tried again.
 fn is_idle<N: Network + Drop, A: Allocator>(driver: &Driver<Net<N, A>, A>) -> bool {
     let (net, server) = (driver.wire(), driver.server());
-    driver.is_still(STILL) && !net.is_knocked() && !(0..net.count()).any(|conn| server.ready(conn))
+    let ready = (0..server.used()).any(|conn| server.ready(conn));
+    driver.is_still(STILL) && !net.is_knocked() && !ready
 }
 
 /// How long it may sleep.

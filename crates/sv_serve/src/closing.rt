@@ -56,6 +56,9 @@ impl<W: Wire + Drop, A: Allocator> Driver<W, A> {
         ensures { Goes (Each 16 (Ends W.hears)) self.old self.new }
     {
         for conn in 0..CONNECTIONS {
+            if self.is_unused(conn) {
+                return;
+            }
             self.end(conn);
         }
     }

@@ -1,8 +1,11 @@
 //! A driver: a server, a wire, and a scenario.
 
-ghost use Rattle.std.specs.Prelude.{◌≡◌, replicate, None, IfOk};
-ghost use Rattle.sv_history.specs.Event.{plain};
-ghost use Rattle.sv_serve.specs.Moment.{Goes};
+ghost use Rattle.std.specs.Prelude.{◌≡◌, replicate, None, IfOk, true, List};
+ghost use Rattle.sv_history.specs.declared.event.Config.{Config};
+ghost use Rattle.sv_history.specs.Event.{PlainEvent, plain};
+ghost use Rattle.sv_server.specs.Server.State.{StandsFor};
+ghost use Rattle.sv_serve.specs.Asked.{IsUnused};
+ghost use Rattle.sv_serve.specs.Moment.{Goes, moment};
 ghost use Rattle.sv_serve.specs.Steps.{Given};
 
 use crate::wire::Wire;
@@ -92,6 +95,15 @@ impl<W: Wire + Drop, A: Allocator> Driver<W, A> {
         ensures { result.now ≡ self.now.server }
     {
         &self.server
+    }
+
+    /// Whether no connection of this number or above was ever opened: nothing is to do on them.
+    pub(crate) fn is_unused(&self, conn: u8) -> bool
+        ensures { result ≡ true → (config : Config) (history : List PlainEvent)
+            → StandsFor self.now.server config history
+            → IsUnused conn config (moment self.now history) }
+    {
+        conn >= self.server.used()
     }
 
     /// Gives an event to the server.

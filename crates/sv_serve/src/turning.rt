@@ -23,6 +23,9 @@ impl<W: Wire + Drop, A: Allocator> Driver<W, A> {
         ensures { Goes (Each 16 Turns) self.old self.new }
     {
         for conn in 0..CONNECTIONS {
+            if self.is_unused(conn) {
+                return;
+            }
             self.turn(conn);
         }
     }

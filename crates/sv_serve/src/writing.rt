@@ -17,6 +17,9 @@ impl<W: Wire + Drop, A: Allocator> Driver<W, A> {
         ensures { Goes (Each 16 (λ (c : ℕ). WritesTo W.hears (Conn c))) self.old self.new }
     {
         for conn in 0..CONNECTIONS {
+            if self.is_unused(conn) {
+                return;
+            }
             self.write(Port::Conn(conn));
         }
     }
