@@ -120,8 +120,8 @@ fn rest<N: Network + Drop, A: Allocator>(
     Duration::from_nanos(pace.rest(now, ticks))
 }
 
-/// Waits until something is reported, or time matters, and tells when that was. The last sweep began
-/// then; a sweep, and a look that doesn't sleep, take no time.
+/// Waits until something is reported, or time matters, and tells when that was. The last sweep
+/// began then; neither a sweep nor a look that doesn't sleep takes time.
 fn look<N: Network + Drop, A: Allocator>(
     clock: &impl Clock,
     start: Instant,

@@ -10,6 +10,7 @@
 //! | `times N` | what stands behind it, up to the next such line, comes so many times |
 //! | `ask 0` | what is told of a connection |
 //! | `show c0` | the bytes that wait on a port |
+//! | `used` | how many numbers of connections were used |
 //!
 //! Of an event it is printed that it was idle, or by which number it was refused; of one that was
 //! done nothing.
@@ -138,6 +139,7 @@ fn step<W: Write + Drop>(
         "memory" => ration(heap, rest, writer),
         "ask" => ask(server, conn_of(rest)?, writer),
         "show" => show(server, rest, writer),
+        "used" => writeln!(writer, "used {}", server.used()),
         "took" => {
             let (port, count) = rest.split_once(' ').unwrap_or((rest, ""));
             let port = port_of(port)?;
