@@ -7,7 +7,7 @@ use std::alloc::Global;
 use std::io;
 use std::net::{Ipv4Addr, SocketAddr, SocketAddrV4};
 use std::time::{Duration, Instant};
-use sv_pace::{Pace, STILL};
+use sv_pace::{FEW, Pace, STILL};
 
 /// How many connections there may be.
 const CONNECTIONS: usize = 16;
@@ -77,9 +77,10 @@ impl Served {
         })
     }
 
-    /// Waits at most so long, and gives back what came; whether anything did.
-    fn look(&mut self, limit: Duration) -> io::Result<bool> {
-        self.poll.poll(&mut self.events, Some(limit))?;
+    /// Waits until something comes, at most so long where there is a limit, and gives back what
+    /// came; whether anything did.
+    fn look(&mut self, limit: Option<Duration>) -> io::Result<bool> {
+        self.poll.poll(&mut self.events, limit)?;
         for event in self.events.iter() {
             let Token(number) = event.token();
             if number == CONNECTIONS {
@@ -99,19 +100,27 @@ pub(crate) fn serve(rt: &HostRuntime, port: u16, looks: u32) -> io::Result<()> {
     let start = Instant::now(rt)?;
     let mut pace = Pace::new();
     let mut tries = 0u32;
-    for _ in 0..looks {
+    for made in 0..looks {
         let now = start.elapsed(rt)?.as_nanos().min(u128::from(u64::MAX)) as u64;
         let _ = pace.ticks(now);
         let eager = pace.is_eager(now);
         let limit = if eager {
-            Duration::ZERO
+            Some(Duration::ZERO)
         } else {
-            Duration::from_nanos(pace.rest(now, STILL))
+            rest(&pace, now, looks - made)
         };
         let came = served.look(limit)?;
         tries = keep(&mut pace, now, tries, eager, came);
     }
     Ok(())
+}
+
+/// How long it may sleep with so many looks left: until something comes, but for the last ones.
+fn rest(pace: &Pace, now: u64, left: u32) -> Option<Duration> {
+    if left > FEW {
+        return None;
+    }
+    Some(Duration::from_nanos(pace.rest(now, STILL)))
 }
 
 /// Keeps what came of a look, and tells how many were made in vain since the last one that ended a

@@ -6,17 +6,26 @@ use std::alloc::Allocator;
 use std::io;
 use std::net::Net as Network;
 use std::time::{Clock, Duration, Instant};
-use sv_pace::{Pace, STILL};
+use sv_pace::{FEW, Pace, STILL};
 use sv_serve::Driver;
 use sv_server::Port;
 
 /// How often it looks again without sleeping, at most.
 const LOOKS: u32 = 1_000;
 
-/// Nanoseconds since the beginning, by the machine's clock.
-fn since(clock: &impl Clock, start: Instant) -> io::Result<u64> {
-    let passed = start.elapsed(clock)?;
-    Ok(passed.as_nanos().min(u128::from(u64::MAX)) as u64)
+/// The machine's clock, and when it was read first.
+#[derive(Drop)]
+struct Timer<'a, C: Clock> {
+    clock: &'a C,
+    start: Instant,
+}
+
+impl<C: Clock> Timer<'_, C> {
+    /// Nanoseconds since it was read first.
+    fn now(&self) -> io::Result<u64> {
+        let passed = self.start.elapsed(self.clock)?;
+        Ok(passed.as_nanos().min(u128::from(u64::MAX)) as u64)
+    }
 }
 
 /// Whether a sweep finds something to do on a connection without a report: bytes that wait can be
@@ -51,9 +60,10 @@ fn has_work<N: Network + Drop, A: Allocator>(driver: &Driver<Net<N, A>, A>) -> b
 }
 
 /// Makes so many sweeps. Behind each it waits until a socket is reported, or time matters: for the
-/// next whole millisecond, or up to 100 of them where nothing waits for time. For 50 microseconds
-/// after something was reported it looks again without sleeping, where that found something of
-/// late.
+/// next whole millisecond, or up to 100 of them where nothing waits for so many. Where nothing ever
+/// waits for time, and more than a million sweeps are left, it waits for sockets alone. For 50
+/// microseconds after something was reported it looks again without sleeping, where that found
+/// something of late.
 ///
 /// # Errors
 /// Where the system tells no time, or fails to wait.
@@ -64,15 +74,16 @@ pub fn serve<N: Network + Drop, A: Allocator>(
     sweeps: u32,
 ) -> io::Result<()> {
     let start = Instant::now(clock)?;
+    let timer = Timer { clock, start };
     let mut pace = Pace::new();
-    let mut now = since(clock, start)?;
-    for _ in 0..sweeps {
+    let mut now = timer.now()?;
+    for made in 0..sweeps {
         sweep(watch, driver, pace.ticks(now));
         now = if has_work(driver) {
-            let reported = watch.wait(Duration::ZERO)?;
-            worked(&mut pace, reported, since(clock, start)?)
+            let reported = watch.wait(Some(Duration::ZERO))?;
+            worked(&mut pace, reported, timer.now()?)
         } else {
-            look(clock, start, watch, driver, &mut pace, now)?
+            look(&timer, watch, driver, &mut pace, now, sweeps - made)?
         };
     }
     Ok(())
@@ -102,46 +113,51 @@ fn worked(pace: &mut Pace, reported: bool, now: u64) -> u64 {
     now
 }
 
-/// Whether time does nothing as long as it sleeps: nothing waits for it, no call for room, and no
-/// accept is to be tried again.
-fn is_idle<N: Network + Drop, A: Allocator>(driver: &Driver<Net<N, A>, A>) -> bool {
+/// Whether so many milliseconds do nothing while it sleeps: nothing waits for them, no call for
+/// room, and no accept is to be tried again.
+fn is_idle<N: Network + Drop, A: Allocator>(driver: &Driver<Net<N, A>, A>, ticks: u32) -> bool {
     let (net, server) = (driver.wire(), driver.server());
     let ready = (0..server.used()).any(|conn| server.ready(conn));
-    driver.is_still(STILL) && !net.is_knocked() && !ready
+    driver.is_still(ticks) && !net.is_knocked() && !ready
 }
 
-/// How long it may sleep.
+/// How long it may sleep with so many sweeps left; without a limit where time does nothing. A call
+/// waits for as many milliseconds at most as a u32 counts (VXI-11 revision 1.0, section B.4.4).
 fn rest<N: Network + Drop, A: Allocator>(
     driver: &Driver<Net<N, A>, A>,
     pace: &Pace,
     now: u64,
-) -> Duration {
-    let ticks = if is_idle(driver) { STILL } else { 1 };
-    Duration::from_nanos(pace.rest(now, ticks))
+    left: u32,
+) -> Option<Duration> {
+    if left > FEW && driver.is_played() && is_idle(driver, u32::MAX) {
+        return None;
+    }
+    let ticks = if is_idle(driver, STILL) { STILL } else { 1 };
+    Some(Duration::from_nanos(pace.rest(now, ticks)))
 }
 
 /// Waits until something is reported, or time matters, and tells when that was. The last sweep
-/// began then; neither a sweep nor a look that doesn't sleep takes time.
+/// began then, with so many left; neither a sweep nor a look that doesn't sleep takes time.
 fn look<N: Network + Drop, A: Allocator>(
-    clock: &impl Clock,
-    start: Instant,
+    timer: &Timer<'_, impl Clock>,
     watch: &mut Watch<A>,
     driver: &Driver<Net<N, A>, A>,
     pace: &mut Pace,
     began: u64,
+    left: u32,
 ) -> io::Result<u64> {
     let mut now = began;
     for looks in 0..LOOKS {
         if !pace.is_eager(now) {
             pace.end(looks, false);
-            let reported = watch.wait(rest(driver, pace, now))?;
-            return Ok(worked(pace, reported, since(clock, start)?));
+            let reported = watch.wait(rest(driver, pace, now, left))?;
+            return Ok(worked(pace, reported, timer.now()?));
         }
-        if watch.wait(Duration::ZERO)? {
+        if watch.wait(Some(Duration::ZERO))? {
             pace.end(looks, true);
             return Ok(worked(pace, true, now));
         }
-        now = since(clock, start)?;
+        now = timer.now()?;
     }
     Ok(now)
 }

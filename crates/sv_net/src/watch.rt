@@ -36,12 +36,13 @@ impl<A: Allocator + Copy> Watch<A> {
 }
 
 impl<A: Allocator> Watch<A> {
-    /// Waits until something is reported, at most so long, and tells whether something was.
+    /// Waits until something is reported, at most so long where there is a limit, and tells whether
+    /// something was.
     ///
     /// # Errors
     /// Where the system fails to wait.
-    pub(crate) fn wait(&mut self, limit: Duration) -> io::Result<bool> {
-        self.poll.poll(&mut self.events, Some(limit))?;
+    pub(crate) fn wait(&mut self, limit: Option<Duration>) -> io::Result<bool> {
+        self.poll.poll(&mut self.events, limit)?;
         Ok(!self.events.is_empty())
     }
 

@@ -4,4 +4,4 @@
 
 mod pace;
 
-pub use pace::{Pace, STILL};
+pub use pace::{FEW, Pace, STILL};

@@ -5,8 +5,11 @@ ghost use Rattle.sv_pace.specs.Pace.{Wait, StandsFor, IsDue, after_wait, longer}
 
 use std::marker::Model;
 
-/// How many milliseconds a server sleeps at most, where nothing waits for time.
+/// How many milliseconds a server sleeps at most, where nothing waits for so many.
 pub const STILL: u32 = 100;
+/// While more sweeps than these are left, a server for which time does nothing sleeps until it is
+/// called. Of the last ones it makes one each [`STILL`] milliseconds, and so comes to their end.
+pub const FEW: u32 = 1_000_000;
 /// Most milliseconds that pass at a sweep.
 const MOST_TICKS: u64 = 1_000;
 /// For so many nanoseconds after work it may look again without sleeping.

@@ -26,6 +26,9 @@ impl<W: Wire + Drop, A: Allocator> Driver<W, A> {
         ensures { Goes (Each 16 (Dials W.hears)) self.old self.new }
     {
         for conn in 0..CONNECTIONS {
+            if self.is_uncalled(conn) {
+                return;
+            }
             self.dial(conn);
         }
     }
@@ -139,6 +142,7 @@ impl<W: Wire + Drop, A: Allocator> Driver<W, A> {
         ensures { Goes (Notes conn (Some dial)) self.old self.new }
     {
         self.called[usize::from(conn)] = Some(dial);
+        self.callers = self.callers.max(conn + 1);
     }
 
     /// What came of waiting for a peer happens.

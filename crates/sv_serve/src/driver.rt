@@ -1,12 +1,12 @@
 //! A driver: a server, a wire, and a scenario.
 
-ghost use Rattle.std.specs.Prelude.{◌≡◌, replicate, None, IfOk, true, List};
+ghost use Rattle.std.specs.Prelude.{◌≡◌, ◌≤◌, ℕ, replicate, None, IfOk, true, List};
 ghost use Rattle.sv_history.specs.declared.event.Config.{Config};
 ghost use Rattle.sv_history.specs.Event.{PlainEvent, plain};
 ghost use Rattle.sv_server.specs.Server.State.{StandsFor};
 ghost use Rattle.sv_serve.specs.Asked.{IsUnused};
 ghost use Rattle.sv_serve.specs.Moment.{Goes, moment};
-ghost use Rattle.sv_serve.specs.Steps.{Given};
+ghost use Rattle.sv_serve.specs.Steps.{Given, called_of};
 
 use crate::wire::Wire;
 use std::alloc::{AllocError, Allocator, Global};
@@ -26,6 +26,8 @@ pub struct Driver<W: Wire + Drop, A: Allocator = Global> {
     pub(crate) wire: W,
     /// Whom it called for the interrupt channel of each connection.
     pub(crate) called: [Option<Dial>; 16],
+    /// For no connection of this number or above it ever called anybody.
+    pub(crate) callers: u8,
     pub(crate) scenario: Vec<Entry, A>,
     /// How many entries of the scenario were played.
     pub(crate) next: usize,
@@ -37,7 +39,7 @@ pub struct Driver<W: Wire + Drop, A: Allocator = Global> {
 
 impl<W: Wire + Drop, A: Allocator> Model for Driver<W, A> {
     ghost use Rattle.sv_serve.specs.Moment.{Driving};
-    ghost use Rattle.std.specs.Prelude.{◌≡◌, ◌≤◌, drop, length};
+    ghost use Rattle.std.specs.Prelude.{◌≡◌, ◌≤◌, ℕ, drop, length, slice_index_or, None};
 
     ghost Value = { Driving W };
 
@@ -49,7 +51,8 @@ impl<W: Wire + Drop, A: Allocator> Model for Driver<W, A> {
       ticks = a.ticks;
     } };
 
-    ghost invariant = { λ a. (length a.called ≡ 16) × (a.next ≤ length a.scenario.items) };
+    ghost invariant = { λ a. (length a.called ≡ 16) × (a.next ≤ length a.scenario.items)
+        × ((c : ℕ) → a.callers ≤ c → slice_index_or a.called c None ≡ None) };
 }
 
 impl<W: Wire + Drop, A: Allocator> Driver<W, A> {
@@ -76,6 +79,7 @@ impl<W: Wire + Drop, A: Allocator> Driver<W, A> {
             server,
             wire,
             called: [None; 16],
+            callers: 0,
             scenario,
             next: 0,
             ticks: 0,
@@ -104,6 +108,16 @@ impl<W: Wire + Drop, A: Allocator> Driver<W, A> {
             → IsUnused conn config (moment self.now history) }
     {
         conn >= self.server.used()
+    }
+
+    /// Whether nobody is to be called or let go for a connection of this number or above.
+    pub(crate) fn is_uncalled(&self, conn: u8) -> bool
+        ensures { result ≡ true → (config : Config) (history : List PlainEvent)
+            → StandsFor self.now.server config history
+            → IsUnused conn config (moment self.now history)
+            × ((c : ℕ) → conn ≤ c → called_of c (moment self.now history) ≡ None) }
+    {
+        self.is_unused(conn) && conn >= self.callers
     }
 
     /// Gives an event to the server.

@@ -1,6 +1,6 @@
 //! Whether there is nothing to do but by the wire.
 
-ghost use Rattle.std.specs.Prelude.{◌≡◌, ◌↔◌, ◌+◌, false, List};
+ghost use Rattle.std.specs.Prelude.{◌≡◌, ◌↔◌, ◌+◌, true, false, List, []};
 ghost use Rattle.sv_history.specs.declared.event.Config.{Config};
 ghost use Rattle.sv_history.specs.Event.{PlainEvent};
 ghost use Rattle.sv_server.specs.Server.State.{StandsFor};
@@ -22,6 +22,13 @@ impl<W: Wire + Drop, A: Allocator> Driver<W, A> {
             → StaysStill ticks config (moment self.now history) result }
     {
         self.server.is_still(ticks) && !self.is_due_within(ticks)
+    }
+
+    /// Whether the scenario is at its end: no entry of it is to come.
+    pub fn is_played(&self) -> bool
+        ensures { (result ≡ true) ↔ (self.now.ahead ≡ []) }
+    {
+        self.scenario.get(self.next).is_none()
     }
 
     /// Whether an entry of the scenario is due within so many milliseconds.

@@ -13,6 +13,7 @@
 //! | `sweep TICKS memory N` | the same, and the Nth allocation behind this fails |
 //! | `CALL: ANSWER` | behind a sweep, what the wire answers in it to a call |
 //! | `still N` | behind a sweep, printed with whether nothing waits for so many milliseconds |
+//! | `played` | behind a sweep, printed with whether the scenario is at its end |
 //!
 //! A row whose first line is `peers N` has a line of hexadecimal for each peer, which sends that on
 //! the core channel: so many sweeps are made. Printed is what each gets on its connection and its

@@ -99,7 +99,8 @@ fn sweep<W: Write + Drop>(
     Ok(())
 }
 
-/// Prints, for each line `still N` behind a sweep, whether nothing waits for so many milliseconds.
+/// Prints, for each line `still N` behind a sweep, whether nothing waits for so many milliseconds;
+/// and for each line `played` whether the scenario is at its end.
 fn show_still<W: Write + Drop>(
     driver: &Played<'_>,
     lines: &str,
@@ -109,6 +110,8 @@ fn show_still<W: Write + Drop>(
         if let Some(text) = line.strip_prefix("still ") {
             let ticks = number(text)?.min(u64::from(u32::MAX)) as u32;
             writeln!(writer, "{line}: {}", driver.is_still(ticks))?;
+        } else if line == "played" {
+            writeln!(writer, "{line}: {}", driver.is_played())?;
         }
     }
     Ok(())

@@ -1,5 +1,9 @@
-use Rattle.std.proofs.Common.{rules}
+use Rattle.std.proofs.Common.{rules, refl, ◌≤◌, ℕ, arith}
+use Rattle.sv_serve.proofs.Unused.{nobody}
 use Rattle.sv_serve.proofs.driver.Driver.new.Goals as goal
 
 pub returns : goal.returns
 returns g c = search rules
+
+pub invariant_of-result : goal.invariant_of-result
+invariant_of-result g c = (refl, omega arith, λ n le. nobody 16 n)
