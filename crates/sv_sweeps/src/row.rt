@@ -111,7 +111,7 @@ fn show_still<W: Write + Drop>(
             let ticks = number(text)?.min(u64::from(u32::MAX)) as u32;
             writeln!(writer, "{line}: {}", driver.is_still(ticks))?;
         } else if line == "played" {
-            writeln!(writer, "{line}: {}", driver.is_played())?;
+            writeln!(writer, "played: {}", driver.is_played())?;
         }
     }
     Ok(())
