@@ -99,8 +99,7 @@ fn sweep<W: Write + Drop>(
     Ok(())
 }
 
-/// Prints, for each line `still N` behind a sweep, whether nothing waits for so many milliseconds;
-/// and for each line `played` whether the scenario is at its end.
+/// Prints, for each line `still N` behind a sweep, whether nothing waits for so many milliseconds.
 fn show_still<W: Write + Drop>(
     driver: &Played<'_>,
     lines: &str,
@@ -110,7 +109,19 @@ fn show_still<W: Write + Drop>(
         if let Some(text) = line.strip_prefix("still ") {
             let ticks = number(text)?.min(u64::from(u32::MAX)) as u32;
             writeln!(writer, "{line}: {}", driver.is_still(ticks))?;
-        } else if line == "played" {
+        }
+    }
+    Ok(())
+}
+
+/// Prints, for each line `played` behind a sweep, whether the scenario is at its end.
+fn show_played<W: Write + Drop>(
+    driver: &Played<'_>,
+    lines: &str,
+    writer: &mut BufWriter<W>,
+) -> io::Result<()> {
+    for line in lines.lines() {
+        if line == "played" {
             writeln!(writer, "played: {}", driver.is_played())?;
         }
     }
@@ -128,6 +139,7 @@ fn sweep_each<W: Write + Drop>(
         let (line, behind) = section.split_once('\n').unwrap_or((section, ""));
         sweep(heap, driver, place, line, writer)?;
         show_still(driver, behind, writer)?;
+        show_played(driver, behind, writer)?;
     }
     Ok(())
 }
