@@ -77,7 +77,7 @@ soak: $(PROOF)
 	@tools/soak $(SERVER) $(MINUTES)
 
 # Installs the proved program, its man page, the scenario and scripts of the examples, and the licence.
-install: $(PROVED)
+install: $(PROOF)
 	@install -d -m 755 $(BIN) $(MAN) $(DATA) $(DOC)
 	@install -m 755 $(SERVER) $(BIN)/scanvolt
 	@install -m 644 docs/scanvolt.1 $(MAN)
@@ -91,7 +91,7 @@ uninstall:
 	@for folder in $(DATA) $(DOC); do [ ! -d $$folder ] || rmdir $$folder; done
 
 # Packs the proved program as a .tar.gz and a .deb in dist/, with their checksums.
-dist: $(PROVED)
+dist: $(PROOF)
 	@RT=$(RT) tools/dist $(SERVER)
 
 # Packs as above, and tries the packages: they are installed, serve and replay. With ROOT, a clean

@@ -3,6 +3,7 @@ pub mod Telling
 pub mod OneStep
 pub mod StillSettled
 pub mod AlwaysTold
+pub mod Unrecorded
 mod Stillness
 mod OneLog
 mod EveryLog

@@ -22,6 +22,10 @@ Answered answer config history result = (log : List Act) × IsLogOf config histo
 abbrev pub Decided : (List Act → Type 0) → Config → List PlainEvent → Bool → Type 0
 Decided IsSuch config history result = (log : List Act) × IsLogOf config history log × ((result ≡ true) ↔ IsSuch log)
 
--- Nothing was recorded of connections of this number and above, and of the one below it something was.
+-- Nothing was recorded of connections of this number and above.
+abbrev pub IsUnused : ℕ → List Act → Type 0
+IsUnused n log = (c : ℕ) → n ≤ c → of c log ≡ []
+
+-- And of the one below it something was.
 abbrev pub IsUsed : ℕ → List Act → Type 0
-IsUsed n log = ((c : ℕ) → n ≤ c → of c log ≡ []) × ((c : ℕ) → n ≡ suc c → of c log ≢ [])
+IsUsed n log = IsUnused n log × ((c : ℕ) → n ≡ suc c → of c log ≢ [])

@@ -66,15 +66,12 @@ impl<A: Allocator> Instrument<A> {
             State::Waiting => 0,
         }
     }
+
     /// Whether a scan is under way, of which the next millisecond reads a channel.
     pub fn is_scanning(&self) -> bool
         ensures { (log : List Act) → StandsFor self.now log
             → result ≡ scans (state (counted log)) }
     {
-        match self.layers.scanner().state() {
-            State::Scanning => true,
-            State::Idle => false,
-            State::Waiting => false,
-        }
+        self.layers.scanner().state().is_scanning()
     }
 }

@@ -3,7 +3,6 @@ use Rattle.std.proofs.Common.{◌≡◌, ℕ, ◌+◌, Bool, true, false, List, 
 use Rattle.std.proofs.lemmas.Bool.{cond_both}
 use Rattle.sv_errors.proofs.Since.{then_same}
 use Rattle.sv_status.specs.declared.register_name.RegisterName.{RegisterName}
-use Rattle.sv_status.specs.declared.register_name.RegisterName.TheVariants.{Operation, Questionable, Limit}
 use Rattle.sv_status.specs.declared.register.RegisterAct.{RegisterAct}
 use Rattle.sv_status.specs.declared.register.RegisterAct.TheVariants.{Condition}
 use Rattle.sv_status.specs.Register as register

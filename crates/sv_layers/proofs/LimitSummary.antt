@@ -5,7 +5,7 @@ use Rattle.std.specs.Int.{bit_at}
 use Rattle.std.proofs.lemmas.Bool.{cases_lt}
 use Rattle.std.proofs.lemmas.Nat.{mod_below}
 use Rattle.std.proofs.lemmas.Nat.Bits.{bit_at_above}
-use Rattle.sv_errors.specs.Since.{Since, is_since}
+use Rattle.sv_errors.specs.Since.{is_since}
 use Rattle.sv_errors.proofs.Since.{both_true, either_true, is_since_is}
 use Rattle.sv_status.specs.declared.register_name.RegisterName.{RegisterName}
 use Rattle.sv_status.specs.declared.register_name.RegisterName.TheVariants.{Operation, Questionable, Limit}
@@ -13,7 +13,7 @@ use Rattle.sv_status.specs.Register.{masked}
 use Rattle.sv_layers.specs.Act.{Act, Enabled, Preset}
 use Rattle.sv_layers.specs.Filter.{is_same, start, enable, has_bit, passes, leaves, some_below}
 use Rattle.sv_layers.specs.Condition.{limit, limit_summary, condition}
-use Rattle.sv_layers.specs.Event.{Passes, NotCleared, EventStands, Summary}
+use Rattle.sv_layers.specs.Event.{EventStands, Summary}
 use Rattle.sv_layers.proofs.Transitions.{has_is}
 
 -- some number below another is such

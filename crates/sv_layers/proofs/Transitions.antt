@@ -1,10 +1,10 @@
 -- Whether a bit changes in a direction whose filter is on: as a test, and as it is said of a register.
-use Rattle.std.proofs.Common.{◌≡◌, ℕ, ◌==◌, Bool, true, false, eqb, refl, ◌⊎◌, arith, eq-eqb}
+use Rattle.std.proofs.Common.{◌≡◌, ℕ, Bool, true, false, refl, ◌⊎◌, arith, eq-eqb}
 use Rattle.std.specs.Prelude.{◌↔◌, not, ◌&&◌, ◌||◌}
 use Rattle.std.specs.Int.{bit_at}
 use Rattle.std.proofs.lemmas.Bool.{eqb-true, eqb-false, ne_eqb}
 use Rattle.std.proofs.lemmas.Nat.Bits.{bit_at-lt}
-use Rattle.sv_errors.proofs.Since.{both_true, either_true, then_same}
+use Rattle.sv_errors.proofs.Since.{both_true, either_true}
 use Rattle.sv_layers.specs.Filter.{has_bit}
 use Rattle.sv_layers.proofs.Either.{either_same}
 

@@ -6,7 +6,6 @@ ghost use Rattle.sv_status.specs.declared.standard_event.StandardAct.{StandardAc
 ghost use Rattle.sv_status.specs.declared.status_byte.StatusAct.{StatusAct};
 ghost use Rattle.sv_status.specs.Register.{condition, StandsFor as Registers};
 ghost use Rattle.sv_status.specs.StandardEvent.{StandsFor as Standards};
-ghost use Rattle.sv_scan.specs.Counted.{is_idle as idles};
 ghost use Rattle.sv_scan.specs.Condition.{bit};
 ghost use Rattle.sv_layers.specs.Act.{Act};
 ghost use Rattle.sv_layers.specs.Change.{act_of};
@@ -18,7 +17,6 @@ use crate::change::Change;
 use crate::layers::Layers;
 use crate::status::mask_where;
 use std::alloc::Allocator;
-use sv_scan::State;
 use sv_status::{Register, RegisterName, StandardEvent};
 
 /// Operation complete, of the standard events.
@@ -62,7 +60,7 @@ impl<A: Allocator> Layers<A> {
         ensures exchange { self.new.exchange ≡ self.old.exchange }
         ensures scanner { self.new.scanner ≡ self.old.scanner }
     {
-        let idle = is_idle(self.scanner.state());
+        let idle = self.scanner.state().is_idle();
         self.standard.occur(mask_where(COMPLETE, self.waits & idle));
         self.waits &= !idle;
     }
@@ -164,15 +162,4 @@ fn is_same(first: RegisterName, second: RegisterName) -> bool
     ensures { result ≡ same_register first second }
 {
     first == second
-}
-
-/// Whether no measurement is under way.
-fn is_idle(state: State) -> bool
-    ensures { result ≡ idles state }
-{
-    match state {
-        State::Idle => true,
-        State::Waiting => false,
-        State::Scanning => false,
-    }
 }

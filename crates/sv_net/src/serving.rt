@@ -79,12 +79,7 @@ pub fn serve<N: Network + Drop, A: Allocator>(
     let mut now = timer.now()?;
     for made in 0..sweeps {
         sweep(watch, driver, pace.ticks(now));
-        now = if has_work(driver) {
-            let reported = watch.wait(Some(Duration::ZERO))?;
-            worked(&mut pace, reported, timer.now()?)
-        } else {
-            look(&timer, watch, driver, &mut pace, now, sweeps - made)?
-        };
+        now = pause(&timer, watch, driver, &mut pace, now, sweeps - made)?;
     }
     Ok(())
 }
@@ -103,14 +98,6 @@ fn sweep<N: Network + Drop, A: Allocator>(
         driver.sweep(ticks);
         watch.report(driver.wire());
     }
-}
-
-/// Keeps whether something was reported. This is when, and now.
-fn worked(pace: &mut Pace, reported: bool, now: u64) -> u64 {
-    if reported {
-        pace.work(now);
-    }
-    now
 }
 
 /// Whether so many milliseconds do nothing while it sleeps: nothing waits for them, no call for
@@ -136,8 +123,46 @@ fn rest<N: Network + Drop, A: Allocator>(
     Some(Duration::from_nanos(pace.rest(now, ticks)))
 }
 
-/// Waits until something is reported, or time matters, and tells when that was. The last sweep
-/// began then, with so many left; neither a sweep nor a look that doesn't sleep takes time.
+/// Waits for reports, at most so long where there is a limit. Tells whether one came, and when the
+/// wait ended.
+fn wait<A: Allocator>(
+    timer: &Timer<'_, impl Clock>,
+    watch: &mut Watch<A>,
+    pace: &mut Pace,
+    limit: Option<Duration>,
+) -> io::Result<(bool, u64)> {
+    let reported = watch.wait(limit)?;
+    let now = timer.now()?;
+    if reported {
+        pace.work(now);
+    }
+    Ok((reported, now))
+}
+
+/// Waits for the next sweep, of so many left, and tells when it begins: at once where a sweep finds
+/// something to do. Whether it does need not be asked where the first look finds a report.
+fn pause<N: Network + Drop, A: Allocator>(
+    timer: &Timer<'_, impl Clock>,
+    watch: &mut Watch<A>,
+    driver: &Driver<Net<N, A>, A>,
+    pace: &mut Pace,
+    began: u64,
+    left: u32,
+) -> io::Result<u64> {
+    let eager = pace.is_eager(began);
+    if !eager && !has_work(driver) {
+        pace.end(0, false);
+        return sleep(timer, watch, driver, pace, began, left);
+    }
+    let (reported, now) = wait(timer, watch, pace, Some(Duration::ZERO))?;
+    if !eager || reported || has_work(driver) {
+        return Ok(now);
+    }
+    look(timer, watch, driver, pace, now, left)
+}
+
+/// Looks again until something is reported, or looking isn't worth it any more; then it sleeps.
+/// Tells when that ended.
 fn look<N: Network + Drop, A: Allocator>(
     timer: &Timer<'_, impl Clock>,
     watch: &mut Watch<A>,
@@ -147,17 +172,31 @@ fn look<N: Network + Drop, A: Allocator>(
     left: u32,
 ) -> io::Result<u64> {
     let mut now = began;
-    for looks in 0..LOOKS {
+    for looks in 1..LOOKS {
         if !pace.is_eager(now) {
             pace.end(looks, false);
-            let reported = watch.wait(rest(driver, pace, now, left))?;
-            return Ok(worked(pace, reported, timer.now()?));
+            return sleep(timer, watch, driver, pace, now, left);
         }
-        if watch.wait(Some(Duration::ZERO))? {
+        let (reported, ended) = wait(timer, watch, pace, Some(Duration::ZERO))?;
+        if reported {
             pace.end(looks, true);
-            return Ok(worked(pace, true, now));
+            return Ok(ended);
         }
-        now = timer.now()?;
+        now = ended;
     }
     Ok(now)
+}
+
+/// Sleeps until something is reported, or time matters. Tells when that was.
+fn sleep<N: Network + Drop, A: Allocator>(
+    timer: &Timer<'_, impl Clock>,
+    watch: &mut Watch<A>,
+    driver: &Driver<Net<N, A>, A>,
+    pace: &mut Pace,
+    now: u64,
+    left: u32,
+) -> io::Result<u64> {
+    let limit = rest(driver, pace, now, left);
+    let (_, ended) = wait(timer, watch, pace, limit)?;
+    Ok(ended)
 }

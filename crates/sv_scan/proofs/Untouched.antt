@@ -1,5 +1,5 @@
 -- What an act leaves of the condition words.
-use Rattle.std.proofs.Common.{◌≡◌, ℕ, ◌+◌, ◌==◌, ℤ, Bool, true, false, List, ◌∷◌, refl, ap, if◌then◌else◌}
+use Rattle.std.proofs.Common.{ℕ, ◌+◌, ◌==◌, ℤ, Bool, true, false, List, ◌∷◌, refl, ap, if◌then◌else◌}
 use Rattle.std.specs.Prelude.{int_lt, ◌&&◌, ◌||◌}
 use Rattle.sv_errors.specs.declared.source.Source.{Source}
 use Rattle.sv_scan.specs.declared.setting.Setting.{Setting}

@@ -20,7 +20,7 @@ use crate::reading::{is_above, is_below, is_overload, reading_in, voltage};
 use crate::run::Run;
 use crate::setting::{Reading, Setting, State};
 use crate::settings::Settings;
-use crate::state::{is_complete, is_idle, is_same, is_scanning, is_waiting, state_in};
+use crate::state::{is_complete, is_same, state_in};
 use crate::touched::Touched;
 use crate::words::{Conditions, limit_word, operation_word, questionable_word};
 use std::alloc::{AllocError, Allocator, Global};
@@ -134,7 +134,7 @@ impl<A: Allocator> Scanner<A> {
         if !is_possible(setting) {
             return Err(Code::DataOutOfRange);
         }
-        if is_fixed(setting) && !is_idle(self.state()) {
+        if is_fixed(setting) && !self.state().is_idle() {
             return Err(Code::SettingsConflict);
         }
         Ok(())
@@ -174,7 +174,7 @@ impl<A: Allocator> Scanner<A> {
         ensures { (acts : List ScanAct) → StandsFor self.now acts
             → result ≡ refused_by (init_fault (kept acts)) }
     {
-        if !is_idle(self.state()) {
+        if !self.state().is_idle() {
             return Err(Code::InitIgnored);
         }
         Ok(())
@@ -266,7 +266,7 @@ impl<A: Allocator> Scanner<A> {
         ensures waiting { OnOk result (run_state self.now.run (length self.now.readings)
             ≡ Waiting) }
     {
-        if !is_waiting(self.state()) || !is_same(self.settings.source, source) {
+        if !self.state().is_waiting() || !is_same(self.settings.source, source) {
             return Err(Code::TriggerIgnored);
         }
         Ok(())
@@ -280,7 +280,7 @@ impl<A: Allocator> Scanner<A> {
         ensures answer { (acts : List ScanAct) → StandsFor self.old acts
             → result ≡ scans (state_of (kept acts)) }
     {
-        if !is_scanning(self.state()) {
+        if !self.state().is_scanning() {
             return false;
         }
         let Some(run) = &self.run else {

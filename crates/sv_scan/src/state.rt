@@ -28,36 +28,38 @@ pub(crate) fn is_complete(run: &Option<Run>, samples: usize) -> bool
     }
 }
 
-/// Whether no measurement is under way.
-pub(crate) fn is_idle(state: State) -> bool
-    ensures { result ≡ idles state }
-{
-    match state {
-        State::Idle => true,
-        State::Waiting => false,
-        State::Scanning => false,
+impl State {
+    /// Whether no measurement is under way.
+    pub fn is_idle(self) -> bool
+        ensures { result ≡ idles self }
+    {
+        match self {
+            State::Idle => true,
+            State::Waiting => false,
+            State::Scanning => false,
+        }
     }
-}
 
-/// Whether a scan waits for its trigger.
-pub(crate) fn is_waiting(state: State) -> bool
-    ensures { result ≡ waits state }
-{
-    match state {
-        State::Idle => false,
-        State::Waiting => true,
-        State::Scanning => false,
+    /// Whether the next scan waits for its trigger.
+    pub fn is_waiting(self) -> bool
+        ensures { result ≡ waits self }
+    {
+        match self {
+            State::Idle => false,
+            State::Waiting => true,
+            State::Scanning => false,
+        }
     }
-}
 
-/// Whether a scan is under way.
-pub(crate) fn is_scanning(state: State) -> bool
-    ensures { result ≡ scans state }
-{
-    match state {
-        State::Idle => false,
-        State::Waiting => false,
-        State::Scanning => true,
+    /// Whether a scan was triggered and isn't complete.
+    pub fn is_scanning(self) -> bool
+        ensures { result ≡ scans self }
+    {
+        match self {
+            State::Idle => false,
+            State::Waiting => false,
+            State::Scanning => true,
+        }
     }
 }
 

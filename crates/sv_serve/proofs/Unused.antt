@@ -1,18 +1,17 @@
 -- On connections that were never opened a sweep does nothing.
-use Rattle.std.proofs.Common.{◌≡◌, ℕ, zero, suc, ◌≤◌, Bool, true, false, List, [], None, replicate, slice_index_or, refl, sym, ap, subst, arith, rules, inl, inr}
+use Rattle.std.proofs.Common.{◌≡◌, ℕ, zero, suc, ◌≤◌, false, [], None, replicate, slice_index_or, refl, sym, ap, subst, arith, inl, inr}
 use Rattle.std.proofs.Math.Nat.{eq-or-lt_of_le}
 use Rattle.std.specs.Prelude.{Option}
 use Rattle.sv_history.specs.declared.event.Config.{Config}
 use Rattle.sv_history.specs.declared.event.Port.TheVariants.{Conn}
-use Rattle.sv_history.specs.Act.{Act, of, device_acts}
+use Rattle.sv_history.specs.Act.{device_acts}
 use Rattle.sv_history.specs.Connection.{room, waiting}
-use Rattle.sv_history.specs.Interrupts.{dial_of}
 use Rattle.sv_history.proofs.AlwaysTold.{some_told}
-use Rattle.sv_server.proofs.OnConnection.Connections.{nothing_idle, nothing_faulted}
+use Rattle.sv_history.proofs.Unrecorded.{nothing_idle, nothing_faulted, nothing_dialed}
 use Rattle.sv_serve.specs.Heard.{Heard}
 use Rattle.sv_serve.specs.Moment.{Moment, Each}
-use Rattle.sv_serve.specs.Asked.{IsUnused}
-use Rattle.sv_serve.specs.Steps.{called_of, ReadsFrom, Turns, Dials, LetsGoOf, CallsFor, WritesTo, Ends}
+use Rattle.sv_serve.specs.Asked.{NoneUsed}
+use Rattle.sv_serve.specs.Steps.{called_of, ReadsFrom, Turns, Dials, WritesTo, Ends}
 
 -- steps that change nothing behind those that were taken
 pub and_rest : {W : Type 0} (step : ℕ → Config → Moment W → Moment W → Type 0) (config : Config) (n m : ℕ) (a b : Moment W) → n ≤ m
@@ -24,22 +23,22 @@ and_rest step config n (suc m) a b le each stays = elim (eq-or-lt_of_le le) [
   | inr less ↦ (let low : n ≤ m = omega (arith, less) in (b, and_rest step config n m a b low each stays, stays m low))
 ]
 
-pub reads_none : {W : Type 0} (hears : W → Heard → W → Type 0) (n : ℕ) (config : Config) (at : Moment W) → IsUnused n config at
+pub reads_none : {W : Type 0} (hears : W → Heard → W → Type 0) (n : ℕ) (config : Config) (at : Moment W) → NoneUsed n config at
     → (c : ℕ) → n ≤ c → ReadsFrom hears c config at at
 reads_none hears n config at (log, is_log, none) c le = (0, (log, is_log, ap room (sym (none c le))), inl (refl, refl))
 
-pub turns_none : {W : Type 0} (n : ℕ) (config : Config) (at : Moment W) → IsUnused n config at → (c : ℕ) → n ≤ c
+pub turns_none : {W : Type 0} (n : ℕ) (config : Config) (at : Moment W) → NoneUsed n config at → (c : ℕ) → n ≤ c
     → Turns c config at at
 turns_none n config at (log, is_log, none) c le =
     (false, (log, is_log, nothing_idle _ (none c le)), refl)
 
-pub writes_none : {W : Type 0} (hears : W → Heard → W → Type 0) (n : ℕ) (config : Config) (at : Moment W) → IsUnused n config at
+pub writes_none : {W : Type 0} (hears : W → Heard → W → Type 0) (n : ℕ) (config : Config) (at : Moment W) → NoneUsed n config at
     → (c : ℕ) → n ≤ c → WritesTo hears (Conn c) config at at
 writes_none hears n config at (log, is_log, none) c le =
     let (told, tells) = some_told (device_acts log) in
     ([], (log, told, is_log, tells, ap waiting (sym (none c le))), inl (refl, refl))
 
-pub ends_none : {W : Type 0} (hears : W → Heard → W → Type 0) (n : ℕ) (config : Config) (at : Moment W) → IsUnused n config at
+pub ends_none : {W : Type 0} (hears : W → Heard → W → Type 0) (n : ℕ) (config : Config) (at : Moment W) → NoneUsed n config at
     → (c : ℕ) → n ≤ c → Ends hears c config at at
 ends_none hears n config at (log, is_log, none) c le = (false, (log, is_log, nothing_faulted _ (none c le)), refl)
 
@@ -49,15 +48,11 @@ nobody zero c = refl
 nobody (suc n) zero = refl
 nobody (suc n) (suc c) = nobody n c
 
--- nobody is wanted for a connection of which nothing was recorded
-wants_none : (c : ℕ) (log : List Act) → of c log ≡ [] → dial_of c log ≡ None
-wants_none c log none = rw none (search rules)
-
-pub dials_none : {W : Type 0} (hears : W → Heard → W → Type 0) (n : ℕ) (config : Config) (at : Moment W) → IsUnused n config at
+pub dials_none : {W : Type 0} (hears : W → Heard → W → Type 0) (n : ℕ) (config : Config) (at : Moment W) → NoneUsed n config at
     → ((c : ℕ) → n ≤ c → called_of c at ≡ None) → (c : ℕ) → n ≤ c → Dials hears c config at at
 dials_none hears n config at (log, is_log, none) uncalled c le =
     let nobody = uncalled c le in (
       at,
       rw nobody refl,
-      (None, (log, is_log, sym (wants_none c log (none c le))), refl),
+      (None, (log, is_log, nothing_dialed c log (none c le)), refl),
     )

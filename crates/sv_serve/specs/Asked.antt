@@ -1,5 +1,5 @@
 -- What the server answers at a moment, by what happened to it.
-use Rattle.std.specs.Prelude.{◌≡◌, ℕ, ◌<◌, ◌≤◌, not, Bool, true, false, List, [], Option, Some, None}
+use Rattle.std.specs.Prelude.{ℕ, ◌<◌, not, Bool, true, false, List, Option, Some, None}
 use Rattle.sv_history.specs.declared.event.Config.{Config}
 use Rattle.sv_history.specs.declared.event.Dial.{Dial}
 use Rattle.sv_history.specs.declared.event.Port.{Port}
@@ -8,7 +8,7 @@ use Rattle.sv_history.specs.Act.{Act, of}
 use Rattle.sv_history.specs.Connection.{room, is_idle, is_faulted}
 use Rattle.sv_history.specs.Interrupts.{dial_of}
 use Rattle.sv_history.specs.History.{is_port_shut, IsLogOf}
-use Rattle.sv_history.specs.Queries.{Answered, WaitOn}
+use Rattle.sv_history.specs.Queries.{Answered, WaitOn, IsUnused}
 use Rattle.sv_serve.specs.Moment.{Moment}
 
 -- whether a connection or an interrupt channel is open
@@ -35,9 +35,9 @@ Wants c config at answer = Answered (λ log. dial_of c log) config at.history an
 abbrev pub Waits : {W : Type 0} → Port → Config → Moment W → List ℕ → Type 0
 Waits port config at bytes = WaitOn port config at.history bytes
 
--- nothing was recorded of connections of this number and above
-abbrev pub IsUnused : {W : Type 0} → ℕ → Config → Moment W → Type 0
-IsUnused n config at = (log : List Act) × IsLogOf config at.history log × ((c : ℕ) → n ≤ c → of c log ≡ [])
+-- no connection of this number or above was ever open
+abbrev pub NoneUsed : {W : Type 0} → ℕ → Config → Moment W → Type 0
+NoneUsed n config at = (log : List Act) × IsLogOf config at.history log × IsUnused n log
 
 -- The lowest number of sixteen of which no connection is open, or none is.
 abbrev pub IsLowest : {W : Type 0} → Option ℕ → Config → Moment W → Type 0

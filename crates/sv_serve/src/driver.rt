@@ -4,7 +4,7 @@ ghost use Rattle.std.specs.Prelude.{◌≡◌, ◌≤◌, ℕ, replicate, None, 
 ghost use Rattle.sv_history.specs.declared.event.Config.{Config};
 ghost use Rattle.sv_history.specs.Event.{PlainEvent, plain};
 ghost use Rattle.sv_server.specs.Server.State.{StandsFor};
-ghost use Rattle.sv_serve.specs.Asked.{IsUnused};
+ghost use Rattle.sv_serve.specs.Asked.{NoneUsed};
 ghost use Rattle.sv_serve.specs.Moment.{Goes, moment};
 ghost use Rattle.sv_serve.specs.Steps.{Given, called_of};
 
@@ -105,7 +105,7 @@ impl<W: Wire + Drop, A: Allocator> Driver<W, A> {
     pub(crate) fn is_unused(&self, conn: u8) -> bool
         ensures { result ≡ true → (config : Config) (history : List PlainEvent)
             → StandsFor self.now.server config history
-            → IsUnused conn config (moment self.now history) }
+            → NoneUsed conn config (moment self.now history) }
     {
         conn >= self.server.used()
     }
@@ -114,7 +114,7 @@ impl<W: Wire + Drop, A: Allocator> Driver<W, A> {
     pub(crate) fn is_uncalled(&self, conn: u8) -> bool
         ensures { result ≡ true → (config : Config) (history : List PlainEvent)
             → StandsFor self.now.server config history
-            → IsUnused conn config (moment self.now history)
+            → NoneUsed conn config (moment self.now history)
             × ((c : ℕ) → conn ≤ c → called_of c (moment self.now history) ≡ None) }
     {
         self.is_unused(conn) && conn >= self.callers

@@ -1,5 +1,5 @@
 -- What is kept of a connection tells what its acts say.
-use Rattle.std.proofs.Common.{◌≡◌, ◌≢◌, ℕ, zero, suc, ◌≤◌, Bool, true, false, cond, eqb, List, [], ◌∷◌, ◌++◌, length, drop, Option, Some, None, refl, sym, ap, subst, ◌∙◌, arith, inl, inr, eq-eqb}
+use Rattle.std.proofs.Common.{◌≡◌, ◌≢◌, ℕ, zero, suc, ◌≤◌, Bool, true, false, cond, eqb, List, [], ◌∷◌, ◌++◌, length, drop, Option, Some, None, refl, sym, ap, ◌∙◌, arith, inl, inr, eq-eqb}
 use Rattle.std.specs.Prelude.{◌||◌, ◌&&◌, ◌-◌, slice_get, is_some, is_none, not, option_map, Result, Ok, Err}
 use Rattle.std.proofs.lemmas.Bool.{ne_eqb, cases_eq}
 use Rattle.std.specs.Borrow.{Bor}
@@ -7,7 +7,7 @@ use Rattle.sv_rpc.specs.declared.record_buf.RpcFault.{RpcFault}
 use Rattle.sv_rpc.specs.declared.record_buf.RpcFault.TheVariants.{RecordTooLong}
 use Rattle.sv_rpc.specs.Record.{Tail, Header, Data, TooLong}
 use Rattle.sv_rpc.specs.RecordBuf.{room_of, used_by, next_among}
-use Rattle.sv_rpc.specs.Stream.{read, records_of, tail_of}
+use Rattle.sv_rpc.specs.Stream.{records_of, tail_of}
 use Rattle.sv_rpc.proofs.OneReading.{read_alone}
 use Rattle.sv_rpc.specs.Limits.{capacity}
 use Rattle.sv_history.specs.Act.{ConnAct, CallTaken}
@@ -141,22 +141,6 @@ took_call kept acts call is next = record {
   busy = refl;
   call = λ busy. not_none (kept.faulted || kept.busy) _ call (next_is kept acts is ∙ next);
 }
-
--- ---- a connection of which nothing is recorded
-
-empty_faulted : false ≡ is_faulted []
-unfolding read
-empty_faulted = refl
-
-empty_idle : false ≡ not (is_idle [])
-unfolding read
-empty_idle = refl
-
-pub nothing_faulted : (acts : List ConnAct) → acts ≡ [] → false ≡ is_faulted acts
-nothing_faulted acts none = subst (λ (l : List ConnAct). false ≡ is_faulted l) (sym none) empty_faulted
-
-pub nothing_idle : (acts : List ConnAct) → acts ≡ [] → false ≡ not (is_idle acts)
-nothing_idle acts none = subst (λ (l : List ConnAct). false ≡ not (is_idle l)) (sym none) empty_idle
 
 -- no call is told as none
 pub idle_told : (found : Option (Bor (List ℕ))) (none : Bool) (acts : List ConnAct) → is_some found ≡ not none

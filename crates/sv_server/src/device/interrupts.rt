@@ -13,6 +13,7 @@ ghost use Rattle.sv_server.specs.Device.Representation.{IsDevice};
 ghost use Rattle.sv_history.specs.Interrupts.{has_channel as channel_there, enable_srq as enabled_srq, device_enable_srq as done_enable_srq, is_peer as may_call, channel_fault as fault_of, destroy_channel as destroyed_channel, is_dialing, peer_by as asked_peer, end_channel as ended_channel, dialed};
 ghost use Rattle.sv_vxi.specs.Reading.{plain_arguments};
 ghost use Rattle.sv_links.specs.Channels.{ChannelAct, ChannelClosed, ChannelTaken, waiting as channel_bytes};
+ghost use Rattle.sv_links.specs.Limits.{max_queued};
 ghost use Rattle.sv_links.specs.ChannelRepresentation.{bytes_of};
 ghost use Rattle.sv_history.specs.Requests.{HearsOf};
 ghost use Rattle.sv_history.specs.CoreChannel.{owns};
@@ -212,6 +213,7 @@ impl<A: Allocator> Device<A> {
         self.waiting.leave(conn);
         self.intr.cancel(conn);
     }
+
     /// The bytes that wait on the interrupt channel of a connection; none where it isn't open.
     pub fn channel_waiting(&self, conn: u8) -> &[u8]
         requires { conn < 16 }
@@ -219,7 +221,7 @@ impl<A: Allocator> Device<A> {
         ensures answer { (config : Configured) (acts : List DeviceAct) (told : List ChannelAct)
             → IsDevice self.now config acts → HearsOf acts told
             → result.now ≡ channel_bytes conn told }
-        ensures bounded { length result.now ≤ 2816 }
+        ensures bounded { length result.now ≤ max_queued }
     {
         self.intr.waiting(conn)
     }

@@ -1,4 +1,4 @@
-use Rattle.std.proofs.Common.{rules, refl, ◌≤◌, ℕ, arith}
+use Rattle.std.proofs.Common.{rules, refl, arith}
 use Rattle.sv_serve.proofs.Unused.{nobody}
 use Rattle.sv_serve.proofs.driver.Driver.new.Goals as goal
 

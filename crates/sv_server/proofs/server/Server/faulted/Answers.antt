@@ -1,4 +1,4 @@
-use Rattle.sv_server.proofs.OnConnection.Connections.{nothing_faulted}
+use Rattle.sv_history.proofs.Unrecorded.{nothing_faulted}
 use Rattle.sv_server.proofs.server.Server.faulted.Goals as goal
 
 pub returns-in-Some : goal.returns-in-Some

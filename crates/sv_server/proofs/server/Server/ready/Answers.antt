@@ -1,6 +1,6 @@
 use Rattle.std.proofs.Common.{ap}
 use Rattle.std.specs.Prelude.{not}
-use Rattle.sv_server.proofs.OnConnection.Connections.{nothing_idle}
+use Rattle.sv_history.proofs.Unrecorded.{nothing_idle}
 use Rattle.sv_server.proofs.server.Server.ready.Goals as goal
 
 pub returns-in-Some : goal.returns-in-Some

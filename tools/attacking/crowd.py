@@ -1,0 +1,59 @@
+"""Peers that ask without a pause, and a deadline beside them."""
+import multiprocessing
+import time
+
+from attacking.calls import CORE, LOCK, PATIENCE, WAITLOCK, Lost, Peer, call, words
+
+PROCESSES, EACH = 3, 4      # who asks, and on how many connections
+DEADLINES = 20
+WAIT = 100                  # milliseconds of a deadline
+LATEST = 1000               # milliseconds behind which a deadline counts as lost
+LOCKED = 11
+
+
+def ask(port, begun, ended):
+    """Asks on each of its connections as soon as the last reply there came: calls that do nothing."""
+    peers = [Peer(port) for _ in range(EACH)]
+    nothing = call(1, CORE, 0)
+    for peer in peers:
+        peer.send(nothing)
+    begun.release()
+    while not ended.is_set():
+        for peer in peers:
+            peer.take(28)
+            peer.send(nothing)
+
+
+def lateness(peer, first, second):
+    """By how many milliseconds a call is late that waits in vain for the lock."""
+    peer.do(LOCK, words(first, 0, 0), b"")
+    begun = time.monotonic()
+    found = peer.result(CORE, LOCK, words(second, WAITLOCK, WAIT))
+    late = 1000 * (time.monotonic() - begun) - WAIT
+    if found != words(LOCKED):
+        raise Lost("a call that waited for the lock answers otherwise: %s" % found.hex())
+    return late
+
+
+def latest(server):
+    """The greatest of so many, while others ask without a pause."""
+    begun, ended = multiprocessing.Semaphore(0), multiprocessing.Event()
+    crowd = [multiprocessing.Process(target=ask, args=(server.core, begun, ended), daemon=True)
+             for _ in range(PROCESSES)]
+    for asking in crowd:
+        asking.start()
+    try:
+        if not all([begun.acquire(timeout=PATIENCE) for _ in crowd]):
+            raise Lost("a connection of those that ask without a pause isn't served")
+        with Peer(server.core) as peer:
+            peer.make_link()
+            first = peer.link
+            peer.make_link()
+            late = max(lateness(peer, first, peer.link) for _ in range(DEADLINES))
+    finally:
+        ended.set()
+        for asking in crowd:
+            asking.join(PATIENCE)
+    if late > LATEST:
+        raise Lost("a deadline of %d ms came %.0f ms late" % (WAIT, late))
+    return late
