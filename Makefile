@@ -22,8 +22,9 @@ DOC_FILES := LICENSE CHANGELOG.md docs/INSTRUMENT.md docs/REPLAY.md examples/ide
 
 .PHONY: test lint check scanvolt run serve bench echo clients hostile soak install uninstall dist packages
 
-# What a proof doesn't see (tools/lint); then proves every crate and its tests from nothing, tries
-# the must-fail edits, and runs the programs and the tests.
+# What a proof doesn't see (tools/lint); then proves what changed and the crates above it from nothing
+# (every crate and its tests by `rt ci --anew`), tries the must-fail edits in the same way, and runs
+# the programs and the tests.
 test: lint
 	@$(RT) ci
 
