@@ -1,4 +1,3 @@
 pub mod Since
-pub mod Overlooks
 pub mod Each
 pub mod Queue

@@ -1,7 +1,6 @@
--- What is queued after one more act: `queued-reported`, `queued-overflowed` (both in `queued-report`), `queued-taken` and
--- `queued-cleared`.
+-- What is queued after one more act: `queued-reported`, `queued-overflowed` and `queued-taken`.
 use Rattle.std.proofs.Common.{◌≡◌, ℕ, suc, ◌+◌, ◌-◌, ◌<◌, ◌≤◌, Bool, true, false, ◌&&◌, cond, List, [], ◌∷◌, ◌++◌, length, take, drop, refl, sym, ap, subst, ◌∙◌, add-one, arith, ◌⊎◌, inl, inr, length-append, length-drop}
-use Rattle.std.specs.Prelude.{◌==◌, map, if◌then◌else◌}
+use Rattle.std.specs.Prelude.{map}
 use Rattle.std.specs.List.{AllByRecursion}
 use Rattle.std.proofs.lemmas.Bool.{and_right, cases_lt, lt-ltb, le-ltb, eq-eqb, ne_eqb}
 use Rattle.std.proofs.lemmas.List.{drop-drop, drop-append-le, drop-map, map_push, take_at, length-map}
@@ -264,13 +263,6 @@ shown-entries act acts quiet = map-same (λ place. place ≤ length acts) (shown
 pub length-queued : (acts : List QueueAct) → length (queued acts) ≡ length (entries acts)
 length-queued acts = length-map (entries acts) (shown acts)
 
--- whether the queue is full, and that it never has more
-pub full-queued : (acts : List QueueAct) → is_full acts ≡ (length (queued acts) == most)
-full-queued acts = ap (λ (n : ℕ). n == most) (sym (length-queued acts))
-
-pub queued-few : (acts : List QueueAct) → length (queued acts) ≤ most
-queued-few acts = omega (arith, length-queued acts, (valid acts).few)
-
 -- a report that finds room becomes the newest
 pub queued-reported : (code : Code) (acts : List QueueAct) → length (queued acts) < most
     → queued (Report code ∷ acts) ≡ queued acts ++ code ∷ []
@@ -304,25 +296,11 @@ queued-overflowed code acts full =
     (map-same (λ place. place < length acts) (shown (Report code ∷ acts)) (shown acts) is.front
     (λ place lt. shown-older place (Report code) acts lt) is.older ∙ sym front)
 
--- a report, whether it finds room or not
-pub queued-report : (code : Code) (acts : List QueueAct) → queued (Report code ∷ acts)
-    ≡ (if is_full acts then take (most - 1) (queued acts) ++ QueueOverflow ∷ [] else queued acts ++ code ∷ [])
-queued-report code acts = elim (cases_lt (length (queued acts)) most) [
-  | inl room ↦ rw (full-queued acts, ne_eqb (length (queued acts)) most (λ e. omega arith)) (queued-reported code acts room)
-  | inr full ↦
-      let many : length (queued acts) ≡ most = omega (arith, full, queued-few acts) in
-      rw (full-queued acts, eq-eqb (length (queued acts)) most many) (queued-overflowed code acts many)
-]
-
 -- a taking leaves out the oldest
 pub queued-taken : (acts : List QueueAct) → queued (Take ∷ acts) ≡ drop 1 (queued acts)
 queued-taken acts =
     ap (map (shown (Take ∷ acts))) (entries-taken acts) ∙ sym (drop-map (shown (Take ∷ acts)) 1 (entries acts))
     ∙ ap (drop 1) (shown-entries Take acts (and_right (is_full acts) false refl))
-
--- clearing leaves nothing
-pub queued-cleared : (acts : List QueueAct) → queued (Clear ∷ acts) ≡ []
-queued-cleared acts = refl
 
 -- ---- the codes that stand for the acts
 

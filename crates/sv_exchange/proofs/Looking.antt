@@ -91,21 +91,6 @@ blank_open seen left = record {
   ends = refl;
 }
 
--- no byte was looked at
-pub unseen : (ahead : Ahead) → ahead.start ≡ 0 → ahead.end ≡ 0 → ahead.looked ≡ 0 → ahead.closed ≡ false → Reads ahead.partial []
-    → IsAhead ahead []
-unseen ahead s e l c r = record {
-  before = [];
-  unit = [];
-  space = [];
-  whole = refl;
-  begins = s;
-  closes = omega (arith, e);
-  size = l;
-  reads = r;
-  found = subst (λ (t : Bool). IsFound t [] [] []) (sym c) (blank_open [] (λ more. refl));
-}
-
 -- a byte that is stepped over
 pub stepped_over : (a new : Ahead) (seen : List ℕ) (b : ℕ) → a.closed ≡ false → a.end ≤ a.start
     → ((more : List ℕ) → units (b ∷ more) ≡ units more) → new.start ≡ a.looked + 1 → new.end ≡ a.looked + 1 → new.looked ≡ a.looked + 1

@@ -2,7 +2,7 @@
 use Rattle.std.proofs.Common.{◌≡◌, ℕ, cond, List, [], ◌∷◌, ◌++◌, drop, refl, sym, ap}
 use Rattle.std.proofs.lemmas.List.{drop-drop}
 use Rattle.sv_errors.specs.Since.{newest, since_place}
-use Rattle.sv_exchange.specs.Exchange.{ExchangeAct, Finished, Interrupted, ResponseRead, is_answered, whole_response, read_since, renews, renewed, bytes_read, answers, joined, response}
+use Rattle.sv_exchange.specs.Exchange.{ExchangeAct, Finished, ResponseRead, is_answered, whole_response, read_since, renews, renewed, bytes_read, answers, joined, response}
 
 -- what finishing a message makes of the response before it
 abbrev pub response_after : List (List ℕ) → List ℕ → List ℕ
@@ -23,7 +23,3 @@ response-finished acts = at (answers acts) refl
 -- bytes were read
 pub response-read : (acts : List ExchangeAct) (count : ℕ) → response (ResponseRead count ∷ acts) ≡ drop count (response acts)
 response-read acts count = sym (drop-drop count (read_since acts) (whole_response acts))
-
--- it was interrupted
-pub response-interrupted : (acts : List ExchangeAct) → response (Interrupted ∷ acts) ≡ []
-response-interrupted acts = refl

@@ -17,13 +17,6 @@ parted-fewer (first ∷ behind) branch children siblings p =
     let back : length siblings ≡ length (drop first.below behind) = ap length p.2 in
     (omega (arith, front, length-take first.below behind), omega (arith, back, length-drop first.below behind))
 
--- nothing leads anywhere among no nodes
-pub no-branches : (fuel : ℕ) (query : Bool) (branches : List Branch) (left : List (List ℕ)) (command : CommandId) → branches ≡ []
-    → Leads fuel query branches left command → ⊥
-no-branches zero query branches left command e h = h
-no-branches (suc fuel) query [] left command e h = h
-no-branches (suc fuel) query (first ∷ behind) left command e h = absurd cc
-
 -- a node takes the first mnemonic in one way
 one-takes : (left : List (List ℕ)) (part : Part) (first second : List (List ℕ)) → Takes left part first → Takes left part second
     → first ≡ second
@@ -138,19 +131,6 @@ found-behind query (node ∷ behind) branch children siblings left there absent 
     let few_behind : length siblings ≤ fuel = omega (arith, fewer.1) in
     λ command h. nothing-here fuel query node behind branch children siblings left there absent command p w v (a fuel few command)
     (b fuel few command) (c fuel few_behind command) h
-
--- nothing is found where nothing is left
-pub nothing-left : (query : Bool) (branch : Branch) (children : List Branch) (way : Option Mnemonics) → way ≡ None
-    → FoundBelow query branch children way None
-nothing-left query branch children None e = λ fuel le command h. h
-nothing-left query branch children (Some left) e = absurd cc
-
--- a node's own command
-pub found-ending : (query : Bool) (branch : Branch) (children : List Branch) (way : Option Mnemonics) (left : Mnemonics)
-    (command : CommandId) → way ≡ Some left → Ends (left_of left) (command_of query branch) command
-    → FoundBelow query branch children way (Some command)
-found-ending query branch children way left command e ends =
-    λ fuel le. subst (λ w. OnLeft w (λ rest. LeadsFrom fuel query branch children rest command)) (sym e) (inl ends)
 
 -- what was found below it, where it has none
 below-node : (query : Bool) (branch : Branch) (children : List Branch) (left : Mnemonics) (found : Option CommandId)

@@ -220,10 +220,6 @@ find-anew conn wait last c (x ∷ xs) = elim (cases_Bool (eqb x.conn c)) [
   | inr k ↦ rw (conn-anew conn wait last x, k) (find-anew conn wait last c xs)
 ]
 
-some_wait : (o : Option Wait) (wait : Wait) → (o ≡ None → ⊥) → Some wait ≡ option_map (λ (x : Wait). wait) o
-some_wait None wait h = absurd (h refl)
-some_wait (Some x) wait h = refl
-
 all-anew : (conn : ℕ) (wait : Wait) (last : Option ℕ) (c : ℕ) (acts : List WaitAct) (xs : List Entry)
     → waits c acts ≡ option_map (λ x. x.wait) (entry_of c xs)
     → waits c (Again conn wait last ∷ acts) ≡ option_map (λ x. x.wait) (entry_of c (map (anew conn wait last) xs))

@@ -79,12 +79,5 @@ IsQueued-sent old new peer handle count calls size made sizes bytes total few le
     subst (λ (can : Bool). IsQueued new count (with_call peer handle calls can)) (sym (may_be_sent old count calls is few left))
     (IsQueued-called old new count calls call made sizes bytes (request_is_some (length calls + 1) peer handle) is)
 
--- none is sent, as none may be
-pub IsQueued-unsent : (kept : Channel) (peer : Peer) (handle : List ℕ) (count : ℕ) (calls : List (List ℕ))
-    → may_call count calls ≡ false → IsQueued kept count calls
-    → IsQueued kept count (called (Some peer) count calls handle)
-IsQueued-unsent kept peer handle count calls full is =
-    subst (λ (can : Bool). IsQueued kept count (with_call peer handle calls can)) (sym full) is
-
 pub open≢closed : (stage : Stage) (peer : Peer) → stage ≡ Open peer → stage ≡ Closed → ⊥
 open≢closed stage peer e k = cc

@@ -47,9 +47,6 @@ cut-push (m ∷ ns) bytes n h =
     ap (λ (rs : List (List ℕ)). take m bytes ∷ rs)
     (cut-push ns (drop m bytes) n rest ∙ ap (λ (r : List ℕ). cut ns (drop m bytes) ++ r ∷ []) behind)
 
-behind-length : (ns bytes : List ℕ) (n : ℕ) → sum ns + n ≡ length bytes → length (drop (sum ns) bytes) ≡ n
-behind-length ns bytes n h = omega (arith, length-drop (sum ns) bytes)
-
 -- what the buffer counts, by the lengths of its parts
 pub used_at_header : (ns bytes header : List ℕ) (n : ℕ) → sum ns + n ≡ length bytes
     → used_by (cut ns bytes) (Header (drop (sum ns) bytes) header) ≡ 4 * length ns + length bytes + 4 + length header

@@ -141,12 +141,6 @@ data_last_ends stream piece all payload missing splits ends =
     (rw (b.3, append_assoc) refl)
     (omega (arith, length-append payload piece))
 
--- behind a record that is too long, nothing is read
-pub too_long_stays : (stream piece : List ℕ) (all : List (List ℕ)) → Splits stream all TooLong → Splits (stream ++ piece) all TooLong
-too_long_stays stream piece all splits =
-    let b = splits.behind in
-    longer stream piece all TooLong _ splits (b.0, b.1, b.2, b.3 ++ piece, rw b.4 (simp append_assoc), b.5, b.6, b.7)
-
 -- each word is spelled as a header
 word_heads : (word : ℕ) (last : Bool) → leb (2 ^ 31) word ≡ last → word < 2 ^ 32 → to_be_bytes w32 word ≡ header_of last (word % 2 ^ 31)
 word_heads word true is small = ap (to_be_bytes w32) (omega (arith, leb-true (2 ^ 31) word is))

@@ -1,10 +1,8 @@
 -- What an act leaves of the condition words.
 use Rattle.std.proofs.Common.{ℕ, ◌+◌, ◌==◌, ℤ, Bool, true, false, List, ◌∷◌, refl, ap, if◌then◌else◌}
 use Rattle.std.specs.Prelude.{int_lt, ◌&&◌, ◌||◌}
-use Rattle.sv_errors.specs.declared.source.Source.{Source}
-use Rattle.sv_scan.specs.declared.setting.Setting.{Setting}
 use Rattle.sv_scan.specs.declared.acts.ScanAct.{ScanAct}
-use Rattle.sv_scan.specs.declared.acts.ScanAct.TheVariants.{Input, Configure, Trigger}
+use Rattle.sv_scan.specs.declared.acts.ScanAct.TheVariants.{Input}
 use Rattle.sv_scan.specs.Setting.{monitor, input, limits, lower, upper}
 use Rattle.sv_scan.specs.Scan.{last_reading}
 use Rattle.sv_scan.specs.Condition.{bit, is_below, is_above}
@@ -14,16 +12,6 @@ use Rattle.sv_scan.specs.Touched.{IsTouched}
 pub IsTouched-all : (act : ScanAct) (log : List ScanAct)
     → IsTouched (record { operation = true; questionable = true; limit = true }) (act ∷ log)
 IsTouched-all act log = ((λ e. absurd cc), (λ e. absurd cc), (λ e. absurd cc))
-
--- a setting changes no state of the measurement and no reading
-pub IsTouched-configured : (setting : Setting) (log : List ScanAct)
-    → IsTouched (record { operation = false; questionable = false; limit = true }) (Configure setting ∷ log)
-IsTouched-configured setting log = ((λ e. refl), (λ e. refl), (λ e. absurd cc))
-
--- a trigger changes neither a reading nor an input
-pub IsTouched-triggered : (source : Source) (log : List ScanAct)
-    → IsTouched (record { operation = true; questionable = false; limit = false }) (Trigger source ∷ log)
-IsTouched-triggered source log = ((λ e. absurd cc), (λ e. refl), (λ e. refl))
 
 -- the limits that are passed, by the live input of the monitored channel
 abbrev live_word : ℤ → List ScanAct → ℕ

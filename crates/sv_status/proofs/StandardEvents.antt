@@ -9,7 +9,7 @@ use Rattle.sv_errors.proofs.Since.{since_empty, since_step, since_kept, since_sa
 use Rattle.sv_status.specs.declared.standard_event.StandardAct.{StandardAct}
 use Rattle.sv_status.specs.declared.standard_event.StandardAct.TheVariants.{Occur, Read, SetEnable, Clear}
 use Rattle.sv_status.specs.StandardEvent.{Latches, StandsFor, Stands, Occurs, NotCleared, Summary}
-use Rattle.sv_status.proofs.Words.{no_bit, no_bits, either_bit}
+use Rattle.sv_status.proofs.Words.{no_bits, either_bit}
 
 -- ---- which events stand
 
@@ -20,13 +20,6 @@ stands-none k = let law = since_empty (Occurs k) NotCleared in ((λ s. (law.0 s)
 -- events occur: one of these, or it stood before
 pub stands-occurred : (k bits : ℕ) (acts : List StandardAct) → Stands k (Occur bits ∷ acts) ↔ ((bit_at bits k ≡ 1) ⊎ Stands k acts)
 stands-occurred k bits acts = since_kept (Occurs k) NotCleared (Occur bits) acts tt
-
--- another event occurs, or none
-pub stands-other : (k bits : ℕ) (acts : List StandardAct) → (bit_at bits k ≡ 1 → ⊥) → Stands k (Occur bits ∷ acts) ↔ Stands k acts
-stands-other k bits acts other = since_same (Occurs k) NotCleared (Occur bits) acts tt other
-
-pub stands-nothing : (k : ℕ) (acts : List StandardAct) → Stands k (Occur 0 ∷ acts) ↔ Stands k acts
-stands-nothing k acts = stands-other k 0 acts (λ h. no_bit 0 k h refl)
 
 -- the enable
 pub stands-enable : (k word : ℕ) (acts : List StandardAct) → Stands k (SetEnable word ∷ acts) ↔ Stands k acts

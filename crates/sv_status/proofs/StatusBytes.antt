@@ -22,30 +22,8 @@ pub request-updated : (word mask : ℕ) (acts : List StatusAct) → Request (Upd
     ↔ (Master (Update word mask ∷ acts) × (Reason (Update word mask ∷ acts) ⊎ Request acts))
 request-updated word mask acts = since_step Reason Lasts (Update word mask) acts
 
--- an update without the master summary, and a poll
-pub request-unasked : (word mask : ℕ) (acts : List StatusAct) → (Master (Update word mask ∷ acts) → ⊥)
-    → Request (Update word mask ∷ acts) → ⊥
-request-unasked word mask acts none = since_ended Reason Lasts (Update word mask) acts none
-
 pub request-polled : (acts : List StatusAct) → Request (Poll ∷ acts) → ⊥
 request-polled acts = since_ended Reason Lasts Poll acts (λ lasts. lasts)
-
--- the master summary stands with it
-pub request-master : (acts : List StatusAct) → Request acts → Master acts
-request-master [] stands = absurd (request-none stands)
-request-master (Update word mask ∷ acts) stands = ((request-updated word mask acts).0 stands).0
-request-master (Poll ∷ acts) stands = absurd (request-polled acts stands)
-
--- an update to the bits and the enable that there were
-pub request-unchanged : (word mask : ℕ) (acts : List StatusAct) → word ≡ bits acts → mask ≡ enable acts
-    → Request (Update word mask ∷ acts) ↔ Request acts
-request-unchanged word mask acts same alike =
-    let law = request-updated word mask acts in
-    let now : (k : ℕ) → Asks k word mask → AsksAt k acts = λ k h. rw (same, alike) at h in
-    let before : (k : ℕ) → AsksAt k acts → Asks k word mask = λ k h. rw (same, alike) h in (
-      (λ s. elim (law.0 s).1 [ inl r ↦ absurd (r.2 (now r.0 r.1)) | inr stood ↦ stood ]),
-      (λ stood. let m = request-master acts stood in law.1 ((m.0, before m.0 m.1), inr stood)),
-    )
 
 -- ---- whether it is raised
 
@@ -57,10 +35,6 @@ raised-updated word mask acts =
       (λ raised. (elim (law.0 raised.0).1 [ inl r ↦ r | inr stood ↦ absurd (raised.1 stood) ], raised.1)),
       (λ h. let r = h.0 in (law.1 ((r.0, r.1), inl r), h.1)),
     )
-
--- a poll
-pub raised-polled : (acts : List StatusAct) → IsRaised (Poll ∷ acts) → ⊥
-raised-polled acts raised = request-polled acts raised.0
 
 -- ---- what the status byte keeps
 

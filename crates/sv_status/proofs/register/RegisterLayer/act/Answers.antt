@@ -1,5 +1,4 @@
 use Rattle.std.proofs.Common.{rules}
-use Rattle.sv_status.proofs.Registers.{StandsFor-start}
 use Rattle.sv_status.proofs.register.RegisterLayer.act.Goals as goal
 
 pub returns-in-ReadEvent-clause-answer : goal.returns-in-ReadEvent-clause-answer
