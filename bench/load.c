@@ -1,7 +1,7 @@
 /*
  * Clients in a closed loop, each with one call under way:
  *
- *     load CONNECTIONS SECONDS KIND PORT [KIND PORT]
+ *     load CONNECTIONS SECONDS SLICES KIND PORT [KIND PORT]
  *
  *     idn    a query is device_write of *IDN? and device_read
  *     lock   the same, between device_lock, which waits for the lock, and device_unlock
@@ -10,8 +10,8 @@
  *
  * Every reply is compared. It prints the queries a second, of each server on a line; one connection
  * alone can do idn, since without the lock clients interrupt each other's answers. Two servers are
- * asked in turn, in slices of some hundredths of a second, each for so many seconds in all: what else
- * a machine does comes and goes within tenths, and so meets both alike.
+ * asked in turn, in so many slices, each for so many seconds in all: what else a machine does comes
+ * and goes within tenths of a second, and meets both alike where the slices are short.
  */
 #include <arpa/inet.h>
 #include <netinet/in.h>
@@ -27,7 +27,7 @@
 
 enum { CREATE_LINK = 10, WRITE = 11, READ = 12, READSTB = 13, LOCK = 18, UNLOCK = 19 };
 enum { CONNECTIONS = 16, STEPS = 4, LONGEST = 128, TIMEOUT = 10000, WAITLOCK = 1, END = 8 };
-enum { SERVERS = 2, SLICES = 10 };
+enum { SERVERS = 2 };
 
 static const char name[] = "SCANVOLT,SV32,0,1.0\n";
 
@@ -244,16 +244,17 @@ static void slice(struct server *at, int count, double seconds)
 
 int main(int words, char **word)
 {
-    int count = words == 5 || words == 7 ? atoi(word[1]) : 0, asked = (words - 3) / 2;
+    int count = words == 6 || words == 8 ? atoi(word[1]) : 0, asked = (words - 4) / 2;
     double seconds = count > 0 ? atof(word[2]) : 0;
-    if (count < 1 || count > CONNECTIONS) {
-        fprintf(stderr, "usage: load CONNECTIONS SECONDS idn|lock|stb|echo PORT [KIND PORT]\n");
+    int slices = count > 0 ? atoi(word[3]) : 0;
+    if (count < 1 || count > CONNECTIONS || slices < 1) {
+        fprintf(stderr, "usage: load CONNECTIONS SECONDS SLICES idn|lock|stb|echo PORT [KIND PORT]\n");
         return 2;
     }
     for (int i = 0; i < asked; i++) {
         struct server *at = &servers[i];
-        at->kind = word[3 + 2 * i];
-        at->port = atoi(word[4 + 2 * i]);
+        at->kind = word[4 + 2 * i];
+        at->port = atoi(word[5 + 2 * i]);
         at->echoes = strcmp(at->kind, "echo") == 0;
         at->polls = strcmp(at->kind, "stb") == 0;
         for (int j = 0; j < count; j++)
@@ -262,8 +263,8 @@ int main(int words, char **word)
         at->queries = 0;
         at->seconds = 0;
     }
-    for (int i = 0; i < SLICES * asked; i++)
-        slice(&servers[(i + i / asked) % asked], count, seconds / SLICES);
+    for (int i = 0; i < slices * asked; i++)
+        slice(&servers[(i + i / asked) % asked], count, seconds / slices);
     for (int i = 0; i < asked; i++)
         printf("%.0f\n", servers[i].queries / servers[i].seconds);
     return 0;
