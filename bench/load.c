@@ -1,17 +1,13 @@
 /*
- * Clients in a closed loop, each with one call under way:
- *
- *     load CONNECTIONS SECONDS SLICES KIND PORT [KIND PORT]
+ * Clients in a closed loop, each with one call under way: load KIND PORT CONNECTIONS SECONDS
  *
  *     idn    a query is device_write of *IDN? and device_read
  *     lock   the same, between device_lock, which waits for the lock, and device_unlock
  *     stb    a query is device_readstb
  *     echo   no VXI-11: what idn sends, each call coming back as it is; a query is two of these
  *
- * Every reply is compared. It prints the queries a second, of each server on a line; one connection
- * alone can do idn, since without the lock clients interrupt each other's answers. Two servers are
- * asked in turn, in so many slices, each for so many seconds in all: what else a machine does comes
- * and goes within tenths of a second, and meets both alike where the slices are short.
+ * Every reply is compared. It prints the queries a second; one connection alone can do idn, since
+ * without the lock clients interrupt each other's answers.
  */
 #include <arpa/inet.h>
 #include <netinet/in.h>
@@ -27,7 +23,6 @@
 
 enum { CREATE_LINK = 10, WRITE = 11, READ = 12, READSTB = 13, LOCK = 18, UNLOCK = 19 };
 enum { CONNECTIONS = 16, STEPS = 4, LONGEST = 128, TIMEOUT = 10000, WAITLOCK = 1, END = 8 };
-enum { SERVERS = 2 };
 
 static const char name[] = "SCANVOLT,SV32,0,1.0\n";
 
@@ -37,23 +32,15 @@ struct message {
 };
 
 /* A connection: its calls and their replies, which one is under way, what came of its reply. */
-struct connection {
+static struct connection {
     int socket;
     struct message calls[STEPS], replies[STEPS];
     unsigned step, came;
     uint32_t number;
     unsigned char reply[LONGEST];
-};
-
-/* A server: what it is asked, over which connections, and how much of it was done in how long. */
-static struct server {
-    const char *kind;
-    int port, echoes, polls;
-    unsigned steps, queries, under_way;
-    double seconds;
-    struct connection connections[CONNECTIONS];
-} servers[SERVERS];
-static int ending;
+} connections[CONNECTIONS];
+static unsigned steps, queries;
+static int echoes, polls, ending, under_way;
 
 static void fail(const char *what)
 {
@@ -125,32 +112,31 @@ static struct message reply(unsigned count, const uint32_t *words, const char *t
     return whole(message);
 }
 
-static void add_step(struct server *at, struct connection *to, struct message sent,
-                     struct message answered)
+static void add_step(struct connection *to, struct message sent, struct message answered)
 {
-    to->calls[at->steps] = sent;
-    to->replies[at->steps] = at->echoes ? sent : answered;
-    at->steps++;
+    to->calls[steps] = sent;
+    to->replies[steps] = echoes ? sent : answered;
+    steps++;
 }
 
-static void plan(struct server *at, struct connection *to, uint32_t link)
+static void plan(struct connection *to, const char *kind, uint32_t link)
 {
     const uint32_t none = 0, error_and_size[] = { 0, 6 }, error_and_end[] = { 0, 4 };
     const uint32_t written[] = { link, TIMEOUT, TIMEOUT, END };
     const uint32_t wanted[] = { link, 1024, TIMEOUT, TIMEOUT, 0, 0 };
     const uint32_t waiting[] = { link, WAITLOCK, TIMEOUT, TIMEOUT };
-    int locks = strcmp(at->kind, "lock") == 0;
-    at->steps = 0;
-    if (at->polls) {
-        add_step(at, to, call(READSTB, 4, waiting, NULL), reply(2, (uint32_t[]){ 0, 0 }, NULL));
+    steps = 0;
+    if (strcmp(kind, "stb") == 0) {
+        polls = 1;
+        add_step(to, call(READSTB, 4, waiting, NULL), reply(2, (uint32_t[]){ 0, 0 }, NULL));
         return;
     }
-    if (locks)
-        add_step(at, to, call(LOCK, 3, waiting, NULL), reply(1, &none, NULL));
-    add_step(at, to, call(WRITE, 4, written, "*IDN?\n"), reply(2, error_and_size, NULL));
-    add_step(at, to, call(READ, 6, wanted, NULL), reply(2, error_and_end, name));
-    if (locks)
-        add_step(at, to, call(UNLOCK, 1, &link, NULL), reply(1, &none, NULL));
+    if (strcmp(kind, "lock") == 0)
+        add_step(to, call(LOCK, 3, waiting, NULL), reply(1, &none, NULL));
+    add_step(to, call(WRITE, 4, written, "*IDN?\n"), reply(2, error_and_size, NULL));
+    add_step(to, call(READ, 6, wanted, NULL), reply(2, error_and_end, name));
+    if (strcmp(kind, "lock") == 0)
+        add_step(to, call(UNLOCK, 1, &link, NULL), reply(1, &none, NULL));
 }
 
 static void send_step(struct connection *of)
@@ -163,7 +149,7 @@ static void send_step(struct connection *of)
 }
 
 /* Takes what came; behind a whole reply the next call goes out, but at the end no further query. */
-static void receive(struct server *at, struct connection *of)
+static void receive(struct connection *of)
 {
     const struct message *expected = &of->replies[of->step];
     ssize_t count = recv(of->socket, of->reply + of->came, expected->size - of->came, 0);
@@ -173,23 +159,22 @@ static void receive(struct server *at, struct connection *of)
     if (of->came < expected->size)
         return;
     /* Of a status byte only that it is one is known. */
-    unsigned same = at->polls ? expected->size - 4 : expected->size;
-    if (memcmp(of->reply, expected->bytes, same) != 0 ||
-        (at->polls && word_at(of->reply + same) > 255))
+    unsigned same = polls ? expected->size - 4 : expected->size;
+    if (memcmp(of->reply, expected->bytes, same) != 0 || (polls && word_at(of->reply + same) > 255))
         fail("a reply differs");
     of->came = 0;
-    of->step = (of->step + 1) % at->steps;
-    at->queries += of->step == 0;
+    of->step = (of->step + 1) % steps;
+    queries += of->step == 0;
     if (ending && of->step == 0)
-        at->under_way--;
+        under_way--;
     else
         send_step(of);
 }
 
-static void connect_to(struct server *at, struct connection *of)
+static void connect_to(struct connection *of, int port, const char *kind)
 {
     const uint32_t wanted[] = { 1, 0, 0 };
-    struct sockaddr_in address = { .sin_family = AF_INET, .sin_port = htons(at->port) };
+    struct sockaddr_in address = { .sin_family = AF_INET, .sin_port = htons(port) };
     struct message first = call(CREATE_LINK, 3, wanted, "inst0");
     uint32_t link = 1;
     int on = 1;
@@ -198,13 +183,13 @@ static void connect_to(struct server *at, struct connection *of)
     if (connect(of->socket, (struct sockaddr *)&address, sizeof address) != 0)
         fail("no connection");
     setsockopt(of->socket, IPPROTO_TCP, TCP_NODELAY, &on, sizeof on);
-    if (!at->echoes) {
+    if (!echoes) {
         if (send(of->socket, first.bytes, first.size, MSG_NOSIGNAL) != (ssize_t)first.size ||
             recv(of->socket, of->reply, 44, MSG_WAITALL) != 44 || word_at(of->reply + 28) != 0)
             fail("no link");
         link = word_at(of->reply + 32);
     }
-    plan(at, of, link);
+    plan(of, kind, link);
 }
 
 static double now(void)
@@ -214,58 +199,39 @@ static double now(void)
     return time.tv_sec + time.tv_nsec / 1e9;
 }
 
-/* Takes replies for so many seconds, or to the end. */
-static void run(struct server *at, int count, double seconds)
+/* Goes on for so many seconds, or to the end; the queries a second. */
+static double run(int count, double seconds)
 {
     struct pollfd polled[CONNECTIONS];
-    double begun = now();
+    double begun = now(), time = begun;
     for (int i = 0; i < count; i++)
-        polled[i] = (struct pollfd){ .fd = at->connections[i].socket, .events = POLLIN };
-    while (ending ? at->under_way > 0 : now() < begun + seconds) {
+        polled[i] = (struct pollfd){ .fd = connections[i].socket, .events = POLLIN };
+    queries = 0;
+    for (; ending ? under_way > 0 : time < begun + seconds; time = now()) {
         if (poll(polled, count, TIMEOUT) <= 0)
             fail("no reply came");
         for (int i = 0; i < count; i++)
             if (polled[i].revents != 0)
-                receive(at, &at->connections[i]);
+                receive(&connections[i]);
     }
-    at->seconds += now() - begun;
-}
-
-/* Asks one server for so many seconds, and lets what is under way come to its end. */
-static void slice(struct server *at, int count, double seconds)
-{
-    for (at->under_way = 0; at->under_way < (unsigned)count; at->under_way++)
-        send_step(&at->connections[at->under_way]);
-    ending = 0;
-    run(at, count, seconds);
-    ending = 1;
-    run(at, count, 0);
+    return queries / (time - begun);
 }
 
 int main(int words, char **word)
 {
-    int count = words == 6 || words == 8 ? atoi(word[1]) : 0, asked = (words - 4) / 2;
-    double seconds = count > 0 ? atof(word[2]) : 0;
-    int slices = count > 0 ? atoi(word[3]) : 0;
-    if (count < 1 || count > CONNECTIONS || slices < 1) {
-        fprintf(stderr, "usage: load CONNECTIONS SECONDS SLICES idn|lock|stb|echo PORT [KIND PORT]\n");
+    int port = words == 5 ? atoi(word[2]) : 0, count = words == 5 ? atoi(word[3]) : 0;
+    if (port < 1 || count < 1 || count > CONNECTIONS) {
+        fprintf(stderr, "usage: load idn|lock|stb|echo PORT CONNECTIONS SECONDS\n");
         return 2;
     }
-    for (int i = 0; i < asked; i++) {
-        struct server *at = &servers[i];
-        at->kind = word[4 + 2 * i];
-        at->port = atoi(word[5 + 2 * i]);
-        at->echoes = strcmp(at->kind, "echo") == 0;
-        at->polls = strcmp(at->kind, "stb") == 0;
-        for (int j = 0; j < count; j++)
-            connect_to(at, &at->connections[j]);
-        slice(at, count, 0.1);
-        at->queries = 0;
-        at->seconds = 0;
-    }
-    for (int i = 0; i < slices * asked; i++)
-        slice(&servers[(i + i / asked) % asked], count, seconds / slices);
-    for (int i = 0; i < asked; i++)
-        printf("%.0f\n", servers[i].queries / servers[i].seconds);
+    echoes = strcmp(word[1], "echo") == 0;
+    for (int i = 0; i < count; i++)
+        connect_to(&connections[i], port, word[1]);
+    for (under_way = 0; under_way < count; under_way++)
+        send_step(&connections[under_way]);
+    run(count, 0.2);
+    printf("%.0f\n", run(count, atof(word[4])));
+    ending = 1;
+    run(count, 0);
     return 0;
 }
