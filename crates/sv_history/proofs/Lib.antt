@@ -9,3 +9,12 @@ mod OneLog
 mod EveryLog
 mod Isolation
 mod Cuts
+pub mod NoneLate
+pub mod NothingLost
+pub mod EachAnswered
+pub mod OnlyCalls
+pub mod ShutIsClear
+pub mod NothingRefused
+pub mod OnlyRequests
+pub mod CanBeRefused
+pub mod TicksTaken

@@ -1,6 +1,7 @@
 //! Laws of the whole, over the definitions alone, each on a function that does nothing.
 
-ghost use Rattle.sv_history.specs.Laws.{OneLog};
+ghost use Rattle.sv_history.specs.Laws.{OneLog, NoneLate, NothingLost, EachAnswered};
+ghost use Rattle.sv_history.specs.Brought.{OnlyCalls, OnlyRequests, ShutIsClear, NothingRefused, CanBeRefused, TicksTaken};
 ghost use Rattle.sv_history.specs.Isolation.{Isolation};
 ghost use Rattle.sv_history.specs.Cuts.{RecordsCut, WritesCut};
 ghost use Rattle.sv_history.specs.Still.{TimeOnlyCounts};
@@ -28,4 +29,49 @@ pub fn cuts()
 /// While nothing waits for time, milliseconds that pass only count: nothing else comes of them.
 pub fn stillness()
     ensures { TimeOnlyCounts }
+{}
+
+/// An event adds to each connection its own act, and behind it acts of calls alone.
+pub fn only_calls()
+    ensures { OnlyCalls }
+{}
+
+/// An event tells to each interrupt channel its own act, and behind it calls alone.
+pub fn only_requests()
+    ensures { OnlyRequests }
+{}
+
+/// Nothing happens on a connection that isn't open.
+pub fn shut_is_clear()
+    ensures { ShutIsClear }
+{}
+
+/// An event that suits what the server answers when it is asked is never refused.
+pub fn nothing_refused()
+    ensures { NothingRefused }
+{}
+
+/// A call that finds no memory can be refused.
+pub fn can_be_refused()
+    ensures { CanBeRefused }
+{}
+
+/// A millisecond is counted while the clock isn't at its end, by how many were.
+pub fn ticks_taken()
+    ensures { TicksTaken }
+{}
+
+/// Between two events no call waits past its deadline, and none waits for what is there.
+pub fn none_late()
+    ensures { NoneLate }
+{}
+
+/// Bytes for which a connection has room are taken, and so is a Took of bytes that wait there.
+pub fn nothing_lost()
+    ensures { NothingLost }
+{}
+
+/// Each call that is taken on a connection is answered once, or waits for its answer.
+pub fn each_answered()
+    ensures { EachAnswered }
 {}

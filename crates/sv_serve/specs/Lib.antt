@@ -4,3 +4,6 @@ pub mod Asked
 pub mod Steps
 pub mod Sweep
 pub mod Still
+pub mod Carried
+pub mod Served
+pub mod Timed

@@ -6,6 +6,7 @@ mod accepting;
 mod calling;
 mod closing;
 mod driver;
+pub mod laws;
 mod passing;
 mod reading;
 mod still;

@@ -29,7 +29,7 @@ expired_due : (clock d : ℕ) (acts : List WaitAct) → IsExpired clock acts d �
 expired_due clock d acts (wait, last, for, until, le) = rw (for, until) (le-leb last clock le)
 
 -- of the numbers below n
-abbrev Least : List WaitAct → (ℕ → Bool) → ℕ → Option ℕ → Type 0
+abbrev pub Least : List WaitAct → (ℕ → Bool) → ℕ → Option ℕ → Type 0
 Least acts test n None = (d : ℕ) → d < n → test d ≡ false
 Least acts test n (Some c) = (test c ≡ true) × ((d : ℕ) → d < n → test d ≡ true → arrival c acts ≤ arrival d acts)
 
@@ -39,7 +39,7 @@ below_suc d n lt = elim (cases_eq d n) [ inl e ↦ inl e | inr ne ↦ inr (omega
 same_arrival : (acts : List WaitAct) (c d : ℕ) → d ≡ c → arrival c acts ≤ arrival d acts
 same_arrival acts c d e = subst (λ (n : ℕ). arrival c acts ≤ arrival n acts) (sym e) (omega arith)
 
-not_both : {A : Type 0} (b : Bool) → b ≡ true → b ≡ false → A
+pub not_both : {A : Type 0} (b : Bool) → b ≡ true → b ≡ false → A
 not_both {A} b e k = absurd (let z : true ≡ false = sym e ∙ k in cc)
 
 least_more : (acts : List WaitAct) (test : ℕ → Bool) (n : ℕ) (found : Option ℕ) → Least acts test n found
@@ -94,7 +94,7 @@ least_more acts test n (Some c) h = elim (cases_Bool (test n)) [
   )
 ]
 
-least : (acts : List WaitAct) (test : ℕ → Bool) (n : ℕ) → (found : Option ℕ) × Least acts test n found
+pub least : (acts : List WaitAct) (test : ℕ → Bool) (n : ℕ) → (found : Option ℕ) × Least acts test n found
 least acts test zero = (None, (λ d lt. absurd (omega (arith, lt))))
 least acts test (suc n) = let before = least acts test n in least_more acts test n before.0 before.1
 

@@ -45,7 +45,7 @@ use Rattle.sv_history.proofs.EveryLog.Fit.{AllSuit, IsHeld, Fit, IsBy, IsCore, h
 
 -- ---- the principle
 
-each_settled : (config : Config) (IsSo : List Act → Type 0) → ((log new : List Act) → IsSo log → IsNext config log new → IsSo new)
+pub each_settled : (config : Config) (IsSo : List Act → Type 0) → ((log new : List Act) → IsSo log → IsNext config log new → IsSo new)
     → (n : ℕ) (log new : List Act) → IsSo log → SettlesIn n config log new → IsSo new
 each_settled config IsSo step zero log new so (none, same) = subst IsSo (sym same) so
 each_settled config IsSo step (suc n) log new so (middle, next, more) =

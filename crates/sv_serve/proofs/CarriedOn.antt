@@ -1,0 +1,108 @@
+-- What any number of sweeps carries.
+use Rattle.std.proofs.Common.{◌≡◌, ℕ, ◌≤◌, Bool, true, false, List, [], ◌∷◌, ◌++◌, filter, flat_map, nat_lt, refl, sym, ap, subst, ◌∙◌}
+use Rattle.std.proofs.lemmas.List.Elements.{filter-append}
+use Rattle.std.proofs.lemmas.List.Concat.{flat_map-append}
+use Rattle.std.specs.Prelude.{not, ◌||◌}
+use Rattle.sv_links.specs.Channels.{ChannelAct, is_channel_open, taken as channel_taken, calls}
+use Rattle.sv_history.specs.declared.event.Config.{Config}
+use Rattle.sv_history.specs.Interrupts.{has_channel}
+use Rattle.sv_history.specs.Requests.{HearsOf}
+use Rattle.sv_history.proofs.Telling.{has_channel_told}
+use Rattle.sv_history.specs.declared.event.Port.{Port}
+use Rattle.sv_history.specs.declared.event.Port.TheVariants.{Conn, Intr}
+use Rattle.sv_history.specs.Event.{PlainEvent}
+use Rattle.sv_history.specs.Act.{Act, ConnAct, of, device_acts}
+use Rattle.sv_history.specs.Connection.{is_open, sent, waiting, waiting_on}
+use Rattle.sv_history.specs.History.{is_port_shut, last_clock}
+use Rattle.sv_history.proofs.AlwaysTold.{some_told}
+use Rattle.sv_server.specs.Server.State.{StandsFor}
+use Rattle.sv_history.specs.Brought.{TicksTaken}
+use Rattle.sv_serve.specs.Timed.{is_timed, IsScenario, handed, timed_by}
+use Rattle.sv_serve.proofs.Timing.{Played, begins, behind}
+use Rattle.sv_serve.specs.Heard.{Heard}
+use Rattle.sv_serve.specs.Moment.{Driving, moment}
+use Rattle.sv_serve.specs.Carried.{Through, Swept, event_of, is_outer, sent_on, Carried}
+use Rattle.sv_serve.proofs.Ports.{Holds, Both, Keeping, came, went, left_bytes}
+use Rattle.sv_serve.proofs.Carrying.{Laws, through_join, sweeps}
+
+keeping_none : (c : ℕ) (log : List Act) (told : List ChannelAct) → log ≡ [] → HearsOf (device_acts log) told → Both c (of c log) told []
+keeping_none c log told none hears_of =
+    let untold : told ≡ [] = rw none at hears_of in
+    rw (none, untold) ((refl, (λ opened. absurd cc)), (λ opened. absurd cc))
+
+record Over {W : Type 0} (hears : W → Heard → W → Type 0) (config : Config) (passed : List ℕ) (start now : Driving W) : Type 0 where
+  pub trace : List Heard
+  pub history : List PlainEvent
+  pub through : Through hears trace start.wire now.wire
+  pub stands : StandsFor now.server config history
+  pub told : filter is_outer history ≡ flat_map event_of trace
+  pub keeping : Keeping config history trace
+  pub time : config.clock ≤ last_clock → start.ticks ≡ 0 → IsScenario 0 start.ahead
+      → Played config start.ahead (handed passed) (moment now history) × (filter is_timed history ≡ timed_by config passed start.ahead)
+
+over : {W : Type 0} → Laws → TicksTaken → (hears : W → Heard → W → Type 0) (config : Config) (passed : List ℕ) (start now : Driving W)
+    → StandsFor start.server config [] → Swept hears passed start now → Over hears config passed start now
+over laws taken hears config [] start now stands is = record {
+  trace = [];
+  history = [];
+  through = ap (λ d. d.wire) is;
+  stands = subst (λ d. StandsFor d.server config []) (sym is) stands;
+  told = refl;
+  keeping = λ log told none hears_of c. keeping_none c log told none.1 hears_of;
+  time = λ clock zero_ticks rising.
+      (subst (λ d. Played config start.ahead 0 (moment d [])) (sym is) (begins config start clock zero_ticks rising), refl);
+}
+over laws taken hears config (ticks ∷ passed) start now stands (between, swept, goes) =
+    let was = over laws taken hears config passed start between stands swept in
+    let now_so = goes config was.history was.stands in
+    let k = sweeps laws hears config ticks (moment between was.history) (moment now now_so.0) now_so.2 in
+    record {
+      trace = k.piece ++ was.trace;
+      history = now_so.0;
+      through = through_join hears was.trace k.piece start.wire between.wire now.wire was.through k.through;
+      stands = now_so.1;
+      told = ap (filter is_outer) k.grown ∙ filter-append is_outer k.events was.history ∙ ap (λ l. l ++ filter is_outer was.history) k.told
+          ∙ ap (λ l. flat_map event_of k.piece ++ l) was.told ∙ sym (flat_map-append event_of k.piece was.trace);
+      keeping = k.keeps was.trace was.keeping;
+      time = λ clock zero_ticks rising. behind laws taken hears config start.ahead passed ticks (moment between was.history)
+          (moment now now_so.0) now_so.2 (was.time clock zero_ticks rising).0;
+    }
+
+open_by : (far opened : Bool) → (far || not opened) ≡ false → opened ≡ true
+open_by true opened e = absurd cc
+open_by false true e = refl
+open_by false false e = absurd cc
+
+sends_by : (acts : List ConnAct) (came gone : List ℕ) → Holds acts came gone → is_open acts ≡ true → gone ++ waiting acts ≡ sent acts
+sends_by acts came gone h opened = rw opened (h.1 opened).0
+
+sends_all : (port : Port) (log : List Act) (told : List ChannelAct) (trace : List Heard) → HearsOf (device_acts log) told
+    → ((c : ℕ) → Both c (of c log) told trace) → is_port_shut port log ≡ false
+    → went port trace ++ waiting_on told port log ≡ sent_on told port log
+sends_all (Conn c) log told trace tells all free =
+    sends_by (of c log) (came c trace) (went (Conn c) trace) (all c).0 (open_by (nat_lt 15 c) (is_open (of c log)) free)
+sends_all (Intr c) log told trace tells all free =
+    let opened : is_channel_open c told ≡ true = has_channel_told c (device_acts log) told tells
+    ∙ open_by (nat_lt 15 c) (has_channel c (device_acts log)) free in
+    rw (opened, left_bytes (channel_taken c told) (calls c told)) ((all c).1 opened).0
+
+pub carried : {W : Type 0} → Laws → TicksTaken → (hears : W → Heard → W → Type 0) → Carried hears
+carried laws taken hears config passed start now stands swept =
+    let all = over laws taken hears config passed start now stands swept in
+    let log = all.stands.log in
+    let told = some_told (device_acts log) in (
+      all.trace,
+      all.history,
+      all.through,
+      all.stands,
+      record {
+        log = log;
+        told = told.0;
+        is_log = all.stands.is_log;
+        hears_of = told.1;
+        events = all.told;
+        streams = λ c. (all.keeping log told.0 all.stands.is_log told.1 c).0.0;
+        sends = λ port free. sends_all port log told.0 all.trace told.1 (all.keeping log told.0 all.stands.is_log told.1) free;
+      },
+      λ clock zero_ticks rising. (all.time clock zero_ticks rising).1,
+    )

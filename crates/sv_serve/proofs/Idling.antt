@@ -1,0 +1,171 @@
+-- Which steps bring nothing of time.
+use Rattle.std.proofs.Common.{◌≡◌, ℕ, zero, suc, Bool, true, false, List, length, filter, Option, Some, None, Result, Ok, Err, refl, ap, ◌∙◌, inl, inr}
+use Rattle.std.specs.Prelude.{◌==◌, ⊤}
+use Rattle.sv_history.specs.declared.event.Config.{Config}
+use Rattle.sv_history.specs.declared.event.Dial.{Dial}
+use Rattle.sv_history.specs.declared.event.Did.{Did}
+use Rattle.sv_history.specs.declared.event.Refused.{Refused}
+use Rattle.sv_history.specs.declared.event.Role.{Role}
+use Rattle.sv_history.specs.declared.event.Port.{Port}
+use Rattle.sv_history.specs.declared.event.Port.TheVariants.{Conn, Intr}
+use Rattle.sv_history.specs.Event.{PlainEvent, Open, Bytes, Turn, Refuse, Took, Close, Dialed}
+use Rattle.sv_history.specs.Print.{is_no_memory}
+use Rattle.sv_history.specs.Brought.{is_tick}
+use Rattle.sv_serve.specs.declared.wire.Answer.{Answer}
+use Rattle.sv_serve.specs.declared.wire.Answer.TheVariants.{Got, Pending, Failed}
+use Rattle.sv_serve.specs.Heard.{Heard, WasClosed}
+use Rattle.sv_serve.specs.Moment.{Moment, Each}
+use Rattle.sv_serve.specs.Steps.{Hears, Given, Applies, Notes, called_of, Opens, Accepts, HangsUpOn, Closes, ClosesIf, Comes, ReadsFrom, RefusesIf, EndsTurn, TurnsIf, Turns, KeepsCall, LetsGoOf, Rings, Picks, CallsFor, Dials, EndsWrite, WritesTo, EndsIf, Ends}
+use Rattle.sv_serve.specs.Timed.{is_timed}
+
+-- what is to come, how many milliseconds passed, and what time brought, is as before
+abbrev pub Idles : {W : Type 0} → Moment W → Moment W → Type 0
+Idles a b = (b.ahead ≡ a.ahead) × (b.ticks ≡ a.ticks) × (filter is_timed b.history ≡ filter is_timed a.history)
+    × (filter is_tick b.history ≡ filter is_tick a.history)
+
+pub idles_same : {W : Type 0} (a b : Moment W) → b ≡ a → Idles a b
+idles_same a b is =
+    (ap (λ m. m.ahead) is, ap (λ m. m.ticks) is, ap (λ m. filter is_timed m.history) is, ap (λ m. filter is_tick m.history) is)
+
+pub idles_then : {W : Type 0} (a b c : Moment W) → Idles a b → Idles b c → Idles a c
+idles_then a b c x y = (y.0 ∙ x.0, y.1 ∙ x.1, y.2 ∙ x.2, y.3 ∙ x.3)
+
+pub idles_each : {W : Type 0} (config : Config) (step : ℕ → Config → Moment W → Moment W → Type 0) (n : ℕ)
+    → ((c : ℕ) (a b : Moment W) → step c config a b → Idles a b) → (a b : Moment W) → Each n step config a b → Idles a b
+idles_each config step zero each a b is = idles_same a b is
+idles_each config step (suc n) each a b (m, front, last) = idles_then a m b (idles_each config step n each a m front) (each n m b last)
+
+hears_idles : {W : Type 0} (hears : W → Heard → W → Type 0) (heard : Heard) (config : Config) (a b : Moment W) → Hears hears heard config a b
+    → Idles a b
+hears_idles hears heard config a b (wire, was, is) =
+    (ap (λ m. m.ahead) is, ap (λ m. m.ticks) is, ap (λ m. filter is_timed m.history) is, ap (λ m. filter is_tick m.history) is)
+
+notes_idles : {W : Type 0} (c : ℕ) (dial : Option Dial) (config : Config) (a b : Moment W) → Notes c dial config a b → Idles a b
+notes_idles c dial config a b is =
+    (ap (λ m. m.ahead) is, ap (λ m. m.ticks) is, ap (λ m. filter is_timed m.history) is, ap (λ m. filter is_tick m.history) is)
+
+given_idles : {W : Type 0} (event : PlainEvent) (result : Result Did Refused) (config : Config) (a b : Moment W) → is_timed event ≡ false
+    → is_tick event ≡ false → Given event result config a b → Idles a b
+given_idles event (Err refused) config a b e k (log, was, answers, is) = idles_same a b is
+given_idles event (Ok what) config a b e k (log, was, answers, is) = (
+  ap (λ m. m.ahead) is,
+  ap (λ m. m.ticks) is,
+  ap (λ m. filter is_timed m.history) is ∙ rw e refl,
+  ap (λ m. filter is_tick m.history) is ∙ rw k refl,
+)
+
+applies_idles : {W : Type 0} (event : PlainEvent) (config : Config) (a b : Moment W) → is_timed event ≡ false → is_tick event ≡ false
+    → Applies event config a b → Idles a b
+applies_idles event config a b e k (result, given) = given_idles event result config a b e k given
+
+opens_idles : {W : Type 0} (role : Role) (number : Option ℕ) (answer : Answer ⊤) (config : Config) (a b : Moment W)
+    → Opens role number answer config a b → Idles a b
+opens_idles role (Some c) (Got all) config a b h = applies_idles (Open c role) config a b refl refl h
+opens_idles role (Some c) Pending config a b is = idles_same a b is
+opens_idles role (Some c) Failed config a b is = idles_same a b is
+opens_idles role None answer config a b is = idles_same a b is
+
+pub accepts_idles : {W : Type 0} (hears : W → Heard → W → Type 0) (role : Role) (config : Config) (a b : Moment W)
+    → Accepts hears role config a b → Idles a b
+accepts_idles hears role config a b (number, answer, low, (m, heard, opens)) =
+    idles_then a m b (hears_idles hears _ config a m heard) (opens_idles role number answer config m b opens)
+
+hangs_idles : {W : Type 0} (hears : W → Heard → W → Type 0) (c : ℕ) (found : Option Dial) (config : Config) (a b : Moment W)
+    → HangsUpOn hears c found config a b → Idles a b
+hangs_idles hears c None config a b is = idles_same a b is
+hangs_idles hears c (Some dial) config a b (m, heard, notes) =
+    idles_then a m b (hears_idles hears (WasClosed (Intr c)) config a m heard) (notes_idles c None config m b notes)
+
+closes_idles : {W : Type 0} (hears : W → Heard → W → Type 0) (c : ℕ) (config : Config) (a b : Moment W) → Closes hears c config a b → Idles a b
+closes_idles hears c config a b (m, heard, (n, hangs, applies)) = idles_then a m b (hears_idles hears (WasClosed (Conn c)) config a m heard)
+    (idles_then m n b (hangs_idles hears c (called_of c m) config m n hangs) (applies_idles (Close (Conn c)) config n b refl refl applies))
+
+comes_idles : {W : Type 0} (hears : W → Heard → W → Type 0) (c : ℕ) (answer : Answer (List ℕ)) (config : Config) (a b : Moment W)
+    → Comes hears c answer config a b → Idles a b
+comes_idles hears c (Got bytes) config a b h = applies_idles (Bytes c bytes) config a b refl refl h
+comes_idles hears c Pending config a b is = idles_same a b is
+comes_idles hears c Failed config a b h = closes_idles hears c config a b h
+
+pub reads_idles : {W : Type 0} (hears : W → Heard → W → Type 0) (c : ℕ) (config : Config) (a b : Moment W) → ReadsFrom hears c config a b
+    → Idles a b
+reads_idles hears c config a b (most, room, inl (none, is)) = idles_same a b is
+reads_idles hears c config a b (most, room, inr (some, answer, few, (m, heard, comes))) =
+    idles_then a m b (hears_idles hears _ config a m heard) (comes_idles hears c answer config m b comes)
+
+refuses_idles : {W : Type 0} (c : ℕ) (so : Bool) (config : Config) (a b : Moment W) → RefusesIf c so config a b → Idles a b
+refuses_idles c true config a b h = applies_idles (Refuse c) config a b refl refl h
+refuses_idles c false config a b is = idles_same a b is
+
+ends_turn_idles : {W : Type 0} (c : ℕ) (result : Result Did Refused) (config : Config) (a b : Moment W) → EndsTurn c result config a b → Idles a b
+ends_turn_idles c (Ok did) config a b is = idles_same a b is
+ends_turn_idles c (Err refused) config a b h = refuses_idles c (is_no_memory refused) config a b h
+
+turns_if_idles : {W : Type 0} (c : ℕ) (ready : Bool) (config : Config) (a b : Moment W) → TurnsIf c ready config a b → Idles a b
+turns_if_idles c false config a b is = idles_same a b is
+turns_if_idles c true config a b (result, (m, given, ends)) =
+    idles_then a m b (given_idles (Turn c) result config a m refl refl given) (ends_turn_idles c result config m b ends)
+
+pub turns_idles : {W : Type 0} (c : ℕ) (config : Config) (a b : Moment W) → Turns c config a b → Idles a b
+turns_idles c config a b (ready, is, h) = turns_if_idles c ready config a b h
+
+keeps_call_idles : {W : Type 0} (hears : W → Heard → W → Type 0) (c : ℕ) (so : Bool) (config : Config) (a b : Moment W)
+    → KeepsCall hears c so config a b → Idles a b
+keeps_call_idles hears c true config a b is = idles_same a b is
+keeps_call_idles hears c false config a b h = hangs_idles hears c (called_of c a) config a b h
+
+lets_go_idles : {W : Type 0} (hears : W → Heard → W → Type 0) (c : ℕ) (called : Option Dial) (config : Config) (a b : Moment W)
+    → LetsGoOf hears c called config a b → Idles a b
+lets_go_idles hears c None config a b is = idles_same a b is
+lets_go_idles hears c (Some called) config a b (channel, wanted, opened, wants, h) = keeps_call_idles hears c _ config a b h
+
+rings_idles : {W : Type 0} (c : ℕ) (dial : Dial) (answer : Answer ⊤) (config : Config) (a b : Moment W) → Rings c dial answer config a b → Idles a b
+rings_idles c dial (Got all) config a b (m, notes, applies) =
+    idles_then a m b (notes_idles c (Some dial) config a m notes) (applies_idles (Dialed c true) config m b refl refl applies)
+rings_idles c dial Pending config a b notes = notes_idles c (Some dial) config a b notes
+rings_idles c dial Failed config a b applies = applies_idles (Dialed c false) config a b refl refl applies
+
+picks_idles : {W : Type 0} (hears : W → Heard → W → Type 0) (c : ℕ) (answer : Answer ⊤) (config : Config) (a b : Moment W)
+    → Picks hears c answer config a b → Idles a b
+picks_idles hears c (Got all) config a b applies = applies_idles (Dialed c true) config a b refl refl applies
+picks_idles hears c Pending config a b is = idles_same a b is
+picks_idles hears c Failed config a b (m, hangs, applies) =
+    idles_then a m b (hangs_idles hears c (called_of c a) config a m hangs) (applies_idles (Dialed c false) config m b refl refl applies)
+
+calls_idles : {W : Type 0} (hears : W → Heard → W → Type 0) (c : ℕ) (wanted called : Option Dial) (config : Config) (a b : Moment W)
+    → CallsFor hears c wanted called config a b → Idles a b
+calls_idles hears c None called config a b is = idles_same a b is
+calls_idles hears c (Some dial) None config a b (answer, (m, heard, h)) =
+    idles_then a m b (hears_idles hears _ config a m heard) (rings_idles c dial answer config m b h)
+calls_idles hears c (Some dial) (Some called) config a b (answer, (m, heard, h)) =
+    idles_then a m b (hears_idles hears _ config a m heard) (picks_idles hears c answer config m b h)
+
+pub dials_idles : {W : Type 0} (hears : W → Heard → W → Type 0) (c : ℕ) (config : Config) (a b : Moment W) → Dials hears c config a b → Idles a b
+dials_idles hears c config a b (m, goes, (wanted, wants, h)) = idles_then a m b (lets_go_idles hears c (called_of c a) config a m goes)
+    (calls_idles hears c wanted (called_of c m) config m b h)
+
+ends_write_idles : {W : Type 0} (hears : W → Heard → W → Type 0) (port : Port) (answer : Answer ℕ) (config : Config) (a b : Moment W)
+    → EndsWrite hears port answer config a b → Idles a b
+ends_write_idles hears port (Got n) config a b h = applies_idles (Took port n) config a b refl refl h
+ends_write_idles hears port Pending config a b is = idles_same a b is
+ends_write_idles hears (Conn c) Failed config a b h = closes_idles hears c config a b h
+ends_write_idles hears (Intr c) Failed config a b (m, hangs, applies) =
+    idles_then a m b (hangs_idles hears c (called_of c a) config a m hangs) (applies_idles (Close (Intr c)) config m b refl refl applies)
+
+pub writes_idles : {W : Type 0} (hears : W → Heard → W → Type 0) (port : Port) (config : Config) (a b : Moment W) → WritesTo hears port config a b
+    → Idles a b
+writes_idles hears port config a b (bytes, waits, inl (none, is)) = idles_same a b is
+writes_idles hears port config a b (bytes, waits, inr (some, answer, few, (m, heard, ends))) =
+    idles_then a m b (hears_idles hears _ config a m heard) (ends_write_idles hears port answer config m b ends)
+
+closes_if_idles : {W : Type 0} (hears : W → Heard → W → Type 0) (c : ℕ) (so : Bool) (config : Config) (a b : Moment W)
+    → ClosesIf hears c so config a b → Idles a b
+closes_if_idles hears c true config a b h = closes_idles hears c config a b h
+closes_if_idles hears c false config a b is = idles_same a b is
+
+ends_if_idles : {W : Type 0} (hears : W → Heard → W → Type 0) (c : ℕ) (so : Bool) (config : Config) (a b : Moment W)
+    → EndsIf hears c so config a b → Idles a b
+ends_if_idles hears c false config a b is = idles_same a b is
+ends_if_idles hears c true config a b (bytes, waits, h) = closes_if_idles hears c (length bytes == 0) config a b h
+
+pub ends_idles : {W : Type 0} (hears : W → Heard → W → Type 0) (c : ℕ) (config : Config) (a b : Moment W) → Ends hears c config a b → Idles a b
+ends_idles hears c config a b (faulted, is, h) = ends_if_idles hears c faulted config a b h

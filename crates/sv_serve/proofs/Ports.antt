@@ -1,0 +1,241 @@
+-- What reads and writes of a wire do to the bytes of a connection, and of its interrupt channel.
+use Rattle.std.proofs.Common.{◌≡◌, ℕ, zero, suc, ◌+◌, ◌-◌, ◌≤◌, eqb, ltb, flat_map, drop_at, true, false, List, [], ◌∷◌, ◌++◌, length, take, drop, Some, refl, sym, ap, subst, ◌∙◌, inl, inr, append_assoc, append-nil, arith}
+use Rattle.std.specs.Prelude.{⊤}
+use Rattle.std.specs.List.{concat}
+use Rattle.std.proofs.lemmas.List.Concat.{flat_map-append, concat_is}
+use Rattle.std.proofs.lemmas.Bool.{ltb-true, ltb-false}
+use Rattle.sv_links.specs.declared.request.Peer.{Peer}
+use Rattle.sv_links.specs.Channels.{ChannelAct, ChannelOpened, ChannelTaken, is_channel_open, taken as channel_taken, calls, left_of, waiting as channel_waiting}
+use Rattle.std.proofs.lemmas.Bool.{cases_Bool}
+use Rattle.std.proofs.lemmas.List.{drop-append-le, take-append-drop, drop-drop, length-drop, length-append}
+use Rattle.sv_history.specs.declared.event.Config.{Config}
+use Rattle.sv_history.specs.declared.event.Role.{Role}
+use Rattle.sv_history.specs.declared.event.Port.{Port}
+use Rattle.sv_history.specs.declared.event.Port.TheVariants.{Conn, Intr}
+use Rattle.sv_history.specs.Event.{PlainEvent, Open, Bytes, Took, Close}
+use Rattle.sv_history.specs.Act.{Act, ConnAct, Opened, Piece, CallTaken, Faulted, Replied, BytesTaken, PortClosed, of, device_acts}
+use Rattle.sv_history.specs.Requests.{HearsOf}
+use Rattle.sv_history.specs.Connection.{is_open, stream, sent, given, untaken, waiting}
+use Rattle.sv_history.specs.History.{IsLogOf}
+use Rattle.sv_history.specs.Brought.{brings, AreCalls, OnlyCalls, tells, OnlyAdds, OnlyRequests}
+use Rattle.sv_serve.specs.declared.wire.Answer.TheVariants.{Got}
+use Rattle.sv_serve.specs.Heard.{Heard, WasAccepted, WasRead, WasWritten, WasClosed}
+use Rattle.sv_serve.specs.Carried.{event_of, begins, read, taken, since}
+
+-- ---- one connection
+
+-- This came, and this was taken.
+abbrev pub Holds : List ConnAct → List ℕ → List ℕ → Type 0
+Holds acts came went = (stream acts ≡ came) × (is_open acts ≡ true → (went ++ untaken acts ≡ sent acts) × (given acts ≤ length (sent acts)))
+
+sent_more : (went sends more : List ℕ) (g : ℕ) → went ++ drop g sends ≡ sends → g ≤ length sends
+    → (went ++ drop g (sends ++ more) ≡ sends ++ more) × (g ≤ length (sends ++ more))
+sent_more went sends more g is le = (
+  ap (λ (l : List ℕ). went ++ l) (drop-append-le g sends more le) ∙ sym (append_assoc went (drop g sends) more)
+      ∙ ap (λ (l : List ℕ). l ++ more) is,
+  (let sum = length-append sends more in omega (arith, le, sum)),
+)
+
+taken_more : (went bytes sends : List ℕ) (g n : ℕ) → bytes ≡ drop g sends → n ≤ length bytes → went ++ drop g sends ≡ sends → g ≤ length sends
+    → ((went ++ take n bytes) ++ drop (g + n) sends ≡ sends) × (g + n ≤ length sends)
+taken_more went bytes sends g n same few is le = (
+  append_assoc went (take n bytes) (drop (g + n) sends)
+      ∙ ap (λ (l : List ℕ). went ++ (take n bytes ++ l)) (sym (drop-drop n g sends) ∙ ap (drop n) (sym same))
+      ∙ ap (λ (l : List ℕ). went ++ l) (take-append-drop n bytes ∙ same) ∙ is,
+  (let left = ap length same ∙ length-drop g sends in omega (arith, le, few, left)),
+)
+
+holds_calls : (adds acts : List ConnAct) (came went : List ℕ) → AreCalls adds → Holds acts came went → Holds (adds ++ acts) came went
+holds_calls [] acts came went h k = k
+holds_calls (CallTaken call ∷ adds) acts came went h k = holds_calls adds acts came went h k
+holds_calls (Faulted ∷ adds) acts came went h k = holds_calls adds acts came went h k
+holds_calls (Replied bytes ∷ adds) acts came went h k =
+    let was = holds_calls adds acts came went h k in (
+      was.0,
+      (λ opened.
+          let both = was.1 opened in
+          sent_more went (sent (adds ++ acts)) bytes (given (adds ++ acts)) both.0 both.1),
+    )
+holds_calls (Opened role ∷ adds) acts came went h k = absurd h
+holds_calls (Piece bytes ∷ adds) acts came went h k = absurd h
+holds_calls (BytesTaken count ∷ adds) acts came went h k = absurd h
+holds_calls (PortClosed ∷ adds) acts came went h k = absurd h
+
+-- ---- one interrupt channel
+
+abbrev pub HoldsOn : ℕ → List ChannelAct → List ℕ → Type 0
+HoldsOn c told gone = is_channel_open c told ≡ true
+    → (gone ++ drop (channel_taken c told) (concat (calls c told)) ≡ concat (calls c told))
+    × (channel_taken c told ≤ length (concat (calls c told)))
+
+concat_join : (xs ys : List (List ℕ)) → concat (xs ++ ys) ≡ concat xs ++ concat ys
+concat_join xs ys = concat_is (xs ++ ys) ∙ flat_map-append (λ (x : List ℕ). x) xs ys
+    ∙ ap (λ (l : List ℕ). l ++ flat_map (λ (x : List ℕ). x) ys) (sym (concat_is xs)) ∙ ap (λ (l : List ℕ). concat xs ++ l) (sym (concat_is ys))
+
+holds_adds : (c : ℕ) (before after : List ChannelAct) (gone : List ℕ) → OnlyAdds c before after → HoldsOn c before gone → HoldsOn c after gone
+holds_adds c before after gone adds h opened =
+    let a = adds opened in
+    let both = h a.0 in
+    let all : concat (calls c after) ≡ concat (calls c before) ++ concat a.2 = ap concat a.3 ∙ concat_join (calls c before) a.2 in
+    rw (a.1, all) (sent_more gone (concat (calls c before)) (concat a.2) (channel_taken c before) both.0 both.1)
+
+-- the bytes of what is left of calls are what is left of their bytes
+drop_past : (count : ℕ) (xs ys : List ℕ) → length xs ≤ count → drop count (xs ++ ys) ≡ drop (count - length xs) ys
+drop_past count xs ys h =
+    let both : length xs + (count - length xs) ≡ count = omega arith in
+    ap (λ (n : ℕ). drop n (xs ++ ys)) (sym both) ∙ sym (drop-drop (count - length xs) (length xs) (xs ++ ys))
+    ∙ ap (drop (count - length xs)) (drop_at xs ys (length xs) refl)
+
+pub left_bytes : (count : ℕ) (calls : List (List ℕ)) → concat (left_of count calls) ≡ drop count (concat calls)
+left_bytes zero [] = refl
+left_bytes (suc count) [] = refl
+left_bytes count (call ∷ calls) = elim (cases_Bool (ltb count (length call))) [
+  | inl e ↦ let lt = ltb-true count (length call) e in rw e (sym (drop-append-le count call (concat calls) (omega arith)))
+  | inr e ↦
+      let le = ltb-false count (length call) e in
+      rw e (left_bytes (count - length call) calls ∙ sym (drop_past count call (concat calls) le))
+]
+
+-- ---- what was heard
+
+abbrev pub came : ℕ → List Heard → List ℕ
+came c trace = since (Conn c) (read (Conn c)) trace
+
+abbrev pub went : Port → List Heard → List ℕ
+went port trace = since port (taken port) trace
+
+-- One that is no event, and of no port.
+abbrev pub IsSilent : Heard → Type 0
+IsSilent heard = (event_of heard ≡ []) × ((port : Port) → begins port heard ≡ false) × ((port : Port) → read port heard ≡ [])
+    × ((port : Port) → taken port heard ≡ [])
+
+abbrev pub AreSilent : List Heard → Type 0
+AreSilent [] = ⊤
+AreSilent (heard ∷ piece) = IsSilent heard × AreSilent piece
+
+-- a connection and its interrupt channel
+abbrev pub Both : ℕ → List ConnAct → List ChannelAct → List Heard → Type 0
+Both c acts told trace = Holds acts (came c trace) (went (Conn c) trace) × HoldsOn c told (went (Intr c) trace)
+
+came_silent : (c : ℕ) (heard : Heard) (trace : List Heard) (acts : List ConnAct) → begins (Conn c) heard ≡ false
+    → read (Conn c) heard ≡ [] → taken (Conn c) heard ≡ [] → Holds acts (came c trace) (went (Conn c) trace)
+    → Holds acts (came c (heard ∷ trace)) (went (Conn c) (heard ∷ trace))
+came_silent c heard trace acts still none nothing h =
+    rw (still, none, nothing, append-nil (came c trace), append-nil (went (Conn c) trace)) h
+
+pub sent_silent : (c : ℕ) (heard : Heard) (trace : List Heard) (told : List ChannelAct) → begins (Intr c) heard ≡ false
+    → taken (Intr c) heard ≡ [] → HoldsOn c told (went (Intr c) trace) → HoldsOn c told (went (Intr c) (heard ∷ trace))
+sent_silent c heard trace told still nothing h = rw (still, nothing, append-nil (went (Intr c) trace)) h
+
+pub holds_silent : (c : ℕ) (heard : Heard) (trace : List Heard) (acts : List ConnAct) (told : List ChannelAct)
+    → ((port : Port) → begins port heard ≡ false) → read (Conn c) heard ≡ [] → ((port : Port) → taken port heard ≡ [])
+    → Both c acts told trace → Both c acts told (heard ∷ trace)
+holds_silent c heard trace acts told still none nothing h = (
+  came_silent c heard trace acts (still (Conn c)) none (nothing (Conn c)) h.0,
+  sent_silent c heard trace told (still (Intr c)) (nothing (Intr c)) h.1,
+)
+
+-- ---- each event of a connection
+
+pub step_open : (c : ℕ) (role : Role) (all : ⊤) (trace : List Heard) (d : ℕ) (acts : List ConnAct) (told : List ChannelAct)
+    → Both d acts told trace → Both d (brings d (Open c role) ++ acts) told (WasAccepted role (Some c) (Got all) ∷ trace)
+step_open c role all trace d acts told h = (
+  elim (cases_Bool (eqb c d)) [
+    | inl e ↦ rw e (refl, (λ opened. (refl, omega arith)))
+    | inr e ↦ rw (e, append-nil (came d trace), append-nil (went (Conn d) trace)) h.0
+  ],
+  sent_silent d (WasAccepted role (Some c) (Got all)) trace told refl refl h.1,
+)
+
+pub step_read : (c : ℕ) (bytes : List ℕ) (trace : List Heard) (d : ℕ) (acts : List ConnAct) (told : List ChannelAct)
+    → Both d acts told trace → Both d (brings d (Bytes c bytes) ++ acts) told (WasRead c (Got bytes) ∷ trace)
+step_read c bytes trace d acts told h = (
+  elim (cases_Bool (eqb c d)) [
+    | inl e ↦ rw (e, append-nil (went (Conn d) trace)) (ap (λ (l : List ℕ). l ++ bytes) h.0.0, h.0.1)
+    | inr e ↦ rw (e, append-nil (came d trace), append-nil (went (Conn d) trace)) h.0
+  ],
+  sent_silent d (WasRead c (Got bytes)) trace told refl refl h.1,
+)
+
+pub step_took : (c n : ℕ) (bytes : List ℕ) (trace : List Heard) (d : ℕ) (acts : List ConnAct) (told : List ChannelAct) → n ≤ length bytes
+    → (eqb c d ≡ true → bytes ≡ waiting acts) → Both d acts told trace
+    → Both d (brings d (Took (Conn c) n) ++ acts) told (WasWritten (Conn c) bytes (Got n) ∷ trace)
+step_took c n bytes trace d acts told few waits h = (
+  elim (cases_Bool (eqb c d)) [
+    | inl e ↦ rw (e, append-nil (came d trace)) (
+        h.0.0,
+        (λ opened.
+            let both = h.0.1 opened in
+            let same : bytes ≡ untaken acts = waits e ∙ rw opened refl in
+            taken_more (went (Conn d) trace) bytes (sent acts) (given acts) n same few both.0 both.1),
+      )
+    | inr e ↦ rw (e, append-nil (came d trace), append-nil (went (Conn d) trace)) h.0
+  ],
+  sent_silent d (WasWritten (Conn c) bytes (Got n)) trace told refl refl h.1,
+)
+
+pub step_close : (c : ℕ) (trace : List Heard) (d : ℕ) (acts : List ConnAct) (told : List ChannelAct) → Both d acts told trace
+    → Both d (brings d (Close (Conn c)) ++ acts) told (WasClosed (Conn c) ∷ trace)
+step_close c trace d acts told h = (
+  elim (cases_Bool (eqb c d)) [
+    | inl e ↦ rw e (refl, (λ opened. absurd cc))
+    | inr e ↦ rw (e, append-nil (came d trace), append-nil (went (Conn d) trace)) h.0
+  ],
+  sent_silent d (WasClosed (Conn c)) trace told refl refl h.1,
+)
+
+-- ---- and of an interrupt channel
+
+-- bytes of it are taken
+pub step_sent : (c n : ℕ) (bytes : List ℕ) (trace : List Heard) (d : ℕ) (acts : List ConnAct) (told : List ChannelAct) → n ≤ length bytes
+    → (eqb c d ≡ true → bytes ≡ channel_waiting d told) → Both d acts told trace
+    → Both d acts (ChannelTaken c n ∷ told) (WasWritten (Intr c) bytes (Got n) ∷ trace)
+step_sent c n bytes trace d acts told few waits h = (
+  came_silent d (WasWritten (Intr c) bytes (Got n)) trace acts refl refl refl h.0,
+  elim (cases_Bool (eqb c d)) [
+    | inl e ↦ rw e (λ opened.
+        let both = h.1 opened in
+        let same : bytes ≡ drop (channel_taken d told) (concat (calls d told)) =
+        waits e ∙ rw opened (left_bytes (channel_taken d told) (calls d told)) in
+        taken_more (went (Intr d) trace) bytes (concat (calls d told)) (channel_taken d told) n same few both.0 both.1)
+    | inr e ↦ rw (e, append-nil (went (Intr d) trace)) h.1
+  ],
+)
+
+-- it opens, by an answer of this kind
+pub step_opened : (c : ℕ) (what : Peer) (heard : Heard) (trace : List Heard) (d : ℕ) (acts : List ConnAct) (told : List ChannelAct)
+    → begins (Conn d) heard ≡ false → read (Conn d) heard ≡ [] → taken (Conn d) heard ≡ [] → begins (Intr d) heard ≡ eqb c d
+    → taken (Intr d) heard ≡ [] → Both d acts told trace → Both d acts (ChannelOpened c what ∷ told) (heard ∷ trace)
+step_opened c what heard trace d acts told still unread untaken opens nothing h = (
+  came_silent d heard trace acts still unread untaken h.0,
+  elim (cases_Bool (eqb c d)) [
+    | inl e ↦ rw (opens, e) (λ opened. (refl, omega arith))
+    | inr e ↦ rw (opens, e, nothing, append-nil (went (Intr d) trace)) h.1
+  ],
+)
+
+-- ---- over a history
+
+abbrev pub Keeping : Config → List PlainEvent → List Heard → Type 0
+Keeping config history trace = (log : List Act) (told : List ChannelAct) → IsLogOf config history log → HearsOf (device_acts log) told
+    → (c : ℕ) → Both c (of c log) told trace
+
+pub keeping_event : OnlyCalls → OnlyRequests → (config : Config) (history : List PlainEvent) (before : List Act) (told : List ChannelAct)
+    (event : PlainEvent) (trace later : List Heard) → IsLogOf config history before → HearsOf (device_acts before) told
+    → ((c : ℕ) → Both c (of c before) told trace → Both c (brings c event ++ of c before) (tells event before ++ told) later)
+    → Keeping config history trace → Keeping config (event ∷ history) later
+keeping_event only requests config history before told event trace later was hears step keeping log then_told is then_hears c =
+    let grown = only config event history before log c was is in
+    let adds = requests config event history before log told then_told c was hears is then_hears in
+    let both = step c (keeping before told was hears c) in (
+      subst (λ (l : List ConnAct). Holds l (came c later) (went (Conn c) later)) (sym grown.2)
+          (holds_calls grown.0 (brings c event ++ of c before) (came c later) (went (Conn c) later) grown.1 both.0),
+      holds_adds c (tells event before ++ told) then_told (went (Intr c) later) adds both.1,
+    )
+
+pub keeping_silent : (config : Config) (history : List PlainEvent) (piece trace : List Heard) → AreSilent piece → Keeping config history trace
+    → Keeping config history (piece ++ trace)
+keeping_silent config history [] trace silent keeping = keeping
+keeping_silent config history (heard ∷ piece) trace silent keeping = λ log told is hears c.
+    holds_silent c heard (piece ++ trace) (of c log) told silent.0.1 (silent.0.2 (Conn c)) silent.0.3
+    (keeping_silent config history piece trace silent.1 keeping log told is hears c)

@@ -1,0 +1,305 @@
+-- What time brings.
+use Rattle.std.proofs.Common.{◌≡◌, ℕ, zero, suc, ◌+◌, ◌-◌, ◌<◌, ◌≤◌, min, eqb, true, false, List, [], ◌∷◌, ◌++◌, length, filter, Result, Ok, Err, refl, sym, ap, subst, ◌∙◌, inl, inr, append_assoc, append-nil, arith, eq-eqb}
+use Rattle.std.specs.Prelude.{◌==◌, ⊤, if◌then◌else◌}
+use Rattle.std.proofs.Math.Nat.{eq-or-lt_of_le}
+use Rattle.std.proofs.lemmas.Bool.{ne_eqb}
+use Rattle.sv_links.specs.Channels.{ChannelAct}
+use Rattle.sv_history.specs.declared.event.Config.{Config}
+use Rattle.sv_history.specs.declared.event.Did.{Did}
+use Rattle.sv_history.specs.declared.event.Did.TheVariants.{Done}
+use Rattle.sv_history.specs.declared.event.Refused.{Refused}
+use Rattle.sv_history.specs.declared.event.Role.TheVariants.{Core, Abort, Portmap}
+use Rattle.sv_history.specs.declared.event.Port.TheVariants.{Conn, Intr}
+use Rattle.sv_history.specs.Event.{PlainEvent, Tick}
+use Rattle.sv_history.specs.Act.{Act, device_acts}
+use Rattle.sv_history.specs.History.{last_clock, history_after}
+use Rattle.sv_history.proofs.AlwaysTold.{some_told}
+use Rattle.sv_replay.specs.Entry.{stimulus_event, IsAccepted}
+use Rattle.sv_replay.specs.declared.entry.Entry.{Entry}
+use Rattle.sv_replay.specs.declared.entry.Stimulus.{Stimulus}
+use Rattle.sv_replay.specs.declared.entry.Stimulus.TheVariants as stimuli
+use Rattle.sv_history.specs.Brought.{Suits, is_tick, TicksTaken}
+use Rattle.sv_serve.specs.Heard.{Heard}
+use Rattle.sv_serve.specs.Moment.{Driving, Moment, moment, Each, ◌then◌}
+use Rattle.sv_serve.specs.Steps.{ReadsFrom, Turns, Dials, WritesTo, Ends}
+use Rattle.sv_serve.specs.Sweep.{PlaysOne, IsNoneDue, Plays, most_ticks, Counts, TicksOnce, Passes, Sweeps}
+use Rattle.sv_serve.specs.Timed.{is_timed, IsScenario, played, timed, handed, timed_by}
+use Rattle.sv_serve.proofs.Carrying.{Laws, applied}
+use Rattle.sv_serve.proofs.Idling.{Idles, idles_same, idles_then, idles_each, accepts_idles, reads_idles, turns_idles, dials_idles, writes_idles, ends_idles}
+
+-- ---- entries by their ticks
+
+abbrev AllUpTo : ℕ → List Entry → Type 0
+AllUpTo n [] = ⊤
+AllUpTo n (entry ∷ entries) = (entry.tick ≤ n) × AllUpTo n entries
+
+upto_more : (n : ℕ) (xs : List Entry) → AllUpTo n xs → AllUpTo (suc n) xs
+upto_more n [] h = tt
+upto_more n (x ∷ xs) h = (let le = h.0 in omega (arith, le), upto_more n xs h.1)
+
+upto_one : (n : ℕ) (xs : List Entry) (x : Entry) → AllUpTo n xs → x.tick ≤ n → AllUpTo n (xs ++ x ∷ [])
+upto_one n [] x h le = (le, tt)
+upto_one n (y ∷ ys) x h le = (h.0, upto_one n ys x h.1 le)
+
+played_join : (n : ℕ) (xs ys : List Entry) → played n (xs ++ ys) ≡ played n ys ++ played n xs
+played_join n [] ys = sym (append-nil (played n ys))
+played_join n (x ∷ xs) ys =
+    let own : List PlainEvent = if x.tick == n then stimulus_event x.stimulus ∷ [] else [] in
+    ap (λ (l : List PlainEvent). l ++ own) (played_join n xs ys) ∙ append_assoc (played n ys) (played n xs) own
+
+played_later : (n k : ℕ) (xs : List Entry) → n < k → IsScenario k xs → played n xs ≡ []
+played_later n k [] lt h = refl
+played_later n k (x ∷ xs) lt h =
+    let le = h.0 in
+    rw (ne_eqb x.tick n (λ e. absurd (omega (arith, lt, le, e))))
+    (append-nil (played n xs) ∙ played_later n x.tick xs (omega (arith, lt, le)) h.2)
+
+played_past : (n : ℕ) (xs : List Entry) → AllUpTo n xs → played (suc n) xs ≡ []
+played_past n [] h = refl
+played_past n (x ∷ xs) h =
+    let le = h.0 in
+    rw (ne_eqb x.tick (suc n) (λ e. absurd (omega (arith, le, e)))) (append-nil (played (suc n) xs) ∙ played_past n xs h.1)
+
+none_due : (n : ℕ) (xs : List Entry) → IsScenario n xs → IsNoneDue n xs → IsScenario (suc n) xs
+none_due n [] h none = tt
+none_due n (x ∷ xs) h none = (omega (arith, none), h.1, h.2)
+
+-- least ticks
+scenario_from : (k n : ℕ) (xs : List Entry) → n ≤ k → IsScenario k xs → IsScenario n xs
+scenario_from k n [] le h = tt
+scenario_from k n (x ∷ xs) le h = (let more = h.0 in omega (arith, le, more), h.1, h.2)
+
+abbrev base : ℕ → List Entry → List PlainEvent
+base zero s = []
+base (suc n) s = Tick ∷ timed n s
+
+timed_base : (n : ℕ) (s : List Entry) → played n s ++ base n s ≡ timed n s
+timed_base zero s = append-nil (played 0 s)
+timed_base (suc n) s = refl
+
+-- ---- what holds while a scenario is played
+
+pub record InPlay {W : Type 0} (config : Config) (s : List Entry) (n k : ℕ) (a : Moment W) : Type 0 where
+  pub past : List Entry
+  pub split : s ≡ past ++ a.ahead
+  pub rising : IsScenario n a.ahead
+  pub upto : AllUpTo n past
+  pub is : filter is_timed a.history ≡ played n past ++ base n s
+  pub ticks : a.ticks ≡ n
+  pub count : length (filter is_tick a.history) ≡ n
+  pub within : config.clock + n ≤ last_clock
+  pub reached : n ≡ min k (last_clock - config.clock)
+
+idle_play : {W : Type 0} (config : Config) (s : List Entry) (n k : ℕ) (a b : Moment W) → Idles a b → InPlay config s n k a
+    → InPlay config s n k b
+idle_play config s n k a b idle p = record {
+  past = p.past;
+  split = p.split ∙ ap (λ l. p.past ++ l) (sym idle.0);
+  rising = subst (λ l. IsScenario n l) (sym idle.0) p.rising;
+  upto = p.upto;
+  is = idle.2 ∙ p.is;
+  ticks = idle.1 ∙ p.ticks;
+  count = ap length idle.3 ∙ p.count;
+  within = p.within;
+  reached = p.reached;
+}
+
+timed_here : {W : Type 0} (config : Config) (s : List Entry) (n k : ℕ) (a : Moment W) → InPlay config s n k a → IsNoneDue n a.ahead
+    → filter is_timed a.history ≡ timed n s
+timed_here config s n k a p none =
+    let later : played n a.ahead ≡ [] = played_later n (suc n) a.ahead (omega arith) (none_due n a.ahead p.rising none) in
+    let all : played n s ≡ played n p.past =
+    ap (played n) p.split ∙ played_join n p.past a.ahead ∙ ap (λ (l : List PlainEvent). l ++ played n p.past) later in
+    p.is ∙ ap (λ (l : List PlainEvent). l ++ base n s) (sym all) ∙ timed_base n s
+
+-- ---- an entry is played
+
+stimulus_timed : (stimulus : Stimulus) → (is_timed (stimulus_event stimulus) ≡ true) × (is_tick (stimulus_event stimulus) ≡ false)
+stimulus_timed (stimuli.Input channel microvolts) = (refl, refl)
+stimulus_timed stimuli.External = (refl, refl)
+
+stimulus_suits : (stimulus : Stimulus) (told : List ChannelAct) (log : List Act) → IsAccepted stimulus → Suits (stimulus_event stimulus) told log
+stimulus_suits (stimuli.Input channel microvolts) told log h = h
+stimulus_suits stimuli.External told log h = tt
+
+play_one : {W : Type 0} → Laws → (config : Config) (s : List Entry) (n k : ℕ) (a b : Moment W) → PlaysOne config a b → InPlay config s n k a
+    → InPlay config s n k b
+play_one laws config s n k a b (entry, others, m, first, due, (result, (log, was, answers, to)), is) p =
+    let event = stimulus_event entry.stimulus in
+    let rising : IsScenario n (entry ∷ others) = subst (λ l. IsScenario n l) first p.rising in
+    let low = rising.0 in
+    let at = p.ticks in
+    let now : entry.tick ≡ n = omega (arith, low, due, at) in
+    let told = some_told (device_acts log) in
+    let done = applied laws config event a m told.0 log was told.1 (stimulus_suits entry.stimulus told.0 log rising.1)
+    (result, (log, was, answers, to)) in
+    let history : b.history ≡ event ∷ a.history = ap (λ m. m.history) is ∙ ap (λ m. m.history) done in
+    let own : played n (p.past ++ entry ∷ []) ≡ event ∷ played n p.past = played_join n p.past (entry ∷ []) ∙ rw (eq-eqb entry.tick n now) refl in
+    record {
+      past = p.past ++ entry ∷ [];
+      split = p.split ∙ ap (λ l. p.past ++ l) first ∙ sym (append_assoc p.past (entry ∷ []) others)
+          ∙ ap (λ l. (p.past ++ entry ∷ []) ++ l) (sym (ap (λ m. m.ahead) is));
+      rising = subst (λ l. IsScenario n l) (sym (ap (λ m. m.ahead) is)) (scenario_from entry.tick n others low rising.2);
+      upto = upto_one n p.past entry p.upto (omega (arith, now));
+      is = ap (filter is_timed) history ∙ rw (stimulus_timed entry.stimulus).0 (ap (λ (l : List PlainEvent). event ∷ l) p.is)
+          ∙ ap (λ (l : List PlainEvent). l ++ base n s) (sym own);
+      ticks = ap (λ m. m.ticks) is ∙ ap (λ m. m.ticks) done ∙ p.ticks;
+      count = ap (λ h. length (filter is_tick h)) history ∙ rw (stimulus_timed entry.stimulus).1 p.count;
+      within = p.within;
+      reached = p.reached;
+    }
+
+play_each : {W : Type 0} → Laws → (config : Config) (s : List Entry) (n k i : ℕ) (a b : Moment W) → Each i (λ j. PlaysOne) config a b
+    → InPlay config s n k a → InPlay config s n k b
+play_each laws config s n k zero a b is p = idle_play config s n k a b (idles_same a b is) p
+play_each laws config s n k (suc i) a b (m, front, last) p =
+    play_one laws config s n k m b last (play_each laws config s n k i a m front p)
+
+-- with what is due played
+record Rests {W : Type 0} (config : Config) (s : List Entry) (k : ℕ) (a : Moment W) : Type 0 where
+  pub n : ℕ
+  pub play : InPlay config s n k a
+  pub none : IsNoneDue n a.ahead
+
+plays : {W : Type 0} → Laws → (config : Config) (s : List Entry) (n k : ℕ) (a b : Moment W) → Plays config a b → InPlay config s n k a
+    → Rests config s k b
+plays laws config s n k a b (i, each, none) p =
+    let q = play_each laws config s n k i a b each p in
+    record { n = n; play = q; none = subst (λ t. IsNoneDue t b.ahead) q.ticks none }
+
+-- ---- a millisecond passes
+
+pub record Played {W : Type 0} (config : Config) (s : List Entry) (k : ℕ) (a : Moment W) : Type 0 where
+  pub n : ℕ
+  pub play : InPlay config s n k a
+
+no_longer : {A : Type 0} (event : PlainEvent) (history : List PlainEvent) → event ∷ history ≡ history → A
+no_longer event history e = absurd (let same = ap length e in omega (arith, same))
+
+tick_full : {W : Type 0} (config : Config) (s : List Entry) (k : ℕ) (a m b : Moment W) (result : Result Did Refused) → (r : Rests config s k a)
+    → config.clock + r.n ≡ last_clock → history_after Tick result a.history ≡ a.history
+    → m ≡ record a { history = history_after Tick result a.history } → Counts result config m b → Played config s (k + 1) b
+tick_full config s k a m b (Ok did) r full same is counts = no_longer Tick a.history same
+tick_full config s k a m b (Err refused) r full same is counts =
+    let q = idle_play config s r.n k a b (idles_then a m b (idles_same a m is) (idles_same m b counts)) r.play in
+    let reached = q.reached in record {
+      n = r.n;
+      play = record {
+        past = q.past;
+        split = q.split;
+        rising = q.rising;
+        upto = q.upto;
+        is = q.is;
+        ticks = q.ticks;
+        count = q.count;
+        within = q.within;
+        reached = omega (arith, full, reached);
+      };
+    }
+
+tick_more : {W : Type 0} (config : Config) (s : List Entry) (k : ℕ) (a m b : Moment W) → (r : Rests config s k a)
+    → config.clock + r.n < last_clock → m ≡ record a { history = Tick ∷ a.history } → Counts (Ok Done) config m b
+    → Played config s (k + 1) b
+tick_more config s k a m b r lt is counts =
+    let p = r.play in
+    let at : m.ticks ≡ r.n = ap (λ m. m.ticks) is ∙ p.ticks in
+    let ne : eqb m.ticks most_ticks ≡ false = ne_eqb m.ticks most_ticks (λ e. absurd (omega (arith, lt, at, e))) in
+    let ticks : b.ticks ≡ m.ticks + 1 = ap (λ m. m.ticks) counts ∙ rw ne refl in
+    let ahead : b.ahead ≡ a.ahead = ap (λ m. m.ahead) counts ∙ ap (λ m. m.ahead) is in
+    let history : b.history ≡ Tick ∷ a.history = ap (λ m. m.history) counts ∙ ap (λ m. m.history) is in
+    let here = timed_here config s r.n k a p r.none in
+    let reached = p.reached in
+    let count = p.count in record {
+      n = suc r.n;
+      play = record {
+        past = p.past;
+        split = p.split ∙ ap (λ l. p.past ++ l) (sym ahead);
+        rising = subst (λ l. IsScenario (suc r.n) l) (sym ahead) (none_due r.n a.ahead p.rising r.none);
+        upto = upto_more r.n p.past p.upto;
+        is = ap (filter is_timed) history ∙ ap (λ (l : List PlainEvent). Tick ∷ l) here
+            ∙ ap (λ (l : List PlainEvent). l ++ base (suc r.n) s) (sym (played_past r.n p.past p.upto));
+        ticks = omega (arith, ticks, at);
+        count = ap (λ h. length (filter is_tick h)) history ∙ ap (λ (i : ℕ). suc i) count;
+        within = omega (arith, lt);
+        reached = omega (arith, lt, reached);
+      };
+    }
+
+tick : {W : Type 0} → TicksTaken → (config : Config) (s : List Entry) (k : ℕ) (a b : Moment W) → TicksOnce config a b → Rests config s k a
+    → Played config s (k + 1) b
+tick taken config s k a b (result, (m, (log, was, answers, is), counts)) r =
+    let both = taken config a.history log result was answers in
+    let count = r.play.count in
+    let within = r.play.within in
+    elim (eq-or-lt_of_le within) [
+      | inl full ↦ tick_full config s k a m b result r full (both.1 (ap (λ (i : ℕ). config.clock + i) count ∙ full)) is counts
+      | inr lt ↦
+          let done = both.0 (subst (λ (i : ℕ). config.clock + i < last_clock) (sym count) lt) in
+          tick_more config s k a m b r lt
+          (is ∙ ap (λ (x : Result Did Refused). record a { history = history_after Tick x a.history }) done)
+          (subst (λ (x : Result Did Refused). Counts x config m b) done counts)
+    ]
+
+pass_each : {W : Type 0} → Laws → TicksTaken → (config : Config) (s : List Entry) (k i : ℕ) (a b : Moment W)
+    → Each i (λ j. Plays then TicksOnce) config a b → Played config s k a → Played config s (k + i) b
+pass_each laws taken config s k zero a b is p =
+    subst (λ (j : ℕ). Played config s j b) (let e : k ≡ k + 0 = omega arith in e)
+    (record { n = p.n; play = idle_play config s p.n k a b (idles_same a b is) p.play })
+pass_each laws taken config s k (suc i) a b (m, front, (x, played_so, ticked)) p =
+    let q = pass_each laws taken config s k i a m front p in
+    subst (λ (j : ℕ). Played config s j b) (let e : k + i + 1 ≡ k + suc i = omega arith in e)
+    (tick taken config s (k + i) x b ticked (plays laws config s q.n (k + i) m x played_so q.play))
+
+passes : {W : Type 0} → Laws → TicksTaken → (config : Config) (s : List Entry) (k ticks : ℕ) (a b : Moment W) → Passes ticks config a b
+    → Played config s k a → Rests config s (k + ticks) b
+passes laws taken config s k ticks a b (m, each, last) p =
+    let q = pass_each laws taken config s k ticks a m each p in plays laws config s q.n (k + ticks) m b last q.play
+
+-- ---- sweeps
+
+sweep_timed : {W : Type 0} → Laws → TicksTaken → (hears : W → Heard → W → Type 0) (config : Config) (s : List Entry) (k ticks : ℕ)
+    (a b : Moment W) → Sweeps hears ticks config a b → Played config s k a → Rests config s (k + ticks) b
+sweep_timed laws taken hears config s k ticks m0 m10
+    (m1, s1, (m2, s2, (m3, s3, (m4, s4, (m5, s5, (m6, s6, (m7, s7, (m8, s8, (m9, s9, s10))))))))) p =
+    let front = idles_then m0 m1 m6 (accepts_idles hears Core config m0 m1 s1) (idles_then m1 m2 m6 (accepts_idles hears Abort config m1 m2 s2)
+    (idles_then m2 m3 m6 (accepts_idles hears Portmap config m2 m3 s3)
+    (idles_then m3 m4 m6 (idles_each config (ReadsFrom hears) 16 (λ c. reads_idles hears c config) m3 m4 s4)
+    (idles_then m4 m5 m6 (idles_each config Turns 16 (λ c. turns_idles c config) m4 m5 s5)
+    (idles_each config (Dials hears) 16 (λ c. dials_idles hears c config) m5 m6 s6))))) in
+    let r = passes laws taken config s k ticks m6 m7 s7 (record { n = p.n; play = idle_play config s p.n k m0 m6 front p.play }) in
+    let rest = idles_then m7 m8 m10 (idles_each config (λ c. WritesTo hears (Conn c)) 16 (λ c. writes_idles hears (Conn c) config) m7 m8 s8)
+    (idles_then m8 m9 m10 (idles_each config (λ c. WritesTo hears (Intr c)) 16 (λ c. writes_idles hears (Intr c) config) m8 m9 s9)
+    (idles_each config (Ends hears) 16 (λ c. ends_idles hears c config) m9 m10 s10)) in
+    record {
+      n = r.n;
+      play = idle_play config s r.n (k + ticks) m7 m10 rest r.play;
+      none = subst (λ l. IsNoneDue r.n l) (sym rest.0) r.none;
+    }
+
+-- in front of the first sweep
+pub begins : {W : Type 0} (config : Config) (start : Driving W) → config.clock ≤ last_clock → start.ticks ≡ 0 → IsScenario 0 start.ahead
+    → Played config start.ahead 0 (moment start [])
+begins config start clock zero_ticks rising = record {
+  n = 0;
+  play = record {
+    past = [];
+    split = refl;
+    rising = rising;
+    upto = tt;
+    is = refl;
+    ticks = zero_ticks;
+    count = refl;
+    within = omega (arith, clock);
+    reached = omega arith;
+  };
+}
+
+-- and behind one
+pub behind : {W : Type 0} → Laws → TicksTaken → (hears : W → Heard → W → Type 0) (config : Config) (s : List Entry) (passed : List ℕ) (ticks : ℕ)
+    (a b : Moment W) → Sweeps hears ticks config a b → Played config s (handed passed) a
+    → Played config s (handed (ticks ∷ passed)) b × (filter is_timed b.history ≡ timed_by config (ticks ∷ passed) s)
+behind laws taken hears config s passed ticks a b sweeps p =
+    let r = sweep_timed laws taken hears config s (handed passed) ticks a b sweeps p in (
+      record { n = r.n; play = r.play },
+      timed_here config s r.n (handed passed + ticks) b r.play r.none ∙ ap (λ (i : ℕ). timed i s) r.play.reached,
+    )

@@ -1,0 +1,38 @@
+-- What time brings: a scenario happens as its milliseconds pass.
+use Rattle.std.specs.Prelude.{ℕ, zero, suc, ◌-◌, ◌==◌, ◌≤◌, min, Bool, true, false, List, [], ◌∷◌, ◌++◌, ◌+◌, if◌then◌else◌, ⊤}
+use Rattle.sv_history.specs.declared.event.Config.{Config}
+use Rattle.sv_history.specs.Event.{PlainEvent, Input, External, Tick}
+use Rattle.sv_history.specs.History.{last_clock}
+use Rattle.sv_replay.specs.Entry.{stimulus_event, IsAccepted}
+use Rattle.sv_replay.specs.declared.entry.Entry.{Entry}
+
+abbrev pub is_timed : PlainEvent → Bool
+is_timed (Input channel microvolts) = true
+is_timed External = true
+is_timed Tick = true
+is_timed _ = false
+
+-- Each entry is one that the server accepts, at the tick of the one in front of it or later.
+abbrev pub IsScenario : ℕ → List Entry → Type 0
+IsScenario least [] = ⊤
+IsScenario least (entry ∷ entries) = (least ≤ entry.tick) × IsAccepted entry.stimulus × IsScenario entry.tick entries
+
+-- the events of the entries of this tick, the newest first
+abbrev pub played : ℕ → List Entry → List PlainEvent
+played tick [] = []
+played tick (entry ∷ entries) = played tick entries ++ (if entry.tick == tick then stimulus_event entry.stimulus ∷ [] else [])
+
+-- so many milliseconds, with the entries that are due before each, and after the last one
+abbrev pub timed : ℕ → List Entry → List PlainEvent
+timed zero entries = played 0 entries
+timed (suc n) entries = played (suc n) entries ++ Tick ∷ timed n entries
+
+-- how many milliseconds were handed to sweeps
+abbrev pub handed : List ℕ → ℕ
+handed [] = 0
+handed (ticks ∷ passed) = handed passed + ticks
+
+-- None was played before the first sweep. The clock has an end: no millisecond is counted behind it.
+abbrev pub timed_by : Config → List ℕ → List Entry → List PlainEvent
+timed_by config [] entries = []
+timed_by config (ticks ∷ passed) entries = timed (min (handed (ticks ∷ passed)) (last_clock - config.clock)) entries
