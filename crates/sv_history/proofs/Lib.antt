@@ -5,7 +5,7 @@ pub mod StillSettled
 pub mod AlwaysTold
 pub mod Unrecorded
 mod Stillness
-mod OneLog
+pub mod OneLog
 mod EveryLog
 mod Isolation
 mod Cuts

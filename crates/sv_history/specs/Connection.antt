@@ -1,11 +1,12 @@
 -- What the acts of a connection say of it: searches that look no further back than to its newest opening, and find nothing once it is
 -- closed.
 use Rattle.std.specs.Prelude.{ℕ, ◌+◌, ◌-◌, ◌==◌, ◌&&◌, ◌||◌, Bool, true, false, List, [], ◌∷◌, ◌++◌, length, drop, Option, Some, None, is_none, is_some, slice_get, if◌then◌else◌}
+use Rattle.std.specs.List.{concat}
 use Rattle.sv_rpc.specs.Record.{Tail, Header, Data, TooLong}
 use Rattle.sv_rpc.specs.RecordBuf.{used_by}
 use Rattle.sv_rpc.specs.Stream.{records_of, tail_of}
 use Rattle.sv_rpc.specs.Limits.{capacity}
-use Rattle.sv_links.specs.Channels.{ChannelAct, waiting as channel_waiting}
+use Rattle.sv_links.specs.Channels.{ChannelAct, calls, waiting as channel_waiting}
 use Rattle.sv_history.specs.declared.event.Role.{Role}
 use Rattle.sv_history.specs.declared.event.Port.{Port}
 use Rattle.sv_history.specs.declared.event.Port.TheVariants.{Conn, Intr}
@@ -87,6 +88,11 @@ waiting acts = if is_open acts then untaken acts else []
 abbrev pub waiting_on : List ChannelAct → Port → List Act → List ℕ
 waiting_on told (Conn c) log = waiting (of c log)
 waiting_on told (Intr c) log = channel_waiting c told
+
+-- all bytes that were sent on a port since it was opened
+abbrev pub sent_on : List ChannelAct → Port → List Act → List ℕ
+sent_on told (Conn c) log = sent (of c log)
+sent_on told (Intr c) log = concat (calls c told)
 
 -- The call to take next: the first record that didn't come to its end, unless it was taken already, or a record was no call.
 abbrev pub next_call : List ConnAct → Option (List ℕ)

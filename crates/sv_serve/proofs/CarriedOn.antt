@@ -1,7 +1,5 @@
 -- What any number of sweeps carries.
-use Rattle.std.proofs.Common.{◌≡◌, ℕ, ◌≤◌, Bool, true, false, List, [], ◌∷◌, ◌++◌, filter, flat_map, nat_lt, refl, sym, ap, subst, ◌∙◌}
-use Rattle.std.proofs.lemmas.List.Elements.{filter-append}
-use Rattle.std.proofs.lemmas.List.Concat.{flat_map-append}
+use Rattle.std.proofs.Common.{◌≡◌, ℕ, ◌≤◌, Bool, true, false, List, [], ◌∷◌, ◌++◌, filter, flat_map, nat_lt, None, refl, sym, ap, subst, ◌∙◌}
 use Rattle.std.specs.Prelude.{not, ◌||◌}
 use Rattle.sv_links.specs.Channels.{ChannelAct, is_channel_open, taken as channel_taken, calls}
 use Rattle.sv_history.specs.declared.event.Config.{Config}
@@ -12,18 +10,20 @@ use Rattle.sv_history.specs.declared.event.Port.{Port}
 use Rattle.sv_history.specs.declared.event.Port.TheVariants.{Conn, Intr}
 use Rattle.sv_history.specs.Event.{PlainEvent}
 use Rattle.sv_history.specs.Act.{Act, ConnAct, of, device_acts}
-use Rattle.sv_history.specs.Connection.{is_open, sent, waiting, waiting_on}
-use Rattle.sv_history.specs.History.{is_port_shut, last_clock}
+use Rattle.sv_history.specs.Connection.{is_open, sent, sent_on, waiting, waiting_on}
+use Rattle.sv_history.specs.History.{is_port_shut, IsLogOf}
 use Rattle.sv_history.proofs.AlwaysTold.{some_told}
 use Rattle.sv_server.specs.Server.State.{StandsFor}
-use Rattle.sv_history.specs.Brought.{TicksTaken}
-use Rattle.sv_serve.specs.Timed.{is_timed, IsScenario, handed, timed_by}
+use Rattle.sv_serve.specs.Timed.{handed}
 use Rattle.sv_serve.proofs.Timing.{Played, begins, behind}
 use Rattle.sv_serve.specs.Heard.{Heard}
 use Rattle.sv_serve.specs.Moment.{Driving, moment}
-use Rattle.sv_serve.specs.Carried.{Through, Swept, event_of, is_outer, sent_on, Carried}
+use Rattle.sv_serve.specs.Served.{Through, event_of, is_outer}
+use Rattle.sv_serve.specs.Carried.{Swept, ClosesAtOnce, HasReasons, IsAtStart, InSweeps, Carried}
 use Rattle.sv_serve.proofs.Ports.{Holds, Both, Keeping, came, went, left_bytes}
-use Rattle.sv_serve.proofs.Carrying.{Laws, through_join, sweeps}
+use Rattle.sv_serve.proofs.Reasons.{told_more, once_join}
+use Rattle.sv_serve.proofs.Carrying.{through_join}
+use Rattle.sv_serve.proofs.Serving.{sweep_once, serves}
 
 keeping_none : (c : ℕ) (log : List Act) (told : List ChannelAct) → log ≡ [] → HearsOf (device_acts log) told → Both c (of c log) told []
 keeping_none c log told none hears_of =
@@ -37,35 +37,53 @@ record Over {W : Type 0} (hears : W → Heard → W → Type 0) (config : Config
   pub stands : StandsFor now.server config history
   pub told : filter is_outer history ≡ flat_map event_of trace
   pub keeping : Keeping config history trace
-  pub time : config.clock ≤ last_clock → start.ticks ≡ 0 → IsScenario 0 start.ahead
-      → Played config start.ahead (handed passed) (moment now history) × (filter is_timed history ≡ timed_by config passed start.ahead)
+  pub once : ClosesAtOnce None trace
+  pub reasons : HasReasons config history trace
+  pub parts : InSweeps config start passed history trace
+  pub time : IsAtStart config start → Played config start.ahead (handed passed) (moment now history)
 
-over : {W : Type 0} → Laws → TicksTaken → (hears : W → Heard → W → Type 0) (config : Config) (passed : List ℕ) (start now : Driving W)
+over : {W : Type 0} (hears : W → Heard → W → Type 0) (config : Config) (passed : List ℕ) (start now : Driving W)
     → StandsFor start.server config [] → Swept hears passed start now → Over hears config passed start now
-over laws taken hears config [] start now stands is = record {
+over hears config [] start now stands is = record {
   trace = [];
   history = [];
   through = ap (λ d. d.wire) is;
   stands = subst (λ d. StandsFor d.server config []) (sym is) stands;
   told = refl;
   keeping = λ log told none hears_of c. keeping_none c log told none.1 hears_of;
-  time = λ clock zero_ticks rising.
-      (subst (λ d. Played config start.ahead 0 (moment d [])) (sym is) (begins config start clock zero_ticks rising), refl);
+  once = tt;
+  reasons = tt;
+  parts = (refl, refl);
+  time = λ fresh. subst (λ d. Played config start.ahead 0 (moment d [])) (sym is) (begins config start fresh);
 }
-over laws taken hears config (ticks ∷ passed) start now stands (between, swept, goes) =
-    let was = over laws taken hears config passed start between stands swept in
+over hears config (ticks ∷ passed) start now stands (between, swept, goes) =
+    let was = over hears config passed start between stands swept in
     let now_so = goes config was.history was.stands in
-    let k = sweeps laws hears config ticks (moment between was.history) (moment now now_so.0) now_so.2 in
+    let s = sweep_once hears config ticks (moment between was.history) (moment now now_so.0) now_so.2 in
     record {
-      trace = k.piece ++ was.trace;
+      trace = s.k.piece ++ was.trace;
       history = now_so.0;
-      through = through_join hears was.trace k.piece start.wire between.wire now.wire was.through k.through;
+      through = through_join hears was.trace s.k.piece start.wire between.wire now.wire was.through s.k.through;
       stands = now_so.1;
-      told = ap (filter is_outer) k.grown ∙ filter-append is_outer k.events was.history ∙ ap (λ l. l ++ filter is_outer was.history) k.told
-          ∙ ap (λ l. flat_map event_of k.piece ++ l) was.told ∙ sym (flat_map-append event_of k.piece was.trace);
-      keeping = k.keeps was.trace was.keeping;
-      time = λ clock zero_ticks rising. behind laws taken hears config start.ahead passed ticks (moment between was.history)
-          (moment now now_so.0) now_so.2 (was.time clock zero_ticks rising).0;
+      told = ap (filter is_outer) s.k.grown ∙ told_more s.k.events was.history s.k.piece was.trace s.k.told was.told;
+      keeping = s.k.keeps was.trace was.keeping;
+      once = once_join None s.k.piece was.trace s.k.closing.once was.once;
+      reasons = s.k.closing.reasons was.trace was.told was.reasons;
+      parts = (
+        was.history,
+        s.k.events,
+        was.trace,
+        s.k.piece,
+        was.parts,
+        s.k.grown,
+        refl,
+        λ c lt. serves config c was.history s.k.events s.k.piece now_so.1.log
+            (subst (λ h. IsLogOf config h now_so.1.log) s.k.grown now_so.1.is_log) (s.offered c lt),
+        λ fresh. (behind hears config start.ahead passed ticks (moment between was.history) (moment now now_so.0) now_so.2
+            (was.time fresh)).1,
+      );
+      time = λ fresh. (behind hears config start.ahead passed ticks (moment between was.history) (moment now now_so.0) now_so.2
+          (was.time fresh)).0;
     }
 
 open_by : (far opened : Bool) → (far || not opened) ≡ false → opened ≡ true
@@ -86,9 +104,9 @@ sends_all (Intr c) log told trace tells all free =
     ∙ open_by (nat_lt 15 c) (has_channel c (device_acts log)) free in
     rw (opened, left_bytes (channel_taken c told) (calls c told)) ((all c).1 opened).0
 
-pub carried : {W : Type 0} → Laws → TicksTaken → (hears : W → Heard → W → Type 0) → Carried hears
-carried laws taken hears config passed start now stands swept =
-    let all = over laws taken hears config passed start now stands swept in
+pub carried : {W : Type 0} (hears : W → Heard → W → Type 0) → Carried hears
+carried hears config passed start now stands swept =
+    let all = over hears config passed start now stands swept in
     let log = all.stands.log in
     let told = some_told (device_acts log) in (
       all.trace,
@@ -103,6 +121,8 @@ carried laws taken hears config passed start now stands swept =
         events = all.told;
         streams = λ c. (all.keeping log told.0 all.stands.is_log told.1 c).0.0;
         sends = λ port free. sends_all port log told.0 all.trace told.1 (all.keeping log told.0 all.stands.is_log told.1) free;
+        failures = all.once;
+        reasons = all.reasons;
       },
-      λ clock zero_ticks rising. (all.time clock zero_ticks rising).1,
+      all.parts,
     )

@@ -4,6 +4,7 @@ use Rattle.std.specs.Prelude.{◌==◌, ⊤}
 use Rattle.sv_history.specs.declared.event.Config.{Config}
 use Rattle.sv_history.specs.declared.event.Dial.{Dial}
 use Rattle.sv_history.specs.declared.event.Did.{Did}
+use Rattle.sv_history.specs.declared.event.Did.TheVariants.{Done}
 use Rattle.sv_history.specs.declared.event.Refused.{Refused}
 use Rattle.sv_history.specs.declared.event.Role.{Role}
 use Rattle.sv_history.specs.declared.event.Port.{Port}
@@ -15,7 +16,7 @@ use Rattle.sv_serve.specs.declared.wire.Answer.{Answer}
 use Rattle.sv_serve.specs.declared.wire.Answer.TheVariants.{Got, Pending, Failed}
 use Rattle.sv_serve.specs.Heard.{Heard, WasClosed}
 use Rattle.sv_serve.specs.Moment.{Moment, Each}
-use Rattle.sv_serve.specs.Steps.{Hears, Given, Applies, Notes, called_of, Opens, Accepts, HangsUpOn, Closes, ClosesIf, Comes, ReadsFrom, RefusesIf, EndsTurn, TurnsIf, Turns, KeepsCall, LetsGoOf, Rings, Picks, CallsFor, Dials, EndsWrite, WritesTo, EndsIf, Ends}
+use Rattle.sv_serve.specs.Steps.{Hears, Given, Happens, Notes, called_of, Opens, Accepts, HangsUpOn, Closes, ClosesIf, Comes, ReadsFrom, RefusesIf, EndsTurn, TurnsIf, Turns, KeepsCall, LetsGoOf, Rings, Picks, CallsFor, Dials, EndsWrite, WritesTo, EndsIf, Ends}
 use Rattle.sv_serve.specs.Timed.{is_timed}
 
 -- what is to come, how many milliseconds passed, and what time brought, is as before
@@ -54,13 +55,13 @@ given_idles event (Ok what) config a b e k (log, was, answers, is) = (
   ap (λ m. filter is_tick m.history) is ∙ rw k refl,
 )
 
-applies_idles : {W : Type 0} (event : PlainEvent) (config : Config) (a b : Moment W) → is_timed event ≡ false → is_tick event ≡ false
-    → Applies event config a b → Idles a b
-applies_idles event config a b e k (result, given) = given_idles event result config a b e k given
+happens_idles : {W : Type 0} (event : PlainEvent) (config : Config) (a b : Moment W) → is_timed event ≡ false → is_tick event ≡ false
+    → Happens event config a b → Idles a b
+happens_idles event config a b e k given = given_idles event (Ok Done) config a b e k given
 
 opens_idles : {W : Type 0} (role : Role) (number : Option ℕ) (answer : Answer ⊤) (config : Config) (a b : Moment W)
     → Opens role number answer config a b → Idles a b
-opens_idles role (Some c) (Got all) config a b h = applies_idles (Open c role) config a b refl refl h
+opens_idles role (Some c) (Got all) config a b h = happens_idles (Open c role) config a b refl refl h
 opens_idles role (Some c) Pending config a b is = idles_same a b is
 opens_idles role (Some c) Failed config a b is = idles_same a b is
 opens_idles role None answer config a b is = idles_same a b is
@@ -78,11 +79,11 @@ hangs_idles hears c (Some dial) config a b (m, heard, notes) =
 
 closes_idles : {W : Type 0} (hears : W → Heard → W → Type 0) (c : ℕ) (config : Config) (a b : Moment W) → Closes hears c config a b → Idles a b
 closes_idles hears c config a b (m, heard, (n, hangs, applies)) = idles_then a m b (hears_idles hears (WasClosed (Conn c)) config a m heard)
-    (idles_then m n b (hangs_idles hears c (called_of c m) config m n hangs) (applies_idles (Close (Conn c)) config n b refl refl applies))
+    (idles_then m n b (hangs_idles hears c (called_of c m) config m n hangs) (happens_idles (Close (Conn c)) config n b refl refl applies))
 
 comes_idles : {W : Type 0} (hears : W → Heard → W → Type 0) (c : ℕ) (answer : Answer (List ℕ)) (config : Config) (a b : Moment W)
     → Comes hears c answer config a b → Idles a b
-comes_idles hears c (Got bytes) config a b h = applies_idles (Bytes c bytes) config a b refl refl h
+comes_idles hears c (Got bytes) config a b h = happens_idles (Bytes c bytes) config a b refl refl h
 comes_idles hears c Pending config a b is = idles_same a b is
 comes_idles hears c Failed config a b h = closes_idles hears c config a b h
 
@@ -93,7 +94,7 @@ reads_idles hears c config a b (most, room, inr (some, answer, few, (m, heard, c
     idles_then a m b (hears_idles hears _ config a m heard) (comes_idles hears c answer config m b comes)
 
 refuses_idles : {W : Type 0} (c : ℕ) (so : Bool) (config : Config) (a b : Moment W) → RefusesIf c so config a b → Idles a b
-refuses_idles c true config a b h = applies_idles (Refuse c) config a b refl refl h
+refuses_idles c true config a b h = happens_idles (Refuse c) config a b refl refl h
 refuses_idles c false config a b is = idles_same a b is
 
 ends_turn_idles : {W : Type 0} (c : ℕ) (result : Result Did Refused) (config : Config) (a b : Moment W) → EndsTurn c result config a b → Idles a b
@@ -120,16 +121,16 @@ lets_go_idles hears c (Some called) config a b (channel, wanted, opened, wants, 
 
 rings_idles : {W : Type 0} (c : ℕ) (dial : Dial) (answer : Answer ⊤) (config : Config) (a b : Moment W) → Rings c dial answer config a b → Idles a b
 rings_idles c dial (Got all) config a b (m, notes, applies) =
-    idles_then a m b (notes_idles c (Some dial) config a m notes) (applies_idles (Dialed c true) config m b refl refl applies)
+    idles_then a m b (notes_idles c (Some dial) config a m notes) (happens_idles (Dialed c true) config m b refl refl applies)
 rings_idles c dial Pending config a b notes = notes_idles c (Some dial) config a b notes
-rings_idles c dial Failed config a b applies = applies_idles (Dialed c false) config a b refl refl applies
+rings_idles c dial Failed config a b applies = happens_idles (Dialed c false) config a b refl refl applies
 
 picks_idles : {W : Type 0} (hears : W → Heard → W → Type 0) (c : ℕ) (answer : Answer ⊤) (config : Config) (a b : Moment W)
     → Picks hears c answer config a b → Idles a b
-picks_idles hears c (Got all) config a b applies = applies_idles (Dialed c true) config a b refl refl applies
+picks_idles hears c (Got all) config a b applies = happens_idles (Dialed c true) config a b refl refl applies
 picks_idles hears c Pending config a b is = idles_same a b is
 picks_idles hears c Failed config a b (m, hangs, applies) =
-    idles_then a m b (hangs_idles hears c (called_of c a) config a m hangs) (applies_idles (Dialed c false) config m b refl refl applies)
+    idles_then a m b (hangs_idles hears c (called_of c a) config a m hangs) (happens_idles (Dialed c false) config m b refl refl applies)
 
 calls_idles : {W : Type 0} (hears : W → Heard → W → Type 0) (c : ℕ) (wanted called : Option Dial) (config : Config) (a b : Moment W)
     → CallsFor hears c wanted called config a b → Idles a b
@@ -145,11 +146,11 @@ dials_idles hears c config a b (m, goes, (wanted, wants, h)) = idles_then a m b 
 
 ends_write_idles : {W : Type 0} (hears : W → Heard → W → Type 0) (port : Port) (answer : Answer ℕ) (config : Config) (a b : Moment W)
     → EndsWrite hears port answer config a b → Idles a b
-ends_write_idles hears port (Got n) config a b h = applies_idles (Took port n) config a b refl refl h
+ends_write_idles hears port (Got n) config a b h = happens_idles (Took port n) config a b refl refl h
 ends_write_idles hears port Pending config a b is = idles_same a b is
 ends_write_idles hears (Conn c) Failed config a b h = closes_idles hears c config a b h
 ends_write_idles hears (Intr c) Failed config a b (m, hangs, applies) =
-    idles_then a m b (hangs_idles hears c (called_of c a) config a m hangs) (applies_idles (Close (Intr c)) config m b refl refl applies)
+    idles_then a m b (hangs_idles hears c (called_of c a) config a m hangs) (happens_idles (Close (Intr c)) config m b refl refl applies)
 
 pub writes_idles : {W : Type 0} (hears : W → Heard → W → Type 0) (port : Port) (config : Config) (a b : Moment W) → WritesTo hears port config a b
     → Idles a b

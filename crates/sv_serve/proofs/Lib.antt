@@ -1,6 +1,10 @@
 pub mod Joined
 mod Unused
+mod Suited
+mod Pieces
+mod Branches
 mod Ports
+mod Reasons
 mod Carrying
 mod CarriedOn
 mod Serving

@@ -20,7 +20,8 @@ use Rattle.sv_history.specs.History.{IsLogOf}
 use Rattle.sv_history.specs.Brought.{brings, AreCalls, OnlyCalls, tells, OnlyAdds, OnlyRequests}
 use Rattle.sv_serve.specs.declared.wire.Answer.TheVariants.{Got}
 use Rattle.sv_serve.specs.Heard.{Heard, WasAccepted, WasRead, WasWritten, WasClosed}
-use Rattle.sv_serve.specs.Carried.{event_of, begins, read, taken, since}
+use Rattle.sv_serve.specs.Served.{event_of}
+use Rattle.sv_serve.specs.Carried.{begins, read, taken, since}
 
 -- ---- one connection
 
@@ -147,14 +148,14 @@ step_open c role all trace d acts told h = (
   sent_silent d (WasAccepted role (Some c) (Got all)) trace told refl refl h.1,
 )
 
-pub step_read : (c : ℕ) (bytes : List ℕ) (trace : List Heard) (d : ℕ) (acts : List ConnAct) (told : List ChannelAct)
-    → Both d acts told trace → Both d (brings d (Bytes c bytes) ++ acts) told (WasRead c (Got bytes) ∷ trace)
-step_read c bytes trace d acts told h = (
+pub step_read : (c most : ℕ) (bytes : List ℕ) (trace : List Heard) (d : ℕ) (acts : List ConnAct) (told : List ChannelAct)
+    → Both d acts told trace → Both d (brings d (Bytes c bytes) ++ acts) told (WasRead c most (Got bytes) ∷ trace)
+step_read c most bytes trace d acts told h = (
   elim (cases_Bool (eqb c d)) [
     | inl e ↦ rw (e, append-nil (went (Conn d) trace)) (ap (λ (l : List ℕ). l ++ bytes) h.0.0, h.0.1)
     | inr e ↦ rw (e, append-nil (came d trace), append-nil (went (Conn d) trace)) h.0
   ],
-  sent_silent d (WasRead c (Got bytes)) trace told refl refl h.1,
+  sent_silent d (WasRead c most (Got bytes)) trace told refl refl h.1,
 )
 
 pub step_took : (c n : ℕ) (bytes : List ℕ) (trace : List Heard) (d : ℕ) (acts : List ConnAct) (told : List ChannelAct) → n ≤ length bytes

@@ -23,16 +23,18 @@ use Rattle.sv_history.specs.Requests.{HearsOf}
 use Rattle.sv_history.specs.History.{refusal, is_shut, IsLogOf, Answers}
 use Rattle.sv_history.proofs.Unrecorded.{nothing_idle}
 use Rattle.sv_server.specs.Server.State.{StandsFor}
-use Rattle.sv_history.specs.Brought.{brings, AreCalls, IsClear, CanBeRefused}
+use Rattle.sv_history.specs.Brought.{brings, AreCalls, IsClear}
+use Rattle.sv_history.proofs.OneLog.{one_log}
+use Rattle.sv_history.proofs.OnlyCalls.{only_calls}
+use Rattle.sv_history.proofs.ShutIsClear.{shut_is_clear}
 use Rattle.sv_serve.specs.declared.wire.Answer.{Answer}
 use Rattle.sv_serve.specs.declared.wire.Answer.TheVariants.{Got, Pending, Failed}
 use Rattle.sv_serve.specs.Heard.{Heard, WasAccepted, WasRead, WasWritten, WasDialed, PeerAnswered, WasClosed, IsWithin as IsWithinMost}
 use Rattle.sv_serve.specs.Moment.{Moment, moment, Each}
 use Rattle.sv_serve.specs.Steps.{Given, ReadsFrom, EndsTurn, TurnsIf, Turns, Dials, EndsWrite, WritesTo, Ends}
 use Rattle.sv_serve.specs.Sweep.{Sweeps}
-use Rattle.sv_serve.specs.Carried.{event_of, is_outer}
-use Rattle.sv_serve.specs.Served.{is_bytes, Takes, Offers, Serves, Served}
-use Rattle.sv_serve.proofs.Carrying.{Laws, Subject, OfRead, OfConn, OfNone, about, AllMay, Keeps, keeps_none, keeps_then, keeps_each, inner_by, then_heard, closes, not_shut, open_waiting, accepts, reads, dials, passes, write_by, writes, ends}
+use Rattle.sv_serve.specs.Served.{event_of, is_outer, is_bytes, Takes, Offers, Serves, Served}
+use Rattle.sv_serve.proofs.Carrying.{Subject, OfRead, OfConn, OfNone, about, AllMay, Keeps, keeps_none, keeps_then, keeps_each, inner_by, accepts, reads, dials, passes, write_by, writes, ends, hangs_up}
 
 -- ---- logs of a history and of one that goes on
 
@@ -60,14 +62,14 @@ calls_both (BytesTaken count ∷ one) other h k = absurd h
 calls_both (PortClosed ∷ one) other h k = absurd h
 
 -- behind events that bring nothing to a connection it has calls alone
-calls_over : Laws → (config : Config) (events history : List PlainEvent) (front log : List Act) (c : ℕ) → brought c events ≡ []
+calls_over : (config : Config) (events history : List PlainEvent) (front log : List Act) (c : ℕ) → brought c events ≡ []
     → IsLogOf config history front → IsLogOf config (events ++ history) log
     → (calls : List ConnAct) × AreCalls calls × (of c log ≡ calls ++ of c front)
-calls_over laws config [] history front log c none was is = ([], tt, ap (of c) (laws.one config history log front is was))
-calls_over laws config (event ∷ events) history front log c none was is =
+calls_over config [] history front log c none was is = ([], tt, ap (of c) (one_log config history log front is was))
+calls_over config (event ∷ events) history front log c none was is =
     let parts = none_left (brings c event) (brought c events) none in
-    let rest = calls_over laws config events history front is.0 c parts.1 was is.4 in
-    let one = laws.only config event (events ++ history) is.0 log c is.4 is in (
+    let rest = calls_over config events history front is.0 c parts.1 was is.4 in
+    let one = only_calls config event (events ++ history) is.0 log c is.4 is in (
       one.0 ++ rest.0,
       calls_both one.0 rest.0 one.1 rest.1,
       one.2 ∙ ap (λ (l : List ConnAct). one.0 ++ (l ++ of c is.0)) parts.0 ∙ ap (λ (l : List ConnAct). one.0 ++ l) rest.2
@@ -127,12 +129,12 @@ within_event config told (Input channel microvolts) log c free h = h
 within_event config told External log c free h = h
 within_event config told Tick log c free h = h
 
-within_log : Laws → (config : Config) (history : List PlainEvent) (log : List Act) (c : ℕ) → IsLogOf config history log → IsWithin (of c log)
-within_log laws config [] log c (given, none) = subst (λ (l : List Act). IsWithin (of c l)) (sym none) (λ opened. absurd cc)
-within_log laws config (event ∷ history) log c is =
-    let grown = laws.only config event history is.0 log c is.4 is in
+within_log : (config : Config) (history : List PlainEvent) (log : List Act) (c : ℕ) → IsLogOf config history log → IsWithin (of c log)
+within_log config [] log c (given, none) = subst (λ (l : List Act). IsWithin (of c l)) (sym none) (λ opened. absurd cc)
+within_log config (event ∷ history) log c is =
+    let grown = only_calls config event history is.0 log c is.4 is in
     subst IsWithin (sym grown.2) (within_calls grown.0 (brings c event ++ of c is.0) grown.1
-    (within_event config is.2 event is.0 c is.6 (within_log laws config history is.0 c is.4)))
+    (within_event config is.2 event is.0 c is.6 (within_log config history is.0 c is.4)))
 
 -- so what waits stays in front of what comes to wait
 calls_open : (adds acts : List ConnAct) → AreCalls adds → is_open (adds ++ acts) ≡ is_open acts
@@ -196,7 +198,7 @@ brought_heard c (WasAccepted role (Some d) (Got all)) ne = rw (ne_eqb d c ne) re
 brought_heard c (WasAccepted role (Some d) Pending) ne = refl
 brought_heard c (WasAccepted role (Some d) Failed) ne = refl
 brought_heard c (WasAccepted role None answer) ne = refl
-brought_heard c (WasRead d answer) ne = absurd ne
+brought_heard c (WasRead d most answer) ne = absurd ne
 brought_heard c (WasWritten (Conn d) bytes (Got n)) ne = rw (ne_eqb d c ne) refl
 brought_heard c (WasWritten (Conn d) bytes Pending) ne = refl
 brought_heard c (WasWritten (Conn d) bytes Failed) ne = refl
@@ -235,7 +237,7 @@ bytes_heard (WasAccepted role (Some d) (Got all)) un = refl
 bytes_heard (WasAccepted role (Some d) Pending) un = refl
 bytes_heard (WasAccepted role (Some d) Failed) un = refl
 bytes_heard (WasAccepted role None answer) un = refl
-bytes_heard (WasRead d answer) un = absurd un
+bytes_heard (WasRead d most answer) un = absurd un
 bytes_heard (WasWritten (Conn d) bytes (Got n)) un = refl
 bytes_heard (WasWritten (Conn d) bytes Pending) un = refl
 bytes_heard (WasWritten (Conn d) bytes Failed) un = refl
@@ -288,7 +290,7 @@ turned_more config c history events more unread untouched t = record {
 }
 
 -- and what waited then was offered
-record Offered (config : Config) (c : ℕ) (history events : List PlainEvent) (piece : List Heard) : Type 0 where
+pub record Offered (config : Config) (c : ℕ) (history events : List PlainEvent) (piece : List Heard) : Type 0 where
   pub first : List PlainEvent
   pub turn : List PlainEvent
   pub behind : List PlainEvent
@@ -388,44 +390,38 @@ short_by false true false true refused h far busy some = refl
 short_by false true false false refused h far busy some = absurd cc
 
 -- a Turn that is refused, and not for want of memory, found no room
-short : Laws → (config : Config) (history : List PlainEvent) (log : List Act) (c : ℕ) (told : List ChannelAct) (refused : Refused) → c < 16
+short : (config : Config) (history : List PlainEvent) (log : List Act) (c : ℕ) (told : List ChannelAct) (refused : Refused) → c < 16
     → IsLogOf config history log → true ≡ not (is_idle (of c log)) → refusal config told (Turn c) log ≡ Some refused
     → free (of c log) < longest_reply
-short laws config history log c told refused lt was ready h =
+short config history log c told refused lt was ready h =
     let busy = busy_so (is_idle (of c log)) ready in
     ltb-true (free (of c log)) longest_reply (short_by (nat_lt 15 c) (is_open (of c log)) (is_idle (of c log))
     (nat_lt (free (of c log)) longest_reply) refused h (le-ltb 15 c (omega (arith, lt))) busy
     (λ shut.
-    let idle = idle_so (is_idle (of c log)) (clear_idle (of c log) (laws.clear config history log c was
+    let idle = idle_so (is_idle (of c log)) (clear_idle (of c log) (shut_is_clear config history log c was
     (role_none (open_role (of c log)) shut))) in
     let z : true ≡ false = sym idle ∙ busy in cc))
 
-step_err : {W : Type 0} → Laws → CanBeRefused → (hears : W → Heard → W → Type 0) (config : Config) (c : ℕ) (refused : Refused)
+step_err : {W : Type 0} (hears : W → Heard → W → Type 0) (config : Config) (c : ℕ) (refused : Refused)
     (x between y : Moment W) (history events : List PlainEvent) (log : List Act) → c < 16 → x.history ≡ events ++ history
     → IsLogOf config x.history log → true ≡ not (is_idle (of c log)) → Answers config (Turn c) log (Err refused) → between ≡ x
     → EndsTurn c (Err refused) config between y → TurnStep hears config c history events x y
-step_err laws can hears config c NoMemory x between y history events log lt is was ready answers same (result, (other, was_other, says, to)) =
-    let here : IsLogOf config x.history other = subst (λ m. IsLogOf config m.history other) same was_other in
-    let one = laws.one config x.history other log here was in
-    let done = can config x.history c log result was answers (subst (λ (l : List Act). Answers config (Refuse c) l result) one says) in
-    let given : Given (Refuse c) (Ok Done) config between y =
-    subst (λ (r : Result Did Refused). Given (Refuse c) r config between y) done (other, was_other, says, to) in
-    record {
-      k = keeps_then hears Nobody config x between y (keeps_none hears Nobody config x between same)
-          (inner_by laws hears Nobody config (Refuse c) (Ok Done) between y refl (λ d. refl) (λ l. refl) given);
-      turned = record {
-        first = events;
-        turn = Refuse c ∷ [];
-        behind = [];
-        before = log;
-        split = refl;
-        was = subst (λ h. IsLogOf config h log) is was;
-        unread = refl;
-        untouched = refl;
-        takes = inr (inl refl);
-      };
-    }
-step_err laws can hears config c refused x between y history events log lt is was ready (told, tells, says) same to = record {
+step_err hears config c NoMemory x between y history events log lt is was ready answers same given = record {
+  k = keeps_then hears Nobody config x between y (keeps_none hears Nobody config x between same)
+      (inner_by hears Nobody config (Refuse c) (Ok Done) between y refl (λ d. refl) (λ l. refl) given);
+  turned = record {
+    first = events;
+    turn = Refuse c ∷ [];
+    behind = [];
+    before = log;
+    split = refl;
+    was = subst (λ h. IsLogOf config h log) is was;
+    unread = refl;
+    untouched = refl;
+    takes = inr (inl refl);
+  };
+}
+step_err hears config c refused x between y history events log lt is was ready (told, tells, says) same to = record {
   k = keeps_none hears Nobody config x y (to ∙ same);
   turned = record {
     first = events;
@@ -436,17 +432,17 @@ step_err laws can hears config c refused x between y history events log lt is wa
     was = subst (λ h. IsLogOf config h log) is was;
     unread = refl;
     untouched = refl;
-    takes = inr (inr (refl, inr (short laws config x.history log c told refused lt was ready says)));
+    takes = inr (inr (refl, inr (short config x.history log c told refused lt was ready says)));
   };
 }
 
-step_answer : {W : Type 0} → Laws → CanBeRefused → (hears : W → Heard → W → Type 0) (config : Config) (c : ℕ) (result : Result Did Refused)
+step_answer : {W : Type 0} (hears : W → Heard → W → Type 0) (config : Config) (c : ℕ) (result : Result Did Refused)
     (x between y : Moment W) (history events : List PlainEvent) (log : List Act) → c < 16 → x.history ≡ events ++ history
     → IsLogOf config x.history log → true ≡ not (is_idle (of c log)) → Given (Turn c) result config x between
     → EndsTurn c result config between y → TurnStep hears config c history events x y
-step_answer laws can hears config c (Ok did) x between y history events log lt is was ready given same = record {
+step_answer hears config c (Ok did) x between y history events log lt is was ready given same = record {
   k = keeps_then hears Nobody config x between y
-      (inner_by laws hears Nobody config (Turn c) (Ok did) x between refl (λ d. refl) (λ l. refl) given)
+      (inner_by hears Nobody config (Turn c) (Ok did) x between refl (λ d. refl) (λ l. refl) given)
       (keeps_none hears Nobody config between y same);
   turned = record {
     first = events;
@@ -460,16 +456,16 @@ step_answer laws can hears config c (Ok did) x between y history events log lt i
     takes = inl refl;
   };
 }
-step_answer laws can hears config c (Err refused) x between y history events log lt is was ready (other, was_other, says, to) ends =
-    let one = laws.one config x.history other log was_other was in
-    step_err laws can hears config c refused x between y history events log lt is was ready
+step_answer hears config c (Err refused) x between y history events log lt is was ready (other, was_other, says, to) ends =
+    let one = one_log config x.history other log was_other was in
+    step_err hears config c refused x between y history events log lt is was ready
     (subst (λ (l : List Act). Answers config (Turn c) l (Err refused)) one says) to ends
 
-step_ready : {W : Type 0} → Laws → CanBeRefused → (hears : W → Heard → W → Type 0) (config : Config) (c : ℕ) (ready : Bool)
+step_ready : {W : Type 0} (hears : W → Heard → W → Type 0) (config : Config) (c : ℕ) (ready : Bool)
     (x y : Moment W) (history events : List PlainEvent) (log : List Act) → c < 16 → x.history ≡ events ++ history
     → IsLogOf config x.history log → ready ≡ not (is_idle (of c log)) → TurnsIf c ready config x y
     → TurnStep hears config c history events x y
-step_ready laws can hears config c false x y history events log lt is was idle same = record {
+step_ready hears config c false x y history events log lt is was idle same = record {
   k = keeps_none hears Nobody config x y same;
   turned = record {
     first = events;
@@ -483,8 +479,8 @@ step_ready laws can hears config c false x y history events log lt is was idle s
     takes = inr (inr (refl, inl (idle_so (is_idle (of c log)) idle)));
   };
 }
-step_ready laws can hears config c true x y history events log lt is was ready (result, (between, given, ends)) =
-    step_answer laws can hears config c result x between y history events log lt is was ready given ends
+step_ready hears config c true x y history events log lt is was ready (result, (between, given, ends)) =
+    step_answer hears config c result x between y history events log lt is was ready given ends
 
 -- ---- all turns
 
@@ -492,18 +488,18 @@ record TurnPhase {W : Type 0} (hears : W → Heard → W → Type 0) (config : C
   pub k : Keeps hears Nobody config x y
   pub turned : (c : ℕ) → c < n → Turned config c history (k.events ++ events)
 
-turn_phase : {W : Type 0} → Laws → CanBeRefused → (hears : W → Heard → W → Type 0) (config : Config) (n : ℕ) (x y : Moment W)
+turn_phase : {W : Type 0} (hears : W → Heard → W → Type 0) (config : Config) (n : ℕ) (x y : Moment W)
     (history events : List PlainEvent) → n ≤ 16 → x.history ≡ events ++ history → Each n Turns config x y
     → TurnPhase hears config n history events x y
-turn_phase laws can hears config zero x y history events le is same = record {
+turn_phase hears config zero x y history events le is same = record {
   k = keeps_none hears Nobody config x y same;
   turned = λ c lt. absurd (omega (arith, lt));
 }
-turn_phase laws can hears config (suc n) x y history events le is (between, front, (ready, (log, was, says), last)) =
-    let p = turn_phase laws can hears config n x between history events (omega (arith, le)) is front in
+turn_phase hears config (suc n) x y history events le is (between, front, (ready, (log, was, says), last)) =
+    let p = turn_phase hears config n x between history events (omega (arith, le)) is front in
     let there : between.history ≡ (p.k.events ++ events) ++ history =
     p.k.grown ∙ ap (λ h. p.k.events ++ h) is ∙ sym (append_assoc p.k.events events history) in
-    let s = step_ready laws can hears config n ready between y history (p.k.events ++ events) log (omega (arith, le)) there was says last in
+    let s = step_ready hears config n ready between y history (p.k.events ++ events) log (omega (arith, le)) there was says last in
     record {
       k = keeps_then hears Nobody config x between y p.k s.k;
       turned = λ c lt. subst (λ e. Turned config c history e) (sym (append_assoc s.k.events p.k.events events))
@@ -537,30 +533,27 @@ record Written {W : Type 0} (hears : W → Heard → W → Type 0) (config : Con
   pub newer : List Heard
   pub is : k.piece ≡ newer ++ heard ∷ []
 
-written : {W : Type 0} → Laws → (hears : W → Heard → W → Type 0) (config : Config) (c : ℕ) (bytes : List ℕ) (answer : Answer ℕ) (wire : W)
-    (x between y : Moment W) (log : List Act) (told : List ChannelAct) → c < 16
-    → IsLogOf config x.history log → HearsOf (device_acts log) told → bytes ≡ waiting (of c log) → 0 < length bytes
+written : {W : Type 0} (hears : W → Heard → W → Type 0) (config : Config) (c : ℕ) (bytes : List ℕ) (answer : Answer ℕ) (wire : W)
+    (x between y : Moment W) (log : List Act) (told : List ChannelAct)
+    → IsLogOf config x.history log → HearsOf (device_acts log) told → bytes ≡ waiting (of c log)
     → IsWithinMost answer (length bytes) → hears x.wire (WasWritten (Conn c) bytes answer) wire → between ≡ record x { wire = wire }
     → EndsWrite hears (Conn c) answer config between y → Written hears config c (WasWritten (Conn c) bytes answer) x y
-written laws hears config c bytes (Got n) wire x between y log told lt was tells_so waits some few heard is ends = record {
-  k = write_by laws hears (Mine c) config (Conn c) (tt, refl) bytes (Got n) wire x between y log told lt was tells_so waits some few heard is ends;
+written hears config c bytes (Got n) wire x between y log told was tells_so waits few heard is ends = record {
+  k = write_by hears (Mine c) config (Conn c) (tt, refl) bytes (Got n) wire x between y log told was tells_so waits few heard is ends;
   newer = [];
   is = refl;
 }
-written laws hears config c bytes Pending wire x between y log told lt was tells_so waits some few heard is ends = record {
-  k = write_by laws hears (Mine c) config (Conn c) (tt, refl) bytes Pending wire x between y log told lt was tells_so waits some few heard is ends;
+written hears config c bytes Pending wire x between y log told was tells_so waits few heard is ends = record {
+  k = write_by hears (Mine c) config (Conn c) (tt, refl) bytes Pending wire x between y log told was tells_so waits few heard is ends;
   newer = [];
   is = refl;
 }
-written laws hears config c bytes Failed wire x between y log told lt was tells_so waits some few heard is ends =
-    let rest = closes laws hears (Mine c) config c (tt, refl) between y log
-    (subst (λ h. IsLogOf config h log) (sym (ap (λ m. m.history) is)) was)
-    (not_shut c log lt (open_waiting (of c log) (subst (λ l. 0 < length l) waits some))) ends in
-    record {
-      k = then_heard hears (Mine c) config (WasWritten (Conn c) bytes Failed) refl wire x between y heard is
-          (refl, (λ other. refl), (λ other. refl), (λ other. refl)) rest;
-      newer = rest.piece;
-      is = refl;
+written hears config c bytes Failed wire x between y log told was tells_so waits few heard is (first, shut, (second, hangs, closed)) =
+    let q = hangs_up hears (Mine c) config tt c first second hangs in record {
+      k = write_by hears (Mine c) config (Conn c) (tt, refl) bytes Failed wire x between y log told was tells_so waits few heard is
+          (first, shut, (second, hangs, closed));
+      newer = q.piece ++ WasClosed (Conn c) ∷ [];
+      is = sym (append_assoc q.piece (WasClosed (Conn c) ∷ []) (WasWritten (Conn c) bytes Failed ∷ []));
     }
 
 record WriteStep {W : Type 0} (hears : W → Heard → W → Type 0) (config : Config) (c : ℕ) (history events : List PlainEvent) (piece : List Heard)
@@ -573,22 +566,22 @@ none_waits [] ys e = refl
 none_waits (x ∷ xs) ys e = absurd cc
 
 -- what waited behind the turn is in front of what waits now
-still_waits : Laws → (config : Config) (c : ℕ) (history events : List PlainEvent) (log after : List Act)
+still_waits : (config : Config) (c : ℕ) (history events : List PlainEvent) (log after : List Act)
     → (t : Turned config c history events) → IsLogOf config (events ++ history) log
     → IsLogOf config (t.turn ++ (t.first ++ history)) after → (more : List ℕ) × (waiting (of c log) ≡ waiting (of c after) ++ more)
-still_waits laws config c history events log after t is was =
+still_waits config c history events log after t is was =
     let parts : events ++ history ≡ t.behind ++ (t.turn ++ (t.first ++ history)) =
     ap (λ e. e ++ history) t.split ∙ append_assoc t.behind (t.turn ++ t.first) history
     ∙ ap (λ e. t.behind ++ e) (append_assoc t.turn t.first history) in
-    let grown = calls_over laws config t.behind (t.turn ++ (t.first ++ history)) after log c t.untouched was
+    let grown = calls_over config t.behind (t.turn ++ (t.first ++ history)) after log c t.untouched was
     (subst (λ e. IsLogOf config e log) parts is) in
-    let waits = waits_calls grown.0 (of c after) grown.1 (within_log laws config (t.turn ++ (t.first ++ history)) after c was) in
+    let waits = waits_calls grown.0 (of c after) grown.1 (within_log config (t.turn ++ (t.first ++ history)) after c was) in
     (waits.0, ap waiting grown.2 ∙ waits.1)
 
-write_step : {W : Type 0} → Laws → (hears : W → Heard → W → Type 0) (config : Config) (c : ℕ) (x y : Moment W)
+write_step : {W : Type 0} (hears : W → Heard → W → Type 0) (config : Config) (c : ℕ) (x y : Moment W)
     (history events : List PlainEvent) (piece : List Heard) → c < 16 → x.history ≡ events ++ history → Turned config c history events
     → WritesTo hears (Conn c) config x y → WriteStep hears config c history events piece x y
-write_step laws hears config c x y history events piece lt is t (bytes, (log, told, was, tells_so, waits), inl (none, same)) = record {
+write_step hears config c x y history events piece lt is t (bytes, (log, told, was, tells_so, waits), inl (none, same)) = record {
   k = keeps_none hears (Mine c) config x y same;
   offered = record {
     first = t.first;
@@ -600,13 +593,13 @@ write_step laws hears config c x y history events piece lt is t (bytes, (log, to
     unread = t.unread;
     takes = t.takes;
     offers = λ after so.
-        let still = still_waits laws config c history events log after t (subst (λ h. IsLogOf config h log) is was) so in
+        let still = still_waits config c history events log after t (subst (λ h. IsLogOf config h log) is was) so in
         inl (none_waits (waiting (of c after)) still.0 (sym none ∙ waits ∙ still.1));
   };
 }
-write_step laws hears config c x y history events piece lt is t
+write_step hears config c x y history events piece lt is t
     (bytes, (log, told, was, tells_so, waits), inr (some, answer, few, (between, (wire, heard, to), ends))) =
-    let w = written laws hears config c bytes answer wire x between y log told lt was tells_so waits some few heard to ends in
+    let w = written hears config c bytes answer wire x between y log told was tells_so waits few heard to ends in
     record {
       k = w.k;
       offered = record {
@@ -620,7 +613,7 @@ write_step laws hears config c x y history events piece lt is t
             ∙ rw (keeps_unread hears (Mine c) config x y (mine_unread c) w.k, t.unread) refl;
         takes = t.takes;
         offers = λ after so.
-            let still = still_waits laws config c history events log after t (subst (λ h. IsLogOf config h log) is was) so in inr (
+            let still = still_waits config c history events log after t (subst (λ h. IsLogOf config h log) is was) so in inr (
               still.0,
               answer,
               w.newer,
@@ -647,22 +640,23 @@ keeps_may hears May Can config x y so k = record {
   told = k.told;
   may = may_all May Can k.piece so k.may;
   keeps = k.keeps;
+  closing = k.closing;
 }
 
-write_phase : {W : Type 0} → Laws → (hears : W → Heard → W → Type 0) (config : Config) (n : ℕ) (x y : Moment W)
+write_phase : {W : Type 0} (hears : W → Heard → W → Type 0) (config : Config) (n : ℕ) (x y : Moment W)
     (history events : List PlainEvent) (piece : List Heard) → n ≤ 16 → x.history ≡ events ++ history
     → ((c : ℕ) → c < 16 → Turned config c history events) → Each n (λ c. WritesTo hears (Conn c)) config x y
     → WritePhase hears config n history events piece x y
-write_phase laws hears config zero x y history events piece le is turned same = record {
+write_phase hears config zero x y history events piece le is turned same = record {
   k = keeps_none hears Unread config x y same;
   offered = λ c lt. absurd (omega (arith, lt));
   turned = λ c low lt. turned c lt;
 }
-write_phase laws hears config (suc n) x y history events piece le is turned (between, front, last) =
-    let p = write_phase laws hears config n x between history events piece (omega (arith, le)) is turned front in
+write_phase hears config (suc n) x y history events piece le is turned (between, front, last) =
+    let p = write_phase hears config n x between history events piece (omega (arith, le)) is turned front in
     let there : between.history ≡ (p.k.events ++ events) ++ history =
     p.k.grown ∙ ap (λ h. p.k.events ++ h) is ∙ sym (append_assoc p.k.events events history) in
-    let s = write_step laws hears config n between y history (p.k.events ++ events) (p.k.piece ++ piece) (omega (arith, le)) there
+    let s = write_step hears config n between y history (p.k.events ++ events) (p.k.piece ++ piece) (omega (arith, le)) there
     (p.turned n (omega arith) (omega (arith, le))) last in
     record {
       k = keeps_then hears Unread config x between y p.k (keeps_may hears (Mine n) Unread config between y (mine_unread n) s.k);
@@ -698,65 +692,64 @@ peers_elsewhere c (OfRead d) h = absurd h
 peers_elsewhere c (OfConn d) h = absurd h
 peers_elsewhere c OfNone h = tt
 
-abbrev Any : Subject → Type 0
+abbrev pub Any : Subject → Type 0
 Any s = ⊤
 
-record SweptOnce {W : Type 0} (hears : W → Heard → W → Type 0) (config : Config) (x y : Moment W) : Type 0 where
+pub record SweptOnce {W : Type 0} (hears : W → Heard → W → Type 0) (config : Config) (x y : Moment W) : Type 0 where
   pub k : Keeps hears Any config x y
   pub offered : (c : ℕ) → c < 16 → Offered config c x.history k.events k.piece
 
-sweep_once : {W : Type 0} → Laws → CanBeRefused → (hears : W → Heard → W → Type 0) (config : Config) (ticks : ℕ) (x y : Moment W)
+pub sweep_once : {W : Type 0} (hears : W → Heard → W → Type 0) (config : Config) (ticks : ℕ) (x y : Moment W)
     → Sweeps hears ticks config x y → SweptOnce hears config x y
-sweep_once laws can hears config ticks m0 m10 (m1, s1, (m2, s2, (m3, s3, (m4, s4, (m5, s5, (m6, s6, (m7, s7, (m8, s8, (m9, s9, s10))))))))) =
+sweep_once hears config ticks m0 m10 (m1, s1, (m2, s2, (m3, s3, (m4, s4, (m5, s5, (m6, s6, (m7, s7, (m8, s8, (m9, s9, s10))))))))) =
     let k3 = keeps_then hears Any config m0 m2 m3 (keeps_then hears Any config m0 m1 m2
-    (accepts laws hears Any config (λ n. tt) Core m0 m1 s1) (accepts laws hears Any config (λ n. tt) Abort m1 m2 s2))
-    (accepts laws hears Any config (λ n. tt) Portmap m2 m3 s3) in
+    (accepts hears Any config (λ n. tt) Core m0 m1 s1) (accepts hears Any config (λ n. tt) Abort m1 m2 s2))
+    (accepts hears Any config (λ n. tt) Portmap m2 m3 s3) in
     let k4 = keeps_then hears Any config m0 m3 m4 k3
-    (keeps_each hears Any config (ReadsFrom hears) 16 (λ c a b lt h. reads laws hears Any config c (tt, tt) tt a b lt h) m3 m4 s4) in
-    let turns_all = turn_phase laws can hears config 16 m4 m5 m0.history k4.events (omega arith) k4.grown s5 in
+    (keeps_each hears Any config (ReadsFrom hears) 16 (λ c a b lt h. reads hears Any config c (tt, tt) tt a b h) m3 m4 s4) in
+    let turns_all = turn_phase hears config 16 m4 m5 m0.history k4.events (omega arith) k4.grown s5 in
     let k5 = keeps_then hears Any config m0 m4 m5 k4 (keeps_may hears Nobody Any config m4 m5 (λ s h. tt) turns_all.k) in
     let peers = keeps_then hears Peers config m5 m6 m7
-    (keeps_each hears Peers config (Dials hears) 16 (λ c a b lt h. dials laws hears Peers config c tt a b lt h) m5 m6 s6)
-    (passes laws hears Peers config ticks m6 m7 s7) in
+    (keeps_each hears Peers config (Dials hears) 16 (λ c a b lt h. dials hears Peers config c tt a b h) m5 m6 s6)
+    (passes hears Peers config ticks m6 m7 s7) in
     let k7 = keeps_then hears Any config m0 m5 m7 k5 (keeps_may hears Peers Any config m5 m7 (λ s h. tt) peers) in
-    let writes_all = write_phase laws hears config 16 m7 m8 m0.history k7.events k7.piece (omega arith) k7.grown
+    let writes_all = write_phase hears config 16 m7 m8 m0.history k7.events k7.piece (omega arith) k7.grown
     (λ c lt. turned_keeps hears Peers config m5 m7 c m0.history k5.events peers_unread (peers_elsewhere c) peers (turns_all.turned c lt)) s8 in
     let k8 = keeps_then hears Any config m0 m7 m8 k7 (keeps_may hears Unread Any config m7 m8 (λ s h. tt) writes_all.k) in
     let rest = keeps_then hears Unread config m8 m9 m10
     (keeps_each hears Unread config (λ c. WritesTo hears (Intr c)) 16
-    (λ c a b lt h. writes laws hears Unread config (Intr c) (tt, tt) a b lt h) m8 m9 s9)
-    (keeps_each hears Unread config (Ends hears) 16 (λ c a b lt h. ends laws hears Unread config c (tt, tt) a b lt h) m9 m10 s10) in
+    (λ c a b lt h. writes hears Unread config (Intr c) (tt, tt) a b h) m8 m9 s9)
+    (keeps_each hears Unread config (Ends hears) 16 (λ c a b lt h. ends hears Unread config c (tt, tt) a b h) m9 m10 s10) in
     record {
       k = keeps_then hears Any config m0 m8 m10 k8 (keeps_may hears Unread Any config m8 m10 (λ s h. tt) rest);
       offered = λ c lt. offered_more config c m0.history k8.events rest.events k8.piece rest.piece
           (keeps_unread hears Unread config m8 m10 (λ s h. h) rest) (writes_all.offered c lt);
     }
 
-serves : (config : Config) (c : ℕ) (history events : List PlainEvent) (piece : List Heard) (log : List Act)
+pub serves : (config : Config) (c : ℕ) (history events : List PlainEvent) (piece : List Heard) (log : List Act)
     → IsLogOf config (events ++ history) log → Offered config c history events piece → Serves config c history events piece
 serves config c history events piece log is t =
     let parts : events ++ history ≡ t.behind ++ (t.turn ++ (t.first ++ history)) =
     ap (λ e. e ++ history) t.split ∙ append_assoc t.behind (t.turn ++ t.first) history
     ∙ ap (λ e. t.behind ++ e) (append_assoc t.turn t.first history) in
-    let front = front_log config t.behind (t.turn ++ (t.first ++ history)) log (subst (λ e. IsLogOf config e log) parts is) in
-    record {
-      first = t.first;
-      turn = t.turn;
-      behind = t.behind;
-      before = t.before;
-      after = front.0;
-      split = t.split;
-      was = t.was;
-      is = front.1;
-      unread = t.unread;
-      takes = t.takes;
-      offers = t.offers front.0 front.1;
-    }
+    let front = front_log config t.behind (t.turn ++ (t.first ++ history)) log (subst (λ e. IsLogOf config e log) parts is) in (
+      t.first,
+      t.turn,
+      t.behind,
+      t.before,
+      front.0,
+      t.split,
+      t.unread,
+      t.was,
+      front.1,
+      t.takes,
+      t.offers front.0 front.1,
+    )
 
-pub served : {W : Type 0} → Laws → CanBeRefused → (hears : W → Heard → W → Type 0) → Served hears
-served laws can hears config ticks history old new stands goes =
+pub served : {W : Type 0} (hears : W → Heard → W → Type 0) → Served hears
+served hears config ticks history old new stands goes =
     let now = goes config history stands in
-    let s = sweep_once laws can hears config ticks (moment old history) (moment new now.0) now.2 in
+    let s = sweep_once hears config ticks (moment old history) (moment new now.0) now.2 in
     let there : StandsFor new.server config (s.k.events ++ history) = subst (λ h. StandsFor new.server config h) s.k.grown now.1 in (
       s.k.events,
       s.k.piece,

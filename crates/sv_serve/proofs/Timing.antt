@@ -18,13 +18,15 @@ use Rattle.sv_replay.specs.Entry.{stimulus_event, IsAccepted}
 use Rattle.sv_replay.specs.declared.entry.Entry.{Entry}
 use Rattle.sv_replay.specs.declared.entry.Stimulus.{Stimulus}
 use Rattle.sv_replay.specs.declared.entry.Stimulus.TheVariants as stimuli
-use Rattle.sv_history.specs.Brought.{Suits, is_tick, TicksTaken}
+use Rattle.sv_history.specs.Brought.{Suits, is_tick}
+use Rattle.sv_history.proofs.TicksTaken.{ticks_taken}
 use Rattle.sv_serve.specs.Heard.{Heard}
 use Rattle.sv_serve.specs.Moment.{Driving, Moment, moment, Each, ◌then◌}
 use Rattle.sv_serve.specs.Steps.{ReadsFrom, Turns, Dials, WritesTo, Ends}
 use Rattle.sv_serve.specs.Sweep.{PlaysOne, IsNoneDue, Plays, most_ticks, Counts, TicksOnce, Passes, Sweeps}
-use Rattle.sv_serve.specs.Timed.{is_timed, IsScenario, played, timed, handed, timed_by}
-use Rattle.sv_serve.proofs.Carrying.{Laws, applied}
+use Rattle.sv_serve.specs.Timed.{is_timed, IsScenario, played, timed, handed}
+use Rattle.sv_serve.specs.Carried.{IsAtStart}
+use Rattle.sv_serve.proofs.Carrying.{applied}
 use Rattle.sv_serve.proofs.Idling.{Idles, idles_same, idles_then, idles_each, accepts_idles, reads_idles, turns_idles, dials_idles, writes_idles, ends_idles}
 
 -- ---- entries by their ticks
@@ -122,16 +124,16 @@ stimulus_suits : (stimulus : Stimulus) (told : List ChannelAct) (log : List Act)
 stimulus_suits (stimuli.Input channel microvolts) told log h = h
 stimulus_suits stimuli.External told log h = tt
 
-play_one : {W : Type 0} → Laws → (config : Config) (s : List Entry) (n k : ℕ) (a b : Moment W) → PlaysOne config a b → InPlay config s n k a
+play_one : {W : Type 0} (config : Config) (s : List Entry) (n k : ℕ) (a b : Moment W) → PlaysOne config a b → InPlay config s n k a
     → InPlay config s n k b
-play_one laws config s n k a b (entry, others, m, first, due, (result, (log, was, answers, to)), is) p =
+play_one config s n k a b (entry, others, m, first, due, (result, (log, was, answers, to)), is) p =
     let event = stimulus_event entry.stimulus in
     let rising : IsScenario n (entry ∷ others) = subst (λ l. IsScenario n l) first p.rising in
     let low = rising.0 in
     let at = p.ticks in
     let now : entry.tick ≡ n = omega (arith, low, due, at) in
     let told = some_told (device_acts log) in
-    let done = applied laws config event a m told.0 log was told.1 (stimulus_suits entry.stimulus told.0 log rising.1)
+    let done = applied config event a m told.0 log was told.1 (stimulus_suits entry.stimulus told.0 log rising.1)
     (result, (log, was, answers, to)) in
     let history : b.history ≡ event ∷ a.history = ap (λ m. m.history) is ∙ ap (λ m. m.history) done in
     let own : played n (p.past ++ entry ∷ []) ≡ event ∷ played n p.past = played_join n p.past (entry ∷ []) ∙ rw (eq-eqb entry.tick n now) refl in
@@ -149,11 +151,11 @@ play_one laws config s n k a b (entry, others, m, first, due, (result, (log, was
       reached = p.reached;
     }
 
-play_each : {W : Type 0} → Laws → (config : Config) (s : List Entry) (n k i : ℕ) (a b : Moment W) → Each i (λ j. PlaysOne) config a b
+play_each : {W : Type 0} (config : Config) (s : List Entry) (n k i : ℕ) (a b : Moment W) → Each i (λ j. PlaysOne) config a b
     → InPlay config s n k a → InPlay config s n k b
-play_each laws config s n k zero a b is p = idle_play config s n k a b (idles_same a b is) p
-play_each laws config s n k (suc i) a b (m, front, last) p =
-    play_one laws config s n k m b last (play_each laws config s n k i a m front p)
+play_each config s n k zero a b is p = idle_play config s n k a b (idles_same a b is) p
+play_each config s n k (suc i) a b (m, front, last) p =
+    play_one config s n k m b last (play_each config s n k i a m front p)
 
 -- with what is due played
 record Rests {W : Type 0} (config : Config) (s : List Entry) (k : ℕ) (a : Moment W) : Type 0 where
@@ -161,10 +163,10 @@ record Rests {W : Type 0} (config : Config) (s : List Entry) (k : ℕ) (a : Mome
   pub play : InPlay config s n k a
   pub none : IsNoneDue n a.ahead
 
-plays : {W : Type 0} → Laws → (config : Config) (s : List Entry) (n k : ℕ) (a b : Moment W) → Plays config a b → InPlay config s n k a
+plays : {W : Type 0} (config : Config) (s : List Entry) (n k : ℕ) (a b : Moment W) → Plays config a b → InPlay config s n k a
     → Rests config s k b
-plays laws config s n k a b (i, each, none) p =
-    let q = play_each laws config s n k i a b each p in
+plays config s n k a b (i, each, none) p =
+    let q = play_each config s n k i a b each p in
     record { n = n; play = q; none = subst (λ t. IsNoneDue t b.ahead) q.ticks none }
 
 -- ---- a millisecond passes
@@ -225,10 +227,10 @@ tick_more config s k a m b r lt is counts =
       };
     }
 
-tick : {W : Type 0} → TicksTaken → (config : Config) (s : List Entry) (k : ℕ) (a b : Moment W) → TicksOnce config a b → Rests config s k a
+tick : {W : Type 0} (config : Config) (s : List Entry) (k : ℕ) (a b : Moment W) → TicksOnce config a b → Rests config s k a
     → Played config s (k + 1) b
-tick taken config s k a b (result, (m, (log, was, answers, is), counts)) r =
-    let both = taken config a.history log result was answers in
+tick config s k a b (result, (m, (log, was, answers, is), counts)) r =
+    let both = ticks_taken config a.history log result was answers in
     let count = r.play.count in
     let within = r.play.within in
     elim (eq-or-lt_of_le within) [
@@ -240,33 +242,33 @@ tick taken config s k a b (result, (m, (log, was, answers, is), counts)) r =
           (subst (λ (x : Result Did Refused). Counts x config m b) done counts)
     ]
 
-pass_each : {W : Type 0} → Laws → TicksTaken → (config : Config) (s : List Entry) (k i : ℕ) (a b : Moment W)
+pass_each : {W : Type 0} (config : Config) (s : List Entry) (k i : ℕ) (a b : Moment W)
     → Each i (λ j. Plays then TicksOnce) config a b → Played config s k a → Played config s (k + i) b
-pass_each laws taken config s k zero a b is p =
+pass_each config s k zero a b is p =
     subst (λ (j : ℕ). Played config s j b) (let e : k ≡ k + 0 = omega arith in e)
     (record { n = p.n; play = idle_play config s p.n k a b (idles_same a b is) p.play })
-pass_each laws taken config s k (suc i) a b (m, front, (x, played_so, ticked)) p =
-    let q = pass_each laws taken config s k i a m front p in
+pass_each config s k (suc i) a b (m, front, (x, played_so, ticked)) p =
+    let q = pass_each config s k i a m front p in
     subst (λ (j : ℕ). Played config s j b) (let e : k + i + 1 ≡ k + suc i = omega arith in e)
-    (tick taken config s (k + i) x b ticked (plays laws config s q.n (k + i) m x played_so q.play))
+    (tick config s (k + i) x b ticked (plays config s q.n (k + i) m x played_so q.play))
 
-passes : {W : Type 0} → Laws → TicksTaken → (config : Config) (s : List Entry) (k ticks : ℕ) (a b : Moment W) → Passes ticks config a b
+passes : {W : Type 0} (config : Config) (s : List Entry) (k ticks : ℕ) (a b : Moment W) → Passes ticks config a b
     → Played config s k a → Rests config s (k + ticks) b
-passes laws taken config s k ticks a b (m, each, last) p =
-    let q = pass_each laws taken config s k ticks a m each p in plays laws config s q.n (k + ticks) m b last q.play
+passes config s k ticks a b (m, each, last) p =
+    let q = pass_each config s k ticks a m each p in plays config s q.n (k + ticks) m b last q.play
 
 -- ---- sweeps
 
-sweep_timed : {W : Type 0} → Laws → TicksTaken → (hears : W → Heard → W → Type 0) (config : Config) (s : List Entry) (k ticks : ℕ)
+sweep_timed : {W : Type 0} (hears : W → Heard → W → Type 0) (config : Config) (s : List Entry) (k ticks : ℕ)
     (a b : Moment W) → Sweeps hears ticks config a b → Played config s k a → Rests config s (k + ticks) b
-sweep_timed laws taken hears config s k ticks m0 m10
+sweep_timed hears config s k ticks m0 m10
     (m1, s1, (m2, s2, (m3, s3, (m4, s4, (m5, s5, (m6, s6, (m7, s7, (m8, s8, (m9, s9, s10))))))))) p =
     let front = idles_then m0 m1 m6 (accepts_idles hears Core config m0 m1 s1) (idles_then m1 m2 m6 (accepts_idles hears Abort config m1 m2 s2)
     (idles_then m2 m3 m6 (accepts_idles hears Portmap config m2 m3 s3)
     (idles_then m3 m4 m6 (idles_each config (ReadsFrom hears) 16 (λ c. reads_idles hears c config) m3 m4 s4)
     (idles_then m4 m5 m6 (idles_each config Turns 16 (λ c. turns_idles c config) m4 m5 s5)
     (idles_each config (Dials hears) 16 (λ c. dials_idles hears c config) m5 m6 s6))))) in
-    let r = passes laws taken config s k ticks m6 m7 s7 (record { n = p.n; play = idle_play config s p.n k m0 m6 front p.play }) in
+    let r = passes config s k ticks m6 m7 s7 (record { n = p.n; play = idle_play config s p.n k m0 m6 front p.play }) in
     let rest = idles_then m7 m8 m10 (idles_each config (λ c. WritesTo hears (Conn c)) 16 (λ c. writes_idles hears (Conn c) config) m7 m8 s8)
     (idles_then m8 m9 m10 (idles_each config (λ c. WritesTo hears (Intr c)) 16 (λ c. writes_idles hears (Intr c) config) m8 m9 s9)
     (idles_each config (Ends hears) 16 (λ c. ends_idles hears c config) m9 m10 s10)) in
@@ -277,9 +279,8 @@ sweep_timed laws taken hears config s k ticks m0 m10
     }
 
 -- in front of the first sweep
-pub begins : {W : Type 0} (config : Config) (start : Driving W) → config.clock ≤ last_clock → start.ticks ≡ 0 → IsScenario 0 start.ahead
-    → Played config start.ahead 0 (moment start [])
-begins config start clock zero_ticks rising = record {
+pub begins : {W : Type 0} (config : Config) (start : Driving W) → IsAtStart config start → Played config start.ahead 0 (moment start [])
+begins config start (clock, zero_ticks, rising) = record {
   n = 0;
   play = record {
     past = [];
@@ -295,11 +296,11 @@ begins config start clock zero_ticks rising = record {
 }
 
 -- and behind one
-pub behind : {W : Type 0} → Laws → TicksTaken → (hears : W → Heard → W → Type 0) (config : Config) (s : List Entry) (passed : List ℕ) (ticks : ℕ)
+pub behind : {W : Type 0} (hears : W → Heard → W → Type 0) (config : Config) (s : List Entry) (passed : List ℕ) (ticks : ℕ)
     (a b : Moment W) → Sweeps hears ticks config a b → Played config s (handed passed) a
-    → Played config s (handed (ticks ∷ passed)) b × (filter is_timed b.history ≡ timed_by config (ticks ∷ passed) s)
-behind laws taken hears config s passed ticks a b sweeps p =
-    let r = sweep_timed laws taken hears config s (handed passed) ticks a b sweeps p in (
+    → Played config s (handed (ticks ∷ passed)) b × (filter is_timed b.history ≡ timed (min (handed (ticks ∷ passed)) (last_clock - config.clock)) s)
+behind hears config s passed ticks a b sweeps p =
+    let r = sweep_timed hears config s (handed passed) ticks a b sweeps p in (
       record { n = r.n; play = r.play },
       timed_here config s r.n (handed passed + ticks) b r.play r.none ∙ ap (λ (i : ℕ). timed i s) r.play.reached,
     )

@@ -6,10 +6,10 @@ use Rattle.sv_history.specs.declared.event.Dial.{Dial}
 use Rattle.sv_serve.specs.declared.wire.Answer.{Answer}
 use Rattle.sv_serve.specs.declared.wire.Answer.TheVariants.{Got, Pending, Failed}
 
--- one call of a wire, with its answer
+-- one call of a wire, with its answer; of a read, how many bytes were asked for at most
 pub data Heard : Type 0 where
   WasAccepted : (role : Role) (conn : Option ℕ) (answer : Answer ⊤) → Heard
-  WasRead : (conn : ℕ) (answer : Answer (List ℕ)) → Heard
+  WasRead : (conn : ℕ) (most : ℕ) (answer : Answer (List ℕ)) → Heard
   WasWritten : (port : Port) (bytes : List ℕ) (answer : Answer ℕ) → Heard
   WasDialed : (conn : ℕ) (dial : Dial) (answer : Answer ⊤) → Heard
   PeerAnswered : (conn : ℕ) (answer : Answer ⊤) → Heard

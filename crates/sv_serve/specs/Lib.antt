@@ -3,7 +3,8 @@ pub mod Moment
 pub mod Asked
 pub mod Steps
 pub mod Sweep
+pub mod Premises
 pub mod Still
-pub mod Carried
-pub mod Served
 pub mod Timed
+pub mod Served
+pub mod Carried

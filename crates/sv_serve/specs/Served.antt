@@ -1,18 +1,43 @@
--- What a sweep does for each connection.
-use Rattle.std.specs.Prelude.{◌≡◌, ◌⊎◌, ℕ, ◌<◌, Bool, true, false, List, [], ◌∷◌, ◌++◌, filter, flat_map}
+-- What a wire answers as events, and what a sweep does for each connection. Traces and histories are read from the newest.
+use Rattle.std.specs.Prelude.{◌≡◌, ◌⊎◌, ℕ, ◌<◌, not, Bool, true, false, List, [], ◌∷◌, ◌++◌, filter, flat_map, Some}
 use Rattle.sv_history.specs.declared.event.Config.{Config}
-use Rattle.sv_history.specs.declared.event.Port.TheVariants.{Conn}
-use Rattle.sv_history.specs.Event.{PlainEvent, Bytes, Turn, Refuse}
+use Rattle.sv_history.specs.declared.event.Port.TheVariants.{Conn, Intr}
+use Rattle.sv_history.specs.Event.{PlainEvent, Open, Bytes, Turn, Refuse, Took, Close, Dialed}
 use Rattle.sv_history.specs.Act.{Act, of}
 use Rattle.sv_history.specs.Connection.{waiting, is_idle, free}
 use Rattle.sv_history.specs.Limits.{longest_reply}
 use Rattle.sv_history.specs.History.{IsLogOf}
 use Rattle.sv_server.specs.Server.State.{StandsFor}
 use Rattle.sv_serve.specs.declared.wire.Answer.{Answer}
-use Rattle.sv_serve.specs.Heard.{Heard, WasWritten}
+use Rattle.sv_serve.specs.declared.wire.Answer.TheVariants.{Got, Failed}
+use Rattle.sv_serve.specs.Heard.{Heard, WasAccepted, WasRead, WasWritten, WasDialed, PeerAnswered, WasClosed}
 use Rattle.sv_serve.specs.Moment.{Driving, Goes}
 use Rattle.sv_serve.specs.Sweep.{Sweeps}
-use Rattle.sv_serve.specs.Carried.{Through, event_of, is_outer}
+use Rattle.sv_serve.specs.Timed.{is_timed}
+
+-- The wire was asked these, one after the other, and answered so.
+abbrev pub Through : {W : Type 0} → (W → Heard → W → Type 0) → List Heard → W → W → Type 0
+Through hears [] start now = now ≡ start
+Through hears (heard ∷ trace) start now = (between : _) × Through hears trace start between × hears between heard now
+
+-- the event that an answer is, if it is one
+abbrev pub event_of : Heard → List PlainEvent
+event_of (WasAccepted role (Some c) (Got all)) = Open c role ∷ []
+event_of (WasRead c most (Got bytes)) = Bytes c bytes ∷ []
+event_of (WasWritten port bytes (Got n)) = Took port n ∷ []
+event_of (WasWritten (Intr c) bytes Failed) = Close (Intr c) ∷ []
+event_of (WasDialed c dial (Got all)) = Dialed c true ∷ []
+event_of (WasDialed c dial Failed) = Dialed c false ∷ []
+event_of (PeerAnswered c (Got all)) = Dialed c true ∷ []
+event_of (PeerAnswered c Failed) = Dialed c false ∷ []
+event_of (WasClosed (Conn c)) = Close (Conn c) ∷ []
+event_of _ = []
+
+-- whether an event is of the wire: a driver's own are its turns, and what time brings
+abbrev pub is_outer : PlainEvent → Bool
+is_outer (Turn c) = false
+is_outer (Refuse c) = false
+is_outer event = not (is_timed event)
 
 abbrev pub is_bytes : PlainEvent → Bool
 is_bytes (Bytes c piece) = true
@@ -23,24 +48,17 @@ abbrev pub Takes : ℕ → List Act → List PlainEvent → Type 0
 Takes c before turn = (turn ≡ Turn c ∷ []) ⊎ ((turn ≡ Refuse c ∷ [])
     ⊎ ((turn ≡ []) × ((is_idle (of c before) ≡ true) ⊎ (free (of c before) < longest_reply))))
 
--- The bytes that wait, if any do, were handed to the wire in one piece, with others behind them.
+-- The bytes that wait, if any do, are handed to the wire in one piece, with others behind them.
 abbrev pub Offers : ℕ → List Act → List Heard → Type 0
-Offers c log piece = (waiting (of c log) ≡ []) ⊎ ((more : List ℕ) × (answer : Answer ℕ) × (newer : List Heard) × (older : List Heard)
+Offers c log piece = (waiting (of c log) ≡ []) ⊎ ((more : List ℕ) × (answer : Answer ℕ) × (newer older : List Heard)
     × (piece ≡ newer ++ (WasWritten (Conn c) (waiting (of c log) ++ more) answer ∷ older)))
 
--- Behind all that is read in a sweep a connection has its turn, and what waits then is handed to the wire in the same sweep.
-pub record Serves (config : Config) (c : ℕ) (history events : List PlainEvent) (piece : List Heard) : Type 0 where
-  pub first : List PlainEvent
-  pub turn : List PlainEvent
-  pub behind : List PlainEvent
-  pub before : List Act
-  pub after : List Act
-  pub split : events ≡ behind ++ (turn ++ first)
-  pub was : IsLogOf config (first ++ history) before
-  pub is : IsLogOf config (turn ++ (first ++ history)) after
-  pub unread : filter is_bytes behind ≡ []
-  pub takes : Takes c before turn
-  pub offers : Offers c after piece
+-- In a sweep a connection has its turn behind all that is read, and what waits then is handed to the wire in the same sweep.
+abbrev pub Serves : Config → ℕ → List PlainEvent → List PlainEvent → List Heard → Type 0
+Serves config c history events piece = (first turn behind : List PlainEvent) × (before after : List Act)
+    × (events ≡ behind ++ (turn ++ first)) × (filter is_bytes behind ≡ [])
+    × IsLogOf config (first ++ history) before × IsLogOf config (turn ++ (first ++ history)) after
+    × Takes c before turn × Offers c after piece
 
 -- So does every sweep for each connection, whatever happened before.
 abbrev pub Served : {W : Type 0} → (W → Heard → W → Type 0) → Type 0

@@ -1,8 +1,10 @@
--- The steps of a driver. In each the wire is asked once at most, and what it answers happens to the server.
-use Rattle.std.specs.Prelude.{◌≡◌, ◌⊎◌, ℕ, ◌<◌, ◌==◌, ◌&&◌, ◌||◌, Bool, true, false, List, [], length, Option, Some, None, Result, Ok, Err, ⊤, slice_set, slice_index_or, if◌then◌else◌}
+-- The steps of a driver. In each the wire is asked once at most, and what it answers happens to the server. Only a Turn, a Tick and an
+-- entry of the scenario may be refused.
+use Rattle.std.specs.Prelude.{◌≡◌, ◌⊎◌, ℕ, ◌<◌, min, ◌==◌, ◌&&◌, ◌||◌, Bool, true, false, List, [], length, Option, Some, None, Result, Ok, Err, ⊤, slice_set, slice_index_or, if◌then◌else◌}
 use Rattle.sv_history.specs.declared.event.Config.{Config}
 use Rattle.sv_history.specs.declared.event.Dial.{Dial}
 use Rattle.sv_history.specs.declared.event.Did.{Did}
+use Rattle.sv_history.specs.declared.event.Did.TheVariants.{Done}
 use Rattle.sv_history.specs.declared.event.Port.{Port}
 use Rattle.sv_history.specs.declared.event.Port.TheVariants.{Conn, Intr}
 use Rattle.sv_history.specs.declared.event.Refused.{Refused}
@@ -26,9 +28,9 @@ abbrev pub Given : {W : Type 0} → PlainEvent → Result Did Refused → Config
 Given event result config before after = (log : List Act) × IsLogOf config before.history log × Answers config event log result
     × (after ≡ record before { history = history_after event result before.history })
 
--- whatever it answered
-abbrev pub Applies : {W : Type 0} → PlainEvent → Config → Moment W → Moment W → Type 0
-Applies event config before after = (result : Result Did Refused) × Given event result config before after
+-- and it was done
+abbrev pub Happens : {W : Type 0} → PlainEvent → Config → Moment W → Moment W → Type 0
+Happens event = Given event (Ok Done)
 
 -- who was called for the interrupt channel of a connection
 abbrev pub called_of : {W : Type 0} → ℕ → Moment W → Option Dial
@@ -39,7 +41,7 @@ Notes c dial config before after = after ≡ record before { called = slice_set 
 
 -- A connection comes, for a purpose, and gets the lowest free number; where none is free, it is dropped.
 abbrev pub Opens : {W : Type 0} → Role → Option ℕ → Answer ⊤ → Config → Moment W → Moment W → Type 0
-Opens role (Some c) (Got all) = Applies (Open c role)
+Opens role (Some c) (Got all) = Happens (Open c role)
 Opens role (Some c) Pending = Stays
 Opens role (Some c) Failed = Stays
 Opens role None answer = Stays
@@ -58,7 +60,7 @@ HangsUp hears c config before after = HangsUpOn hears c (called_of c before) con
 
 -- a connection is closed, with its interrupt channel
 abbrev pub Closes : {W : Type 0} → (W → Heard → W → Type 0) → ℕ → Config → Moment W → Moment W → Type 0
-Closes hears c = Hears hears (WasClosed (Conn c)) then HangsUp hears c then Applies (Close (Conn c))
+Closes hears c = Hears hears (WasClosed (Conn c)) then HangsUp hears c then Happens (Close (Conn c))
 
 -- if this is so
 abbrev pub ClosesIf : {W : Type 0} → (W → Heard → W → Type 0) → ℕ → Bool → Config → Moment W → Moment W → Type 0
@@ -67,23 +69,27 @@ ClosesIf hears c false = Stays
 
 -- What was read on a connection comes to the server; where reading failed, the connection is closed.
 abbrev pub Comes : {W : Type 0} → (W → Heard → W → Type 0) → ℕ → Answer (List ℕ) → Config → Moment W → Moment W → Type 0
-Comes hears c (Got bytes) = Applies (Bytes c bytes)
+Comes hears c (Got bytes) = Happens (Bytes c bytes)
 Comes hears c Pending = Stays
 Comes hears c Failed = Closes hears c
 
--- at most so many bytes are read, where that isn't none
+-- the most bytes that are asked for at once
+abbrev pub longest_piece : ℕ
+longest_piece = 16384
+
+-- Where there is room for so many bytes, as many are asked for, but no more than a piece has.
 abbrev pub ReadsUpTo : {W : Type 0} → (W → Heard → W → Type 0) → ℕ → ℕ → Config → Moment W → Moment W → Type 0
-ReadsUpTo hears most c config before after = ((most ≡ 0) × (after ≡ before))
-    ⊎ ((0 < most) × (answer : Answer (List ℕ)) × IsPiece answer most
-    × (Hears hears (WasRead c answer) then Comes hears c answer) config before after)
+ReadsUpTo hears room c config before after = ((room ≡ 0) × (after ≡ before))
+    ⊎ ((0 < room) × (answer : Answer (List ℕ)) × IsPiece answer (min room longest_piece)
+    × (Hears hears (WasRead c (min room longest_piece) answer) then Comes hears c answer) config before after)
 
 -- as many as the connection has room for
 abbrev pub ReadsFrom : {W : Type 0} → (W → Heard → W → Type 0) → ℕ → Config → Moment W → Moment W → Type 0
-ReadsFrom hears c config before after = (most : ℕ) × HasRoom c config before most × ReadsUpTo hears most c config before after
+ReadsFrom hears c config before after = (room : ℕ) × HasRoom c config before room × ReadsUpTo hears room c config before after
 
 -- a call is answered that there is no room for it, if this is so
 abbrev pub RefusesIf : {W : Type 0} → ℕ → Bool → Config → Moment W → Moment W → Type 0
-RefusesIf c true = Applies (Refuse c)
+RefusesIf c true = Happens (Refuse c)
 RefusesIf c false = Stays
 
 -- A call that finds no memory is refused: it is answered so, and its connection stays.
@@ -119,15 +125,15 @@ LetsGo hears c config before after = LetsGoOf hears c (called_of c before) confi
 
 -- what comes of calling a peer
 abbrev pub Rings : {W : Type 0} → ℕ → Dial → Answer ⊤ → Config → Moment W → Moment W → Type 0
-Rings c dial (Got all) = Notes c (Some dial) then Applies (Dialed c true)
+Rings c dial (Got all) = Notes c (Some dial) then Happens (Dialed c true)
 Rings c dial Pending = Notes c (Some dial)
-Rings c dial Failed = Applies (Dialed c false)
+Rings c dial Failed = Happens (Dialed c false)
 
 -- and of waiting for one that was called
 abbrev pub Picks : {W : Type 0} → (W → Heard → W → Type 0) → ℕ → Answer ⊤ → Config → Moment W → Moment W → Type 0
-Picks hears c (Got all) = Applies (Dialed c true)
+Picks hears c (Got all) = Happens (Dialed c true)
 Picks hears c Pending = Stays
-Picks hears c Failed = HangsUp hears c then Applies (Dialed c false)
+Picks hears c Failed = HangsUp hears c then Happens (Dialed c false)
 
 abbrev pub CallsFor : {W : Type 0} → (W → Heard → W → Type 0) → ℕ → Option Dial → Option Dial → Config → Moment W → Moment W → Type 0
 CallsFor hears c None called config before after = after ≡ before
@@ -147,11 +153,11 @@ Dials hears c = LetsGo hears c then Calls hears c
 -- a connection is closed, or an interrupt channel alone
 abbrev pub BreaksOff : {W : Type 0} → (W → Heard → W → Type 0) → Port → Config → Moment W → Moment W → Type 0
 BreaksOff hears (Conn c) = Closes hears c
-BreaksOff hears (Intr c) = HangsUp hears c then Applies (Close (Intr c))
+BreaksOff hears (Intr c) = HangsUp hears c then Happens (Close (Intr c))
 
 -- What was taken of the bytes that waited leaves the server; where writing failed, the port is closed.
 abbrev pub EndsWrite : {W : Type 0} → (W → Heard → W → Type 0) → Port → Answer ℕ → Config → Moment W → Moment W → Type 0
-EndsWrite hears port (Got n) = Applies (Took port n)
+EndsWrite hears port (Got n) = Happens (Took port n)
 EndsWrite hears port Pending = Stays
 EndsWrite hears port Failed = BreaksOff hears port
 

@@ -5,12 +5,16 @@ use Rattle.sv_history.specs.declared.event.Did.{Did}
 use Rattle.sv_history.specs.declared.event.Port.TheVariants.{Conn, Intr}
 use Rattle.sv_history.specs.declared.event.Refused.{Refused}
 use Rattle.sv_history.specs.declared.event.Role.TheVariants.{Core, Abort, Portmap}
-use Rattle.sv_history.specs.Event.{Tick}
+use Rattle.sv_history.specs.Event.{PlainEvent, Tick}
 use Rattle.sv_replay.specs.Entry.{stimulus_event}
 use Rattle.sv_replay.specs.declared.entry.Entry.{Entry}
 use Rattle.sv_serve.specs.Heard.{Heard}
 use Rattle.sv_serve.specs.Moment.{Moment, ◌then◌, Each}
-use Rattle.sv_serve.specs.Steps.{Given, Applies, Accepts, ReadsFrom, Turns, Dials, WritesTo, Ends}
+use Rattle.sv_serve.specs.Steps.{Given, Accepts, ReadsFrom, Turns, Dials, WritesTo, Ends}
+
+-- the server was given an event, whatever it answered
+abbrev pub Applies : {W : Type 0} → PlainEvent → Config → Moment W → Moment W → Type 0
+Applies event config before after = (result : Result Did Refused) × Given event result config before after
 
 -- The first entry of the scenario is due, and happens.
 abbrev pub PlaysOne : {W : Type 0} → Config → Moment W → Moment W → Type 0

@@ -1,8 +1,6 @@
 -- What time brings: a scenario happens as its milliseconds pass.
-use Rattle.std.specs.Prelude.{ℕ, zero, suc, ◌-◌, ◌==◌, ◌≤◌, min, Bool, true, false, List, [], ◌∷◌, ◌++◌, ◌+◌, if◌then◌else◌, ⊤}
-use Rattle.sv_history.specs.declared.event.Config.{Config}
+use Rattle.std.specs.Prelude.{ℕ, zero, suc, ◌==◌, ◌≤◌, Bool, true, false, List, [], ◌∷◌, ◌++◌, ◌+◌, if◌then◌else◌, ⊤}
 use Rattle.sv_history.specs.Event.{PlainEvent, Input, External, Tick}
-use Rattle.sv_history.specs.History.{last_clock}
 use Rattle.sv_replay.specs.Entry.{stimulus_event, IsAccepted}
 use Rattle.sv_replay.specs.declared.entry.Entry.{Entry}
 
@@ -31,8 +29,3 @@ timed (suc n) entries = played (suc n) entries ++ Tick ∷ timed n entries
 abbrev pub handed : List ℕ → ℕ
 handed [] = 0
 handed (ticks ∷ passed) = handed passed + ticks
-
--- None was played before the first sweep. The clock has an end: no millisecond is counted behind it.
-abbrev pub timed_by : Config → List ℕ → List Entry → List PlainEvent
-timed_by config [] entries = []
-timed_by config (ticks ∷ passed) entries = timed (min (handed (ticks ∷ passed)) (last_clock - config.clock)) entries

@@ -8,6 +8,7 @@ ghost use Rattle.sv_serve.specs.Asked.{IsLowest};
 ghost use Rattle.sv_serve.specs.Heard.{WasAccepted};
 ghost use Rattle.sv_serve.specs.Moment.{Goes, moment};
 ghost use Rattle.sv_serve.specs.Steps.{Hears, Accepts, Opens};
+ghost use Rattle.sv_serve.specs.Premises.{From};
 
 use crate::driver::{CONNECTIONS, Driver};
 use crate::wire::{Answer, Wire};
@@ -47,11 +48,11 @@ impl<W: Wire + Drop, A: Allocator> Driver<W, A> {
 
     /// Opens what came.
     fn open(&mut self, role: Role, conn: Option<u8>, answer: Answer<()>)
-        ensures { Goes (Opens role conn answer) self.old self.new }
+        ensures { From (IsLowest conn) (Opens role conn answer) self.old self.new }
     {
         match (conn, answer) {
             (Some(conn), Answer::Got(())) => {
-                let _ = self.give(Event::Open { conn, role });
+                self.happen(Event::Open { conn, role });
             }
             (Some(_), Answer::Pending) => {}
             (Some(_), Answer::Failed) => {}

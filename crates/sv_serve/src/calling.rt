@@ -1,8 +1,11 @@
 //! Calling the peers of interrupt channels.
 
 ghost use Rattle.std.specs.Prelude.{◌≡◌, ◌<◌, slice_index_or, Some, None};
+ghost use Rattle.sv_history.specs.declared.event.Config.{Config};
 ghost use Rattle.sv_serve.specs.Heard.{WasDialed, PeerAnswered};
-ghost use Rattle.sv_serve.specs.Moment.{Goes, Each};
+ghost use Rattle.sv_serve.specs.Moment.{Moment, Goes, Each};
+ghost use Rattle.sv_serve.specs.Asked.{Wants};
+ghost use Rattle.sv_serve.specs.Premises.{From, IsAwaited};
 ghost use Rattle.sv_serve.specs.Steps.{Hears, is_wanted, LetsGoOf, LetsGo, KeepsCall, Rings, Picks, CallsFor, Calls, Dials, Notes};
 
 use crate::driver::{CONNECTIONS, Driver};
@@ -90,7 +93,8 @@ impl<W: Wire + Drop, A: Allocator> Driver<W, A> {
     /// Calls a peer that wasn't called, or asks whether it answered.
     fn call_for(&mut self, conn: u8, wanted: Option<Dial>, called: Option<Dial>)
         requires { conn < 16 }
-        ensures { Goes (CallsFor W.hears conn wanted called) self.old self.new }
+        ensures { From (λ (config : Config) (at : Moment W). Wants conn config at wanted) (CallsFor W.hears conn wanted called)
+            self.old self.new }
     {
         match (wanted, called) {
             (None, _) => {}
@@ -122,16 +126,17 @@ impl<W: Wire + Drop, A: Allocator> Driver<W, A> {
     /// What came of calling a peer happens.
     fn ring(&mut self, conn: u8, dial: Dial, answer: Answer<()>)
         requires { conn < 16 }
-        ensures { Goes (Rings conn dial answer) self.old self.new }
+        ensures { From (λ (config : Config) (at : Moment W). Wants conn config at (Some dial)) (Rings conn dial answer)
+            self.old self.new }
     {
         match answer {
             Answer::Got(()) => {
                 self.note(conn, dial);
-                let _ = self.give(Event::Dialed { conn, ok: true });
+                self.happen(Event::Dialed { conn, ok: true });
             }
             Answer::Pending => self.note(conn, dial),
             Answer::Failed => {
-                let _ = self.give(Event::Dialed { conn, ok: false });
+                self.happen(Event::Dialed { conn, ok: false });
             }
         }
     }
@@ -148,16 +153,16 @@ impl<W: Wire + Drop, A: Allocator> Driver<W, A> {
     /// What came of waiting for a peer happens.
     fn pick(&mut self, conn: u8, answer: Answer<()>)
         requires { conn < 16 }
-        ensures { Goes (Picks W.hears conn answer) self.old self.new }
+        ensures { From (IsAwaited conn) (Picks W.hears conn answer) self.old self.new }
     {
         match answer {
             Answer::Got(()) => {
-                let _ = self.give(Event::Dialed { conn, ok: true });
+                self.happen(Event::Dialed { conn, ok: true });
             }
             Answer::Pending => {}
             Answer::Failed => {
                 self.hang_up(conn);
-                let _ = self.give(Event::Dialed { conn, ok: false });
+                self.happen(Event::Dialed { conn, ok: false });
             }
         }
     }

@@ -1,8 +1,12 @@
 //! Closing connections and interrupt channels.
 
-ghost use Rattle.std.specs.Prelude.{◌<◌, None};
+ghost use Rattle.std.specs.Prelude.{◌<◌, true, None};
+ghost use Rattle.sv_history.specs.declared.event.Config.{Config};
+ghost use Rattle.sv_history.specs.declared.event.Port.TheVariants.{Conn};
 ghost use Rattle.sv_serve.specs.Heard.{WasClosed};
-ghost use Rattle.sv_serve.specs.Moment.{Goes, Each};
+ghost use Rattle.sv_serve.specs.Moment.{Moment, Goes, Each};
+ghost use Rattle.sv_serve.specs.Asked.{IsOpen, IsFaulted};
+ghost use Rattle.sv_serve.specs.Premises.{From};
 ghost use Rattle.sv_serve.specs.Steps.{Hears, Notes, HangsUp, Closes, ClosesIf, EndsIf, Ends};
 
 use crate::driver::{CONNECTIONS, Driver};
@@ -43,12 +47,13 @@ impl<W: Wire + Drop, A: Allocator> Driver<W, A> {
     /// Closes a connection, and its interrupt channel.
     pub(crate) fn close(&mut self, conn: u8)
         requires { conn < 16 }
-        ensures { Goes (Closes W.hears conn) self.old self.new }
+        ensures { From (λ (config : Config) (at : Moment W). IsOpen (Conn conn) config at true) (Closes W.hears conn)
+            self.old self.new }
     {
         self.shut(Port::Conn(conn));
         self.hang_up(conn);
         let port = Port::Conn(conn);
-        let _ = self.give(Event::Close { port });
+        self.happen(Event::Close { port });
     }
 
     /// Closes each connection that only waits for it, once nothing waits on it.
@@ -75,7 +80,8 @@ impl<W: Wire + Drop, A: Allocator> Driver<W, A> {
     /// Closes a connection on which nothing waits, if this is so.
     fn end_if(&mut self, conn: u8, so: bool)
         requires { conn < 16 }
-        ensures { Goes (EndsIf W.hears conn so) self.old self.new }
+        ensures { From (λ (config : Config) (at : Moment W). IsFaulted conn config at so) (EndsIf W.hears conn so)
+            self.old self.new }
     {
         if so {
             let empty = self.server.waiting(Port::Conn(conn)).is_empty();
@@ -86,7 +92,8 @@ impl<W: Wire + Drop, A: Allocator> Driver<W, A> {
     /// Closes a connection, if this is so.
     fn close_if(&mut self, conn: u8, so: bool)
         requires { conn < 16 }
-        ensures { Goes (ClosesIf W.hears conn so) self.old self.new }
+        ensures { From (λ (config : Config) (at : Moment W). IsOpen (Conn conn) config at true) (ClosesIf W.hears conn so)
+            self.old self.new }
     {
         if so {
             self.close(conn);

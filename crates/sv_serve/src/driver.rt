@@ -6,7 +6,8 @@ ghost use Rattle.sv_history.specs.Event.{PlainEvent, plain};
 ghost use Rattle.sv_server.specs.Server.State.{StandsFor};
 ghost use Rattle.sv_serve.specs.Asked.{NoneUsed};
 ghost use Rattle.sv_serve.specs.Moment.{Goes, moment};
-ghost use Rattle.sv_serve.specs.Steps.{Given, called_of};
+ghost use Rattle.sv_serve.specs.Steps.{Given, Happens, called_of};
+ghost use Rattle.sv_serve.specs.Premises.{From, IsSuited};
 
 use crate::wire::Wire;
 use std::alloc::{AllocError, Allocator, Global};
@@ -52,7 +53,8 @@ impl<W: Wire + Drop, A: Allocator> Model for Driver<W, A> {
     } };
 
     ghost invariant = { λ a. (length a.called ≡ 16) × (a.next ≤ length a.scenario.items)
-        × ((c : ℕ) → a.callers ≤ c → slice_index_or a.called c None ≡ None) };
+        × ((c : ℕ) → a.callers ≤ c → slice_index_or a.called c None ≡ None)
+        × (length a.buffer.items ≡ 16384) };
 }
 
 impl<W: Wire + Drop, A: Allocator> Driver<W, A> {
@@ -120,7 +122,14 @@ impl<W: Wire + Drop, A: Allocator> Driver<W, A> {
         self.is_unused(conn) && conn >= self.callers
     }
 
-    /// Gives an event to the server.
+    /// Gives an event to the server that suits what it answers when it is asked: it is done.
+    pub(crate) fn happen(&mut self, event: Event<'_>)
+        ensures { From (IsSuited (plain event.entry)) (Happens (plain event.entry)) self.old self.new }
+    {
+        let _ = self.server.apply(event);
+    }
+
+    /// Gives an event to the server that it may refuse.
     pub(crate) fn give(&mut self, event: Event<'_>) -> Result<Did, Refused>
         ensures { Goes (Given (plain event.entry) result) self.old self.new }
     {

@@ -10,24 +10,10 @@ use crate::wire::Wire;
 /// and what time brings is the scenario's.
 pub fn carried<W: Wire>()
     ensures { Carried W.hears }
-{
-    sv_history::laws::one_log();
-    sv_history::laws::only_calls();
-    sv_history::laws::only_requests();
-    sv_history::laws::shut_is_clear();
-    sv_history::laws::nothing_refused();
-    sv_history::laws::ticks_taken();
-}
+{}
 
 /// In a sweep each connection has its turn behind all that is read, and what waits then is handed
 /// to the wire in the same sweep.
 pub fn served<W: Wire>()
     ensures { Served W.hears }
-{
-    sv_history::laws::one_log();
-    sv_history::laws::only_calls();
-    sv_history::laws::only_requests();
-    sv_history::laws::shut_is_clear();
-    sv_history::laws::nothing_refused();
-    sv_history::laws::can_be_refused();
-}
+{}

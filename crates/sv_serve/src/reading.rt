@@ -1,13 +1,26 @@
 //! Reading connections.
 
-ghost use Rattle.std.specs.Prelude.{◌<◌};
-ghost use Rattle.sv_serve.specs.Moment.{Goes, Each};
+ghost use Rattle.std.specs.Prelude.{◌<◌, ◌≤◌, length};
+ghost use Rattle.sv_history.specs.declared.event.Config.{Config};
+ghost use Rattle.sv_serve.specs.Heard.{WasRead, bytes_of, IsWithin};
+ghost use Rattle.sv_serve.specs.Moment.{Moment, Goes, Each};
+ghost use Rattle.sv_serve.specs.Asked.{HasRoom};
+ghost use Rattle.sv_serve.specs.Premises.{From};
 ghost use Rattle.sv_serve.specs.Steps.{ReadsFrom, ReadsUpTo};
 
 use crate::driver::{CONNECTIONS, Driver};
 use crate::wire::{Answer, Wire};
 use std::alloc::Allocator;
 use sv_server::Event;
+
+/// Reads at most so many bytes of a connection, to the front of a buffer.
+fn read_into<W: Wire>(wire: &mut W, conn: u8, buffer: &mut [u8], size: usize) -> Answer<usize>
+    requires { size ≤ length buffer.old }
+    ensures within { IsWithin result size }
+    ensures heard { W.hears wire.old (WasRead conn size (bytes_of result buffer.new)) wire.new }
+{
+    wire.read(conn, &mut buffer[..size])
+}
 
 impl<W: Wire + Drop, A: Allocator> Driver<W, A> {
     /// Reads each connection once.
@@ -27,23 +40,23 @@ impl<W: Wire + Drop, A: Allocator> Driver<W, A> {
         requires { conn < 16 }
         ensures { Goes (ReadsFrom W.hears conn) self.old self.new }
     {
-        let most = self.server.room(conn);
-        self.read_up_to(most, conn);
+        let room = self.server.room(conn);
+        self.read_up_to(room, conn);
     }
 
-    /// Reads at most so many bytes of a connection.
-    fn read_up_to(&mut self, most: u32, conn: u8)
+    /// Reads a connection that has room for so many bytes.
+    fn read_up_to(&mut self, room: u32, conn: u8)
         requires { conn < 16 }
-        ensures { Goes (ReadsUpTo W.hears most conn) self.old self.new }
+        ensures { From (λ (config : Config) (at : Moment W). HasRoom conn config at room) (ReadsUpTo W.hears room conn)
+            self.old self.new }
     {
-        if most == 0 {
+        if room == 0 {
             return;
         }
-        let size = self.buffer.len().min(most as usize);
-        let buffer = &mut self.buffer[..size];
-        match self.wire.read(conn, buffer) {
+        let size = self.buffer.len().min(room as usize);
+        match read_into(&mut self.wire, conn, &mut self.buffer, size) {
             Answer::Got(count) => {
-                let piece = &buffer[..count];
+                let piece = &self.buffer[..count];
                 let _ = self.server.apply(Event::Bytes { conn, piece });
             }
             Answer::Pending => {}

@@ -4,6 +4,7 @@ ghost use Rattle.std.specs.Prelude.{◌≡◌, ◌<◌};
 ghost use Rattle.sv_history.specs.Print.{is_no_memory};
 ghost use Rattle.sv_serve.specs.Moment.{Goes, Each};
 ghost use Rattle.sv_serve.specs.Steps.{Turns, TurnsIf, EndsTurn, RefusesIf};
+ghost use Rattle.sv_serve.specs.Premises.{From, MayFindNone, FindsNoneIf};
 
 use crate::driver::{CONNECTIONS, Driver};
 use crate::wire::Wire;
@@ -53,7 +54,7 @@ impl<W: Wire + Drop, A: Allocator> Driver<W, A> {
     /// Refuses a call that found no memory: its connection stays.
     fn end_turn(&mut self, conn: u8, answer: Result<Did, Refused>)
         requires { conn < 16 }
-        ensures { Goes (EndsTurn conn answer) self.old self.new }
+        ensures { From (MayFindNone conn answer) (EndsTurn conn answer) self.old self.new }
     {
         match answer {
             Ok(_) => {}
@@ -64,7 +65,7 @@ impl<W: Wire + Drop, A: Allocator> Driver<W, A> {
     /// Refuses the next call of a connection, if this is so.
     fn refuse_if(&mut self, conn: u8, so: bool)
         requires { conn < 16 }
-        ensures { Goes (RefusesIf conn so) self.old self.new }
+        ensures { From (FindsNoneIf conn so) (RefusesIf conn so) self.old self.new }
     {
         if so {
             let _ = self.give(Event::Refuse { conn });

@@ -30,7 +30,7 @@ pub trait Wire {
     /// Reads bytes of a connection, at most as many as the buffer has.
     fn read(&mut self, conn: u8, buffer: &mut [u8]) -> Answer<usize>
         ensures within { IsWithin result (length buffer.old) }
-        ensures heard { hears self.old (WasRead conn (bytes_of result buffer.new)) self.new };
+        ensures heard { hears self.old (WasRead conn (length buffer.old) (bytes_of result buffer.new)) self.new };
 
     /// Writes bytes to a connection or an interrupt channel, and tells how many of them it took.
     fn write(&mut self, port: Port, bytes: &[u8]) -> Answer<usize>

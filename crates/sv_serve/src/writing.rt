@@ -5,6 +5,7 @@ ghost use Rattle.sv_history.specs.declared.event.Port.TheVariants.{Conn, Intr};
 ghost use Rattle.sv_history.specs.Event.{port_number};
 ghost use Rattle.sv_serve.specs.Moment.{Goes, Each};
 ghost use Rattle.sv_serve.specs.Steps.{WritesTo, EndsWrite};
+ghost use Rattle.sv_serve.specs.Premises.{From, Handed};
 
 use crate::driver::{CONNECTIONS, Driver};
 use crate::wire::{Answer, Wire};
@@ -51,19 +52,19 @@ impl<W: Wire + Drop, A: Allocator> Driver<W, A> {
     fn leave(&mut self, port: Port, answer: Answer<usize>)
         requires number { port_number port < 16 }
         requires counted { (n : ℕ) → answer ≡ Answer.Got n → n < 4294967296 }
-        ensures { Goes (EndsWrite W.hears port answer) self.old self.new }
+        ensures { From (Handed port answer) (EndsWrite W.hears port answer) self.old self.new }
     {
         match (answer, port) {
             (Answer::Got(count), _) => {
                 let count = count as u32;
-                let _ = self.give(Event::Took { port, count });
+                self.happen(Event::Took { port, count });
             }
             (Answer::Pending, _) => {}
             (Answer::Failed, Port::Conn(conn)) => self.close(conn),
             (Answer::Failed, Port::Intr(conn)) => {
                 self.hang_up(conn);
                 let port = Port::Intr(conn);
-                let _ = self.give(Event::Close { port });
+                self.happen(Event::Close { port });
             }
         }
     }

@@ -5,8 +5,8 @@ use Rattle.sv_serve.proofs.driver.Driver.call.Goals as goal
 
 pub returns : goal.returns
 returns g c = λ config history stands.
-    let kept = rw (← c.self.view_is) at stands in
-    let (h0, s0, p0) = c.call_for.ensures config history stands in
+    let wants = c.dial-wanted.ensures config history (rw (← c.self.view_is) at stands) in
+    let (h0, s0, p0) = c.call_for.ensures config history stands wants in
     let is : called_of c.args.conn (moment c.args.self.now history) ≡ slice_index_or c.self.inside.called c.from.result None =
     rw (← c.self.view_is, ← c.from.ensures) refl in
-    (h0, s0, (c.dial-wanted.result, c.dial-wanted.ensures config history kept, rw is p0))
+    (h0, s0, (c.dial-wanted.result, wants, rw is p0))

@@ -6,4 +6,4 @@ pub returns : goal.returns
 returns g c = search rules
 
 pub invariant_of-result : goal.invariant_of-result
-invariant_of-result g c = (refl, omega arith, λ n le. nobody 16 n)
+invariant_of-result g c = (refl, omega arith, (λ n le. nobody 16 n), search rules)

@@ -1,13 +1,19 @@
+use Rattle.std.proofs.Common.{refl, true, false, Some}
 use Rattle.sv_serve.specs.Moment.{moment}
+use Rattle.sv_serve.proofs.Suited.{dialed_suits, hung_same, still_wants}
 use Rattle.sv_serve.proofs.driver.Driver.pick.Goals as goal
 
 pub returns-in-Got : goal.returns-in-Got
-returns-in-Got g c = λ config history stands.
-    let (h0, s0, p0) = c.give.ensures config history stands in
-    (h0, s0, rw c.in-Got.is (c.give.result, p0))
+returns-in-Got g c = λ config history stands (dial, wants).
+    let suits = dialed_suits c.args.conn dial true config (moment c.args.self.now history) c.requires wants in
+    let (h0, s0, p0) = c.happen.ensures config history stands suits in
+    (h0, s0, rw c.in-Got.is p0)
 
 pub returns-in-Failed : goal.returns-in-Failed
-returns-in-Failed g c = λ config history stands.
+returns-in-Failed g c = λ config history stands (dial, wants).
     let (h0, s0, p0) = c.hang_up.ensures config history stands in
-    let (h1, s1, p1) = c.give-in-Failed.ensures config h0 s0 in
-    (h1, s1, rw c.in-Failed.is (moment c.hang_up.new.self h0, p0, (c.give-in-Failed.result, p1)))
+    let same = hung_same g.W.Wire.hears c.args.conn config (moment c.args.self.now history) (moment c.hang_up.new.self h0) p0 in
+    let still = still_wants c.args.conn (Some dial) (Some dial) config (moment c.args.self.now history) (moment c.hang_up.new.self h0) same refl wants in
+    let suits = dialed_suits c.args.conn dial false config (moment c.hang_up.new.self h0) c.requires still in
+    let (h1, s1, p1) = c.happen-in-Failed.ensures config h0 s0 suits in
+    (h1, s1, rw c.in-Failed.is (moment c.hang_up.new.self h0, p0, p1))

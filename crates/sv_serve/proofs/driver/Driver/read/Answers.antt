@@ -2,5 +2,6 @@ use Rattle.sv_serve.proofs.driver.Driver.read.Goals as goal
 
 pub returns : goal.returns
 returns g c = λ config history stands.
-    let (after, now, went) = c.read_up_to.ensures config history stands in
-    (after, now, (c.room-most.result, c.room-most.ensures config history (rw (← c.self.view_is) at stands), went))
+    let has = c.room-room.ensures config history (rw (← c.self.view_is) at stands) in
+    let (after, now, went) = c.read_up_to.ensures config history stands has in
+    (after, now, (c.room-room.result, has, went))

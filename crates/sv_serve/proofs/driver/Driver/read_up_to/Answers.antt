@@ -1,70 +1,145 @@
-use Rattle.std.proofs.Common.{refl, rules, drop, inr}
-use Rattle.sv_serve.specs.Heard.{bytes_of}
+use Rattle.std.proofs.Common.{◌≡◌, ◌<◌, ◌≤◌, ◌∷◌, refl, rules, drop, take, length, min, inr, sym, ap, subst, ◌∙◌, length-take, arith}
+use Rattle.sv_history.specs.declared.event.Port.TheVariants.{Conn}
+use Rattle.sv_history.specs.Event.{Bytes}
+use Rattle.sv_history.specs.History.{Answers, history_after}
+use Rattle.sv_server.specs.Server.State.{StandsFor}
+use Rattle.sv_serve.specs.Heard.{WasRead, bytes_of, IsWithin}
+use Rattle.sv_serve.specs.Moment.{moment}
+use Rattle.sv_serve.specs.Asked.{IsOpen}
+use Rattle.sv_serve.proofs.Suited.{suited, bytes_suit, room_open}
+use Rattle.sv_serve.proofs.Pieces.{within_piece, again, asked_for}
 use Rattle.sv_serve.proofs.driver.Driver.read_up_to.Goals as goal
 
+pub invariant_of-self : goal.invariant_of-self
+invariant_of-self g c = (
+  c.self.invariant.0,
+  c.self.invariant.1,
+  c.self.invariant.2,
+  ap length (again c.self.inside.buffer.len c.self.inside.buffer.items c.deref_mut.result.now c.read_into.new.buffer
+      c.deref_mut.ensures.len c.read_into.auto.buffer) ∙ c.read_into.auto.buffer ∙ ap length c.deref_mut.ensures.value ∙ c.self.invariant.3,
+)
+
+pub invariant_of-self-in-Pending : goal.invariant_of-self-in-Pending
+invariant_of-self-in-Pending g c = (
+  c.self.invariant.0,
+  c.self.invariant.1,
+  c.self.invariant.2,
+  ap length (again c.self.inside.buffer.len c.self.inside.buffer.items c.deref_mut.result.now c.read_into.new.buffer
+      c.deref_mut.ensures.len c.read_into.auto.buffer) ∙ c.read_into.auto.buffer ∙ ap length c.deref_mut.ensures.value ∙ c.self.invariant.3,
+)
+
+pub invariant_of-self-in-Failed : goal.invariant_of-self-in-Failed
+invariant_of-self-in-Failed g c = (
+  c.self.invariant.0,
+  c.self.invariant.1,
+  c.self.invariant.2,
+  ap length (again c.self.inside.buffer.len c.self.inside.buffer.items c.deref_mut.result.now c.read_into.new.buffer
+      c.deref_mut.ensures.len c.read_into.auto.buffer) ∙ c.read_into.auto.buffer ∙ ap length c.deref_mut.ensures.value ∙ c.self.invariant.3,
+)
+
 pub returns-in-Got : goal.returns-in-Got
-returns-in-Got g c = rw (← c.self.view_is) (λ config history stands.
-    let (log, is_log, answers) = c.apply.ensures.answers config history stands in (
-      _,
-      c.apply.ensures.stands config history stands,
+returns-in-Got g c = rw (← c.self.view_is) (λ config history stands has.
+    let some : 0 < c.args.room = search rules in
+    let asked : c.min-size.result ≡ min c.args.room 16384 = asked_for c.len.result c.args.room c.min-size.result c.min-size.ensures
+    (c.len.ensures ∙ sym c.deref_mut.ensures.len ∙ ap length c.deref_mut.ensures.value ∙ c.self.invariant.3) in
+    let bytes = take c.in-Got.count c.read_into.new.buffer in
+    let same : take c.in-Got.count c.deref.result.now ≡ bytes = ap (take c.in-Got.count) (c.deref.ensures.value
+    ∙ again c.self.inside.buffer.len c.self.inside.buffer.items c.deref_mut.result.now c.read_into.new.buffer c.deref_mut.ensures.len c.read_into.auto.buffer) in
+    let piece = within_piece c.read_into.result c.read_into.new.buffer (min c.args.room 16384)
+    (subst (λ n. IsWithin c.read_into.result n) asked c.read_into.ensures.within) in
+    let (log, is_log, says) = c.apply.ensures.answers config history stands in
+    let answers = subst (λ l. Answers config (Bytes c.args.conn l) log c.apply.result) same says in
+    let few : length bytes ≤ min c.args.room 16384 = rw c.in-Got.is at piece in
+    let done = suited config (Bytes c.args.conn bytes) (moment c.args.self.now history) log c.apply.result is_log answers
+    (bytes_suit c.args.conn c.args.room bytes config (moment c.args.self.now history) c.requires some few has) in (
+      Bytes c.args.conn bytes ∷ history,
+      subst (λ r. StandsFor c.apply.new.self config (history_after (Bytes c.args.conn bytes) r history)) done
+          (subst (λ l. StandsFor c.apply.new.self config (history_after (Bytes c.args.conn l) c.apply.result history)) same
+          (c.apply.ensures.stands config history stands)),
       inr (
-        search rules,
-        bytes_of c.read.result c.read.new.buffer,
-        search rules,
+        some,
+        bytes_of c.read_into.result c.read_into.new.buffer,
+        piece,
         (
           record {
-            wire = c.read.new.self;
+            wire = c.read_into.new.wire;
             history = history;
             called = c.self.inside.called;
             ahead = drop c.self.inside.next c.self.inside.scenario.items;
             ticks = c.self.inside.ticks;
           },
-          (c.read.new.self, c.read.ensures.heard, refl),
-          rw c.in-Got.is (c.apply.result, (log, is_log, answers, refl)),
+          (
+            c.read_into.new.wire,
+            subst (λ n. g.W.Wire.hears c.self.inside.wire (WasRead c.args.conn n (bytes_of c.read_into.result c.read_into.new.buffer)) c.read_into.new.wire)
+                asked c.read_into.ensures.heard,
+            refl,
+          ),
+          rw c.in-Got.is (log, is_log, subst (λ r. Answers config (Bytes c.args.conn bytes) log r) done answers, refl),
         ),
       ),
     ))
 
 pub returns-in-Pending : goal.returns-in-Pending
-returns-in-Pending g c = rw (← c.self.view_is) (λ config history stands. (
-  history,
-  stands,
-  inr (
-    search rules,
-    bytes_of c.read.result c.read.new.buffer,
-    search rules,
-    (
-      record {
-        wire = c.read.new.self;
-        history = history;
-        called = c.self.inside.called;
-        ahead = drop c.self.inside.next c.self.inside.scenario.items;
-        ticks = c.self.inside.ticks;
-      },
-      (c.read.new.self, c.read.ensures.heard, refl),
-      rw c.in-Pending.is refl,
-    ),
-  ),
-))
-
-pub returns-in-Failed : goal.returns-in-Failed
-returns-in-Failed g c = rw (← c.self.view_is) (λ config history stands.
-    let (h0, s0, p0) = c.close.ensures config history stands in (
-      h0,
-      s0,
+returns-in-Pending g c = rw (← c.self.view_is) (λ config history stands has.
+    let some : 0 < c.args.room = search rules in
+    let asked : c.min-size.result ≡ min c.args.room 16384 = asked_for c.len.result c.args.room c.min-size.result c.min-size.ensures
+    (c.len.ensures ∙ sym c.deref_mut.ensures.len ∙ ap length c.deref_mut.ensures.value ∙ c.self.invariant.3) in
+    let piece = within_piece c.read_into.result c.read_into.new.buffer (min c.args.room 16384)
+    (subst (λ n. IsWithin c.read_into.result n) asked c.read_into.ensures.within) in (
+      history,
+      stands,
       inr (
-        search rules,
-        bytes_of c.read.result c.read.new.buffer,
-        search rules,
+        some,
+        bytes_of c.read_into.result c.read_into.new.buffer,
+        piece,
         (
           record {
-            wire = c.read.new.self;
+            wire = c.read_into.new.wire;
             history = history;
             called = c.self.inside.called;
             ahead = drop c.self.inside.next c.self.inside.scenario.items;
             ticks = c.self.inside.ticks;
           },
-          (c.read.new.self, c.read.ensures.heard, refl),
+          (
+            c.read_into.new.wire,
+            subst (λ n. g.W.Wire.hears c.self.inside.wire (WasRead c.args.conn n (bytes_of c.read_into.result c.read_into.new.buffer))
+                c.read_into.new.wire) asked c.read_into.ensures.heard,
+            refl,
+          ),
+          rw c.in-Pending.is refl,
+        ),
+      ),
+    ))
+
+pub returns-in-Failed : goal.returns-in-Failed
+returns-in-Failed g c = rw (← c.self.view_is) (λ config history stands has.
+    let some : 0 < c.args.room = search rules in
+    let asked : c.min-size.result ≡ min c.args.room 16384 = asked_for c.len.result c.args.room c.min-size.result c.min-size.ensures
+    (c.len.ensures ∙ sym c.deref_mut.ensures.len ∙ ap length c.deref_mut.ensures.value ∙ c.self.invariant.3) in
+    let piece = within_piece c.read_into.result c.read_into.new.buffer (min c.args.room 16384)
+    (subst (λ n. IsWithin c.read_into.result n) asked c.read_into.ensures.within) in
+    let is_open = room_open c.args.conn c.args.room config (moment c.args.self.now history) c.requires some has in
+    let (h0, s0, p0) = c.close.ensures config history stands is_open in (
+      h0,
+      s0,
+      inr (
+        some,
+        bytes_of c.read_into.result c.read_into.new.buffer,
+        piece,
+        (
+          record {
+            wire = c.read_into.new.wire;
+            history = history;
+            called = c.self.inside.called;
+            ahead = drop c.self.inside.next c.self.inside.scenario.items;
+            ticks = c.self.inside.ticks;
+          },
+          (
+            c.read_into.new.wire,
+            subst (λ n. g.W.Wire.hears c.self.inside.wire (WasRead c.args.conn n (bytes_of c.read_into.result c.read_into.new.buffer))
+                c.read_into.new.wire) asked c.read_into.ensures.heard,
+            refl,
+          ),
           rw c.in-Failed.is p0,
         ),
       ),

@@ -1,18 +1,24 @@
+use Rattle.std.proofs.Common.{refl, ap, true, false, Some}
 use Rattle.sv_serve.specs.Moment.{moment}
+use Rattle.sv_serve.proofs.Suited.{dialed_suits, still_wants}
 use Rattle.sv_serve.proofs.driver.Driver.ring.Goals as goal
 
 pub returns-in-Got : goal.returns-in-Got
-returns-in-Got g c = λ config history stands.
+returns-in-Got g c = λ config history stands wants.
     let (h0, s0, p0) = c.note.ensures config history stands in
-    let (h1, s1, p1) = c.give.ensures config h0 s0 in
-    (h1, s1, rw c.in-Got.is (moment c.note.new.self h0, p0, (c.give.result, p1)))
+    let still = still_wants c.args.conn (Some c.args.dial) (Some c.args.dial) config (moment c.args.self.now history) (moment c.note.new.self h0)
+    (ap (λ m. m.history) p0) refl wants in
+    let suits = dialed_suits c.args.conn c.args.dial true config (moment c.note.new.self h0) c.requires still in
+    let (h1, s1, p1) = c.happen.ensures config h0 s0 suits in
+    (h1, s1, rw c.in-Got.is (moment c.note.new.self h0, p0, p1))
 
 pub returns-in-Pending : goal.returns-in-Pending
-returns-in-Pending g c = λ config history stands.
+returns-in-Pending g c = λ config history stands wants.
     let (h0, s0, p0) = c.note-in-Pending.ensures config history stands in
-    (h0, s0, rw c.in-Pending.is (p0))
+    (h0, s0, rw c.in-Pending.is p0)
 
 pub returns-in-Failed : goal.returns-in-Failed
-returns-in-Failed g c = λ config history stands.
-    let (h0, s0, p0) = c.give-in-Failed.ensures config history stands in
-    (h0, s0, rw c.in-Failed.is (c.give-in-Failed.result, p0))
+returns-in-Failed g c = λ config history stands wants.
+    let suits = dialed_suits c.args.conn c.args.dial false config (moment c.args.self.now history) c.requires wants in
+    let (h0, s0, p0) = c.happen-in-Failed.ensures config history stands suits in
+    (h0, s0, rw c.in-Failed.is p0)

@@ -15,12 +15,14 @@ returns-then-is_empty g c = λ config history stands. (
 
 pub returns : goal.returns
 returns g c = rw (← c.self.view_is) (λ config history stands.
-    let (h0, s0, p0) = c.leave.ensures config history stands in (
+    let waits = c.waiting-bytes.ensures.waiting config history stands in
+    let (h0, s0, p0) = c.leave.ensures config history stands
+    (c.waiting-bytes.result.now, waits, search rules, c.write-answer.ensures.within) in (
       h0,
       s0,
       (
         c.waiting-bytes.result.now,
-        c.waiting-bytes.ensures.waiting config history stands,
+        waits,
         inr (
           search rules,
           c.write-answer.result,

@@ -1,0 +1,131 @@
+-- Why connections are closed: a failure of the wire is followed by closing at once, and nothing else is closed but what is at fault.
+use Rattle.std.proofs.Common.{◌≡◌, ℕ, Bool, true, false, List, [], ◌∷◌, ◌++◌, filter, flat_map, Option, Some, None, refl, sym, ap, subst, ◌∙◌, inl, inr, append_assoc, append-nil}
+use Rattle.std.specs.Prelude.{⊤, ◌⊎◌}
+use Rattle.std.proofs.lemmas.List.Elements.{filter-append}
+use Rattle.std.proofs.lemmas.List.Concat.{flat_map-append}
+use Rattle.sv_history.specs.declared.event.Config.{Config}
+use Rattle.sv_history.specs.declared.event.Port.TheVariants.{Conn}
+use Rattle.sv_history.specs.Event.{PlainEvent, Close}
+use Rattle.sv_serve.specs.Heard.{Heard, WasClosed}
+use Rattle.sv_serve.specs.Served.{event_of, is_outer}
+use Rattle.sv_serve.specs.Carried.{is_failure, ClosesAtOnce, WasAtFault, HasReasons}
+use Rattle.sv_serve.proofs.Ports.{AreSilent}
+
+-- ---- what is no failure
+
+abbrev pub IsCalm : Heard → Type 0
+IsCalm heard = (c : ℕ) → is_failure c heard ≡ false
+
+abbrev pub AreCalm : List Heard → Type 0
+AreCalm [] = ⊤
+AreCalm (heard ∷ piece) = IsCalm heard × AreCalm piece
+
+pub no_failure : {A : Type 0} (b : Bool) → b ≡ false → b ≡ true → A
+no_failure {A} b off on = absurd (let z : false ≡ true = sym off ∙ on in cc)
+
+-- what comes behind everything may come behind anything
+once_before : (next : Option Heard) (trace : List Heard) → ClosesAtOnce None trace → ClosesAtOnce next trace
+once_before next [] h = tt
+once_before next (heard ∷ trace) h = ((λ c e. absurd (let z = h.0 c e in cc)), h.1)
+
+pub once_join : (next : Option Heard) (one other : List Heard) → ClosesAtOnce next one → ClosesAtOnce None other → ClosesAtOnce next (one ++ other)
+once_join next [] other h k = once_before next other k
+once_join next (heard ∷ one) other h k = (h.0, once_join (Some heard) one other h.1 k)
+
+pub calm_once : (next : Option Heard) (piece rest : List Heard) → AreCalm piece → ((other : Option Heard) → ClosesAtOnce other rest)
+    → ClosesAtOnce next (piece ++ rest)
+calm_once next [] rest calm h = h next
+calm_once next (heard ∷ piece) rest calm h =
+    ((λ c e. no_failure (is_failure c heard) (calm.0 c) e), calm_once (Some heard) piece rest calm.1 h)
+
+-- ---- reasons
+
+abbrev pub IsReason : ℕ → Config → List PlainEvent → List Heard → Type 0
+IsReason c config history trace = ((failure : Heard) × (older : List Heard) × (trace ≡ failure ∷ older) × (is_failure c failure ≡ true))
+    ⊎ WasAtFault c config history trace
+
+-- each connection that this closes is closed for a reason, behind these and a trace of that history
+abbrev pub Reasons : Config → List PlainEvent → List PlainEvent → Heard → List Heard → Type 0
+Reasons config history before heard older = (trace : List Heard) → filter is_outer before ≡ flat_map event_of trace
+    → (c : ℕ) → heard ≡ WasClosed (Conn c) → IsReason c config history (older ++ trace)
+
+pub reasons_more : (config : Config) (history events : List PlainEvent) (trace : List Heard) → HasReasons config history trace
+    → HasReasons config (events ++ history) trace
+reasons_more config history events [] h = tt
+reasons_more config history events (heard ∷ trace) h = (
+  (λ c e. elim (h.0 c e) [
+    | inl failed ↦ inl failed
+    | inr fault ↦ inr (
+        events ++ fault.0,
+        fault.1,
+        fault.2,
+        ap (λ (l : List PlainEvent). events ++ l) fault.3 ∙ sym (append_assoc events fault.0 (Close (Conn c) ∷ fault.1)),
+        fault.4,
+        fault.5,
+        fault.6,
+        fault.7,
+      )
+  ]),
+  reasons_more config history events trace h.1,
+)
+
+pub silent_reasons : (config : Config) (history : List PlainEvent) (piece trace : List Heard) → AreSilent piece
+    → HasReasons config history trace → HasReasons config history (piece ++ trace)
+silent_reasons config history [] trace silent h = h
+silent_reasons config history (heard ∷ piece) trace silent h = (
+  (λ c e. absurd (let z : Close (Conn c) ∷ [] ≡ [] = sym (ap event_of e) ∙ silent.0.0 in cc)),
+  silent_reasons config history piece trace silent.1 h,
+)
+
+-- ---- of a step
+
+-- What was heard from one history to another one.
+pub record Closing (config : Config) (before after : List PlainEvent) (piece : List Heard) : Type 0 where
+  pub once : ClosesAtOnce None piece
+  pub reasons : (trace : List Heard) → filter is_outer before ≡ flat_map event_of trace → HasReasons config before trace
+      → HasReasons config after (piece ++ trace)
+
+-- events and answers that go together, behind others that do
+pub told_more : (one other : List PlainEvent) (piece trace : List Heard) → filter is_outer one ≡ flat_map event_of piece
+    → filter is_outer other ≡ flat_map event_of trace → filter is_outer (one ++ other) ≡ flat_map event_of (piece ++ trace)
+told_more one other piece trace h k = filter-append is_outer one other ∙ ap (λ (l : List PlainEvent). l ++ filter is_outer other) h
+    ∙ ap (λ (l : List PlainEvent). flat_map event_of piece ++ l) k ∙ sym (flat_map-append event_of piece trace)
+
+abbrev pub closing_silent : (config : Config) (before after : List PlainEvent) (piece : List Heard) → after ≡ before → AreSilent piece
+    → AreCalm piece → Closing config before after piece
+closing_silent config before after piece same silent calm = record {
+  once = subst (λ (l : List Heard). ClosesAtOnce None l) (append-nil piece) (calm_once None piece [] calm (λ other. tt));
+  reasons = λ trace so h. subst (λ (l : List PlainEvent). HasReasons config l (piece ++ trace)) (sym same)
+      (silent_reasons config before piece trace silent h);
+}
+
+abbrev pub closing_more : (config : Config) (before after events : List PlainEvent) → after ≡ events ++ before → Closing config before after []
+closing_more config before after events grown = record {
+  once = tt;
+  reasons = λ trace so h. subst (λ (l : List PlainEvent). HasReasons config l trace) (sym grown)
+      (reasons_more config before events trace h);
+}
+
+abbrev pub closing_then : (config : Config) (a b c events : List PlainEvent) (one other : List Heard) → b ≡ events ++ a
+    → filter is_outer events ≡ flat_map event_of one → Closing config a b one → Closing config b c other → Closing config a c (other ++ one)
+closing_then config a b c events one other grown told x y = record {
+  once = once_join None other one y.once x.once;
+  reasons = λ trace so h. subst (λ (l : List Heard). HasReasons config c l) (sym (append_assoc other one trace))
+      (y.reasons (one ++ trace) (ap (filter is_outer) grown ∙ told_more events a one trace told so) (x.reasons trace so h));
+}
+
+abbrev pub closing_event : (config : Config) (before after : List PlainEvent) (event : PlainEvent) (heard : Heard) (newer older : List Heard)
+    → after ≡ event ∷ before → AreSilent newer → AreCalm newer → AreSilent older → ClosesAtOnce (Some heard) older → IsCalm heard
+    → Reasons config (event ∷ before) before heard older → Closing config before after (newer ++ heard ∷ older)
+closing_event config before after event heard newer older grown newer_silent newer_calm older_silent older_once calm reason = record {
+  once = calm_once None newer (heard ∷ older) newer_calm
+      (λ other. ((λ c e. no_failure (is_failure c heard) (calm c) e), older_once));
+  reasons = λ trace so h. subst (λ (l : List PlainEvent). HasReasons config l ((newer ++ heard ∷ older) ++ trace)) (sym grown)
+      (subst (λ (l : List Heard). HasReasons config (event ∷ before) l) (sym (append_assoc newer (heard ∷ older) trace))
+      (silent_reasons config (event ∷ before) newer (heard ∷ older ++ trace) newer_silent
+      (reason trace so, silent_reasons config (event ∷ before) older trace older_silent
+      (reasons_more config before (event ∷ []) trace h))));
+}
+
+pub closed_same : (c d : ℕ) → WasClosed (Conn c) ≡ WasClosed (Conn d) → c ≡ d
+closed_same c d e = cc
