@@ -11,3 +11,4 @@ pub mod Going
 pub mod Entries
 pub mod Scenarios
 mod Heard
+mod TellsInOrder

@@ -3,7 +3,7 @@ use Rattle.std.specs.Prelude.{◌≡◌, ℕ, List}
 use Rattle.sv_replay.specs.declared.entry.Entry.{Entry}
 use Rattle.sv_replay.specs.Line.{Line, Says}
 use Rattle.sv_replay.specs.Script.{parts}
-use Rattle.sv_replay.specs.Scenario.{Tells}
+use Rattle.sv_replay.specs.Scenario.{Tells, IsScenario}
 
 -- A line says at most one thing.
 abbrev pub OneLine : Type 0
@@ -12,3 +12,7 @@ OneLine = (line : List ℕ) (a b : Line) → Says line a → Says line b → a �
 -- A text tells at most one list of entries.
 abbrev pub OneScenario : Type 0
 OneScenario = (text : List ℕ) (a b : List Entry) → Tells 0 (parts text) a → Tells 0 (parts text) b → a ≡ b
+
+-- What a text tells is a scenario.
+abbrev pub ToldInOrder : Type 0
+ToldInOrder = (text : List ℕ) (entries : List Entry) → Tells 0 (parts text) entries → IsScenario 0 entries

@@ -1,9 +1,9 @@
 -- The entries that the lines of a scenario tell.
-use Rattle.std.specs.Prelude.{◌≡◌, ◌≢◌, ◌⊎◌, ℕ, ◌+◌, ◌<◌, ◌≤◌, List, [], ◌∷◌, ◌++◌, length, Result, Ok, Err, fold}
+use Rattle.std.specs.Prelude.{◌≡◌, ◌≢◌, ◌⊎◌, ℕ, ◌+◌, ◌<◌, ◌≤◌, List, [], ◌∷◌, ◌++◌, length, Result, Ok, Err, fold, ⊤}
 use Rattle.sv_replay.specs.declared.entry.Entry.{Entry}
 use Rattle.sv_replay.specs.declared.scenario.ScenarioFault.{ScenarioFault}
 use Rattle.sv_replay.specs.declared.scenario.ScenarioFault.TheVariants.{BadLine, Memory}
-use Rattle.sv_replay.specs.Entry.{SaysEntry}
+use Rattle.sv_replay.specs.Entry.{SaysEntry, IsAccepted}
 use Rattle.sv_replay.specs.Script.{parts}
 
 -- The line has at most 65,536 bytes, and says an entry of this tick or a later one.
@@ -15,6 +15,11 @@ abbrev pub Tells : ℕ → List (List ℕ) → List Entry → Type 0
 Tells least [] entries = entries ≡ []
 Tells least (line ∷ lines) entries = ((line ≡ []) × Tells least lines entries)
     ⊎ ((entry : Entry) × (others : List Entry) × SaysFrom least line entry × Tells entry.tick lines others × (entries ≡ entry ∷ others))
+
+-- Each entry is one that the server accepts, at the tick of the one in front of it or later, and the first at this tick or later.
+abbrev pub IsScenario : ℕ → List Entry → Type 0
+IsScenario least [] = ⊤
+IsScenario least (entry ∷ entries) = (least ≤ entry.tick) × IsAccepted entry.stimulus × IsScenario entry.tick entries
 
 -- the tick of the last entry, or this where there is none
 abbrev pub last_tick : ℕ → List Entry → ℕ

@@ -44,7 +44,7 @@ use Rattle.sv_serve.specs.Sweep.{Applies, PlaysOne, Plays, Counts, TicksOnce, Pa
 use Rattle.sv_serve.specs.Served.{Through, event_of, is_outer}
 use Rattle.sv_serve.specs.Carried.{begins, read, taken, ClosesAtOnce}
 use Rattle.sv_serve.proofs.Suited.{suited}
-use Rattle.sv_serve.proofs.Reasons.{IsCalm, AreCalm, IsReason, Reasons, Closing, told_more, closing_silent, closing_more, closing_then, closing_event, closed_same}
+use Rattle.sv_serve.proofs.Reasons.{IsCalm, AreCalm, IsReason, Reasons, Closing, told_more, closing_silent, closing_more, closing_then, closing_event, closed_same, written_else}
 use Rattle.sv_serve.proofs.Ports.{Both, IsSilent, AreSilent, holds_silent, step_open, step_read, step_took, step_close, step_sent, step_opened, Keeping, keeping_event, keeping_silent}
 
 -- ---- what steps carry
@@ -602,12 +602,12 @@ abbrev pub write_by : {W : Type 0} (hears : W → Heard → W → Type 0) (May :
     → EndsWrite hears port answer config between after → Keeps hears May config before after
 write_by hears May config (Conn c) may bytes (Got n) wire before between after log told was tells_so waits few heard is happens =
     answer_keeps hears May config (WasWritten (Conn c) bytes (Got n)) may.1 (Took (Conn c) n) wire before between after told log was tells_so
-    heard (ap (λ m. m.wire) is) (ap (λ m. m.history) is) happens refl refl (λ d. refl) (λ d e. absurd cc)
+    heard (ap (λ m. m.wire) is) (ap (λ m. m.history) is) happens refl refl (λ d. refl) (λ d e. written_else (Conn c) bytes (Got n) d e)
     (λ trace d. step_took c n bytes trace d (of d log) told few
     (λ e. waits ∙ ap (λ (m : ℕ). waiting (of m log)) (eqb-true c d e)))
 write_by hears May config (Intr c) may bytes (Got n) wire before between after log told was tells_so waits few heard is happens =
     answer_keeps hears May config (WasWritten (Intr c) bytes (Got n)) may.0 (Took (Intr c) n) wire before between after told log was tells_so
-    heard (ap (λ m. m.wire) is) (ap (λ m. m.history) is) happens refl refl (λ d. refl) (λ d e. absurd cc)
+    heard (ap (λ m. m.wire) is) (ap (λ m. m.history) is) happens refl refl (λ d. refl) (λ d e. written_else (Intr c) bytes (Got n) d e)
     (λ trace d. step_sent c n bytes trace d (of d log) told few
     (λ e. waits ∙ ap (λ (m : ℕ). channel_waiting m told) (eqb-true c d e)))
 write_by hears May config (Conn c) may bytes Pending wire before between after log told was tells_so waits few heard is same =
@@ -641,7 +641,7 @@ write_by hears May config (Intr c) may bytes Failed wire before between after lo
       older_silent = tt;
       older_once = tt;
       calm = λ d. refl;
-      reason = λ trace so d e. absurd cc;
+      reason = λ trace so d e. written_else (Intr c) bytes Failed d e;
       may = may_join May q.piece (WasWritten (Intr c) bytes Failed ∷ []) q.may (may.0, tt);
       outer = refl;
       same = refl;

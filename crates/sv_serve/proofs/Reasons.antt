@@ -4,9 +4,11 @@ use Rattle.std.specs.Prelude.{⊤, ◌⊎◌}
 use Rattle.std.proofs.lemmas.List.Elements.{filter-append}
 use Rattle.std.proofs.lemmas.List.Concat.{flat_map-append}
 use Rattle.sv_history.specs.declared.event.Config.{Config}
+use Rattle.sv_history.specs.declared.event.Port.{Port}
 use Rattle.sv_history.specs.declared.event.Port.TheVariants.{Conn}
 use Rattle.sv_history.specs.Event.{PlainEvent, Close}
-use Rattle.sv_serve.specs.Heard.{Heard, WasClosed}
+use Rattle.sv_serve.specs.declared.wire.Answer.{Answer}
+use Rattle.sv_serve.specs.Heard.{Heard, WasWritten, WasClosed}
 use Rattle.sv_serve.specs.Served.{event_of, is_outer}
 use Rattle.sv_serve.specs.Carried.{is_failure, ClosesAtOnce, WasAtFault, HasReasons}
 use Rattle.sv_serve.proofs.Ports.{AreSilent}
@@ -129,3 +131,6 @@ closing_event config before after event heard newer older grown newer_silent new
 
 pub closed_same : (c d : ℕ) → WasClosed (Conn c) ≡ WasClosed (Conn d) → c ≡ d
 closed_same c d e = cc
+
+pub written_else : {A : Type 0} (port : Port) (bytes : List ℕ) (answer : Answer ℕ) (c : ℕ) → WasWritten port bytes answer ≡ WasClosed (Conn c) → A
+written_else {A} port bytes answer c e = absurd cc

@@ -15,6 +15,7 @@ use Rattle.sv_history.specs.Act.{Act, device_acts}
 use Rattle.sv_history.specs.History.{last_clock, history_after}
 use Rattle.sv_history.proofs.AlwaysTold.{some_told}
 use Rattle.sv_replay.specs.Entry.{stimulus_event, IsAccepted}
+use Rattle.sv_replay.specs.Scenario.{IsScenario}
 use Rattle.sv_replay.specs.declared.entry.Entry.{Entry}
 use Rattle.sv_replay.specs.declared.entry.Stimulus.{Stimulus}
 use Rattle.sv_replay.specs.declared.entry.Stimulus.TheVariants as stimuli
@@ -24,7 +25,7 @@ use Rattle.sv_serve.specs.Heard.{Heard}
 use Rattle.sv_serve.specs.Moment.{Driving, Moment, moment, Each, ◌then◌}
 use Rattle.sv_serve.specs.Steps.{ReadsFrom, Turns, Dials, WritesTo, Ends}
 use Rattle.sv_serve.specs.Sweep.{PlaysOne, IsNoneDue, Plays, most_ticks, Counts, TicksOnce, Passes, Sweeps}
-use Rattle.sv_serve.specs.Timed.{is_timed, IsScenario, played, timed, handed}
+use Rattle.sv_serve.specs.Timed.{is_timed, played, timed, handed}
 use Rattle.sv_serve.specs.Carried.{IsAtStart}
 use Rattle.sv_serve.proofs.Carrying.{applied}
 use Rattle.sv_serve.proofs.Idling.{Idles, idles_same, idles_then, idles_each, accepts_idles, reads_idles, turns_idles, dials_idles, writes_idles, ends_idles}

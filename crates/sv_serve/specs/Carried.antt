@@ -10,12 +10,13 @@ use Rattle.sv_history.specs.Act.{Act, of, device_acts}
 use Rattle.sv_history.specs.Connection.{stream, sent_on, waiting_on, waiting, is_faulted}
 use Rattle.sv_history.specs.Requests.{HearsOf}
 use Rattle.sv_history.specs.History.{is_port_shut, last_clock, IsLogOf}
+use Rattle.sv_replay.specs.Scenario.{IsScenario}
 use Rattle.sv_server.specs.Server.State.{StandsFor}
 use Rattle.sv_serve.specs.declared.wire.Answer.TheVariants.{Got, Failed}
 use Rattle.sv_serve.specs.Heard.{Heard, WasAccepted, WasRead, WasWritten, WasDialed, PeerAnswered, WasClosed}
 use Rattle.sv_serve.specs.Moment.{Driving, Goes}
 use Rattle.sv_serve.specs.Sweep.{Sweeps}
-use Rattle.sv_serve.specs.Timed.{is_timed, IsScenario, timed, handed}
+use Rattle.sv_serve.specs.Timed.{is_timed, timed, handed}
 use Rattle.sv_serve.specs.Served.{Through, event_of, is_outer, Serves}
 
 -- Sweeps lead from one driver to another, each with the milliseconds that it was handed.

@@ -1,7 +1,7 @@
 -- What time brings: a scenario happens as its milliseconds pass.
-use Rattle.std.specs.Prelude.{ℕ, zero, suc, ◌==◌, ◌≤◌, Bool, true, false, List, [], ◌∷◌, ◌++◌, ◌+◌, if◌then◌else◌, ⊤}
+use Rattle.std.specs.Prelude.{ℕ, zero, suc, ◌==◌, Bool, true, false, List, [], ◌∷◌, ◌++◌, ◌+◌, if◌then◌else◌}
 use Rattle.sv_history.specs.Event.{PlainEvent, Input, External, Tick}
-use Rattle.sv_replay.specs.Entry.{stimulus_event, IsAccepted}
+use Rattle.sv_replay.specs.Entry.{stimulus_event}
 use Rattle.sv_replay.specs.declared.entry.Entry.{Entry}
 
 abbrev pub is_timed : PlainEvent → Bool
@@ -9,11 +9,6 @@ is_timed (Input channel microvolts) = true
 is_timed External = true
 is_timed Tick = true
 is_timed _ = false
-
--- Each entry is one that the server accepts, at the tick of the one in front of it or later.
-abbrev pub IsScenario : ℕ → List Entry → Type 0
-IsScenario least [] = ⊤
-IsScenario least (entry ∷ entries) = (least ≤ entry.tick) × IsAccepted entry.stimulus × IsScenario entry.tick entries
 
 -- the events of the entries of this tick, the newest first
 abbrev pub played : ℕ → List Entry → List PlainEvent
