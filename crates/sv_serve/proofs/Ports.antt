@@ -164,12 +164,12 @@ pub step_took : (c n : ℕ) (bytes : List ℕ) (trace : List Heard) (d : ℕ) (a
 step_took c n bytes trace d acts told few waits h = (
   elim (cases_Bool (eqb c d)) [
     | inl e ↦ rw (e, append-nil (came d trace)) (
-        h.0.0,
-        (λ opened.
-            let both = h.0.1 opened in
-            let same : bytes ≡ untaken acts = waits e ∙ rw opened refl in
-            taken_more (went (Conn d) trace) bytes (sent acts) (given acts) n same few both.0 both.1),
-      )
+      h.0.0,
+      (λ opened.
+          let both = h.0.1 opened in
+          let same : bytes ≡ untaken acts = waits e ∙ rw opened refl in
+          taken_more (went (Conn d) trace) bytes (sent acts) (given acts) n same few both.0 both.1),
+    )
     | inr e ↦ rw (e, append-nil (came d trace), append-nil (went (Conn d) trace)) h.0
   ],
   sent_silent d (WasWritten (Conn c) bytes (Got n)) trace told refl refl h.1,

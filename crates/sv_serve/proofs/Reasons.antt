@@ -58,15 +58,15 @@ reasons_more config history events (heard ∷ trace) h = (
   (λ c e. elim (h.0 c e) [
     | inl failed ↦ inl failed
     | inr fault ↦ inr (
-        events ++ fault.0,
-        fault.1,
-        fault.2,
-        ap (λ (l : List PlainEvent). events ++ l) fault.3 ∙ sym (append_assoc events fault.0 (Close (Conn c) ∷ fault.1)),
-        fault.4,
-        fault.5,
-        fault.6,
-        fault.7,
-      )
+      events ++ fault.0,
+      fault.1,
+      fault.2,
+      ap (λ (l : List PlainEvent). events ++ l) fault.3 ∙ sym (append_assoc events fault.0 (Close (Conn c) ∷ fault.1)),
+      fault.4,
+      fault.5,
+      fault.6,
+      fault.7,
+    )
   ]),
   reasons_more config history events trace h.1,
 )
@@ -124,9 +124,11 @@ closing_event config before after event heard newer older grown newer_silent new
       (λ other. ((λ c e. no_failure (is_failure c heard) (calm c) e), older_once));
   reasons = λ trace so h. subst (λ (l : List PlainEvent). HasReasons config l ((newer ++ heard ∷ older) ++ trace)) (sym grown)
       (subst (λ (l : List Heard). HasReasons config (event ∷ before) l) (sym (append_assoc newer (heard ∷ older) trace))
-      (silent_reasons config (event ∷ before) newer (heard ∷ older ++ trace) newer_silent
-      (reason trace so, silent_reasons config (event ∷ before) older trace older_silent
-      (reasons_more config before (event ∷ []) trace h))));
+      (silent_reasons config (event ∷ before) newer (heard ∷ older ++ trace) newer_silent (
+        reason trace so,
+        silent_reasons config (event ∷ before) older trace older_silent
+            (reasons_more config before (event ∷ []) trace h),
+      )));
 }
 
 pub closed_same : (c d : ℕ) → WasClosed (Conn c) ≡ WasClosed (Conn d) → c ≡ d

@@ -662,14 +662,14 @@ write_phase hears config (suc n) x y history events piece le is turned (between,
       k = keeps_then hears Unread config x between y p.k (keeps_may hears (Mine n) Unread config between y (mine_unread n) s.k);
       offered = λ c lt.
           subst₂ (λ e l. Offered config c history e l) (sym (append_assoc s.k.events p.k.events events))
-              (sym (append_assoc s.k.piece p.k.piece piece))
-              (let low : c ≤ n = omega (arith, lt) in
-              elim (eq-or-lt_of_le low) [
-                | inl same ↦ subst (λ (m : ℕ). Offered config m history (s.k.events ++ (p.k.events ++ events))
-                    (s.k.piece ++ (p.k.piece ++ piece))) (sym same) s.offered
-                | inr less ↦ offered_more config c history (p.k.events ++ events) s.k.events (p.k.piece ++ piece) s.k.piece
-                    (keeps_unread hears (Mine n) config between y (mine_unread n) s.k) (p.offered c less)
-              ]);
+          (sym (append_assoc s.k.piece p.k.piece piece))
+          (let low : c ≤ n = omega (arith, lt) in
+          elim (eq-or-lt_of_le low) [
+            | inl same ↦ subst (λ (m : ℕ). Offered config m history (s.k.events ++ (p.k.events ++ events))
+                (s.k.piece ++ (p.k.piece ++ piece))) (sym same) s.offered
+            | inr less ↦ offered_more config c history (p.k.events ++ events) s.k.events (p.k.piece ++ piece) s.k.piece
+                (keeps_unread hears (Mine n) config between y (mine_unread n) s.k) (p.offered c less)
+          ]);
       turned = λ c low lt. subst (λ e. Turned config c history e) (sym (append_assoc s.k.events p.k.events events))
           (turned_keeps hears (Mine n) config between y c history (p.k.events ++ events) (mine_unread n)
           (mine_elsewhere n c (omega (arith, low))) s.k (p.turned c (omega (arith, low)) lt));

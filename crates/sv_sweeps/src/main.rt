@@ -1,5 +1,6 @@
 //! Plays the rows of the standard input, each with a new driver over a wire of lines, and prints
-//! behind the title of each what the driver asks that wire.
+//! behind the title of each what the driver asks that wire, as a recorder over it kept it: that is
+//! the trace of which the laws of `sv_serve` speak (`sv_recording`).
 //!
 //! A row has these lines:
 //!
@@ -41,6 +42,7 @@ mod pacing;
 mod peers;
 mod row;
 mod scripted;
+mod shown;
 
 use std::io::{self, BufWriter, Error, ErrorKind, Write};
 

@@ -1,10 +1,12 @@
 //! A row: what stands in front of its sweeps, and the sweeps.
 
 use crate::scripted::Scripted;
+use crate::shown::show;
 use crate::{failing, pacing};
 use rationing::Rationed;
 use std::alloc::Global;
 use std::io::{self, BufWriter, Error, ErrorKind, Write};
+use sv_recording::Recorder;
 use sv_replay::{Entry, read_scenario};
 use sv_serve::Driver;
 use sv_server::{Config, Server};
@@ -13,7 +15,7 @@ use sv_server::{Config, Server};
 const MEMORY: &str = " memory ";
 
 /// The driver of a row.
-type Played<'a> = Driver<Scripted, &'a Rationed<Global>>;
+type Played<'a> = Driver<Recorder<Scripted>, &'a Rationed<Global>>;
 
 /// What is told of a row that can't be played.
 pub(crate) fn bad() -> Error {
@@ -64,7 +66,8 @@ fn scenario<'a>(
 /// A driver as a row wants it, whose heap the row may ration.
 fn made<'a>(alloc: Global, heap: &'a Rationed<Global>, row: &str) -> io::Result<Played<'a>> {
     let (clock, refused, entries) = front(row)?;
-    let wire = Scripted::new(alloc, String::from_str(alloc, row)?);
+    let scripted = Scripted::new(alloc, String::from_str(alloc, row)?);
+    let wire = Recorder::new(alloc, scripted);
     let scenario = scenario(heap, entries)?;
     let config = Config {
         core: 4096,
@@ -86,13 +89,17 @@ fn sweep<W: Write + Drop>(
 ) -> io::Result<()> {
     let (ticks, refused) = line.split_once(MEMORY).unwrap_or((line, "0"));
     let ticks = number(ticks)?.min(u64::from(u32::MAX)) as u32;
-    driver.wire().sweep.set(place);
-    let before = driver.wire().asked.len();
+    driver.wire().wire().sweep.set(place);
+    let before = driver.wire().calls().len();
     heap.refuse(number(refused)?);
     driver.sweep(ticks);
     writeln!(writer, "sweep {line}")?;
-    let asked = driver.wire().asked.get(before..).unwrap_or("");
-    write!(writer, "{asked}")?;
+    for call in driver.wire().calls().get(before..).unwrap_or(&[]) {
+        show(call, writer)?;
+    }
+    if !driver.wire().is_whole() {
+        return Err(Error::from(ErrorKind::OutOfMemory));
+    }
     if heap.waits() {
         writeln!(writer, "memory was not asked for")?;
     }

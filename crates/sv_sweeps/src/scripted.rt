@@ -1,8 +1,9 @@
-//! A wire whose answers are lines, which keeps what it is asked.
+//! A wire whose answers are lines.
 
 ghost use Rattle.std.specs.Prelude.{length};
 ghost use Rattle.sv_serve.specs.Heard.{IsWithin};
 
+use crate::shown::{name, word};
 use std::alloc::Global;
 use std::cell::Cell;
 use std::fmt::Write;
@@ -17,25 +18,8 @@ pub(crate) struct Scripted {
     row: String,
     /// Which sweep is under way, from 1.
     pub(crate) sweep: Cell<usize>,
-    /// What it was asked, a line each.
-    pub(crate) asked: String,
-}
-
-/// The word of what a connection is for.
-fn word(role: Role) -> &'static str {
-    match role {
-        Role::Core => "core",
-        Role::Abort => "abort",
-        Role::Portmap => "portmap",
-    }
-}
-
-/// The letter and the number of a port.
-fn name(port: Port) -> (char, u8) {
-    match port {
-        Port::Conn(conn) => ('c', conn),
-        Port::Intr(conn) => ('i', conn),
-    }
+    /// What it is asked, as it stands in front of an answer.
+    asked: String,
 }
 
 /// Whether something came.
@@ -93,70 +77,43 @@ impl Scripted {
         }
         None
     }
-
-    /// What is answered to the call that was noted from this place on.
-    fn says_from(&self, begun: usize) -> Option<&str> {
-        self.says(self.asked.get(begun..)?)
-    }
 }
 
 impl Wire for Scripted {
-    fn accept(&mut self, role: Role, conn: Option<u8>) -> Answer<()> {
-        let word = word(role);
-        let _ = match conn {
-            Some(conn) => writeln!(self.asked, "{word} {conn}"),
-            None => writeln!(self.asked, "{word} -"),
-        };
-        comes(self.says(word))
+    fn accept(&mut self, role: Role, _: Option<u8>) -> Answer<()> {
+        comes(self.says(word(role)))
     }
 
     fn read(&mut self, conn: u8, buffer: &mut [u8]) -> Answer<usize> {
-        let begun = self.asked.len();
+        self.asked.clear();
         let _ = write!(self.asked, "read {conn}");
-        let answer = match self.says_from(begun) {
+        match self.says(&self.asked) {
             None => Answer::Pending,
             Some(text) => match hex::decode(self.alloc, text) {
                 Ok(bytes) => put(&bytes, buffer),
                 Err(_) => Answer::Failed,
             },
-        };
-        let _ = writeln!(self.asked);
-        answer
+        }
     }
 
     fn write(&mut self, port: Port, bytes: &[u8]) -> Answer<usize> {
-        let begun = self.asked.len();
         let (letter, number) = name(port);
+        self.asked.clear();
         let _ = write!(self.asked, "write {letter}{number}");
-        let answer = takes(self.says_from(begun), bytes.len());
-        let _ = write!(self.asked, " ");
-        for byte in bytes {
-            let _ = write!(self.asked, "{byte:02x}");
-        }
-        let _ = writeln!(self.asked);
-        answer
+        takes(self.says(&self.asked), bytes.len())
     }
 
-    fn dial(&mut self, conn: u8, dial: Dial) -> Answer<()> {
-        let begun = self.asked.len();
-        let addr = dial.addr;
-        let port = dial.port;
+    fn dial(&mut self, conn: u8, _: Dial) -> Answer<()> {
+        self.asked.clear();
         let _ = write!(self.asked, "dial {conn}");
-        let answer = comes(self.says_from(begun));
-        let _ = writeln!(self.asked, " {addr:08x}:{port}");
-        answer
+        comes(self.says(&self.asked))
     }
 
     fn dialed(&mut self, conn: u8) -> Answer<()> {
-        let begun = self.asked.len();
+        self.asked.clear();
         let _ = write!(self.asked, "dialed {conn}");
-        let answer = comes(self.says_from(begun));
-        let _ = writeln!(self.asked);
-        answer
+        comes(self.says(&self.asked))
     }
 
-    fn close(&mut self, port: Port) {
-        let (letter, number) = name(port);
-        let _ = writeln!(self.asked, "close {letter}{number}");
-    }
+    fn close(&mut self, _: Port) {}
 }

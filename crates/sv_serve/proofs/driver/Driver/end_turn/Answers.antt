@@ -7,6 +7,9 @@ pub returns-in-Err : goal.returns-in-Err
 returns-in-Err g c = λ config history stands may.
     let none = finds_none c.args.conn c.args.answer c.in-Err.refused c.is_no_memory.result config (moment c.args.self.now history)
     c.in-Err.is c.is_no_memory.ensures may in
-    let (h0, s0, p0) = c.refuse_if.ensures config history stands none in
-    (h0, s0, turn_refused c.args.conn c.args.answer c.in-Err.refused c.is_no_memory.result config (moment c.args.self.now history)
-    (moment c.refuse_if.new.self h0) c.in-Err.is c.is_no_memory.ensures p0)
+    let (h0, s0, p0) = c.refuse_if.ensures config history stands none in (
+      h0,
+      s0,
+      turn_refused c.args.conn c.args.answer c.in-Err.refused c.is_no_memory.result config (moment c.args.self.now history)
+          (moment c.refuse_if.new.self h0) c.in-Err.is c.is_no_memory.ensures p0,
+    )

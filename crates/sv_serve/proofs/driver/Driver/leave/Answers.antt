@@ -16,9 +16,12 @@ pub returns-in-Failed-Conn : goal.returns-in-Failed-Conn
 returns-in-Failed-Conn g c = λ config history stands handed.
     let is_open = handed_open c.args.port c.in-Failed-Conn.conn c.args.answer config (moment c.args.self.now history) c.in-Failed-Conn.is-1
     c.requires.number handed in
-    let (h0, s0, p0) = c.close.ensures config history stands is_open in
-    (h0, s0, write_failed g.W.Wire.hears c.args.port (Conn c.in-Failed-Conn.conn) c.args.answer config (moment c.args.self.now history)
-    (moment c.close.new.self h0) c.in-Failed-Conn.is-0 c.in-Failed-Conn.is-1 p0)
+    let (h0, s0, p0) = c.close.ensures config history stands is_open in (
+      h0,
+      s0,
+      write_failed g.W.Wire.hears c.args.port (Conn c.in-Failed-Conn.conn) c.args.answer config (moment c.args.self.now history)
+          (moment c.close.new.self h0) c.in-Failed-Conn.is-0 c.in-Failed-Conn.is-1 p0,
+    )
 
 pub returns-in-Failed-Intr : goal.returns-in-Failed-Intr
 returns-in-Failed-Intr g c = λ config history stands handed.
@@ -27,6 +30,9 @@ returns-in-Failed-Intr g c = λ config history stands handed.
     c.requires.number handed in
     let same = hung_same g.W.Wire.hears c.in-Failed-Intr.conn config (moment c.args.self.now history) (moment c.hang_up.new.self h0) p0 in
     let still = still_suited (Close (Intr c.in-Failed-Intr.conn)) config (moment c.args.self.now history) (moment c.hang_up.new.self h0) same suits in
-    let (h1, s1, p1) = c.happen-in-Failed-Intr.ensures config h0 s0 still in
-    (h1, s1, write_failed g.W.Wire.hears c.args.port (Intr c.in-Failed-Intr.conn) c.args.answer config (moment c.args.self.now history)
-    (moment c.happen-in-Failed-Intr.new.self h1) c.in-Failed-Intr.is-0 c.in-Failed-Intr.is-1 (moment c.hang_up.new.self h0, p0, p1))
+    let (h1, s1, p1) = c.happen-in-Failed-Intr.ensures config h0 s0 still in (
+      h1,
+      s1,
+      write_failed g.W.Wire.hears c.args.port (Intr c.in-Failed-Intr.conn) c.args.answer config (moment c.args.self.now history)
+          (moment c.happen-in-Failed-Intr.new.self h1) c.in-Failed-Intr.is-0 c.in-Failed-Intr.is-1 (moment c.hang_up.new.self h0, p0, p1),
+    )

@@ -1,0 +1,34 @@
+-- What a wire keeps of its calls.
+use Rattle.std.specs.Prelude.{◌≡◌, ℕ, Bool, true, List, ◌∷◌, ◌++◌}
+use Rattle.sv_serve.specs.declared.wire.Answer.{Answer}
+use Rattle.sv_serve.specs.declared.wire.Answer.TheVariants.{Got, Pending, Failed}
+use Rattle.sv_serve.specs.Heard.{Heard, WasAccepted, WasRead, WasWritten, WasDialed, PeerAnswered, WasClosed}
+use Rattle.sv_serve.specs.Served.{Through}
+use Rattle.sv_recording.specs.declared.call.Call.{Call}
+use Rattle.sv_recording.specs.declared.call.Call.TheVariants.{Accept, Read, Write, Dial, Dialed, Close}
+
+-- what a call that was kept says
+abbrev pub heard_of : Call → Heard
+heard_of (Accept role conn answer) = WasAccepted role conn answer
+heard_of (Read conn most Pending) = WasRead conn most Pending
+heard_of (Read conn most Failed) = WasRead conn most Failed
+heard_of (Read conn most (Got bytes)) = WasRead conn most (Got bytes.items)
+heard_of (Write port bytes answer) = WasWritten port bytes.items answer
+heard_of (Dial conn dial answer) = WasDialed conn dial answer
+heard_of (Dialed conn answer) = PeerAnswered conn answer
+heard_of (Close port) = WasClosed port
+
+-- the wire that answers, what was kept, the newest first, and whether that is all
+pub record Recording (W : Type 0) : Type 0 where
+  pub wire : W
+  pub trace : List Heard
+  pub is_whole : Bool
+
+-- One more call was kept, if all are.
+abbrev pub Keeps : {W : Type 0} → Recording W → Heard → Recording W → Type 0
+Keeps before heard after = after.is_whole ≡ true → (before.is_whole ≡ true) × (after.trace ≡ heard ∷ before.trace)
+
+-- What such a wire was asked is what it kept, if that is all.
+abbrev pub TraceIsKept : {W : Type 0} → (Recording W → Heard → Recording W → Type 0) → Type 0
+TraceIsKept hears = (trace : List Heard) (start now : Recording _) → Through hears trace start now → now.is_whole ≡ true
+    → now.trace ≡ trace ++ start.trace

@@ -1,0 +1,42 @@
+//! A call of a wire, with its answer.
+
+use sv_serve::Answer;
+use sv_server::{Dial, Port, Role};
+
+/// One call of a wire, with its answer.
+#[derive(Drop)]
+pub enum Call {
+    /// Whether a connection came for this purpose, under this number.
+    Accept {
+        role: Role,
+        conn: Option<u8>,
+        answer: Answer<()>,
+    },
+    /// The bytes that were read of a connection, of so many that were asked for at most.
+    Read {
+        conn: u8,
+        most: usize,
+        answer: Answer<Vec<u8>>,
+    },
+    /// How many of these bytes were taken for a port.
+    Write {
+        port: Port,
+        bytes: Vec<u8>,
+        answer: Answer<usize>,
+    },
+    /// What came of calling a peer for the interrupt channel of a connection.
+    Dial {
+        conn: u8,
+        dial: Dial,
+        answer: Answer<()>,
+    },
+    /// Whether that peer answered.
+    Dialed {
+        conn: u8,
+        answer: Answer<()>,
+    },
+    /// A port was closed.
+    Close {
+        port: Port,
+    },
+}

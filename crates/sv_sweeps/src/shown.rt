@@ -1,0 +1,57 @@
+//! Calls of a wire as lines.
+
+use std::io::{self, BufWriter, Write};
+use sv_recording::Call;
+use sv_server::{Port, Role};
+
+/// The word of what a connection is for.
+pub(crate) fn word(role: Role) -> &'static str {
+    match role {
+        Role::Core => "core",
+        Role::Abort => "abort",
+        Role::Portmap => "portmap",
+    }
+}
+
+/// The letter and the number of a port.
+pub(crate) fn name(port: Port) -> (char, u8) {
+    match port {
+        Port::Conn(conn) => ('c', conn),
+        Port::Intr(conn) => ('i', conn),
+    }
+}
+
+/// Prints a port and the bytes that the wire was handed for it.
+fn show_written<W: Write + Drop>(
+    port: Port,
+    bytes: &[u8],
+    writer: &mut BufWriter<W>,
+) -> io::Result<()> {
+    let (letter, number) = name(port);
+    write!(writer, "write {letter}{number} ")?;
+    for byte in bytes {
+        write!(writer, "{byte:02x}")?;
+    }
+    writeln!(writer)
+}
+
+/// Prints what a wire was asked.
+pub(crate) fn show<W: Write + Drop>(call: &Call, writer: &mut BufWriter<W>) -> io::Result<()> {
+    match call {
+        Call::Accept { role, conn, .. } => match conn {
+            Some(conn) => writeln!(writer, "{} {conn}", word(*role)),
+            None => writeln!(writer, "{} -", word(*role)),
+        },
+        Call::Read { conn, .. } => writeln!(writer, "read {conn}"),
+        Call::Write { port, bytes, .. } => show_written(*port, bytes, writer),
+        Call::Dial { conn, dial, .. } => {
+            let (addr, port) = (dial.addr, dial.port);
+            writeln!(writer, "dial {conn} {addr:08x}:{port}")
+        }
+        Call::Dialed { conn, .. } => writeln!(writer, "dialed {conn}"),
+        Call::Close { port } => {
+            let (letter, number) = name(*port);
+            writeln!(writer, "close {letter}{number}")
+        }
+    }
+}
