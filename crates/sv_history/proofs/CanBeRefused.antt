@@ -31,7 +31,7 @@ use Rattle.sv_history.specs.History.{taken_acts, turn_acts, refuse_acts, is_shut
 use Rattle.sv_history.specs.Brought.{CanBeRefused}
 use Rattle.sv_history.proofs.Projections.{device_effect}
 use Rattle.sv_history.proofs.EveryLog.Done.{IsDone, each_done}
-use Rattle.sv_history.proofs.NothingRefused.{is_done, not_both, filter_none, left_modest}
+use Rattle.sv_history.proofs.NothingLost.{is_done, not_both, filter_none, left_modest}
 
 -- ---- a call that is done
 

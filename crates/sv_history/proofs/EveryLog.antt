@@ -6,3 +6,4 @@ pub mod EachEvent
 pub mod Known
 pub mod Steps
 pub mod Due
+pub mod EachAct

@@ -10,11 +10,11 @@ mod EveryLog
 mod Isolation
 mod Cuts
 pub mod NoneLate
-pub mod NothingLost
 pub mod EachAnswered
+pub mod RepliesMatch
 pub mod OnlyCalls
 pub mod ShutIsClear
-pub mod NothingRefused
+pub mod NothingLost
 pub mod OnlyRequests
 pub mod CanBeRefused
 pub mod TicksTaken

@@ -87,9 +87,9 @@ Suits (Input channel microvolts) told log = input_refusal channel microvolts ≡
 Suits External told log = ⊤
 Suits _ told log = ⊥
 
--- It is never refused.
-abbrev pub NothingRefused : Type 0
-NothingRefused = (config : Config) (history : List PlainEvent) (event : PlainEvent) (told : List ChannelAct) (log : List Act)
+-- It is never refused: who brings as many bytes as there is room for, and takes as many as wait, loses none.
+abbrev pub NothingLost : Type 0
+NothingLost = (config : Config) (history : List PlainEvent) (event : PlainEvent) (told : List ChannelAct) (log : List Act)
     (result : Result Did Refused) → IsLogOf config history log → HearsOf (device_acts log) told → Suits event told log
     → Answers config event log result → result ≡ Ok Done
 
