@@ -7,3 +7,4 @@ pub mod Known
 pub mod Steps
 pub mod Due
 pub mod EachAct
+pub mod BusyWaits

@@ -12,6 +12,7 @@ mod Cuts
 pub mod NoneLate
 pub mod EachAnswered
 pub mod RepliesMatch
+pub mod TurnAnswered
 pub mod OnlyCalls
 pub mod ShutIsClear
 pub mod NothingLost

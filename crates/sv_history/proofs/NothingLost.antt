@@ -104,6 +104,7 @@ dialed_modest c ok call =
     at_peer true call (Some one) = left_modest c ((dialed_to c true call.arguments (Some one)).adds ++ Waited (Left c) ∷ []) refl refl
     at_peer false call (Some one) = left_modest c ((dialed_to c false call.arguments (Some one)).adds ++ Waited (Left c) ∷ []) refl refl
     at_peer ok call None = left_modest c ((dialed_to c ok call.arguments None).adds ++ Waited (Left c) ∷ []) refl refl
+
     by : (call : Option CoreCall) → wants_memory (connected c ok call).adds ≡ false
     by (Some call) = at_peer ok call (peer_by call.arguments)
     by None = left_modest c (Waited (Left c) ∷ []) refl refl

@@ -73,7 +73,7 @@ AllCame (act ∷ acts) = CanCome act acts × AllCame acts
 
 -- ---- what a request asks for has the xid of its call
 
-abbrev xid_in : Request → Option ℕ
+abbrev pub xid_in : Request → Option ℕ
 xid_in NoCall = None
 xid_in (Decided xid reply) = Some xid
 xid_in (CoreRequest call) = Some call.xid
@@ -102,7 +102,7 @@ xid_requested role (Ok call) = xid_decided role call (header_reply role call)
 xid_requested role (Err (Version xid)) = refl
 xid_requested role (Err BadHeader) = refl
 
-none_bad : (found : Result PlainCall CallFault) → xid_of found ≡ None → found ≡ Err BadHeader
+pub none_bad : (found : Result PlainCall CallFault) → xid_of found ≡ None → found ≡ Err BadHeader
 none_bad (Ok call) e = absurd cc
 none_bad (Err (Version xid)) e = absurd cc
 none_bad (Err BadHeader) e = refl
@@ -256,7 +256,7 @@ open_by false true other e = refl
 open_by false false other e = absurd cc
 
 -- what isn't refused is of an open one
-open_unless : (c : ℕ) (log : List Act) (other : Option Refused) → unless_shut c log other ≡ None → is_open (of c log) ≡ true
+pub open_unless : (c : ℕ) (log : List Act) (other : Option Refused) → unless_shut c log other ≡ None → is_open (of c log) ≡ true
 open_unless c log other e = open_by (nat_lt 15 c) (is_open (of c log)) other e
 
 all_event : (config : Config) (event : PlainEvent) (polled : ℕ) (told : List ChannelAct) (log : List Act) → IsEvent event

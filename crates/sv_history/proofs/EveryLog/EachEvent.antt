@@ -247,7 +247,7 @@ fit_admitted config polled c bytes call (Some (Awaits wait until)) log fit lt no
       ),
     ))
 
-fit_request : (config : Config) (polled c : ℕ) (bytes : List ℕ) (request : Request) (log : List Act) → Fit log → c < 16
+pub fit_request : (config : Config) (polled c : ℕ) (bytes : List ℕ) (request : Request) (log : List Act) → Fit log → c < 16
     → next_call (of c log) ≡ Some bytes → next_request (of c log) ≡ Some request
     → Fit (acts_of c (request_effect config polled c request (device_acts log)) ++ On c (CallTaken bytes) ∷ log)
 fit_request config polled c bytes request log fit lt next asks =
@@ -404,7 +404,7 @@ fit_event config Tick polled told log free fit =
     (fit_happened (tick_acts (instrument_acts (device_acts log))) (OnDevice Ticked ∷ log)
     (fit_shared (Ticked ∷ []) log fit (tt, fit.suits) refl refl))
 
-fit_none : Fit []
+pub fit_none : Fit []
 fit_none = record {
   suits = tt;
   core = λ n c is. absurd (let z : None ≡ Some c = is in cc);
