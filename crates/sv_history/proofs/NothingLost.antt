@@ -68,7 +68,8 @@ filter_none p (x ∷ xs) h = rw (h x) (filter_none p xs h)
 
 pub left_modest : (c : ℕ) (acts : List DeviceAct) → made (link_acts acts) ≡ 0 → wait_acts acts ≡ Left c ∷ [] → wants_memory acts ≡ false
 left_modest c acts no_link is =
-    let none : creating (wait_acts acts) ≡ 0 = rw is (filter_none (is_creating (Left c ∷ [])) connections (λ d. rw (waits_none c d) refl)) in
+    let none : creating (wait_acts acts) ≡ 0 =
+    rw is (filter_none (is_creating (Left c ∷ [])) connections (λ d. rw (waits_none c d) refl)) in
     let nobody : dialing (wait_acts acts) ≡ 0 =
     rw is (filter_none (λ d. is_dialing d (Left c ∷ [])) connections (λ d. rw (waits_none c d) refl)) in
     rw (no_link, none, nobody) refl
@@ -81,7 +82,8 @@ made_none (Locked lid ∷ links) before h = made_none links before h.1
 made_none (Unlocked lid ∷ links) before h = made_none links before h.1
 
 close_modest : (c : ℕ) (log : List Act)
-    → wants_memory (device_acts (map OnDevice (Channel (ChannelClosed c) ∷ map Linked (closing c (link_acts (device_acts log))) ++ Waited (Left c) ∷ [])
+    → wants_memory (device_acts (map OnDevice
+    (Channel (ChannelClosed c) ∷ map Linked (closing c (link_acts (device_acts log))) ++ Waited (Left c) ∷ [])
     ++ On c PortClosed ∷ [])) ≡ false
 close_modest c log =
     let links = closing c (link_acts (device_acts log)) in
@@ -122,7 +124,8 @@ none_wanted acts none still =
 pub happened_modest : (adds : List InstrumentAct) → wants_memory (device_acts (map OnDevice (map Happened adds))) ≡ false
 happened_modest adds =
     let is : device_acts (map OnDevice (map Happened adds)) ≡ map Happened adds =
-    ap device_acts (sym (append-nil (map OnDevice (map Happened adds)))) ∙ device_shared (map Happened adds) [] ∙ append-nil (map Happened adds) in
+    ap device_acts (sym (append-nil (map OnDevice (map Happened adds)))) ∙ device_shared (map Happened adds) []
+    ∙ append-nil (map Happened adds) in
     subst (λ (acts : List DeviceAct). wants_memory acts ≡ false) (sym is)
     (none_wanted (map Happened adds) (happened_none adds).0 (happened_none adds).1)
 

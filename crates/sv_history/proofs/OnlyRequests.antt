@@ -219,7 +219,8 @@ plain_request config polled c (PortRequest xid args) acts = tt
 plain_continued : (config : Config) (polled c : ℕ) (arguments : Arguments) (next : Option Wait) (acts : List DeviceAct)
     → ArePlain (continued config polled c arguments next acts).adds
 plain_continued config polled c arguments (Some wait) acts = tt
-plain_continued config polled c arguments None acts = plain_join (own_call config polled c arguments (Waited (Left c) ∷ acts)).adds (Waited (Left c) ∷ [])
+plain_continued config polled c arguments None acts =
+    plain_join (own_call config polled c arguments (Waited (Left c) ∷ acts)).adds (Waited (Left c) ∷ [])
     (plain_own config polled c arguments (Waited (Left c) ∷ acts)) tt
 
 plain_ended : (c : ℕ) (does : Arguments → CallOutcome) (call : Option CoreCall) → ((arguments : Arguments) → ArePlain (does arguments).adds)
@@ -352,7 +353,8 @@ begins config (Open c role) polled log = (device_acts log, ([], tt, refl), (λ t
 begins config (Bytes c piece) polled log = (device_acts log, ([], tt, refl), (λ told x. x), no_tick log)
 begins config (Turn c) polled log =
     (device_acts log, (behind_turn config polled c (next_call (of c log)) (next_request (of c log)) log), (λ told x. x), no_tick log)
-begins config (Refuse c) polled log = (device_acts log, (behind_refuse c (next_call (of c log)) (refusable (of c log)) log), (λ told x. x), no_tick log)
+begins config (Refuse c) polled log =
+    (device_acts log, (behind_refuse c (next_call (of c log)) (refusable (of c log)) log), (λ told x. x), no_tick log)
 begins config (Took (Conn c) count) polled log = (device_acts log, ([], tt, refl), (λ told x. x), no_tick log)
 begins config (Took (Intr c) count) polled log =
     (Channel (ChannelTaken c count) ∷ device_acts log, ([], tt, refl), (λ told x. (told, x, refl)), no_tick log)
@@ -366,12 +368,20 @@ begins config (Close (Conn c)) polled log =
       (λ told x. x),
       no_tick log,
     )
-begins config (Close (Intr c)) polled log =
-    (device_acts log, (behind_shared (device_acts log) (Channel (ChannelClosed c) ∷ []) log tt (behind_none log)), (λ told x. x), no_tick log)
+begins config (Close (Intr c)) polled log = (
+  device_acts log,
+  (behind_shared (device_acts log) (Channel (ChannelClosed c) ∷ []) log tt (behind_none log)),
+  (λ told x. x),
+  no_tick log,
+)
 begins config (Dialed c true) polled log = begins_dialed c true (core_call_in (unanswered (of c log))) log refl
 begins config (Dialed c false) polled log = begins_dialed c false (core_call_in (unanswered (of c log))) log refl
-begins config (Input channel microvolts) polled log =
-    (device_acts log, (behind_shared (device_acts log) (Happened (Scanned (InputTo channel microvolts)) ∷ []) log tt (behind_none log)), (λ told x. x), no_tick log)
+begins config (Input channel microvolts) polled log = (
+  device_acts log,
+  (behind_shared (device_acts log) (Happened (Scanned (InputTo channel microvolts)) ∷ []) log tt (behind_none log)),
+  (λ told x. x),
+  no_tick log,
+)
 begins config External polled log = (
   device_acts log,
   (behind_shared (device_acts log)

@@ -20,7 +20,7 @@ use Rattle.sv_history.specs.Effect.{acts_of, replies, result_reply}
 use Rattle.sv_history.specs.Request.{Request, NoCall, Decided, CoreRequest, AbortRequest, PortRequest, core_call_in, request_of, asked, next_request}
 use Rattle.sv_history.specs.Execution.{request_effect, aborts}
 use Rattle.sv_history.specs.Resuming.{effect_of, leaving, next_wait, continued, late}
-use Rattle.sv_history.specs.Settling.{CanResume, IsNext}
+use Rattle.sv_history.specs.Settling.{IsNext}
 use Rattle.sv_history.specs.History.{abort_acts, turn_acts, own_acts, IsLogOf}
 use Rattle.sv_history.specs.Laws.{TurnAnswered}
 use Rattle.sv_history.proofs.Projections.{of_mine, of_shared, of_effect, others_effect}
@@ -47,7 +47,8 @@ stands_replies xid None call before acts is = inr (inr is)
 stands_ended : (c : ℕ) (does : Arguments → CallOutcome) (call : List ℕ) (before acts : List ConnAct) → Stands call before acts
     → Stands call before ((effect_of c does (core_call_in (unanswered acts))).own ++ acts)
 stands_ended c does call before acts (inl (reply, is)) =
-    subst (λ (l : List ConnAct). Stands call before ((effect_of c does (core_call_in (unanswered l))).own ++ l)) (sym is) (inl (reply, refl))
+    subst (λ (l : List ConnAct). Stands call before ((effect_of c does (core_call_in (unanswered l))).own ++ l)) (sym is)
+    (inl (reply, refl))
 stands_ended c does call before acts (inr (inl (is, none))) =
     subst (λ (l : List ConnAct). Stands call before ((effect_of c does (core_call_in (unanswered l))).own ++ l)) (sym is)
     (inr (inl (refl, none)))
@@ -98,10 +99,12 @@ in_abort c call before None log h = h
 
 -- what its request comes to
 stands_request : (config : Config) (polled c : ℕ) (call : List ℕ) (before : List ConnAct) (request : Request) (acts : List DeviceAct)
-    → xid_of (call_at call) ≡ xid_in request → Stands call before ((request_effect config polled c request acts).own ++ CallTaken call ∷ before)
+    → xid_of (call_at call) ≡ xid_in request
+    → Stands call before ((request_effect config polled c request acts).own ++ CallTaken call ∷ before)
 stands_request config polled c call before NoCall acts is = inr (inl (refl, none_bad (call_at call) is))
 stands_request config polled c call before (Decided xid reply) acts is = inl (_, refl)
-stands_request config polled c call before (CoreRequest asked) acts is = stands_replies asked.xid _ call before (CallTaken call ∷ before) refl
+stands_request config polled c call before (CoreRequest asked) acts is =
+    stands_replies asked.xid _ call before (CallTaken call ∷ before) refl
 stands_request config polled c call before (AbortRequest xid lid) acts is = inl (_, refl)
 stands_request config polled c call before (PortRequest xid args) acts is = inl (_, refl)
 

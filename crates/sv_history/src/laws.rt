@@ -61,8 +61,8 @@ pub fn none_late()
     ensures { NoneLate }
 {}
 
-/// An event that suits what the server answers when it is asked is never refused: who brings as many
-/// bytes as there is room for, and takes as many as wait, loses none.
+/// An event that suits what the server answers when it is asked is never refused: who brings as
+/// many bytes as there is room for, and takes as many as wait, loses none.
 pub fn nothing_lost()
     ensures { NothingLost }
 {}

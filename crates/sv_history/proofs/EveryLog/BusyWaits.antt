@@ -21,7 +21,7 @@ use Rattle.sv_instrument.specs.Stimulus.{external_acts, tick_acts}
 use Rattle.sv_history.specs.declared.event.Config.{Config}
 use Rattle.sv_history.specs.declared.event.Port.TheVariants.{Conn, Intr}
 use Rattle.sv_history.specs.Event.{PlainEvent, Open, Bytes, Turn, Refuse, Took, Close, Dialed, Input, External, Tick}
-use Rattle.sv_history.specs.Act.{Act, ConnAct, DeviceAct, Opened, Piece, CallTaken, Faulted, Replied, BytesTaken, PortClosed, Waited, Channel, Happened, Ticked, On, OnDevice, of, device_acts, link_acts, wait_acts, instrument_acts, exchange_acts}
+use Rattle.sv_history.specs.Act.{Act, ConnAct, DeviceAct, Opened, Piece, CallTaken, Replied, BytesTaken, PortClosed, Waited, Channel, Happened, Ticked, On, OnDevice, of, device_acts, link_acts, wait_acts, instrument_acts, exchange_acts}
 use Rattle.sv_history.specs.Connection.{unanswered, next_call}
 use Rattle.sv_history.specs.CallOutcome.{CallOutcome, only}
 use Rattle.sv_history.specs.CoreCall.{CoreCall, lid_of, failure}
@@ -251,12 +251,14 @@ all_abort (Some d) log fit all = all_failed Abort d log fit all
 all_abort None log fit all = all
 
 all_turn : (config : Config) (polled c : ℕ) (found : Option (List ℕ)) (request : Option Request) (log : List Act) → Fit log → AllWait log
-    → c < 16 → next_call (of c log) ≡ found → next_request (of c log) ≡ request → AllWait (turn_acts config polled c found request log ++ log)
+    → c < 16 → next_call (of c log) ≡ found → next_request (of c log) ≡ request
+    → AllWait (turn_acts config polled c found request log ++ log)
 all_turn config polled c (Some bytes) (Some request) log fit all lt next asks =
     let effect = request_effect config polled c request (device_acts log) in
     let taken = On c (CallTaken bytes) ∷ log in
     subst AllWait (sym (turn_parts c bytes effect (aborts request (device_acts log)) log))
-    (all_abort (aborts request (device_acts log)) (acts_of c effect ++ taken) (fit_request config polled c bytes request log fit lt next asks)
+    (all_abort (aborts request (device_acts log)) (acts_of c effect ++ taken)
+    (fit_request config polled c bytes request log fit lt next asks)
     (all_request config polled c request taken (λ d ne none. ap unanswered (of_other c d (CallTaken bytes) log ne) ∙ all d none)))
 all_turn config polled c (Some bytes) None log fit all lt next asks = all
 all_turn config polled c None (Some request) log fit all lt next asks = all

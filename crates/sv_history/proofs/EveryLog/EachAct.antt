@@ -41,8 +41,8 @@ use Rattle.sv_history.specs.Interrupts.{dialed}
 use Rattle.sv_history.specs.Resuming.{effect_of, leaving, next_wait, continued, late}
 use Rattle.sv_history.specs.Refusing.{takes_memory, refusable_call, refusable, refused_reply}
 use Rattle.sv_history.specs.Settling.{IsNext}
-use Rattle.sv_history.specs.History.{abort_acts, taken_acts, turn_acts, refuse_acts, own_acts, unless_shut, refusal, IsLogOf}
-use Rattle.sv_history.proofs.Projections.{of_mine, of_other, of_shared, of_effect, others_effect}
+use Rattle.sv_history.specs.History.{abort_acts, turn_acts, refuse_acts, own_acts, unless_shut, refusal, IsLogOf}
+use Rattle.sv_history.proofs.Projections.{of_mine, of_shared, of_effect, others_effect}
 use Rattle.sv_history.proofs.EveryLog.EachEvent.{each_log, turn_parts}
 
 -- ---- when an act can come
