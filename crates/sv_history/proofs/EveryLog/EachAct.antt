@@ -58,7 +58,8 @@ abbrev pub IsReplyTo : List ℕ → List ℕ → Type 0
 IsReplyTo call reply = (xid : ℕ) × (answer : Reply) × (fields : List Field) × (xid_of (call_at call) ≡ Some xid)
     × (reply ≡ reply_record xid answer fields)
 
--- An act can come behind these: bytes, and calls in their order, while the connection is open; a fault or a reply for the call that has none.
+-- An act can come behind these: bytes, and calls in their order, while the connection is open; a fault or a reply for the call that has
+-- none.
 abbrev pub CanCome : ConnAct → List ConnAct → Type 0
 CanCome (Opened role) acts = ⊤
 CanCome (Piece bytes) acts = (is_open acts ≡ true) × IsBytes bytes
