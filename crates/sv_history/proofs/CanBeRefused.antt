@@ -31,12 +31,12 @@ use Rattle.sv_history.specs.History.{taken_acts, turn_acts, refuse_acts, is_shut
 use Rattle.sv_history.specs.Brought.{CanBeRefused}
 use Rattle.sv_history.proofs.Projections.{device_effect}
 use Rattle.sv_history.proofs.EveryLog.Done.{IsDone, each_done}
-use Rattle.sv_history.proofs.NothingRefused.{is_done, not_both, filter_none, left_modest}
+use Rattle.sv_history.proofs.NothingLost.{is_done, not_both, filter_none, left_modest}
 
 -- ---- a call that is done
 
-done_made : (c : ℕ) (arguments : Arguments) (adds acts : List DeviceAct) → is_create_link arguments ≡ false → Each (IsDone c arguments) adds acts
-    → (made (link_acts adds) ≡ 0) × (wait_acts adds ≡ [])
+done_made : (c : ℕ) (arguments : Arguments) (adds acts : List DeviceAct) → is_create_link arguments ≡ false
+    → Each (IsDone c arguments) adds acts → (made (link_acts adds) ≡ 0) × (wait_acts adds ≡ [])
 done_made c arguments [] acts other h = (refl, refl)
 done_made c arguments (Linked (Made lid conn) ∷ adds) acts other h = not_both (is_create_link arguments) other h.0.2
 done_made c arguments (Linked (Destroyed lid) ∷ adds) acts other h = done_made c arguments adds acts other h.1
@@ -62,7 +62,8 @@ some_stop a b e = cc
 
 device_modest : (arguments : Arguments) (acts : List DeviceAct) (timeout : Option ℕ) (wait : Wait) (until named : Option ℕ)
     → option_map (λ wait. Awaits wait timeout) (device_wait arguments acts) ≡ Some (Awaits wait until) → IsModest wait named
-device_modest (DeviceWrite lid io_timeout lock_timeout flags bytes) acts timeout wait until named e = by (has_ended (exchange_acts acts)) wait e
+device_modest (DeviceWrite lid io_timeout lock_timeout flags bytes) acts timeout wait until named e =
+    by (has_ended (exchange_acts acts)) wait e
   where
     by : (b : Bool) (wait : Wait) → option_map (λ wait. Awaits wait timeout) (cond b (Some ForInput) None) ≡ Some (Awaits wait until)
         → IsModest wait named
@@ -196,20 +197,23 @@ aborts_modest : (c : ℕ) (bytes own : List ℕ) (found : Option ℕ) (log : Lis
 aborts_modest c bytes own (Some d) log = abort_adds c d bytes own log
 aborts_modest c bytes own None log = refl
 
-is_small : (arguments : Arguments) (call : CoreCall) → cond (takes_memory arguments) (Some call) None ≡ None → takes_memory arguments ≡ false
+is_small : (arguments : Arguments) (call : CoreCall) → cond (takes_memory arguments) (Some call) None ≡ None
+    → takes_memory arguments ≡ false
 is_small arguments call e = by (takes_memory arguments) e
   where
     by : (b : Bool) → cond b (Some call) None ≡ None → b ≡ false
     by true e = absurd cc
     by false e = refl
 
-request_modest : (config : Config) (polled c : ℕ) (bytes : List ℕ) (request : Request) (log : List Act) → refusable_call (Some request) ≡ None
+request_modest : (config : Config) (polled c : ℕ) (bytes : List ℕ) (request : Request) (log : List Act)
+    → refusable_call (Some request) ≡ None
     → wants_memory (device_acts (taken_acts c bytes (request_effect config polled c request (device_acts log))
     (aborts request (device_acts log)) log)) ≡ false
 request_modest config polled c bytes NoCall log e = refl
 request_modest config polled c bytes (Decided xid reply) log e = refl
 request_modest config polled c bytes (PortRequest xid args) log e = refl
-request_modest config polled c bytes (AbortRequest xid lid) log e = aborts_modest c bytes _ (aborts (AbortRequest xid lid) (device_acts log)) log
+request_modest config polled c bytes (AbortRequest xid lid) log e =
+    aborts_modest c bytes _ (aborts (AbortRequest xid lid) (device_acts log)) log
 request_modest config polled c bytes (CoreRequest call) log e =
     subst (λ (adds : List DeviceAct). wants_memory adds ≡ false)
     (sym (taken_adds c bytes (request_effect config polled c (CoreRequest call) (device_acts log)) log))
@@ -248,5 +252,6 @@ pub can_be_refused : CanBeRefused
 can_be_refused config history c log result was (told, hears, (open_so, polled, said, wants)) (also, hears_also, h) =
     let can = turn_refusable config polled c (next_call (of c log)) (next_request (of c log)) log wants in
     is_done config also (Refuse c) log result
-    (free_by (is_shut c log) (is_idle (of c log)) (nat_lt (free (of c log)) longest_reply) (is_none (refusable (of c log))) open_so can.0 can.1) refl
+    (free_by (is_shut c log) (is_idle (of c log)) (nat_lt (free (of c log)) longest_reply) (is_none (refusable (of c log)))
+    open_so can.0 can.1) refl
     (λ polled. refuse_modest c (next_call (of c log)) (refusable (of c log))) h

@@ -6,3 +6,5 @@ pub mod EachEvent
 pub mod Known
 pub mod Steps
 pub mod Due
+pub mod EachAct
+pub mod BusyWaits

@@ -10,11 +10,12 @@ mod EveryLog
 mod Isolation
 mod Cuts
 pub mod NoneLate
-pub mod NothingLost
 pub mod EachAnswered
+pub mod RepliesMatch
+pub mod TurnAnswered
 pub mod OnlyCalls
 pub mod ShutIsClear
-pub mod NothingRefused
+pub mod NothingLost
 pub mod OnlyRequests
 pub mod CanBeRefused
 pub mod TicksTaken

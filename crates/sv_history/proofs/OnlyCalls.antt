@@ -50,7 +50,8 @@ replies_calls xid None = tt
 abbrev Behind : (ℕ → List ConnAct) → List Act → Type 0
 Behind base log = (c : ℕ) → (calls : List ConnAct) × AreCalls calls × (of c log ≡ calls ++ base c)
 
-more_calls : (base acts : List ConnAct) (adds : List ConnAct) → AreCalls adds → (calls : List ConnAct) × AreCalls calls × (acts ≡ calls ++ base)
+more_calls : (base acts : List ConnAct) (adds : List ConnAct) → AreCalls adds
+    → (calls : List ConnAct) × AreCalls calls × (acts ≡ calls ++ base)
     → (calls : List ConnAct) × AreCalls calls × (adds ++ acts ≡ calls ++ base)
 more_calls base acts adds h (calls, k, is) =
     (adds ++ calls, calls_join adds calls h k, ap (λ (l : List ConnAct). adds ++ l) is ∙ sym (append_assoc adds calls base))
@@ -108,8 +109,8 @@ request_calls config polled c (CoreRequest call) acts = replies_calls call.xid _
 request_calls config polled c (AbortRequest xid lid) acts = tt
 request_calls config polled c (PortRequest xid args) acts = tt
 
-behind_turn : (base : ℕ → List ConnAct) (config : Config) (polled c : ℕ) (found : Option (List ℕ)) (request : Option Request) (log : List Act)
-    → Behind base log → Behind base (turn_acts config polled c found request log ++ log)
+behind_turn : (base : ℕ → List ConnAct) (config : Config) (polled c : ℕ) (found : Option (List ℕ)) (request : Option Request)
+    (log : List Act) → Behind base log → Behind base (turn_acts config polled c found request log ++ log)
 behind_turn base config polled c (Some bytes) (Some request) log all =
     let effect = request_effect config polled c request (device_acts log) in
     subst (Behind base) (sym (turn_parts c bytes effect (aborts request (device_acts log)) log))
@@ -144,7 +145,8 @@ behind_event config (Open c role) polled log = λ d. ([], tt, on_mine c d (Opene
 behind_event config (Bytes c piece) polled log = λ d. ([], tt, on_mine c d (Piece piece) log _ (λ e. rw e refl) (λ e. rw e refl))
 behind_event config (Turn c) polled log =
     behind_turn (λ c. of c log) config polled c (next_call (of c log)) (next_request (of c log)) log (behind_none log)
-behind_event config (Refuse c) polled log = behind_refuse (λ c. of c log) c (next_call (of c log)) (refusable (of c log)) log (behind_none log)
+behind_event config (Refuse c) polled log =
+    behind_refuse (λ c. of c log) c (next_call (of c log)) (refusable (of c log)) log (behind_none log)
 behind_event config (Took (Conn c) count) polled log = λ d.
     ([], tt, on_mine c d (BytesTaken count) log _ (λ e. rw e refl) (λ e. rw e refl))
 behind_event config (Took (Intr c) count) polled log =
@@ -158,7 +160,8 @@ behind_event config (Close (Conn c)) polled log = λ d.
     )
 behind_event config (Close (Intr c)) polled log = behind_shared (λ c. of c log) (Channel (ChannelClosed c) ∷ []) log (behind_none log)
 behind_event config (Dialed c ok) polled log =
-    behind_ended (λ c. of c log) c (λ arguments. leaving c (dialed c ok arguments)) (core_call_in (unanswered (of c log))) log (behind_none log)
+    behind_ended (λ c. of c log) c (λ arguments. leaving c (dialed c ok arguments)) (core_call_in (unanswered (of c log))) log
+    (behind_none log)
 behind_event config (Input channel microvolts) polled log =
     behind_shared (λ c. of c log) (Happened (Scanned (InputTo channel microvolts)) ∷ []) log (behind_none log)
 behind_event config External polled log =

@@ -83,6 +83,7 @@ fold_adds p t cs (handle ∷ handles) =
     by_test : (may : Bool) (call : List ℕ) → (more : List (List ℕ)) × (cond may (cs ++ call ∷ []) cs ≡ cs ++ more)
     by_test true call = (call ∷ [], refl)
     by_test false call = ([], sym (append-nil cs))
+
     one_adds : (p : Option Peer) (handle : List ℕ) → (more : List (List ℕ)) × (called p t cs handle ≡ cs ++ more)
     one_adds (Some what) handle = by_test (may_call t cs) _
     one_adds None handle = ([], sym (append-nil cs))
@@ -218,7 +219,8 @@ plain_request config polled c (PortRequest xid args) acts = tt
 plain_continued : (config : Config) (polled c : ℕ) (arguments : Arguments) (next : Option Wait) (acts : List DeviceAct)
     → ArePlain (continued config polled c arguments next acts).adds
 plain_continued config polled c arguments (Some wait) acts = tt
-plain_continued config polled c arguments None acts = plain_join (own_call config polled c arguments (Waited (Left c) ∷ acts)).adds (Waited (Left c) ∷ [])
+plain_continued config polled c arguments None acts =
+    plain_join (own_call config polled c arguments (Waited (Left c) ∷ acts)).adds (Waited (Left c) ∷ [])
     (plain_own config polled c arguments (Waited (Left c) ∷ acts)) tt
 
 plain_ended : (c : ℕ) (does : Arguments → CallOutcome) (call : Option CoreCall) → ((arguments : Arguments) → ArePlain (does arguments).adds)
@@ -351,25 +353,43 @@ begins config (Open c role) polled log = (device_acts log, ([], tt, refl), (λ t
 begins config (Bytes c piece) polled log = (device_acts log, ([], tt, refl), (λ told x. x), no_tick log)
 begins config (Turn c) polled log =
     (device_acts log, (behind_turn config polled c (next_call (of c log)) (next_request (of c log)) log), (λ told x. x), no_tick log)
-begins config (Refuse c) polled log = (device_acts log, (behind_refuse c (next_call (of c log)) (refusable (of c log)) log), (λ told x. x), no_tick log)
+begins config (Refuse c) polled log =
+    (device_acts log, (behind_refuse c (next_call (of c log)) (refusable (of c log)) log), (λ told x. x), no_tick log)
 begins config (Took (Conn c) count) polled log = (device_acts log, ([], tt, refl), (λ told x. x), no_tick log)
 begins config (Took (Intr c) count) polled log =
     (Channel (ChannelTaken c count) ∷ device_acts log, ([], tt, refl), (λ told x. (told, x, refl)), no_tick log)
 begins config (Close (Conn c)) polled log =
-    let adds = Channel (ChannelClosed c) ∷ (map Linked (closing c (link_acts (device_acts log))) ++ Waited (Left c) ∷ []) in
-    (device_acts log, (subst (Behind (device_acts log)) (sym (append_assoc (map OnDevice adds) (On c PortClosed ∷ []) log))
-    (behind_shared (device_acts log) adds (On c PortClosed ∷ log)
-    (plain_join (map Linked (closing c (link_acts (device_acts log)))) (Waited (Left c) ∷ [])
-    (plain_links (closing c (link_acts (device_acts log)))) tt) ([], tt, refl))), (λ told x. x), no_tick log)
-begins config (Close (Intr c)) polled log =
-    (device_acts log, (behind_shared (device_acts log) (Channel (ChannelClosed c) ∷ []) log tt (behind_none log)), (λ told x. x), no_tick log)
+    let adds = Channel (ChannelClosed c) ∷ (map Linked (closing c (link_acts (device_acts log))) ++ Waited (Left c) ∷ []) in (
+      device_acts log,
+      (subst (Behind (device_acts log)) (sym (append_assoc (map OnDevice adds) (On c PortClosed ∷ []) log))
+          (behind_shared (device_acts log) adds (On c PortClosed ∷ log)
+          (plain_join (map Linked (closing c (link_acts (device_acts log)))) (Waited (Left c) ∷ [])
+          (plain_links (closing c (link_acts (device_acts log)))) tt) ([], tt, refl))),
+      (λ told x. x),
+      no_tick log,
+    )
+begins config (Close (Intr c)) polled log = (
+  device_acts log,
+  (behind_shared (device_acts log) (Channel (ChannelClosed c) ∷ []) log tt (behind_none log)),
+  (λ told x. x),
+  no_tick log,
+)
 begins config (Dialed c true) polled log = begins_dialed c true (core_call_in (unanswered (of c log))) log refl
 begins config (Dialed c false) polled log = begins_dialed c false (core_call_in (unanswered (of c log))) log refl
-begins config (Input channel microvolts) polled log =
-    (device_acts log, (behind_shared (device_acts log) (Happened (Scanned (InputTo channel microvolts)) ∷ []) log tt (behind_none log)), (λ told x. x), no_tick log)
-begins config External polled log = (device_acts log, (behind_shared (device_acts log)
-    (map Happened (external_acts (instrument_acts (device_acts log)))) log
-    (plain_happened (external_acts (instrument_acts (device_acts log)))) (behind_none log)), (λ told x. x), no_tick log)
+begins config (Input channel microvolts) polled log = (
+  device_acts log,
+  (behind_shared (device_acts log) (Happened (Scanned (InputTo channel microvolts)) ∷ []) log tt (behind_none log)),
+  (λ told x. x),
+  no_tick log,
+)
+begins config External polled log = (
+  device_acts log,
+  (behind_shared (device_acts log)
+      (map Happened (external_acts (instrument_acts (device_acts log)))) log
+      (plain_happened (external_acts (instrument_acts (device_acts log)))) (behind_none log)),
+  (λ told x. x),
+  no_tick log,
+)
 begins config Tick polled log =
     let adds = map Happened (tick_acts (instrument_acts (device_acts log))) in (
       Ticked ∷ device_acts log,

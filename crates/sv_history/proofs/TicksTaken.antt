@@ -14,7 +14,7 @@ use Rattle.sv_history.specs.Act.{Act, device_acts, instrument_acts, ticks}
 use Rattle.sv_history.specs.History.{refusal, last_clock, history_after, IsLogOf, AnswersBy}
 use Rattle.sv_history.specs.Brought.{is_tick, TicksTaken}
 use Rattle.sv_history.proofs.OnlyRequests.{ticks_event}
-use Rattle.sv_history.proofs.NothingRefused.{is_done, some_none, happened_wants}
+use Rattle.sv_history.proofs.NothingLost.{is_done, some_none, happened_wants}
 
 counted : (b : Bool) (event : PlainEvent) (events : List PlainEvent)
     → length (cond b (event ∷ events) events) ≡ length events + bit 0 b

@@ -72,9 +72,9 @@ OnlyAdds c before after = is_channel_open c after ≡ true → (is_channel_open 
 
 -- An event tells to each interrupt channel its own act, and behind it a channel is closed, or calls are added to it.
 abbrev pub OnlyRequests : Type 0
-OnlyRequests = (config : Config) (event : PlainEvent) (history : List PlainEvent) (before log : List Act) (told later : List ChannelAct) (c : ℕ)
-    → IsLogOf config history before → HearsOf (device_acts before) told → IsLogOf config (event ∷ history) log
-    → HearsOf (device_acts log) later → OnlyAdds c (tells event before ++ told) later
+OnlyRequests = (config : Config) (event : PlainEvent) (history : List PlainEvent) (before log : List Act)
+    (told later : List ChannelAct) (c : ℕ) → IsLogOf config history before → HearsOf (device_acts before) told
+    → IsLogOf config (event ∷ history) log → HearsOf (device_acts log) later → OnlyAdds c (tells event before ++ told) later
 
 -- An event that suits what the server answers when it is asked.
 abbrev pub Suits : PlainEvent → List ChannelAct → List Act → Type 0
@@ -87,16 +87,16 @@ Suits (Input channel microvolts) told log = input_refusal channel microvolts ≡
 Suits External told log = ⊤
 Suits _ told log = ⊥
 
--- It is never refused.
-abbrev pub NothingRefused : Type 0
-NothingRefused = (config : Config) (history : List PlainEvent) (event : PlainEvent) (told : List ChannelAct) (log : List Act)
+-- It is never refused: who brings as many bytes as there is room for, and takes as many as wait, loses none.
+abbrev pub NothingLost : Type 0
+NothingLost = (config : Config) (history : List PlainEvent) (event : PlainEvent) (told : List ChannelAct) (log : List Act)
     (result : Result Did Refused) → IsLogOf config history log → HearsOf (device_acts log) told → Suits event told log
     → Answers config event log result → result ≡ Ok Done
 
 -- A call that finds no memory can be refused.
 abbrev pub CanBeRefused : Type 0
-CanBeRefused = (config : Config) (history : List PlainEvent) (c : ℕ) (log : List Act) (result : Result Did Refused) → IsLogOf config history log
-    → Answers config (Turn c) log (Err NoMemory) → Answers config (Refuse c) log result → result ≡ Ok Done
+CanBeRefused = (config : Config) (history : List PlainEvent) (c : ℕ) (log : List Act) (result : Result Did Refused)
+    → IsLogOf config history log → Answers config (Turn c) log (Err NoMemory) → Answers config (Refuse c) log result → result ≡ Ok Done
 
 abbrev pub is_tick : PlainEvent → Bool
 is_tick Tick = true

@@ -1,31 +1,24 @@
 -- Laws of the whole, over the definitions alone.
-use Rattle.std.specs.Prelude.{◌≡◌, ℕ, ◌+◌, ◌<◌, ◌≤◌, Bool, true, false, List, [], ◌∷◌, length, Result, Ok}
-use Rattle.sv_links.specs.Waiting.{IsExpired}
+use Rattle.std.specs.Prelude.{◌≡◌, ◌⊎◌, ℕ, ◌+◌, ◌≤◌, Bool, true, false, List, [], ◌∷◌, ◌++◌, length, take, drop, Some, Err}
+use Rattle.sv_rpc.specs.declared.call.CallFault.TheVariants.{BadHeader}
+use Rattle.sv_rpc.specs.Call.{call_at}
+use Rattle.sv_links.specs.declared.waiting.Wait.{Wait}
+use Rattle.sv_links.specs.Waiting.{waits, IsExpired}
 use Rattle.sv_history.specs.declared.event.Config.{Config}
-use Rattle.sv_history.specs.Event.{PlainEvent, Bytes, Took}
-use Rattle.sv_history.specs.declared.event.Port.TheVariants.{Conn}
-use Rattle.sv_history.specs.declared.event.Did.{Did}
-use Rattle.sv_history.specs.declared.event.Did.TheVariants.{Done}
-use Rattle.sv_history.specs.declared.event.Refused.{Refused}
-use Rattle.sv_history.specs.Act.{Act, ConnAct, Opened, CallTaken, PortClosed, of, device_acts, wait_acts, ticks}
-use Rattle.sv_history.specs.Connection.{room, waiting, completed, is_busy}
+use Rattle.sv_history.specs.Event.{PlainEvent, Turn}
+use Rattle.sv_history.specs.Act.{Act, ConnAct, Opened, CallTaken, Faulted, Replied, PortClosed, of, device_acts, wait_acts, ticks}
+use Rattle.sv_history.specs.Connection.{unanswered, completed, is_busy, next_call}
 use Rattle.sv_history.specs.Settling.{CanResume}
-use Rattle.sv_history.specs.History.{IsLogOf, Answers}
+use Rattle.sv_history.specs.History.{IsLogOf}
 
 -- A history has at most one log.
 abbrev pub OneLog : Type 0
 OneLog = (config : Config) (history : List PlainEvent) (a b : List Act) → IsLogOf config history a → IsLogOf config history b → a ≡ b
 
--- Between two events no call waits past its deadline, and none waits for what is there.
+-- Between two events no call waits past its deadline, and none waits for what is there (VXI-11 revision 1.0, section B.4.4).
 abbrev pub NoneLate : Type 0
 NoneLate = (config : Config) (history : List PlainEvent) (log : List Act) (c : ℕ) → IsLogOf config history log
     → (IsExpired (config.clock + ticks (device_acts log)) (wait_acts (device_acts log)) c → ⊥) × (CanResume (device_acts log) c → ⊥)
-
--- Bytes for which a connection has room are taken, and so is a Took of bytes that wait there: whoever brings no more loses none.
-abbrev pub NothingLost : Type 0
-NothingLost = (config : Config) (log : List Act) (c n : ℕ) (piece : List ℕ) (result : Result Did Refused) → c < 16
-    → (0 < room (of c log) → length piece ≤ room (of c log) → Answers config (Bytes c piece) log result → result ≡ Ok Done)
-    × (0 < length (waiting (of c log)) → n ≤ length (waiting (of c log)) → Answers config (Took (Conn c) n) log result → result ≡ Ok Done)
 
 -- how many calls were taken on a connection since it opened
 abbrev pub taken : List ConnAct → ℕ
@@ -46,3 +39,23 @@ IsPaid acts = taken acts ≡ completed acts + one_if (is_busy acts)
 -- Each call that is taken is answered once, or waits for its answer.
 abbrev pub EachAnswered : Type 0
 EachAnswered = (config : Config) (history : List PlainEvent) (log : List Act) (c : ℕ) → IsLogOf config history log → IsPaid (of c log)
+
+-- A reply has a call's xid: behind its record mark it begins with the four bytes with which the call begins (RFC 5531, sections 9 and 11).
+abbrev pub HasXidOf : List ℕ → List ℕ → Type 0
+HasXidOf call reply = (4 ≤ length call) × (take 4 (drop 4 reply) ≡ take 4 call)
+
+-- Each reply answers the call that had no answer until then, and has its xid.
+abbrev pub RepliesMatch : Type 0
+RepliesMatch = (config : Config) (history : List PlainEvent) (log : List Act) (c : ℕ) (newer older : List ConnAct) (reply : List ℕ)
+    → IsLogOf config history log → of c log ≡ newer ++ Replied reply ∷ older
+    → (call : List ℕ) × (unanswered older ≡ Some call) × HasXidOf call reply
+
+-- A call that a Turn takes is answered; or it is no call, which faults its connection; or it waits, for what isn't there (VXI-11 revision
+-- 1.0, section B.4.4).
+abbrev pub TurnAnswered : Type 0
+TurnAnswered = (config : Config) (history : List PlainEvent) (before log : List Act) (c : ℕ) (call : List ℕ) → IsLogOf config history before
+    → IsLogOf config (Turn c ∷ history) log → next_call (of c before) ≡ Some call
+    → ((reply : List ℕ) × (of c log ≡ Replied reply ∷ CallTaken call ∷ of c before))
+    ⊎ ((of c log ≡ Faulted ∷ CallTaken call ∷ of c before) × (call_at call ≡ Err BadHeader))
+    ⊎ ((of c log ≡ CallTaken call ∷ of c before) × (wait : Wait) × (waits c (wait_acts (device_acts log)) ≡ Some wait)
+    × (CanResume (device_acts log) c → ⊥))

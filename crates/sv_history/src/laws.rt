@@ -1,7 +1,7 @@
 //! Laws of the whole, over the definitions alone, each on a function that does nothing.
 
-ghost use Rattle.sv_history.specs.Laws.{OneLog, NoneLate, NothingLost, EachAnswered};
-ghost use Rattle.sv_history.specs.Brought.{OnlyCalls, OnlyRequests, ShutIsClear, NothingRefused, CanBeRefused, TicksTaken};
+ghost use Rattle.sv_history.specs.Laws.{OneLog, NoneLate, EachAnswered, RepliesMatch, TurnAnswered};
+ghost use Rattle.sv_history.specs.Brought.{OnlyCalls, OnlyRequests, ShutIsClear, NothingLost, CanBeRefused, TicksTaken};
 ghost use Rattle.sv_history.specs.Isolation.{Isolation};
 ghost use Rattle.sv_history.specs.Cuts.{RecordsCut, WritesCut};
 ghost use Rattle.sv_history.specs.Still.{TimeOnlyCounts};
@@ -46,11 +46,6 @@ pub fn shut_is_clear()
     ensures { ShutIsClear }
 {}
 
-/// An event that suits what the server answers when it is asked is never refused.
-pub fn nothing_refused()
-    ensures { NothingRefused }
-{}
-
 /// A call that finds no memory can be refused.
 pub fn can_be_refused()
     ensures { CanBeRefused }
@@ -66,7 +61,8 @@ pub fn none_late()
     ensures { NoneLate }
 {}
 
-/// Bytes for which a connection has room are taken, and so is a Took of bytes that wait there.
+/// An event that suits what the server answers when it is asked is never refused: who brings as
+/// many bytes as there is room for, and takes as many as wait, loses none.
 pub fn nothing_lost()
     ensures { NothingLost }
 {}
@@ -74,4 +70,16 @@ pub fn nothing_lost()
 /// Each call that is taken on a connection is answered once, or waits for its answer.
 pub fn each_answered()
     ensures { EachAnswered }
+{}
+
+/// Each reply answers the call that had no answer until then, and has its xid (RFC 5531,
+/// section 9).
+pub fn replies_match()
+    ensures { RepliesMatch }
+{}
+
+/// A call that a turn takes is answered, or is no call, or waits for what isn't there (VXI-11
+/// revision 1.0, section B.4.4).
+pub fn turn_answered()
+    ensures { TurnAnswered }
 {}

@@ -24,7 +24,7 @@ use Rattle.sv_history.specs.declared.event.Port.TheVariants.{Conn, Intr}
 use Rattle.sv_history.specs.declared.event.Refused.TheVariants.{NoConn, ConnInUse}
 use Rattle.sv_history.specs.declared.event.Role.{Role}
 use Rattle.sv_history.specs.declared.event.Role.TheVariants.{Core}
-use Rattle.sv_history.specs.Event.{PlainEvent, Open, Bytes, Turn, Refuse, Took, Close, Dialed, Input, External, Tick}
+use Rattle.sv_history.specs.Event.{PlainEvent, Open, Bytes, Turn, Refuse, Took, Close, Dialed, Input, External, Tick, IsEvent}
 use Rattle.sv_history.specs.Act.{Act, ConnAct, DeviceAct, Opened, Piece, CallTaken, Replied, BytesTaken, PortClosed, Linked, Waited, Channel, Happened, Ticked, On, OnDevice, of, device_acts, link_acts, wait_acts, instrument_acts}
 use Rattle.sv_history.specs.Connection.{open_role, unanswered, next_call}
 use Rattle.sv_history.specs.CoreCall.{CoreCall, lid_of}
@@ -52,14 +52,14 @@ each_settled config IsSo step (suc n) log new so (middle, next, more) =
     each_settled config IsSo step n middle new (step log middle so next) more
 
 pub each_log : (config : Config) (IsSo : List Act → Type 0) → IsSo []
-    → ((event : PlainEvent) (polled : ℕ) (told : List ChannelAct) (log : List Act) → refusal config told event log ≡ None → IsSo log
-    → IsSo (own_acts config polled event log ++ log))
+    → ((event : PlainEvent) (polled : ℕ) (told : List ChannelAct) (log : List Act) → IsEvent event → refusal config told event log ≡ None
+    → IsSo log → IsSo (own_acts config polled event log ++ log))
     → ((log new : List Act) → IsSo log → IsNext config log new → IsSo new)
     → (history : List PlainEvent) (log : List Act) → IsLogOf config history log → IsSo log
 each_log config IsSo empty acts step [] log (given, none) = subst IsSo (sym none) empty
 each_log config IsSo empty acts step (event ∷ history) log (before, polled, told, is_event, was, hears, free, said, settles) =
     each_settled config IsSo step settles.0 (own_acts config polled event before ++ before) log
-    (acts event polled told before free (each_log config IsSo empty acts step history before was)) settles.1
+    (acts event polled told before is_event free (each_log config IsSo empty acts step history before was)) settles.1
 
 -- ---- a call that is done, or waits no more
 
@@ -247,7 +247,7 @@ fit_admitted config polled c bytes call (Some (Awaits wait until)) log fit lt no
       ),
     ))
 
-fit_request : (config : Config) (polled c : ℕ) (bytes : List ℕ) (request : Request) (log : List Act) → Fit log → c < 16
+pub fit_request : (config : Config) (polled c : ℕ) (bytes : List ℕ) (request : Request) (log : List Act) → Fit log → c < 16
     → next_call (of c log) ≡ Some bytes → next_request (of c log) ≡ Some request
     → Fit (acts_of c (request_effect config polled c request (device_acts log)) ++ On c (CallTaken bytes) ∷ log)
 fit_request config polled c bytes request log fit lt next asks =
@@ -404,7 +404,7 @@ fit_event config Tick polled told log free fit =
     (fit_happened (tick_acts (instrument_acts (device_acts log))) (OnDevice Ticked ∷ log)
     (fit_shared (Ticked ∷ []) log fit (tt, fit.suits) refl refl))
 
-fit_none : Fit []
+pub fit_none : Fit []
 fit_none = record {
   suits = tt;
   core = λ n c is. absurd (let z : None ≡ Some c = is in cc);
@@ -413,4 +413,5 @@ fit_none = record {
 
 -- in every log of a history
 pub fit_log : (config : Config) (history : List PlainEvent) (log : List Act) → IsLogOf config history log → Fit log
-fit_log config = each_log config Fit fit_none (fit_event config) (fit_step config)
+fit_log config =
+    each_log config Fit fit_none (λ event polled told log is free. fit_event config event polled told log free) (fit_step config)
