@@ -87,8 +87,8 @@ abbrev pub joined : List (List ℕ) → List ℕ
 joined [] = []
 joined (piece ∷ pieces) = joined pieces ++ piece
 
--- Two histories differ only in how bytes that come next to one another on a connection are cut into pieces, and their records into fragments:
--- of the stream up to there the same is read, whole records and an unfinished one.
+-- Two histories differ only in how bytes that come next to one another on a connection are cut into pieces, and their records into
+-- fragments: of the stream up to there the same is read, whole records and an unfinished one.
 pub data Recut (config : Config) : List PlainEvent → List PlainEvent → Type 0 where
   Nothing : Recut config [] []
   Same : {past other : List PlainEvent} (event : PlainEvent) → Recut config past other → Recut config (event ∷ past) (event ∷ other)

@@ -7,8 +7,8 @@
 //! line begins with `! `:
 //!
 //! - none: a script; printed is what its replay prints, and its fault where it has one;
-//! - `! line by line`: a script, of which each read gives a line; printed are the lines, each behind
-//!   `> `, and what the output took, in the order in which they were given and taken;
+//! - `! line by line`: a script, of which each read gives a line; printed are the lines, each
+//!   behind `> `, and what the output took, in the order in which they were given and taken;
 //! - `! singly`: the same as a script, where bytes come and go singly, each behind an interruption;
 //! - `! reads`: as singly, where the first, second, .. read fails; printed is for each how often
 //!   the input was read, what the output took, and the fault; behind that the same without one;

@@ -118,8 +118,8 @@ taken_join (first ∷ a) b h k = (h.0, taken_join a b h.1 k)
 stream_more : (stream more : List ℕ) (records : List (List ℕ)) (tail : Tail) → Splits stream records tail → IsBytes stream → IsBytes more
     → Splits (stream ++ more) (records ++ (behind tail more).0) (behind tail more).1
 stream_more stream more records tail s fits come =
-    let t = tail_more s.rest more tail s.behind (bytes_back (flat_map bytes_of s.sent) s.rest (subst (λ (l : List ℕ). IsBytes l) s.whole fits))
-    come in
+    let rest = bytes_back (flat_map bytes_of s.sent) s.rest (subst (λ (l : List ℕ). IsBytes l) s.whole fits) in
+    let t = tail_more s.rest more tail s.behind rest come in
     record {
       sent = s.sent ++ t.sent;
       rest = t.rest;
@@ -141,5 +141,6 @@ read_on_alike stream other more one two come same =
     let added : Reading → Reading = λ r. (r.0 ++ (behind r.1 more).0, (behind r.1 more).1) in
     let from : (l : List ℕ) → IsBytes l → reading (l ++ more) ≡ added (reading l) = λ l fits.
     let found = read_alone (l ++ more) _ _ (stream_more l more (records_of l) (tail_of l) (every_stream l fits) fits come) in
-    ap (λ (r : List (List ℕ)). pair r (tail_of (l ++ more))) (sym found.0) ∙ ap (λ (t : Tail). pair (added (reading l)).0 t) (sym found.1) in
+    ap (λ (r : List (List ℕ)). pair r (tail_of (l ++ more))) (sym found.0)
+    ∙ ap (λ (t : Tail). pair (added (reading l)).0 t) (sym found.1) in
     from stream one ∙ ap added same ∙ sym (from other two)
