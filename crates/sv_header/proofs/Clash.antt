@@ -1,13 +1,13 @@
 -- No two rows of the table fit the same mnemonics.
 use Rattle.std.proofs.Common.{◌≡◌, ℕ, zero, suc, ◌<◌, ◌&&◌, ◌||◌, ◌==◌, not, Bool, true, false, List, [], ◌∷◌, length, map, refl, sym, ap, ◌∙◌, subst, inl, inr, slice_index_or, arith, eq-eqb}
-use Rattle.std.specs.List.{list_all, Contains}
+use Rattle.std.specs.List.{list_all}
 use Rattle.std.specs.Char.{to_ascii_lowercase}
 use Rattle.std.proofs.lemmas.Bool.{and_parts, or_left, or_right, cases_lt}
 use Rattle.std.proofs.lemmas.List.{get_or_default}
 use Rattle.sv_header.specs.Pattern.{Part, Row, Same, IsForm, Fits, is_common, has_sign}
 use Rattle.sv_header.specs.Table.{table}
 use Rattle.sv_header.specs.Resolve.{FitsRow}
-use Rattle.sv_header.specs.Laws.{OnePattern}
+use Rattle.sv_header.specs.Laws.{OneCommand, OnePattern}
 use Rattle.sv_header.proofs.Fitting.{passes}
 
 -- a second test is asked where the first holds
@@ -144,9 +144,8 @@ apart-places (row ∷ rows) (suc j) (suc k) r s a lt in_bounds e f =
     apart-places rows j k r s (and_parts _ _ a).1 (omega arith) (omega arith) e f
 
 -- two rows that a header fits are one
-one-row : (path : List (List ℕ)) (header : List ℕ) (r s : Row) → Contains table r → Contains table s → FitsRow path header r
-    → FitsRow path header s → r ≡ s
-one-row path header r s a b f g =
+pub one-pattern : OnePattern
+one-pattern path header r s a b f g =
     elim (cases_lt a.0 b.0) [
       | inl lt ↦ absurd (apart-places table a.0 b.0 r s table-apart lt b.1 a.2 b.2 (rows-clash path header r s f g))
       | inr ge ↦
@@ -159,5 +158,6 @@ one-row path header r s a b f g =
     ]
 
 -- so a header names at most one command
-pub one-pattern : OnePattern
-one-pattern path header first second a b = sym a.2 ∙ ap (λ row. row.command) (one-row path header a.0 b.0 a.1 b.1 a.3 b.3) ∙ b.2
+pub one-command : OneCommand
+one-command path header first second a b =
+    sym a.2 ∙ ap (λ row. row.command) (one-pattern path header a.0 b.0 a.1 b.1 a.3 b.3) ∙ b.2

@@ -1,8 +1,10 @@
 //! What is so of the table.
 
-ghost use Rattle.sv_header.specs.Laws.{OnePattern};
+ghost use Rattle.sv_header.specs.Laws.{OneCommand, OnePattern};
 
-/// A header behind a path names at most one command.
+/// A header behind a path names at most one command, and fits at most one pattern (SCPI-1999,
+/// volume 1, chapter 6).
 pub fn one_pattern()
-    ensures { OnePattern }
+    ensures command { OneCommand }
+    ensures pattern { OnePattern }
 {}

@@ -1,10 +1,9 @@
 -- Cuts: where writes, the bytes that come, and the records in them are cut changes nothing that is sent on any port (VXI-11 revision 1.0,
 -- section B.6, device_write; RFC 5531, section 11: record marking).
-use Rattle.std.specs.Prelude.{◌≡◌, ◌≢◌, ◌↔◌, not, ℕ, pos, Bool, true, false, List, [], ◌∷◌, ◌++◌, length, drop, filter, flat_map, map, Some}
+use Rattle.std.specs.Prelude.{◌≡◌, ◌≢◌, ◌↔◌, not, ℕ, pos, Bool, true, false, List, [], ◌∷◌, ◌++◌, length, drop, filter, map, Some}
 use Rattle.std.specs.Int.{bit_at}
 use Rattle.std.specs.List.{AllByRecursion}
-use Rattle.sv_rpc.specs.Record.{Sent, bytes_of, record_of, IsTaken, Header}
-use Rattle.sv_rpc.specs.Stream.{records_of, tail_of}
+use Rattle.sv_rpc.specs.Stream.{reading, records_of, tail_of}
 use Rattle.sv_vxi.specs.declared.error_code.ErrorCode.TheVariants.{NoError}
 use Rattle.sv_vxi.specs.Arguments.{DeviceWrite}
 use Rattle.sv_vxi.specs.Results.{Size}
@@ -88,18 +87,14 @@ abbrev pub joined : List (List ℕ) → List ℕ
 joined [] = []
 joined (piece ∷ pieces) = joined pieces ++ piece
 
--- Two histories differ only in how bytes that come next to one another on a connection are cut into pieces, or in the fragments of records
--- that one piece brings whole: behind its first bytes no record is unfinished.
+-- Two histories differ only in how bytes that come next to one another on a connection are cut into pieces, and their records into
+-- fragments: of the stream up to there the same is read, whole records and an unfinished one.
 pub data Recut (config : Config) : List PlainEvent → List PlainEvent → Type 0 where
   Nothing : Recut config [] []
   Same : {past other : List PlainEvent} (event : PlainEvent) → Recut config past other → Recut config (event ∷ past) (event ∷ other)
-  Pieces : {past other : List PlainEvent} (c : ℕ) (pieces others : List (List ℕ)) → joined pieces ≡ joined others
-      → Recut config past other → Recut config (map (Bytes c) pieces ++ past) (map (Bytes c) others ++ other)
-  Fragments : {past other : List PlainEvent} (c : ℕ) (log : List Act) (first last : List ℕ) (records others : List Sent)
-      → IsLogOf config past log → tail_of (stream (of c log) ++ first) ≡ Header [] [] → map record_of records ≡ map record_of others
-      → AllByRecursion IsTaken records → Recut config past other
-      → Recut config (Bytes c (first ++ (flat_map bytes_of records ++ last)) ∷ past)
-      (Bytes c (first ++ (flat_map bytes_of others ++ last)) ∷ other)
+  Pieces : {past other : List PlainEvent} (c : ℕ) (pieces others : List (List ℕ)) (log : List Act) → IsLogOf config past log
+      → reading (stream (of c log) ++ joined pieces) ≡ reading (stream (of c log) ++ joined others) → Recut config past other
+      → Recut config (map (Bytes c) pieces ++ past) (map (Bytes c) others ++ other)
 
 -- Then both send the same bytes on each port.
 abbrev pub RecordsCut : Type 0

@@ -1,5 +1,5 @@
 -- What a reader was heard to give, and what a run answers.
-use Rattle.std.proofs.Common.{◌≡◌, ◌⊎◌, ℕ, Bool, true, false, List, [], ◌∷◌, length, Result, Ok, Err, Option, refl, subst, sym, ap, ◌∙◌, inl, inr, arith, IsErr, IsErrAnd}
+use Rattle.std.proofs.Common.{◌≡◌, ◌⊎◌, ℕ, Bool, List, Result, Ok, Err, subst, sym, inl, inr, IsErr, IsErrAnd}
 use Rattle.std.specs.Prelude.{⊤}
 use Rattle.sv_replay.specs.declared.fault.RunFault.{RunFault}
 use Rattle.sv_replay.specs.declared.fault.RunFault.TheVariants.{BadLine, Input, Output, Memory}
@@ -8,7 +8,7 @@ use Rattle.sv_server.specs.declared.replay.ReplayFault.{ReplayFault}
 use Rattle.sv_server.specs.declared.replay.ReplayFault.TheVariants.{NoMemory, Write}
 use Rattle.sv_replay.specs.Run.{run_fault}
 use Rattle.sv_replay.specs.Stage.{WhileGoing}
-use Rattle.sv_replay.specs.Reads.{Gave, Reads, HasFailed, IsLast, IsReadOn, OnInput, IsTurned, IsReadOut}
+use Rattle.sv_replay.specs.Reads.{Gave, Made, IsLast, IsReadOn, OnInput, IsReadOut}
 
 -- a fault that is passed on
 pub on_input : {A : Type 0} (result : Result A RunFault) (fault : RunFault) (fact : Type 0) → IsErr result
@@ -37,7 +37,7 @@ not_going (Err e) fact failed = tt
 -- a fault of a read that is passed on
 pub read_failed : {S : Type 0} (gives : S → Gave → S → Type 0) (first last : S) (count : ℕ) (reads : List Gave)
     (result : Result Bool InputFault)
-    → IsErr result → Reads gives first reads last → IsLast reads → IsReadOn gives first last count result
+    → IsErr result → Made gives first reads last → IsLast reads → IsReadOn gives first last count result
 read_failed gives first last count reads (Ok more) failed made is = absurd cc
 read_failed gives first last count reads (Err fault) failed made is = (reads, made, is)
 

@@ -1,5 +1,5 @@
 -- How often a reader was read, and what its reads gave.
-use Rattle.std.specs.Prelude.{◌≡◌, ◌⊎◌, ℕ, ◌≤◌, List, [], ◌∷◌, length, Option, Bool, true, false, Result, Ok, Err, ⊤}
+use Rattle.std.specs.Prelude.{◌≡◌, ◌⊎◌, ℕ, ◌≤◌, List, [], ◌∷◌, length, Option, Bool, Result, Ok, Err, ⊤}
 use Rattle.sv_replay.specs.declared.fault.RunFault.{RunFault}
 use Rattle.sv_replay.specs.declared.fault.RunFault.TheVariants.{BadLine, Input, Output, Memory}
 use Rattle.sv_replay.specs.declared.input.InputFault.{InputFault}
@@ -14,6 +14,14 @@ abbrev pub Reads : {S : Type 0} → (S → Gave → S → Type 0) → S → List
 Reads gives first [] last = last ≡ first
 Reads gives first (gave ∷ reads) last = (between : _) × Reads gives first reads between × gives between gave last
 
+-- how often a reader may be read
+abbrev pub most_reads : ℕ
+most_reads = 4294967294
+
+-- They did, and there are no more of them than there may be.
+abbrev pub Made : {S : Type 0} → (S → Gave → S → Type 0) → S → List Gave → S → Type 0
+Made gives first reads last = Reads gives first reads last × (length reads ≤ most_reads)
+
 -- the newest read failed
 abbrev pub HasFailed : List Gave → Type 0
 HasFailed [] = ⊥
@@ -22,12 +30,12 @@ HasFailed (Err fault ∷ reads) = ⊤
 
 -- No read is to follow: the newest one failed, or there were as many as there may be.
 abbrev pub IsLast : List Gave → Type 0
-IsLast reads = HasFailed reads ⊎ (length reads ≡ 4294967294)
+IsLast reads = HasFailed reads ⊎ (length reads ≡ most_reads)
 
 -- The reader was read so often as is counted, where reading goes on or is at the reader's end; a fault comes where no read is to follow.
 abbrev pub IsReadOn : {S : Type 0} → (S → Gave → S → Type 0) → S → S → ℕ → Result Bool InputFault → Type 0
-IsReadOn gives first last count (Ok more) = (reads : List Gave) × Reads gives first reads last × (length reads ≡ count)
-IsReadOn gives first last count (Err fault) = (reads : List Gave) × Reads gives first reads last × IsLast reads
+IsReadOn gives first last count (Ok more) = (reads : List Gave) × Made gives first reads last × (length reads ≡ count)
+IsReadOn gives first last count (Err fault) = (reads : List Gave) × Made gives first reads last × IsLast reads
 
 -- This holds where the answer is the input's fault.
 abbrev pub OnInput : {A : Type 0} → Result A RunFault → Type 0 → Type 0
@@ -39,9 +47,9 @@ OnInput (Err Memory) fact = ⊤
 
 -- The same of a turn of a run.
 abbrev pub IsTurned : {S : Type 0} → (S → Gave → S → Type 0) → S → S → ℕ → Result Bool RunFault → Type 0
-IsTurned gives first last count result = (reads : List Gave) × Reads gives first reads last × WhileGoing result (length reads ≡ count)
+IsTurned gives first last count result = (reads : List Gave) × Made gives first reads last × WhileGoing result (length reads ≡ count)
     × OnInput result (IsLast reads)
 
--- These reads were made in a run. Where its answer is the input's fault, none was to follow.
+-- These reads were made in a run, no more than there may be. Where its answer is the input's fault, none was to follow.
 abbrev pub IsReadOut : {S : Type 0} → (S → Gave → S → Type 0) → S → S → Result ⊤ RunFault → Type 0
-IsReadOut gives first last result = (reads : List Gave) × Reads gives first reads last × OnInput result (IsLast reads)
+IsReadOut gives first last result = (reads : List Gave) × Made gives first reads last × OnInput result (IsLast reads)

@@ -7,7 +7,7 @@ ghost use Rattle.sv_history.specs.Event.{PlainEvent};
 ghost use Rattle.sv_server.specs.Server.State.{StandsFor};
 ghost use Rattle.sv_replay.specs.Text.{nothing_held, first_end};
 ghost use Rattle.sv_replay.specs.Run.{set_up, Runs};
-ghost use Rattle.sv_replay.specs.Reads.{Gave, Reads, IsTurned, IsReadOut, OnInput};
+ghost use Rattle.sv_replay.specs.Reads.{Gave, Made, IsTurned, IsReadOut, OnInput};
 ghost use Rattle.sv_replay.specs.Stage.{IsStage, LineRuns, Goes, WhileGoing};
 
 use crate::fault::RunFault;
@@ -58,7 +58,8 @@ pub fn run_replay<A: Allocator + Copy, R: Source, W: Write + Drop, B: Allocator>
         (writer_contents W.contents writer.new) text
         × Runs read (R.remaining reader.new) result text }
     ensures end { OnOk result (IsAtEnd (R.remaining reader.new)) }
-    // The input's fault comes where the last read failed, or behind 4,294,967,294 of them.
+    // The reader is read 4,294,967,294 times at most. The input's fault comes where the last read
+    // failed, or behind so many.
     ensures reads { IsReadOut R.gives reader.old reader.new result }
     // Unless the output failed, nothing that was printed is left in the buffer.
     ensures flushed { result ≢ Err RunFault.Output → writer_buffer writer.new ≡ [] }
@@ -180,7 +181,7 @@ impl<A: Allocator> Run<A> {
             → self.new.lines + length self.new.text.text ≤ 131072 * self.new.text.reads) }
         ensures few { WhileGoing result (self.old.text.reads ≤ 4294967294
             → self.new.text.reads ≤ 4294967294) }
-        ensures heard { (first : R) (reads : List Gave) → Reads R.gives first reads reader.old
+        ensures heard { (first : R) (reads : List Gave) → Made R.gives first reads reader.old
             → length reads ≡ self.old.text.reads
             → IsTurned R.gives first reader.new self.new.text.reads result }
     {
@@ -223,7 +224,7 @@ impl<A: Allocator> Run<A> {
             → self.new.lines + length self.new.text.text ≤ 131072 * self.new.text.reads) }
         ensures few { WhileGoing result (self.old.text.reads ≤ 4294967294
             → self.new.text.reads ≤ 4294967294) }
-        ensures heard { (first : R) (reads : List Gave) → Reads R.gives first reads reader.old
+        ensures heard { (first : R) (reads : List Gave) → Made R.gives first reads reader.old
             → length reads ≡ self.old.text.reads
             → IsTurned R.gives first reader.new self.new.text.reads result }
     {

@@ -1,7 +1,7 @@
 //! The text of a replay, read in pieces.
 
 ghost use Rattle.std.specs.Prelude.{◌≡◌, ◌+◌, ◌-◌, ◌<◌, ◌≤◌, length, take, drop, slice_range, IfOk, OnOk, OnErr, IsErr, List};
-ghost use Rattle.sv_replay.specs.Reads.{Gave, Reads, IsReadOn};
+ghost use Rattle.sv_replay.specs.Reads.{Gave, Made, IsReadOn};
 ghost use Rattle.sv_replay.specs.Text.{Filled, IsBehind, first_end, nothing_held};
 
 use crate::input::{InputFault, Source};
@@ -115,7 +115,7 @@ impl<A: Allocator> Text<A> {
             (R.remaining reader.new) self.old.text self.new.text result }
         ensures counted { OnOk result (self.new.reads ≡ self.old.reads + 1) }
         ensures heard { (first : R) (reads : List Gave)
-            → Reads R.gives first reads reader.old → length reads ≡ self.old.reads
+            → Made R.gives first reads reader.old → length reads ≡ self.old.reads
             → IsReadOn R.gives first reader.new self.new.reads result }
         ensures limit { 4294967294 ≤ self.old.reads → IsErr result }
         ensures within { length self.new.text ≤ 131072 }

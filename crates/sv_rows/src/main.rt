@@ -7,7 +7,9 @@
 //! line begins with `! `:
 //!
 //! - none: a script; printed is what its replay prints, and its fault where it has one;
-//! - `! singly`: the same, where bytes come and go singly, each behind an interruption;
+//! - `! line by line`: a script, of which each read gives a line; printed are the lines, each
+//!   behind `> `, and what the output took, in the order in which they were given and taken;
+//! - `! singly`: the same as a script, where bytes come and go singly, each behind an interruption;
 //! - `! reads`: as singly, where the first, second, .. read fails; printed is for each how often
 //!   the input was read, what the output took, and the fault; behind that the same without one;
 //! - `! input fails`: a script, behind which the input fails; printed is what the output took, and
@@ -32,6 +34,7 @@
 
 mod events;
 mod growth;
+mod line_by_line;
 mod replays;
 mod scenarios;
 mod streams;
@@ -87,6 +90,7 @@ fn play<W: Write + Drop>(
         "closed" => replays::play_closed(alloc, text, writer),
         "events" => events::play(alloc, text, writer),
         "reads" => replays::play_reads(alloc, text, writer),
+        "line by line" => line_by_line::play(alloc, text, writer),
         "growth" => growth::play(alloc, false, text, writer),
         "growth, refused" => growth::play(alloc, true, text, writer),
         "scenario" => scenarios::show(alloc, text, writer),

@@ -12,7 +12,7 @@ use Rattle.sv_rpc.specs.Laws.{ReadAsSplit}
 use Rattle.sv_rpc.proofs.Steps.{header_read}
 
 -- behind these fragments, which aren't the last of their record, the bytes are read, and the whole splits so
-abbrev SplitsSo : List (List ℕ) → List ℕ → Reading → Type 0
+abbrev pub SplitsSo : List (List ℕ) → List ℕ → Reading → Type 0
 SplitsSo front bytes reading = Splits (flat_map (fragment false) front ++ bytes) reading.0 reading.1
 
 -- nothing but a tail
@@ -87,7 +87,7 @@ header_in_front (a ∷ b ∷ c ∷ d ∷ rest) four fits =
 header_in_front _ four fits = absurd (omega arith)
 
 -- what is read behind a header splits
-data_splits : (n : ℕ) (front : List (List ℕ)) (last : Bool) (size : ℕ) (rest : List ℕ)
+pub data_splits : (n : ℕ) (front : List (List ℕ)) (last : Bool) (size : ℕ) (rest : List ℕ)
     → ((others : List (List ℕ)) (bytes : List ℕ) → length bytes < n → IsBytes bytes → length (concat others) ≤ max_record
     → SplitsSo others bytes (read n (concat others) bytes))
     → length rest < n → IsBytes rest → length (concat front) ≤ max_record → size < 2 ^ 31
@@ -143,7 +143,7 @@ data_splits n front last size rest again short fits kept small = elim (cases_lt 
         (subst (λ (p : List ℕ). SplitsSo (front ++ take size rest ∷ []) (drop size rest) (read n p (drop size rest))) joined next))
 
 -- behind fragments that aren't the last of their record the bytes split as they are read
-read_splits : (n : ℕ) (front : List (List ℕ)) (bytes : List ℕ) → length bytes < n → IsBytes bytes
+pub read_splits : (n : ℕ) (front : List (List ℕ)) (bytes : List ℕ) → length bytes < n → IsBytes bytes
     → length (concat front) ≤ max_record
     → SplitsSo front bytes (read n (concat front) bytes)
 unfolding read

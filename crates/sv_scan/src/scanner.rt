@@ -1,6 +1,6 @@
 //! The scanner.
 
-ghost use Rattle.std.specs.Prelude.{◌≡◌, ◌≢◌, ◌≤◌, true, false, [], ◌∷◌, List, length, IfOk, OnOk, OnErr, MatchResult};
+ghost use Rattle.std.specs.Prelude.{◌≡◌, ◌≢◌, ◌≤◌, true, false, [], ◌∷◌, List, length, IfOk, OnOk, OnErr, MatchResult, if◌then◌else◌};
 ghost use Rattle.std.specs.List.{list_all};
 ghost use Rattle.sv_errors.specs.declared.code.Code.TheVariants.{DataCorruptOrStale};
 ghost use Rattle.sv_scan.specs.declared.setting.State.TheVariants.{Waiting, Scanning};
@@ -82,8 +82,8 @@ impl<A: Allocator> Scanner<A> {
     pub fn input(&mut self, channel: u8, microvolts: i64)
         ensures stands { (acts : List ScanAct) → StandsFor self.old acts
             → StandsFor self.new (ScanAct.Input channel microvolts ∷ acts) }
-        ensures untouched { is_there channel ≡ true → channel ≢ self.old.monitor
-            → self.new.touched ≡ nothing }
+        ensures untouched { channel ≢ self.old.monitor → self.new.touched
+            ≡ (if is_there channel then nothing else self.old.touched) }
     {
         if is_channel(u64::from(channel)) {
             self.inputs[usize::from(channel) - 1] = microvolts;

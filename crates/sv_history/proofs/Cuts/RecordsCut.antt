@@ -1,8 +1,8 @@
 -- Two histories that differ only in how bytes that come, or the records in them, are cut.
-use Rattle.std.proofs.Common.{◌≡◌, ℕ, List, [], ◌∷◌, ◌++◌, map, flat_map, refl, ap, subst, ◌∙◌}
+use Rattle.std.proofs.Common.{◌≡◌, ℕ, List, [], ◌∷◌, ◌++◌, map, refl, ap, subst, ◌∙◌}
 use Rattle.sv_xdr.proofs.Fields.{IsBytes, bytes_are}
-use Rattle.sv_rpc.specs.Record.{bytes_of, Header}
-use Rattle.sv_rpc.specs.Stream.{tail_of}
+use Rattle.sv_rpc.specs.Stream.{reading}
+use Rattle.sv_rpc.proofs.ReadOn.{no_bytes, bytes_join}
 use Rattle.sv_links.specs.Channels.{ChannelAct}
 use Rattle.sv_history.specs.declared.event.Config.{Config}
 use Rattle.sv_history.specs.declared.event.Port.{Port}
@@ -13,12 +13,11 @@ use Rattle.sv_history.specs.Connection.{stream}
 use Rattle.sv_history.specs.Requests.{HearsOf}
 use Rattle.sv_history.specs.History.{IsLogOf}
 use Rattle.sv_history.specs.Adding.{all_sent, Sends}
-use Rattle.sv_history.specs.Cuts.{joined, Recut, Nothing, Same, Pieces, Fragments, RecordsCut}
+use Rattle.sv_history.specs.Cuts.{joined, Recut, Nothing, Same, Pieces, RecordsCut}
 use Rattle.sv_history.proofs.OneLog.{one_log}
 use Rattle.sv_history.proofs.StillSettled.{still_settled}
 use Rattle.sv_history.proofs.EveryLog.Steps.{log_settled, stays}
-use Rattle.sv_history.proofs.Cuts.SameRecords.{SameRecords, no_bytes, bytes_join, bytes_front, bytes_back, same_more}
-use Rattle.sv_history.proofs.Cuts.SameFragments.{same_fragments}
+use Rattle.sv_history.proofs.Cuts.SameRecords.{SameRecords, same_recut}
 use Rattle.sv_history.proofs.Cuts.SameView.{Alike, alike_none, alike_back, alike_moved, came_on, alike_came}
 use Rattle.sv_history.proofs.Cuts.SameEvents.{event_alike}
 
@@ -63,25 +62,16 @@ logs_alike : (config : Config) {history other : List PlainEvent} → Recut confi
 logs_alike config Nothing log also x y = alike_moved [] [] log also x.1 y.1 alike_none
 logs_alike config (Same {past} {other} event recut) log also x y =
     event_alike config event past other log also (logs_alike config recut) x y
-logs_alike config (Pieces {past} {other} c pieces others same recut) log also x y =
+logs_alike config (Pieces {past} {other} c pieces others base is_log same recut) log also x y =
     let one = came_of c config pieces past log x in
     let two = came_of c config others other also y in
     let alike = logs_alike config recut one.base two.base one.was two.was in
+    let reads : reading (stream (of c one.base) ++ joined pieces) ≡ reading (stream (of c one.base) ++ joined others) =
+    subst (λ (l : List Act). reading (stream (of c l) ++ joined pieces) ≡ reading (stream (of c l) ++ joined others))
+    (one_log config past base one.base is_log one.was) same in
     came_alike c config pieces others past other log also one two
-    (subst (λ (l : List ℕ). SameRecords (stream (of c one.base) ++ joined pieces) (stream (of c two.base) ++ l)) same
-    (same_more (stream (of c one.base)) (stream (of c two.base)) (joined pieces) one.fits (alike.each c).streams)) alike
-logs_alike config (Fragments {past} {other} c base first last records others is_log is same taken recut) log also x y =
-    let piece = first ++ (flat_map bytes_of records ++ last) in
-    let one = came_of c config (piece ∷ []) past log x in
-    let two = came_of c config ((first ++ (flat_map bytes_of others ++ last)) ∷ []) other also y in
-    let alike = logs_alike config recut one.base two.base one.was two.was in
-    let front = bytes_front first (flat_map bytes_of records ++ last) one.fits in
-    let back = bytes_back (flat_map bytes_of records) last (bytes_back first (flat_map bytes_of records ++ last) one.fits) in
-    let ends : tail_of (stream (of c one.base) ++ first) ≡ Header [] [] =
-    subst (λ (l : List Act). tail_of (stream (of c l) ++ first) ≡ Header [] []) (one_log config past base one.base is_log one.was) is in
-    came_alike c config (piece ∷ []) ((first ++ (flat_map bytes_of others ++ last)) ∷ []) past other log also one two
-    (same_fragments (stream (of c one.base)) (stream (of c two.base)) first last records others
-    (same_more (stream (of c one.base)) (stream (of c two.base)) first front (alike.each c).streams) ends same taken back) alike
+    (same_recut (stream (of c one.base)) (stream (of c two.base)) (joined pieces) (joined others) one.fits two.fits reads
+    (alike.each c).streams) alike
 
 -- ---- what they send
 

@@ -15,7 +15,8 @@ use Rattle.sv_history.specs.Effect.{Effect, acts_of}
 use Rattle.sv_history.specs.Adding.{all_replies}
 use Rattle.sv_history.specs.Cuts.{joined}
 use Rattle.sv_history.proofs.Projections.{of_shared, device_shared, of_effect, others_effect, device_effect}
-use Rattle.sv_history.proofs.Cuts.SameRecords.{SameRecords, no_bytes, same_stream, same_back, same_moved, same_more, same_reading}
+use Rattle.sv_rpc.proofs.ReadOn.{no_bytes}
+use Rattle.sv_history.proofs.Cuts.SameRecords.{SameRecords, same_stream, same_back, same_moved, same_more, same_reading}
 
 -- ---- the acts of a connection
 

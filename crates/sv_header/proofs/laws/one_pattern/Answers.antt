@@ -1,5 +1,8 @@
-use Rattle.sv_header.proofs.Clash.{one-pattern}
+use Rattle.sv_header.proofs.Clash.{one-command, one-pattern}
 use Rattle.sv_header.proofs.laws.one_pattern.Goals as goal
 
-pub returns : goal.returns
-returns c = one-pattern
+pub returns-clause-command : goal.returns-clause-command
+returns-clause-command c = one-command
+
+pub returns-clause-pattern : goal.returns-clause-pattern
+returns-clause-pattern c = one-pattern

@@ -16,7 +16,7 @@ loop-init g c =
       omega (arith, zero_lines, ap (λ (h : Held). h.reads) none),
       omega (arith, zero_lines, ap (λ (h : Held). length h.text) none),
       omega (arith, ap (λ (h : Held). h.reads) none),
-      ([], refl, sym (ap (λ (h : Held). h.reads) none)),
+      ([], (refl, omega arith), sym (ap (λ (h : Held). h.reads) none)),
     )
 
 pub returns-in_err-turn-clause-runs : goal.returns-in_err-turn-clause-runs
@@ -54,7 +54,7 @@ loop-preserved g c =
 
 pub returns-in_err-run-clause-reads : goal.returns-in_err-run-clause-reads
 returns-in_err-run-clause-reads g c =
-    ([], refl, on_input c.from_residual.result _ _ c.from_residual.ensures.0 c.from_residual.ensures.1 tt)
+    ([], (refl, omega arith), on_input c.from_residual.result _ _ c.from_residual.ensures.0 c.from_residual.ensures.1 tt)
 
 pub returns-in_err-turn-clause-reads : goal.returns-in_err-turn-clause-reads
 returns-in_err-turn-clause-reads g c =

@@ -1,7 +1,7 @@
 use Rattle.std.proofs.Common.{◌≡◌, ℕ, ◌+◌, ◌*◌, ◌≤◌, List, length}
 use Rattle.std.specs.Io.KnownBytes.{Consumes, Appends}
 use Rattle.sv_replay.specs.Stage.{IsStage}
-use Rattle.sv_replay.specs.Reads.{Gave, Reads}
+use Rattle.sv_replay.specs.Reads.{Gave, Made}
 use Rattle.sv_replay.proofs.run.run_lines.Given as goal
 
 -- what was read and printed until now is a stage, and each turn did a line or read
@@ -12,4 +12,4 @@ invariant-loop g l =
     × IsStage l.run.server l.run.text.text l.run.lines read text)
     × (l.run.lines + l.run.text.reads ≡ l.counter) × (l.run.lines + length l.run.text.text ≤ 131072 * l.run.text.reads)
     × (l.run.text.reads ≤ 4294967294)
-    × ((reads : List Gave) × Reads g.R.Source.gives l.fn.reader reads l.reader × (length reads ≡ l.run.text.reads))
+    × ((reads : List Gave) × Made g.R.Source.gives l.fn.reader reads l.reader × (length reads ≡ l.run.text.reads))

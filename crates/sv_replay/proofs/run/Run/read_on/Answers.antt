@@ -1,5 +1,4 @@
 use Rattle.std.proofs.Common.{◌+◌, refl}
-use Rattle.sv_replay.specs.Reads.{Gave}
 use Rattle.sv_replay.proofs.Heard.{on_input, other_fault, not_going}
 use Rattle.sv_replay.proofs.Going.{go_long, go_output, go_input, go_read, go_last_stop, go_last}
 use Rattle.sv_replay.proofs.run.Run.read_on.Goals as goal

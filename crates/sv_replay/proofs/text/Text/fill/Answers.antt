@@ -2,7 +2,6 @@ use Rattle.std.proofs.Common.{◌+◌, ◌-◌, [], ◌∷◌, take, drop, ap, r
 use Rattle.std.proofs.lemmas.List.{places}
 use Rattle.std.proofs.lemmas.Result.{err_from_is_err_and}
 use Rattle.sv_replay.specs.Text.{Held}
-use Rattle.sv_replay.specs.declared.input.InputFault.{InputFault}
 use Rattle.sv_replay.proofs.Heard.{read_failed}
 use Rattle.sv_replay.proofs.Texts.{read_keeps}
 use Rattle.sv_replay.proofs.text.Text.fill.Goals as goal
@@ -99,19 +98,32 @@ returns-then-self-ge-MOST_READS-clause-heard g c = λ first reads made as_many. 
 
 pub returns-in_err-came-clause-heard : goal.returns-in_err-came-clause-heard
 returns-in_err-came-clause-heard g c = λ first reads made as_many.
-    read_failed _ first _ _ (Err c.in_err-came.field-0.0 ∷ reads) c.from_residual.result c.from_residual.ensures.0
-    (_, made, c.in_err-came.ensures.heard) (inl tt)
+    read_failed _ first _ _ (Err c.in_err-came.field-0.0 ∷ reads) c.from_residual.result c.from_residual.ensures.0 (
+      (_, made.0, c.in_err-came.ensures.heard),
+      omega (
+        arith,
+        as_many,
+        ap (λ (held : Held). held.reads) c.self.view_is,
+        c.if-self-ge-MOST_READS.false,
+      ),
+    ) (inl tt)
 
 pub returns-in-Some-clause-heard : goal.returns-in-Some-clause-heard
 returns-in-Some-clause-heard g c = λ first reads made as_many. (
   Ok (Some c.in-Some.count) ∷ reads,
-  (_, made, rw c.in-Some.is at c.in_ok-came.ensures.heard),
+  (
+    (_, made.0, rw c.in-Some.is at c.in_ok-came.ensures.heard),
+    omega (arith, as_many, ap (λ (held : Held). held.reads) c.self.view_is, c.if-self-ge-MOST_READS.false),
+  ),
   omega (arith, as_many, ap (λ (held : Held). held.reads) c.self.view_is),
 )
 
 pub returns-in-None-clause-heard : goal.returns-in-None-clause-heard
 returns-in-None-clause-heard g c = λ first reads made as_many. (
   Ok None ∷ reads,
-  (_, made, rw c.in-None.is at c.in_ok-came.ensures.heard),
+  (
+    (_, made.0, rw c.in-None.is at c.in_ok-came.ensures.heard),
+    omega (arith, as_many, ap (λ (held : Held). held.reads) c.self.view_is, c.if-self-ge-MOST_READS.false),
+  ),
   omega (arith, as_many, ap (λ (held : Held). held.reads) c.self.view_is),
 )

@@ -1,4 +1,4 @@
-use Rattle.std.proofs.Common.{◌≡◌, ◌∙◌, ap, Bool, true, false, sym, w64, to_z, of_z}
+use Rattle.std.proofs.Common.{◌≡◌, ◌∙◌, ap, Bool, true, false, refl, sym, w64, to_z, of_z}
 use Rattle.std.proofs.lemmas.Bool.{ne_eqb}
 use Rattle.std.proofs.lemmas.Int.{to_z-of_z}
 use Rattle.sv_scan.specs.declared.touched.Touched.{Touched}
@@ -17,10 +17,14 @@ returns-then-is_channel-clause-stands g c acts is =
     (Holds-input _ (kept acts) c.args.channel c.args.microvolts c.self.invariant.inputs legal (rw (← c.self.view_is) at is)))
 
 pub returns-then-is_channel-clause-untouched : goal.returns-then-is_channel-clause-untouched
-returns-then-is_channel-clause-untouched g c known differs =
+returns-then-is_channel-clause-untouched g c differs =
     let touched : Bool → Touched = λ limit. record { operation = false; questionable = false; limit = limit } in
-    ap touched (ne_eqb c.args.channel c.self.inside.settings.monitor (rw (← c.self.view_is) at differs))
+    let legal : is_channel c.args.channel ≡ true =
+    ap is_channel (sym c.from.ensures) ∙ (sym c.is_channel.ensures ∙ c.if-is_channel.true) in
+    rw legal (ap touched (ne_eqb c.args.channel c.self.inside.settings.monitor (rw (← c.self.view_is) at differs)))
 
 pub returns-else-is_channel-clause-untouched : goal.returns-else-is_channel-clause-untouched
-returns-else-is_channel-clause-untouched g c known differs =
-    absurd (let legal = sym c.if-is_channel.false ∙ (c.is_channel.ensures ∙ ap is_channel c.from.ensures) ∙ known in cc)
+returns-else-is_channel-clause-untouched g c differs =
+    let missing : is_channel c.args.channel ≡ false =
+    ap is_channel (sym c.from.ensures) ∙ (sym c.is_channel.ensures ∙ c.if-is_channel.false) in
+    rw missing refl
