@@ -28,7 +28,7 @@ use Rattle.sv_history.specs.Execution.{request_effect, aborts}
 use Rattle.sv_history.specs.Refusing.{takes_memory, refusable_call, refusable}
 use Rattle.sv_history.specs.Resuming.{failed}
 use Rattle.sv_history.specs.History.{taken_acts, turn_acts, refuse_acts, is_shut, wants_memory}
-use Rattle.sv_history.specs.Brought.{CanBeRefused}
+use Rattle.sv_history.proofs.Brought.{CanBeRefused}
 use Rattle.sv_history.proofs.Projections.{device_effect}
 use Rattle.sv_history.proofs.EveryLog.Done.{IsDone, each_done}
 use Rattle.sv_history.proofs.NothingLost.{is_done, not_both, filter_none, left_modest}

@@ -13,6 +13,7 @@ pub mod NoneLate
 pub mod EachAnswered
 pub mod RepliesMatch
 pub mod TurnAnswered
+pub mod Brought
 pub mod OnlyCalls
 pub mod ShutIsClear
 pub mod NothingLost

@@ -28,7 +28,7 @@ use Rattle.sv_history.specs.Effect.{acts_of}
 use Rattle.sv_history.specs.Interrupts.{has_channel, is_dialing, dialing, dial_in, dialed_to, peer_by}
 use Rattle.sv_history.specs.Resuming.{connected}
 use Rattle.sv_history.specs.History.{is_shut, refusal, own_acts, did, wants_memory, AnswersBy, IsLogOf}
-use Rattle.sv_history.specs.Brought.{NothingLost}
+use Rattle.sv_history.specs.Laws.{NothingLost}
 use Rattle.sv_history.proofs.Projections.{device_effect, device_shared, link_acts-links, wait_acts-links}
 use Rattle.sv_history.proofs.Telling.{tells_once, has_channel_told}
 use Rattle.sv_history.proofs.ShutIsClear.{clear_free, shut_is_clear}

@@ -26,7 +26,7 @@ use Rattle.sv_history.specs.Resuming.{effect_of, leaving, next_wait, continued, 
 use Rattle.sv_history.specs.Refusing.{refusable}
 use Rattle.sv_history.specs.Settling.{IsNext}
 use Rattle.sv_history.specs.History.{abort_acts, turn_acts, refuse_acts, own_acts}
-use Rattle.sv_history.specs.Brought.{brings, AreCalls, OnlyCalls}
+use Rattle.sv_history.proofs.Brought.{brings, AreCalls, OnlyCalls}
 use Rattle.sv_history.proofs.Projections.{of_shared, of_effect, others_effect}
 use Rattle.sv_history.proofs.OneLog.{one_log}
 use Rattle.sv_history.proofs.EveryLog.EachEvent.{each_settled, turn_parts}

@@ -34,7 +34,7 @@ use Rattle.sv_history.specs.Resuming.{effect_of, leaving, next_wait, continued, 
 use Rattle.sv_history.specs.Refusing.{refusable}
 use Rattle.sv_history.specs.Settling.{IsNext, SettlesIn}
 use Rattle.sv_history.specs.History.{abort_acts, turn_acts, refuse_acts, own_acts}
-use Rattle.sv_history.specs.Brought.{opened_to, peer_in, tells, OnlyAdds, OnlyRequests, is_tick}
+use Rattle.sv_history.proofs.Brought.{opened_to, peer_in, tells, OnlyAdds, OnlyRequests, is_tick}
 use Rattle.sv_scan.specs.Condition.{bit}
 use Rattle.sv_history.proofs.Projections.{device_effect, device_shared}
 use Rattle.sv_history.proofs.Telling.{tells_once}

@@ -15,11 +15,11 @@ use Rattle.sv_rpc.specs.Record.{header_of, fragment, Sent, bytes_of, record_of}
 use Rattle.sv_rpc.specs.Stream.{records_of}
 use Rattle.sv_rpc.proofs.Calls.{call_is}
 use Rattle.sv_rpc.proofs.EveryStream.{every_stream}
+use Rattle.sv_rpc.proofs.ReadOn.{no_bytes, bytes_join, bytes_front, bytes_back}
 use Rattle.sv_history.specs.Act.{ConnAct, Opened, Piece, CallTaken, Faulted, Replied, BytesTaken, PortClosed}
 use Rattle.sv_history.specs.Connection.{stream, unanswered, completed, took_no_call, is_busy, next_call}
 use Rattle.sv_history.specs.Reply.{reply_record}
 use Rattle.sv_history.specs.Laws.{HasXidOf, RepliesMatch}
-use Rattle.sv_history.proofs.Cuts.SameRecords.{no_bytes, bytes_join, bytes_front, bytes_back}
 use Rattle.sv_history.proofs.EveryLog.EachAct.{xid_of, IsReplyTo, AllCame, all_came}
 
 -- ---- a call consists of bytes

@@ -3,7 +3,7 @@ use Rattle.std.proofs.Common.{◌≡◌, ℕ, true, false, List, [], ◌∷◌, 
 use Rattle.std.specs.Prelude.{is_some}
 use Rattle.sv_history.specs.Act.{ConnAct, Opened, Piece, CallTaken, Faulted, Replied, BytesTaken, PortClosed, of}
 use Rattle.sv_history.specs.Connection.{open_role, is_open, unanswered}
-use Rattle.sv_history.specs.Brought.{IsClear, ShutIsClear}
+use Rattle.sv_history.proofs.Brought.{IsClear, ShutIsClear}
 use Rattle.sv_history.proofs.EveryLog.EachAct.{AllCame, all_came}
 
 -- a call waits for its answer on open ones alone

@@ -12,7 +12,7 @@ use Rattle.sv_history.specs.declared.event.Refused.TheVariants.{TimeOver}
 use Rattle.sv_history.specs.Event.{PlainEvent, Tick}
 use Rattle.sv_history.specs.Act.{Act, device_acts, instrument_acts, ticks}
 use Rattle.sv_history.specs.History.{refusal, last_clock, history_after, IsLogOf, AnswersBy}
-use Rattle.sv_history.specs.Brought.{is_tick, TicksTaken}
+use Rattle.sv_history.proofs.Brought.{is_tick, TicksTaken}
 use Rattle.sv_history.proofs.OnlyRequests.{ticks_event}
 use Rattle.sv_history.proofs.NothingLost.{is_done, some_none, happened_wants}
 

@@ -1,15 +1,22 @@
 -- Laws of the whole, over the definitions alone.
-use Rattle.std.specs.Prelude.{◌≡◌, ◌⊎◌, ℕ, ◌+◌, ◌≤◌, Bool, true, false, List, [], ◌∷◌, ◌++◌, length, take, drop, Some, Err}
+use Rattle.std.specs.Prelude.{◌≡◌, ◌⊎◌, ℕ, ◌+◌, ◌<◌, ◌≤◌, Bool, true, false, List, [], ◌∷◌, ◌++◌, length, take, drop, Some, None, Result, Ok, Err, ⊤}
 use Rattle.sv_rpc.specs.declared.call.CallFault.TheVariants.{BadHeader}
 use Rattle.sv_rpc.specs.Call.{call_at}
 use Rattle.sv_links.specs.declared.waiting.Wait.{Wait}
+use Rattle.sv_links.specs.Channels.{ChannelAct}
 use Rattle.sv_links.specs.Waiting.{waits, IsExpired}
 use Rattle.sv_history.specs.declared.event.Config.{Config}
-use Rattle.sv_history.specs.Event.{PlainEvent, Turn}
+use Rattle.sv_history.specs.declared.event.Dial.{Dial}
+use Rattle.sv_history.specs.declared.event.Did.{Did}
+use Rattle.sv_history.specs.declared.event.Did.TheVariants.{Done}
+use Rattle.sv_history.specs.declared.event.Refused.{Refused}
+use Rattle.sv_history.specs.Event.{PlainEvent, Open, Bytes, Turn, Took, Close, Dialed, Input, External, port_number}
 use Rattle.sv_history.specs.Act.{Act, ConnAct, Opened, CallTaken, Faulted, Replied, PortClosed, of, device_acts, wait_acts, ticks}
-use Rattle.sv_history.specs.Connection.{unanswered, completed, is_busy, next_call}
+use Rattle.sv_history.specs.Connection.{is_open, unanswered, completed, is_busy, next_call, room, waiting_on}
+use Rattle.sv_history.specs.Interrupts.{dial_of}
+use Rattle.sv_history.specs.Requests.{HearsOf}
 use Rattle.sv_history.specs.Settling.{CanResume}
-use Rattle.sv_history.specs.History.{IsLogOf}
+use Rattle.sv_history.specs.History.{is_port_shut, input_refusal, IsLogOf, Answers}
 
 -- A history has at most one log.
 abbrev pub OneLog : Type 0
@@ -19,6 +26,23 @@ OneLog = (config : Config) (history : List PlainEvent) (a b : List Act) → IsLo
 abbrev pub NoneLate : Type 0
 NoneLate = (config : Config) (history : List PlainEvent) (log : List Act) (c : ℕ) → IsLogOf config history log
     → (IsExpired (config.clock + ticks (device_acts log)) (wait_acts (device_acts log)) c → ⊥) × (CanResume (device_acts log) c → ⊥)
+
+-- An event that suits what the server answers when it is asked.
+abbrev pub Suits : PlainEvent → List ChannelAct → List Act → Type 0
+Suits (Open c role) told log = (c < 16) × (is_open (of c log) ≡ false)
+Suits (Bytes c piece) told log = (c < 16) × (0 < room (of c log)) × (length piece ≤ room (of c log))
+Suits (Took port n) told log = (port_number port < 16) × (0 < length (waiting_on told port log)) × (n ≤ length (waiting_on told port log))
+Suits (Close port) told log = is_port_shut port log ≡ false
+Suits (Dialed c ok) told log = (c < 16) × (dial : Dial) × (dial_of c log ≡ Some dial)
+Suits (Input channel microvolts) told log = input_refusal channel microvolts ≡ None
+Suits External told log = ⊤
+Suits _ told log = ⊥
+
+-- It is never refused: who brings as many bytes as there is room for, and takes as many as wait, loses none.
+abbrev pub NothingLost : Type 0
+NothingLost = (config : Config) (history : List PlainEvent) (event : PlainEvent) (told : List ChannelAct) (log : List Act)
+    (result : Result Did Refused) → IsLogOf config history log → HearsOf (device_acts log) told → Suits event told log
+    → Answers config event log result → result ≡ Ok Done
 
 -- how many calls were taken on a connection since it opened
 abbrev pub taken : List ConnAct → ℕ

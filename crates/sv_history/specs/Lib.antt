@@ -21,7 +21,6 @@ pub mod History
 pub mod Queries
 pub mod Still
 pub mod Adding
-pub mod Brought
 pub mod Isolation
 pub mod Cuts
 pub mod Print

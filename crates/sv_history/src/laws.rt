@@ -1,7 +1,6 @@
 //! Laws of the whole, over the definitions alone, each on a function that does nothing.
 
-ghost use Rattle.sv_history.specs.Laws.{OneLog, NoneLate, EachAnswered, RepliesMatch, TurnAnswered};
-ghost use Rattle.sv_history.specs.Brought.{OnlyCalls, OnlyRequests, ShutIsClear, NothingLost, CanBeRefused, TicksTaken};
+ghost use Rattle.sv_history.specs.Laws.{OneLog, NoneLate, NothingLost, EachAnswered, RepliesMatch, TurnAnswered};
 ghost use Rattle.sv_history.specs.Isolation.{Isolation};
 ghost use Rattle.sv_history.specs.Cuts.{RecordsCut, WritesCut};
 ghost use Rattle.sv_history.specs.Still.{TimeOnlyCounts};
@@ -29,31 +28,6 @@ pub fn cuts()
 /// While nothing waits for time, milliseconds that pass only count: nothing else comes of them.
 pub fn stillness()
     ensures { TimeOnlyCounts }
-{}
-
-/// An event adds to each connection its own act, and behind it acts of calls alone.
-pub fn only_calls()
-    ensures { OnlyCalls }
-{}
-
-/// An event tells to each interrupt channel its own act, and behind it calls alone.
-pub fn only_requests()
-    ensures { OnlyRequests }
-{}
-
-/// Nothing happens on a connection that isn't open.
-pub fn shut_is_clear()
-    ensures { ShutIsClear }
-{}
-
-/// A call that finds no memory can be refused.
-pub fn can_be_refused()
-    ensures { CanBeRefused }
-{}
-
-/// A millisecond is counted while the clock isn't at its end, by how many were.
-pub fn ticks_taken()
-    ensures { TicksTaken }
 {}
 
 /// Between two events no call waits past its deadline, and none waits for what is there.

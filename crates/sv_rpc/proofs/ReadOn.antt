@@ -23,7 +23,12 @@ bytes_join [] b h k i = k i
 bytes_join (x ∷ a) b h k zero = h 0
 bytes_join (x ∷ a) b h k (suc i) = bytes_join a b (λ j. h (suc j)) k i
 
-bytes_back : (a b : List ℕ) → IsBytes (a ++ b) → IsBytes b
+pub bytes_front : (a b : List ℕ) → IsBytes (a ++ b) → IsBytes a
+bytes_front [] b h i = omega arith
+bytes_front (x ∷ a) b h zero = h 0
+bytes_front (x ∷ a) b h (suc i) = bytes_front a b (λ j. h (suc j)) i
+
+pub bytes_back : (a b : List ℕ) → IsBytes (a ++ b) → IsBytes b
 bytes_back [] b h = h
 bytes_back (x ∷ a) b h = bytes_back a b (λ j. h (suc j))
 

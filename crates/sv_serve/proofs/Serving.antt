@@ -23,7 +23,7 @@ use Rattle.sv_history.specs.Requests.{HearsOf}
 use Rattle.sv_history.specs.History.{refusal, is_shut, IsLogOf, Answers}
 use Rattle.sv_history.proofs.Unrecorded.{nothing_idle}
 use Rattle.sv_server.specs.Server.State.{StandsFor}
-use Rattle.sv_history.specs.Brought.{brings, AreCalls, IsClear}
+use Rattle.sv_history.proofs.Brought.{brings, AreCalls, IsClear}
 use Rattle.sv_history.proofs.OneLog.{one_log}
 use Rattle.sv_history.proofs.OnlyCalls.{only_calls}
 use Rattle.sv_history.proofs.ShutIsClear.{shut_is_clear}

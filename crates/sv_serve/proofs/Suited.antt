@@ -18,13 +18,14 @@ use Rattle.sv_history.specs.Connection.{is_open, open_role, room, waiting, is_fa
 use Rattle.sv_history.specs.Interrupts.{has_channel}
 use Rattle.sv_history.specs.Requests.{HearsOf}
 use Rattle.sv_history.specs.History.{is_port_shut, IsLogOf, Answers, history_after}
-use Rattle.sv_history.specs.Brought.{IsClear, Suits}
+use Rattle.sv_history.specs.Laws.{Suits}
+use Rattle.sv_history.proofs.Brought.{IsClear}
 use Rattle.sv_history.specs.Print.{is_no_memory}
 use Rattle.sv_history.proofs.AlwaysTold.{some_told}
 use Rattle.sv_history.proofs.Telling.{has_channel_told}
 use Rattle.sv_history.proofs.Unrecorded.{nothing_faulted}
 use Rattle.sv_history.proofs.OneLog.{one_log}
-use Rattle.sv_history.proofs.NothingRefused.{nothing_refused}
+use Rattle.sv_history.proofs.NothingLost.{nothing_lost}
 use Rattle.sv_history.proofs.CanBeRefused.{can_be_refused}
 use Rattle.sv_history.proofs.ShutIsClear.{shut_is_clear}
 use Rattle.sv_serve.specs.declared.wire.Answer.{Answer}
@@ -40,7 +41,7 @@ use Rattle.sv_serve.specs.Premises.{IsSuited, Handed, FoundNone, MayFindNone, Fi
 pub suited : {W : Type 0} (config : Config) (event : PlainEvent) (at : Moment W) (log : List Act) (result : Result Did Refused)
     → IsLogOf config at.history log → Answers config event log result → IsSuited event config at → result ≡ Ok Done
 suited config event at log result was answers (other, told, also, tells, suits) =
-    nothing_refused config at.history event told other result also tells suits
+    nothing_lost config at.history event told other result also tells suits
     (subst (λ (l : List Act). Answers config event l result) (one_log config at.history log other was also) answers)
 
 pub refused : {W : Type 0} (config : Config) (c : ℕ) (at : Moment W) (log : List Act) (result : Result Did Refused)

@@ -1,22 +1,21 @@
--- What events bring to a connection by themselves, and which events are never refused.
-use Rattle.std.specs.Prelude.{◌≡◌, ℕ, ◌+◌, filter, ◌<◌, ◌≤◌, ◌==◌, Bool, true, false, List, [], ◌∷◌, ◌++◌, length, Option, Some, None, Result, Ok, Err, ⊤, if◌then◌else◌}
+-- What events bring to a connection and tell to interrupt channels by themselves, as crates above use it.
+use Rattle.std.specs.Prelude.{◌≡◌, ℕ, ◌+◌, filter, ◌<◌, ◌==◌, Bool, true, false, List, [], ◌∷◌, ◌++◌, length, Option, Some, None, Result, Ok, Err, ⊤, if◌then◌else◌}
 use Rattle.sv_links.specs.declared.request.Peer.{Peer}
 use Rattle.sv_links.specs.Channels.{ChannelAct, ChannelOpened, ChannelTaken, is_channel_open, taken, calls}
 use Rattle.sv_history.specs.declared.event.Config.{Config}
-use Rattle.sv_history.specs.declared.event.Dial.{Dial}
 use Rattle.sv_history.specs.declared.event.Did.{Did}
 use Rattle.sv_history.specs.declared.event.Did.TheVariants.{Done}
 use Rattle.sv_history.specs.declared.event.Port.TheVariants.{Conn, Intr}
 use Rattle.sv_history.specs.declared.event.Refused.{Refused}
 use Rattle.sv_history.specs.declared.event.Refused.TheVariants.{NoMemory}
-use Rattle.sv_history.specs.Event.{PlainEvent, Open, Bytes, Turn, Refuse, Took, Close, Dialed, Input, External, Tick, port_number}
+use Rattle.sv_history.specs.Event.{PlainEvent, Open, Bytes, Turn, Refuse, Took, Close, Dialed, Tick}
 use Rattle.sv_history.specs.Act.{Act, ConnAct, Opened, Piece, CallTaken, Faulted, Replied, BytesTaken, PortClosed, of, device_acts}
-use Rattle.sv_history.specs.Connection.{is_open, open_role, unanswered, room, waiting_on}
+use Rattle.sv_history.specs.Connection.{open_role, unanswered}
 use Rattle.sv_history.specs.CoreCall.{CoreCall}
 use Rattle.sv_history.specs.Request.{core_call_in}
-use Rattle.sv_history.specs.Interrupts.{peer_by, dial_of}
+use Rattle.sv_history.specs.Interrupts.{peer_by}
 use Rattle.sv_history.specs.Requests.{HearsOf}
-use Rattle.sv_history.specs.History.{is_port_shut, input_refusal, last_clock, history_after, IsLogOf, Answers}
+use Rattle.sv_history.specs.History.{last_clock, history_after, IsLogOf, Answers}
 
 -- the act of a connection that an event is
 abbrev pub brings : ℕ → PlainEvent → List ConnAct
@@ -75,23 +74,6 @@ abbrev pub OnlyRequests : Type 0
 OnlyRequests = (config : Config) (event : PlainEvent) (history : List PlainEvent) (before log : List Act)
     (told later : List ChannelAct) (c : ℕ) → IsLogOf config history before → HearsOf (device_acts before) told
     → IsLogOf config (event ∷ history) log → HearsOf (device_acts log) later → OnlyAdds c (tells event before ++ told) later
-
--- An event that suits what the server answers when it is asked.
-abbrev pub Suits : PlainEvent → List ChannelAct → List Act → Type 0
-Suits (Open c role) told log = (c < 16) × (is_open (of c log) ≡ false)
-Suits (Bytes c piece) told log = (c < 16) × (0 < room (of c log)) × (length piece ≤ room (of c log))
-Suits (Took port n) told log = (port_number port < 16) × (0 < length (waiting_on told port log)) × (n ≤ length (waiting_on told port log))
-Suits (Close port) told log = is_port_shut port log ≡ false
-Suits (Dialed c ok) told log = (c < 16) × (dial : Dial) × (dial_of c log ≡ Some dial)
-Suits (Input channel microvolts) told log = input_refusal channel microvolts ≡ None
-Suits External told log = ⊤
-Suits _ told log = ⊥
-
--- It is never refused: who brings as many bytes as there is room for, and takes as many as wait, loses none.
-abbrev pub NothingLost : Type 0
-NothingLost = (config : Config) (history : List PlainEvent) (event : PlainEvent) (told : List ChannelAct) (log : List Act)
-    (result : Result Did Refused) → IsLogOf config history log → HearsOf (device_acts log) told → Suits event told log
-    → Answers config event log result → result ≡ Ok Done
 
 -- A call that finds no memory can be refused.
 abbrev pub CanBeRefused : Type 0
