@@ -2,7 +2,7 @@
 -- closed.
 use Rattle.std.specs.Prelude.{ℕ, ◌+◌, ◌-◌, ◌==◌, ◌&&◌, ◌||◌, Bool, true, false, List, [], ◌∷◌, ◌++◌, length, drop, Option, Some, None, is_none, is_some, slice_get, if◌then◌else◌}
 use Rattle.std.specs.List.{concat}
-use Rattle.sv_rpc.specs.Record.{Tail, Header, Data, TooLong}
+use Rattle.sv_rpc.specs.Record.{ends_overlong}
 use Rattle.sv_rpc.specs.RecordBuf.{used_by}
 use Rattle.sv_rpc.specs.Stream.{records_of, tail_of}
 use Rattle.sv_rpc.specs.Limits.{capacity}
@@ -102,14 +102,13 @@ next_call acts = if took_no_call acts || is_busy acts then None else slice_get (
 abbrev pub is_idle : List ConnAct → Bool
 is_idle acts = is_none (next_call acts)
 
-abbrev pub is_too_long : Tail → Bool
-is_too_long (Header payload header) = false
-is_too_long (Data payload missing last) = false
-is_too_long TooLong = true
+-- whether a record that came on it is too long: behind it nothing is taken in any more
+abbrev pub is_overlong : List ConnAct → Bool
+is_overlong acts = ends_overlong (tail_of (stream acts))
 
 -- whether a record that is no call was taken, or all records in front of one that is too long came to their end
 abbrev pub is_faulted : List ConnAct → Bool
-is_faulted acts = took_no_call acts || (is_too_long (tail_of (stream acts)) && (completed acts == length (records_of (stream acts))))
+is_faulted acts = took_no_call acts || (is_overlong acts && (completed acts == length (records_of (stream acts))))
 
 -- how many bytes may come: a record counts until it comes to its end
 abbrev pub room : List ConnAct → ℕ

@@ -34,6 +34,12 @@ pub data Tail : Type 0 where
   Data : (payload : List ℕ) (missing : ℕ) (last : Bool) → Tail
   TooLong : Tail
 
+-- whether they are of a record that is too long
+abbrev pub ends_overlong : Tail → Bool
+ends_overlong (Header payload header) = false
+ends_overlong (Data payload missing last) = false
+ends_overlong TooLong = true
+
 -- Behind whole fragments that aren't the last of their record stands less than a header, or a header and less than its data, or the header
 -- that makes the record too long, and then anything.
 abbrev pub IsTail : List ℕ → Tail → Type 0

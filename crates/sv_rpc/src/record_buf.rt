@@ -3,7 +3,7 @@
 ghost use Rattle.std.specs.Prelude.{◌≡◌, ◌≢◌, ℕ, ◌+◌, ◌-◌, ◌%◌, ◌<◌, ◌≤◌, ◌^◌, List, [], ◌∷◌, ◌++◌, length, take, drop, nat_le, vec_len, vec_capacity, IfOk};
 ghost use Rattle.std.specs.Int.{w32, from_be_bytes};
 ghost use Rattle.sv_rpc.specs.Limits.{capacity};
-ghost use Rattle.sv_rpc.specs.Record.{header_of};
+ghost use Rattle.sv_rpc.specs.Record.{header_of, ends_overlong};
 ghost use Rattle.sv_rpc.specs.RecordBuf.{Records, StandsFor, IsNext, IsRoom, no_records, room_of, next_among, used_by, plain_record};
 ghost use Rattle.sv_rpc.specs.Representation.{InRoom, GoesOn, Keeps, IsInHeader, IsBeforeHeader, IsInData, after_byte, after_header, after_data, finished};
 
@@ -117,6 +117,16 @@ impl<A: Allocator> RecordBuf<A> {
         match self.place {
             Place::Header | Place::Data { .. } => Ok(None),
             Place::TooLong => Err(RpcFault::RecordTooLong),
+        }
+    }
+
+    /// Whether a record is too long: behind it nothing can be pushed.
+    pub fn is_overlong(&self) -> bool
+        ensures { result ≡ ends_overlong self.now.tail }
+    {
+        match self.place {
+            Place::Header | Place::Data { .. } => false,
+            Place::TooLong => true,
         }
     }
 

@@ -1,5 +1,5 @@
 -- What a step is where its answer is known.
-use Rattle.std.proofs.Common.{◌≡◌, ℕ, Bool, Option, Some, None, Result, Ok, Err, sym, subst, ◌∙◌}
+use Rattle.std.proofs.Common.{◌≡◌, ℕ, Bool, true, Option, Some, None, Result, Ok, Err, sym, subst, ◌∙◌}
 use Rattle.std.specs.Prelude.{⊤}
 use Rattle.sv_history.specs.declared.event.Config.{Config}
 use Rattle.sv_history.specs.declared.event.Dial.{Dial}
@@ -12,7 +12,7 @@ use Rattle.sv_serve.specs.declared.wire.Answer.{Answer}
 use Rattle.sv_serve.specs.declared.wire.Answer.TheVariants.{Failed}
 use Rattle.sv_serve.specs.Heard.{Heard}
 use Rattle.sv_serve.specs.Moment.{Moment}
-use Rattle.sv_serve.specs.Steps.{RefusesIf, EndsTurn, CallsFor, BreaksOff, EndsWrite}
+use Rattle.sv_serve.specs.Steps.{ProbesIf, RefusesIf, EndsTurn, CallsFor, BreaksOff, EndsWrite}
 
 pub write_failed : {W : Type 0} (hears : W → Heard → W → Type 0) (port other : Port) (answer : Answer ℕ) (config : Config) (before after : Moment W)
     → answer ≡ Failed → port ≡ other → BreaksOff hears other config before after → EndsWrite hears port answer config before after
@@ -31,3 +31,7 @@ pub calls_as : {W : Type 0} (hears : W → Heard → W → Type 0) (c : ℕ) (wa
 calls_as hears c wanted called other before_call config before after is same h =
     subst (λ (d : Option Dial). CallsFor hears c d called config before after) (sym is)
     (subst (λ (d : Option Dial). CallsFor hears c other d config before after) (sym same) h)
+
+pub probes_so : {W : Type 0} (hears : W → Heard → W → Type 0) (c : ℕ) (so : Bool) (config : Config) (before after : Moment W) → so ≡ true
+    → ProbesIf hears c true config before after → ProbesIf hears c so config before after
+probes_so hears c so config before after is h = subst (λ (b : Bool). ProbesIf hears c b config before after) (sym is) h

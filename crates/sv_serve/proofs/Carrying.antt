@@ -37,10 +37,10 @@ use Rattle.sv_history.specs.Laws.{Suits}
 use Rattle.sv_history.proofs.Brought.{brings, tells, peer_in, opened_to}
 use Rattle.sv_serve.specs.declared.wire.Answer.{Answer}
 use Rattle.sv_serve.specs.declared.wire.Answer.TheVariants.{Got, Pending, Failed}
-use Rattle.sv_serve.specs.Heard.{Heard, WasAccepted, WasRead, WasWritten, WasDialed, PeerAnswered, WasClosed, IsWithin}
+use Rattle.sv_serve.specs.Heard.{Heard, WasAccepted, WasRead, WasProbed, WasWritten, WasDialed, PeerAnswered, WasClosed, IsWithin}
 use Rattle.sv_serve.specs.Moment.{Moment, Each, ◌then◌}
 use Rattle.sv_serve.specs.Asked.{IsLowest}
-use Rattle.sv_serve.specs.Steps.{Given, Happens, called_of, Opens, Accepts, HangsUpOn, HangsUp, Closes, ClosesIf, Comes, ReadsFrom, RefusesIf, EndsTurn, TurnsIf, Turns, KeepsCall, LetsGoOf, Rings, Picks, CallsFor, Dials, EndsWrite, WritesTo, EndsIf, Ends}
+use Rattle.sv_serve.specs.Steps.{Given, Happens, called_of, Opens, Accepts, HangsUpOn, HangsUp, Closes, ClosesIf, Comes, Drops, ProbesIf, ReadsFrom, RefusesIf, EndsTurn, TurnsIf, Turns, KeepsCall, LetsGoOf, Rings, Picks, CallsFor, Dials, EndsWrite, WritesTo, EndsIf, Ends}
 use Rattle.sv_serve.specs.Sweep.{Applies, PlaysOne, Plays, Counts, TicksOnce, Passes}
 use Rattle.sv_serve.specs.Served.{Through, event_of, is_outer}
 use Rattle.sv_serve.specs.Carried.{begins, read, taken, ClosesAtOnce}
@@ -59,6 +59,7 @@ pub data Subject : Type 0 where
 abbrev pub about : Heard → Subject
 about (WasAccepted role (Some c) answer) = OfConn c
 about (WasRead c most answer) = OfRead c
+about (WasProbed c drops answer) = OfConn c
 about (WasWritten (Conn c) bytes answer) = OfConn c
 about (WasClosed (Conn c)) = OfConn c
 about _ = OfNone
@@ -377,9 +378,31 @@ read_by hears May config c may read_may most Failed wire before between after lo
     ((refl, (λ port. refl), (λ port. refl), (λ port. refl)), tt) (read_may, tt) ((λ d e. failed_next c d e), tt)
     (λ trace so d e. inl (WasRead c most Failed, trace, refl, eq-eqb c d (closed_same c d e))) shuts
 
+drops_gone : {W : Type 0} (hears : W → Heard → W → Type 0) (May : Subject → Type 0) (config : Config) (c : ℕ) (may : May OfNone × May (OfConn c)) (drops : Bool)
+    (answer : Answer ⊤) (wire : W) (before between after : Moment W) → hears before.wire (WasProbed c drops answer) wire
+    → between ≡ record before { wire = wire } → Drops hears c answer config between after → Keeps hears May config before after
+drops_gone hears May config c may drops (Got all) wire before between after heard is same =
+    only_heard hears May config (WasProbed c drops (Got all)) may.1 wire before between after heard is
+    (refl, (λ port. refl), (λ port. refl), (λ port. refl)) (λ d. refl) same
+drops_gone hears May config c may drops Pending wire before between after heard is same =
+    only_heard hears May config (WasProbed c drops Pending) may.1 wire before between after heard is
+    (refl, (λ port. refl), (λ port. refl), (λ port. refl)) (λ d. refl) same
+drops_gone hears May config c may drops Failed wire before between after heard is shuts =
+    closes hears May config c may (WasProbed c drops Failed ∷ []) before between after
+    (before.wire, refl, subst (λ w. hears before.wire (WasProbed c drops Failed) w) (sym (ap (λ m. m.wire) is)) heard) (ap (λ m. m.history) is)
+    ((refl, (λ port. refl), (λ port. refl), (λ port. refl)), tt) (may.1, tt) ((λ d e. failed_next c d e), tt)
+    (λ trace so d e. inl (WasProbed c drops Failed, trace, refl, eq-eqb c d (closed_same c d e))) shuts
+
+probes_if : {W : Type 0} (hears : W → Heard → W → Type 0) (May : Subject → Type 0) (config : Config) (c : ℕ) (may : May OfNone × May (OfConn c)) (opened : Bool)
+    (before after : Moment W) → ProbesIf hears c opened config before after → Keeps hears May config before after
+probes_if hears May config c may false before after same = keeps_none hears May config before after same
+probes_if hears May config c may true before after (drops, answer, overlong, (between, (wire, heard, is), gone)) =
+    drops_gone hears May config c may drops answer wire before between after heard is gone
+
 pub reads : {W : Type 0} (hears : W → Heard → W → Type 0) (May : Subject → Type 0) (config : Config) (c : ℕ) (may : May OfNone × May (OfConn c)) (read_may : May (OfRead c))
     (before after : Moment W) → ReadsFrom hears c config before after → Keeps hears May config before after
-reads hears May config c may read_may before after (room, (log, was, is), inl (none, same)) = keeps_none hears May config before after same
+reads hears May config c may read_may before after (room, (log, was, is), inl (none, (opened, is_open, probes))) =
+    probes_if hears May config c may opened before after probes
 reads hears May config c may read_may before after (room, (log, was, room_is), inr (some, answer, few, (between, (wire, heard, is), comes))) =
     read_by hears May config c may read_may _ answer wire before between after log was heard is comes
 

@@ -16,7 +16,7 @@ use Rattle.sv_serve.specs.declared.wire.Answer.{Answer}
 use Rattle.sv_serve.specs.declared.wire.Answer.TheVariants.{Got, Pending, Failed}
 use Rattle.sv_serve.specs.Heard.{Heard, WasClosed}
 use Rattle.sv_serve.specs.Moment.{Moment, Each}
-use Rattle.sv_serve.specs.Steps.{Hears, Given, Happens, Notes, called_of, Opens, Accepts, HangsUpOn, Closes, ClosesIf, Comes, ReadsFrom, RefusesIf, EndsTurn, TurnsIf, Turns, KeepsCall, LetsGoOf, Rings, Picks, CallsFor, Dials, EndsWrite, WritesTo, EndsIf, Ends}
+use Rattle.sv_serve.specs.Steps.{Hears, Given, Happens, Notes, called_of, Opens, Accepts, HangsUpOn, Closes, ClosesIf, Comes, Drops, ProbesIf, ReadsFrom, RefusesIf, EndsTurn, TurnsIf, Turns, KeepsCall, LetsGoOf, Rings, Picks, CallsFor, Dials, EndsWrite, WritesTo, EndsIf, Ends}
 use Rattle.sv_serve.specs.Timed.{is_timed}
 
 -- what is to come, how many milliseconds passed, and what time brought, is as before
@@ -87,9 +87,20 @@ comes_idles hears c (Got bytes) config a b h = happens_idles (Bytes c bytes) con
 comes_idles hears c Pending config a b is = idles_same a b is
 comes_idles hears c Failed config a b h = closes_idles hears c config a b h
 
+probes_idles : {W : Type 0} (hears : W → Heard → W → Type 0) (c : ℕ) (opened : Bool) (config : Config) (a b : Moment W)
+    → ProbesIf hears c opened config a b → Idles a b
+probes_idles hears c false config a b is = idles_same a b is
+probes_idles hears c true config a b (drops, answer, overlong, (m, heard, gone)) =
+    idles_then a m b (hears_idles hears _ config a m heard) (by answer gone)
+  where
+    by : (answer : Answer ⊤) → Drops hears c answer config m b → Idles m b
+    by (Got all) is = idles_same m b is
+    by Pending is = idles_same m b is
+    by Failed h = closes_idles hears c config m b h
+
 pub reads_idles : {W : Type 0} (hears : W → Heard → W → Type 0) (c : ℕ) (config : Config) (a b : Moment W) → ReadsFrom hears c config a b
     → Idles a b
-reads_idles hears c config a b (most, room, inl (none, is)) = idles_same a b is
+reads_idles hears c config a b (most, room, inl (none, (opened, is_open, probes))) = probes_idles hears c opened config a b probes
 reads_idles hears c config a b (most, room, inr (some, answer, few, (m, heard, comes))) =
     idles_then a m b (hears_idles hears _ config a m heard) (comes_idles hears c answer config m b comes)
 

@@ -29,7 +29,7 @@ use Rattle.sv_history.proofs.OnlyCalls.{only_calls}
 use Rattle.sv_history.proofs.ShutIsClear.{shut_is_clear}
 use Rattle.sv_serve.specs.declared.wire.Answer.{Answer}
 use Rattle.sv_serve.specs.declared.wire.Answer.TheVariants.{Got, Pending, Failed}
-use Rattle.sv_serve.specs.Heard.{Heard, WasAccepted, WasRead, WasWritten, WasDialed, PeerAnswered, WasClosed, IsWithin as IsWithinMost}
+use Rattle.sv_serve.specs.Heard.{Heard, WasAccepted, WasRead, WasProbed, WasWritten, WasDialed, PeerAnswered, WasClosed, IsWithin as IsWithinMost}
 use Rattle.sv_serve.specs.Moment.{Moment, moment, Each}
 use Rattle.sv_serve.specs.Steps.{Given, ReadsFrom, EndsTurn, TurnsIf, Turns, Dials, EndsWrite, WritesTo, Ends}
 use Rattle.sv_serve.specs.Sweep.{Sweeps}
@@ -199,6 +199,7 @@ brought_heard c (WasAccepted role (Some d) Pending) ne = refl
 brought_heard c (WasAccepted role (Some d) Failed) ne = refl
 brought_heard c (WasAccepted role None answer) ne = refl
 brought_heard c (WasRead d most answer) ne = absurd ne
+brought_heard c (WasProbed d drops answer) ne = refl
 brought_heard c (WasWritten (Conn d) bytes (Got n)) ne = rw (ne_eqb d c ne) refl
 brought_heard c (WasWritten (Conn d) bytes Pending) ne = refl
 brought_heard c (WasWritten (Conn d) bytes Failed) ne = refl
@@ -238,6 +239,7 @@ bytes_heard (WasAccepted role (Some d) Pending) un = refl
 bytes_heard (WasAccepted role (Some d) Failed) un = refl
 bytes_heard (WasAccepted role None answer) un = refl
 bytes_heard (WasRead d most answer) un = absurd un
+bytes_heard (WasProbed d drops answer) un = refl
 bytes_heard (WasWritten (Conn d) bytes (Got n)) un = refl
 bytes_heard (WasWritten (Conn d) bytes Pending) un = refl
 bytes_heard (WasWritten (Conn d) bytes Failed) un = refl

@@ -186,19 +186,19 @@ pub still_wants : {W : Type 0} (c : ℕ) (found dial : Option Dial) (config : Co
 still_wants c found dial config before after same is (log, was, wants) =
     (log, subst (λ (h : List PlainEvent). IsLogOf config h log) (sym same) was, sym is ∙ wants)
 
-still_open : {W : Type 0} (port : Port) (answer : Bool) (config : Config) (before after : Moment W) → after.history ≡ before.history
-    → IsOpen port config before answer → IsOpen port config after answer
-still_open port answer config before after same (log, was, is) =
-    (log, subst (λ (h : List PlainEvent). IsLogOf config h log) (sym same) was, is)
+pub still_open : {W : Type 0} (port : Port) (found answer : Bool) (config : Config) (before after : Moment W) → after.history ≡ before.history
+    → found ≡ answer → IsOpen port config before found → IsOpen port config after answer
+still_open port found answer config before after same equal (log, was, is) =
+    (log, subst (λ (h : List PlainEvent). IsLogOf config h log) (sym same) was, sym equal ∙ is)
 
 pub still_lowest : {W : Type 0} (number : Option ℕ) (config : Config) (before after : Moment W) → after.history ≡ before.history
     → IsLowest number config before → IsLowest number config after
 still_lowest (Some c) config before after same (lt, free, lower) = (
   lt,
-  still_open (Conn c) false config before after same free,
-  λ d less. still_open (Conn d) true config before after same (lower d less),
+  still_open (Conn c) false false config before after same refl free,
+  λ d less. still_open (Conn d) true true config before after same refl (lower d less),
 )
-still_lowest None config before after same all = λ d less. still_open (Conn d) true config before after same (all d less)
+still_lowest None config before after same all = λ d less. still_open (Conn d) true true config before after same refl (all d less)
 
 -- ---- want of memory
 

@@ -1,11 +1,12 @@
 -- On connections that were never opened a sweep does nothing.
-use Rattle.std.proofs.Common.{◌≡◌, ℕ, zero, suc, ◌≤◌, false, [], None, replicate, slice_index_or, refl, sym, ap, subst, arith, inl, inr}
+use Rattle.std.proofs.Common.{◌≡◌, ℕ, zero, suc, ◌≤◌, Bool, true, false, List, [], None, nat_lt, replicate, slice_index_or, refl, sym, ap, subst, arith, inl, inr}
 use Rattle.std.proofs.Math.Nat.{eq-or-lt_of_le}
-use Rattle.std.specs.Prelude.{Option}
+use Rattle.std.specs.Prelude.{Option, not, ◌||◌}
 use Rattle.sv_history.specs.declared.event.Config.{Config}
 use Rattle.sv_history.specs.declared.event.Port.TheVariants.{Conn}
-use Rattle.sv_history.specs.Act.{device_acts}
+use Rattle.sv_history.specs.Act.{Act, of, device_acts}
 use Rattle.sv_history.specs.Connection.{room, waiting}
+use Rattle.sv_history.specs.History.{is_port_shut}
 use Rattle.sv_history.proofs.AlwaysTold.{some_told}
 use Rattle.sv_history.proofs.Unrecorded.{nothing_idle, nothing_faulted, nothing_dialed}
 use Rattle.sv_serve.specs.Heard.{Heard}
@@ -23,9 +24,17 @@ and_rest step config n (suc m) a b le each stays = elim (eq-or-lt_of_le le) [
   | inr less ↦ (let low : n ≤ m = omega (arith, less) in (b, and_rest step config n m a b low each stays, stays m low))
 ]
 
+never_open : (c : ℕ) (log : List Act) → of c log ≡ [] → false ≡ not (is_port_shut (Conn c) log)
+never_open c log none = rw none (shut_by (nat_lt 15 c))
+  where
+    shut_by : (b : Bool) → false ≡ not (b || true)
+    shut_by true = refl
+    shut_by false = refl
+
 pub reads_none : {W : Type 0} (hears : W → Heard → W → Type 0) (n : ℕ) (config : Config) (at : Moment W) → NoneUsed n config at
     → (c : ℕ) → n ≤ c → ReadsFrom hears c config at at
-reads_none hears n config at (log, is_log, none) c le = (0, (log, is_log, ap room (sym (none c le))), inl (refl, refl))
+reads_none hears n config at (log, is_log, none) c le = 
+    (0, (log, is_log, ap room (sym (none c le))), inl (refl, (false, (log, is_log, never_open c log (none c le)), refl)))
 
 pub turns_none : {W : Type 0} (n : ℕ) (config : Config) (at : Moment W) → NoneUsed n config at → (c : ℕ) → n ≤ c
     → Turns c config at at

@@ -5,7 +5,7 @@ use Rattle.sv_history.specs.declared.event.Dial.{Dial}
 use Rattle.sv_history.specs.declared.event.Port.{Port}
 use Rattle.sv_history.specs.declared.event.Port.TheVariants.{Conn}
 use Rattle.sv_history.specs.Act.{Act, of}
-use Rattle.sv_history.specs.Connection.{room, is_idle, is_faulted}
+use Rattle.sv_history.specs.Connection.{room, is_idle, is_overlong, is_faulted}
 use Rattle.sv_history.specs.Interrupts.{dial_of}
 use Rattle.sv_history.specs.History.{is_port_shut, IsLogOf}
 use Rattle.sv_history.specs.Queries.{Answered, WaitOn, IsUnused}
@@ -22,6 +22,10 @@ HasRoom c config at answer = Answered (λ log. room (of c log)) config at.histor
 -- whether a call is there to be taken
 abbrev pub IsReady : {W : Type 0} → ℕ → Config → Moment W → Bool → Type 0
 IsReady c config at answer = Answered (λ log. not (is_idle (of c log))) config at.history answer
+
+-- whether nothing more is taken in on it
+abbrev pub IsOverlong : {W : Type 0} → ℕ → Config → Moment W → Bool → Type 0
+IsOverlong c config at answer = Answered (λ log. is_overlong (of c log)) config at.history answer
 
 -- whether it only waits to be closed
 abbrev pub IsFaulted : {W : Type 0} → ℕ → Config → Moment W → Bool → Type 0

@@ -13,7 +13,7 @@ use Rattle.sv_history.specs.History.{is_port_shut, last_clock, IsLogOf}
 use Rattle.sv_replay.specs.Scenario.{IsScenario}
 use Rattle.sv_server.specs.Server.State.{StandsFor}
 use Rattle.sv_serve.specs.declared.wire.Answer.TheVariants.{Got, Failed}
-use Rattle.sv_serve.specs.Heard.{Heard, WasAccepted, WasRead, WasWritten, WasDialed, PeerAnswered, WasClosed}
+use Rattle.sv_serve.specs.Heard.{Heard, WasAccepted, WasRead, WasProbed, WasWritten, WasDialed, PeerAnswered, WasClosed}
 use Rattle.sv_serve.specs.Moment.{Driving, Goes}
 use Rattle.sv_serve.specs.Sweep.{Sweeps}
 use Rattle.sv_serve.specs.Timed.{is_timed, timed, handed}
@@ -51,9 +51,10 @@ abbrev pub since : Port → (Heard → List ℕ) → List Heard → List ℕ
 since port bytes [] = []
 since port bytes (heard ∷ trace) = if begins port heard then [] else since port bytes trace ++ bytes heard
 
--- whether reading or writing a connection failed
+-- whether reading or writing a connection failed, or it is gone
 abbrev pub is_failure : ℕ → Heard → Bool
 is_failure c (WasRead d most Failed) = d == c
+is_failure c (WasProbed d drops Failed) = d == c
 is_failure c (WasWritten (Conn d) bytes Failed) = d == c
 is_failure c _ = false
 

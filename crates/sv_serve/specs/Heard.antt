@@ -1,15 +1,17 @@
 -- What a wire is asked, and what it answers.
-use Rattle.std.specs.Prelude.{ℕ, ◌≤◌, List, length, take, Option, ⊤}
+use Rattle.std.specs.Prelude.{ℕ, ◌≤◌, Bool, List, length, take, Option, ⊤}
 use Rattle.sv_history.specs.declared.event.Role.{Role}
 use Rattle.sv_history.specs.declared.event.Port.{Port}
 use Rattle.sv_history.specs.declared.event.Dial.{Dial}
 use Rattle.sv_serve.specs.declared.wire.Answer.{Answer}
 use Rattle.sv_serve.specs.declared.wire.Answer.TheVariants.{Got, Pending, Failed}
 
--- one call of a wire, with its answer; of a read, how many bytes were asked for at most
+-- One call of a wire, with its answer; of a read, how many bytes were asked for at most. A probe asks whether a connection that isn't read
+-- is gone, and drops what comes on it, if so said.
 pub data Heard : Type 0 where
   WasAccepted : (role : Role) (conn : Option ℕ) (answer : Answer ⊤) → Heard
   WasRead : (conn : ℕ) (most : ℕ) (answer : Answer (List ℕ)) → Heard
+  WasProbed : (conn : ℕ) (drops : Bool) (answer : Answer ⊤) → Heard
   WasWritten : (port : Port) (bytes : List ℕ) (answer : Answer ℕ) → Heard
   WasDialed : (conn : ℕ) (dial : Dial) (answer : Answer ⊤) → Heard
   PeerAnswered : (conn : ℕ) (answer : Answer ⊤) → Heard

@@ -15,9 +15,9 @@ use Rattle.sv_history.specs.History.{IsLogOf, Answers, history_after}
 use Rattle.sv_history.specs.Print.{is_no_memory}
 use Rattle.sv_serve.specs.declared.wire.Answer.{Answer}
 use Rattle.sv_serve.specs.declared.wire.Answer.TheVariants.{Got, Pending, Failed}
-use Rattle.sv_serve.specs.Heard.{Heard, WasAccepted, WasRead, WasWritten, WasDialed, PeerAnswered, WasClosed, IsWithin, IsPiece}
+use Rattle.sv_serve.specs.Heard.{Heard, WasAccepted, WasRead, WasProbed, WasWritten, WasDialed, PeerAnswered, WasClosed, IsWithin, IsPiece}
 use Rattle.sv_serve.specs.Moment.{Moment, Stays, ◌then◌}
-use Rattle.sv_serve.specs.Asked.{IsOpen, HasRoom, IsReady, IsFaulted, Wants, Waits, IsLowest}
+use Rattle.sv_serve.specs.Asked.{IsOpen, HasRoom, IsReady, IsOverlong, IsFaulted, Wants, Waits, IsLowest}
 
 -- the wire was asked, and answered so
 abbrev pub Hears : {W : Type 0} → (W → Heard → W → Type 0) → Heard → Config → Moment W → Moment W → Type 0
@@ -77,9 +77,24 @@ Comes hears c Failed = Closes hears c
 abbrev pub longest_piece : ℕ
 longest_piece = 16384
 
+-- a connection that is gone is closed
+abbrev pub Drops : {W : Type 0} → (W → Heard → W → Type 0) → ℕ → Answer ⊤ → Config → Moment W → Moment W → Type 0
+Drops hears c (Got all) = Stays
+Drops hears c Pending = Stays
+Drops hears c Failed = Closes hears c
+
+abbrev pub ProbesIf : {W : Type 0} → (W → Heard → W → Type 0) → ℕ → Bool → Config → Moment W → Moment W → Type 0
+ProbesIf hears c false config before after = after ≡ before
+ProbesIf hears c true config before after = (drops : Bool) × (answer : Answer ⊤) × IsOverlong c config before drops
+    × (Hears hears (WasProbed c drops answer) then Drops hears c answer) config before after
+
+-- One that is open and has no room isn't read, but asked whether it is gone. What comes behind a record that is too long is dropped.
+abbrev pub Probes : {W : Type 0} → (W → Heard → W → Type 0) → ℕ → Config → Moment W → Moment W → Type 0
+Probes hears c config before after = (opened : Bool) × IsOpen (Conn c) config before opened × ProbesIf hears c opened config before after
+
 -- Where there is room for so many bytes, as many are asked for, but no more than a piece has.
 abbrev pub ReadsUpTo : {W : Type 0} → (W → Heard → W → Type 0) → ℕ → ℕ → Config → Moment W → Moment W → Type 0
-ReadsUpTo hears room c config before after = ((room ≡ 0) × (after ≡ before))
+ReadsUpTo hears room c config before after = ((room ≡ 0) × Probes hears c config before after)
     ⊎ ((0 < room) × (answer : Answer (List ℕ)) × IsPiece answer (min room longest_piece)
     × (Hears hears (WasRead c (min room longest_piece) answer) then Comes hears c answer) config before after)
 

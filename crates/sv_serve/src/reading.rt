@@ -1,17 +1,18 @@
 //! Reading connections.
 
-ghost use Rattle.std.specs.Prelude.{◌<◌, ◌≤◌, length};
+ghost use Rattle.std.specs.Prelude.{◌<◌, ◌≤◌, true, length};
 ghost use Rattle.sv_history.specs.declared.event.Config.{Config};
-ghost use Rattle.sv_serve.specs.Heard.{WasRead, bytes_of, IsWithin};
+ghost use Rattle.sv_history.specs.declared.event.Port.TheVariants.{Conn};
+ghost use Rattle.sv_serve.specs.Heard.{WasRead, WasProbed, bytes_of, IsWithin};
 ghost use Rattle.sv_serve.specs.Moment.{Moment, Goes, Each};
-ghost use Rattle.sv_serve.specs.Asked.{HasRoom};
+ghost use Rattle.sv_serve.specs.Asked.{HasRoom, IsOpen};
 ghost use Rattle.sv_serve.specs.Premises.{From};
-ghost use Rattle.sv_serve.specs.Steps.{ReadsFrom, ReadsUpTo};
+ghost use Rattle.sv_serve.specs.Steps.{Hears, ReadsFrom, ReadsUpTo, Probes, ProbesIf, Drops};
 
 use crate::driver::{CONNECTIONS, Driver};
 use crate::wire::{Answer, Wire};
 use std::alloc::Allocator;
-use sv_server::Event;
+use sv_server::{Event, Port};
 
 /// Reads at most so many bytes of a connection, to the front of a buffer.
 fn read_into<W: Wire>(wire: &mut W, conn: u8, buffer: &mut [u8], size: usize) -> Answer<usize>
@@ -51,6 +52,7 @@ impl<W: Wire + Drop, A: Allocator> Driver<W, A> {
             self.old self.new }
     {
         if room == 0 {
+            self.probe(conn);
             return;
         }
         let size = self.buffer.len().min(room as usize);
@@ -59,6 +61,48 @@ impl<W: Wire + Drop, A: Allocator> Driver<W, A> {
                 let piece = &self.buffer[..count];
                 let _ = self.server.apply(Event::Bytes { conn, piece });
             }
+            Answer::Pending => {}
+            Answer::Failed => self.close(conn),
+        }
+    }
+
+    /// Asks whether a connection that has no room is gone, if it is open.
+    fn probe(&mut self, conn: u8)
+        requires { conn < 16 }
+        ensures { Goes (Probes W.hears conn) self.old self.new }
+    {
+        let opened = self.server.is_open(Port::Conn(conn));
+        self.probe_if(conn, opened);
+    }
+
+    /// Asks whether a connection is gone, if this is so.
+    fn probe_if(&mut self, conn: u8, opened: bool)
+        requires { conn < 16 }
+        ensures { From (λ (config : Config) (at : Moment W). IsOpen (Conn conn) config at opened)
+            (ProbesIf W.hears conn opened) self.old self.new }
+    {
+        if opened {
+            let drops = self.server.overlong(conn);
+            let answer = self.ask(conn, drops);
+            self.drop_gone(conn, answer);
+        }
+    }
+
+    /// Asks the wire whether a connection is gone.
+    fn ask(&mut self, conn: u8, drops: bool) -> Answer<()>
+        ensures { Goes (Hears W.hears (WasProbed conn drops result)) self.old self.new }
+    {
+        self.wire.probe(conn, drops)
+    }
+
+    /// Closes a connection that is gone.
+    fn drop_gone(&mut self, conn: u8, answer: Answer<()>)
+        requires { conn < 16 }
+        ensures { From (λ (config : Config) (at : Moment W). IsOpen (Conn conn) config at true)
+            (Drops W.hears conn answer) self.old self.new }
+    {
+        match answer {
+            Answer::Got(()) => {}
             Answer::Pending => {}
             Answer::Failed => self.close(conn),
         }

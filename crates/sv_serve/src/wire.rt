@@ -17,7 +17,7 @@ pub enum Answer<T> {
 
 /// What carries the bytes of connections and interrupt channels. No call waits.
 pub trait Wire {
-    ghost use Rattle.sv_serve.specs.Heard.{Heard, WasAccepted, WasRead, WasWritten, WasDialed, PeerAnswered, WasClosed, bytes_of, IsWithin};
+    ghost use Rattle.sv_serve.specs.Heard.{Heard, WasAccepted, WasRead, WasProbed, WasWritten, WasDialed, PeerAnswered, WasClosed, bytes_of, IsWithin};
     ghost use Rattle.std.specs.Prelude.{⊤};
 
     /// What a call and its answer lead to; of a wire that is a system's nothing is known.
@@ -31,6 +31,12 @@ pub trait Wire {
     fn read(&mut self, conn: u8, buffer: &mut [u8]) -> Answer<usize>
         ensures within { IsWithin result (length buffer.old) }
         ensures heard { hears self.old (WasRead conn (length buffer.old) (bytes_of result buffer.new)) self.new };
+
+    /// Whether a connection that has no room, and so isn't read, is gone: `Failed` where it was
+    /// reset, or closed in both directions. With `drops` what comes on it is read and dropped, and
+    /// it is gone at the end of its stream too.
+    fn probe(&mut self, conn: u8, drops: bool) -> Answer<()>
+        ensures { hears self.old (WasProbed conn drops result) self.new };
 
     /// Writes bytes to a connection or an interrupt channel, and tells how many of them it took.
     fn write(&mut self, port: Port, bytes: &[u8]) -> Answer<usize>

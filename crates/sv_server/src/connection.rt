@@ -4,7 +4,7 @@
 ghost use Rattle.std.specs.Prelude.{◌≡◌, ◌≢◌, ◌+◌, ◌≤◌, ◌||◌, not, ◌&&◌, ℕ, List, [], ◌∷◌, length, IfOk, IsSome, Some, None, true, false, is_some, nat_lt, option_map, if◌then◌else◌};
 ghost use Rattle.sv_rpc.specs.RecordBuf.{StandsFor, room_of, no_records};
 ghost use Rattle.sv_history.specs.Act.{ConnAct, Opened, Piece, CallTaken, Faulted, Replied, BytesTaken, PortClosed};
-ghost use Rattle.sv_history.specs.Connection.{is_open, unanswered, is_busy, next_call, is_idle, is_faulted, room, free, waiting};
+ghost use Rattle.sv_history.specs.Connection.{is_open, unanswered, is_busy, next_call, is_idle, is_overlong, is_faulted, room, free, waiting};
 ghost use Rattle.sv_history.specs.Limits.{longest_reply, max_output};
 ghost use Rattle.sv_server.specs.Connection.Representation.{IsConnection};
 ghost use Rattle.sv_server.specs.Connection.Inside.NextCall.{kept_next};
@@ -174,6 +174,13 @@ impl<A: Allocator> Connection<A> {
             Ok(_) => self.faulted,
             Err(RpcFault::RecordTooLong) => true,
         }
+    }
+
+    /// Whether a record that came is too long: behind it nothing is taken in.
+    pub fn is_overlong(&self) -> bool
+        ensures { (acts : List ConnAct) → IsConnection self.now acts → result ≡ is_overlong acts }
+    {
+        self.input.is_overlong()
     }
 
     /// The call to take next, where there is one.

@@ -7,7 +7,7 @@ ghost use Rattle.sv_links.specs.Channels.{ChannelAct};
 ghost use Rattle.sv_history.specs.Event.{PlainEvent, Open, Bytes, Turn, Refuse, Took, Close, Input, External, Tick, plain, IsEvent};
 ghost use Rattle.sv_links.specs.Waiting.{waits};
 ghost use Rattle.sv_history.specs.Act.{Act, of, device_acts, wait_acts};
-ghost use Rattle.sv_history.specs.Connection.{is_open, waiting_on, room, is_idle, is_faulted};
+ghost use Rattle.sv_history.specs.Connection.{is_open, waiting_on, room, is_idle, is_overlong, is_faulted};
 ghost use Rattle.sv_history.specs.History.{abort_acts, is_shut, is_port_shut, IsLogOf, Answers, history_after};
 ghost use Rattle.sv_history.specs.Requests.{HearsOf};
 ghost use Rattle.sv_history.specs.Queries.{Answered, Decided, WaitOn, IsUsed};
@@ -171,6 +171,18 @@ impl<A: Allocator> Server<A> {
     {
         match self.connection(conn) {
             Some(connection) => connection.is_faulted(),
+            None => false,
+        }
+    }
+
+    /// Whether a record came on the connection that is too long: nothing behind it is taken in, and
+    /// there is no room any more. Whole records in front of it still wait for their Turns.
+    pub fn overlong(&self, conn: u8) -> bool
+        ensures { (config : Config) (history : List PlainEvent) → StandsFor self.now config history
+            → Answered (λ log. is_overlong (of conn log)) config history result }
+    {
+        match self.connection(conn) {
+            Some(connection) => connection.is_overlong(),
             None => false,
         }
     }

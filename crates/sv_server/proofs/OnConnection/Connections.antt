@@ -5,13 +5,13 @@ use Rattle.std.proofs.lemmas.Bool.{ne_eqb, cases_eq}
 use Rattle.std.specs.Borrow.{Bor}
 use Rattle.sv_rpc.specs.declared.record_buf.RpcFault.{RpcFault}
 use Rattle.sv_rpc.specs.declared.record_buf.RpcFault.TheVariants.{RecordTooLong}
-use Rattle.sv_rpc.specs.Record.{Tail, Header, Data, TooLong}
+use Rattle.sv_rpc.specs.Record.{Tail, Header, Data, TooLong, ends_overlong}
 use Rattle.sv_rpc.specs.RecordBuf.{room_of, used_by, next_among}
 use Rattle.sv_rpc.specs.Stream.{records_of, tail_of}
 use Rattle.sv_rpc.proofs.OneReading.{read_alone}
 use Rattle.sv_rpc.specs.Limits.{capacity}
 use Rattle.sv_history.specs.Act.{ConnAct, CallTaken}
-use Rattle.sv_history.specs.Connection.{is_open, stream, completed, took_no_call, is_busy, next_call, is_idle, is_too_long, is_faulted, room}
+use Rattle.sv_history.specs.Connection.{is_open, stream, completed, took_no_call, is_busy, next_call, is_idle, is_overlong, is_faulted, room}
 use Rattle.sv_server.specs.Connection.Representation.{Connection, IsConnection}
 use Rattle.sv_server.specs.Connection.Inside.NextCall.{kept_next}
 
@@ -78,7 +78,7 @@ abbrev pub is_fault : Result (Option (List ℕ)) RpcFault → Bool
 is_fault (Ok found) = false
 is_fault (Err RecordTooLong) = true
 
-fault_among : (records : List (List ℕ)) (tail : Tail) → is_fault (next_among records tail) ≡ (is_too_long tail && none_left records)
+fault_among : (records : List (List ℕ)) (tail : Tail) → is_fault (next_among records tail) ≡ (ends_overlong tail && none_left records)
 fault_among (r ∷ rs) (Header payload header) = refl
 fault_among (r ∷ rs) (Data payload missing last) = refl
 fault_among (r ∷ rs) TooLong = refl
@@ -101,8 +101,8 @@ faulted_is kept acts is =
     turned (is_fault (next_among kept.input.records kept.input.tail)) kept.faulted
     ∙ ap (λ (b : Bool). b || is_fault (next_among kept.input.records kept.input.tail)) is.faulted
     ∙ ap (λ (b : Bool). took_no_call acts || b) (fault_among kept.input.records kept.input.tail
-    ∙ ap (λ (b : Bool). is_too_long kept.input.tail && b) left
-    ∙ ap (λ (t : Tail). is_too_long t && eqb (completed acts) (length (records_of (stream acts)))) (tail_is kept acts is))
+    ∙ ap (λ (b : Bool). ends_overlong kept.input.tail && b) left
+    ∙ ap (λ (t : Tail). ends_overlong t && eqb (completed acts) (length (records_of (stream acts)))) (tail_is kept acts is))
 
 -- the one fault there is
 one_fault : (fault : RpcFault) (answer : Result (Option (List ℕ)) RpcFault) → answer ≡ Err fault → is_fault answer ≡ true
@@ -112,6 +112,10 @@ pub faulted_told : (kept : Connection) (acts : List ConnAct) → IsConnection ke
     → next_among kept.input.records kept.input.tail ≡ Err fault → true ≡ is_faulted acts
 faulted_told kept acts is fault e =
     sym (ap (λ (b : Bool). b || kept.faulted) (one_fault fault _ e)) ∙ faulted_is kept acts is
+
+-- whether a record is too long
+pub overlong_is : (kept : Connection) (acts : List ConnAct) → IsConnection kept acts → ends_overlong kept.input.tail ≡ is_overlong acts
+overlong_is kept acts is = ap ends_overlong (tail_is kept acts is)
 
 -- how many bytes may come, where it is open
 pub room_is : (kept : Connection) (acts : List ConnAct) → IsConnection kept acts → is_some kept.role ≡ true → room_of kept.input ≡ room acts

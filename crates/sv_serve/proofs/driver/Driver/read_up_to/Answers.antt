@@ -1,4 +1,4 @@
-use Rattle.std.proofs.Common.{◌≡◌, ◌<◌, ◌≤◌, ◌∷◌, refl, rules, drop, take, length, min, inr, sym, ap, subst, ◌∙◌, length-take, arith}
+use Rattle.std.proofs.Common.{◌≡◌, ◌<◌, ◌≤◌, ◌∷◌, refl, rules, drop, take, length, min, inl, inr, sym, ap, subst, ◌∙◌, length-take, arith}
 use Rattle.sv_history.specs.declared.event.Port.TheVariants.{Conn}
 use Rattle.sv_history.specs.Event.{Bytes}
 use Rattle.sv_history.specs.History.{Answers, history_after}
@@ -36,6 +36,12 @@ invariant_of-self-in-Failed g c = (
   ap length (again c.self.inside.buffer.len c.self.inside.buffer.items c.deref_mut.result.now c.read_into.new.buffer
       c.deref_mut.ensures.len c.read_into.auto.buffer) ∙ c.read_into.auto.buffer ∙ ap length c.deref_mut.ensures.value ∙ c.self.invariant.3,
 )
+
+pub returns-then-room-eq0 : goal.returns-then-room-eq0
+returns-then-room-eq0 g c = λ config history stands has.
+    let none : c.args.room ≡ 0 = search rules in
+    let (h0, s0, p0) = c.probe.ensures config history stands in
+    (h0, s0, inl (none, p0))
 
 pub returns-in-Got : goal.returns-in-Got
 returns-in-Got g c = rw (← c.self.view_is) (λ config history stands has.
