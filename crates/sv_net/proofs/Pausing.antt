@@ -1,5 +1,5 @@
 -- Waits, one after the other.
-use Rattle.std.proofs.Common.{◌≡◌, ℕ, ◌≤◌, ◌∷◌, Bool, List, Some, refl, sym, inl, arith}
+use Rattle.std.proofs.Common.{◌≡◌, ℕ, ◌∷◌, Bool, Some, refl, inl, arith}
 use Rattle.std.specs.Prelude.{Option}
 use Rattle.std.specs.Duration.{as_nanos}
 use Rattle.std.specs.declared.time.Duration.{Duration}
@@ -7,7 +7,7 @@ use Rattle.sv_serve.specs.Heard.{Heard}
 use Rattle.sv_serve.specs.Moment.{Driving}
 use Rattle.sv_net.specs.Sleep.{MaySleep}
 use Rattle.sv_net.specs.Serving.{Doing, Waited}
-use Rattle.sv_net.specs.Inside.Pausing.{Running, Pauses}
+use Rattle.sv_net.specs.Inside.Pausing.{Pauses}
 
 -- a wait that may be so long
 pub one_wait : {W M : Type 0} (hears : W → Heard → W → Type 0) (answers : M → Doing → M → Type 0) (driver : Driving W)

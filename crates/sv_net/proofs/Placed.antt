@@ -1,5 +1,5 @@
 -- A call at a socket's number, by what it does at the place.
-use Rattle.std.proofs.Common.{◌≡◌, ℕ, ◌≤◌, List, length, Some, None, refl, sym}
+use Rattle.std.proofs.Common.{◌≡◌, ℕ, ◌≤◌, List, length, None, refl, sym}
 use Rattle.std.proofs.lemmas.List.{set_past, get_or_past}
 use Rattle.std.specs.Prelude.{Option, slice_index_or, slice_set}
 use Rattle.sv_serve.specs.declared.wire.Answer.{Answer}

@@ -21,7 +21,8 @@ none_served hears IsCount driver none = ([], none, refl, refl)
 pub served_by : {W M : Type 0} {hears : W → Heard → W → Type 0} {answers : M → Doing → M → Type 0} {many swept time : ℕ}
     {old new : Driving W} {first now : M} (IsCount : ℕ → Type 0)
     → Running hears answers many swept time old new first now → IsCount many → Served hears IsCount old new
-served_by IsCount r is = (r.doings, rw r.sweeps is, r.serves, swept_alone _ r.doings _ _ r.serves)
+served_by {hears = hears} {old = old} {new = new} IsCount r is =
+    (r.doings, rw r.sweeps is, r.serves, swept_alone hears r.doings old new r.serves)
 
 pub none_run : {W M : Type 0} (hears : W → Heard → W → Type 0) (answers : M → Doing → M → Type 0) (driver : Driving W) (machine : M)
     → Running hears answers 0 0 0 driver driver machine machine

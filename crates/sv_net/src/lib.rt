@@ -3,6 +3,7 @@
 #![tactic(auto)]
 
 mod door;
+pub mod laws;
 mod machine;
 mod net;
 mod rest;

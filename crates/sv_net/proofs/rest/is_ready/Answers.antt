@@ -1,4 +1,4 @@
-use Rattle.std.proofs.Common.{◌≡◌, ◌<◌, ◌≤◌, arith, ℕ, ◌+◌, inl, inr}
+use Rattle.std.proofs.Common.{arith, ℕ, ◌+◌, inl, inr}
 use Rattle.std.specs.Prelude.{false}
 use Rattle.std.proofs.lemmas.Bool.{cases_lt}
 use Rattle.sv_serve.specs.Asked.{IsReady}

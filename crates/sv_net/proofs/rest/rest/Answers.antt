@@ -1,6 +1,5 @@
-use Rattle.std.proofs.Common.{◌≡◌, ℕ, ◌-◌, ◌*◌, ◌≤◌, refl, ◌∙◌, ap, inl, inr, arith}
+use Rattle.std.proofs.Common.{◌≡◌, ℕ, ◌-◌, ◌*◌, ◌≤◌, inl, inr, arith}
 use Rattle.std.specs.Prelude.{◌⊎◌}
-use Rattle.sv_net.specs.Sleep.{left_until}
 use Rattle.sv_net.proofs.rest.rest.Goals as goal
 
 pub returns-then-is_idle-clause-may : goal.returns-then-is_idle-clause-may

@@ -6,5 +6,5 @@ use Rattle.sv_net.proofs.serving.look.Given as goal
 abbrev pub invariant-loop-looks : goal.invariant-loop-looks
 invariant-loop-looks g l = record {
   pauses : Pauses (Hears g.S.Read.remaining g.S.Write.contents) g.M.Machine.answers l.driver l.fn.pace.swept l.fn.began l.now l.fn.machine l.machine;
-  swept : l.pace.swept ≡ l.fn.pace.swept
+  swept : l.pace.swept ≡ l.fn.pace.swept;
 }
