@@ -19,7 +19,7 @@
 //! | `a closes` | it closes its stream |
 //! | `i listens PORT` | it listens on a port of 127.0.0.1 |
 //! | `i accepts` | a connection comes to that port: from here on it is the peer's stream |
-//! | `a pours N 8000..` | without reading it sends these calls in turn, N times, until no more is taken |
+//! | `a pours N 8000..` | without reading, it sends these calls N times, until no more is taken |
 //! | `a drains` | it sends the rest, and reads the replies to all, which are compared |
 //! | `start` | a time to compare with |
 //! | `passed MILLISECONDS` | at least so many have passed since |

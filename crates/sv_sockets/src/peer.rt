@@ -13,15 +13,12 @@ fn local(port: u16) -> SocketAddr {
     SocketAddr::V4(SocketAddrV4::new(Ipv4Addr::LOCALHOST, port))
 }
 
-/// What a socket gave or took; nothing where it would have waited.
-fn moved(outcome: io::Result<usize>) -> io::Result<usize> {
-    match outcome {
-        Ok(count) => Ok(count),
-        Err(error) => match error.kind() {
-            ErrorKind::WouldBlock | ErrorKind::NotConnected | ErrorKind::Interrupted => Ok(0),
-            _ => Err(error),
-        },
-    }
+/// Whether a call failed only since it would have to wait.
+fn would_wait(kind: ErrorKind) -> bool {
+    matches!(
+        kind,
+        ErrorKind::WouldBlock | ErrorKind::NotConnected | ErrorKind::Interrupted
+    )
 }
 
 /// A peer of the server.
@@ -68,7 +65,7 @@ impl Peer {
         Ok(peer)
     }
 
-    /// Accepts a connection, if one comes to its port; whether one did.
+    /// Accepts a connection, if one comes to its port; whether it has a stream.
     pub(crate) fn accept(&mut self) -> io::Result<bool> {
         let Some(listener) = &self.listener else {
             return Ok(false);
@@ -78,10 +75,13 @@ impl Peer {
                 self.stream = Some(stream);
                 Ok(true)
             }
-            Err(error) => match error.kind() {
-                ErrorKind::WouldBlock => Ok(false),
-                _ => Err(error),
-            },
+            Err(error) => {
+                if would_wait(error.kind()) {
+                    Ok(self.stream.is_some())
+                } else {
+                    Err(error)
+                }
+            }
         }
     }
 
@@ -93,12 +93,28 @@ impl Peer {
         if self.unsent.is_empty() {
             return Ok(0);
         }
-        let count = moved(stream.write(&self.unsent))?.min(self.unsent.len());
-        self.unsent.drain(..count);
-        Ok(count)
+        match stream.write(&self.unsent) {
+            Ok(count) => {
+                let count = count.min(self.unsent.len());
+                self.unsent.drain(..count);
+                Ok(count)
+            }
+            Err(error) => self.fault(error),
+        }
     }
 
-    /// Reads what is there. A stream that is reset ended too.
+    /// What comes of a call that failed: a stream that was reset ended too.
+    fn fault(&mut self, error: io::Error) -> io::Result<usize> {
+        match error.kind() {
+            ErrorKind::ConnectionReset | ErrorKind::BrokenPipe => {
+                self.ended = true;
+                Ok(0)
+            }
+            kind => { if would_wait(kind) { Ok(0) } else { Err(error) } }
+        }
+    }
+
+    /// Reads what is there.
     pub(crate) fn hear(&mut self) -> io::Result<()> {
         let Some(stream) = &mut self.stream else {
             return Ok(());
@@ -109,13 +125,16 @@ impl Peer {
                 let piece = self.buffer.get(..count).unwrap_or(&[]);
                 self.came.extend_from_slice(piece)?;
             }
-            Err(error) => match error.kind() {
-                ErrorKind::ConnectionReset | ErrorKind::BrokenPipe => self.ended = true,
-                _ => {
-                    moved(Err(error))?;
-                }
-            },
+            Err(error) => {
+                self.fault(error)?;
+            }
         }
         Ok(())
+    }
+
+    /// Closes its stream.
+    pub(crate) fn close(&mut self) {
+        self.stream = None;
+        self.unsent.clear();
     }
 }

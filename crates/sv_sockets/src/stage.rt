@@ -3,17 +3,17 @@
 use crate::peer::Peer;
 use std::alloc::Global;
 use std::io::{self, Error, ErrorKind};
-use std::time::{Duration, Instant};
+use std::time::Instant;
 use sv_net::{Net, Watch, serve};
 use sv_replay::read_scenario;
 use sv_serve::Driver;
-use sv_server::{Config, Server};
+use sv_server::{Config, Port, Server};
 
 /// The ports of the core channel, the abort channel and the port mapper.
 pub(crate) const PORTS: [u16; 3] = [24196, 24197, 24198];
-/// How long a peer waits at most, in milliseconds.
-const PATIENCE: u128 = 10_000;
-/// How many looks it has at most.
+/// How many seconds a peer waits at most.
+const PATIENCE: u64 = 10;
+/// How often it looks at most.
 const LOOKS: u32 = 10_000_000;
 /// How many sweeps are made between two looks: time passes behind the first one.
 const SWEEPS: u32 = 2;
@@ -69,6 +69,12 @@ impl Stage {
         serve(&self.rt, &mut self.watch, &mut self.driver, sweeps)
     }
 
+    /// Whether bytes wait in the server that the sockets don't take.
+    pub(crate) fn waits(&self) -> bool {
+        let server = self.driver.server();
+        (0..16).any(|conn| !server.waiting(Port::Conn(conn)).is_empty())
+    }
+
     /// Keeps the time to compare with.
     pub(crate) fn begin(&mut self) -> io::Result<()> {
         self.start = Instant::now(&self.rt)?;
@@ -80,21 +86,51 @@ impl Stage {
         Ok(self.start.elapsed(&self.rt)?.as_millis())
     }
 
+    /// Lets a peer send and read what it can; whether it has so many bytes, or its stream ended.
+    fn has(&mut self, name: char, count: usize) -> io::Result<bool> {
+        let peer = self.peer(name)?;
+        peer.send()?;
+        peer.hear()?;
+        Ok(peer.ended || peer.came.len() >= count)
+    }
+
     /// Serves until so many bytes came to a peer, or its stream ended; not for ever.
     pub(crate) fn wait_for(&mut self, name: char, count: usize) -> io::Result<()> {
         let begun = Instant::now(&self.rt)?;
         for _ in 0..LOOKS {
-            let peer = self.peer(name)?;
-            peer.send()?;
-            peer.hear()?;
-            if peer.ended || peer.came.len() >= count {
-                return Ok(());
-            }
-            if begun.elapsed(&self.rt)? > Duration::from_secs(10) {
+            if self.has(name, count)? || begun.elapsed(&self.rt)?.as_secs() >= PATIENCE {
                 return Ok(());
             }
             self.serve(SWEEPS)?;
         }
         Ok(())
+    }
+
+    /// Serves until a connection came to a peer's port; not for ever.
+    pub(crate) fn accept(&mut self, name: char) -> io::Result<bool> {
+        let begun = Instant::now(&self.rt)?;
+        for _ in 0..LOOKS {
+            let accepted = self.peer(name)?.accept()?;
+            if accepted || begun.elapsed(&self.rt)?.as_secs() >= PATIENCE {
+                return Ok(accepted);
+            }
+            self.serve(SWEEPS)?;
+        }
+        Ok(false)
+    }
+
+    /// Serves until bytes came to the second of two peers; whether some came to the first one too,
+    /// which is looked at behind the second one.
+    pub(crate) fn is_first(&mut self, first: char, second: char) -> io::Result<bool> {
+        let begun = Instant::now(&self.rt)?;
+        for _ in 0..LOOKS {
+            let second = self.has(second, 1)?;
+            let first = self.has(first, 1)?;
+            if second || begun.elapsed(&self.rt)?.as_secs() >= PATIENCE {
+                return Ok(first);
+            }
+            self.serve(SWEEPS)?;
+        }
+        Ok(false)
     }
 }
