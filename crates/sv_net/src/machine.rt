@@ -12,7 +12,7 @@ use std::time::{Clock, Duration, Instant};
 
 /// A clock, and the reports of sockets.
 pub(crate) trait Machine {
-    ghost use Rattle.sv_net.specs.Serving.{Doing, Waited};
+    ghost use Rattle.sv_net.specs.Serving.{Doing, Waited, Told};
     ghost use Rattle.std.specs.Prelude.{⊤};
 
     /// What a wait and its outcome lead to; of a real machine nothing is known.
@@ -27,7 +27,8 @@ pub(crate) trait Machine {
         ensures { IfOk result (λ ended. answers self.old (Waited limit ended.0 ended.1) self.new) };
 
     /// Tells the sockets what was reported to the last wait.
-    fn report<N: Network + Drop, B: Allocator, S: Stream>(&self, net: &Net<N, B, S>);
+    fn report<N: Network + Drop, B: Allocator, S: Stream>(&mut self, net: &Net<N, B, S>)
+        ensures { answers self.old Told self.new };
 }
 
 /// The machine's clock, when it was read first, and what waits for its sockets.
@@ -60,7 +61,7 @@ impl<C: Clock, A: Allocator> Machine for System<'_, C, A> {
         Ok((reported, passed.as_nanos().min(u128::from(u64::MAX)) as u64))
     }
 
-    fn report<N: Network + Drop, B: Allocator, S: Stream>(&self, net: &Net<N, B, S>) {
+    fn report<N: Network + Drop, B: Allocator, S: Stream>(&mut self, net: &Net<N, B, S>) {
         self.watch.report(net);
     }
 }

@@ -1,11 +1,9 @@
 //! Sweep after sweep.
 
 ghost use Rattle.std.specs.Prelude.{◌≡◌, ◌≤◌, ℕ, OnOk, OnErr, IfOk};
-ghost use Rattle.sv_serve.specs.Moment.{Goes};
-ghost use Rattle.sv_serve.specs.Sweep.{Sweeps};
 ghost use Rattle.sv_net.specs.Sockets.{Hears};
-ghost use Rattle.sv_net.specs.Serving.{Waited, Served};
-ghost use Rattle.sv_net.specs.Inside.Pausing.{Pauses, Ran};
+ghost use Rattle.sv_net.specs.Serving.{Waited, is_fresh, is_told, Served};
+ghost use Rattle.sv_net.specs.Inside.Pausing.{is_quiet, Rounds, Pauses, Ran};
 
 use crate::machine::{Machine, System};
 use crate::net::Net;
@@ -69,11 +67,12 @@ fn run<M: Machine, N: Network + Drop, A: Allocator, S: Stream>(
 /// Makes a sweep. Milliseconds that passed while it waited come in front of what was reported then,
 /// which the next sweep finds.
 fn sweep<M: Machine, N: Network + Drop, A: Allocator, S: Stream>(
-    machine: &M,
+    machine: &mut M,
     driver: &mut Driver<Net<N, A, S>, A>,
     ticks: u32,
 )
-    ensures { Goes (Sweeps (Hears S.remaining S.contents) ticks) driver.old driver.new }
+    ensures { Rounds (Hears S.remaining S.contents) M.answers ticks driver.old driver.new
+        machine.old machine.new }
 {
     if ticks == 0 {
         machine.report(driver.wire());
@@ -112,7 +111,7 @@ fn pause<M: Machine, N: Network + Drop, A: Allocator, S: Stream>(
     left: u32,
 ) -> io::Result<u64>
     ensures pauses { IfOk result (λ ended. Pauses (Hears S.remaining S.contents) M.answers
-        driver.now pace.old.swept began ended machine.old machine.new) }
+        driver.now is_told is_fresh pace.old.swept began ended machine.old machine.new) }
     ensures swept { pace.new.swept ≡ pace.old.swept }
 {
     let eager = pace.is_eager(began);
@@ -137,7 +136,7 @@ fn look<M: Machine, N: Network + Drop, A: Allocator, S: Stream>(
     left: u32,
 ) -> io::Result<u64>
     ensures pauses { IfOk result (λ ended. Pauses (Hears S.remaining S.contents) M.answers
-        driver.now pace.old.swept began ended machine.old machine.new) }
+        driver.now is_quiet is_fresh pace.old.swept began ended machine.old machine.new) }
     ensures swept { pace.new.swept ≡ pace.old.swept }
 {
     let mut now = began;
@@ -165,7 +164,7 @@ fn sleep<M: Machine, N: Network + Drop, A: Allocator, S: Stream>(
     left: u32,
 ) -> io::Result<u64>
     ensures pauses { IfOk result (λ ended. Pauses (Hears S.remaining S.contents) M.answers
-        driver.now pace.old.swept now ended machine.old machine.new) }
+        driver.now is_told is_fresh pace.old.swept now ended machine.old machine.new) }
     ensures swept { pace.new.swept ≡ pace.old.swept }
 {
     let limit = rest(driver, pace, now, left);
