@@ -23,6 +23,11 @@ pub(crate) fn bad() -> Error {
     Error::from(ErrorKind::InvalidData)
 }
 
+/// What is told where a peer waited so long.
+fn late() -> Error {
+    Error::from(ErrorKind::TimedOut)
+}
+
 /// A server with its peers.
 #[derive(Drop)]
 pub(crate) struct Stage {
@@ -94,43 +99,59 @@ impl Stage {
         Ok(peer.ended || peer.came.len() >= count)
     }
 
-    /// Serves until so many bytes came to a peer, or its stream ended; not for ever.
+    /// Serves on, if a peer that began to wait then isn't too late.
+    fn serve_on(&mut self, begun: Instant) -> io::Result<()> {
+        if begun.elapsed(&self.rt)?.as_secs() >= PATIENCE {
+            return Err(late());
+        }
+        self.serve(SWEEPS)
+    }
+
+    /// Serves until so many bytes came to a peer, or its stream ended.
+    ///
+    /// # Errors
+    /// Where that takes too long.
     pub(crate) fn wait_for(&mut self, name: char, count: usize) -> io::Result<()> {
         let begun = Instant::now(&self.rt)?;
         for _ in 0..LOOKS {
-            if self.has(name, count)? || begun.elapsed(&self.rt)?.as_secs() >= PATIENCE {
+            if self.has(name, count)? {
                 return Ok(());
             }
-            self.serve(SWEEPS)?;
+            self.serve_on(begun)?;
         }
-        Ok(())
+        Err(late())
     }
 
-    /// Serves until a connection came to a peer's port; not for ever.
-    pub(crate) fn accept(&mut self, name: char) -> io::Result<bool> {
+    /// Serves until a connection came to a peer's port.
+    ///
+    /// # Errors
+    /// Where that takes too long.
+    pub(crate) fn accept(&mut self, name: char) -> io::Result<()> {
         let begun = Instant::now(&self.rt)?;
         for _ in 0..LOOKS {
-            let accepted = self.peer(name)?.accept()?;
-            if accepted || begun.elapsed(&self.rt)?.as_secs() >= PATIENCE {
-                return Ok(accepted);
+            if self.peer(name)?.accept()? {
+                return Ok(());
             }
-            self.serve(SWEEPS)?;
+            self.serve_on(begun)?;
         }
-        Ok(false)
+        Err(late())
     }
 
     /// Serves until bytes came to the second of two peers; whether some came to the first one too,
     /// which is looked at behind the second one.
+    ///
+    /// # Errors
+    /// Where that takes too long.
     pub(crate) fn is_first(&mut self, first: char, second: char) -> io::Result<bool> {
         let begun = Instant::now(&self.rt)?;
         for _ in 0..LOOKS {
-            let second = self.has(second, 1)?;
-            let first = self.has(first, 1)?;
-            if second || begun.elapsed(&self.rt)?.as_secs() >= PATIENCE {
-                return Ok(first);
+            let came = self.has(second, 1)?;
+            let so = self.has(first, 1)?;
+            if came {
+                return Ok(so);
             }
-            self.serve(SWEEPS)?;
+            self.serve_on(begun)?;
         }
-        Ok(false)
+        Err(late())
     }
 }
