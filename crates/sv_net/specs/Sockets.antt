@@ -39,7 +39,7 @@ At n step answer before after =
 abbrev pub Hears : {S : Type 0} → (S → Option (List ℕ)) → (S → Option (List ℕ)) → List (Option S) → Heard → List (Option S) → Type 0
 Hears left sent before (WasAccepted role (Some c) (Got all)) after = (stream : _) × (after ≡ slice_set before c (Some stream))
 Hears left sent before (WasAccepted role number answer) after = after ≡ before
-Hears left sent before (WasRead c answer) after = At (socket_number (Conn c)) (Gives left answer) answer before after
+Hears left sent before (WasRead c most answer) after = At (socket_number (Conn c)) (Gives left answer) answer before after
 Hears left sent before (WasWritten port bytes answer) after = At (socket_number port) (Takes sent bytes answer) answer before after
 Hears left sent before (WasDialed c dial (Got all)) after = ⊥
 Hears left sent before (WasDialed c dial Pending) after =
