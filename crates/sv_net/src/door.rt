@@ -1,7 +1,6 @@
 //! A listening socket, with what was reported of it.
 
-use crate::socket::Socket;
-use mio::net::TcpListener;
+use mio::net::{TcpListener, TcpStream};
 use mio::{Interest, Registry, Token};
 use std::cell::Cell;
 use std::io::{self, ErrorKind};
@@ -50,21 +49,21 @@ impl Door {
     }
 
     /// Accepts a connection.
-    pub(crate) fn accept(&self) -> Answer<Socket> {
+    pub(crate) fn accept(&self) -> Answer<TcpStream> {
         if !self.knocked.get() {
             return Answer::Pending;
         }
         match self.listener.accept() {
             Ok((stream, _)) => {
                 self.failed.set(false);
-                Answer::Got(Socket::connected(stream))
+                Answer::Got(stream)
             }
             Err(error) => self.refused(error.kind()),
         }
     }
 
     /// What an accept that failed answers.
-    fn refused(&self, kind: ErrorKind) -> Answer<Socket> {
+    fn refused(&self, kind: ErrorKind) -> Answer<TcpStream> {
         match kind {
             ErrorKind::WouldBlock => {
                 self.knocked.set(false);

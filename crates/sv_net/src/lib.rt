@@ -3,11 +3,17 @@
 #![tactic(auto)]
 
 mod door;
+pub mod laws;
+mod machine;
 mod net;
+mod rest;
 mod serving;
 mod socket;
+mod stream;
 mod watch;
+mod work;
 
 pub use net::Net;
 pub use serving::serve;
+pub use stream::Stream;
 pub use watch::Watch;

@@ -1,15 +1,19 @@
 //! The sockets by their numbers.
 
-ghost use Rattle.std.specs.Prelude.{◌<◌, length};
+ghost use Rattle.std.specs.Prelude.{◌≡◌, ◌<◌, Some, None, OnErr, IfOk, length, replicate, slice_set};
+ghost use Rattle.sv_serve.specs.Heard.{IsWithin, bytes_of};
+ghost use Rattle.sv_net.specs.Sockets.{socket_number, Gives, Takes, Does};
 
 use crate::door::Door;
 use crate::socket::Socket;
+use crate::stream::Stream;
 use mio::event::Event;
 use mio::net::TcpStream;
 use mio::{Poll, Registry, Token};
 use std::alloc::{Allocator, Global};
 use std::io;
-use std::net::{Ipv4Addr, Net as Network, SocketAddr, SocketAddrV4};
+use std::marker::Model;
+use std::net::Net as Network;
 use sv_serve::{Answer, Wire};
 use sv_server::{Dial, Port, Role};
 
@@ -22,11 +26,19 @@ const SOCKETS: usize = 32;
 /// No call waits, and none asks the system where nothing was reported since it last said that it
 /// would wait.
 #[derive(Drop)]
-pub struct Net<N: Network + Drop, A: Allocator = Global> {
+pub struct Net<N: Network + Drop, A: Allocator = Global, S: Stream = TcpStream> {
     network: N,
     registry: Registry,
     doors: [Door; 3],
-    sockets: Vec<Option<Socket>, A>,
+    sockets: Vec<Option<Socket<S>>, A>,
+}
+
+impl<N: Network + Drop, A: Allocator, S: Stream> Model for Net<N, A, S> {
+    ghost use Rattle.std.specs.Prelude.{List, Option};
+
+    ghost Value = { List (Option S) };
+
+    ghost view = { λ a. a.sockets.items };
 }
 
 /// Which of the doors.
@@ -41,19 +53,51 @@ fn door_number(role: Role) -> usize
 }
 
 /// Which of the sockets.
-fn socket_number(port: Port) -> usize {
+fn socket_number(port: Port) -> usize
+    ensures { result ≡ socket_number port }
+{
     match port {
         Port::Conn(conn) => usize::from(conn),
         Port::Intr(conn) => 16 + usize::from(conn),
     }
 }
 
-impl<N: Network + Drop, A: Allocator> Net<N, A> {
+/// Reads the socket that is at a place.
+fn read_at<S: Stream>(place: &mut Option<Socket<S>>, buffer: &mut [u8]) -> Answer<usize>
+    ensures within { IsWithin result (length buffer.old) }
+    ensures gives { let answer = bytes_of result buffer.new in
+        Does (Gives S.remaining answer) answer place.old place.new }
+{
+    match place {
+        Some(socket) => socket.read(buffer),
+        None => Answer::Failed,
+    }
+}
+
+/// Writes to the socket that is at a place.
+fn write_at<S: Stream>(place: &mut Option<Socket<S>>, bytes: &[u8]) -> Answer<usize>
+    ensures within { IsWithin result (length bytes.now) }
+    ensures takes { Does (Takes S.contents bytes.now result) result place.old place.new }
+{
+    match place {
+        Some(socket) => socket.write(bytes),
+        None => Answer::Failed,
+    }
+}
+
+impl<N: Network + Drop, A: Allocator, S: Stream> Net<N, A, S> {
     /// Listens on the ports of the core channel, the abort channel and the port mapper.
     ///
     /// # Errors
     /// Where a port can't be listened on, or memory is refused (`ErrorKind::OutOfMemory`).
-    pub fn listen(network: N, alloc: A, poll: &Poll, ports: [u16; 3]) -> io::Result<Net<N, A>> {
+    pub(crate) fn listen(
+        network: N,
+        alloc: A,
+        poll: &Poll,
+        ports: [u16; 3],
+    ) -> io::Result<Net<N, A, S>>
+        ensures { IfOk result (λ net. net ≡ replicate 32 None) }
+    {
         let registry = poll.registry().try_clone()?;
         let mut core = Door::listen(&network, ports[0])?;
         let mut abort = Door::listen(&network, ports[1])?;
@@ -101,7 +145,7 @@ impl<N: Network + Drop, A: Allocator> Net<N, A> {
     }
 
     /// The socket of a connection or an interrupt channel, if there is one.
-    pub(crate) fn socket(&self, port: Port) -> Option<&Socket> {
+    pub(crate) fn socket(&self, port: Port) -> Option<&Socket<S>> {
         match self.sockets.get(socket_number(port)) {
             Some(Some(socket)) => Some(socket),
             _ => None,
@@ -109,7 +153,11 @@ impl<N: Network + Drop, A: Allocator> Net<N, A> {
     }
 
     /// Keeps a socket under its number, and has it reported.
-    fn keep(&mut self, port: Port, mut socket: Socket) -> io::Result<()> {
+    fn keep(&mut self, port: Port, mut socket: Socket<S>) -> io::Result<()>
+        ensures ok { IfOk result (λ _. (stream : S)
+            × (self.new ≡ slice_set self.old (socket_number port) (Some stream))) }
+        ensures err { OnErr result (self.new ≡ self.old) }
+    {
         let number = socket_number(port);
         socket.register(&self.registry, Token(number))?;
         if let Some(place) = self.sockets.get_mut(number) {
@@ -117,22 +165,22 @@ impl<N: Network + Drop, A: Allocator> Net<N, A> {
         }
         Ok(())
     }
-
-    /// Begins to call a peer.
-    fn call(&mut self, conn: u8, dial: Dial) -> io::Result<()> {
-        let addr = SocketAddr::V4(SocketAddrV4::new(Ipv4Addr::from(dial.addr), dial.port));
-        let stream = TcpStream::connect(&self.network, addr)?;
-        self.keep(Port::Intr(conn), Socket::connecting(stream))
-    }
 }
 
-impl<N: Network + Drop, A: Allocator> Wire for Net<N, A> {
+impl<N: Network + Drop, A: Allocator, S: Stream> Wire for Net<N, A, S> {
+    ghost use Rattle.sv_net.specs.Sockets.{Hears};
+
+    ghost hears = { Hears S.remaining S.contents };
+
     fn accept(&mut self, role: Role, conn: Option<u8>) -> Answer<()> {
         match (self.doors[door_number(role)].accept(), conn) {
-            (Answer::Got(socket), Some(conn)) => match self.keep(Port::Conn(conn), socket) {
-                Ok(()) => Answer::Got(()),
-                Err(_) => Answer::Failed,
-            },
+            (Answer::Got(stream), Some(conn)) => {
+                let socket = Socket::connected(S::accepted(stream));
+                match self.keep(Port::Conn(conn), socket) {
+                    Ok(()) => Answer::Got(()),
+                    Err(_) => Answer::Failed,
+                }
+            }
             (Answer::Got(_), None) => Answer::Got(()),
             (Answer::Pending, _) => Answer::Pending,
             (Answer::Failed, _) => Answer::Failed,
@@ -141,21 +189,24 @@ impl<N: Network + Drop, A: Allocator> Wire for Net<N, A> {
 
     fn read(&mut self, conn: u8, buffer: &mut [u8]) -> Answer<usize> {
         match self.sockets.get_mut(socket_number(Port::Conn(conn))) {
-            Some(Some(socket)) => socket.read(buffer),
-            _ => Answer::Failed,
+            Some(place) => read_at(place, buffer),
+            None => Answer::Failed,
         }
     }
 
     fn write(&mut self, port: Port, bytes: &[u8]) -> Answer<usize> {
         match self.sockets.get_mut(socket_number(port)) {
-            Some(Some(socket)) => socket.write(bytes),
-            _ => Answer::Failed,
+            Some(place) => write_at(place, bytes),
+            None => Answer::Failed,
         }
     }
 
     fn dial(&mut self, conn: u8, dial: Dial) -> Answer<()> {
-        match self.call(conn, dial) {
-            Ok(()) => Answer::Pending,
+        match S::call(&self.network, dial) {
+            Ok(stream) => match self.keep(Port::Intr(conn), Socket::connecting(stream)) {
+                Ok(()) => Answer::Pending,
+                Err(_) => Answer::Failed,
+            },
             Err(_) => Answer::Failed,
         }
     }

@@ -1,63 +1,25 @@
 //! Sweep after sweep.
 
+ghost use Rattle.std.specs.Prelude.{◌≡◌, ◌≤◌, ℕ, OnOk, OnErr, IfOk};
+ghost use Rattle.sv_net.specs.Sockets.{Hears};
+ghost use Rattle.sv_net.specs.Serving.{Waited, is_fresh, is_told, Served};
+ghost use Rattle.sv_net.specs.Inside.Pausing.{is_quiet, Rounds, Pauses, Ran};
+
+use crate::machine::{Machine, System};
 use crate::net::Net;
+use crate::rest::rest;
+use crate::stream::Stream;
 use crate::watch::Watch;
+use crate::work::has_work;
 use std::alloc::Allocator;
 use std::io;
 use std::net::Net as Network;
-use std::time::{Clock, Duration, Instant};
-use sv_pace::{FEW, Pace, STILL};
+use std::time::{Clock, Duration};
+use sv_pace::Pace;
 use sv_serve::Driver;
-use sv_server::Port;
 
 /// How often it looks again without sleeping, at most.
 const LOOKS: u32 = 1_000;
-
-/// The machine's clock, and when it was read first.
-#[derive(Drop)]
-struct Timer<'a, C: Clock> {
-    clock: &'a C,
-    start: Instant,
-}
-
-impl<C: Clock> Timer<'_, C> {
-    /// Nanoseconds since it was read first.
-    fn now(&self) -> io::Result<u64> {
-        let passed = self.start.elapsed(self.clock)?;
-        Ok(passed.as_nanos().min(u128::from(u64::MAX)) as u64)
-    }
-}
-
-/// Whether a sweep finds something to do on a connection without a report: bytes that wait can be
-/// written, or else a call is there; or bytes may be there that it has room for.
-fn has_work_on<N: Network + Drop, A: Allocator>(driver: &Driver<Net<N, A>, A>, conn: u8) -> bool {
-    let (net, server) = (driver.wire(), driver.server());
-    let Some(socket) = net.socket(Port::Conn(conn)) else {
-        return false;
-    };
-    let goes_on = if server.waiting(Port::Conn(conn)).is_empty() {
-        server.ready(conn)
-    } else {
-        socket.is_writable()
-    };
-    goes_on || socket.is_readable() && server.room(conn) > 0 || has_work_for(driver, conn)
-}
-
-/// The same of the connection's interrupt channel.
-fn has_work_for<N: Network + Drop, A: Allocator>(driver: &Driver<Net<N, A>, A>, conn: u8) -> bool {
-    let server = driver.server();
-    let Some(channel) = driver.wire().socket(Port::Intr(conn)) else {
-        return false;
-    };
-    let wanted = server.dial(conn).is_some() || !server.waiting(Port::Intr(conn)).is_empty();
-    channel.is_writable() && wanted
-}
-
-/// Whether a sweep finds something to do without a report.
-fn has_work<N: Network + Drop, A: Allocator>(driver: &Driver<Net<N, A>, A>) -> bool {
-    let used = driver.server().used();
-    driver.wire().is_called() || (0..used).any(|conn| has_work_on(driver, conn))
-}
 
 /// Makes so many sweeps. Behind each it waits until a socket is reported, or time matters: for the
 /// next whole millisecond, or up to 100 of them where nothing waits for so many. Where nothing ever
@@ -67,72 +29,72 @@ fn has_work<N: Network + Drop, A: Allocator>(driver: &Driver<Net<N, A>, A>) -> b
 ///
 /// # Errors
 /// Where the system tells no time, or fails to wait.
-pub fn serve<N: Network + Drop, A: Allocator>(
+pub fn serve<N: Network + Drop, A: Allocator, S: Stream>(
     clock: &impl Clock,
     watch: &mut Watch<A>,
-    driver: &mut Driver<Net<N, A>, A>,
+    driver: &mut Driver<Net<N, A, S>, A>,
     sweeps: u32,
-) -> io::Result<()> {
-    let start = Instant::now(clock)?;
-    let timer = Timer { clock, start };
+) -> io::Result<()>
+    ensures ok { OnOk result (Served (Hears S.remaining S.contents) (λ made. made ≡ sweeps)
+        driver.old driver.new) }
+    ensures err { OnErr result (Served (Hears S.remaining S.contents) (λ made. made ≤ sweeps)
+        driver.old driver.new) }
+{
+    let mut machine = System::begin(clock, watch)?;
+    run(&mut machine, driver, sweeps)
+}
+
+/// Makes so many sweeps, at the times that a machine tells.
+fn run<M: Machine, N: Network + Drop, A: Allocator, S: Stream>(
+    machine: &mut M,
+    driver: &mut Driver<Net<N, A, S>, A>,
+    sweeps: u32,
+) -> io::Result<()>
+    ensures ok { OnOk result (Ran (Hears S.remaining S.contents) M.answers sweeps
+        driver.old driver.new machine.old machine.new) }
+    ensures err { OnErr result (Served (Hears S.remaining S.contents) (λ made. made ≤ sweeps)
+        driver.old driver.new) }
+{
     let mut pace = Pace::new();
-    let mut now = timer.now()?;
+    let mut now = 0;
     for made in 0..sweeps {
-        sweep(watch, driver, pace.ticks(now));
-        now = pause(&timer, watch, driver, &mut pace, now, sweeps - made)?;
+        sweep(machine, driver, pace.ticks(now));
+        now = pause(machine, driver, &mut pace, now, sweeps - made)?;
     }
     Ok(())
 }
 
 /// Makes a sweep. Milliseconds that passed while it waited come in front of what was reported then,
 /// which the next sweep finds.
-fn sweep<N: Network + Drop, A: Allocator>(
-    watch: &Watch<A>,
-    driver: &mut Driver<Net<N, A>, A>,
+fn sweep<M: Machine, N: Network + Drop, A: Allocator, S: Stream>(
+    machine: &mut M,
+    driver: &mut Driver<Net<N, A, S>, A>,
     ticks: u32,
-) {
+)
+    ensures { Rounds (Hears S.remaining S.contents) M.answers ticks driver.old driver.new
+        machine.old machine.new }
+{
     if ticks == 0 {
-        watch.report(driver.wire());
+        machine.report(driver.wire());
         driver.sweep(0);
     } else {
         driver.sweep(ticks);
-        watch.report(driver.wire());
+        machine.report(driver.wire());
     }
-}
-
-/// Whether so many milliseconds do nothing while it sleeps: nothing waits for them, no call for
-/// room, and no accept is to be tried again.
-fn is_idle<N: Network + Drop, A: Allocator>(driver: &Driver<Net<N, A>, A>, ticks: u32) -> bool {
-    let (net, server) = (driver.wire(), driver.server());
-    let ready = (0..server.used()).any(|conn| server.ready(conn));
-    driver.is_still(ticks) && !net.is_knocked() && !ready
-}
-
-/// How long it may sleep with so many sweeps left; without a limit where time does nothing. A call
-/// waits for as many milliseconds at most as a u32 counts (VXI-11 revision 1.0, section B.4.4).
-fn rest<N: Network + Drop, A: Allocator>(
-    driver: &Driver<Net<N, A>, A>,
-    pace: &Pace,
-    now: u64,
-    left: u32,
-) -> Option<Duration> {
-    if left > FEW && driver.is_played() && is_idle(driver, u32::MAX) {
-        return None;
-    }
-    let ticks = if is_idle(driver, STILL) { STILL } else { 1 };
-    Some(Duration::from_nanos(pace.rest(now, ticks)))
 }
 
 /// Waits for reports, at most so long where there is a limit. Tells whether one came, and when the
 /// wait ended.
-fn wait<A: Allocator>(
-    timer: &Timer<'_, impl Clock>,
-    watch: &mut Watch<A>,
+fn wait<M: Machine>(
+    machine: &mut M,
     pace: &mut Pace,
     limit: Option<Duration>,
-) -> io::Result<(bool, u64)> {
-    let reported = watch.wait(limit)?;
-    let now = timer.now()?;
+) -> io::Result<(bool, u64)>
+    ensures answers { IfOk result (λ ended.
+        M.answers machine.old (Waited limit ended.0 ended.1) machine.new) }
+    ensures swept { pace.new.swept ≡ pace.old.swept }
+{
+    let (reported, now) = machine.wait(limit)?;
     if reported {
         pace.work(now);
     }
@@ -141,43 +103,49 @@ fn wait<A: Allocator>(
 
 /// Waits for the next sweep, of so many left, and tells when it begins: at once where a sweep finds
 /// something to do. Whether it does need not be asked where the first look finds a report.
-fn pause<N: Network + Drop, A: Allocator>(
-    timer: &Timer<'_, impl Clock>,
-    watch: &mut Watch<A>,
-    driver: &Driver<Net<N, A>, A>,
+fn pause<M: Machine, N: Network + Drop, A: Allocator, S: Stream>(
+    machine: &mut M,
+    driver: &Driver<Net<N, A, S>, A>,
     pace: &mut Pace,
     began: u64,
     left: u32,
-) -> io::Result<u64> {
+) -> io::Result<u64>
+    ensures pauses { IfOk result (λ ended. Pauses (Hears S.remaining S.contents) M.answers
+        driver.now is_told is_fresh pace.old.swept began ended machine.old machine.new) }
+    ensures swept { pace.new.swept ≡ pace.old.swept }
+{
     let eager = pace.is_eager(began);
     if !eager && !has_work(driver) {
         pace.end(0, false);
-        return sleep(timer, watch, driver, pace, began, left);
+        return sleep(machine, driver, pace, began, left);
     }
-    let (reported, now) = wait(timer, watch, pace, Some(Duration::ZERO))?;
+    let (reported, now) = wait(machine, pace, Some(Duration::ZERO))?;
     if !eager || reported || has_work(driver) {
         return Ok(now);
     }
-    look(timer, watch, driver, pace, now, left)
+    look(machine, driver, pace, now, left)
 }
 
 /// Looks again until something is reported, or looking isn't worth it any more; then it sleeps.
 /// Tells when that ended.
-fn look<N: Network + Drop, A: Allocator>(
-    timer: &Timer<'_, impl Clock>,
-    watch: &mut Watch<A>,
-    driver: &Driver<Net<N, A>, A>,
+fn look<M: Machine, N: Network + Drop, A: Allocator, S: Stream>(
+    machine: &mut M,
+    driver: &Driver<Net<N, A, S>, A>,
     pace: &mut Pace,
     began: u64,
     left: u32,
-) -> io::Result<u64> {
+) -> io::Result<u64>
+    ensures pauses { IfOk result (λ ended. Pauses (Hears S.remaining S.contents) M.answers
+        driver.now is_quiet is_fresh pace.old.swept began ended machine.old machine.new) }
+    ensures swept { pace.new.swept ≡ pace.old.swept }
+{
     let mut now = began;
     for looks in 1..LOOKS {
         if !pace.is_eager(now) {
             pace.end(looks, false);
-            return sleep(timer, watch, driver, pace, now, left);
+            return sleep(machine, driver, pace, now, left);
         }
-        let (reported, ended) = wait(timer, watch, pace, Some(Duration::ZERO))?;
+        let (reported, ended) = wait(machine, pace, Some(Duration::ZERO))?;
         if reported {
             pace.end(looks, true);
             return Ok(ended);
@@ -188,15 +156,18 @@ fn look<N: Network + Drop, A: Allocator>(
 }
 
 /// Sleeps until something is reported, or time matters. Tells when that was.
-fn sleep<N: Network + Drop, A: Allocator>(
-    timer: &Timer<'_, impl Clock>,
-    watch: &mut Watch<A>,
-    driver: &Driver<Net<N, A>, A>,
+fn sleep<M: Machine, N: Network + Drop, A: Allocator, S: Stream>(
+    machine: &mut M,
+    driver: &Driver<Net<N, A, S>, A>,
     pace: &mut Pace,
     now: u64,
     left: u32,
-) -> io::Result<u64> {
+) -> io::Result<u64>
+    ensures pauses { IfOk result (λ ended. Pauses (Hears S.remaining S.contents) M.answers
+        driver.now is_told is_fresh pace.old.swept now ended machine.old machine.new) }
+    ensures swept { pace.new.swept ≡ pace.old.swept }
+{
     let limit = rest(driver, pace, now, left);
-    let (_, ended) = wait(timer, watch, pace, limit)?;
+    let (_, ended) = wait(machine, pace, limit)?;
     Ok(ended)
 }

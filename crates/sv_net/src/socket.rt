@@ -1,19 +1,21 @@
 //! A socket, with what was reported of it.
 
-ghost use Rattle.std.specs.Prelude.{length};
-ghost use Rattle.sv_serve.specs.Heard.{IsWithin};
+ghost use Rattle.std.specs.Prelude.{◌≡◌, ◌⊎◌, length};
+ghost use Rattle.sv_serve.specs.Heard.{IsWithin, bytes_of};
+ghost use Rattle.sv_net.specs.Sockets.{Gives, Takes};
 
+use crate::stream::Stream;
 use mio::event::Event;
-use mio::net::TcpStream;
 use mio::{Interest, Registry, Token};
 use std::cell::Cell;
-use std::io::{self, ErrorKind, Read, Write};
+use std::io::{self, ErrorKind};
+use std::marker::Model;
 use sv_serve::Answer;
 
 /// A socket, and what was reported of it since it last answered that it would wait.
 #[derive(Drop)]
-pub(crate) struct Socket {
-    stream: TcpStream,
+pub(crate) struct Socket<S: Stream> {
+    stream: S,
     /// Bytes may be there, or the stream's end.
     readable: Cell<bool>,
     /// It may take bytes.
@@ -22,10 +24,17 @@ pub(crate) struct Socket {
     ended: Cell<bool>,
 }
 
-impl Socket {
+impl<S: Stream> Model for Socket<S> {
+    ghost Value = { S };
+
+    ghost view = { λ a. a.stream };
+}
+
+impl<S: Stream> Socket<S> {
     /// A connected socket, of which anything is possible until it is asked.
-    pub(crate) fn connected(stream: TcpStream) -> Socket {
-        let _ = stream.set_nodelay(true);
+    pub(crate) fn connected(stream: S) -> Socket<S>
+        ensures { result ≡ stream }
+    {
         Socket {
             stream,
             readable: Cell::new(true),
@@ -35,8 +44,9 @@ impl Socket {
     }
 
     /// A socket that began to connect: it can be written to once this is reported.
-    pub(crate) fn connecting(stream: TcpStream) -> Socket {
-        let _ = stream.set_nodelay(true);
+    pub(crate) fn connecting(stream: S) -> Socket<S>
+        ensures { result ≡ stream }
+    {
         Socket {
             stream,
             readable: Cell::new(false),
@@ -46,7 +56,9 @@ impl Socket {
     }
 
     /// Has it reported under this token.
-    pub(crate) fn register(&mut self, registry: &Registry, token: Token) -> io::Result<()> {
+    pub(crate) fn register(&mut self, registry: &Registry, token: Token) -> io::Result<()>
+        ensures { S.keeps self.old self.new }
+    {
         registry.register(
             &mut self.stream,
             token,
@@ -79,7 +91,8 @@ impl Socket {
     /// Reads what is there. A read that fills less than the buffer emptied the socket, so more is
     /// reported again, unless the peer had ended its stream.
     pub(crate) fn read(&mut self, buffer: &mut [u8]) -> Answer<usize>
-        ensures { IsWithin result (length buffer.old) }
+        ensures within { IsWithin result (length buffer.old) }
+        ensures gives { Gives S.remaining (bytes_of result buffer.new) self.old self.new }
     {
         if !self.readable.get() {
             return Answer::Pending;
@@ -97,7 +110,8 @@ impl Socket {
 
     /// Writes as much as it takes.
     pub(crate) fn write(&mut self, bytes: &[u8]) -> Answer<usize>
-        ensures { IsWithin result (length bytes.now) }
+        ensures within { IsWithin result (length bytes.now) }
+        ensures takes { Takes S.contents bytes.now result self.old self.new }
     {
         if !self.writable.get() {
             return Answer::Pending;
@@ -116,10 +130,13 @@ impl Socket {
         if !self.writable.get() {
             return Answer::Pending;
         }
-        match (self.stream.take_error(), self.stream.peer_addr()) {
-            (Ok(None), Ok(_)) => Answer::Got(()),
-            (Ok(None), Err(error)) => not_connected(&self.writable, error.kind()),
-            (Ok(Some(_)), _) | (Err(_), _) => Answer::Failed,
+        match self.stream.is_connected() {
+            Ok(true) => Answer::Got(()),
+            Ok(false) => {
+                self.writable.set(false);
+                Answer::Pending
+            }
+            Err(_) => Answer::Failed,
         }
     }
 }
@@ -127,7 +144,7 @@ impl Socket {
 /// What a call that failed answers: nothing yet where it would wait, and then nothing more is
 /// asked until it is reported.
 fn would_wait(flag: &Cell<bool>, kind: ErrorKind) -> Answer<usize>
-    ensures { IsWithin result 0 }
+    ensures { (result ≡ Answer.Pending) ⊎ (result ≡ Answer.Failed) }
 {
     match kind {
         ErrorKind::WouldBlock => {
@@ -135,17 +152,6 @@ fn would_wait(flag: &Cell<bool>, kind: ErrorKind) -> Answer<usize>
             Answer::Pending
         }
         ErrorKind::Interrupted => Answer::Pending,
-        _ => Answer::Failed,
-    }
-}
-
-/// The same of asking for the peer.
-fn not_connected(flag: &Cell<bool>, kind: ErrorKind) -> Answer<()> {
-    match kind {
-        ErrorKind::NotConnected => {
-            flag.set(false);
-            Answer::Pending
-        }
         _ => Answer::Failed,
     }
 }

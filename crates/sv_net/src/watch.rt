@@ -1,6 +1,9 @@
 //! Waiting until the system reports something.
 
+ghost use Rattle.std.specs.Prelude.{◌≡◌, None, IfOk, replicate};
+
 use crate::net::Net;
+use crate::stream::Stream;
 use mio::{Events, Poll};
 use std::alloc::{Allocator, Global};
 use std::io;
@@ -27,7 +30,9 @@ impl<A: Allocator + Copy> Watch<A> {
         network: N,
         alloc: A,
         ports: [u16; 3],
-    ) -> io::Result<(Watch<A>, Net<N, A>)> {
+    ) -> io::Result<(Watch<A>, Net<N, A>)>
+        ensures { IfOk result (λ made. made.1 ≡ replicate 32 None) }
+    {
         let poll = Poll::new(&network)?;
         let net = Net::listen(network, alloc, &poll, ports)?;
         let events = Events::with_capacity(alloc, REPORTS)?;
@@ -47,7 +52,7 @@ impl<A: Allocator> Watch<A> {
     }
 
     /// Tells the sockets what was reported to the last wait.
-    pub(crate) fn report<N: Network + Drop, B: Allocator>(&self, net: &Net<N, B>) {
+    pub(crate) fn report<N: Network + Drop, B: Allocator, S: Stream>(&self, net: &Net<N, B, S>) {
         for event in self.events.iter() {
             net.report(event);
         }

@@ -1,6 +1,6 @@
 //! Tests of what no row and no line of a table can show: parts that are refused memory when they
-//! are made, real sockets, calls that nothing joins yet, and the words, texts and statuses of the
-//! program. What rows and lines can show is in `sv_rows`, `sv_sweeps` and `sv_tables`. The library
+//! are made, calls that nothing joins yet, and the words, texts and statuses of the program. What
+//! rows and lines can show is in `sv_rows`, `sv_sweeps`, `sv_sockets` and `sv_tables`. The library
 //! itself is empty.
 #![tactic(auto)]
 
@@ -10,7 +10,5 @@ mod memory;
 mod parts;
 #[cfg(test)]
 mod same;
-#[cfg(test)]
-mod sockets;
 #[cfg(test)]
 mod words;

@@ -1,0 +1,3 @@
+mod Placed
+mod Pausing
+mod Running

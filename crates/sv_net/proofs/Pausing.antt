@@ -1,0 +1,90 @@
+-- Waits, one after the other.
+use Rattle.std.proofs.Common.{◌≡◌, ℕ, Bool, true, false, List, [], ◌∷◌, Some, refl, inl, arith}
+use Rattle.std.specs.Prelude.{Option, Result, Ok, Err, IfOk}
+use Rattle.std.specs.Duration.{as_nanos}
+use Rattle.std.specs.declared.time.Duration.{Duration}
+use Rattle.sv_serve.specs.Heard.{Heard}
+use Rattle.sv_serve.specs.Moment.{Driving}
+use Rattle.sv_net.specs.Sleep.{MaySleep}
+use Rattle.sv_net.specs.Serving.{Doing, MadeSweep, Waited, Told, is_fresh, is_told}
+use Rattle.sv_net.specs.Inside.Pausing.{is_quiet, Running, Pauses}
+
+told_where_quiet : (doings : List Doing) → is_quiet doings ≡ true → is_told doings ≡ true
+told_where_quiet [] quiet = refl
+told_where_quiet (MadeSweep ∷ doings) quiet = absurd (let z : false ≡ true = quiet in cc)
+told_where_quiet (Waited limit true ended ∷ doings) quiet = quiet
+told_where_quiet (Waited limit false ended ∷ doings) quiet = quiet
+told_where_quiet (Told ∷ doings) quiet = refl
+
+fresh_where_quiet : (doings : List Doing) → is_quiet doings ≡ true → is_fresh doings ≡ true
+fresh_where_quiet [] quiet = refl
+fresh_where_quiet (MadeSweep ∷ doings) quiet = quiet
+fresh_where_quiet (Waited limit reported ended ∷ doings) quiet = refl
+fresh_where_quiet (Told ∷ doings) quiet = quiet
+
+module _ {W M : Type 0} (hears : W → Heard → W → Type 0) (answers : M → Doing → M → Type 0) (driver : Driving W) where
+  also : {is_so is_such : List Doing → Bool} {many swept time : ℕ} {start : Driving W} {first now : M}
+      → ((doings : List Doing) → is_so doings ≡ true → is_such doings ≡ true) → Running hears answers is_so many swept time start driver first now
+      → Running hears answers is_such many swept time start driver first now
+  also step r = record { doings = r.doings; sweeps = r.sweeps; last = r.last; ended = r.ended; so = step r.doings r.so; serves = r.serves; waits = r.waits }
+
+  -- a wait that may be so long
+  pub one_wait : (swept began time : ℕ) (limit : Option Duration) (reported : Bool) (old now : M) → MaySleep swept began limit driver
+      → answers old (Waited limit reported time) now → Pauses hears answers driver is_told is_fresh swept began time old now
+  one_wait swept began time limit reported old now may waited = record {
+    goes = λ many start first r. record {
+      doings = Waited limit reported time ∷ r.doings;
+      sweeps = r.sweeps;
+      last = r.last;
+      ended = refl;
+      so = refl;
+      serves = (r.serves, rw (r.last, r.ended) may, r.so);
+      waits = (old, r.waits, waited);
+    };
+  }
+
+  -- one that takes no time
+  pub one_look : (swept began time : ℕ) (limit : Duration) (reported : Bool) (old now : M) → as_nanos limit ≡ 0
+      → answers old (Waited (Some limit) reported time) now → Pauses hears answers driver is_told is_fresh swept began time old now
+  one_look swept began time limit reported old now none waited =
+      one_wait swept began time (Some limit) reported old now (inl (omega (arith, none))) waited
+
+  -- and one in which nothing is reported
+  pub in_vain : (swept began time : ℕ) (limit : Duration) (old now : M) → as_nanos limit ≡ 0
+      → answers old (Waited (Some limit) false time) now → Pauses hears answers driver is_told is_quiet swept began time old now
+  in_vain swept began time limit old now none waited = record {
+    goes = λ many start first r. record {
+      doings = Waited (Some limit) false time ∷ r.doings;
+      sweeps = r.sweeps;
+      last = r.last;
+      ended = refl;
+      so = r.so;
+      serves = (r.serves, rw (r.last, r.ended) (inl (omega (arith, none))), r.so);
+      waits = (old, r.waits, waited);
+    };
+  }
+
+  pub no_wait : (swept time : ℕ) (now : M) → Pauses hears answers driver is_quiet is_quiet swept time time now now
+  no_wait swept time now = record { goes = λ many start first r. r }
+
+pub from_quiet : {W M : Type 0} {hears : W → Heard → W → Type 0} {answers : M → Doing → M → Type 0} {driver : Driving W}
+    {is_so : List Doing → Bool} {swept began time : ℕ} {old now : M} → Pauses hears answers driver is_told is_so swept began time old now
+    → Pauses hears answers driver is_quiet is_so swept began time old now
+from_quiet {hears = hears} {answers = answers} {driver = driver} pauses =
+    record { goes = λ many start first r. pauses.goes many start first (also hears answers driver told_where_quiet r) }
+
+pub to_fresh : {W M : Type 0} {hears : W → Heard → W → Type 0} {answers : M → Doing → M → Type 0} {driver : Driving W}
+    {was : List Doing → Bool} {swept began time : ℕ} {old now : M} → Pauses hears answers driver was is_quiet swept began time old now
+    → Pauses hears answers driver was is_fresh swept began time old now
+to_fresh {hears = hears} {answers = answers} {driver = driver} pauses =
+    record { goes = λ many start first r. also hears answers driver fresh_where_quiet (pauses.goes many start first r) }
+
+pub and_then : {W M : Type 0} {hears : W → Heard → W → Type 0} {answers : M → Doing → M → Type 0} {driver : Driving W}
+    {was between is_so : List Doing → Bool} {swept began at time : ℕ} {old mid now : M}
+    → Pauses hears answers driver was between swept began at old mid → Pauses hears answers driver between is_so swept at time mid now
+    → Pauses hears answers driver was is_so swept began time old now
+and_then one other = record { goes = λ many start first r. other.goes many start first (one.goes many start first r) }
+
+pub if_ok : {A E : Type 0} {P Q : A → Type 0} (result : Result A E) → IfOk result P → ((a : A) → P a → Q a) → IfOk result Q
+if_ok (Ok a) p more = more a p
+if_ok (Err e) p more = p

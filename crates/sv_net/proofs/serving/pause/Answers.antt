@@ -1,0 +1,10 @@
+use Rattle.std.proofs.Common.{refl}
+use Rattle.sv_net.proofs.Pausing.{one_look, in_vain, and_then, if_ok}
+use Rattle.sv_net.proofs.serving.pause.Goals as goal
+
+pub returns-then-not-eager-2-clause-pauses : goal.returns-then-not-eager-2-clause-pauses
+returns-then-not-eager-2-clause-pauses g c = one_look _ _ _ _ _ _ _ _ _ _ refl c.in_ok-reported.ensures.answers
+
+pub returns-clause-pauses : goal.returns-clause-pauses
+returns-clause-pauses g c = if_ok c.look.result (rw c.in_ok-reported.ensures.swept at c.look.ensures.pauses)
+    (λ ended more. and_then (in_vain _ _ _ _ _ _ _ _ _ refl (rw c.if-reported.false at c.in_ok-reported.ensures.answers)) more)

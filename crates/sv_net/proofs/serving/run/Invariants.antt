@@ -1,0 +1,9 @@
+use Rattle.sv_net.specs.Sockets.{Hears}
+use Rattle.sv_net.specs.Serving.{is_fresh}
+use Rattle.sv_net.specs.Inside.Pausing.{Running}
+use Rattle.sv_net.proofs.serving.run.Given as goal
+
+abbrev pub invariant-loop-made : goal.invariant-loop-made
+invariant-loop-made g l =
+    Running (Hears g.S.Read.remaining g.S.Write.contents) g.M.Machine.answers is_fresh l.made l.pace.swept l.now l.fn.driver l.driver
+    l.fn.machine l.machine

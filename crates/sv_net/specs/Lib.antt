@@ -1,0 +1,4 @@
+pub mod Sockets
+pub mod Sleep
+pub mod Serving
+pub mod Inside

@@ -1,0 +1,31 @@
+-- How long a server may sleep.
+use Rattle.std.specs.Prelude.{◌≡◌, ◌⊎◌, ℕ, ◌-◌, ◌*◌, ◌/◌, ◌≤◌, true, false, List, [], Option, Some, None}
+use Rattle.std.specs.Duration.{as_nanos}
+use Rattle.std.specs.declared.time.Duration.{Duration}
+use Rattle.sv_history.specs.declared.event.Config.{Config}
+use Rattle.sv_history.specs.Event.{PlainEvent}
+use Rattle.sv_server.specs.Server.State.{StandsFor}
+use Rattle.sv_serve.specs.Asked.{IsReady}
+use Rattle.sv_serve.specs.Moment.{Driving, moment}
+use Rattle.sv_serve.specs.Still.{StaysStill}
+
+-- No call is there to be taken on any connection, whatever happened before.
+abbrev pub NoneReady : {W : Type 0} → Driving W → Type 0
+NoneReady driving = (config : Config) (history : List PlainEvent) → StandsFor driving.server config history
+    → (c : ℕ) → IsReady c config (moment driving history) false
+
+-- Nor does anything wait for one of so many milliseconds.
+abbrev pub IsIdle : {W : Type 0} → ℕ → Driving W → Type 0
+IsIdle most driving = NoneReady driving × ((config : Config) (history : List PlainEvent) → StandsFor driving.server config history
+    → StaysStill most config (moment driving history) true)
+
+-- the nanoseconds from now until so many whole milliseconds passed since the one of the last sweep
+abbrev pub left_until : ℕ → ℕ → ℕ → ℕ
+left_until ticks swept now = ticks * 1000000 - (now - swept / 1000000 * 1000000)
+
+-- It sleeps without a limit where nothing ever waits for time (VXI-11 revision 1.0, B.4.4: milliseconds are 32 bits), and the scenario is at
+-- its end; until the hundredth millisecond where it is idle for so many; and else until the next one.
+abbrev pub MaySleep : {W : Type 0} → ℕ → ℕ → Option Duration → Driving W → Type 0
+MaySleep swept now None driving = (driving.ahead ≡ []) × IsIdle 4294967295 driving
+MaySleep swept now (Some limit) driving =
+    (as_nanos limit ≤ left_until 1 swept now) ⊎ ((as_nanos limit ≤ left_until 100 swept now) × IsIdle 100 driving)

@@ -1,0 +1,67 @@
+//! What a loop of sweeps waits by.
+
+ghost use Rattle.std.specs.Prelude.{IfOk};
+
+use crate::net::Net;
+use crate::stream::Stream;
+use crate::watch::Watch;
+use std::alloc::Allocator;
+use std::io;
+use std::net::Net as Network;
+use std::time::{Clock, Duration, Instant};
+
+/// A clock, and the reports of sockets.
+pub(crate) trait Machine {
+    ghost use Rattle.sv_net.specs.Serving.{Doing, Waited, Told};
+    ghost use Rattle.std.specs.Prelude.{⊤};
+
+    /// What a wait and its outcome lead to; of a real machine nothing is known.
+    ghost answers: { Self → Doing → Self → Type 0 } = { λ before doing after. ⊤ };
+
+    /// Waits until a socket is reported, at most so long where there is a limit. Tells whether one
+    /// was, and at which nanosecond since the beginning the wait ended.
+    ///
+    /// # Errors
+    /// Where the system tells no time, or fails to wait.
+    fn wait(&mut self, limit: Option<Duration>) -> io::Result<(bool, u64)>
+        ensures { IfOk result (λ ended. answers self.old (Waited limit ended.0 ended.1) self.new) };
+
+    /// Tells the sockets what was reported to the last wait.
+    fn report<N: Network + Drop, B: Allocator, S: Stream>(&mut self, net: &Net<N, B, S>)
+        ensures { answers self.old Told self.new };
+}
+
+/// The machine's clock, when it was read first, and what waits for its sockets.
+#[derive(Drop)]
+pub(crate) struct System<'a, C: Clock, A: Allocator> {
+    clock: &'a C,
+    start: Instant,
+    watch: &'a mut Watch<A>,
+}
+
+impl<'a, C: Clock, A: Allocator> System<'a, C, A> {
+    /// A machine at its beginning.
+    ///
+    /// # Errors
+    /// Where the system tells no time.
+    pub(crate) fn begin(clock: &'a C, watch: &'a mut Watch<A>) -> io::Result<System<'a, C, A>> {
+        let start = Instant::now(clock)?;
+        Ok(System {
+            clock,
+            start,
+            watch,
+        })
+    }
+}
+
+impl<C: Clock, A: Allocator> Machine for System<'_, C, A> {
+    fn wait(&mut self, limit: Option<Duration>) -> io::Result<(bool, u64)> {
+        let reported = self.watch.wait(limit)?;
+        let passed = self.start.elapsed(self.clock)?;
+        Ok((reported, passed.as_nanos().min(u128::from(u64::MAX)) as u64))
+    }
+
+    fn report<N: Network + Drop, B: Allocator, S: Stream>(&mut self, net: &Net<N, B, S>) {
+        self.watch.report(net);
+    }
+}

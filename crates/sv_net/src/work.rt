@@ -1,0 +1,47 @@
+//! Whether a sweep finds something to do without a report.
+
+use crate::net::Net;
+use crate::stream::Stream;
+use std::alloc::Allocator;
+use std::net::Net as Network;
+use sv_serve::Driver;
+use sv_server::Port;
+
+/// Whether a sweep finds something to do on a connection without a report: bytes that wait can be
+/// written, or else a call is there; or bytes may be there that it has room for.
+fn has_work_on<N: Network + Drop, A: Allocator, S: Stream>(
+    driver: &Driver<Net<N, A, S>, A>,
+    conn: u8,
+) -> bool {
+    let (net, server) = (driver.wire(), driver.server());
+    let Some(socket) = net.socket(Port::Conn(conn)) else {
+        return false;
+    };
+    let goes_on = if server.waiting(Port::Conn(conn)).is_empty() {
+        server.ready(conn)
+    } else {
+        socket.is_writable()
+    };
+    goes_on || socket.is_readable() && server.room(conn) > 0 || has_work_for(driver, conn)
+}
+
+/// The same of the connection's interrupt channel.
+fn has_work_for<N: Network + Drop, A: Allocator, S: Stream>(
+    driver: &Driver<Net<N, A, S>, A>,
+    conn: u8,
+) -> bool {
+    let server = driver.server();
+    let Some(channel) = driver.wire().socket(Port::Intr(conn)) else {
+        return false;
+    };
+    let wanted = server.dial(conn).is_some() || !server.waiting(Port::Intr(conn)).is_empty();
+    channel.is_writable() && wanted
+}
+
+/// Whether a sweep finds something to do without a report.
+pub(crate) fn has_work<N: Network + Drop, A: Allocator, S: Stream>(
+    driver: &Driver<Net<N, A, S>, A>,
+) -> bool {
+    let used = driver.server().used();
+    driver.wire().is_called() || (0..used).any(|conn| has_work_on(driver, conn))
+}

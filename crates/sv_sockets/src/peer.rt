@@ -1,0 +1,140 @@
+//! A peer: a stream, and what came on it.
+
+use mio::net::{TcpListener, TcpStream};
+use std::alloc::Global;
+use std::io::{self, ErrorKind, Read, Write};
+use std::net::{Ipv4Addr, SocketAddr, SocketAddrV4};
+
+/// How many bytes a peer reads at once.
+const PIECE: usize = 65_536;
+
+/// The address of a port of 127.0.0.1.
+fn local(port: u16) -> SocketAddr {
+    SocketAddr::V4(SocketAddrV4::new(Ipv4Addr::LOCALHOST, port))
+}
+
+/// Whether a call failed only since it would have to wait.
+fn would_wait(kind: ErrorKind) -> bool {
+    matches!(
+        kind,
+        ErrorKind::WouldBlock | ErrorKind::NotConnected | ErrorKind::Interrupted
+    )
+}
+
+/// A peer of the server.
+#[derive(Drop)]
+pub(crate) struct Peer {
+    /// Its letter.
+    pub(crate) name: char,
+    listener: Option<TcpListener>,
+    stream: Option<TcpStream>,
+    /// What it is still to send.
+    pub(crate) unsent: Vec<u8>,
+    /// What came, and wasn't printed.
+    pub(crate) came: Vec<u8>,
+    /// Its stream ended.
+    pub(crate) ended: bool,
+    buffer: Vec<u8>,
+}
+
+impl Peer {
+    /// A peer with neither stream nor port.
+    fn new(alloc: Global, name: char) -> io::Result<Peer> {
+        Ok(Peer {
+            name,
+            listener: None,
+            stream: None,
+            unsent: Vec::new(alloc),
+            came: Vec::new(alloc),
+            ended: false,
+            buffer: vec![in alloc; 0; PIECE]?,
+        })
+    }
+
+    /// A peer that connects to a port.
+    pub(crate) fn connect(rt: HostRuntime, name: char, port: u16) -> io::Result<Peer> {
+        let mut peer = Peer::new(rt.alloc(), name)?;
+        peer.stream = Some(TcpStream::connect(&rt, local(port))?);
+        Ok(peer)
+    }
+
+    /// A peer that listens on a port.
+    pub(crate) fn listen(rt: HostRuntime, name: char, port: u16) -> io::Result<Peer> {
+        let mut peer = Peer::new(rt.alloc(), name)?;
+        peer.listener = Some(TcpListener::bind(&rt, local(port))?);
+        Ok(peer)
+    }
+
+    /// Accepts a connection, if one comes to its port; whether it has a stream.
+    pub(crate) fn accept(&mut self) -> io::Result<bool> {
+        let Some(listener) = &self.listener else {
+            return Ok(false);
+        };
+        match listener.accept() {
+            Ok((stream, _)) => {
+                self.stream = Some(stream);
+                Ok(true)
+            }
+            Err(error) => {
+                if would_wait(error.kind()) {
+                    Ok(self.stream.is_some())
+                } else {
+                    Err(error)
+                }
+            }
+        }
+    }
+
+    /// Sends as much as its socket takes, and tells how much that was.
+    pub(crate) fn send(&mut self) -> io::Result<usize> {
+        let Some(stream) = &mut self.stream else {
+            return Ok(0);
+        };
+        if self.unsent.is_empty() {
+            return Ok(0);
+        }
+        match stream.write(&self.unsent) {
+            Ok(count) => {
+                let count = count.min(self.unsent.len());
+                self.unsent.drain(..count);
+                Ok(count)
+            }
+            Err(error) => self.fault(error),
+        }
+    }
+
+    /// What comes of a call that failed: a stream that was reset ended too.
+    fn fault(&mut self, error: io::Error) -> io::Result<usize> {
+        match error.kind() {
+            ErrorKind::ConnectionReset | ErrorKind::BrokenPipe => {
+                self.ended = true;
+                Ok(0)
+            }
+            kind => { if would_wait(kind) { Ok(0) } else { Err(error) } }
+        }
+    }
+
+    /// Reads what is there.
+    pub(crate) fn hear(&mut self) -> io::Result<()> {
+        let Some(stream) = &mut self.stream else {
+            return Ok(());
+        };
+        match stream.read(&mut self.buffer) {
+            Ok(0) => self.ended = true,
+            Ok(count) => {
+                let piece = self.buffer.get(..count).unwrap_or(&[]);
+                self.came.extend_from_slice(piece)?;
+            }
+            Err(error) => {
+                self.fault(error)?;
+            }
+        }
+        Ok(())
+    }
+
+    /// Closes its stream.
+    pub(crate) fn close(&mut self) {
+        self.stream = None;
+        self.unsent.clear();
+    }
+}

@@ -1,0 +1,222 @@
+//! A row: its scenario, and its steps.
+
+use crate::peer::Peer;
+use crate::pouring::{is_in_order, pour};
+use crate::stage::{PORTS, Stage, bad};
+use std::alloc::Global;
+use std::io::{self, BufWriter, Write};
+
+/// How many sweeps are made while a peer is to hear nothing.
+const SILENCE: u32 = 20;
+/// How many bytes of a reply that is poured are printed.
+const SHOWN: usize = 64;
+
+/// A number.
+fn number(text: &str) -> io::Result<u32> {
+    match text.parse::<u32>() {
+        Ok(number) => Ok(number),
+        Err(_) => Err(bad()),
+    }
+}
+
+/// The bytes of hexadecimal, which may have blanks.
+fn bytes(alloc: Global, text: &str) -> io::Result<Vec<u8>> {
+    let mut digits = String::new(alloc);
+    for word in text.split(' ') {
+        digits.push_str(word)?;
+    }
+    match hex::decode(alloc, digits.as_str()) {
+        Ok(bytes) => Ok(bytes),
+        Err(_) => Err(bad()),
+    }
+}
+
+/// The letter that a text is.
+fn letter(text: &str) -> io::Result<char> {
+    match text.chars().next() {
+        Some(letter) => Ok(letter),
+        None => Err(bad()),
+    }
+}
+
+/// `yes` or `no`.
+fn word(so: bool) -> &'static str {
+    if so { "yes" } else { "no" }
+}
+
+/// Prints bytes in hexadecimal, and ends the line.
+fn show<W: Write + Drop>(bytes: &[u8], writer: &mut BufWriter<W>) -> io::Result<()> {
+    for byte in bytes {
+        write!(writer, "{byte:02x}")?;
+    }
+    writeln!(writer)
+}
+
+/// Plays a row, and prints its title and what comes of its steps.
+pub(crate) fn play<W: Write + Drop>(
+    rt: HostRuntime,
+    row: &str,
+    writer: &mut BufWriter<W>,
+) -> io::Result<()> {
+    let (title, lines) = row.split_once('\n').unwrap_or((row, ""));
+    writeln!(writer, "= {title}")?;
+    let (scenario, steps) = lines.split_once("\n\n").unwrap_or(("", lines));
+    let mut stage = Stage::new(rt, scenario)?;
+    for line in steps.lines() {
+        step(&mut stage, line, writer)?;
+    }
+    Ok(())
+}
+
+/// Does what a line says.
+fn step<W: Write + Drop>(
+    stage: &mut Stage,
+    line: &str,
+    writer: &mut BufWriter<W>,
+) -> io::Result<()> {
+    let (first, behind) = line.split_once(' ').unwrap_or((line, ""));
+    match first {
+        "" => Ok(()),
+        "start" => stage.begin(),
+        "passed" => {
+            let so = stage.passed()? >= u128::from(number(behind)?);
+            writeln!(writer, "{line}: {}", word(so))
+        }
+        "sleep" => stage.serve(number(behind)?),
+        _ => do_as(stage, letter(first)?, behind, writer),
+    }
+}
+
+/// Has a peer do what a line says.
+fn do_as<W: Write + Drop>(
+    stage: &mut Stage,
+    name: char,
+    line: &str,
+    writer: &mut BufWriter<W>,
+) -> io::Result<()> {
+    let (verb, text) = line.split_once(' ').unwrap_or((line, ""));
+    match verb {
+        "core" => connect(stage, name, PORTS[0]),
+        "abort" => connect(stage, name, PORTS[1]),
+        "portmap" => connect(stage, name, PORTS[2]),
+        "listens" => listen(stage, name, text),
+        "accepts" => stage.accept(name),
+        "closes" => Ok(stage.peer(name)?.close()),
+        "<" => send(stage, name, text),
+        _ => show_of(stage, name, (verb, text), writer),
+    }
+}
+
+/// A peer connects to a port.
+fn connect(stage: &mut Stage, name: char, port: u16) -> io::Result<()> {
+    let peer = Peer::connect(stage.rt, name, port)?;
+    Ok(stage.peers.push(peer)?)
+}
+
+/// A peer listens on a port.
+fn listen(stage: &mut Stage, name: char, text: &str) -> io::Result<()> {
+    let port = number(text)?.min(65_535) as u16;
+    let peer = Peer::listen(stage.rt, name, port)?;
+    Ok(stage.peers.push(peer)?)
+}
+
+/// A peer is to send bytes.
+fn send(stage: &mut Stage, name: char, text: &str) -> io::Result<()> {
+    let bytes = bytes(stage.rt.alloc(), text)?;
+    let peer = stage.peer(name)?;
+    peer.unsent.extend_from_slice(&bytes)?;
+    peer.send()?;
+    Ok(())
+}
+
+/// Prints what comes to a peer.
+fn show_of<W: Write + Drop>(
+    stage: &mut Stage,
+    name: char,
+    (verb, text): (&str, &str),
+    writer: &mut BufWriter<W>,
+) -> io::Result<()> {
+    let so = match verb {
+        ">" => return show_came(stage, name, text, writer),
+        "drains" => return drain(stage, name, text, writer),
+        "before" => return compare(stage, (name, letter(text)?), writer),
+        "ends" => ends(stage, name)?,
+        "silent" => is_silent(stage, name)?,
+        "pours" => pours(stage, name, text)?,
+        _ => return Err(bad()),
+    };
+    writeln!(writer, "{name} {verb}: {}", word(so))
+}
+
+/// Prints whether bytes come to the first of two peers not later than to the second one.
+fn compare<W: Write + Drop>(
+    stage: &mut Stage,
+    (first, second): (char, char),
+    writer: &mut BufWriter<W>,
+) -> io::Result<()> {
+    let so = stage.is_first(first, second)?;
+    writeln!(writer, "{first} before {second}: {}", word(so))
+}
+
+/// So many bytes come to a peer, which are printed.
+fn show_came<W: Write + Drop>(
+    stage: &mut Stage,
+    name: char,
+    text: &str,
+    writer: &mut BufWriter<W>,
+) -> io::Result<()> {
+    let count = number(text)? as usize;
+    stage.wait_for(name, count)?;
+    let peer = stage.peer(name)?;
+    write!(writer, "{name} ")?;
+    show(peer.came.get(..count).unwrap_or(&peer.came), writer)?;
+    let count = count.min(peer.came.len());
+    peer.came.drain(..count);
+    Ok(())
+}
+
+/// Whether a peer's stream ends, with nothing more on it.
+fn ends(stage: &mut Stage, name: char) -> io::Result<bool> {
+    stage.wait_for(name, 1)?;
+    let peer = stage.peer(name)?;
+    Ok(peer.ended && peer.came.is_empty())
+}
+
+/// Whether nothing comes to a peer for a while.
+fn is_silent(stage: &mut Stage, name: char) -> io::Result<bool> {
+    stage.serve(SILENCE)?;
+    let peer = stage.peer(name)?;
+    peer.hear()?;
+    Ok(!peer.ended && peer.came.is_empty())
+}
+
+/// A peer sends calls so often, until the sockets are full; whether they are.
+fn pours(stage: &mut Stage, name: char, text: &str) -> io::Result<bool> {
+    let (count, calls) = text.split_once(' ').unwrap_or((text, ""));
+    let calls = bytes(stage.rt.alloc(), calls)?;
+    pour(stage, name, &calls, number(count)?)
+}
+
+/// A peer reads so many replies of so many bytes: prints how the first one begins, and whether all
+/// came in their order.
+fn drain<W: Write + Drop>(
+    stage: &mut Stage,
+    name: char,
+    text: &str,
+    writer: &mut BufWriter<W>,
+) -> io::Result<()> {
+    let (count, length) = text.split_once(' ').unwrap_or((text, "0"));
+    let (count, length) = (number(count)?, number(length)?);
+    stage.wait_for(name, (count as usize).saturating_mul(length as usize))?;
+    let so = is_in_order(stage, name, count)?;
+    let peer = stage.peer(name)?;
+    write!(
+        writer,
+        "{name} drains {}, in order: {}, ",
+        peer.came.len(),
+        word(so)
+    )?;
+    show(peer.came.get(..SHOWN).unwrap_or(&[]), writer)?;
+    peer.came.clear();
+    Ok(())
+}

@@ -1,0 +1,157 @@
+//! A server over sockets, its peers, and the time.
+
+use crate::peer::Peer;
+use std::alloc::Global;
+use std::io::{self, Error, ErrorKind};
+use std::time::Instant;
+use sv_net::{Net, Watch, serve};
+use sv_replay::read_scenario;
+use sv_serve::Driver;
+use sv_server::{Config, Port, Server};
+
+/// The ports of the core channel, the abort channel and the port mapper.
+pub(crate) const PORTS: [u16; 3] = [24196, 24197, 24198];
+/// How many seconds a peer waits at most.
+const PATIENCE: u64 = 10;
+/// How often it looks at most.
+const LOOKS: u32 = 10_000_000;
+/// How many sweeps are made between two looks: time passes behind the first one.
+const SWEEPS: u32 = 2;
+
+/// What is told of a row that can't be played.
+pub(crate) fn bad() -> Error {
+    Error::from(ErrorKind::InvalidData)
+}
+
+/// What is told where a peer waited so long.
+fn late() -> Error {
+    Error::from(ErrorKind::TimedOut)
+}
+
+/// A server with its peers.
+#[derive(Drop)]
+pub(crate) struct Stage {
+    pub(crate) rt: HostRuntime,
+    watch: Watch<Global>,
+    driver: Driver<Net<HostRuntime, Global>, Global>,
+    pub(crate) peers: Vec<Peer>,
+    /// A time to compare with.
+    start: Instant,
+}
+
+impl Stage {
+    /// A new server that has this scenario, without peers.
+    pub(crate) fn new(rt: HostRuntime, scenario: &str) -> io::Result<Stage> {
+        let Ok(scenario) = read_scenario(rt.alloc(), scenario.as_bytes()) else {
+            return Err(bad());
+        };
+        let config = Config {
+            core: PORTS[0],
+            abort: PORTS[1],
+            clock: 0,
+        };
+        let server = Server::new(rt.alloc(), config)?;
+        let (watch, net) = Watch::listen(rt, rt.alloc(), PORTS)?;
+        Ok(Stage {
+            rt,
+            watch,
+            driver: Driver::new(rt.alloc(), server, net, scenario)?,
+            peers: Vec::new(rt.alloc()),
+            start: Instant::now(&rt)?,
+        })
+    }
+
+    /// The peer of this letter.
+    pub(crate) fn peer(&mut self, name: char) -> io::Result<&mut Peer> {
+        match self.peers.iter_mut().find(|peer| peer.name == name) {
+            Some(peer) => Ok(peer),
+            None => Err(bad()),
+        }
+    }
+
+    /// Makes so many sweeps.
+    pub(crate) fn serve(&mut self, sweeps: u32) -> io::Result<()> {
+        serve(&self.rt, &mut self.watch, &mut self.driver, sweeps)
+    }
+
+    /// Whether bytes wait in the server that the sockets don't take.
+    pub(crate) fn waits(&self) -> bool {
+        let server = self.driver.server();
+        (0..16).any(|conn| !server.waiting(Port::Conn(conn)).is_empty())
+    }
+
+    /// Keeps the time to compare with.
+    pub(crate) fn begin(&mut self) -> io::Result<()> {
+        self.start = Instant::now(&self.rt)?;
+        Ok(())
+    }
+
+    /// How many whole milliseconds passed since.
+    pub(crate) fn passed(&self) -> io::Result<u128> {
+        Ok(self.start.elapsed(&self.rt)?.as_millis())
+    }
+
+    /// Lets a peer send and read what it can; whether it has so many bytes, or its stream ended.
+    fn has(&mut self, name: char, count: usize) -> io::Result<bool> {
+        let peer = self.peer(name)?;
+        peer.send()?;
+        peer.hear()?;
+        Ok(peer.ended || peer.came.len() >= count)
+    }
+
+    /// Serves on, if a peer that began to wait then isn't too late.
+    fn serve_on(&mut self, begun: Instant) -> io::Result<()> {
+        if begun.elapsed(&self.rt)?.as_secs() >= PATIENCE {
+            return Err(late());
+        }
+        self.serve(SWEEPS)
+    }
+
+    /// Serves until so many bytes came to a peer, or its stream ended.
+    ///
+    /// # Errors
+    /// Where that takes too long.
+    pub(crate) fn wait_for(&mut self, name: char, count: usize) -> io::Result<()> {
+        let begun = Instant::now(&self.rt)?;
+        for _ in 0..LOOKS {
+            if self.has(name, count)? {
+                return Ok(());
+            }
+            self.serve_on(begun)?;
+        }
+        Err(late())
+    }
+
+    /// Serves until a connection came to a peer's port.
+    ///
+    /// # Errors
+    /// Where that takes too long.
+    pub(crate) fn accept(&mut self, name: char) -> io::Result<()> {
+        let begun = Instant::now(&self.rt)?;
+        for _ in 0..LOOKS {
+            if self.peer(name)?.accept()? {
+                return Ok(());
+            }
+            self.serve_on(begun)?;
+        }
+        Err(late())
+    }
+
+    /// Serves until bytes came to the second of two peers; whether some came to the first one too,
+    /// which is looked at behind the second one.
+    ///
+    /// # Errors
+    /// Where that takes too long.
+    pub(crate) fn is_first(&mut self, first: char, second: char) -> io::Result<bool> {
+        let begun = Instant::now(&self.rt)?;
+        for _ in 0..LOOKS {
+            let came = self.has(second, 1)?;
+            let so = self.has(first, 1)?;
+            if came {
+                return Ok(so);
+            }
+            self.serve_on(begun)?;
+        }
+        Err(late())
+    }
+}
