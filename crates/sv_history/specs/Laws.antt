@@ -1,5 +1,5 @@
 -- Laws of the whole, over the definitions alone.
-use Rattle.std.specs.Prelude.{◌≡◌, ◌⊎◌, ℕ, ◌+◌, ◌<◌, ◌≤◌, Bool, true, false, List, [], ◌∷◌, ◌++◌, length, take, drop, Some, None, Result, Ok, Err, ⊤}
+use Rattle.std.specs.Prelude.{◌≡◌, ◌⊎◌, ℕ, ◌+◌, ◌<◌, ◌≤◌, Bool, true, false, List, [], ◌∷◌, ◌++◌, length, take, drop, Some, None, is_some, Result, Ok, Err, ⊤}
 use Rattle.sv_rpc.specs.declared.call.CallFault.TheVariants.{BadHeader}
 use Rattle.sv_rpc.specs.Call.{call_at}
 use Rattle.sv_links.specs.declared.waiting.Wait.{Wait}
@@ -12,7 +12,7 @@ use Rattle.sv_history.specs.declared.event.Did.TheVariants.{Done}
 use Rattle.sv_history.specs.declared.event.Refused.{Refused}
 use Rattle.sv_history.specs.Event.{PlainEvent, Open, Bytes, Turn, Took, Close, Dialed, Input, External, port_number}
 use Rattle.sv_history.specs.Act.{Act, ConnAct, Opened, CallTaken, Faulted, Replied, PortClosed, of, device_acts, wait_acts, ticks}
-use Rattle.sv_history.specs.Connection.{is_open, unanswered, completed, is_busy, next_call, room, waiting_on}
+use Rattle.sv_history.specs.Connection.{is_open, unanswered, completed, next_call, room, waiting_on}
 use Rattle.sv_history.specs.Interrupts.{dial_of}
 use Rattle.sv_history.specs.Requests.{HearsOf}
 use Rattle.sv_history.specs.Settling.{CanResume}
@@ -57,12 +57,12 @@ one_if true = 1
 one_if false = 0
 
 -- as many as were answered (or were no calls), and the one that waits
-abbrev pub IsPaid : List ConnAct → Type 0
-IsPaid acts = taken acts ≡ completed acts + one_if (is_busy acts)
+abbrev pub IsPaid : ℕ → List Act → Type 0
+IsPaid c log = taken (of c log) ≡ completed (of c log) + one_if (is_some (waits c (wait_acts (device_acts log))))
 
 -- Each call that is taken is answered once, or waits for its answer.
 abbrev pub EachAnswered : Type 0
-EachAnswered = (config : Config) (history : List PlainEvent) (log : List Act) (c : ℕ) → IsLogOf config history log → IsPaid (of c log)
+EachAnswered = (config : Config) (history : List PlainEvent) (log : List Act) (c : ℕ) → IsLogOf config history log → IsPaid c log
 
 -- A reply has a call's xid: behind its record mark it begins with the four bytes with which the call begins (RFC 5531, sections 9 and 11).
 abbrev pub HasXidOf : List ℕ → List ℕ → Type 0

@@ -28,7 +28,11 @@ pub record Recording (W : Type 0) : Type 0 where
 abbrev pub Keeps : {W : Type 0} → Recording W → Heard → Recording W → Type 0
 Keeps before heard after = after.is_whole ≡ true → (before.is_whole ≡ true) × (after.trace ≡ heard ∷ before.trace)
 
--- What such a wire was asked is what it kept, if that is all.
-abbrev pub TraceIsKept : {W : Type 0} → (Recording W → Heard → Recording W → Type 0) → Type 0
-TraceIsKept hears = (trace : List Heard) (start now : Recording _) → Through hears trace start now → now.is_whole ≡ true
-    → now.trace ≡ trace ++ start.trace
+-- The other wire was asked, and answered so; and that was kept.
+abbrev pub Passes : {W : Type 0} → (W → Heard → W → Type 0) → Recording W → Heard → Recording W → Type 0
+Passes hears before heard after = hears before.wire heard after.wire × Keeps before heard after
+
+-- What such a wire was asked is what the other one was asked; and it is what was kept, if that is all.
+abbrev pub TraceIsKept : {W : Type 0} → (W → Heard → W → Type 0) → (Recording W → Heard → Recording W → Type 0) → Type 0
+TraceIsKept hears recorded = (trace : List Heard) (start now : Recording _) → Through recorded trace start now
+    → Through hears trace start.wire now.wire × (now.is_whole ≡ true → now.trace ≡ trace ++ start.trace)

@@ -7,5 +7,5 @@ use sv_serve::Wire;
 
 /// The trace of which the laws of a driver speak is what a recorder kept, as long as it is whole.
 pub fn trace_is_kept<W: Wire + Drop>()
-    ensures { TraceIsKept ⟦<Recorder<W> as Wire>⟧.hears }
+    ensures { TraceIsKept W.hears ⟦<Recorder<W> as Wire>⟧.hears }
 {}

@@ -108,7 +108,7 @@ impl<W: Wire + Drop> Recorder<W> {
     /// Keeps a call, if there was memory for it.
     fn keep_if(&mut self, call: Result<Call, AllocError>)
         ensures { (heard : Heard) → IfOk call (λ kept. heard_of kept ≡ heard)
-            → Keeps self.old heard self.new }
+            → Keeps self.old heard self.new × (self.new.wire ≡ self.old.wire) }
     {
         match call {
             Ok(call) => self.keep(call),
@@ -118,7 +118,7 @@ impl<W: Wire + Drop> Recorder<W> {
 
     /// Keeps a call.
     fn keep(&mut self, call: Call)
-        ensures { Keeps self.old (heard_of call) self.new }
+        ensures { Keeps self.old (heard_of call) self.new × (self.new.wire ≡ self.old.wire) }
     {
         match self.calls.push(call) {
             Ok(()) => {}
@@ -128,9 +128,9 @@ impl<W: Wire + Drop> Recorder<W> {
 }
 
 impl<W: Wire + Drop> Wire for Recorder<W> {
-    ghost use Rattle.sv_recording.specs.Recorded.{Keeps};
+    ghost use Rattle.sv_recording.specs.Recorded.{Passes};
 
-    ghost hears = { λ before heard after. Keeps before heard after };
+    ghost hears = { λ before heard after. Passes W.hears before heard after };
 
     fn accept(&mut self, role: Role, conn: Option<u8>) -> Answer<()> {
         let answer = self.wire.accept(role, conn);

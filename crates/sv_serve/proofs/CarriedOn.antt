@@ -11,17 +11,20 @@ use Rattle.sv_history.specs.declared.event.Port.TheVariants.{Conn, Intr}
 use Rattle.sv_history.specs.Event.{PlainEvent}
 use Rattle.sv_history.specs.Act.{Act, ConnAct, of, device_acts}
 use Rattle.sv_history.specs.Connection.{is_open, sent, sent_on, waiting, waiting_on}
-use Rattle.sv_history.specs.History.{is_port_shut, IsLogOf}
+use Rattle.sv_history.specs.History.{is_port_shut, last_clock, IsLogOf}
 use Rattle.sv_history.proofs.AlwaysTold.{some_told}
+use Rattle.sv_replay.specs.Scenario.{IsScenario}
 use Rattle.sv_server.specs.Server.State.{StandsFor}
 use Rattle.sv_serve.specs.Timed.{handed}
 use Rattle.sv_serve.proofs.Timing.{Played, begins, behind}
 use Rattle.sv_serve.specs.Heard.{Heard}
 use Rattle.sv_serve.specs.Moment.{Driving, moment}
 use Rattle.sv_serve.specs.Served.{Through, event_of, is_outer}
-use Rattle.sv_serve.specs.Carried.{Swept, ClosesAtOnce, HasReasons, IsAtStart, InSweeps, Carried}
+use Rattle.sv_serve.specs.Carried.{Swept, ClosesAtOnce, IsCarried, InSweeps, Carried}
 use Rattle.sv_serve.proofs.Ports.{Holds, Both, Keeping, came, went, left_bytes}
-use Rattle.sv_serve.proofs.Reasons.{told_more, once_join}
+use Rattle.sv_serve.proofs.Reasons.{HasReasons, told_more, once_join}
+use Rattle.sv_serve.proofs.Handing.{HandsOver}
+use Rattle.sv_serve.proofs.LettingGo.{LetsGoRightly}
 use Rattle.sv_serve.proofs.Carrying.{through_join}
 use Rattle.sv_serve.proofs.Serving.{sweep_once, serves}
 
@@ -30,7 +33,8 @@ keeping_none c log told none hears_of =
     let untold : told ≡ [] = rw none at hears_of in
     rw (none, untold) ((refl, (λ opened. absurd cc)), (λ opened. absurd cc))
 
-record Over {W : Type 0} (hears : W → Heard → W → Type 0) (config : Config) (passed : List ℕ) (start now : Driving W) : Type 0 where
+record Over {W : Type 0} (hears : W → Heard → W → Type 0) (config : Config) (passed : List ℕ) (start now : Driving W)
+    (swept : Swept hears passed start now) : Type 0 where
   pub trace : List Heard
   pub history : List PlainEvent
   pub through : Through hears trace start.wire now.wire
@@ -39,52 +43,11 @@ record Over {W : Type 0} (hears : W → Heard → W → Type 0) (config : Config
   pub keeping : Keeping config history trace
   pub once : ClosesAtOnce None trace
   pub reasons : HasReasons config history trace
-  pub parts : InSweeps config start passed history trace
-  pub time : IsAtStart config start → Played config start.ahead (handed passed) (moment now history)
-
-over : {W : Type 0} (hears : W → Heard → W → Type 0) (config : Config) (passed : List ℕ) (start now : Driving W)
-    → StandsFor start.server config [] → Swept hears passed start now → Over hears config passed start now
-over hears config [] start now stands is = record {
-  trace = [];
-  history = [];
-  through = ap (λ d. d.wire) is;
-  stands = subst (λ d. StandsFor d.server config []) (sym is) stands;
-  told = refl;
-  keeping = λ log told none hears_of c. keeping_none c log told none.1 hears_of;
-  once = tt;
-  reasons = tt;
-  parts = (refl, refl);
-  time = λ fresh. subst (λ d. Played config start.ahead 0 (moment d [])) (sym is) (begins config start fresh);
-}
-over hears config (ticks ∷ passed) start now stands (between, swept, goes) =
-    let was = over hears config passed start between stands swept in
-    let now_so = goes config was.history was.stands in
-    let s = sweep_once hears config ticks (moment between was.history) (moment now now_so.0) now_so.2 in
-    record {
-      trace = s.k.piece ++ was.trace;
-      history = now_so.0;
-      through = through_join hears was.trace s.k.piece start.wire between.wire now.wire was.through s.k.through;
-      stands = now_so.1;
-      told = ap (filter is_outer) s.k.grown ∙ told_more s.k.events was.history s.k.piece was.trace s.k.told was.told;
-      keeping = s.k.keeps was.trace was.keeping;
-      once = once_join None s.k.piece was.trace s.k.closing.once was.once;
-      reasons = s.k.closing.reasons was.trace was.told was.reasons;
-      parts = (
-        was.history,
-        s.k.events,
-        was.trace,
-        s.k.piece,
-        was.parts,
-        s.k.grown,
-        refl,
-        λ c lt. serves config c was.history s.k.events s.k.piece now_so.1.log
-            (subst (λ h. IsLogOf config h now_so.1.log) s.k.grown now_so.1.is_log) (s.offered c lt),
-        λ fresh. (behind hears config start.ahead passed ticks (moment between was.history) (moment now now_so.0) now_so.2
-            (was.time fresh)).1,
-      );
-      time = λ fresh. (behind hears config start.ahead passed ticks (moment between was.history) (moment now now_so.0) now_so.2
-          (was.time fresh)).0;
-    }
+  pub hands : HandsOver config history trace
+  pub lets : LetsGoRightly config history trace
+  pub parts : InSweeps hears config start passed now swept history trace
+  pub time : config.clock ≤ last_clock → start.ticks ≡ 0 → IsScenario 0 start.ahead
+      → Played config start.ahead (handed passed) (moment now history)
 
 open_by : (far opened : Bool) → (far || not opened) ≡ false → opened ≡ true
 open_by true opened e = absurd cc
@@ -104,25 +67,76 @@ sends_all (Intr c) log told trace tells all free =
     ∙ open_by (nat_lt 15 c) (has_channel c (device_acts log)) free in
     rw (opened, left_bytes (channel_taken c told) (calls c told)) ((all c).1 opened).0
 
+is_carried : {W : Type 0} (hears : W → Heard → W → Type 0) (config : Config) (passed : List ℕ) (start now : Driving W)
+    (swept : Swept hears passed start now) (all : Over hears config passed start now swept) → IsCarried config all.history all.trace
+is_carried hears config passed start now swept all =
+    let log = all.stands.log in
+    let told = some_told (device_acts log) in record {
+      events = all.told;
+      streams = λ c. (log, all.stands.is_log, sym (all.keeping log told.0 all.stands.is_log told.1 c).0.0);
+      sends = λ port log told is_log tells free. sends_all port log told all.trace tells (all.keeping log told is_log tells) free;
+      hands = all.hands;
+      failures = all.once;
+      reasons = all.reasons;
+      lets_go = all.lets;
+    }
+
+over : {W : Type 0} (hears : W → Heard → W → Type 0) (config : Config) (passed : List ℕ) (start now : Driving W)
+    → StandsFor start.server config [] → (swept : Swept hears passed start now) → Over hears config passed start now swept
+over hears config [] start now stands is = record {
+  trace = [];
+  history = [];
+  through = ap (λ d. d.wire) is;
+  stands = subst (λ d. StandsFor d.server config []) (sym is) stands;
+  told = refl;
+  keeping = λ log told none hears_of c. keeping_none c log told none.1 hears_of;
+  once = tt;
+  reasons = tt;
+  hands = tt;
+  lets = tt;
+  parts = (refl, refl);
+  time = λ clock zero rising. subst (λ d. Played config start.ahead 0 (moment d [])) (sym is) (begins config start clock zero rising);
+}
+over hears config (ticks ∷ passed) start now stands (between, swept, goes) =
+    let was = over hears config passed start between stands swept in
+    let now_so = goes config was.history was.stands in
+    let s = sweep_once hears config ticks (moment between was.history) (moment now now_so.0) now_so.2 in
+    record {
+      trace = s.k.piece ++ was.trace;
+      history = now_so.0;
+      through = through_join hears was.trace s.k.piece start.wire between.wire now.wire was.through s.k.through;
+      stands = now_so.1;
+      told = ap (filter is_outer) s.k.grown ∙ told_more s.k.events was.history s.k.piece was.trace s.k.told was.told;
+      keeping = s.k.keeps was.trace was.keeping;
+      once = once_join None s.k.piece was.trace s.k.closing.once was.once;
+      reasons = s.k.closing.reasons was.trace was.told was.reasons;
+      hands = s.k.hands was.trace was.told was.hands;
+      lets = s.k.lets was.trace was.told was.lets;
+      parts = (
+        was.history,
+        s.k.events,
+        was.trace,
+        s.k.piece,
+        was.parts,
+        is_carried hears config passed start between swept was,
+        s.k.grown,
+        refl,
+        (
+          was.stands,
+          subst (λ h. StandsFor now.server config h) s.k.grown now_so.1,
+          s.k.through,
+          s.k.told,
+          λ c lt. serves config c was.history s.k.events s.k.piece now_so.1.log
+              (subst (λ h. IsLogOf config h now_so.1.log) s.k.grown now_so.1.is_log) (s.offered c lt),
+        ),
+        λ clock zero rising. (behind hears config start.ahead passed ticks (moment between was.history) (moment now now_so.0) now_so.2
+            (was.time clock zero rising)).1,
+      );
+      time = λ clock zero rising. (behind hears config start.ahead passed ticks (moment between was.history) (moment now now_so.0) now_so.2
+          (was.time clock zero rising)).0;
+    }
+
 pub carried : {W : Type 0} (hears : W → Heard → W → Type 0) → Carried hears
 carried hears config passed start now stands swept =
     let all = over hears config passed start now stands swept in
-    let log = all.stands.log in
-    let told = some_told (device_acts log) in (
-      all.trace,
-      all.history,
-      all.through,
-      all.stands,
-      record {
-        log = log;
-        told = told.0;
-        is_log = all.stands.is_log;
-        hears_of = told.1;
-        events = all.told;
-        streams = λ c. (all.keeping log told.0 all.stands.is_log told.1 c).0.0;
-        sends = λ port free. sends_all port log told.0 all.trace told.1 (all.keeping log told.0 all.stands.is_log told.1) free;
-        failures = all.once;
-        reasons = all.reasons;
-      },
-      all.parts,
-    )
+    (all.trace, all.history, all.through, all.stands, is_carried hears config passed start now swept all, all.parts)

@@ -40,10 +40,14 @@ use Rattle.sv_serve.specs.declared.wire.Answer.TheVariants.{Got, Pending, Failed
 use Rattle.sv_serve.specs.Heard.{Heard, WasAccepted, WasRead, WasProbed, WasWritten, WasDialed, PeerAnswered, WasClosed, IsWithin}
 use Rattle.sv_serve.specs.Moment.{Moment, Each, ◌then◌}
 use Rattle.sv_serve.specs.Asked.{IsLowest}
-use Rattle.sv_serve.specs.Steps.{Given, Happens, called_of, Opens, Accepts, HangsUpOn, HangsUp, Closes, ClosesIf, Comes, Drops, ProbesIf, ReadsFrom, RefusesIf, EndsTurn, TurnsIf, Turns, KeepsCall, LetsGoOf, Rings, Picks, CallsFor, Dials, EndsWrite, WritesTo, EndsIf, Ends}
+use Rattle.sv_serve.specs.Steps.{Given, Happens, called_of, Opens, Accepts, HangsUpOn, HangsUp, Closes, ClosesIf, Comes, Drops, ProbesIf, ReadsFrom, RefusesIf, EndsTurn, TurnsIf, Turns, is_wanted, KeepsCall, LetsGoOf, Rings, Picks, CallsFor, Dials, EndsWrite, WritesTo, EndsIf, Ends}
 use Rattle.sv_serve.specs.Sweep.{Applies, PlaysOne, Plays, Counts, TicksOnce, Passes}
 use Rattle.sv_serve.specs.Served.{Through, event_of, is_outer}
 use Rattle.sv_serve.specs.Carried.{begins, read, taken, ClosesAtOnce}
+use Rattle.sv_history.specs.Queries.{WaitOn}
+use Rattle.sv_serve.specs.Carried.{ends_port}
+use Rattle.sv_serve.proofs.LettingGo.{LetsGoRightly, IsEnd, IsNoHang, NoneHung, Adds, adds_nothing, adds_one, lets_more, lets_event, none_hung, end_shut, let_go, hung_same}
+use Rattle.sv_serve.proofs.Handing.{HandsOver, Fits, AllFit, IsNoWrite, NoneWritten, fits_none, all_fit_none, hands_more, hands_silent, hands_event}
 use Rattle.sv_serve.proofs.Suited.{suited}
 use Rattle.sv_serve.proofs.Reasons.{IsCalm, AreCalm, IsReason, Reasons, Closing, told_more, closing_silent, closing_more, closing_then, closing_event, closed_same, written_else}
 use Rattle.sv_serve.proofs.Ports.{Both, IsSilent, AreSilent, holds_silent, step_open, step_read, step_took, step_close, step_sent, step_opened, Keeping, keeping_event, keeping_silent}
@@ -82,6 +86,10 @@ pub record Keeps {W : Type 0} (hears : W → Heard → W → Type 0) (May : Subj
   pub may : AllMay May piece
   pub keeps : (trace : List Heard) → Keeping config before.history trace → Keeping config after.history (piece ++ trace)
   pub closing : Closing config before.history after.history piece
+  pub lets : (trace : List Heard) → filter is_outer before.history ≡ flat_map event_of trace → LetsGoRightly config before.history trace
+      → LetsGoRightly config after.history (piece ++ trace)
+  pub hands : (trace : List Heard) → filter is_outer before.history ≡ flat_map event_of trace → HandsOver config before.history trace
+      → HandsOver config after.history (piece ++ trace)
 
 pub through_join : {W : Type 0} (hears : W → Heard → W → Type 0) (one other : List Heard) (a b c : W) → Through hears one a b
     → Through hears other b c → Through hears (other ++ one) a c
@@ -99,6 +107,8 @@ keeps_none hears May config before after is = record {
   may = tt;
   keeps = λ trace keeping. subst (λ h. Keeping config h trace) (sym (ap (λ m. m.history) is)) keeping;
   closing = closing_silent config before.history after.history [] (ap (λ m. m.history) is) tt tt;
+  hands = λ trace so h. subst (λ l. HandsOver config l trace) (sym (ap (λ m. m.history) is)) h;
+  lets = λ trace so h. subst (λ l. LetsGoRightly config l trace) (sym (ap (λ m. m.history) is)) h;
 }
 
 abbrev pub keeps_then : {W : Type 0} (hears : W → Heard → W → Type 0) (May : Subject → Type 0) (config : Config) (a b c : Moment W) → Keeps hears May config a b
@@ -113,6 +123,10 @@ keeps_then hears May config a b c x y = record {
   keeps = λ trace keeping. subst (λ t. Keeping config c.history t) (sym (append_assoc y.piece x.piece trace))
       (y.keeps (x.piece ++ trace) (x.keeps trace keeping));
   closing = closing_then config a.history b.history c.history x.events x.piece y.piece x.grown x.told x.closing y.closing;
+  hands = λ trace so h. subst (λ t. HandsOver config c.history t) (sym (append_assoc y.piece x.piece trace))
+      (y.hands (x.piece ++ trace) (ap (filter is_outer) x.grown ∙ told_more x.events a.history x.piece trace x.told so) (x.hands trace so h));
+  lets = λ trace so h. subst (λ t. LetsGoRightly config c.history t) (sym (append_assoc y.piece x.piece trace))
+      (y.lets (x.piece ++ trace) (ap (filter is_outer) x.grown ∙ told_more x.events a.history x.piece trace x.told so) (x.lets trace so h));
 }
 
 pub keeps_each : {W : Type 0} (hears : W → Heard → W → Type 0) (May : Subject → Type 0) (config : Config) (step : ℕ → Config → Moment W → Moment W → Type 0) (n : ℕ)
@@ -130,17 +144,20 @@ pub silent_events : (piece : List Heard) → AreSilent piece → flat_map event_
 silent_events [] silent = refl
 silent_events (heard ∷ piece) silent = rw silent.0.0 (silent_events piece silent.1)
 
-pub record Quiet {W : Type 0} (hears : W → Heard → W → Type 0) (May : Subject → Type 0) (before after : Moment W) : Type 0 where
+pub record Quiet {W : Type 0} (hears : W → Heard → W → Type 0) (May : Subject → Type 0) (hung : Option ℕ) (before after : Moment W) : Type 0 where
   pub piece : List Heard
   pub through : Through hears piece before.wire after.wire
   pub same : after.history ≡ before.history
   pub silent : AreSilent piece
   pub calm : AreCalm piece
+  pub unwritten : NoneWritten piece
+  pub adds : Adds hung piece
   pub may : AllMay May piece
 
-abbrev pub quiet_keeps : {W : Type 0} (hears : W → Heard → W → Type 0) (May : Subject → Type 0) (config : Config) (before after : Moment W) → Quiet hears May before after
+abbrev pub quiet_keeps : {W : Type 0} (hears : W → Heard → W → Type 0) (May : Subject → Type 0) (config : Config) (hung : Option ℕ) (before after : Moment W) → Quiet hears May hung before after
+    → ((trace : List Heard) → filter is_outer before.history ≡ flat_map event_of trace → (d : ℕ) → hung ≡ Some d → IsEnd d config before.history trace)
     → Keeps hears May config before after
-quiet_keeps hears May config before after q = record {
+quiet_keeps hears May config hung before after q reason = record {
   piece = q.piece;
   events = [];
   through = q.through;
@@ -150,40 +167,50 @@ quiet_keeps hears May config before after q = record {
   keeps = λ trace keeping. keeping_silent config after.history q.piece trace q.silent
       (subst (λ h. Keeping config h trace) (sym q.same) keeping);
   closing = closing_silent config before.history after.history q.piece q.same q.silent q.calm;
+  hands = λ trace so h. subst (λ l. HandsOver config l (q.piece ++ trace)) (sym q.same)
+      (hands_silent config before.history q.piece trace q.silent (all_fit_none config before.history q.piece q.unwritten) so h);
+  lets = λ trace so h. subst (λ l. LetsGoRightly config l (q.piece ++ trace)) (sym q.same)
+      (q.adds config before.history trace (reason trace so) h);
 }
 
-quiet_none : {W : Type 0} (hears : W → Heard → W → Type 0) (May : Subject → Type 0) (before after : Moment W) → after ≡ before → Quiet hears May before after
-quiet_none hears May before after is =
-    record { piece = []; through = ap (λ m. m.wire) is; same = ap (λ m. m.history) is; silent = tt; calm = tt; may = tt }
+quiet_none : {W : Type 0} (hears : W → Heard → W → Type 0) (May : Subject → Type 0) (hung : Option ℕ) (before after : Moment W) → after ≡ before → Quiet hears May hung before after
+quiet_none hears May hung before after is =
+    record { piece = []; through = ap (λ m. m.wire) is; same = ap (λ m. m.history) is; silent = tt; calm = tt; unwritten = tt; adds = adds_nothing hung; may = tt }
 
-abbrev pub quiet_one : {W : Type 0} (hears : W → Heard → W → Type 0) (May : Subject → Type 0) (heard : Heard) (may : May (about heard)) (wire : W) (before after : Moment W) → hears before.wire heard wire
-    → after.wire ≡ wire → after.history ≡ before.history → IsSilent heard → IsCalm heard → Quiet hears May before after
-quiet_one hears May heard may wire before after was there same silent calm = record {
+abbrev pub quiet_one : {W : Type 0} (hears : W → Heard → W → Type 0) (May : Subject → Type 0) (hung : Option ℕ) (heard : Heard) (may : May (about heard)) (wire : W) (before after : Moment W) → hears before.wire heard wire
+    → after.wire ≡ wire → after.history ≡ before.history → IsSilent heard → IsCalm heard → IsNoWrite heard
+    → ((d : ℕ) → heard ≡ WasClosed (Intr d) → hung ≡ Some d) → Quiet hears May hung before after
+quiet_one hears May hung heard may wire before after was there same silent calm unwritten names = record {
   piece = heard ∷ [];
   through = subst (λ w. Through hears (heard ∷ []) before.wire w) (sym there) (before.wire, refl, was);
   same = same;
   silent = (silent, tt);
   calm = (calm, tt);
+  unwritten = (unwritten, tt);
+  adds = adds_one hung heard names;
   may = (may, tt);
 }
 
 -- the wire was asked, and nothing came of it
 abbrev pub only_heard : {W : Type 0} (hears : W → Heard → W → Type 0) (May : Subject → Type 0) (config : Config) (heard : Heard) (may : May (about heard)) (wire : W) (before between after : Moment W)
-    → hears before.wire heard wire → between ≡ record before { wire = wire } → IsSilent heard → IsCalm heard → after ≡ between
+    → hears before.wire heard wire → between ≡ record before { wire = wire } → IsSilent heard → IsCalm heard → IsNoWrite heard → IsNoHang heard → after ≡ between
     → Keeps hears May config before after
-only_heard hears May config heard may wire before between after was is silent calm same = quiet_keeps hears May config before after
-    (quiet_one hears May heard may wire before after was (ap (λ m. m.wire) same ∙ ap (λ m. m.wire) is)
-    (ap (λ m. m.history) same ∙ ap (λ m. m.history) is) silent calm)
+only_heard hears May config heard may wire before between after was is silent calm unwritten unhung same = quiet_keeps hears May config None before after
+    (quiet_one hears May None heard may wire before after was (ap (λ m. m.wire) same ∙ ap (λ m. m.wire) is)
+    (ap (λ m. m.history) same ∙ ap (λ m. m.history) is) silent calm unwritten (λ d e. absurd (unhung d e))) (λ trace so d e. none_hung d e)
+
+pub hung_is : (c d : ℕ) → WasClosed (Intr c) ≡ WasClosed (Intr d) → Some c ≡ Some d
+hung_is c d e = cc
 
 pub hangs_on : {W : Type 0} (hears : W → Heard → W → Type 0) (May : Subject → Type 0) (config : Config) (may : May OfNone) (c : ℕ) (found : Option Dial) (before after : Moment W)
-    → HangsUpOn hears c found config before after → Quiet hears May before after
-hangs_on hears May config may c None before after is = quiet_none hears May before after is
-hangs_on hears May config may c (Some dial) before after (between, (wire, was, is), notes) = quiet_one hears May (WasClosed (Intr c)) may wire before after was
+    → HangsUpOn hears c found config before after → Quiet hears May (Some c) before after
+hangs_on hears May config may c None before after is = quiet_none hears May (Some c) before after is
+hangs_on hears May config may c (Some dial) before after (between, (wire, was, is), notes) = quiet_one hears May (Some c) (WasClosed (Intr c)) may wire before after was
     (ap (λ m. m.wire) notes ∙ ap (λ m. m.wire) is) (ap (λ m. m.history) notes ∙ ap (λ m. m.history) is)
-    (refl, (λ port. refl), (λ port. refl), (λ port. refl)) (λ d. refl)
+    (refl, (λ port. refl), (λ port. refl), (λ port. refl)) (λ d. refl) (λ p b a e. absurd cc) (λ d e. hung_is c d e)
 
 pub hangs_up : {W : Type 0} (hears : W → Heard → W → Type 0) (May : Subject → Type 0) (config : Config) (may : May OfNone) (c : ℕ) (before after : Moment W)
-    → HangsUp hears c config before after → Quiet hears May before after
+    → HangsUp hears c config before after → Quiet hears May (Some c) before after
 hangs_up hears May config may c before after h = hangs_on hears May config may c (called_of c before) before after h
 
 -- ---- an event of the wire
@@ -203,6 +230,11 @@ happened event config before after (log, was, answers, is) = is
 -- the event of what was heard, with what is silent in front of it and behind it
 pub record Heeds {W : Type 0} (hears : W → Heard → W → Type 0) (May : Subject → Type 0) (config : Config) (heard : Heard) (event : PlainEvent)
     (newer older : List Heard) (before after : Moment W) : Type 0 where
+  pub hung : Option ℕ
+  pub newer_adds : Adds hung newer
+  pub newer_ends : (c : ℕ) → hung ≡ Some c → ends_port (Intr c) heard ≡ true
+  pub unhung : IsNoHang heard
+  pub older_unhung : NoneHung older
   pub log : List Act
   pub told : List ChannelAct
   pub was : IsLogOf config before.history log
@@ -211,6 +243,9 @@ pub record Heeds {W : Type 0} (hears : W → Heard → W → Type 0) (May : Subj
   pub grown : after.history ≡ event ∷ before.history
   pub newer_silent : AreSilent newer
   pub newer_calm : AreCalm newer
+  pub newer_unwritten : NoneWritten newer
+  pub fits : Fits config before.history heard
+  pub older_fits : AllFit config before.history older
   pub older_silent : AreSilent older
   pub older_once : ClosesAtOnce (Some heard) older
   pub calm : IsCalm heard
@@ -239,6 +274,10 @@ event_keeps hears May config heard event newer older before after e = record {
       (e.step (older ++ trace)) (keeping_silent config before.history older trace e.older_silent keeping))));
   closing = closing_event config before.history after.history event heard newer older e.grown e.newer_silent e.newer_calm e.older_silent
       e.older_once e.calm e.reason;
+  hands = λ trace so h. hands_event config before.history after.history event heard newer older trace e.grown e.newer_unwritten e.fits
+      e.older_silent e.older_fits so h;
+  lets = λ trace so h. lets_event config before.history after.history event heard newer older trace e.hung e.grown e.newer_adds e.newer_ends
+      e.unhung e.older_unhung h;
 }
 
 -- asked and answered: the event that it is happens
@@ -246,12 +285,17 @@ abbrev pub answer_keeps : {W : Type 0} (hears : W → Heard → W → Type 0) (M
     (before between after : Moment W) (told : List ChannelAct) (log : List Act) → IsLogOf config before.history log
     → HearsOf (device_acts log) told → hears before.wire heard wire
     → between.wire ≡ wire → between.history ≡ before.history → Happens event config between after
-    → is_outer event ≡ true → event_of heard ≡ event ∷ [] → IsCalm heard → ((c : ℕ) → heard ≡ WasClosed (Conn c) → ⊥)
+    → is_outer event ≡ true → event_of heard ≡ event ∷ [] → IsCalm heard → Fits config before.history heard → IsNoHang heard → ((c : ℕ) → heard ≡ WasClosed (Conn c) → ⊥)
     → ((trace : List Heard) (c : ℕ) → Both c (of c log) told trace → Both c (brings c event ++ of c log) (tells event log ++ told) (heard ∷ trace))
     → Keeps hears May config before after
-answer_keeps hears May config heard may event wire before between after told log was tells_so heard_so there same happens outer is calm stays step =
+answer_keeps hears May config heard may event wire before between after told log was tells_so heard_so there same happens outer is calm fits unhung stays step =
     let done = happened event config between after happens in
     event_keeps hears May config heard event [] [] before after (record {
+      hung = None;
+      newer_adds = adds_nothing None;
+      newer_ends = λ d e. none_hung d e;
+      unhung = unhung;
+      older_unhung = tt;
       log = log;
       told = told;
       was = was;
@@ -260,6 +304,9 @@ answer_keeps hears May config heard may event wire before between after told log
       grown = ap (λ m. m.history) done ∙ ap (λ h. event ∷ h) same;
       newer_silent = tt;
       newer_calm = tt;
+      newer_unwritten = tt;
+      fits = fits;
+      older_fits = tt;
       older_silent = tt;
       older_once = tt;
       calm = calm;
@@ -288,6 +335,8 @@ inner_by hears May config event (Ok what) before after inner none untold (log, w
       keeping_event only_calls only_requests config before.history log told.0 event trace trace was told.1
       (λ c h. rw (none c, untold log) h) keeping);
   closing = closing_more config before.history after.history (event ∷ []) (ap (λ m. m.history) is);
+  lets = λ trace so h. subst (λ l. LetsGoRightly config l trace) (sym (ap (λ m. m.history) is)) (lets_more config before.history (event ∷ []) trace h);
+  hands = λ trace so h. subst (λ l. HandsOver config l trace) (sym (ap (λ m. m.history) is)) (hands_more config before.history (event ∷ []) trace h);
 }
 
 abbrev pub inner_applies : {W : Type 0} (hears : W → Heard → W → Type 0) (May : Subject → Type 0) (config : Config) (event : PlainEvent) (before after : Moment W)
@@ -303,17 +352,17 @@ accept_by : {W : Type 0} (hears : W → Heard → W → Type 0) (May : Subject �
 accept_by hears May config may role (Some c) (Got all) wire before between after (lt, (log, was, answer), lower) heard is opens =
     let told = some_told (device_acts log) in
     answer_keeps hears May config (WasAccepted role (Some c) (Got all)) (may (OfConn c)) (Open c role) wire before between after told.0 log was told.1
-    heard (ap (λ m. m.wire) is) (ap (λ m. m.history) is) opens refl refl (λ d. refl) (λ d e. absurd cc)
+    heard (ap (λ m. m.wire) is) (ap (λ m. m.history) is) opens refl refl (λ d. refl) (λ p b a e. absurd cc) (λ n e. absurd cc) (λ d e. absurd cc)
     (λ trace d. step_open c role all trace d (of d log) told.0)
 accept_by hears May config may role (Some c) Pending wire before between after low heard is same =
     only_heard hears May config (WasAccepted role (Some c) Pending) (may (OfConn c)) wire before between after heard is
-    (refl, (λ port. refl), (λ port. refl), (λ port. refl)) (λ d. refl) same
+    (refl, (λ port. refl), (λ port. refl), (λ port. refl)) (λ d. refl) (λ p b a e. absurd cc) (λ n e. absurd cc) same
 accept_by hears May config may role (Some c) Failed wire before between after low heard is same =
     only_heard hears May config (WasAccepted role (Some c) Failed) (may (OfConn c)) wire before between after heard is
-    (refl, (λ port. refl), (λ port. refl), (λ port. refl)) (λ d. refl) same
+    (refl, (λ port. refl), (λ port. refl), (λ port. refl)) (λ d. refl) (λ p b a e. absurd cc) (λ n e. absurd cc) same
 accept_by hears May config may role None answer wire before between after low heard is same =
     only_heard hears May config (WasAccepted role None answer) (may OfNone) wire before between after heard is
-    (refl, (λ port. refl), (λ port. refl), (λ port. refl)) (λ d. refl) same
+    (refl, (λ port. refl), (λ port. refl), (λ port. refl)) (λ d. refl) (λ p b a e. absurd cc) (λ n e. absurd cc) same
 
 pub accepts : {W : Type 0} (hears : W → Heard → W → Type 0) (May : Subject → Type 0) (config : Config) (may : (n : Subject) → May n) (role : Role) (before after : Moment W)
     → Accepts hears role config before after → Keeps hears May config before after
@@ -324,10 +373,10 @@ accepts hears May config may role before after (number, answer, low, (between, (
 
 abbrev pub closes : {W : Type 0} (hears : W → Heard → W → Type 0) (May : Subject → Type 0) (config : Config) (c : ℕ) (may : May OfNone × May (OfConn c)) (older : List Heard)
     (before between after : Moment W) → Through hears older before.wire between.wire → between.history ≡ before.history → AreSilent older
-    → AllMay May older → ClosesAtOnce (Some (WasClosed (Conn c))) older
+    → AllFit config before.history older → NoneHung older → AllMay May older → ClosesAtOnce (Some (WasClosed (Conn c))) older
     → Reasons config (Close (Conn c) ∷ before.history) before.history (WasClosed (Conn c)) older → Closes hears c config between after
     → Keeps hears May config before after
-closes hears May config c may older before between after so still silent all_may once reason
+closes hears May config c may older before between after so still silent fit old all_may once reason
     (first, (wire, heard, is), (second, hangs, (log, was, answers, to))) =
     let q = hangs_up hears May config may.0 c first second hangs in
     let same : second.history ≡ before.history = q.same ∙ ap (λ m. m.history) is ∙ still in
@@ -335,6 +384,11 @@ closes hears May config c may older before between after so still silent all_may
     let shut : Through hears (WasClosed (Conn c) ∷ older) before.wire first.wire =
     subst (λ w. Through hears (WasClosed (Conn c) ∷ older) before.wire w) (sym (ap (λ m. m.wire) is)) (between.wire, so, heard) in
     event_keeps hears May config (WasClosed (Conn c)) (Close (Conn c)) q.piece older before after (record {
+      hung = Some c;
+      newer_adds = q.adds;
+      newer_ends = λ d e. eq-eqb c d (hung_same c d e);
+      unhung = (λ n e. absurd cc);
+      older_unhung = old;
       log = log;
       told = told.0;
       was = subst (λ h. IsLogOf config h log) same was;
@@ -344,6 +398,9 @@ closes hears May config c may older before between after so still silent all_may
       grown = ap (λ m. m.history) to ∙ ap (λ h. Close (Conn c) ∷ h) same;
       newer_silent = q.silent;
       newer_calm = q.calm;
+      newer_unwritten = q.unwritten;
+      fits = (λ p b a e. absurd cc);
+      older_fits = fit;
       older_silent = silent;
       older_once = once;
       calm = λ d. refl;
@@ -367,15 +424,15 @@ read_by : {W : Type 0} (hears : W → Heard → W → Type 0) (May : Subject →
 read_by hears May config c may read_may most (Got bytes) wire before between after log was heard is happens =
     let told = some_told (device_acts log) in
     answer_keeps hears May config (WasRead c most (Got bytes)) read_may (Bytes c bytes) wire before between after told.0 log was told.1
-    heard (ap (λ m. m.wire) is) (ap (λ m. m.history) is) happens refl refl (λ d. refl) (λ d e. absurd cc)
+    heard (ap (λ m. m.wire) is) (ap (λ m. m.history) is) happens refl refl (λ d. refl) (λ p b a e. absurd cc) (λ n e. absurd cc) (λ d e. absurd cc)
     (λ trace d. step_read c most bytes trace d (of d log) told.0)
 read_by hears May config c may read_may most Pending wire before between after log was heard is same =
     only_heard hears May config (WasRead c most Pending) read_may wire before between after heard is
-    (refl, (λ port. refl), (λ port. refl), (λ port. refl)) (λ d. refl) same
+    (refl, (λ port. refl), (λ port. refl), (λ port. refl)) (λ d. refl) (λ p b a e. absurd cc) (λ n e. absurd cc) same
 read_by hears May config c may read_may most Failed wire before between after log was heard is shuts =
     closes hears May config c may (WasRead c most Failed ∷ []) before between after
     (before.wire, refl, subst (λ w. hears before.wire (WasRead c most Failed) w) (sym (ap (λ m. m.wire) is)) heard) (ap (λ m. m.history) is)
-    ((refl, (λ port. refl), (λ port. refl), (λ port. refl)), tt) (read_may, tt) ((λ d e. failed_next c d e), tt)
+    ((refl, (λ port. refl), (λ port. refl), (λ port. refl)), tt) ((λ p b a e. absurd cc), tt) ((λ n e. absurd cc), tt) (read_may, tt) ((λ d e. failed_next c d e), tt)
     (λ trace so d e. inl (WasRead c most Failed, trace, refl, eq-eqb c d (closed_same c d e))) shuts
 
 drops_gone : {W : Type 0} (hears : W → Heard → W → Type 0) (May : Subject → Type 0) (config : Config) (c : ℕ) (may : May OfNone × May (OfConn c)) (drops : Bool)
@@ -383,14 +440,14 @@ drops_gone : {W : Type 0} (hears : W → Heard → W → Type 0) (May : Subject 
     → between ≡ record before { wire = wire } → Drops hears c answer config between after → Keeps hears May config before after
 drops_gone hears May config c may drops (Got all) wire before between after heard is same =
     only_heard hears May config (WasProbed c drops (Got all)) may.1 wire before between after heard is
-    (refl, (λ port. refl), (λ port. refl), (λ port. refl)) (λ d. refl) same
+    (refl, (λ port. refl), (λ port. refl), (λ port. refl)) (λ d. refl) (λ p b a e. absurd cc) (λ n e. absurd cc) same
 drops_gone hears May config c may drops Pending wire before between after heard is same =
     only_heard hears May config (WasProbed c drops Pending) may.1 wire before between after heard is
-    (refl, (λ port. refl), (λ port. refl), (λ port. refl)) (λ d. refl) same
+    (refl, (λ port. refl), (λ port. refl), (λ port. refl)) (λ d. refl) (λ p b a e. absurd cc) (λ n e. absurd cc) same
 drops_gone hears May config c may drops Failed wire before between after heard is shuts =
     closes hears May config c may (WasProbed c drops Failed ∷ []) before between after
     (before.wire, refl, subst (λ w. hears before.wire (WasProbed c drops Failed) w) (sym (ap (λ m. m.wire) is)) heard) (ap (λ m. m.history) is)
-    ((refl, (λ port. refl), (λ port. refl), (λ port. refl)), tt) (may.1, tt) ((λ d e. failed_next c d e), tt)
+    ((refl, (λ port. refl), (λ port. refl), (λ port. refl)), tt) ((λ p b a e. absurd cc), tt) ((λ n e. absurd cc), tt) (may.1, tt) ((λ d e. failed_next c d e), tt)
     (λ trace so d e. inl (WasProbed c drops Failed, trace, refl, eq-eqb c d (closed_same c d e))) shuts
 
 probes_if : {W : Type 0} (hears : W → Heard → W → Type 0) (May : Subject → Type 0) (config : Config) (c : ℕ) (may : May OfNone × May (OfConn c)) (opened : Bool)
@@ -468,15 +525,21 @@ step_dialed c dial heard log told wanted still unread untaken opens trace d h =
 dialed_keeps : {W : Type 0} (hears : W → Heard → W → Type 0) (May : Subject → Type 0) (config : Config) (c : ℕ) (may : May OfNone) (ok : Bool) (heard : Heard)
     (mine : about heard ≡ OfNone) (newer : List Heard) (all_may : AllMay May newer) (before between after : Moment W) (log : List Act)
     → IsLogOf config before.history log → Through hears (newer ++ heard ∷ []) before.wire between.wire
-    → AreSilent newer → AreCalm newer → between.history ≡ before.history → event_of heard ≡ Dialed c ok ∷ [] → IsCalm heard
+    → AreSilent newer → AreCalm newer → NoneWritten newer → IsNoWrite heard → (hung : Option ℕ) → Adds hung newer
+    → ((n : ℕ) → hung ≡ Some n → ends_port (Intr n) heard ≡ true) → IsNoHang heard → between.history ≡ before.history → event_of heard ≡ Dialed c ok ∷ [] → IsCalm heard
     → ((d : ℕ) → heard ≡ WasClosed (Conn d) → ⊥)
     → ((told : List ChannelAct) (trace : List Heard) (d : ℕ) → Both d (of d log) told trace
     → Both d (brings d (Dialed c ok) ++ of d log) (tells (Dialed c ok) log ++ told) (heard ∷ trace))
     → Happens (Dialed c ok) config between after → Keeps hears May config before after
-dialed_keeps hears May config c may ok heard mine newer all_may before between after log was through silent calm same event itself stays step happens =
+dialed_keeps hears May config c may ok heard mine newer all_may before between after log was through silent calm unwritten none hung adds ends unhung same event itself stays step happens =
     let told = some_told (device_acts log) in
     let done = happened (Dialed c ok) config between after happens in
     event_keeps hears May config heard (Dialed c ok) newer [] before after (record {
+      hung = hung;
+      newer_adds = adds;
+      newer_ends = ends;
+      unhung = unhung;
+      older_unhung = tt;
       log = log;
       told = told.0;
       was = was;
@@ -485,6 +548,9 @@ dialed_keeps hears May config c may ok heard mine newer all_may before between a
       grown = ap (λ m. m.history) done ∙ ap (λ h. Dialed c ok ∷ h) same;
       newer_silent = silent;
       newer_calm = calm;
+      newer_unwritten = unwritten;
+      fits = fits_none config before.history heard none;
+      older_fits = tt;
       older_silent = tt;
       older_once = tt;
       calm = itself;
@@ -502,16 +568,16 @@ rings : {W : Type 0} (hears : W → Heard → W → Type 0) (May : Subject → T
 rings hears May config c may dial (Got all) wire before between after log was wanted heard is (noted, notes, happens) =
     dialed_keeps hears May config c may true (WasDialed c dial (Got all)) refl [] tt before noted after log was
     (before.wire, refl, subst (λ w. hears before.wire (WasDialed c dial (Got all)) w) (sym (ap (λ m. m.wire) notes ∙ ap (λ m. m.wire) is)) heard)
-    tt tt (ap (λ m. m.history) notes ∙ ap (λ m. m.history) is) refl (λ d. refl) (λ d e. absurd cc)
+    tt tt tt (λ p b a e. absurd cc) None (adds_nothing None) (λ n e. none_hung n e) (λ n e. absurd cc) (ap (λ m. m.history) notes ∙ ap (λ m. m.history) is) refl (λ d. refl) (λ d e. absurd cc)
     (λ told. step_dialed c dial (WasDialed c dial (Got all)) log told wanted (λ d. refl) (λ d. refl) (λ port. refl) (λ d. refl)) happens
 rings hears May config c may dial Pending wire before between after log was wanted heard is notes =
-    quiet_keeps hears May config before after (quiet_one hears May (WasDialed c dial Pending) may wire before after heard
+    quiet_keeps hears May config None before after (quiet_one hears May None (WasDialed c dial Pending) may wire before after heard
     (ap (λ m. m.wire) notes ∙ ap (λ m. m.wire) is) (ap (λ m. m.history) notes ∙ ap (λ m. m.history) is)
-    (refl, (λ port. refl), (λ port. refl), (λ port. refl)) (λ d. refl))
+    (refl, (λ port. refl), (λ port. refl), (λ port. refl)) (λ d. refl) (λ p b a e. absurd cc) (λ d e. absurd cc)) (λ trace so d e. none_hung d e)
 rings hears May config c may dial Failed wire before between after log was wanted heard is happens =
     dialed_keeps hears May config c may false (WasDialed c dial Failed) refl [] tt before between after log was
     (before.wire, refl, subst (λ w. hears before.wire (WasDialed c dial Failed) w) (sym (ap (λ m. m.wire) is)) heard)
-    tt tt (ap (λ m. m.history) is) refl (λ d. refl) (λ d e. absurd cc)
+    tt tt tt (λ p b a e. absurd cc) None (adds_nothing None) (λ n e. none_hung n e) (λ n e. absurd cc) (ap (λ m. m.history) is) refl (λ d. refl) (λ d e. absurd cc)
     (λ told. step_else (Dialed c false) (WasDialed c dial Failed) log told (λ d. refl) refl (λ port. refl) (λ d. refl) (λ port. refl)) happens
 
 picks : {W : Type 0} (hears : W → Heard → W → Type 0) (May : Subject → Type 0) (config : Config) (c : ℕ) (may : May OfNone) (dial : Dial) (answer : Answer ⊤) (wire : W)
@@ -521,17 +587,17 @@ picks : {W : Type 0} (hears : W → Heard → W → Type 0) (May : Subject → T
 picks hears May config c may dial (Got all) wire before between after log was wanted heard is happens =
     dialed_keeps hears May config c may true (PeerAnswered c (Got all)) refl [] tt before between after log was
     (before.wire, refl, subst (λ w. hears before.wire (PeerAnswered c (Got all)) w) (sym (ap (λ m. m.wire) is)) heard)
-    tt tt (ap (λ m. m.history) is) refl (λ d. refl) (λ d e. absurd cc)
+    tt tt tt (λ p b a e. absurd cc) None (adds_nothing None) (λ n e. none_hung n e) (λ n e. absurd cc) (ap (λ m. m.history) is) refl (λ d. refl) (λ d e. absurd cc)
     (λ told. step_dialed c dial (PeerAnswered c (Got all)) log told wanted (λ d. refl) (λ d. refl) (λ port. refl) (λ d. refl)) happens
 picks hears May config c may dial Pending wire before between after log was wanted heard is same =
     only_heard hears May config (PeerAnswered c Pending) may wire before between after heard is
-    (refl, (λ port. refl), (λ port. refl), (λ port. refl)) (λ d. refl) same
+    (refl, (λ port. refl), (λ port. refl), (λ port. refl)) (λ d. refl) (λ p b a e. absurd cc) (λ n e. absurd cc) same
 picks hears May config c may dial Failed wire before between after log was wanted heard is (hung, hangs, happens) =
     let q = hangs_up hears May config may c between hung hangs in
     dialed_keeps hears May config c may false (PeerAnswered c Failed) refl q.piece q.may before hung after log was
     (through_join hears (PeerAnswered c Failed ∷ []) q.piece before.wire between.wire hung.wire
     (before.wire, refl, subst (λ w. hears before.wire (PeerAnswered c Failed) w) (sym (ap (λ m. m.wire) is)) heard) q.through)
-    q.silent q.calm (q.same ∙ ap (λ m. m.history) is) refl (λ d. refl) (λ d e. absurd cc)
+    q.silent q.calm q.unwritten (λ p b a e. absurd cc) (Some c) q.adds (λ n e. eq-eqb c n (hung_same c n e)) (λ n e. absurd cc) (q.same ∙ ap (λ m. m.history) is) refl (λ d. refl) (λ d e. absurd cc)
     (λ told. step_else (Dialed c false) (PeerAnswered c Failed) log told (λ d. refl) refl (λ port. refl) (λ d. refl) (λ port. refl)) happens
 
 calls_for : {W : Type 0} (hears : W → Heard → W → Type 0) (May : Subject → Type 0) (config : Config) (c : ℕ) (may : May OfNone) (wanted called : Option Dial)
@@ -544,15 +610,19 @@ calls_for hears May config c may (Some dial) (Some called) before after log was 
     picks hears May config c may dial answer wire before between after log was wants heard is h
 
 keeps_call : {W : Type 0} (hears : W → Heard → W → Type 0) (May : Subject → Type 0) (config : Config) (c : ℕ) (may : May OfNone) (so : Bool) (before after : Moment W)
+    → (so ≡ false → (log : List Act) × IsLogOf config before.history log × (is_port_shut (Intr c) log ≡ true))
     → KeepsCall hears c so config before after → Keeps hears May config before after
-keeps_call hears May config c may true before after same = keeps_none hears May config before after same
-keeps_call hears May config c may false before after hangs = quiet_keeps hears May config before after (hangs_up hears May config may c before after hangs)
+keeps_call hears May config c may true before after shut same = keeps_none hears May config before after same
+keeps_call hears May config c may false before after shut hangs =
+    let at = shut refl in quiet_keeps hears May config (Some c) before after (hangs_up hears May config may c before after hangs)
+    (λ trace so d e. end_shut c d config before.history trace at.0 at.1 at.2 so e)
 
 lets_go_of : {W : Type 0} (hears : W → Heard → W → Type 0) (May : Subject → Type 0) (config : Config) (c : ℕ) (may : May OfNone) (called : Option Dial) (before after : Moment W)
     → LetsGoOf hears c called config before after → Keeps hears May config before after
 lets_go_of hears May config c may None before after same = keeps_none hears May config before after same
 lets_go_of hears May config c may (Some called) before after (channel, wanted, is_open, wants, h) =
-    keeps_call hears May config c may _ before after h
+    keeps_call hears May config c may _ before after
+    (λ e. (is_open.0, is_open.1, let_go channel (is_wanted called wanted) (is_port_shut (Intr c) is_open.0) e is_open.2)) h
 
 pub dials : {W : Type 0} (hears : W → Heard → W → Type 0) (May : Subject → Type 0) (config : Config) (c : ℕ) (may : May OfNone) (before after : Moment W)
     → Dials hears c config before after → Keeps hears May config before after
@@ -586,6 +656,8 @@ keeps_else hears May config before after there same = record {
   may = tt;
   keeps = λ trace keeping. subst (λ h. Keeping config h trace) (sym same) keeping;
   closing = closing_silent config before.history after.history [] same tt tt;
+  hands = λ trace so h. subst (λ l. HandsOver config l trace) (sym same) h;
+  lets = λ trace so h. subst (λ l. LetsGoRightly config l trace) (sym same) h;
 }
 
 plays_one : {W : Type 0} (hears : W → Heard → W → Type 0) (May : Subject → Type 0) (config : Config) (before after : Moment W)
@@ -619,6 +691,37 @@ passes hears May config ticks before after (between, each, last) = keeps_then he
 
 -- ---- what waits is written
 
+written_same : (port other : Port) (bytes more : List ℕ) (answer also : Answer ℕ) → WasWritten port bytes answer ≡ WasWritten other more also
+    → (port ≡ other) × (bytes ≡ more)
+written_same port other bytes more answer also e = (cc, cc)
+
+pub written_fits : (port : Port) (bytes : List ℕ) (answer : Answer ℕ) (config : Config) (history : List PlainEvent) → WaitOn port config history bytes
+    → Fits config history (WasWritten port bytes answer)
+written_fits port bytes answer config history waits other more also e =
+    let same = written_same port other bytes more answer also e in
+    subst (λ (p : Port). WaitOn p config history more) same.0 (subst (λ (l : List ℕ). WaitOn port config history l) same.1 waits)
+
+abbrev pub pending_keeps : {W : Type 0} (hears : W → Heard → W → Type 0) (May : Subject → Type 0) (config : Config) (port : Port) (bytes : List ℕ)
+    (may : May (about (WasWritten port bytes Pending))) (wire : W) (before between after : Moment W)
+    → hears before.wire (WasWritten port bytes Pending) wire → between ≡ record before { wire = wire } → IsSilent (WasWritten port bytes Pending)
+    → IsCalm (WasWritten port bytes Pending) → WaitOn port config before.history bytes → after ≡ between → Keeps hears May config before after
+pending_keeps hears May config port bytes may wire before between after was is silent calm waits same =
+    let still : after.history ≡ before.history = ap (λ m. m.history) same ∙ ap (λ m. m.history) is in
+    let piece : List Heard = WasWritten port bytes Pending ∷ [] in record {
+      piece = piece;
+      events = [];
+      through = (before.wire, refl, subst (λ w. hears before.wire (WasWritten port bytes Pending) w) (sym (ap (λ m. m.wire) same ∙ ap (λ m. m.wire) is)) was);
+      grown = still;
+      told = sym (silent_events piece (silent, tt));
+      may = (may, tt);
+      keeps = λ trace keeping. keeping_silent config after.history piece trace (silent, tt)
+          (subst (λ h. Keeping config h trace) (sym still) keeping);
+      closing = closing_silent config before.history after.history piece still (silent, tt) (calm, tt);
+      hands = λ trace so h. subst (λ l. HandsOver config l (piece ++ trace)) (sym still)
+          (hands_silent config before.history piece trace (silent, tt) (written_fits port bytes Pending config before.history waits, tt) so h);
+      lets = λ trace so h. subst (λ l. LetsGoRightly config l (piece ++ trace)) (sym still) ((λ n e. absurd cc), h);
+    }
+
 abbrev pub write_by : {W : Type 0} (hears : W → Heard → W → Type 0) (May : Subject → Type 0) (config : Config) (port : Port) (may : May OfNone × May (OfConn (port_number port))) (bytes : List ℕ)
     (answer : Answer ℕ) (wire : W) (before between after : Moment W) (log : List Act) (told : List ChannelAct)
     → IsLogOf config before.history log → HearsOf (device_acts log) told → bytes ≡ waiting_on told port log
@@ -626,24 +729,25 @@ abbrev pub write_by : {W : Type 0} (hears : W → Heard → W → Type 0) (May :
     → EndsWrite hears port answer config between after → Keeps hears May config before after
 write_by hears May config (Conn c) may bytes (Got n) wire before between after log told was tells_so waits few heard is happens =
     answer_keeps hears May config (WasWritten (Conn c) bytes (Got n)) may.1 (Took (Conn c) n) wire before between after told log was tells_so
-    heard (ap (λ m. m.wire) is) (ap (λ m. m.history) is) happens refl refl (λ d. refl) (λ d e. written_else (Conn c) bytes (Got n) d e)
+    heard (ap (λ m. m.wire) is) (ap (λ m. m.history) is) happens refl refl (λ d. refl) (written_fits (Conn c) bytes (Got n) config before.history (log, told, was, tells_so, waits)) (λ n e. absurd cc) (λ d e. written_else (Conn c) bytes (Got n) d e)
     (λ trace d. step_took c n bytes trace d (of d log) told few
     (λ e. waits ∙ ap (λ (m : ℕ). waiting (of m log)) (eqb-true c d e)))
 write_by hears May config (Intr c) may bytes (Got n) wire before between after log told was tells_so waits few heard is happens =
     answer_keeps hears May config (WasWritten (Intr c) bytes (Got n)) may.0 (Took (Intr c) n) wire before between after told log was tells_so
-    heard (ap (λ m. m.wire) is) (ap (λ m. m.history) is) happens refl refl (λ d. refl) (λ d e. written_else (Intr c) bytes (Got n) d e)
+    heard (ap (λ m. m.wire) is) (ap (λ m. m.history) is) happens refl refl (λ d. refl) (written_fits (Intr c) bytes (Got n) config before.history (log, told, was, tells_so, waits)) (λ n e. absurd cc) (λ d e. written_else (Intr c) bytes (Got n) d e)
     (λ trace d. step_sent c n bytes trace d (of d log) told few
     (λ e. waits ∙ ap (λ (m : ℕ). channel_waiting m told) (eqb-true c d e)))
 write_by hears May config (Conn c) may bytes Pending wire before between after log told was tells_so waits few heard is same =
-    only_heard hears May config (WasWritten (Conn c) bytes Pending) may.1 wire before between after heard is
-    (refl, (λ other. refl), (λ other. refl), (λ other. refl)) (λ d. refl) same
+    pending_keeps hears May config (Conn c) bytes may.1 wire before between after heard is
+    (refl, (λ other. refl), (λ other. refl), (λ other. refl)) (λ d. refl) (log, told, was, tells_so, waits) same
 write_by hears May config (Intr c) may bytes Pending wire before between after log told was tells_so waits few heard is same =
-    only_heard hears May config (WasWritten (Intr c) bytes Pending) may.0 wire before between after heard is
-    (refl, (λ other. refl), (λ other. refl), (λ other. refl)) (λ d. refl) same
+    pending_keeps hears May config (Intr c) bytes may.0 wire before between after heard is
+    (refl, (λ other. refl), (λ other. refl), (λ other. refl)) (λ d. refl) (log, told, was, tells_so, waits) same
 write_by hears May config (Conn c) may bytes Failed wire before between after log told was tells_so waits few heard is shuts =
     closes hears May config c may (WasWritten (Conn c) bytes Failed ∷ []) before between after
     (before.wire, refl, subst (λ w. hears before.wire (WasWritten (Conn c) bytes Failed) w) (sym (ap (λ m. m.wire) is)) heard)
-    (ap (λ m. m.history) is) ((refl, (λ other. refl), (λ other. refl), (λ other. refl)), tt) (may.1, tt) ((λ d e. failed_next c d e), tt)
+    (ap (λ m. m.history) is) ((refl, (λ other. refl), (λ other. refl), (λ other. refl)), tt)
+    (written_fits (Conn c) bytes Failed config before.history (log, told, was, tells_so, waits), tt) ((λ n e. absurd cc), tt) (may.1, tt) ((λ d e. failed_next c d e), tt)
     (λ trace so d e. inl (WasWritten (Conn c) bytes Failed, trace, refl, eq-eqb c d (closed_same c d e)))
     shuts
 write_by hears May config (Intr c) may bytes Failed wire before between after log told was tells_so waits few heard is
@@ -652,6 +756,11 @@ write_by hears May config (Intr c) may bytes Failed wire before between after lo
     let same : hung.history ≡ before.history = q.same ∙ ap (λ m. m.history) is in
     let done = happened (Close (Intr c)) config hung after happens in
     event_keeps hears May config (WasWritten (Intr c) bytes Failed) (Close (Intr c)) q.piece [] before after (record {
+      hung = Some c;
+      newer_adds = q.adds;
+      newer_ends = λ d e. eq-eqb c d (hung_same c d e);
+      unhung = (λ n e. absurd cc);
+      older_unhung = tt;
       log = log;
       told = told;
       was = was;
@@ -662,6 +771,9 @@ write_by hears May config (Intr c) may bytes Failed wire before between after lo
       grown = ap (λ m. m.history) done ∙ ap (λ h. Close (Intr c) ∷ h) same;
       newer_silent = q.silent;
       newer_calm = q.calm;
+      newer_unwritten = q.unwritten;
+      fits = written_fits (Intr c) bytes Failed config before.history (log, told, was, tells_so, waits);
+      older_fits = tt;
       older_silent = tt;
       older_once = tt;
       calm = λ d. refl;
@@ -687,9 +799,9 @@ closes_if : {W : Type 0} (hears : W → Heard → W → Type 0) (May : Subject �
     (log : List Act) → IsLogOf config before.history log → is_faulted (of c log) ≡ true → (so ≡ true → waiting (of c log) ≡ [])
     → ClosesIf hears c so config before after → Keeps hears May config before after
 closes_if hears May config c may true before after log was faulted none h =
-    closes hears May config c may [] before before after refl refl tt tt tt
+    closes hears May config c may [] before before after refl refl tt tt tt tt tt
     (λ trace so d e. subst (λ (n : ℕ). IsReason n config (Close (Conn c) ∷ before.history) trace) (closed_same c d e)
-    (inr ([], before.history, log, refl, so, was, faulted, none refl))) h
+    (inr (Close (Conn c) ∷ [], before.history, refl, so, (log, was, faulted, none refl)))) h
 closes_if hears May config c may false before after log was faulted none same = keeps_none hears May config before after same
 
 ends_if : {W : Type 0} (hears : W → Heard → W → Type 0) (May : Subject → Type 0) (config : Config) (c : ℕ) (may : May OfNone × May (OfConn c)) (faulted : Bool) (before after : Moment W)

@@ -5,6 +5,8 @@ mod Pieces
 mod Branches
 mod Ports
 mod Reasons
+mod Handing
+mod LettingGo
 mod Carrying
 mod CarriedOn
 mod Serving

@@ -7,16 +7,19 @@ use Rattle.sv_history.specs.declared.event.Config.{Config}
 use Rattle.sv_history.specs.declared.event.Port.{Port}
 use Rattle.sv_history.specs.declared.event.Port.TheVariants.{Conn}
 use Rattle.sv_history.specs.Event.{PlainEvent, Close}
+use Rattle.sv_history.specs.Act.{Act, of}
+use Rattle.sv_history.specs.Connection.{waiting, is_faulted}
+use Rattle.sv_history.specs.History.{IsLogOf}
 use Rattle.sv_serve.specs.declared.wire.Answer.{Answer}
 use Rattle.sv_serve.specs.Heard.{Heard, WasWritten, WasClosed}
 use Rattle.sv_serve.specs.Served.{event_of, is_outer}
-use Rattle.sv_serve.specs.Carried.{is_failure, ClosesAtOnce, WasAtFault, HasReasons}
+use Rattle.sv_serve.specs.Carried.{ends_port, ClosesAtOnce, EachHeard, Follows, Once}
 use Rattle.sv_serve.proofs.Ports.{AreSilent}
 
 -- ---- what is no failure
 
 abbrev pub IsCalm : Heard → Type 0
-IsCalm heard = (c : ℕ) → is_failure c heard ≡ false
+IsCalm heard = (c : ℕ) → ends_port (Conn c) heard ≡ false
 
 abbrev pub AreCalm : List Heard → Type 0
 AreCalm [] = ⊤
@@ -38,13 +41,24 @@ pub calm_once : (next : Option Heard) (piece rest : List Heard) → AreCalm piec
     → ClosesAtOnce next (piece ++ rest)
 calm_once next [] rest calm h = h next
 calm_once next (heard ∷ piece) rest calm h =
-    ((λ c e. no_failure (is_failure c heard) (calm.0 c) e), calm_once (Some heard) piece rest calm.1 h)
+    ((λ c e. no_failure (ends_port (Conn c) heard) (calm.0 c) e), calm_once (Some heard) piece rest calm.1 h)
 
 -- ---- reasons
 
+abbrev pub IsAtFault : ℕ → Config → List PlainEvent → Type 0
+IsAtFault c config earlier = (log : List Act) × IsLogOf config earlier log × (is_faulted (of c log) ≡ true) × (waiting (of c log) ≡ [])
+
 abbrev pub IsReason : ℕ → Config → List PlainEvent → List Heard → Type 0
-IsReason c config history trace = ((failure : Heard) × (older : List Heard) × (trace ≡ failure ∷ older) × (is_failure c failure ≡ true))
-    ⊎ WasAtFault c config history trace
+IsReason c config history trace = Follows (ends_port (Conn c)) trace ⊎ Once (IsAtFault c config) history trace
+
+abbrev pub HasReasons : Config → List PlainEvent → List Heard → Type 0
+HasReasons config history trace = EachHeard (λ heard older. (c : ℕ) → heard ≡ WasClosed (Conn c) → IsReason c config history older) trace
+
+-- a place of a history is one of a longer one
+pub once_more : (IsSo : List PlainEvent → Type 0) (history events : List PlainEvent) (trace : List Heard) → Once IsSo history trace
+    → Once IsSo (events ++ history) trace
+once_more IsSo history events trace (later, earlier, is, so, then_so) =
+    (events ++ later, earlier, ap (λ (l : List PlainEvent). events ++ l) is ∙ sym (append_assoc events later earlier), so, then_so)
 
 -- each connection that this closes is closed for a reason, behind these and a trace of that history
 abbrev pub Reasons : Config → List PlainEvent → List PlainEvent → Heard → List Heard → Type 0
@@ -57,16 +71,7 @@ reasons_more config history events [] h = tt
 reasons_more config history events (heard ∷ trace) h = (
   (λ c e. elim (h.0 c e) [
     | inl failed ↦ inl failed
-    | inr fault ↦ inr (
-      events ++ fault.0,
-      fault.1,
-      fault.2,
-      ap (λ (l : List PlainEvent). events ++ l) fault.3 ∙ sym (append_assoc events fault.0 (Close (Conn c) ∷ fault.1)),
-      fault.4,
-      fault.5,
-      fault.6,
-      fault.7,
-    )
+    | inr fault ↦ inr (once_more (IsAtFault c config) history events trace fault)
   ]),
   reasons_more config history events trace h.1,
 )
@@ -121,7 +126,7 @@ abbrev pub closing_event : (config : Config) (before after : List PlainEvent) (e
     → Reasons config (event ∷ before) before heard older → Closing config before after (newer ++ heard ∷ older)
 closing_event config before after event heard newer older grown newer_silent newer_calm older_silent older_once calm reason = record {
   once = calm_once None newer (heard ∷ older) newer_calm
-      (λ other. ((λ c e. no_failure (is_failure c heard) (calm c) e), older_once));
+      (λ other. ((λ c e. no_failure (ends_port (Conn c) heard) (calm c) e), older_once));
   reasons = λ trace so h. subst (λ (l : List PlainEvent). HasReasons config l ((newer ++ heard ∷ older) ++ trace)) (sym grown)
       (subst (λ (l : List Heard). HasReasons config (event ∷ before) l) (sym (append_assoc newer (heard ∷ older) trace))
       (silent_reasons config (event ∷ before) newer (heard ∷ older ++ trace) newer_silent (

@@ -7,6 +7,7 @@ use Rattle.std.proofs.lemmas.List.{drop-append-le, length-drop, length-append}
 use Rattle.std.proofs.lemmas.List.Elements.{filter-append}
 use Rattle.std.proofs.lemmas.List.Concat.{flat_map-append}
 use Rattle.sv_links.specs.Channels.{ChannelAct}
+use Rattle.std.specs.List.{AllByRecursion}
 use Rattle.sv_history.specs.declared.event.Config.{Config}
 use Rattle.sv_history.specs.declared.event.Did.{Did}
 use Rattle.sv_history.specs.declared.event.Did.TheVariants.{Done}
@@ -33,8 +34,28 @@ use Rattle.sv_serve.specs.Heard.{Heard, WasAccepted, WasRead, WasProbed, WasWrit
 use Rattle.sv_serve.specs.Moment.{Moment, moment, Each}
 use Rattle.sv_serve.specs.Steps.{Given, ReadsFrom, EndsTurn, TurnsIf, Turns, Dials, EndsWrite, WritesTo, Ends}
 use Rattle.sv_serve.specs.Sweep.{Sweeps}
-use Rattle.sv_serve.specs.Served.{event_of, is_outer, is_bytes, Takes, Offers, Serves, Served}
+use Rattle.sv_serve.specs.Served.{event_of, is_outer, Takes, Offers, Serves, Served}
 use Rattle.sv_serve.proofs.Carrying.{Subject, OfRead, OfConn, OfNone, about, AllMay, Keeps, keeps_none, keeps_then, keeps_each, inner_by, accepts, reads, dials, passes, write_by, writes, ends, hangs_up}
+
+abbrev is_bytes : PlainEvent → Bool
+is_bytes (Bytes c piece) = true
+is_bytes _ = false
+
+abbrev IsNoRead : PlainEvent → Type 0
+IsNoRead event = (c : ℕ) (bytes : List ℕ) → event ≡ Bytes c bytes → ⊥
+
+none_read : (events : List PlainEvent) → filter is_bytes events ≡ [] → AllByRecursion IsNoRead events
+none_read [] none = tt
+none_read (Bytes d piece ∷ events) none = absurd cc
+none_read (Open d role ∷ events) none = ((λ c bytes e. absurd cc), none_read events none)
+none_read (Took port n ∷ events) none = ((λ c bytes e. absurd cc), none_read events none)
+none_read (Close port ∷ events) none = ((λ c bytes e. absurd cc), none_read events none)
+none_read (Dialed d ok ∷ events) none = ((λ c bytes e. absurd cc), none_read events none)
+none_read (Turn d ∷ events) none = ((λ c bytes e. absurd cc), none_read events none)
+none_read (Refuse d ∷ events) none = ((λ c bytes e. absurd cc), none_read events none)
+none_read (Input channel microvolts ∷ events) none = ((λ c bytes e. absurd cc), none_read events none)
+none_read (External ∷ events) none = ((λ c bytes e. absurd cc), none_read events none)
+none_read (Tick ∷ events) none = ((λ c bytes e. absurd cc), none_read events none)
 
 -- ---- logs of a history and of one that goes on
 
@@ -275,7 +296,7 @@ record Turned (config : Config) (c : ℕ) (history events : List PlainEvent) : T
   pub was : IsLogOf config (first ++ history) before
   pub unread : filter is_bytes behind ≡ []
   pub untouched : brought c behind ≡ []
-  pub takes : Takes c before turn
+  pub takes : Takes config c before turn
 
 turned_more : (config : Config) (c : ℕ) (history events more : List PlainEvent) → filter is_bytes more ≡ [] → brought c more ≡ []
     → Turned config c history events → Turned config c history (more ++ events)
@@ -300,7 +321,7 @@ pub record Offered (config : Config) (c : ℕ) (history events : List PlainEvent
   pub split : events ≡ behind ++ (turn ++ first)
   pub was : IsLogOf config (first ++ history) before
   pub unread : filter is_bytes behind ≡ []
-  pub takes : Takes c before turn
+  pub takes : Takes config c before turn
   pub offers : (after : List Act) → IsLogOf config (turn ++ (first ++ history)) after → Offers c after piece
 
 offers_more : (c : ℕ) (log : List Act) (piece more : List Heard) → Offers c log piece → Offers c log (more ++ piece)
@@ -420,7 +441,7 @@ step_err hears config c NoMemory x between y history events log lt is was ready 
     was = subst (λ h. IsLogOf config h log) is was;
     unread = refl;
     untouched = refl;
-    takes = inr (inl refl);
+    takes = inr (inl (refl, answers));
   };
 }
 step_err hears config c refused x between y history events log lt is was ready (told, tells, says) same to = record {
@@ -643,6 +664,8 @@ keeps_may hears May Can config x y so k = record {
   may = may_all May Can k.piece so k.may;
   keeps = k.keeps;
   closing = k.closing;
+  hands = k.hands;
+  lets = k.lets;
 }
 
 write_phase : {W : Type 0} (hears : W → Heard → W → Type 0) (config : Config) (n : ℕ) (x y : Moment W)
@@ -741,7 +764,7 @@ serves config c history events piece log is t =
       t.before,
       front.0,
       t.split,
-      t.unread,
+      none_read t.behind t.unread,
       t.was,
       front.1,
       t.takes,
@@ -755,8 +778,11 @@ served hears config ticks history old new stands goes =
     let there : StandsFor new.server config (s.k.events ++ history) = subst (λ h. StandsFor new.server config h) s.k.grown now.1 in (
       s.k.events,
       s.k.piece,
-      s.k.through,
-      there,
-      s.k.told,
-      λ c lt. serves config c history s.k.events s.k.piece there.log there.is_log (s.offered c lt),
+      (
+        stands,
+        there,
+        s.k.through,
+        s.k.told,
+        λ c lt. serves config c history s.k.events s.k.piece there.log there.is_log (s.offered c lt),
+      ),
     )

@@ -27,7 +27,6 @@ use Rattle.sv_serve.specs.Moment.{Driving, Moment, moment, Each, ◌then◌}
 use Rattle.sv_serve.specs.Steps.{ReadsFrom, Turns, Dials, WritesTo, Ends}
 use Rattle.sv_serve.specs.Sweep.{PlaysOne, IsNoneDue, Plays, most_ticks, Counts, TicksOnce, Passes, Sweeps}
 use Rattle.sv_serve.specs.Timed.{is_timed, played, timed, handed}
-use Rattle.sv_serve.specs.Carried.{IsAtStart}
 use Rattle.sv_serve.proofs.Carrying.{applied}
 use Rattle.sv_serve.proofs.Idling.{Idles, idles_same, idles_then, idles_each, accepts_idles, reads_idles, turns_idles, dials_idles, writes_idles, ends_idles}
 
@@ -281,8 +280,9 @@ sweep_timed hears config s k ticks m0 m10
     }
 
 -- in front of the first sweep
-pub begins : {W : Type 0} (config : Config) (start : Driving W) → IsAtStart config start → Played config start.ahead 0 (moment start [])
-begins config start (clock, zero_ticks, rising) = record {
+pub begins : {W : Type 0} (config : Config) (start : Driving W) → config.clock ≤ last_clock → start.ticks ≡ 0 → IsScenario 0 start.ahead
+    → Played config start.ahead 0 (moment start [])
+begins config start clock zero_ticks rising = record {
   n = 0;
   play = record {
     past = [];

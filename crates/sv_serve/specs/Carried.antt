@@ -5,19 +5,21 @@ use Rattle.sv_links.specs.Channels.{ChannelAct}
 use Rattle.sv_history.specs.declared.event.Config.{Config}
 use Rattle.sv_history.specs.declared.event.Port.{Port}
 use Rattle.sv_history.specs.declared.event.Port.TheVariants.{Conn, Intr}
-use Rattle.sv_history.specs.Event.{PlainEvent, Open, Bytes, Turn, Refuse, Took, Close, Dialed}
+use Rattle.sv_history.specs.Event.{PlainEvent}
 use Rattle.sv_history.specs.Act.{Act, of, device_acts}
 use Rattle.sv_history.specs.Connection.{stream, sent_on, waiting_on, waiting, is_faulted}
 use Rattle.sv_history.specs.Requests.{HearsOf}
 use Rattle.sv_history.specs.History.{is_port_shut, last_clock, IsLogOf}
 use Rattle.sv_replay.specs.Scenario.{IsScenario}
 use Rattle.sv_server.specs.Server.State.{StandsFor}
+use Rattle.sv_history.specs.Queries.{WaitOn, Answered}
+use Rattle.sv_serve.specs.declared.wire.Answer.{Answer}
 use Rattle.sv_serve.specs.declared.wire.Answer.TheVariants.{Got, Failed}
 use Rattle.sv_serve.specs.Heard.{Heard, WasAccepted, WasRead, WasProbed, WasWritten, WasDialed, PeerAnswered, WasClosed}
 use Rattle.sv_serve.specs.Moment.{Driving, Goes}
 use Rattle.sv_serve.specs.Sweep.{Sweeps}
 use Rattle.sv_serve.specs.Timed.{is_timed, timed, handed}
-use Rattle.sv_serve.specs.Served.{Through, event_of, is_outer, Serves}
+use Rattle.sv_serve.specs.Served.{Through, event_of, is_outer, IsServed}
 
 -- Sweeps lead from one driver to another, each with the milliseconds that it was handed.
 abbrev pub Swept : {W : Type 0} → (W → Heard → W → Type 0) → List ℕ → Driving W → Driving W → Type 0
@@ -51,61 +53,67 @@ abbrev pub since : Port → (Heard → List ℕ) → List Heard → List ℕ
 since port bytes [] = []
 since port bytes (heard ∷ trace) = if begins port heard then [] else since port bytes trace ++ bytes heard
 
--- whether reading or writing a connection failed, or it is gone
-abbrev pub is_failure : ℕ → Heard → Bool
-is_failure c (WasRead d most Failed) = d == c
-is_failure c (WasProbed d drops Failed) = d == c
-is_failure c (WasWritten (Conn d) bytes Failed) = d == c
-is_failure c _ = false
+-- whether this ends a port: reading or writing failed there, or it is gone; or its channel's peer can't be reached, or its connection was
+-- closed
+abbrev pub ends_port : Port → Heard → Bool
+ends_port (Conn c) (WasRead d most Failed) = d == c
+ends_port (Conn c) (WasProbed d drops Failed) = d == c
+ends_port port (WasWritten other bytes Failed) = is_same port other
+ends_port (Intr c) (PeerAnswered d Failed) = d == c
+ends_port (Intr c) (WasClosed (Conn d)) = d == c
+ends_port _ _ = false
 
--- A connection of which that is so is closed next, before anything else is asked.
+-- A connection that is ended so is closed next, before anything else is asked.
 abbrev pub ClosesAtOnce : Option Heard → List Heard → Type 0
 ClosesAtOnce next [] = ⊤
-ClosesAtOnce next (heard ∷ trace) = ((c : ℕ) → is_failure c heard ≡ true → next ≡ Some (WasClosed (Conn c))) × ClosesAtOnce (Some heard) trace
+ClosesAtOnce next (heard ∷ trace) = ((c : ℕ) → ends_port (Conn c) heard ≡ true → next ≡ Some (WasClosed (Conn c))) × ClosesAtOnce (Some heard) trace
 
--- Or it is closed at a place of the history at which it only waited for that: it was at fault, and no byte waited on it.
-abbrev pub WasAtFault : ℕ → Config → List PlainEvent → List Heard → Type 0
-WasAtFault c config history trace = (later earlier : List PlainEvent) × (log : List Act) × (history ≡ later ++ (Close (Conn c) ∷ earlier))
-    × (filter is_outer earlier ≡ flat_map event_of trace) × IsLogOf config earlier log
-    × (is_faulted (of c log) ≡ true) × (waiting (of c log) ≡ [])
+-- Each answer is such, with those in front of it.
+abbrev pub EachHeard : (Heard → List Heard → Type 0) → List Heard → Type 0
+EachHeard IsSuch [] = ⊤
+EachHeard IsSuch (heard ∷ trace) = IsSuch heard trace × EachHeard IsSuch trace
 
--- It is closed for no other reason.
-abbrev pub HasReasons : Config → List PlainEvent → List Heard → Type 0
-HasReasons config history [] = ⊤
-HasReasons config history (heard ∷ trace) = ((c : ℕ) → heard ≡ WasClosed (Conn c)
-    → ((failure : Heard) × (older : List Heard) × (trace ≡ failure ∷ older) × (is_failure c failure ≡ true)) ⊎ WasAtFault c config history trace)
-    × HasReasons config history trace
+-- the newest of these is such
+abbrev pub Follows : (Heard → Bool) → List Heard → Type 0
+Follows is_such trace = (last : Heard) × (older : List Heard) × (trace ≡ last ∷ older) × (is_such last ≡ true)
 
--- Every byte that is read goes into its connection's stream, and every byte that the wire takes comes out of what the history sends: in
--- order, none lost, none invented, none twice. The wire's events are those that it answered, in order.
+-- So it was at a place of the history, when the wire had answered these.
+abbrev pub Once : (List PlainEvent → Type 0) → List PlainEvent → List Heard → Type 0
+Once IsSo history trace = (later earlier : List PlainEvent) × (history ≡ later ++ earlier) × (filter is_outer earlier ≡ flat_map event_of trace)
+    × IsSo earlier
+
+-- The wire's events are those that it answered, in order. Every byte that is read goes into its connection's stream, and every byte that
+-- the wire takes comes out of what the history sends: in order, none lost, none invented, none twice. Each write hands over all that waits
+-- then. A connection is closed next where it failed, and else where it was at fault and nothing waited on it; the socket of an interrupt
+-- channel behind what ends it, or where it isn't open.
 pub record IsCarried (config : Config) (history : List PlainEvent) (trace : List Heard) : Type 0 where
-  pub log : List Act
-  pub told : List ChannelAct
-  pub is_log : IsLogOf config history log
-  pub hears_of : HearsOf (device_acts log) told
   pub events : filter is_outer history ≡ flat_map event_of trace
-  pub streams : (c : ℕ) → stream (of c log) ≡ since (Conn c) (read (Conn c)) trace
-  pub sends : (port : Port) → is_port_shut port log ≡ false
-      → since port (taken port) trace ++ waiting_on told port log ≡ sent_on told port log
+  pub streams : (c : ℕ) → Answered (λ log. stream (of c log)) config history (since (Conn c) (read (Conn c)) trace)
+  pub sends : (port : Port) (log : List Act) (told : List ChannelAct) → IsLogOf config history log → HearsOf (device_acts log) told
+      → is_port_shut port log ≡ false → since port (taken port) trace ++ waiting_on told port log ≡ sent_on told port log
+  pub hands : EachHeard (λ heard older. (port : Port) (bytes : List ℕ) (answer : Answer ℕ) → heard ≡ WasWritten port bytes answer
+      → Once (λ earlier. WaitOn port config earlier bytes) history older) trace
   pub failures : ClosesAtOnce None trace
-  pub reasons : HasReasons config history trace
+  pub reasons : EachHeard (λ heard older. (c : ℕ) → heard ≡ WasClosed (Conn c) → Follows (ends_port (Conn c)) older ⊎ Once (λ earlier.
+      (log : List Act) × IsLogOf config earlier log × (is_faulted (of c log) ≡ true) × (waiting (of c log) ≡ [])) history older) trace
+  pub lets_go : EachHeard (λ heard older. (c : ℕ) → heard ≡ WasClosed (Intr c) → Follows (ends_port (Intr c)) older ⊎ Once (λ earlier.
+      (log : List Act) × IsLogOf config earlier log × (is_port_shut (Intr c) log ≡ true)) history older) trace
 
--- A clock within its range, no millisecond counted yet, and the scenario ahead.
-abbrev pub IsAtStart : {W : Type 0} → Config → Driving W → Type 0
-IsAtStart config start = (config.clock ≤ last_clock) × (start.ticks ≡ 0) × IsScenario 0 start.ahead
-
--- Each sweep has its part of the history and of the trace, and serves each connection there. Behind it time has brought the milliseconds
--- that were handed in, up to the end of the clock, and what of the scenario was due before each and after the last one: no more, no less.
-abbrev pub InSweeps : {W : Type 0} → Config → Driving W → List ℕ → List PlainEvent → List Heard → Type 0
-InSweeps config start [] history trace = (history ≡ []) × (trace ≡ [])
-InSweeps config start (ticks ∷ passed) history trace = (earlier events : List PlainEvent) × (older piece : List Heard)
-    × InSweeps config start passed earlier older × (history ≡ events ++ earlier) × (trace ≡ piece ++ older)
-    × ((c : ℕ) → c < 16 → Serves config c earlier events piece)
-    × (IsAtStart config start
+-- Each sweep goes on from what was carried before it, with its own part of the history and of the trace, and serves each connection there.
+-- Behind it time has brought the milliseconds that were handed in, up to the end of the clock, and what of the scenario was due before each
+-- and after the last one: no more, no less. The clock is to be within its range, no millisecond counted at the start.
+abbrev pub InSweeps : {W : Type 0} (hears : W → Heard → W → Type 0) → Config → (start : Driving W) (passed : List ℕ) (now : Driving W)
+    → Swept hears passed start now → List PlainEvent → List Heard → Type 0
+InSweeps hears config start [] now swept history trace = (history ≡ []) × (trace ≡ [])
+InSweeps hears config start (ticks ∷ passed) now (between, swept, goes) history trace = (earlier events : List PlainEvent)
+    × (older piece : List Heard) × InSweeps hears config start passed between swept earlier older × IsCarried config earlier older
+    × (history ≡ events ++ earlier) × (trace ≡ piece ++ older) × IsServed hears config between now earlier events piece
+    × (config.clock ≤ last_clock → start.ticks ≡ 0 → IsScenario 0 start.ahead
     → filter is_timed history ≡ timed (min (handed (ticks ∷ passed)) (last_clock - config.clock)) start.ahead)
 
 -- So it is after any number of sweeps of a driver whose server is new, over every wire.
 abbrev pub Carried : {W : Type 0} → (W → Heard → W → Type 0) → Type 0
-Carried hears = (config : Config) (passed : List ℕ) (start now : Driving _) → StandsFor start.server config [] → Swept hears passed start now
+Carried hears = (config : Config) (passed : List ℕ) (start now : Driving _) → StandsFor start.server config []
+    → (swept : Swept hears passed start now)
     → (trace : List Heard) × (history : List PlainEvent) × Through hears trace start.wire now.wire × StandsFor now.server config history
-    × IsCarried config history trace × InSweeps config start passed history trace
+    × IsCarried config history trace × InSweeps hears config start passed now swept history trace

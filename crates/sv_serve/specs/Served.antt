@@ -1,12 +1,14 @@
 -- What a wire answers as events, and what a sweep does for each connection. Traces and histories are read from the newest.
-use Rattle.std.specs.Prelude.{◌≡◌, ◌⊎◌, ℕ, ◌<◌, not, Bool, true, false, List, [], ◌∷◌, ◌++◌, filter, flat_map, Some}
+use Rattle.std.specs.Prelude.{◌≡◌, ◌⊎◌, ℕ, ◌<◌, not, Bool, true, false, List, [], ◌∷◌, ◌++◌, filter, flat_map, Some, Err}
+use Rattle.std.specs.List.{AllByRecursion}
 use Rattle.sv_history.specs.declared.event.Config.{Config}
 use Rattle.sv_history.specs.declared.event.Port.TheVariants.{Conn, Intr}
 use Rattle.sv_history.specs.Event.{PlainEvent, Open, Bytes, Turn, Refuse, Took, Close, Dialed}
 use Rattle.sv_history.specs.Act.{Act, of}
 use Rattle.sv_history.specs.Connection.{waiting, is_idle, free}
 use Rattle.sv_history.specs.Limits.{longest_reply}
-use Rattle.sv_history.specs.History.{IsLogOf}
+use Rattle.sv_history.specs.declared.event.Refused.TheVariants.{NoMemory}
+use Rattle.sv_history.specs.History.{IsLogOf, Answers}
 use Rattle.sv_server.specs.Server.State.{StandsFor}
 use Rattle.sv_serve.specs.declared.wire.Answer.{Answer}
 use Rattle.sv_serve.specs.declared.wire.Answer.TheVariants.{Got, Failed}
@@ -39,13 +41,9 @@ is_outer (Turn c) = false
 is_outer (Refuse c) = false
 is_outer event = not (is_timed event)
 
-abbrev pub is_bytes : PlainEvent → Bool
-is_bytes (Bytes c piece) = true
-is_bytes _ = false
-
 -- A call is taken, or refused for want of memory, unless none is there to be taken, or no room for a reply.
-abbrev pub Takes : ℕ → List Act → List PlainEvent → Type 0
-Takes c before turn = (turn ≡ Turn c ∷ []) ⊎ ((turn ≡ Refuse c ∷ [])
+abbrev pub Takes : Config → ℕ → List Act → List PlainEvent → Type 0
+Takes config c before turn = (turn ≡ Turn c ∷ []) ⊎ (((turn ≡ Refuse c ∷ []) × Answers config (Turn c) before (Err NoMemory))
     ⊎ ((turn ≡ []) × ((is_idle (of c before) ≡ true) ⊎ (free (of c before) < longest_reply))))
 
 -- The bytes that wait, if any do, are handed to the wire in one piece, with others behind them.
@@ -56,13 +54,18 @@ Offers c log piece = (waiting (of c log) ≡ []) ⊎ ((more : List ℕ) × (answ
 -- In a sweep a connection has its turn behind all that is read, and what waits then is handed to the wire in the same sweep.
 abbrev pub Serves : Config → ℕ → List PlainEvent → List PlainEvent → List Heard → Type 0
 Serves config c history events piece = (first turn behind : List PlainEvent) × (before after : List Act)
-    × (events ≡ behind ++ (turn ++ first)) × (filter is_bytes behind ≡ [])
+    × (events ≡ behind ++ (turn ++ first)) × AllByRecursion (λ event. (d : ℕ) (bytes : List ℕ) → event ≡ Bytes d bytes → ⊥) behind
     × IsLogOf config (first ++ history) before × IsLogOf config (turn ++ (first ++ history)) after
-    × Takes c before turn × Offers c after piece
+    × Takes config c before turn × Offers c after piece
 
--- So does every sweep for each connection, whatever happened before.
+-- A sweep has these events and these answers of the wire, which are one, and serves each connection.
+abbrev pub IsServed : {W : Type 0} → (W → Heard → W → Type 0) → Config → Driving W → Driving W → List PlainEvent → List PlainEvent
+    → List Heard → Type 0
+IsServed hears config old new history events piece = StandsFor old.server config history × StandsFor new.server config (events ++ history)
+    × Through hears piece old.wire new.wire × (filter is_outer events ≡ flat_map event_of piece)
+    × ((c : ℕ) → c < 16 → Serves config c history events piece)
+
+-- So it is of every sweep, whatever happened before.
 abbrev pub Served : {W : Type 0} → (W → Heard → W → Type 0) → Type 0
 Served hears = (config : Config) (ticks : ℕ) (history : List PlainEvent) (old new : Driving _) → StandsFor old.server config history
-    → Goes (Sweeps hears ticks) old new
-    → (events : List PlainEvent) × (piece : List Heard) × Through hears piece old.wire new.wire × StandsFor new.server config (events ++ history)
-    × (filter is_outer events ≡ flat_map event_of piece) × ((c : ℕ) → c < 16 → Serves config c history events piece)
+    → Goes (Sweeps hears ticks) old new → (events : List PlainEvent) × (piece : List Heard) × IsServed hears config old new history events piece

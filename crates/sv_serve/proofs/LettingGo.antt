@@ -1,0 +1,90 @@
+-- Why sockets of interrupt channels are closed.
+use Rattle.std.proofs.Common.{◌≡◌, ℕ, Bool, true, false, List, [], ◌∷◌, ◌++◌, filter, flat_map, Option, Some, None, refl, sym, ap, subst, ◌∙◌, inl, inr, append_assoc}
+use Rattle.std.specs.Prelude.{⊤, ◌⊎◌, not, ◌||◌}
+use Rattle.sv_history.specs.declared.event.Config.{Config}
+use Rattle.sv_history.specs.declared.event.Port.TheVariants.{Intr}
+use Rattle.sv_history.specs.Event.{PlainEvent}
+use Rattle.sv_history.specs.Act.{Act}
+use Rattle.sv_history.specs.History.{is_port_shut, IsLogOf}
+use Rattle.sv_serve.specs.Heard.{Heard, WasClosed}
+use Rattle.sv_serve.specs.Served.{event_of, is_outer}
+use Rattle.sv_serve.specs.Carried.{ends_port, EachHeard, Follows, Once}
+use Rattle.sv_serve.proofs.Reasons.{once_more}
+
+abbrev pub IsShut : ℕ → Config → List PlainEvent → Type 0
+IsShut c config earlier = (log : List Act) × IsLogOf config earlier log × (is_port_shut (Intr c) log ≡ true)
+
+abbrev pub IsEnd : ℕ → Config → List PlainEvent → List Heard → Type 0
+IsEnd c config history trace = Follows (ends_port (Intr c)) trace ⊎ Once (IsShut c config) history trace
+
+abbrev pub LetsGoRightly : Config → List PlainEvent → List Heard → Type 0
+LetsGoRightly config history trace = EachHeard (λ heard older. (c : ℕ) → heard ≡ WasClosed (Intr c) → IsEnd c config history older) trace
+
+-- no socket of a channel is closed
+abbrev pub IsNoHang : Heard → Type 0
+IsNoHang heard = (c : ℕ) → heard ≡ WasClosed (Intr c) → ⊥
+
+abbrev pub NoneHung : List Heard → Type 0
+NoneHung [] = ⊤
+NoneHung (heard ∷ piece) = IsNoHang heard × NoneHung piece
+
+pub lets_more : (config : Config) (history events : List PlainEvent) (trace : List Heard) → LetsGoRightly config history trace
+    → LetsGoRightly config (events ++ history) trace
+lets_more config history events [] h = tt
+lets_more config history events (heard ∷ trace) h = (
+  (λ c e. elim (h.0 c e) [
+    | inl last ↦ inl last
+    | inr shut ↦ inr (once_more (IsShut c config) history events trace shut)
+  ]),
+  lets_more config history events trace h.1,
+)
+
+pub lets_none : (config : Config) (history : List PlainEvent) (piece trace : List Heard) → NoneHung piece → LetsGoRightly config history trace
+    → LetsGoRightly config history (piece ++ trace)
+lets_none config history [] trace none h = h
+lets_none config history (heard ∷ piece) trace none h =
+    ((λ c e. absurd (none.0 c e)), lets_none config history piece trace none.1 h)
+
+-- what is put in front of a trace, if at most the socket of this one's channel is closed in it
+abbrev pub Adds : Option ℕ → List Heard → Type 0
+Adds hung piece = (config : Config) (history : List PlainEvent) (trace : List Heard) → ((c : ℕ) → hung ≡ Some c → IsEnd c config history trace)
+    → LetsGoRightly config history trace → LetsGoRightly config history (piece ++ trace)
+
+pub adds_nothing : (hung : Option ℕ) → Adds hung []
+adds_nothing hung config history trace reason h = h
+
+pub adds_one : (hung : Option ℕ) (heard : Heard) → ((c : ℕ) → heard ≡ WasClosed (Intr c) → hung ≡ Some c) → Adds hung (heard ∷ [])
+adds_one hung heard names config history trace reason h = ((λ c e. reason c (names c e)), h)
+
+pub hung_same : (c d : ℕ) → Some c ≡ Some d → c ≡ d
+hung_same c d e = cc
+
+pub none_hung : {A : Type 0} (c : ℕ) → None ≡ Some c → A
+none_hung {A} c e = absurd cc
+
+pub end_of : (c d : ℕ) (config : Config) (history : List PlainEvent) (last : Heard) (older : List Heard) → ends_port (Intr c) last ≡ true → Some c ≡ Some d
+    → IsEnd d config history (last ∷ older)
+end_of c d config history last older ends e =
+    inl (last, older, refl, subst (λ (n : ℕ). ends_port (Intr n) last ≡ true) (hung_same c d e) ends)
+
+pub end_shut : (c d : ℕ) (config : Config) (history : List PlainEvent) (trace : List Heard) (log : List Act) → IsLogOf config history log
+    → is_port_shut (Intr c) log ≡ true → filter is_outer history ≡ flat_map event_of trace → Some c ≡ Some d → IsEnd d config history trace
+end_shut c d config history trace log was shut so e =
+    inr ([], history, refl, so, (log, was, subst (λ (n : ℕ). is_port_shut (Intr n) log ≡ true) (hung_same c d e) shut))
+
+shut_by : (shut : Bool) → false ≡ not shut → shut ≡ true
+shut_by true e = refl
+shut_by false e = absurd cc
+
+pub let_go : (channel wanted shut : Bool) → (channel || wanted) ≡ false → channel ≡ not shut → shut ≡ true
+let_go true wanted shut e is = absurd cc
+let_go false wanted shut e is = shut_by shut is
+
+pub lets_event : (config : Config) (before after : List PlainEvent) (event : PlainEvent) (heard : Heard) (newer older trace : List Heard) (hung : Option ℕ)
+    → after ≡ event ∷ before → Adds hung newer → ((c : ℕ) → hung ≡ Some c → ends_port (Intr c) heard ≡ true) → IsNoHang heard → NoneHung older
+    → LetsGoRightly config before trace → LetsGoRightly config after ((newer ++ heard ∷ older) ++ trace)
+lets_event config before after event heard newer older trace hung grown adds ends none old h =
+    subst (λ (l : List PlainEvent). LetsGoRightly config l ((newer ++ heard ∷ older) ++ trace)) (sym grown)
+    (subst (λ (l : List Heard). LetsGoRightly config (event ∷ before) l) (sym (append_assoc newer (heard ∷ older) trace))
+    (adds config (event ∷ before) (heard ∷ older ++ trace) (λ c e. inl (heard, older ++ trace, refl, ends c e))
+    ((λ c e. absurd (none c e)), lets_none config (event ∷ before) older trace old (lets_more config before (event ∷ []) trace h))))
