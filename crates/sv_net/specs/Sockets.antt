@@ -1,11 +1,11 @@
 -- The sockets of a wire, by their numbers, and what each call of the wire does to them.
-use Rattle.std.specs.Prelude.{◌≡◌, ℕ, ◌+◌, List, take, Option, Some, None, slice_set, slice_index_or}
+use Rattle.std.specs.Prelude.{◌≡◌, ℕ, ◌+◌, Bool, true, false, List, take, Option, Some, None, slice_set, slice_index_or}
 use Rattle.std.specs.Io.KnownBytes.{Keeps, Appends, Consumes}
 use Rattle.sv_history.specs.declared.event.Port.{Port}
 use Rattle.sv_history.specs.declared.event.Port.TheVariants.{Conn, Intr}
 use Rattle.sv_serve.specs.declared.wire.Answer.{Answer}
 use Rattle.sv_serve.specs.declared.wire.Answer.TheVariants.{Got, Pending, Failed}
-use Rattle.sv_serve.specs.Heard.{Heard, WasAccepted, WasRead, WasWritten, WasDialed, PeerAnswered, WasClosed}
+use Rattle.sv_serve.specs.Heard.{Heard, WasAccepted, WasRead, WasProbed, WasWritten, WasDialed, PeerAnswered, WasClosed}
 
 -- The connections come first, and then their interrupt channels.
 abbrev pub socket_number : Port → ℕ
@@ -17,6 +17,11 @@ abbrev pub Gives : {S : Type 0} → (S → Option (List ℕ)) → Answer (List �
 Gives left (Got bytes) old new = Consumes (left old) (left new) bytes
 Gives left Pending old new = Keeps (left old) (left new)
 Gives left Failed old new = Keeps (left old) (left new)
+
+-- A probe reads and drops what comes, if so said; else it leaves all.
+abbrev pub Skips : {S : Type 0} → (S → Option (List ℕ)) → Bool → S → S → Type 0
+Skips left true old new = (dropped : Answer (List ℕ)) × Gives left dropped old new
+Skips left false old new = Keeps (left old) (left new)
 
 -- A write puts as many of the bytes behind what a stream was sent as it answers, and none where it takes none.
 abbrev pub Takes : {S : Type 0} → (S → Option (List ℕ)) → List ℕ → Answer ℕ → S → S → Type 0
@@ -40,6 +45,7 @@ abbrev pub Hears : {S : Type 0} → (S → Option (List ℕ)) → (S → Option 
 Hears left sent before (WasAccepted role (Some c) (Got all)) after = (stream : _) × (after ≡ slice_set before c (Some stream))
 Hears left sent before (WasAccepted role number answer) after = after ≡ before
 Hears left sent before (WasRead c most answer) after = At (socket_number (Conn c)) (Gives left answer) answer before after
+Hears left sent before (WasProbed c drops answer) after = At (socket_number (Conn c)) (Skips left drops) answer before after
 Hears left sent before (WasWritten port bytes answer) after = At (socket_number port) (Takes sent bytes answer) answer before after
 Hears left sent before (WasDialed c dial (Got all)) after = ⊥
 Hears left sent before (WasDialed c dial Pending) after =

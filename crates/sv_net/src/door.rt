@@ -1,10 +1,13 @@
 //! A listening socket, with what was reported of it.
 
+ghost use Rattle.std.specs.Prelude.{◌≤◌};
+
 use mio::net::{TcpListener, TcpStream};
 use mio::{Interest, Registry, Token};
 use std::cell::Cell;
 use std::io::{self, ErrorKind};
 use std::net::{Ipv4Addr, Net as Network, SocketAddr, SocketAddrV4};
+use sv_pace::STILL;
 use sv_serve::Answer;
 
 /// A listening socket, and whether connections may be there.
@@ -13,8 +16,8 @@ pub(crate) struct Door {
     listener: TcpListener,
     /// Connections may be there.
     knocked: Cell<bool>,
-    /// The last accept failed: the next one is no reason to hurry.
-    failed: Cell<bool>,
+    /// How many milliseconds to wait for the next accept, since the last one failed; else 0.
+    delay: Cell<u32>,
 }
 
 impl Door {
@@ -24,7 +27,7 @@ impl Door {
         Ok(Door {
             listener: TcpListener::bind(network, addr)?,
             knocked: Cell::new(false),
-            failed: Cell::new(false),
+            delay: Cell::new(0),
         })
     }
 
@@ -45,7 +48,19 @@ impl Door {
 
     /// Whether a connection may be there, and the last one could be accepted.
     pub(crate) fn is_waiting(&self) -> bool {
-        self.knocked.get() & !self.failed.get()
+        self.knocked.get() & (self.delay.get() == 0)
+    }
+
+    /// How many milliseconds it may sleep before the next accept: twice as many after each one that
+    /// fails, at most 100; 100 where none is there.
+    pub(crate) fn patience(&self) -> u32
+        ensures { result ≤ 100 }
+    {
+        if self.knocked.get() {
+            self.delay.get().max(1).min(STILL)
+        } else {
+            STILL
+        }
     }
 
     /// Accepts a connection.
@@ -55,7 +70,7 @@ impl Door {
         }
         match self.listener.accept() {
             Ok((stream, _)) => {
-                self.failed.set(false);
+                self.delay.set(0);
                 Answer::Got(stream)
             }
             Err(error) => self.refused(error.kind()),
@@ -71,7 +86,8 @@ impl Door {
             }
             ErrorKind::Interrupted => Answer::Pending,
             _ => {
-                self.failed.set(true);
+                let longer = self.delay.get().saturating_mul(2);
+                self.delay.set(longer.max(1).min(STILL));
                 Answer::Failed
             }
         }

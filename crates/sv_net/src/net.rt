@@ -1,8 +1,8 @@
 //! The sockets by their numbers.
 
-ghost use Rattle.std.specs.Prelude.{◌≡◌, ◌<◌, Some, None, OnErr, IfOk, length, replicate, slice_set};
+ghost use Rattle.std.specs.Prelude.{◌≡◌, ◌<◌, ◌≤◌, Some, None, OnErr, IfOk, length, replicate, slice_set};
 ghost use Rattle.sv_serve.specs.Heard.{IsWithin, bytes_of};
-ghost use Rattle.sv_net.specs.Sockets.{socket_number, Gives, Takes, Does};
+ghost use Rattle.sv_net.specs.Sockets.{socket_number, Gives, Skips, Takes, Does};
 
 use crate::door::Door;
 use crate::socket::Socket;
@@ -70,6 +70,16 @@ fn read_at<S: Stream>(place: &mut Option<Socket<S>>, buffer: &mut [u8]) -> Answe
 {
     match place {
         Some(socket) => socket.read(buffer),
+        None => Answer::Failed,
+    }
+}
+
+/// Asks the socket that is at a place whether it is gone.
+fn probe_at<S: Stream>(place: &mut Option<Socket<S>>, drops: bool) -> Answer<()>
+    ensures { Does (Skips S.remaining drops) result place.old place.new }
+{
+    match place {
+        Some(socket) => socket.probe(drops),
         None => Answer::Failed,
     }
 }
@@ -144,6 +154,16 @@ impl<N: Network + Drop, A: Allocator, S: Stream> Net<N, A, S> {
         self.doors[0].is_knocked() | self.doors[1].is_knocked() | self.doors[2].is_knocked()
     }
 
+    /// How many milliseconds it may sleep before an accept is to be tried again, at most 100.
+    pub(crate) fn patience(&self) -> u32
+        ensures { result ≤ 100 }
+    {
+        let [core, abort, portmap] = &self.doors;
+        core.patience()
+            .min(abort.patience())
+            .min(portmap.patience())
+    }
+
     /// The socket of a connection or an interrupt channel, if there is one.
     pub(crate) fn socket(&self, port: Port) -> Option<&Socket<S>> {
         match self.sockets.get(socket_number(port)) {
@@ -190,6 +210,13 @@ impl<N: Network + Drop, A: Allocator, S: Stream> Wire for Net<N, A, S> {
     fn read(&mut self, conn: u8, buffer: &mut [u8]) -> Answer<usize> {
         match self.sockets.get_mut(socket_number(Port::Conn(conn))) {
             Some(place) => read_at(place, buffer),
+            None => Answer::Failed,
+        }
+    }
+
+    fn probe(&mut self, conn: u8, drops: bool) -> Answer<()> {
+        match self.sockets.get_mut(socket_number(Port::Conn(conn))) {
+            Some(place) => probe_at(place, drops),
             None => Answer::Failed,
         }
     }

@@ -1,6 +1,6 @@
 //! How long a server may sleep.
 
-ghost use Rattle.std.specs.Prelude.{◌≡◌, ◌<◌, ◌⊎◌, true, false, None};
+ghost use Rattle.std.specs.Prelude.{◌≡◌, ◌<◌, ◌≤◌, ◌⊎◌, true, false, None};
 ghost use Rattle.sv_net.specs.Sleep.{NoneReady, IsIdle, MaySleep};
 
 use crate::net::Net;
@@ -24,22 +24,27 @@ fn is_ready<N: Network + Drop, A: Allocator, S: Stream>(driver: &Driver<Net<N, A
     false
 }
 
-/// Whether so many milliseconds do nothing while it sleeps: nothing waits for them, no call for
-/// room, and no accept is to be tried again.
+/// Whether so many milliseconds do nothing while it sleeps: nothing waits for them, and no call for
+/// room.
 fn is_idle<N: Network + Drop, A: Allocator, S: Stream>(
     driver: &Driver<Net<N, A, S>, A>,
     ticks: u32,
 ) -> bool
     ensures { result ≡ true → IsIdle ticks driver.now }
 {
-    driver.is_still(ticks) & !driver.wire().is_knocked() & !is_ready(driver)
+    driver.is_still(ticks) & !is_ready(driver)
 }
 
-/// Up to which millisecond since the last sweep it may sleep, where time does something.
+/// Up to which millisecond since the last sweep it may sleep, where time does something, or an
+/// accept is to be tried again.
 fn longest<N: Network + Drop, A: Allocator, S: Stream>(driver: &Driver<Net<N, A, S>, A>) -> u32
-    ensures { (result ≡ 1) ⊎ ((result ≡ 100) × IsIdle 100 driver.now) }
+    ensures { (result ≡ 1) ⊎ ((result ≤ 100) × IsIdle 100 driver.now) }
 {
-    if is_idle(driver, STILL) { STILL } else { 1 }
+    if is_idle(driver, STILL) {
+        driver.wire().patience()
+    } else {
+        1
+    }
 }
 
 /// How long it may sleep with so many sweeps left; without a limit where time does nothing. A call
@@ -53,7 +58,8 @@ pub(crate) fn rest<N: Network + Drop, A: Allocator, S: Stream>(
     ensures may { MaySleep pace.now.swept now result driver.now }
     ensures many { result ≡ None → 1000000 < left }
 {
-    if left > FEW && driver.is_played() && is_idle(driver, u32::MAX) {
+    let knocked = driver.wire().is_knocked();
+    if left > FEW && !knocked && driver.is_played() && is_idle(driver, u32::MAX) {
         return None;
     }
     Some(Duration::from_nanos(pace.rest(now, longest(driver))))

@@ -1,8 +1,8 @@
 //! A socket, with what was reported of it.
 
-ghost use Rattle.std.specs.Prelude.{◌≡◌, ◌⊎◌, length};
+ghost use Rattle.std.specs.Prelude.{◌≡◌, ◌⊎◌, true, length};
 ghost use Rattle.sv_serve.specs.Heard.{IsWithin, bytes_of};
-ghost use Rattle.sv_net.specs.Sockets.{Gives, Takes};
+ghost use Rattle.sv_net.specs.Sockets.{Gives, Skips, Takes};
 
 use crate::stream::Stream;
 use mio::event::Event;
@@ -11,6 +11,9 @@ use std::cell::Cell;
 use std::io::{self, ErrorKind};
 use std::marker::Model;
 use sv_serve::Answer;
+
+/// How many bytes are dropped at once, at most.
+const DROPPED: usize = 1_024;
 
 /// A socket, and what was reported of it since it last answered that it would wait.
 #[derive(Drop)]
@@ -22,6 +25,10 @@ pub(crate) struct Socket<S: Stream> {
     writable: Cell<bool>,
     /// The peer sends no more, so nothing more is reported of its bytes.
     ended: Cell<bool>,
+    /// It was reset, or is closed in both directions.
+    broken: Cell<bool>,
+    /// Urgent bytes may be there: a read ends in front of them, though more is behind.
+    urgent: Cell<bool>,
 }
 
 impl<S: Stream> Model for Socket<S> {
@@ -40,6 +47,8 @@ impl<S: Stream> Socket<S> {
             readable: Cell::new(true),
             writable: Cell::new(true),
             ended: Cell::new(false),
+            broken: Cell::new(false),
+            urgent: Cell::new(false),
         }
     }
 
@@ -52,6 +61,8 @@ impl<S: Stream> Socket<S> {
             readable: Cell::new(false),
             writable: Cell::new(false),
             ended: Cell::new(false),
+            broken: Cell::new(false),
+            urgent: Cell::new(false),
         }
     }
 
@@ -62,7 +73,7 @@ impl<S: Stream> Socket<S> {
         registry.register(
             &mut self.stream,
             token,
-            Interest::READABLE | Interest::WRITABLE,
+            Interest::READABLE | Interest::WRITABLE | Interest::PRIORITY,
         )
     }
 
@@ -76,6 +87,14 @@ impl<S: Stream> Socket<S> {
             self.writable.get() | broken | event.is_writable() | event.is_write_closed(),
         );
         self.ended.set(self.ended.get() | ended);
+        let gone = broken | event.is_read_closed() & event.is_write_closed();
+        self.broken.set(self.broken.get() | gone);
+        self.urgent.set(self.urgent.get() | event.is_priority());
+    }
+
+    /// Whether it was reset, or is closed in both directions.
+    pub(crate) fn is_broken(&self) -> bool {
+        self.broken.get()
     }
 
     /// Whether bytes may be there, or the stream's end.
@@ -89,7 +108,7 @@ impl<S: Stream> Socket<S> {
     }
 
     /// Reads what is there. A read that fills less than the buffer emptied the socket, so more is
-    /// reported again, unless the peer had ended its stream.
+    /// reported again, unless the peer had ended its stream, or sent urgent bytes.
     pub(crate) fn read(&mut self, buffer: &mut [u8]) -> Answer<usize>
         ensures within { IsWithin result (length buffer.old) }
         ensures gives { Gives S.remaining (bytes_of result buffer.new) self.old self.new }
@@ -100,11 +119,35 @@ impl<S: Stream> Socket<S> {
         match self.stream.read(buffer) {
             Ok(0) => Answer::Failed,
             Ok(count) => {
-                self.readable
-                    .set((count == buffer.len()) | self.ended.get());
+                self.readable.set((count == buffer.len()) | self.ended.get() | self.urgent.get());
                 Answer::Got(count)
             }
-            Err(error) => would_wait(&self.readable, error.kind()),
+            Err(error) => {
+                let answer = would_wait(&self.readable, error.kind());
+                self.urgent.set(self.urgent.get() & self.readable.get());
+                answer
+            }
+        }
+    }
+
+    /// Whether it is gone, where it isn't read: broken; or, where what comes is dropped, at its end.
+    pub(crate) fn probe(&mut self, drops: bool) -> Answer<()>
+        ensures { Skips S.remaining drops self.old self.new }
+    {
+        if self.broken.get() {
+            return Answer::Failed;
+        }
+        if drops { self.skip() } else { Answer::Pending }
+    }
+
+    /// Reads what comes, and drops it.
+    fn skip(&mut self) -> Answer<()>
+        ensures { Skips S.remaining true self.old self.new }
+    {
+        match self.read(&mut [0; DROPPED]) {
+            Answer::Got(_) => Answer::Got(()),
+            Answer::Pending => Answer::Pending,
+            Answer::Failed => Answer::Failed,
         }
     }
 

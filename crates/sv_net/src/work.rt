@@ -1,6 +1,7 @@
 //! Whether a sweep finds something to do without a report.
 
 use crate::net::Net;
+use crate::socket::Socket;
 use crate::stream::Stream;
 use std::alloc::Allocator;
 use std::net::Net as Network;
@@ -22,7 +23,19 @@ fn has_work_on<N: Network + Drop, A: Allocator, S: Stream>(
     } else {
         socket.is_writable()
     };
-    goes_on || socket.is_readable() && server.room(conn) > 0 || has_work_for(driver, conn)
+    goes_on || has_input(driver, conn, socket) || has_work_for(driver, conn)
+}
+
+/// Whether a sweep reads it: bytes may be there that it has room for, or that are dropped; or it is
+/// gone, though it isn't read.
+fn has_input<N: Network + Drop, A: Allocator, S: Stream>(
+    driver: &Driver<Net<N, A, S>, A>,
+    conn: u8,
+    socket: &Socket<S>,
+) -> bool {
+    let server = driver.server();
+    let reads = server.room(conn) > 0 || server.overlong(conn);
+    socket.is_broken() || socket.is_readable() && reads
 }
 
 /// The same of the connection's interrupt channel.

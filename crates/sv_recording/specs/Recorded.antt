@@ -2,10 +2,10 @@
 use Rattle.std.specs.Prelude.{◌≡◌, ℕ, Bool, true, List, ◌∷◌, ◌++◌}
 use Rattle.sv_serve.specs.declared.wire.Answer.{Answer}
 use Rattle.sv_serve.specs.declared.wire.Answer.TheVariants.{Got, Pending, Failed}
-use Rattle.sv_serve.specs.Heard.{Heard, WasAccepted, WasRead, WasWritten, WasDialed, PeerAnswered, WasClosed}
+use Rattle.sv_serve.specs.Heard.{Heard, WasAccepted, WasRead, WasProbed, WasWritten, WasDialed, PeerAnswered, WasClosed}
 use Rattle.sv_serve.specs.Served.{Through}
 use Rattle.sv_recording.specs.declared.call.Call.{Call}
-use Rattle.sv_recording.specs.declared.call.Call.TheVariants.{Accept, Read, Write, Dial, Dialed, Close}
+use Rattle.sv_recording.specs.declared.call.Call.TheVariants.{Accept, Read, Probe, Write, Dial, Dialed, Close}
 
 -- what a call that was kept says
 abbrev pub heard_of : Call → Heard
@@ -13,6 +13,7 @@ heard_of (Accept role conn answer) = WasAccepted role conn answer
 heard_of (Read conn most Pending) = WasRead conn most Pending
 heard_of (Read conn most Failed) = WasRead conn most Failed
 heard_of (Read conn most (Got bytes)) = WasRead conn most (Got bytes.items)
+heard_of (Probe conn drops answer) = WasProbed conn drops answer
 heard_of (Write port bytes answer) = WasWritten port bytes.items answer
 heard_of (Dial conn dial answer) = WasDialed conn dial answer
 heard_of (Dialed conn answer) = PeerAnswered conn answer

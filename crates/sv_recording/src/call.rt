@@ -18,6 +18,12 @@ pub enum Call {
         most: usize,
         answer: Answer<Vec<u8>>,
     },
+    /// Whether a connection that isn't read is gone; what came on it was dropped, if so said.
+    Probe {
+        conn: u8,
+        drops: bool,
+        answer: Answer<()>,
+    },
     /// How many of these bytes were taken for a port.
     Write {
         port: Port,

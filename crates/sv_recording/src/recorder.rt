@@ -144,6 +144,16 @@ impl<W: Wire + Drop> Wire for Recorder<W> {
         answer
     }
 
+    fn probe(&mut self, conn: u8, drops: bool) -> Answer<()> {
+        let answer = self.wire.probe(conn, drops);
+        self.keep(Call::Probe {
+            conn,
+            drops,
+            answer,
+        });
+        answer
+    }
+
     fn write(&mut self, port: Port, bytes: &[u8]) -> Answer<usize> {
         let answer = self.wire.write(port, bytes);
         self.keep_if(write_call(self.alloc, port, bytes, answer));

@@ -29,9 +29,10 @@
 //! each as soon as it may look again: printed is how often it sleeps at once in front of each.
 //!
 //! Calls are printed, a line each, as `core 0` for a connection that may come under number 0, and
-//! `core -` where it is to be dropped; `read 0`; `write c0 80..` with the bytes in hexadecimal, or
-//! `write i0 80..` for an interrupt channel; `dial 0 7f000001:4242`; `dialed 0`; `close c0`. In
-//! front of an answer they stand without what is behind the port, and `core` without a number.
+//! `core -` where it is to be dropped; `read 0`; `probe 0`, with ` drops` where what comes is to be
+//! dropped; `write c0 80..` with the bytes in hexadecimal, or `write i0 80..` for an interrupt
+//! channel; `dial 0 7f000001:4242`; `dialed 0`; `close c0`. In front of an answer they stand
+//! without what is behind the number or the port, and `core` without a number.
 //! `yes` lets a connection come, or a peer answer; `fails` is a fault; `later` is nothing yet; a
 //! number is how many bytes are taken; bytes that come are in hexadecimal. Of what is written else
 //! all is taken, and all else is pending.

@@ -169,6 +169,10 @@ impl Wire for Peers {
         }
     }
 
+    fn probe(&mut self, _conn: u8, _drops: bool) -> Answer<()> {
+        Answer::Pending
+    }
+
     fn write(&mut self, port: Port, bytes: &[u8]) -> Answer<usize> {
         if self.strikes_at(Call::Write, number(port)) {
             return Answer::Failed;

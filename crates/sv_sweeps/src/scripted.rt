@@ -96,6 +96,12 @@ impl Wire for Scripted {
         }
     }
 
+    fn probe(&mut self, conn: u8, _: bool) -> Answer<()> {
+        self.asked.clear();
+        let _ = write!(self.asked, "probe {conn}");
+        comes(self.says(&self.asked))
+    }
+
     fn write(&mut self, port: Port, bytes: &[u8]) -> Answer<usize> {
         let (letter, number) = name(port);
         self.asked.clear();

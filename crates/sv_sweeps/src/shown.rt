@@ -43,6 +43,10 @@ pub(crate) fn show<W: Write + Drop>(call: &Call, writer: &mut BufWriter<W>) -> i
             None => writeln!(writer, "{} -", word(*role)),
         },
         Call::Read { conn, .. } => writeln!(writer, "read {conn}"),
+        Call::Probe { conn, drops, .. } => match drops {
+            true => writeln!(writer, "probe {conn} drops"),
+            false => writeln!(writer, "probe {conn}"),
+        },
         Call::Write { port, bytes, .. } => show_written(*port, bytes, writer),
         Call::Dial { conn, dial, .. } => {
             let (addr, port) = (dial.addr, dial.port);
