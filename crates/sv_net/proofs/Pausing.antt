@@ -24,9 +24,18 @@ fresh_where_quiet (Told ∷ doings) quiet = quiet
 
 module _ {W M : Type 0} (hears : W → Heard → W → Type 0) (answers : M → Doing → M → Type 0) (driver : Driving W) where
   also : {is_so is_such : List Doing → Bool} {many swept time : ℕ} {start : Driving W} {first now : M}
-      → ((doings : List Doing) → is_so doings ≡ true → is_such doings ≡ true) → Running hears answers is_so many swept time start driver first now
+      → ((doings : List Doing) → is_so doings ≡ true → is_such doings ≡ true)
+      → Running hears answers is_so many swept time start driver first now
       → Running hears answers is_such many swept time start driver first now
-  also step r = record { doings = r.doings; sweeps = r.sweeps; last = r.last; ended = r.ended; so = step r.doings r.so; serves = r.serves; waits = r.waits }
+  also step r = record {
+    doings = r.doings;
+    sweeps = r.sweeps;
+    last = r.last;
+    ended = r.ended;
+    so = step r.doings r.so;
+    serves = r.serves;
+    waits = r.waits;
+  }
 
   -- a wait that may be so long
   pub one_wait : (swept began time : ℕ) (limit : Option Duration) (reported : Bool) (old now : M) → MaySleep swept began limit driver

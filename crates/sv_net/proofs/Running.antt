@@ -8,8 +8,8 @@ use Rattle.sv_net.specs.Serving.{Doing, MadeSweep, Waited, Told, handed_in, Serv
 use Rattle.sv_net.specs.Inside.Pausing.{Running, Rounds}
 
 -- the sweeps alone
-pub swept_alone : {W : Type 0} (hears : W → Heard → W → Type 0) (doings : List Doing) (start now : Driving W) → Serves hears doings start now
-    → Swept hears (handed_in doings) start now
+pub swept_alone : {W : Type 0} (hears : W → Heard → W → Type 0) (doings : List Doing) (start now : Driving W)
+    → Serves hears doings start now → Swept hears (handed_in doings) start now
 swept_alone hears [] start now same = same
 swept_alone hears (MadeSweep ∷ doings) start now (between, serves, goes, front) =
     (between, swept_alone hears doings start between serves, goes)
