@@ -77,7 +77,8 @@ module _ {W M : Type 0} (hears : W → Heard → W → Type 0) (answers : M → 
   no_wait swept time now = record { goes = λ many start first r. r }
 
 pub from_quiet : {W M : Type 0} {hears : W → Heard → W → Type 0} {answers : M → Doing W → M → Type 0} {driver : Driving W}
-    {is_so : List (Doing W) → Bool} {swept began time : ℕ} {old now : M} → Pauses hears answers driver is_told is_so swept began time old now
+    {is_so : List (Doing W) → Bool} {swept began time : ℕ} {old now : M}
+    → Pauses hears answers driver is_told is_so swept began time old now
     → Pauses hears answers driver is_quiet is_so swept began time old now
 from_quiet {hears = hears} {answers = answers} {driver = driver} pauses =
     record { goes = λ many start first r. pauses.goes many start first (also hears answers driver told_where_quiet r) }

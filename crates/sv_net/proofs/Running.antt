@@ -16,19 +16,19 @@ swept_alone hears (MadeSweep ∷ doings) start now (between, serves, goes, front
 swept_alone hears (Waited limit reported ended ∷ doings) start now (serves, may, told) = swept_alone hears doings start now serves
 swept_alone hears (Told wire ∷ doings) start now (serves, same) = swept_alone hears doings start now serves
 
-pub none_served : {W : Type 0} (hears : W → Heard → W → Type 0) (IsCount : ℕ → Type 0) (driver : Driving W) → IsCount 0
-    → Served hears IsCount driver driver
-none_served hears IsCount driver none = ([], none, refl, refl)
-
 pub served_by : {W M : Type 0} {hears : W → Heard → W → Type 0} {answers : M → Doing W → M → Type 0} {is_so : List (Doing W) → Bool}
     {many swept time : ℕ} {old new : Driving W} {first now : M} (IsCount : ℕ → Type 0)
     → Running hears answers is_so many swept time old new first now → IsCount many → Served hears IsCount old new
 served_by {hears = hears} {old = old} {new = new} IsCount r is =
     (r.doings, rw r.sweeps is, r.serves, swept_alone hears r.doings old new r.serves)
 
+not_any : {P : Type 0} {ticks : ℕ} → ticks ≡ 0 → 0 < ticks → P
+not_any none some = absurd (omega (arith, none, some))
+
 -- no whole millisecond passed: what was reported comes first
 pub told_first : {W M : Type 0} (hears : W → Heard → W → Type 0) (answers : M → Doing W → M → Type 0) (ticks : ℕ) (old new : Driving W)
-    (first now : M) → ticks ≡ 0 → answers first (Told old.wire) now → Goes (Sweeps hears ticks) old new → Rounds hears answers ticks old new first now
+    (first now : M) → ticks ≡ 0 → answers first (Told old.wire) now → Goes (Sweeps hears ticks) old new
+    → Rounds hears answers ticks old new first now
 told_first hears answers ticks old new first now none told goes = record {
   goes = λ many swept time start machine is r. record {
     doings = MadeSweep ∷ Told old.wire ∷ r.doings;
@@ -36,7 +36,7 @@ told_first hears answers ticks old new first now none told goes = record {
     last = r.ended;
     ended = r.ended;
     so = refl;
-    serves = (old, (r.serves, refl), rw (r.last, r.ended, sym is) goes, rw (r.last, r.ended, sym is) (λ some. absurd (omega (arith, none, some))));
+    serves = (old, (r.serves, refl), rw (r.last, r.ended, sym is) goes, rw (r.last, r.ended, sym is) (not_any none));
     waits = (first, r.waits, told);
   };
 }
