@@ -8,70 +8,70 @@ use Rattle.sv_serve.specs.Sweep.{Sweeps}
 use Rattle.sv_net.specs.Sleep.{MaySleep}
 
 -- A sweep; a wait for reports, at most so long, whether some came, and at which nanosecond since the beginning it ended; and that they
--- were told to the sockets.
-pub data Doing : Type 0 where
-  MadeSweep : Doing
-  Waited : (limit : Option Duration) (reported : Bool) (ended : ℕ) → Doing
-  Told : Doing
+-- were told to a wire, as it was then.
+pub data Doing (W : Type 0) : Type 0 where
+  MadeSweep : Doing W
+  Waited : (limit : Option Duration) (reported : Bool) (ended : ℕ) → Doing W
+  Told : (wire : W) → Doing W
 
 -- the nanosecond at which the last wait ended, and the one at which the last sweep began; 0 in front of both
-abbrev pub time_of : List Doing → ℕ
+abbrev pub time_of : {W : Type 0} → List (Doing W) → ℕ
 time_of [] = 0
 time_of (MadeSweep ∷ doings) = time_of doings
 time_of (Waited limit reported ended ∷ doings) = ended
-time_of (Told ∷ doings) = time_of doings
+time_of (Told wire ∷ doings) = time_of doings
 
-abbrev pub swept_at : List Doing → ℕ
+abbrev pub swept_at : {W : Type 0} → List (Doing W) → ℕ
 swept_at [] = 0
 swept_at (MadeSweep ∷ doings) = time_of doings
 swept_at (Waited limit reported ended ∷ doings) = swept_at doings
-swept_at (Told ∷ doings) = swept_at doings
+swept_at (Told wire ∷ doings) = swept_at doings
 
 -- how many whole milliseconds came between two nanoseconds, at most 1,000
 abbrev pub ticks_between : ℕ → ℕ → ℕ
 ticks_between before now = min (now / 1000000 - before / 1000000) 1000
 
 -- the milliseconds that each sweep is handed: those since the sweep in front of it
-abbrev pub handed_in : List Doing → List ℕ
+abbrev pub handed_in : {W : Type 0} → List (Doing W) → List ℕ
 handed_in [] = []
 handed_in (MadeSweep ∷ doings) = ticks_between (swept_at doings) (time_of doings) ∷ handed_in doings
 handed_in (Waited limit reported ended ∷ doings) = handed_in doings
-handed_in (Told ∷ doings) = handed_in doings
+handed_in (Told wire ∷ doings) = handed_in doings
 
 -- whether a wait was the last thing, so nothing of it was told
-abbrev pub is_fresh : List Doing → Bool
+abbrev pub is_fresh : {W : Type 0} → List (Doing W) → Bool
 is_fresh [] = true
 is_fresh (Waited limit reported ended ∷ doings) = true
 is_fresh (MadeSweep ∷ doings) = false
-is_fresh (Told ∷ doings) = false
+is_fresh (Told wire ∷ doings) = false
 
 -- whether all was told that came in waits
-abbrev pub is_told : List Doing → Bool
+abbrev pub is_told : {W : Type 0} → List (Doing W) → Bool
 is_told [] = true
 is_told (MadeSweep ∷ doings) = is_told doings
 is_told (Waited limit true ended ∷ doings) = false
 is_told (Waited limit false ended ∷ doings) = is_told doings
-is_told (Told ∷ doings) = true
+is_told (Told wire ∷ doings) = true
 
 -- Doings lead from one driver to another: each sweep is handed its milliseconds, which pass in front of what was reported meanwhile; no
 -- wait is longer than it may be, and none comes before all was told.
-abbrev pub Serves : {W : Type 0} → (W → Heard → W → Type 0) → List Doing → Driving W → Driving W → Type 0
+abbrev pub Serves : {W : Type 0} → (W → Heard → W → Type 0) → List (Doing W) → Driving W → Driving W → Type 0
 Serves hears [] start now = now ≡ start
 Serves hears (MadeSweep ∷ doings) start now = let ticks = ticks_between (swept_at doings) (time_of doings) in
     (between : Driving _) × Serves hears doings start between × Goes (Sweeps hears ticks) between now × (0 < ticks → is_fresh doings ≡ true)
 Serves hears (Waited limit reported ended ∷ doings) start now =
     Serves hears doings start now × MaySleep (swept_at doings) (time_of doings) limit now × (is_told doings ≡ true)
-Serves hears (Told ∷ doings) start now = Serves hears doings start now
+Serves hears (Told wire ∷ doings) start now = Serves hears doings start now × (wire ≡ now.wire)
 
--- A machine was asked for these waits, one after the other, and answered so, and told what was reported.
-abbrev pub Waits : {M : Type 0} → (M → Doing → M → Type 0) → List Doing → M → M → Type 0
+-- A machine was asked for these waits, one after the other, and answered so, and told these wires what was reported.
+abbrev pub Waits : {W M : Type 0} → (M → Doing W → M → Type 0) → List (Doing W) → M → M → Type 0
 Waits answers [] start now = now ≡ start
 Waits answers (MadeSweep ∷ doings) start now = Waits answers doings start now
 Waits answers (Waited limit reported ended ∷ doings) start now =
     (between : _) × Waits answers doings start between × answers between (Waited limit reported ended) now
-Waits answers (Told ∷ doings) start now = (between : _) × Waits answers doings start between × answers between Told now
+Waits answers (Told wire ∷ doings) start now = (between : _) × Waits answers doings start between × answers between (Told wire) now
 
 -- Doings with such a number of sweeps lead from one driver to another, and so do sweeps that were handed those milliseconds.
 abbrev pub Served : {W : Type 0} → (W → Heard → W → Type 0) → (ℕ → Type 0) → Driving W → Driving W → Type 0
-Served hears IsCount old new = (doings : List Doing) × IsCount (length (handed_in doings)) × Serves hears doings old new
+Served hears IsCount old new = (doings : List (Doing _)) × IsCount (length (handed_in doings)) × Serves hears doings old new
     × Swept hears (handed_in doings) old new

@@ -23,8 +23,8 @@ IsIdle most driving = NoneReady driving × ((config : Config) (history : List Pl
 abbrev pub left_until : ℕ → ℕ → ℕ → ℕ
 left_until ticks swept now = ticks * 1000000 - (now - swept / 1000000 * 1000000)
 
--- It sleeps without a limit where nothing ever waits for time (VXI-11 revision 1.0, B.4.4: milliseconds are 32 bits), and the scenario is at
--- its end; until the hundredth millisecond where it is idle for so many; and else until the next one.
+-- It sleeps without a limit where it is idle for as many milliseconds as a timeout can have (32 bits: VXI-11 revision 1.0, B.4.4), and no
+-- entry of the scenario is to come; until the hundredth millisecond where it is idle for so many; and else until the next one.
 abbrev pub MaySleep : {W : Type 0} → ℕ → ℕ → Option Duration → Driving W → Type 0
 MaySleep swept now None driving = (driving.ahead ≡ []) × IsIdle 4294967295 driving
 MaySleep swept now (Some limit) driving =

@@ -1,12 +1,27 @@
-//! A law of the sockets' numbers, on a function that does nothing.
+//! Laws of sockets, each on a function that does nothing.
 
 ghost use Rattle.std.specs.Prelude.{◌≡◌, ◌<◌};
 ghost use Rattle.sv_history.specs.declared.event.Port.{Port};
 ghost use Rattle.sv_history.specs.Event.{port_number};
-ghost use Rattle.sv_net.specs.Sockets.{socket_number};
+ghost use Rattle.sv_serve.specs.Carried.{Carried};
+ghost use Rattle.sv_net.specs.Sockets.{socket_number, Hears};
+
+use crate::net::Net;
+use crate::stream::Stream;
+use std::alloc::Allocator;
+use std::net::Net as Network;
 
 /// Each of the sixteen connections has a socket of its own, and so has each interrupt channel.
 pub fn own_sockets()
     ensures { (port other : Port) → port_number port < 16 → port_number other < 16
         → socket_number port ≡ socket_number other → port ≡ other }
 {}
+
+/// What a driver carries over any wire, it carries over these sockets: what was read of them and
+/// written to them, and what happened to its server, are one. [`serve`](crate::serve) makes such
+/// sweeps.
+pub fn carried<N: Network + Drop, A: Allocator, S: Stream>()
+    ensures { Carried (Hears S.remaining S.contents) }
+{
+    sv_serve::laws::carried::<Net<N, A, S>>();
+}

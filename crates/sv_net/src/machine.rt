@@ -11,12 +11,12 @@ use std::net::Net as Network;
 use std::time::{Clock, Duration, Instant};
 
 /// A clock, and the reports of sockets.
-pub(crate) trait Machine {
+pub(crate) trait Machine<S: Stream> {
     ghost use Rattle.sv_net.specs.Serving.{Doing, Waited, Told};
-    ghost use Rattle.std.specs.Prelude.{⊤};
+    ghost use Rattle.std.specs.Prelude.{List, Option, ⊤};
 
     /// What a wait and its outcome lead to; of a real machine nothing is known.
-    ghost answers: { Self → Doing → Self → Type 0 } = { λ before doing after. ⊤ };
+    ghost answers: { Self → Doing (List (Option S)) → Self → Type 0 } = { λ before doing after. ⊤ };
 
     /// Waits until a socket is reported, at most so long where there is a limit. Tells whether one
     /// was, and at which nanosecond since the beginning the wait ended.
@@ -27,8 +27,8 @@ pub(crate) trait Machine {
         ensures { IfOk result (λ ended. answers self.old (Waited limit ended.0 ended.1) self.new) };
 
     /// Tells the sockets what was reported to the last wait.
-    fn report<N: Network + Drop, B: Allocator, S: Stream>(&mut self, net: &Net<N, B, S>)
-        ensures { answers self.old Told self.new };
+    fn report<N: Network + Drop, B: Allocator>(&mut self, net: &Net<N, B, S>)
+        ensures { answers self.old (Told net.now) self.new };
 }
 
 /// The machine's clock, when it was read first, and what waits for its sockets.
@@ -54,14 +54,14 @@ impl<'a, C: Clock, A: Allocator> System<'a, C, A> {
     }
 }
 
-impl<C: Clock, A: Allocator> Machine for System<'_, C, A> {
+impl<C: Clock, A: Allocator, S: Stream> Machine<S> for System<'_, C, A> {
     fn wait(&mut self, limit: Option<Duration>) -> io::Result<(bool, u64)> {
         let reported = self.watch.wait(limit)?;
         let passed = self.start.elapsed(self.clock)?;
         Ok((reported, passed.as_nanos().min(u128::from(u64::MAX)) as u64))
     }
 
-    fn report<N: Network + Drop, B: Allocator, S: Stream>(&mut self, net: &Net<N, B, S>) {
+    fn report<N: Network + Drop, B: Allocator>(&mut self, net: &Net<N, B, S>) {
         self.watch.report(net);
     }
 }

@@ -45,7 +45,7 @@ pub fn serve<N: Network + Drop, A: Allocator, S: Stream>(
 }
 
 /// Makes so many sweeps, at the times that a machine tells.
-fn run<M: Machine, N: Network + Drop, A: Allocator, S: Stream>(
+fn run<M: Machine<S>, N: Network + Drop, A: Allocator, S: Stream>(
     machine: &mut M,
     driver: &mut Driver<Net<N, A, S>, A>,
     sweeps: u32,
@@ -66,7 +66,7 @@ fn run<M: Machine, N: Network + Drop, A: Allocator, S: Stream>(
 
 /// Makes a sweep. Milliseconds that passed while it waited come in front of what was reported then,
 /// which the next sweep finds.
-fn sweep<M: Machine, N: Network + Drop, A: Allocator, S: Stream>(
+fn sweep<M: Machine<S>, N: Network + Drop, A: Allocator, S: Stream>(
     machine: &mut M,
     driver: &mut Driver<Net<N, A, S>, A>,
     ticks: u32,
@@ -85,7 +85,7 @@ fn sweep<M: Machine, N: Network + Drop, A: Allocator, S: Stream>(
 
 /// Waits for reports, at most so long where there is a limit. Tells whether one came, and when the
 /// wait ended.
-fn wait<M: Machine>(
+fn wait<M: Machine<S>, S: Stream>(
     machine: &mut M,
     pace: &mut Pace,
     limit: Option<Duration>,
@@ -103,7 +103,7 @@ fn wait<M: Machine>(
 
 /// Waits for the next sweep, of so many left, and tells when it begins: at once where a sweep finds
 /// something to do. Whether it does need not be asked where the first look finds a report.
-fn pause<M: Machine, N: Network + Drop, A: Allocator, S: Stream>(
+fn pause<M: Machine<S>, N: Network + Drop, A: Allocator, S: Stream>(
     machine: &mut M,
     driver: &Driver<Net<N, A, S>, A>,
     pace: &mut Pace,
@@ -128,7 +128,7 @@ fn pause<M: Machine, N: Network + Drop, A: Allocator, S: Stream>(
 
 /// Looks again until something is reported, or looking isn't worth it any more; then it sleeps.
 /// Tells when that ended.
-fn look<M: Machine, N: Network + Drop, A: Allocator, S: Stream>(
+fn look<M: Machine<S>, N: Network + Drop, A: Allocator, S: Stream>(
     machine: &mut M,
     driver: &Driver<Net<N, A, S>, A>,
     pace: &mut Pace,
@@ -156,7 +156,7 @@ fn look<M: Machine, N: Network + Drop, A: Allocator, S: Stream>(
 }
 
 /// Sleeps until something is reported, or time matters. Tells when that was.
-fn sleep<M: Machine, N: Network + Drop, A: Allocator, S: Stream>(
+fn sleep<M: Machine<S>, N: Network + Drop, A: Allocator, S: Stream>(
     machine: &mut M,
     driver: &Driver<Net<N, A, S>, A>,
     pace: &mut Pace,

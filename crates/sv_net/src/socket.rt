@@ -160,9 +160,9 @@ impl<S: Stream> Socket<S> {
             return Answer::Pending;
         }
         match self.stream.write(bytes) {
-            Ok(count) => {
-                self.writable.set(count == bytes.len());
-                Answer::Got(count)
+            Ok(taken) => {
+                self.writable.set(taken == bytes.len());
+                Answer::Got(taken)
             }
             Err(error) => would_wait(&self.writable, error.kind()),
         }

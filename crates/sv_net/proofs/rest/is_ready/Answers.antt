@@ -9,8 +9,9 @@ use Rattle.sv_net.proofs.rest.is_ready.Goals as goal
 
 pub loop-conn-preserved : goal.loop-conn-preserved
 loop-conn-preserved g c = λ config history stands.
+    let here = rw c.if-ready.false at (c.ready.ensures config history (rw c.server-server.ensures stands)) in
     up_to (λ (d : ℕ). IsReady d config (moment c.args.driver.now history) false) c.loop-conn.conn (c.loop-conn.conn + 1) (omega arith)
-    (c.loop-conn.invariant config history stands) (rw c.if-ready.false at (c.ready.ensures config history (rw c.server-server.ensures stands)))
+    (c.loop-conn.invariant config history stands) here
 
 pub returns : goal.returns
 returns g c = λ so config history stands d.

@@ -5,8 +5,8 @@ use Rattle.sv_net.proofs.rest.rest.Goals as goal
 pub returns-then-is_idle-clause-may : goal.returns-then-is_idle-clause-may
 returns-then-is_idle-clause-may g c = (c.is_played.ensures.0 c.if-is_played.true, c.is_idle.ensures c.if-is_idle.true)
 
-at_most : {Idle : Type 0} (nanos rest ticks since : ℕ) → nanos ≡ rest → rest ≡ ticks * 1000000 - since → (ticks ≡ 1) ⊎ ((ticks ≤ 100) × Idle)
-    → (nanos ≤ 1 * 1000000 - since) ⊎ ((nanos ≤ 100 * 1000000 - since) × Idle)
+at_most : {Idle : Type 0} (nanos rest ticks since : ℕ) → nanos ≡ rest → rest ≡ ticks * 1000000 - since
+    → (ticks ≡ 1) ⊎ ((ticks ≤ 100) × Idle) → (nanos ≤ 1 * 1000000 - since) ⊎ ((nanos ≤ 100 * 1000000 - since) × Idle)
 at_most nanos rest ticks since is by (inl one) = inl (omega (arith, is, by, one))
 at_most nanos rest ticks since is by (inr (many, idle)) = inr (omega (arith, is, by, many), idle)
 

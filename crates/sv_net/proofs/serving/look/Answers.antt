@@ -6,8 +6,9 @@ pub loop-looks-init : goal.loop-looks-init
 loop-looks-init g c = record { pauses = no_wait _ _ _ _ _ _; swept = refl }
 
 pub returns-then-not-is_eager-clause-pauses : goal.returns-then-not-is_eager-clause-pauses
-returns-then-not-is_eager-clause-pauses g c = if_ok c.sleep.result (rw (c.end.ensures.times.0, c.loop-looks.invariant.swept) at c.sleep.ensures.pauses)
-    (λ ended more. and_then c.loop-looks.invariant.pauses (from_quiet more))
+returns-then-not-is_eager-clause-pauses g c =
+    let slept = rw (c.end.ensures.times.0, c.loop-looks.invariant.swept) at c.sleep.ensures.pauses in
+    if_ok c.sleep.result slept (λ ended more. and_then c.loop-looks.invariant.pauses (from_quiet more))
 
 pub returns-then-reported-clause-pauses : goal.returns-then-reported-clause-pauses
 returns-then-reported-clause-pauses g c =

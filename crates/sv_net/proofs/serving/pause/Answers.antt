@@ -2,6 +2,9 @@ use Rattle.std.proofs.Common.{refl}
 use Rattle.sv_net.proofs.Pausing.{one_look, in_vain, and_then, if_ok}
 use Rattle.sv_net.proofs.serving.pause.Goals as goal
 
+pub returns-then-not-has_work-clause-pauses : goal.returns-then-not-has_work-clause-pauses
+returns-then-not-has_work-clause-pauses g c = rw c.end.ensures.times.0 at c.sleep.ensures.pauses
+
 pub returns-then-not-eager-2-clause-pauses : goal.returns-then-not-eager-2-clause-pauses
 returns-then-not-eager-2-clause-pauses g c = one_look _ _ _ _ _ _ _ _ _ _ refl c.in_ok-reported.ensures.answers
 
