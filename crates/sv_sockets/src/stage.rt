@@ -3,7 +3,7 @@
 use crate::peer::Peer;
 use std::alloc::Global;
 use std::io::{self, Error, ErrorKind};
-use std::time::Instant;
+use std::time::{Clock, Duration, Instant};
 use sv_net::{Net, Watch, serve};
 use sv_replay::read_scenario;
 use sv_serve::Driver;
@@ -13,6 +13,8 @@ use sv_server::{Config, Port, Server};
 pub(crate) const PORTS: [u16; 3] = [24196, 24197, 24198];
 /// How many seconds a peer waits at most.
 const PATIENCE: u64 = 10;
+/// How often it tries to listen at most, each fiftieth of a second.
+const TRIES: u32 = 2_000;
 /// How often it looks at most.
 const LOOKS: u32 = 10_000_000;
 /// How many sweeps are made between two looks: time passes behind the first one.
@@ -26,6 +28,20 @@ pub(crate) fn bad() -> Error {
 /// What is told where a peer waited so long.
 fn late() -> Error {
     Error::from(ErrorKind::TimedOut)
+}
+
+/// Listens on the ports, once no other run of this program does.
+fn listen(rt: HostRuntime) -> io::Result<(Watch<Global>, Net<HostRuntime, Global>)> {
+    for _ in 0..TRIES {
+        match Watch::listen(rt, rt.alloc(), PORTS) {
+            Ok(made) => return Ok(made),
+            Err(error) => match error.kind() {
+                ErrorKind::AddrInUse => rt.sleep(Duration::from_millis(20)),
+                _ => return Err(error),
+            },
+        }
+    }
+    Err(late())
 }
 
 /// A server with its peers.
@@ -51,7 +67,7 @@ impl Stage {
             clock: 0,
         };
         let server = Server::new(rt.alloc(), config)?;
-        let (watch, net) = Watch::listen(rt, rt.alloc(), PORTS)?;
+        let (watch, net) = listen(rt)?;
         Ok(Stage {
             rt,
             watch,
