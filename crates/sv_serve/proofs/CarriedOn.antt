@@ -25,7 +25,7 @@ use Rattle.sv_serve.proofs.Ports.{Holds, Both, Keeping, came, went, left_bytes}
 use Rattle.sv_serve.proofs.Reasons.{HasReasons, told_more, once_join}
 use Rattle.sv_serve.proofs.Handing.{HandsOver}
 use Rattle.sv_serve.proofs.LettingGo.{LetsGoRightly}
-use Rattle.sv_serve.proofs.Carrying.{through_join}
+use Rattle.sv_serve.proofs.Keeps.{through_join}
 use Rattle.sv_serve.proofs.Serving.{sweep_once, serves}
 
 keeping_none : (c : ℕ) (log : List Act) (told : List ChannelAct) → log ≡ [] → HearsOf (device_acts log) told → Both c (of c log) told []

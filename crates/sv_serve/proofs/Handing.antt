@@ -1,5 +1,5 @@
 -- What a write hands over is what waits there then.
-use Rattle.std.proofs.Common.{◌≡◌, ℕ, List, [], ◌∷◌, ◌++◌, filter, flat_map, refl, sym, ap, subst, ◌∙◌, append_assoc}
+use Rattle.std.proofs.Common.{◌≡◌, ℕ, List, [], ◌∷◌, ◌++◌, filter, flat_map, refl, sym, subst, ◌∙◌, append_assoc}
 use Rattle.std.specs.Prelude.{⊤}
 use Rattle.sv_history.specs.declared.event.Config.{Config}
 use Rattle.sv_history.specs.declared.event.Port.{Port}
@@ -18,7 +18,8 @@ HandsOver config history trace = EachHeard (λ heard older. (port : Port) (bytes
 
 -- what was written waited by this history
 abbrev pub Fits : Config → List PlainEvent → Heard → Type 0
-Fits config history heard = (port : Port) (bytes : List ℕ) (answer : Answer ℕ) → heard ≡ WasWritten port bytes answer → WaitOn port config history bytes
+Fits config history heard = (port : Port) (bytes : List ℕ) (answer : Answer ℕ) → heard ≡ WasWritten port bytes answer
+    → WaitOn port config history bytes
 
 abbrev pub AllFit : Config → List PlainEvent → List Heard → Type 0
 AllFit config history [] = ⊤
@@ -61,7 +62,8 @@ hands_silent config history [] trace silent fit so h = h
 hands_silent config history (heard ∷ piece) trace silent fit so h = hands_one config history heard (piece ++ trace) fit.0
     (so ∙ sym (none_silent piece trace silent.1)) (hands_silent config history piece trace silent.1 fit.1 so h)
 
-pub hands_unwritten : (config : Config) (history : List PlainEvent) (piece trace : List Heard) → NoneWritten piece → HandsOver config history trace
+pub hands_unwritten : (config : Config) (history : List PlainEvent) (piece trace : List Heard) → NoneWritten piece
+    → HandsOver config history trace
     → HandsOver config history (piece ++ trace)
 hands_unwritten config history [] trace none h = h
 hands_unwritten config history (heard ∷ piece) trace none h =
@@ -69,7 +71,8 @@ hands_unwritten config history (heard ∷ piece) trace none h =
 
 pub hands_event : (config : Config) (before after : List PlainEvent) (event : PlainEvent) (heard : Heard) (newer older trace : List Heard)
     → after ≡ event ∷ before → NoneWritten newer → Fits config before heard → AreSilent older → AllFit config before older
-    → filter is_outer before ≡ flat_map event_of trace → HandsOver config before trace → HandsOver config after ((newer ++ heard ∷ older) ++ trace)
+    → filter is_outer before ≡ flat_map event_of trace → HandsOver config before trace
+    → HandsOver config after ((newer ++ heard ∷ older) ++ trace)
 hands_event config before after event heard newer older trace grown none fits silent fit so h =
     subst (λ (l : List PlainEvent). HandsOver config l ((newer ++ heard ∷ older) ++ trace)) (sym grown)
     (subst (λ (l : List Heard). HandsOver config (event ∷ before) l) (sym (append_assoc newer (heard ∷ older) trace))

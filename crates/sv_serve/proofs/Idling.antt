@@ -36,7 +36,8 @@ pub idles_each : {W : Type 0} (config : Config) (step : ℕ → Config → Momen
 idles_each config step zero each a b is = idles_same a b is
 idles_each config step (suc n) each a b (m, front, last) = idles_then a m b (idles_each config step n each a m front) (each n m b last)
 
-hears_idles : {W : Type 0} (hears : W → Heard → W → Type 0) (heard : Heard) (config : Config) (a b : Moment W) → Hears hears heard config a b
+hears_idles : {W : Type 0} (hears : W → Heard → W → Type 0) (heard : Heard) (config : Config) (a b : Moment W)
+    → Hears hears heard config a b
     → Idles a b
 hears_idles hears heard config a b (wire, was, is) =
     (ap (λ m. m.ahead) is, ap (λ m. m.ticks) is, ap (λ m. filter is_timed m.history) is, ap (λ m. filter is_tick m.history) is)
@@ -77,7 +78,8 @@ hangs_idles hears c None config a b is = idles_same a b is
 hangs_idles hears c (Some dial) config a b (m, heard, notes) =
     idles_then a m b (hears_idles hears (WasClosed (Intr c)) config a m heard) (notes_idles c None config m b notes)
 
-closes_idles : {W : Type 0} (hears : W → Heard → W → Type 0) (c : ℕ) (config : Config) (a b : Moment W) → Closes hears c config a b → Idles a b
+closes_idles : {W : Type 0} (hears : W → Heard → W → Type 0) (c : ℕ) (config : Config) (a b : Moment W) → Closes hears c config a b
+    → Idles a b
 closes_idles hears c config a b (m, heard, (n, hangs, applies)) = idles_then a m b (hears_idles hears (WasClosed (Conn c)) config a m heard)
     (idles_then m n b (hangs_idles hears c (called_of c m) config m n hangs) (happens_idles (Close (Conn c)) config n b refl refl applies))
 
@@ -108,7 +110,8 @@ refuses_idles : {W : Type 0} (c : ℕ) (so : Bool) (config : Config) (a b : Mome
 refuses_idles c true config a b h = happens_idles (Refuse c) config a b refl refl h
 refuses_idles c false config a b is = idles_same a b is
 
-ends_turn_idles : {W : Type 0} (c : ℕ) (result : Result Did Refused) (config : Config) (a b : Moment W) → EndsTurn c result config a b → Idles a b
+ends_turn_idles : {W : Type 0} (c : ℕ) (result : Result Did Refused) (config : Config) (a b : Moment W) → EndsTurn c result config a b
+    → Idles a b
 ends_turn_idles c (Ok did) config a b is = idles_same a b is
 ends_turn_idles c (Err refused) config a b h = refuses_idles c (is_no_memory refused) config a b h
 
@@ -130,7 +133,8 @@ lets_go_idles : {W : Type 0} (hears : W → Heard → W → Type 0) (c : ℕ) (c
 lets_go_idles hears c None config a b is = idles_same a b is
 lets_go_idles hears c (Some called) config a b (channel, wanted, opened, wants, h) = keeps_call_idles hears c _ config a b h
 
-rings_idles : {W : Type 0} (c : ℕ) (dial : Dial) (answer : Answer ⊤) (config : Config) (a b : Moment W) → Rings c dial answer config a b → Idles a b
+rings_idles : {W : Type 0} (c : ℕ) (dial : Dial) (answer : Answer ⊤) (config : Config) (a b : Moment W)
+    → Rings c dial answer config a b → Idles a b
 rings_idles c dial (Got all) config a b (m, notes, applies) =
     idles_then a m b (notes_idles c (Some dial) config a m notes) (happens_idles (Dialed c true) config m b refl refl applies)
 rings_idles c dial Pending config a b notes = notes_idles c (Some dial) config a b notes
@@ -151,7 +155,8 @@ calls_idles hears c (Some dial) None config a b (answer, (m, heard, h)) =
 calls_idles hears c (Some dial) (Some called) config a b (answer, (m, heard, h)) =
     idles_then a m b (hears_idles hears _ config a m heard) (picks_idles hears c answer config m b h)
 
-pub dials_idles : {W : Type 0} (hears : W → Heard → W → Type 0) (c : ℕ) (config : Config) (a b : Moment W) → Dials hears c config a b → Idles a b
+pub dials_idles : {W : Type 0} (hears : W → Heard → W → Type 0) (c : ℕ) (config : Config) (a b : Moment W) → Dials hears c config a b
+    → Idles a b
 dials_idles hears c config a b (m, goes, (wanted, wants, h)) = idles_then a m b (lets_go_idles hears c (called_of c a) config a m goes)
     (calls_idles hears c wanted (called_of c m) config m b h)
 
@@ -163,7 +168,8 @@ ends_write_idles hears (Conn c) Failed config a b h = closes_idles hears c confi
 ends_write_idles hears (Intr c) Failed config a b (m, hangs, applies) =
     idles_then a m b (hangs_idles hears c (called_of c a) config a m hangs) (happens_idles (Close (Intr c)) config m b refl refl applies)
 
-pub writes_idles : {W : Type 0} (hears : W → Heard → W → Type 0) (port : Port) (config : Config) (a b : Moment W) → WritesTo hears port config a b
+pub writes_idles : {W : Type 0} (hears : W → Heard → W → Type 0) (port : Port) (config : Config) (a b : Moment W)
+    → WritesTo hears port config a b
     → Idles a b
 writes_idles hears port config a b (bytes, waits, inl (none, is)) = idles_same a b is
 writes_idles hears port config a b (bytes, waits, inr (some, answer, few, (m, heard, ends))) =
@@ -179,5 +185,6 @@ ends_if_idles : {W : Type 0} (hears : W → Heard → W → Type 0) (c : ℕ) (s
 ends_if_idles hears c false config a b is = idles_same a b is
 ends_if_idles hears c true config a b (bytes, waits, h) = closes_if_idles hears c (length bytes == 0) config a b h
 
-pub ends_idles : {W : Type 0} (hears : W → Heard → W → Type 0) (c : ℕ) (config : Config) (a b : Moment W) → Ends hears c config a b → Idles a b
+pub ends_idles : {W : Type 0} (hears : W → Heard → W → Type 0) (c : ℕ) (config : Config) (a b : Moment W) → Ends hears c config a b
+    → Idles a b
 ends_idles hears c config a b (faulted, is, h) = ends_if_idles hears c faulted config a b h

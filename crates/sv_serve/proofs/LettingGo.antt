@@ -1,5 +1,5 @@
 -- Why sockets of interrupt channels are closed.
-use Rattle.std.proofs.Common.{◌≡◌, ℕ, Bool, true, false, List, [], ◌∷◌, ◌++◌, filter, flat_map, Option, Some, None, refl, sym, ap, subst, ◌∙◌, inl, inr, append_assoc}
+use Rattle.std.proofs.Common.{◌≡◌, ℕ, Bool, true, false, List, [], ◌∷◌, ◌++◌, filter, flat_map, Option, Some, None, refl, sym, subst, inl, inr, append_assoc}
 use Rattle.std.specs.Prelude.{⊤, ◌⊎◌, not, ◌||◌}
 use Rattle.sv_history.specs.declared.event.Config.{Config}
 use Rattle.sv_history.specs.declared.event.Port.TheVariants.{Intr}
@@ -39,7 +39,8 @@ lets_more config history events (heard ∷ trace) h = (
   lets_more config history events trace h.1,
 )
 
-pub lets_none : (config : Config) (history : List PlainEvent) (piece trace : List Heard) → NoneHung piece → LetsGoRightly config history trace
+pub lets_none : (config : Config) (history : List PlainEvent) (piece trace : List Heard) → NoneHung piece
+    → LetsGoRightly config history trace
     → LetsGoRightly config history (piece ++ trace)
 lets_none config history [] trace none h = h
 lets_none config history (heard ∷ piece) trace none h =
@@ -47,7 +48,8 @@ lets_none config history (heard ∷ piece) trace none h =
 
 -- what is put in front of a trace, if at most the socket of this one's channel is closed in it
 abbrev pub Adds : Option ℕ → List Heard → Type 0
-Adds hung piece = (config : Config) (history : List PlainEvent) (trace : List Heard) → ((c : ℕ) → hung ≡ Some c → IsEnd c config history trace)
+Adds hung piece = (config : Config) (history : List PlainEvent) (trace : List Heard) → ((c : ℕ) → hung ≡ Some c
+    → IsEnd c config history trace)
     → LetsGoRightly config history trace → LetsGoRightly config history (piece ++ trace)
 
 pub adds_nothing : (hung : Option ℕ) → Adds hung []
@@ -62,7 +64,8 @@ hung_same c d e = cc
 pub none_hung : {A : Type 0} (c : ℕ) → None ≡ Some c → A
 none_hung {A} c e = absurd cc
 
-pub end_of : (c d : ℕ) (config : Config) (history : List PlainEvent) (last : Heard) (older : List Heard) → ends_port (Intr c) last ≡ true → Some c ≡ Some d
+pub end_of : (c d : ℕ) (config : Config) (history : List PlainEvent) (last : Heard) (older : List Heard)
+    → ends_port (Intr c) last ≡ true → Some c ≡ Some d
     → IsEnd d config history (last ∷ older)
 end_of c d config history last older ends e =
     inl (last, older, refl, subst (λ (n : ℕ). ends_port (Intr n) last ≡ true) (hung_same c d e) ends)
@@ -80,8 +83,10 @@ pub let_go : (channel wanted shut : Bool) → (channel || wanted) ≡ false → 
 let_go true wanted shut e is = absurd cc
 let_go false wanted shut e is = shut_by shut is
 
-pub lets_event : (config : Config) (before after : List PlainEvent) (event : PlainEvent) (heard : Heard) (newer older trace : List Heard) (hung : Option ℕ)
-    → after ≡ event ∷ before → Adds hung newer → ((c : ℕ) → hung ≡ Some c → ends_port (Intr c) heard ≡ true) → IsNoHang heard → NoneHung older
+pub lets_event : (config : Config) (before after : List PlainEvent) (event : PlainEvent) (heard : Heard)
+    (newer older trace : List Heard) (hung : Option ℕ)
+    → after ≡ event ∷ before → Adds hung newer → ((c : ℕ) → hung ≡ Some c → ends_port (Intr c) heard ≡ true) → IsNoHang heard
+    → NoneHung older
     → LetsGoRightly config before trace → LetsGoRightly config after ((newer ++ heard ∷ older) ++ trace)
 lets_event config before after event heard newer older trace hung grown adds ends none old h =
     subst (λ (l : List PlainEvent). LetsGoRightly config l ((newer ++ heard ∷ older) ++ trace)) (sym grown)

@@ -1,5 +1,5 @@
 -- What is read comes to the front of a buffer.
-use Rattle.std.proofs.Common.{◌≡◌, ℕ, ◌≤◌, List, [], ◌++◌, take, drop, length, min, refl, sym, ap, ◌∙◌, arith}
+use Rattle.std.proofs.Common.{◌≡◌, ℕ, List, ◌++◌, take, drop, length, min, refl, ap, ◌∙◌, arith}
 use Rattle.std.proofs.lemmas.List.{take_at, take-append-le, length-take}
 use Rattle.sv_serve.specs.declared.wire.Answer.{Answer}
 use Rattle.sv_serve.specs.declared.wire.Answer.TheVariants.{Got, Pending, Failed}
@@ -18,7 +18,8 @@ within_piece Pending buffer size h = tt
 within_piece Failed buffer size h = tt
 
 -- a buffer that was lent as a whole
-pub again : (len : ℕ) (items lent new : List ℕ) → length lent ≡ len → length new ≡ length lent → take len (new ++ drop (length new) items) ≡ new
+pub again : (len : ℕ) (items lent new : List ℕ) → length lent ≡ len → length new ≡ length lent
+    → take len (new ++ drop (length new) items) ≡ new
 again len items lent new short same = take_at new (drop (length new) items) len (same ∙ short)
 
 pub asked_for : (len room size : ℕ) → size ≡ min len room → len ≡ 16384 → size ≡ min room 16384

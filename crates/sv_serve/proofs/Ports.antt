@@ -37,7 +37,8 @@ sent_more went sends more g is le = (
   (let sum = length-append sends more in omega (arith, le, sum)),
 )
 
-taken_more : (went bytes sends : List ℕ) (g n : ℕ) → bytes ≡ drop g sends → n ≤ length bytes → went ++ drop g sends ≡ sends → g ≤ length sends
+taken_more : (went bytes sends : List ℕ) (g n : ℕ) → bytes ≡ drop g sends → n ≤ length bytes → went ++ drop g sends ≡ sends
+    → g ≤ length sends
     → ((went ++ take n bytes) ++ drop (g + n) sends ≡ sends) × (g + n ≤ length sends)
 taken_more went bytes sends g n same few is le = (
   append_assoc went (take n bytes) (drop (g + n) sends)
@@ -71,9 +72,11 @@ HoldsOn c told gone = is_channel_open c told ≡ true
 
 concat_join : (xs ys : List (List ℕ)) → concat (xs ++ ys) ≡ concat xs ++ concat ys
 concat_join xs ys = concat_is (xs ++ ys) ∙ flat_map-append (λ (x : List ℕ). x) xs ys
-    ∙ ap (λ (l : List ℕ). l ++ flat_map (λ (x : List ℕ). x) ys) (sym (concat_is xs)) ∙ ap (λ (l : List ℕ). concat xs ++ l) (sym (concat_is ys))
+    ∙ ap (λ (l : List ℕ). l ++ flat_map (λ (x : List ℕ). x) ys) (sym (concat_is xs)) ∙ ap (λ (l : List ℕ). concat xs ++ l) (sym
+    (concat_is ys))
 
-holds_adds : (c : ℕ) (before after : List ChannelAct) (gone : List ℕ) → OnlyAdds c before after → HoldsOn c before gone → HoldsOn c after gone
+holds_adds : (c : ℕ) (before after : List ChannelAct) (gone : List ℕ) → OnlyAdds c before after → HoldsOn c before gone
+    → HoldsOn c after gone
 holds_adds c before after gone adds h opened =
     let a = adds opened in
     let both = h a.0 in
@@ -234,7 +237,8 @@ keeping_event only requests config history before told event trace later was hea
       holds_adds c (tells event before ++ told) then_told (went (Intr c) later) adds both.1,
     )
 
-pub keeping_silent : (config : Config) (history : List PlainEvent) (piece trace : List Heard) → AreSilent piece → Keeping config history trace
+pub keeping_silent : (config : Config) (history : List PlainEvent) (piece trace : List Heard) → AreSilent piece
+    → Keeping config history trace
     → Keeping config history (piece ++ trace)
 keeping_silent config history [] trace silent keeping = keeping
 keeping_silent config history (heard ∷ piece) trace silent keeping = λ log told is hears c.

@@ -1,5 +1,5 @@
 -- Why connections are closed: a failure of the wire is followed by closing at once, and nothing else is closed but what is at fault.
-use Rattle.std.proofs.Common.{◌≡◌, ℕ, Bool, true, false, List, [], ◌∷◌, ◌++◌, filter, flat_map, Option, Some, None, refl, sym, ap, subst, ◌∙◌, inl, inr, append_assoc, append-nil}
+use Rattle.std.proofs.Common.{◌≡◌, ℕ, Bool, true, false, List, [], ◌∷◌, ◌++◌, filter, flat_map, Option, Some, None, sym, ap, subst, ◌∙◌, inl, inr, append_assoc, append-nil}
 use Rattle.std.specs.Prelude.{⊤, ◌⊎◌}
 use Rattle.std.proofs.lemmas.List.Elements.{filter-append}
 use Rattle.std.proofs.lemmas.List.Concat.{flat_map-append}
@@ -33,7 +33,8 @@ once_before : (next : Option Heard) (trace : List Heard) → ClosesAtOnce None t
 once_before next [] h = tt
 once_before next (heard ∷ trace) h = ((λ c e. absurd (let z = h.0 c e in cc)), h.1)
 
-pub once_join : (next : Option Heard) (one other : List Heard) → ClosesAtOnce next one → ClosesAtOnce None other → ClosesAtOnce next (one ++ other)
+pub once_join : (next : Option Heard) (one other : List Heard) → ClosesAtOnce next one → ClosesAtOnce None other
+    → ClosesAtOnce next (one ++ other)
 once_join next [] other h k = once_before next other k
 once_join next (heard ∷ one) other h k = (h.0, once_join (Some heard) one other h.1 k)
 
@@ -106,7 +107,8 @@ closing_silent config before after piece same silent calm = record {
       (silent_reasons config before piece trace silent h);
 }
 
-abbrev pub closing_more : (config : Config) (before after events : List PlainEvent) → after ≡ events ++ before → Closing config before after []
+abbrev pub closing_more : (config : Config) (before after events : List PlainEvent) → after ≡ events ++ before
+    → Closing config before after []
 closing_more config before after events grown = record {
   once = tt;
   reasons = λ trace so h. subst (λ (l : List PlainEvent). HasReasons config l trace) (sym grown)
@@ -121,7 +123,8 @@ closing_then config a b c events one other grown told x y = record {
       (y.reasons (one ++ trace) (ap (filter is_outer) grown ∙ told_more events a one trace told so) (x.reasons trace so h));
 }
 
-abbrev pub closing_event : (config : Config) (before after : List PlainEvent) (event : PlainEvent) (heard : Heard) (newer older : List Heard)
+abbrev pub closing_event : (config : Config) (before after : List PlainEvent) (event : PlainEvent) (heard : Heard)
+    (newer older : List Heard)
     → after ≡ event ∷ before → AreSilent newer → AreCalm newer → AreSilent older → ClosesAtOnce (Some heard) older → IsCalm heard
     → Reasons config (event ∷ before) before heard older → Closing config before after (newer ++ heard ∷ older)
 closing_event config before after event heard newer older grown newer_silent newer_calm older_silent older_once calm reason = record {
@@ -139,5 +142,6 @@ closing_event config before after event heard newer older grown newer_silent new
 pub closed_same : (c d : ℕ) → WasClosed (Conn c) ≡ WasClosed (Conn d) → c ≡ d
 closed_same c d e = cc
 
-pub written_else : {A : Type 0} (port : Port) (bytes : List ℕ) (answer : Answer ℕ) (c : ℕ) → WasWritten port bytes answer ≡ WasClosed (Conn c) → A
+pub written_else : {A : Type 0} (port : Port) (bytes : List ℕ) (answer : Answer ℕ) (c : ℕ)
+    → WasWritten port bytes answer ≡ WasClosed (Conn c) → A
 written_else {A} port bytes answer c e = absurd cc

@@ -18,7 +18,6 @@ use Rattle.sv_history.specs.Connection.{is_open, open_role, room, waiting, is_fa
 use Rattle.sv_history.specs.Interrupts.{has_channel}
 use Rattle.sv_history.specs.Requests.{HearsOf}
 use Rattle.sv_history.specs.History.{is_port_shut, IsLogOf, Answers, history_after}
-use Rattle.sv_history.specs.Laws.{Suits}
 use Rattle.sv_history.proofs.Brought.{IsClear}
 use Rattle.sv_history.specs.Print.{is_no_memory}
 use Rattle.sv_history.proofs.AlwaysTold.{some_told}
@@ -181,12 +180,14 @@ pub still_suited : {W : Type 0} (event : PlainEvent) (config : Config) (before a
 still_suited event config before after same (log, told, was, tells, suits) =
     (log, told, subst (λ (h : List PlainEvent). IsLogOf config h log) (sym same) was, tells, suits)
 
-pub still_wants : {W : Type 0} (c : ℕ) (found dial : Option Dial) (config : Config) (before after : Moment W) → after.history ≡ before.history
+pub still_wants : {W : Type 0} (c : ℕ) (found dial : Option Dial) (config : Config) (before after : Moment W)
+    → after.history ≡ before.history
     → found ≡ dial → Wants c config before found → Wants c config after dial
 still_wants c found dial config before after same is (log, was, wants) =
     (log, subst (λ (h : List PlainEvent). IsLogOf config h log) (sym same) was, sym is ∙ wants)
 
-pub still_open : {W : Type 0} (port : Port) (found answer : Bool) (config : Config) (before after : Moment W) → after.history ≡ before.history
+pub still_open : {W : Type 0} (port : Port) (found answer : Bool) (config : Config) (before after : Moment W)
+    → after.history ≡ before.history
     → found ≡ answer → IsOpen port config before found → IsOpen port config after answer
 still_open port found answer config before after same equal (log, was, is) =
     (log, subst (λ (h : List PlainEvent). IsLogOf config h log) (sym same) was, sym equal ∙ is)
@@ -207,8 +208,12 @@ pub may_find_none : {W : Type 0} (c : ℕ) (result : Result Did Refused) (config
     → Given (Turn c) result config before after → MayFindNone c result config after
 may_find_none c result config before after (log, was, answers, is) none =
     let same : after.history ≡ before.history =
-    ap (λ m. m.history) is ∙ ap (λ (r : Result Did Refused). history_after (Turn c) r before.history) none in
-    (log, subst (λ (h : List PlainEvent). IsLogOf config h log) (sym same) was, subst (λ (r : Result Did Refused). Answers config (Turn c) log r) none answers)
+    ap (λ m. m.history) is ∙ ap (λ (r : Result Did Refused). history_after (Turn c) r before.history) none in (
+      log,
+      subst (λ (h : List PlainEvent). IsLogOf config h log) (sym same) was,
+      subst (λ (r : Result Did Refused). Answers config
+          (Turn c) log r) none answers,
+    )
 
 no_memory : (refused : Refused) → is_no_memory refused ≡ true → refused ≡ NoMemory
 no_memory NoMemory e = refl

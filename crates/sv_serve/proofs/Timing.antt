@@ -27,7 +27,7 @@ use Rattle.sv_serve.specs.Moment.{Driving, Moment, moment, Each, ◌then◌}
 use Rattle.sv_serve.specs.Steps.{ReadsFrom, Turns, Dials, WritesTo, Ends}
 use Rattle.sv_serve.specs.Sweep.{PlaysOne, IsNoneDue, Plays, most_ticks, Counts, TicksOnce, Passes, Sweeps}
 use Rattle.sv_serve.specs.Timed.{is_timed, played, timed, handed}
-use Rattle.sv_serve.proofs.Carrying.{applied}
+use Rattle.sv_serve.proofs.Keeps.{applied}
 use Rattle.sv_serve.proofs.Idling.{Idles, idles_same, idles_then, idles_each, accepts_idles, reads_idles, turns_idles, dials_idles, writes_idles, ends_idles}
 
 -- ---- entries by their ticks
@@ -121,7 +121,8 @@ stimulus_timed : (stimulus : Stimulus) → (is_timed (stimulus_event stimulus) �
 stimulus_timed (stimuli.Input channel microvolts) = (refl, refl)
 stimulus_timed stimuli.External = (refl, refl)
 
-stimulus_suits : (stimulus : Stimulus) (told : List ChannelAct) (log : List Act) → IsAccepted stimulus → Suits (stimulus_event stimulus) told log
+stimulus_suits : (stimulus : Stimulus) (told : List ChannelAct) (log : List Act) → IsAccepted stimulus
+    → Suits (stimulus_event stimulus) told log
 stimulus_suits (stimuli.Input channel microvolts) told log h = h
 stimulus_suits stimuli.External told log h = tt
 
@@ -137,7 +138,8 @@ play_one config s n k a b (entry, others, m, first, due, (result, (log, was, ans
     let done = applied config event a m told.0 log was told.1 (stimulus_suits entry.stimulus told.0 log rising.1)
     (result, (log, was, answers, to)) in
     let history : b.history ≡ event ∷ a.history = ap (λ m. m.history) is ∙ ap (λ m. m.history) done in
-    let own : played n (p.past ++ entry ∷ []) ≡ event ∷ played n p.past = played_join n p.past (entry ∷ []) ∙ rw (eq-eqb entry.tick n now) refl in
+    let own : played n (p.past ++ entry ∷ []) ≡ event ∷ played n p.past = played_join n p.past (entry ∷ []) ∙ rw
+    (eq-eqb entry.tick n now) refl in
     record {
       past = p.past ++ entry ∷ [];
       split = p.split ∙ ap (λ l. p.past ++ l) first ∙ sym (append_assoc p.past (entry ∷ []) others)
@@ -179,7 +181,8 @@ pub record Played {W : Type 0} (config : Config) (s : List Entry) (k : ℕ) (a :
 no_longer : {A : Type 0} (event : PlainEvent) (history : List PlainEvent) → event ∷ history ≡ history → A
 no_longer event history e = absurd (let same = ap length e in omega (arith, same))
 
-tick_full : {W : Type 0} (config : Config) (s : List Entry) (k : ℕ) (a m b : Moment W) (result : Result Did Refused) → (r : Rests config s k a)
+tick_full : {W : Type 0} (config : Config) (s : List Entry) (k : ℕ) (a m b : Moment W) (result : Result Did Refused)
+    → (r : Rests config s k a)
     → config.clock + r.n ≡ last_clock → history_after Tick result a.history ≡ a.history
     → m ≡ record a { history = history_after Tick result a.history } → Counts result config m b → Played config s (k + 1) b
 tick_full config s k a m b (Ok did) r full same is counts = no_longer Tick a.history same
@@ -264,7 +267,8 @@ sweep_timed : {W : Type 0} (hears : W → Heard → W → Type 0) (config : Conf
     (a b : Moment W) → Sweeps hears ticks config a b → Played config s k a → Rests config s (k + ticks) b
 sweep_timed hears config s k ticks m0 m10
     (m1, s1, (m2, s2, (m3, s3, (m4, s4, (m5, s5, (m6, s6, (m7, s7, (m8, s8, (m9, s9, s10))))))))) p =
-    let front = idles_then m0 m1 m6 (accepts_idles hears Core config m0 m1 s1) (idles_then m1 m2 m6 (accepts_idles hears Abort config m1 m2 s2)
+    let front = idles_then m0 m1 m6 (accepts_idles hears Core config m0 m1 s1) (idles_then m1 m2 m6
+    (accepts_idles hears Abort config m1 m2 s2)
     (idles_then m2 m3 m6 (accepts_idles hears Portmap config m2 m3 s3)
     (idles_then m3 m4 m6 (idles_each config (ReadsFrom hears) 16 (λ c. reads_idles hears c config) m3 m4 s4)
     (idles_then m4 m5 m6 (idles_each config Turns 16 (λ c. turns_idles c config) m4 m5 s5)
@@ -300,7 +304,8 @@ begins config start clock zero_ticks rising = record {
 -- and behind one
 pub behind : {W : Type 0} (hears : W → Heard → W → Type 0) (config : Config) (s : List Entry) (passed : List ℕ) (ticks : ℕ)
     (a b : Moment W) → Sweeps hears ticks config a b → Played config s (handed passed) a
-    → Played config s (handed (ticks ∷ passed)) b × (filter is_timed b.history ≡ timed (min (handed (ticks ∷ passed)) (last_clock - config.clock)) s)
+    → Played config s (handed (ticks ∷ passed)) b × (filter is_timed b.history ≡ timed (min (handed (ticks ∷ passed))
+    (last_clock - config.clock)) s)
 behind hears config s passed ticks a b sweeps p =
     let r = sweep_timed hears config s (handed passed) ticks a b sweeps p in (
       record { n = r.n; play = r.play },

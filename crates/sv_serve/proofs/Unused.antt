@@ -33,7 +33,7 @@ never_open c log none = rw none (shut_by (nat_lt 15 c))
 
 pub reads_none : {W : Type 0} (hears : W → Heard → W → Type 0) (n : ℕ) (config : Config) (at : Moment W) → NoneUsed n config at
     → (c : ℕ) → n ≤ c → ReadsFrom hears c config at at
-reads_none hears n config at (log, is_log, none) c le = 
+reads_none hears n config at (log, is_log, none) c le =
     (0, (log, is_log, ap room (sym (none c le))), inl (refl, (false, (log, is_log, never_open c log (none c le)), refl)))
 
 pub turns_none : {W : Type 0} (n : ℕ) (config : Config) (at : Moment W) → NoneUsed n config at → (c : ℕ) → n ≤ c

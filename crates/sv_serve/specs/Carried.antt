@@ -1,6 +1,6 @@
 -- What a driver carries, over any number of sweeps: what its wire answered and what happened to its server are one, in order. Traces and
 -- histories are read from the newest.
-use Rattle.std.specs.Prelude.{◌≡◌, ◌⊎◌, ℕ, ◌-◌, ◌<◌, ◌≤◌, min, ◌==◌, not, Bool, true, false, List, [], ◌∷◌, ◌++◌, take, filter, flat_map, Option, Some, None, if◌then◌else◌, ⊤}
+use Rattle.std.specs.Prelude.{◌≡◌, ◌⊎◌, ℕ, ◌-◌, ◌≤◌, min, ◌==◌, Bool, true, false, List, [], ◌∷◌, ◌++◌, take, filter, flat_map, Option, Some, None, if◌then◌else◌, ⊤}
 use Rattle.sv_links.specs.Channels.{ChannelAct}
 use Rattle.sv_history.specs.declared.event.Config.{Config}
 use Rattle.sv_history.specs.declared.event.Port.{Port}
@@ -66,7 +66,8 @@ ends_port _ _ = false
 -- A connection that is ended so is closed next, before anything else is asked.
 abbrev pub ClosesAtOnce : Option Heard → List Heard → Type 0
 ClosesAtOnce next [] = ⊤
-ClosesAtOnce next (heard ∷ trace) = ((c : ℕ) → ends_port (Conn c) heard ≡ true → next ≡ Some (WasClosed (Conn c))) × ClosesAtOnce (Some heard) trace
+ClosesAtOnce next (heard ∷ trace) = ((c : ℕ) → ends_port (Conn c) heard ≡ true
+    → next ≡ Some (WasClosed (Conn c))) × ClosesAtOnce (Some heard) trace
 
 -- Each answer is such, with those in front of it.
 abbrev pub EachHeard : (Heard → List Heard → Type 0) → List Heard → Type 0
@@ -79,7 +80,8 @@ Follows is_such trace = (last : Heard) × (older : List Heard) × (trace ≡ las
 
 -- So it was at a place of the history, when the wire had answered these.
 abbrev pub Once : (List PlainEvent → Type 0) → List PlainEvent → List Heard → Type 0
-Once IsSo history trace = (later earlier : List PlainEvent) × (history ≡ later ++ earlier) × (filter is_outer earlier ≡ flat_map event_of trace)
+Once IsSo history trace = (later earlier : List PlainEvent) × (history ≡ later ++ earlier) ×
+    (filter is_outer earlier ≡ flat_map event_of trace)
     × IsSo earlier
 
 -- The wire's events are those that it answered, in order. Every byte that is read goes into its connection's stream, and every byte that

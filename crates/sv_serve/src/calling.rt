@@ -93,8 +93,8 @@ impl<W: Wire + Drop, A: Allocator> Driver<W, A> {
     /// Calls a peer that wasn't called, or asks whether it answered.
     fn call_for(&mut self, conn: u8, wanted: Option<Dial>, called: Option<Dial>)
         requires { conn < 16 }
-        ensures { From (λ (config : Config) (at : Moment W). Wants conn config at wanted) (CallsFor W.hears conn wanted called)
-            self.old self.new }
+        ensures { From (λ (config : Config) (at : Moment W). Wants conn config at wanted)
+            (CallsFor W.hears conn wanted called) self.old self.new }
     {
         match (wanted, called) {
             (None, _) => {}
@@ -126,8 +126,8 @@ impl<W: Wire + Drop, A: Allocator> Driver<W, A> {
     /// What came of calling a peer happens.
     fn ring(&mut self, conn: u8, dial: Dial, answer: Answer<()>)
         requires { conn < 16 }
-        ensures { From (λ (config : Config) (at : Moment W). Wants conn config at (Some dial)) (Rings conn dial answer)
-            self.old self.new }
+        ensures { From (λ (config : Config) (at : Moment W). Wants conn config at (Some dial))
+            (Rings conn dial answer) self.old self.new }
     {
         match answer {
             Answer::Got(()) => {

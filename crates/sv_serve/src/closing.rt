@@ -47,8 +47,8 @@ impl<W: Wire + Drop, A: Allocator> Driver<W, A> {
     /// Closes a connection, and its interrupt channel.
     pub(crate) fn close(&mut self, conn: u8)
         requires { conn < 16 }
-        ensures { From (λ (config : Config) (at : Moment W). IsOpen (Conn conn) config at true) (Closes W.hears conn)
-            self.old self.new }
+        ensures { From (λ (config : Config) (at : Moment W). IsOpen (Conn conn) config at true)
+            (Closes W.hears conn) self.old self.new }
     {
         self.shut(Port::Conn(conn));
         self.hang_up(conn);
@@ -80,8 +80,8 @@ impl<W: Wire + Drop, A: Allocator> Driver<W, A> {
     /// Closes a connection on which nothing waits, if this is so.
     fn end_if(&mut self, conn: u8, so: bool)
         requires { conn < 16 }
-        ensures { From (λ (config : Config) (at : Moment W). IsFaulted conn config at so) (EndsIf W.hears conn so)
-            self.old self.new }
+        ensures { From (λ (config : Config) (at : Moment W). IsFaulted conn config at so)
+            (EndsIf W.hears conn so) self.old self.new }
     {
         if so {
             let empty = self.server.waiting(Port::Conn(conn)).is_empty();
@@ -92,8 +92,8 @@ impl<W: Wire + Drop, A: Allocator> Driver<W, A> {
     /// Closes a connection, if this is so.
     fn close_if(&mut self, conn: u8, so: bool)
         requires { conn < 16 }
-        ensures { From (λ (config : Config) (at : Moment W). IsOpen (Conn conn) config at true) (ClosesIf W.hears conn so)
-            self.old self.new }
+        ensures { From (λ (config : Config) (at : Moment W). IsOpen (Conn conn) config at true)
+            (ClosesIf W.hears conn so) self.old self.new }
     {
         if so {
             self.close(conn);

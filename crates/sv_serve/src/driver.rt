@@ -124,7 +124,8 @@ impl<W: Wire + Drop, A: Allocator> Driver<W, A> {
 
     /// Gives an event to the server that suits what it answers when it is asked: it is done.
     pub(crate) fn happen(&mut self, event: Event<'_>)
-        ensures { From (IsSuited (plain event.entry)) (Happens (plain event.entry)) self.old self.new }
+        ensures { From (IsSuited (plain event.entry)) (Happens (plain event.entry))
+            self.old self.new }
     {
         let _ = self.server.apply(event);
     }

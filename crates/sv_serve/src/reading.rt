@@ -48,8 +48,8 @@ impl<W: Wire + Drop, A: Allocator> Driver<W, A> {
     /// Reads a connection that has room for so many bytes.
     fn read_up_to(&mut self, room: u32, conn: u8)
         requires { conn < 16 }
-        ensures { From (λ (config : Config) (at : Moment W). HasRoom conn config at room) (ReadsUpTo W.hears room conn)
-            self.old self.new }
+        ensures { From (λ (config : Config) (at : Moment W). HasRoom conn config at room)
+            (ReadsUpTo W.hears room conn) self.old self.new }
     {
         if room == 0 {
             self.probe(conn);

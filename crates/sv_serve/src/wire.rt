@@ -30,7 +30,8 @@ pub trait Wire {
     /// Reads bytes of a connection, at most as many as the buffer has.
     fn read(&mut self, conn: u8, buffer: &mut [u8]) -> Answer<usize>
         ensures within { IsWithin result (length buffer.old) }
-        ensures heard { hears self.old (WasRead conn (length buffer.old) (bytes_of result buffer.new)) self.new };
+        ensures heard { let answer = bytes_of result buffer.new in
+            hears self.old (WasRead conn (length buffer.old) answer) self.new };
 
     /// Whether a connection that has no room, and so isn't read, is gone: `Failed` where it was
     /// reset, or closed in both directions. With `drops` what comes on it is read and dropped, and

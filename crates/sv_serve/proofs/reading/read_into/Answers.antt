@@ -1,4 +1,4 @@
-use Rattle.std.proofs.Common.{◌≡◌, length, take, drop, ◌++◌, sym, subst, ◌∙◌, length-take-le}
+use Rattle.std.proofs.Common.{◌≡◌, length, take, drop, ◌++◌, sym, subst, length-take-le}
 use Rattle.sv_serve.specs.Heard.{WasRead, bytes_of, IsWithin}
 use Rattle.sv_serve.proofs.Pieces.{front_bytes}
 use Rattle.sv_serve.proofs.reading.read_into.Goals as goal

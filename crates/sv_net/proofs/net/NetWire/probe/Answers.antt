@@ -14,6 +14,7 @@ returns g c = elim c.match-get_mut.branch [
       )
   | in-None w ↦ (
       let past = (rw (w.in-None.is, c.socket_number.ensures) at c.get_mut.ensures.item).3 in
-      rw (← c.self.view_is, w.result-is, w.self-inside-is) (absent c.self.inside.sockets.items (socket_number (Conn c.args.conn)) _ _ past refl)
+      rw (← c.self.view_is, w.result-is, w.self-inside-is) (absent c.self.inside.sockets.items (socket_number
+      (Conn c.args.conn)) _ _ past refl)
       )
 ]

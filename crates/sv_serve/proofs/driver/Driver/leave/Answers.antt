@@ -1,4 +1,3 @@
-use Rattle.std.proofs.Common.{ap}
 use Rattle.sv_history.specs.declared.event.Port.TheVariants.{Conn, Intr}
 use Rattle.sv_history.specs.Event.{Close}
 use Rattle.sv_serve.specs.Moment.{moment}
@@ -29,7 +28,8 @@ returns-in-Failed-Intr g c = λ config history stands handed.
     let suits = channel_suits c.args.port c.in-Failed-Intr.conn c.args.answer config (moment c.args.self.now history) c.in-Failed-Intr.is-1
     c.requires.number handed in
     let same = hung_same g.W.Wire.hears c.in-Failed-Intr.conn config (moment c.args.self.now history) (moment c.hang_up.new.self h0) p0 in
-    let still = still_suited (Close (Intr c.in-Failed-Intr.conn)) config (moment c.args.self.now history) (moment c.hang_up.new.self h0) same suits in
+    let still = still_suited (Close (Intr c.in-Failed-Intr.conn)) config (moment c.args.self.now history)
+    (moment c.hang_up.new.self h0) same suits in
     let (h1, s1, p1) = c.happen-in-Failed-Intr.ensures config h0 s0 still in (
       h1,
       s1,

@@ -13,7 +13,8 @@ pub returns-in-Failed : goal.returns-in-Failed
 returns-in-Failed g c = λ config history stands (dial, wants).
     let (h0, s0, p0) = c.hang_up.ensures config history stands in
     let same = hung_same g.W.Wire.hears c.args.conn config (moment c.args.self.now history) (moment c.hang_up.new.self h0) p0 in
-    let still = still_wants c.args.conn (Some dial) (Some dial) config (moment c.args.self.now history) (moment c.hang_up.new.self h0) same refl wants in
+    let still = still_wants c.args.conn (Some dial) (Some dial) config (moment c.args.self.now history)
+    (moment c.hang_up.new.self h0) same refl wants in
     let suits = dialed_suits c.args.conn dial false config (moment c.hang_up.new.self h0) c.requires still in
     let (h1, s1, p1) = c.happen-in-Failed.ensures config h0 s0 suits in
     (h1, s1, rw c.in-Failed.is (moment c.hang_up.new.self h0, p0, p1))

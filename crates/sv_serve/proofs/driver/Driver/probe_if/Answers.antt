@@ -11,6 +11,9 @@ returns-then-opened g c = λ config history stands is_open.
     let (h0, s0, p0) = c.ask-answer.ensures config history stands in
     let still = still_open (Conn c.args.conn) c.args.opened true config (moment c.args.self.now history) (moment c.ask-answer.new.self h0)
     (ap (λ m. m.history) p0.2) c.if-opened.true is_open in
-    let (h1, s1, p1) = c.drop_gone.ensures config h0 s0 still in
-    (h1, s1, probes_so g.W.Wire.hears c.args.conn c.args.opened config (moment c.args.self.now history) (moment c.drop_gone.new.self h1)
-    c.if-opened.true (c.overlong-drops.result, c.ask-answer.result, drops, (moment c.ask-answer.new.self h0, p0, p1)))
+    let (h1, s1, p1) = c.drop_gone.ensures config h0 s0 still in (
+      h1,
+      s1,
+      probes_so g.W.Wire.hears c.args.conn c.args.opened config (moment c.args.self.now history) (moment c.drop_gone.new.self h1)
+          c.if-opened.true (c.overlong-drops.result, c.ask-answer.result, drops, (moment c.ask-answer.new.self h0, p0, p1)),
+    )

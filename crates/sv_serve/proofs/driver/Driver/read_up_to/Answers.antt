@@ -1,11 +1,9 @@
-use Rattle.std.proofs.Common.{◌≡◌, ◌<◌, ◌≤◌, ◌∷◌, refl, rules, drop, take, length, min, inl, inr, sym, ap, subst, ◌∙◌, length-take, arith}
-use Rattle.sv_history.specs.declared.event.Port.TheVariants.{Conn}
+use Rattle.std.proofs.Common.{◌≡◌, ◌<◌, ◌≤◌, ◌∷◌, refl, rules, drop, take, length, min, inl, inr, sym, ap, subst, ◌∙◌}
 use Rattle.sv_history.specs.Event.{Bytes}
 use Rattle.sv_history.specs.History.{Answers, history_after}
 use Rattle.sv_server.specs.Server.State.{StandsFor}
 use Rattle.sv_serve.specs.Heard.{WasRead, bytes_of, IsWithin}
 use Rattle.sv_serve.specs.Moment.{moment}
-use Rattle.sv_serve.specs.Asked.{IsOpen}
 use Rattle.sv_serve.proofs.Suited.{suited, bytes_suit, room_open}
 use Rattle.sv_serve.proofs.Pieces.{within_piece, again, asked_for}
 use Rattle.sv_serve.proofs.driver.Driver.read_up_to.Goals as goal
@@ -50,7 +48,8 @@ returns-in-Got g c = rw (← c.self.view_is) (λ config history stands has.
     (c.len.ensures ∙ sym c.deref_mut.ensures.len ∙ ap length c.deref_mut.ensures.value ∙ c.self.invariant.3) in
     let bytes = take c.in-Got.count c.read_into.new.buffer in
     let same : take c.in-Got.count c.deref.result.now ≡ bytes = ap (take c.in-Got.count) (c.deref.ensures.value
-    ∙ again c.self.inside.buffer.len c.self.inside.buffer.items c.deref_mut.result.now c.read_into.new.buffer c.deref_mut.ensures.len c.read_into.auto.buffer) in
+    ∙ again c.self.inside.buffer.len c.self.inside.buffer.items c.deref_mut.result.now c.read_into.new.buffer c.deref_mut.ensures.len
+    c.read_into.auto.buffer) in
     let piece = within_piece c.read_into.result c.read_into.new.buffer (min c.args.room 16384)
     (subst (λ n. IsWithin c.read_into.result n) asked c.read_into.ensures.within) in
     let (log, is_log, says) = c.apply.ensures.answers config history stands in
@@ -76,7 +75,8 @@ returns-in-Got g c = rw (← c.self.view_is) (λ config history stands has.
           },
           (
             c.read_into.new.wire,
-            subst (λ n. g.W.Wire.hears c.self.inside.wire (WasRead c.args.conn n (bytes_of c.read_into.result c.read_into.new.buffer)) c.read_into.new.wire)
+            subst (λ n. g.W.Wire.hears c.self.inside.wire (WasRead c.args.conn n
+                (bytes_of c.read_into.result c.read_into.new.buffer)) c.read_into.new.wire)
                 asked c.read_into.ensures.heard,
             refl,
           ),

@@ -6,7 +6,8 @@ use Rattle.sv_serve.proofs.driver.Driver.ring.Goals as goal
 pub returns-in-Got : goal.returns-in-Got
 returns-in-Got g c = λ config history stands wants.
     let (h0, s0, p0) = c.note.ensures config history stands in
-    let still = still_wants c.args.conn (Some c.args.dial) (Some c.args.dial) config (moment c.args.self.now history) (moment c.note.new.self h0)
+    let still = still_wants c.args.conn (Some c.args.dial) (Some c.args.dial) config (moment c.args.self.now history)
+    (moment c.note.new.self h0)
     (ap (λ m. m.history) p0) refl wants in
     let suits = dialed_suits c.args.conn c.args.dial true config (moment c.note.new.self h0) c.requires still in
     let (h1, s1, p1) = c.happen.ensures config h0 s0 suits in

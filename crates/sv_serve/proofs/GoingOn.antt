@@ -1,0 +1,272 @@
+-- What a connection's bytes and calls are while its history goes on.
+use Rattle.std.proofs.Common.{◌≡◌, ℕ, ◌≤◌, eqb, Bool, true, false, cond, List, [], ◌∷◌, ◌++◌, length, filter, flat_map, nat_lt, Some, None, refl, sym, ap, subst, ◌∙◌, inl, inr, append_assoc, append-nil, arith}
+use Rattle.std.specs.Prelude.{◌≢◌, ⊤}
+use Rattle.std.proofs.lemmas.Bool.{cases_Bool, ltb-false, ne_eqb, eqb-true}
+use Rattle.std.proofs.lemmas.List.{drop-append-le, length-drop, length-append}
+use Rattle.std.proofs.lemmas.List.Elements.{filter-append}
+use Rattle.std.proofs.lemmas.List.Concat.{flat_map-append}
+use Rattle.sv_links.specs.Channels.{ChannelAct}
+use Rattle.std.specs.List.{AllByRecursion}
+use Rattle.sv_history.specs.declared.event.Config.{Config}
+use Rattle.sv_history.specs.declared.event.Refused.TheVariants.{NoConn, NotSent}
+use Rattle.sv_history.specs.declared.event.Port.TheVariants.{Conn, Intr}
+use Rattle.sv_history.specs.Event.{PlainEvent, Open, Bytes, Turn, Refuse, Took, Close, Dialed, Input, External, Tick}
+use Rattle.sv_history.specs.Act.{Act, ConnAct, Opened, Piece, CallTaken, Faulted, Replied, BytesTaken, PortClosed, of}
+use Rattle.sv_history.specs.Connection.{is_open, sent, given, untaken, waiting, free}
+use Rattle.sv_history.specs.History.{refusal, is_shut, IsLogOf}
+use Rattle.sv_history.proofs.Brought.{brings, AreCalls}
+use Rattle.sv_history.proofs.OneLog.{one_log}
+use Rattle.sv_history.proofs.OnlyCalls.{only_calls}
+use Rattle.sv_serve.specs.declared.wire.Answer.TheVariants.{Got, Pending, Failed}
+use Rattle.sv_serve.specs.Heard.{Heard, WasAccepted, WasRead, WasProbed, WasWritten, WasDialed, PeerAnswered, WasClosed}
+use Rattle.sv_serve.specs.Served.{event_of, is_outer}
+use Rattle.sv_serve.proofs.Keeps.{Subject, OfRead, OfConn, OfNone, about, AllMay}
+
+abbrev pub is_bytes : PlainEvent → Bool
+is_bytes (Bytes c piece) = true
+is_bytes _ = false
+
+abbrev pub IsNoRead : PlainEvent → Type 0
+IsNoRead event = (c : ℕ) (bytes : List ℕ) → event ≡ Bytes c bytes → ⊥
+
+pub none_read : (events : List PlainEvent) → filter is_bytes events ≡ [] → AllByRecursion IsNoRead events
+none_read [] none = tt
+none_read (Bytes d piece ∷ events) none = absurd cc
+none_read (Open d role ∷ events) none = ((λ c bytes e. absurd cc), none_read events none)
+none_read (Took port n ∷ events) none = ((λ c bytes e. absurd cc), none_read events none)
+none_read (Close port ∷ events) none = ((λ c bytes e. absurd cc), none_read events none)
+none_read (Dialed d ok ∷ events) none = ((λ c bytes e. absurd cc), none_read events none)
+none_read (Turn d ∷ events) none = ((λ c bytes e. absurd cc), none_read events none)
+none_read (Refuse d ∷ events) none = ((λ c bytes e. absurd cc), none_read events none)
+none_read (Input channel microvolts ∷ events) none = ((λ c bytes e. absurd cc), none_read events none)
+none_read (External ∷ events) none = ((λ c bytes e. absurd cc), none_read events none)
+none_read (Tick ∷ events) none = ((λ c bytes e. absurd cc), none_read events none)
+
+-- ---- logs of a history and of one that goes on
+
+abbrev pub brought : ℕ → List PlainEvent → List ConnAct
+brought c events = flat_map (brings c) events
+
+-- the log in front of some events
+pub front_log : (config : Config) (events history : List PlainEvent) (log : List Act) → IsLogOf config (events ++ history) log
+    → (front : List Act) × IsLogOf config history front
+front_log config [] history log is = (log, is)
+front_log config (event ∷ events) history log is = front_log config events history is.0 is.4
+
+pub none_left : (xs ys : List ConnAct) → xs ++ ys ≡ [] → (xs ≡ []) × (ys ≡ [])
+none_left [] ys e = (refl, e)
+none_left (x ∷ xs) ys e = absurd cc
+
+pub calls_both : (one other : List ConnAct) → AreCalls one → AreCalls other → AreCalls (one ++ other)
+calls_both [] other h k = k
+calls_both (CallTaken call ∷ one) other h k = calls_both one other h k
+calls_both (Faulted ∷ one) other h k = calls_both one other h k
+calls_both (Replied bytes ∷ one) other h k = calls_both one other h k
+calls_both (Opened role ∷ one) other h k = absurd h
+calls_both (Piece bytes ∷ one) other h k = absurd h
+calls_both (BytesTaken count ∷ one) other h k = absurd h
+calls_both (PortClosed ∷ one) other h k = absurd h
+
+-- behind events that bring nothing to a connection it has calls alone
+pub calls_over : (config : Config) (events history : List PlainEvent) (front log : List Act) (c : ℕ) → brought c events ≡ []
+    → IsLogOf config history front → IsLogOf config (events ++ history) log
+    → (calls : List ConnAct) × AreCalls calls × (of c log ≡ calls ++ of c front)
+calls_over config [] history front log c none was is = ([], tt, ap (of c) (one_log config history log front is was))
+calls_over config (event ∷ events) history front log c none was is =
+    let parts = none_left (brings c event) (brought c events) none in
+    let rest = calls_over config events history front is.0 c parts.1 was is.4 in
+    let one = only_calls config event (events ++ history) is.0 log c is.4 is in (
+      one.0 ++ rest.0,
+      calls_both one.0 rest.0 one.1 rest.1,
+      one.2 ∙ ap (λ (l : List ConnAct). one.0 ++ (l ++ of c is.0)) parts.0 ∙ ap (λ (l : List ConnAct). one.0 ++ l) rest.2
+          ∙ sym (append_assoc one.0 rest.0 (of c front)),
+    )
+
+-- ---- no more is taken than was sent
+
+abbrev pub IsWithin : List ConnAct → Type 0
+IsWithin acts = is_open acts ≡ true → given acts ≤ length (sent acts)
+
+pub within_calls : (adds acts : List ConnAct) → AreCalls adds → IsWithin acts → IsWithin (adds ++ acts)
+within_calls [] acts h k = k
+within_calls (CallTaken call ∷ adds) acts h k = within_calls adds acts h k
+within_calls (Faulted ∷ adds) acts h k = within_calls adds acts h k
+within_calls (Replied bytes ∷ adds) acts h k = λ opened.
+    let le = within_calls adds acts h k opened in
+    let sum = length-append (sent (adds ++ acts)) bytes in omega (arith, le, sum)
+within_calls (Opened role ∷ adds) acts h k = absurd h
+within_calls (Piece bytes ∷ adds) acts h k = absurd h
+within_calls (BytesTaken count ∷ adds) acts h k = absurd h
+within_calls (PortClosed ∷ adds) acts h k = absurd h
+
+pub took_few : (shut few : Bool) → cond shut (Some NoConn) (cond few (Some NotSent) None) ≡ None → few ≡ false
+took_few true few e = absurd cc
+took_few false true e = absurd cc
+took_few false false e = refl
+
+pub within_event : (config : Config) (told : List ChannelAct) (event : PlainEvent) (log : List Act) (c : ℕ)
+    → refusal config told event log ≡ None
+    → IsWithin (of c log) → IsWithin (brings c event ++ of c log)
+within_event config told (Open d role) log c free h = elim (cases_Bool (eqb d c)) [
+  | inl e ↦ rw e (λ opened. omega arith)
+  | inr e ↦ rw e h
+]
+within_event config told (Bytes d piece) log c free h = elim (cases_Bool (eqb d c)) [ inl e ↦ rw e h | inr e ↦ rw e h ]
+within_event config told (Took (Conn d) n) log c free h = elim (cases_Bool (eqb d c)) [
+  | inl e ↦ rw e (λ opened.
+      let few : n ≤ length (waiting (of d log)) =
+      ltb-false (length (waiting (of d log))) n (took_few (is_shut d log) (nat_lt (length (waiting (of d log))) n) free) in
+      let same : of d log ≡ of c log = ap (λ (m : ℕ). of m log) (eqb-true d c e) in
+      let all : waiting (of d log) ≡ untaken (of c log) = ap waiting same ∙ rw opened refl in
+      let left = length-drop (given (of c log)) (sent (of c log)) in
+      let long : length (waiting (of d log)) ≡ length (untaken (of c log)) = ap length all in
+      let le = h opened in omega (arith, few, left, long, le))
+  | inr e ↦ rw e h
+]
+within_event config told (Close (Conn d)) log c free h = elim (cases_Bool (eqb d c)) [
+  | inl e ↦ rw e (λ opened. absurd cc)
+  | inr e ↦ rw e h
+]
+within_event config told (Took (Intr d) n) log c free h = h
+within_event config told (Close (Intr d)) log c free h = h
+within_event config told (Turn d) log c free h = h
+within_event config told (Refuse d) log c free h = h
+within_event config told (Dialed d ok) log c free h = h
+within_event config told (Input channel microvolts) log c free h = h
+within_event config told External log c free h = h
+within_event config told Tick log c free h = h
+
+pub within_log : (config : Config) (history : List PlainEvent) (log : List Act) (c : ℕ) → IsLogOf config history log → IsWithin (of c log)
+within_log config [] log c (given, none) = subst (λ (l : List Act). IsWithin (of c l)) (sym none) (λ opened. absurd cc)
+within_log config (event ∷ history) log c is =
+    let grown = only_calls config event history is.0 log c is.4 is in
+    subst IsWithin (sym grown.2) (within_calls grown.0 (brings c event ++ of c is.0) grown.1
+    (within_event config is.2 event is.0 c is.6 (within_log config history is.0 c is.4)))
+
+-- so what waits stays in front of what comes to wait
+pub calls_open : (adds acts : List ConnAct) → AreCalls adds → is_open (adds ++ acts) ≡ is_open acts
+calls_open [] acts h = refl
+calls_open (CallTaken call ∷ adds) acts h = calls_open adds acts h
+calls_open (Faulted ∷ adds) acts h = calls_open adds acts h
+calls_open (Replied bytes ∷ adds) acts h = calls_open adds acts h
+calls_open (Opened role ∷ adds) acts h = absurd h
+calls_open (Piece bytes ∷ adds) acts h = absurd h
+calls_open (BytesTaken count ∷ adds) acts h = absurd h
+calls_open (PortClosed ∷ adds) acts h = absurd h
+
+pub sent_calls : (adds acts : List ConnAct) → AreCalls adds
+    → (given (adds ++ acts) ≡ given acts) × (more : List ℕ) × (sent (adds ++ acts) ≡ sent acts ++ more)
+sent_calls [] acts h = (refl, [], sym (append-nil (sent acts)))
+sent_calls (CallTaken call ∷ adds) acts h = sent_calls adds acts h
+sent_calls (Faulted ∷ adds) acts h = sent_calls adds acts h
+sent_calls (Replied bytes ∷ adds) acts h =
+    let rest = sent_calls adds acts h in
+    (rest.0, rest.1 ++ bytes, ap (λ (l : List ℕ). l ++ bytes) rest.2 ∙ append_assoc (sent acts) rest.1 bytes)
+sent_calls (Opened role ∷ adds) acts h = absurd h
+sent_calls (Piece bytes ∷ adds) acts h = absurd h
+sent_calls (BytesTaken count ∷ adds) acts h = absurd h
+sent_calls (PortClosed ∷ adds) acts h = absurd h
+
+pub waits_calls : (adds acts : List ConnAct) → AreCalls adds → IsWithin acts → (more : List ℕ) × (waiting (adds ++ acts) ≡ waiting acts ++ more)
+waits_calls adds acts h within = elim (cases_Bool (is_open acts)) [
+  | inl e ↦
+      let grown = sent_calls adds acts h in
+      (grown.1, rw (calls_open adds acts h, e, grown.0, grown.2) (drop-append-le (given acts) (sent acts) grown.1 (within e)))
+  | inr e ↦ ([], rw (calls_open adds acts h, e) refl)
+]
+
+-- ---- what steps don't touch
+
+abbrev pub Elsewhere : ℕ → Subject → Type 0
+Elsewhere c (OfRead d) = ⊥
+Elsewhere c (OfConn d) = d ≢ c
+Elsewhere c OfNone = ⊤
+
+abbrev pub Unread : Subject → Type 0
+Unread (OfRead d) = ⊥
+Unread (OfConn d) = ⊤
+Unread OfNone = ⊤
+
+pub brought_outer : (c : ℕ) (events : List PlainEvent) → brought c events ≡ brought c (filter is_outer events)
+brought_outer c [] = refl
+brought_outer c (Open d role ∷ events) = ap (λ (l : List ConnAct). brings c (Open d role) ++ l) (brought_outer c events)
+brought_outer c (Bytes d piece ∷ events) = ap (λ (l : List ConnAct). brings c (Bytes d piece) ++ l) (brought_outer c events)
+brought_outer c (Took port n ∷ events) = ap (λ (l : List ConnAct). brings c (Took port n) ++ l) (brought_outer c events)
+brought_outer c (Close port ∷ events) = ap (λ (l : List ConnAct). brings c (Close port) ++ l) (brought_outer c events)
+brought_outer c (Dialed d ok ∷ events) = brought_outer c events
+brought_outer c (Turn d ∷ events) = brought_outer c events
+brought_outer c (Refuse d ∷ events) = brought_outer c events
+brought_outer c (Input channel microvolts ∷ events) = brought_outer c events
+brought_outer c (External ∷ events) = brought_outer c events
+brought_outer c (Tick ∷ events) = brought_outer c events
+
+pub brought_heard : (c : ℕ) (heard : Heard) → Elsewhere c (about heard) → brought c (event_of heard) ≡ []
+brought_heard c (WasAccepted role (Some d) (Got all)) ne = rw (ne_eqb d c ne) refl
+brought_heard c (WasAccepted role (Some d) Pending) ne = refl
+brought_heard c (WasAccepted role (Some d) Failed) ne = refl
+brought_heard c (WasAccepted role None answer) ne = refl
+brought_heard c (WasRead d most answer) ne = absurd ne
+brought_heard c (WasProbed d drops answer) ne = refl
+brought_heard c (WasWritten (Conn d) bytes (Got n)) ne = rw (ne_eqb d c ne) refl
+brought_heard c (WasWritten (Conn d) bytes Pending) ne = refl
+brought_heard c (WasWritten (Conn d) bytes Failed) ne = refl
+brought_heard c (WasWritten (Intr d) bytes (Got n)) ne = refl
+brought_heard c (WasWritten (Intr d) bytes Pending) ne = refl
+brought_heard c (WasWritten (Intr d) bytes Failed) ne = refl
+brought_heard c (WasDialed d dial (Got all)) ne = refl
+brought_heard c (WasDialed d dial Pending) ne = refl
+brought_heard c (WasDialed d dial Failed) ne = refl
+brought_heard c (PeerAnswered d (Got all)) ne = refl
+brought_heard c (PeerAnswered d Pending) ne = refl
+brought_heard c (PeerAnswered d Failed) ne = refl
+brought_heard c (WasClosed (Conn d)) ne = rw (ne_eqb d c ne) refl
+brought_heard c (WasClosed (Intr d)) ne = refl
+
+pub brought_piece : (c : ℕ) (piece : List Heard) → AllMay (Elsewhere c) piece → brought c (flat_map event_of piece) ≡ []
+brought_piece c [] all = refl
+brought_piece c (heard ∷ piece) all = flat_map-append (brings c) (event_of heard) (flat_map event_of piece)
+    ∙ ap (λ (l : List ConnAct). l ++ brought c (flat_map event_of piece)) (brought_heard c heard all.0) ∙ brought_piece c piece all.1
+
+pub bytes_outer : (events : List PlainEvent) → filter is_bytes events ≡ filter is_bytes (filter is_outer events)
+bytes_outer [] = refl
+bytes_outer (Open d role ∷ events) = bytes_outer events
+bytes_outer (Bytes d piece ∷ events) = ap (λ (l : List PlainEvent). Bytes d piece ∷ l) (bytes_outer events)
+bytes_outer (Took port n ∷ events) = bytes_outer events
+bytes_outer (Close port ∷ events) = bytes_outer events
+bytes_outer (Dialed d ok ∷ events) = bytes_outer events
+bytes_outer (Turn d ∷ events) = bytes_outer events
+bytes_outer (Refuse d ∷ events) = bytes_outer events
+bytes_outer (Input channel microvolts ∷ events) = bytes_outer events
+bytes_outer (External ∷ events) = bytes_outer events
+bytes_outer (Tick ∷ events) = bytes_outer events
+
+pub bytes_heard : (heard : Heard) → Unread (about heard) → filter is_bytes (event_of heard) ≡ []
+bytes_heard (WasAccepted role (Some d) (Got all)) un = refl
+bytes_heard (WasAccepted role (Some d) Pending) un = refl
+bytes_heard (WasAccepted role (Some d) Failed) un = refl
+bytes_heard (WasAccepted role None answer) un = refl
+bytes_heard (WasRead d most answer) un = absurd un
+bytes_heard (WasProbed d drops answer) un = refl
+bytes_heard (WasWritten (Conn d) bytes (Got n)) un = refl
+bytes_heard (WasWritten (Conn d) bytes Pending) un = refl
+bytes_heard (WasWritten (Conn d) bytes Failed) un = refl
+bytes_heard (WasWritten (Intr d) bytes (Got n)) un = refl
+bytes_heard (WasWritten (Intr d) bytes Pending) un = refl
+bytes_heard (WasWritten (Intr d) bytes Failed) un = refl
+bytes_heard (WasDialed d dial (Got all)) un = refl
+bytes_heard (WasDialed d dial Pending) un = refl
+bytes_heard (WasDialed d dial Failed) un = refl
+bytes_heard (PeerAnswered d (Got all)) un = refl
+bytes_heard (PeerAnswered d Pending) un = refl
+bytes_heard (PeerAnswered d Failed) un = refl
+bytes_heard (WasClosed (Conn d)) un = refl
+bytes_heard (WasClosed (Intr d)) un = refl
+
+pub bytes_piece : (piece : List Heard) → AllMay Unread piece → filter is_bytes (flat_map event_of piece) ≡ []
+bytes_piece [] all = refl
+bytes_piece (heard ∷ piece) all = filter-append is_bytes (event_of heard) (flat_map event_of piece)
+    ∙ ap (λ (l : List PlainEvent). l ++ filter is_bytes (flat_map event_of piece)) (bytes_heard heard all.0) ∙ bytes_piece piece all.1
+
+pub may_all : (May Can : Subject → Type 0) (piece : List Heard) → ((s : Subject) → May s → Can s) → AllMay May piece → AllMay Can piece
+may_all May Can [] so all = tt
+may_all May Can (heard ∷ piece) so all = (so (about heard) all.0, may_all May Can piece so all.1)

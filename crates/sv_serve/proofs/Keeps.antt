@@ -1,0 +1,364 @@
+-- What a step keeps, of which the wire was asked once at most.
+use Rattle.std.proofs.Common.{◌≡◌, ℕ, zero, suc, ◌<◌, true, false, List, [], ◌∷◌, ◌++◌, filter, flat_map, Option, Some, None, Result, Ok, Err, refl, sym, ap, subst, ◌∙◌, append_assoc, arith}
+use Rattle.std.specs.Prelude.{⊤}
+use Rattle.std.proofs.lemmas.List.Concat.{flat_map-append}
+use Rattle.sv_links.specs.Channels.{ChannelAct}
+use Rattle.sv_history.specs.declared.event.Config.{Config}
+use Rattle.sv_history.specs.declared.event.Dial.{Dial}
+use Rattle.sv_history.specs.declared.event.Did.{Did}
+use Rattle.sv_history.specs.declared.event.Refused.{Refused}
+use Rattle.sv_history.specs.declared.event.Port.TheVariants.{Conn, Intr}
+use Rattle.sv_history.specs.Event.{PlainEvent}
+use Rattle.sv_history.specs.Act.{Act, of, device_acts}
+use Rattle.sv_history.specs.Requests.{HearsOf}
+use Rattle.sv_history.specs.History.{IsLogOf, history_after}
+use Rattle.sv_history.proofs.OnlyCalls.{only_calls}
+use Rattle.sv_history.proofs.OnlyRequests.{only_requests}
+use Rattle.sv_history.proofs.AlwaysTold.{some_told}
+use Rattle.sv_history.specs.Laws.{Suits}
+use Rattle.sv_history.proofs.Brought.{brings, tells}
+use Rattle.sv_serve.specs.Heard.{Heard, WasAccepted, WasRead, WasProbed, WasWritten, WasClosed}
+use Rattle.sv_serve.specs.Moment.{Moment, Each}
+use Rattle.sv_serve.specs.Steps.{Given, Happens, called_of, HangsUpOn, HangsUp}
+use Rattle.sv_serve.specs.Sweep.{Applies}
+use Rattle.sv_serve.specs.Served.{Through, event_of, is_outer}
+use Rattle.sv_serve.specs.Carried.{ClosesAtOnce}
+use Rattle.sv_serve.specs.Carried.{ends_port}
+use Rattle.sv_serve.proofs.LettingGo.{LetsGoRightly, IsEnd, IsNoHang, NoneHung, Adds, adds_nothing, adds_one, lets_more, lets_event, none_hung}
+use Rattle.sv_serve.proofs.Handing.{HandsOver, Fits, AllFit, IsNoWrite, NoneWritten, all_fit_none, hands_more, hands_silent, hands_event}
+use Rattle.sv_serve.proofs.Suited.{suited}
+use Rattle.sv_serve.proofs.Reasons.{IsCalm, AreCalm, Reasons, Closing, told_more, closing_silent, closing_more, closing_then, closing_event}
+use Rattle.sv_serve.proofs.Ports.{Both, IsSilent, AreSilent, Keeping, keeping_event, keeping_silent}
+
+-- ---- what steps carry
+
+-- the connection that was read; that was written, accepted or closed; or none
+pub data Subject : Type 0 where
+  OfRead : (conn : ℕ) → Subject
+  OfConn : (conn : ℕ) → Subject
+  OfNone : Subject
+
+abbrev pub about : Heard → Subject
+about (WasAccepted role (Some c) answer) = OfConn c
+about (WasRead c most answer) = OfRead c
+about (WasProbed c drops answer) = OfConn c
+about (WasWritten (Conn c) bytes answer) = OfConn c
+about (WasClosed (Conn c)) = OfConn c
+about _ = OfNone
+
+abbrev pub AllMay : (Subject → Type 0) → List Heard → Type 0
+AllMay May [] = ⊤
+AllMay May (heard ∷ piece) = May (about heard) × AllMay May piece
+
+pub may_join : (May : Subject → Type 0) (one other : List Heard) → AllMay May one → AllMay May other → AllMay May (one ++ other)
+may_join May [] other h k = k
+may_join May (heard ∷ one) other h k = (h.0, may_join May one other h.1 k)
+
+-- From one moment to another one: what was heard, what happened, and what it keeps.
+pub record Keeps {W : Type 0} (hears : W → Heard → W → Type 0) (May : Subject
+    → Type 0) (config : Config) (before after : Moment W) : Type 0 where
+  pub piece : List Heard
+  pub events : List PlainEvent
+  pub through : Through hears piece before.wire after.wire
+  pub grown : after.history ≡ events ++ before.history
+  pub told : filter is_outer events ≡ flat_map event_of piece
+  pub may : AllMay May piece
+  pub keeps : (trace : List Heard) → Keeping config before.history trace → Keeping config after.history (piece ++ trace)
+  pub closing : Closing config before.history after.history piece
+  pub lets : (trace : List Heard) → filter is_outer before.history ≡ flat_map event_of trace → LetsGoRightly config before.history trace
+      → LetsGoRightly config after.history (piece ++ trace)
+  pub hands : (trace : List Heard) → filter is_outer before.history ≡ flat_map event_of trace → HandsOver config before.history trace
+      → HandsOver config after.history (piece ++ trace)
+
+pub through_join : {W : Type 0} (hears : W → Heard → W → Type 0) (one other : List Heard) (a b c : W) → Through hears one a b
+    → Through hears other b c → Through hears (other ++ one) a c
+through_join hears one [] a b c x y = subst (λ w. Through hears one a w) (sym y) x
+through_join hears one (heard ∷ other) a b c x (between, y, z) = (between, through_join hears one other a b between x y, z)
+
+abbrev pub keeps_none : {W : Type 0} (hears : W → Heard → W → Type 0) (May : Subject
+    → Type 0) (config : Config) (before after : Moment W) → after ≡ before
+    → Keeps hears May config before after
+keeps_none hears May config before after is = record {
+  piece = [];
+  events = [];
+  through = ap (λ m. m.wire) is;
+  grown = ap (λ m. m.history) is;
+  told = refl;
+  may = tt;
+  keeps = λ trace keeping. subst (λ h. Keeping config h trace) (sym (ap (λ m. m.history) is)) keeping;
+  closing = closing_silent config before.history after.history [] (ap (λ m. m.history) is) tt tt;
+  hands = λ trace so h. subst (λ l. HandsOver config l trace) (sym (ap (λ m. m.history) is)) h;
+  lets = λ trace so h. subst (λ l. LetsGoRightly config l trace) (sym (ap (λ m. m.history) is)) h;
+}
+
+abbrev pub keeps_then : {W : Type 0} (hears : W → Heard → W → Type 0) (May : Subject → Type 0) (config : Config) (a b c : Moment W)
+    → Keeps hears May config a b
+    → Keeps hears May config b c → Keeps hears May config a c
+keeps_then hears May config a b c x y = record {
+  piece = y.piece ++ x.piece;
+  events = y.events ++ x.events;
+  through = through_join hears x.piece y.piece a.wire b.wire c.wire x.through y.through;
+  grown = y.grown ∙ ap (λ h. y.events ++ h) x.grown ∙ sym (append_assoc y.events x.events a.history);
+  told = told_more y.events x.events y.piece x.piece y.told x.told;
+  may = may_join May y.piece x.piece y.may x.may;
+  keeps = λ trace keeping. subst (λ t. Keeping config c.history t) (sym (append_assoc y.piece x.piece trace))
+      (y.keeps (x.piece ++ trace) (x.keeps trace keeping));
+  closing = closing_then config a.history b.history c.history x.events x.piece y.piece x.grown x.told x.closing y.closing;
+  hands = λ trace so h. subst (λ t. HandsOver config c.history t) (sym (append_assoc y.piece x.piece trace))
+      (y.hands (x.piece ++ trace) (ap (filter is_outer) x.grown ∙ told_more x.events a.history x.piece trace x.told so)
+      (x.hands trace so h));
+  lets = λ trace so h. subst (λ t. LetsGoRightly config c.history t) (sym (append_assoc y.piece x.piece trace))
+      (y.lets (x.piece ++ trace) (ap (filter is_outer) x.grown ∙ told_more x.events a.history x.piece trace x.told so) (x.lets trace so h));
+}
+
+pub keeps_each : {W : Type 0} (hears : W → Heard → W → Type 0) (May : Subject → Type 0) (config : Config) (step : ℕ → Config → Moment W
+    → Moment W → Type 0) (n : ℕ)
+    → ((c : ℕ) (a b : Moment W) → c < n → step c config a b → Keeps hears May config a b)
+    → (before after : Moment W) → Each n step config before after → Keeps hears May config before after
+keeps_each hears May config step zero each before after is = keeps_none hears May config before after is
+keeps_each hears May config step (suc n) each before after (between, front, last) =
+    keeps_then hears May config before between after
+    (keeps_each hears May config step n (λ c a b lt. each c a b (omega (arith, lt))) before between front)
+    (each n between after (omega arith) last)
+
+-- ---- what is heard and is no event
+
+pub silent_events : (piece : List Heard) → AreSilent piece → flat_map event_of piece ≡ []
+silent_events [] silent = refl
+silent_events (heard ∷ piece) silent = rw silent.0.0 (silent_events piece silent.1)
+
+pub record Quiet {W : Type 0} (hears : W → Heard → W → Type 0) (May : Subject
+    → Type 0) (hung : Option ℕ) (before after : Moment W) : Type 0 where
+  pub piece : List Heard
+  pub through : Through hears piece before.wire after.wire
+  pub same : after.history ≡ before.history
+  pub silent : AreSilent piece
+  pub calm : AreCalm piece
+  pub unwritten : NoneWritten piece
+  pub adds : Adds hung piece
+  pub may : AllMay May piece
+
+abbrev pub quiet_keeps : {W : Type 0} (hears : W → Heard → W → Type 0) (May : Subject
+    → Type 0) (config : Config) (hung : Option ℕ) (before after : Moment W) → Quiet hears May hung before after
+    → ((trace : List Heard) → filter is_outer before.history ≡ flat_map event_of trace → (d : ℕ) → hung ≡ Some d
+    → IsEnd d config before.history trace)
+    → Keeps hears May config before after
+quiet_keeps hears May config hung before after q reason = record {
+  piece = q.piece;
+  events = [];
+  through = q.through;
+  grown = q.same;
+  told = sym (silent_events q.piece q.silent);
+  may = q.may;
+  keeps = λ trace keeping. keeping_silent config after.history q.piece trace q.silent
+      (subst (λ h. Keeping config h trace) (sym q.same) keeping);
+  closing = closing_silent config before.history after.history q.piece q.same q.silent q.calm;
+  hands = λ trace so h. subst (λ l. HandsOver config l (q.piece ++ trace)) (sym q.same)
+      (hands_silent config before.history q.piece trace q.silent (all_fit_none config before.history q.piece q.unwritten) so h);
+  lets = λ trace so h. subst (λ l. LetsGoRightly config l (q.piece ++ trace)) (sym q.same)
+      (q.adds config before.history trace (reason trace so) h);
+}
+
+pub quiet_none : {W : Type 0} (hears : W → Heard → W → Type 0) (May : Subject → Type 0) (hung : Option ℕ) (before after : Moment W)
+    → after ≡ before → Quiet hears May hung before after
+quiet_none hears May hung before after is =
+    record {
+      piece = [];
+      through = ap (λ m. m.wire) is;
+      same = ap
+          (λ m. m.history) is;
+      silent = tt;
+      calm = tt;
+      unwritten = tt;
+      adds = adds_nothing hung;
+      may = tt;
+    }
+
+abbrev pub quiet_one : {W : Type 0} (hears : W → Heard → W → Type 0) (May : Subject
+    → Type 0) (hung : Option ℕ) (heard : Heard) (may : May (about heard)) (wire : W) (before after : Moment W)
+    → hears before.wire heard wire
+    → after.wire ≡ wire → after.history ≡ before.history → IsSilent heard → IsCalm heard → IsNoWrite heard
+    → ((d : ℕ) → heard ≡ WasClosed (Intr d) → hung ≡ Some d) → Quiet hears May hung before after
+quiet_one hears May hung heard may wire before after was there same silent calm unwritten names = record {
+  piece = heard ∷ [];
+  through = subst (λ w. Through hears (heard ∷ []) before.wire w) (sym there) (before.wire, refl, was);
+  same = same;
+  silent = (silent, tt);
+  calm = (calm, tt);
+  unwritten = (unwritten, tt);
+  adds = adds_one hung heard names;
+  may = (may, tt);
+}
+
+-- the wire was asked, and nothing came of it
+abbrev pub only_heard : {W : Type 0} (hears : W → Heard → W → Type 0) (May : Subject
+    → Type 0) (config : Config) (heard : Heard) (may : May (about heard)) (wire : W) (before between after : Moment W)
+    → hears before.wire heard wire → between ≡ record before { wire = wire } → IsSilent heard → IsCalm heard → IsNoWrite heard
+    → IsNoHang heard → after ≡ between
+    → Keeps hears May config before after
+only_heard hears May config heard may wire before between after was is silent calm unwritten unhung same = quiet_keeps hears May config
+    None before after
+    (quiet_one hears May None heard may wire before after was (ap (λ m. m.wire) same ∙ ap (λ m. m.wire) is)
+    (ap (λ m. m.history) same ∙ ap (λ m. m.history) is) silent calm unwritten (λ d e. absurd (unhung d e))) (λ trace so d e. none_hung d e)
+
+pub hung_is : (c d : ℕ) → WasClosed (Intr c) ≡ WasClosed (Intr d) → Some c ≡ Some d
+hung_is c d e = cc
+
+pub hangs_on : {W : Type 0} (hears : W → Heard → W → Type 0) (May : Subject
+    → Type 0) (config : Config) (may : May OfNone) (c : ℕ) (found : Option Dial) (before after : Moment W)
+    → HangsUpOn hears c found config before after → Quiet hears May (Some c) before after
+hangs_on hears May config may c None before after is = quiet_none hears May (Some c) before after is
+hangs_on hears May config may c (Some dial) before after (between, (wire, was, is), notes) = quiet_one hears May (Some c) (WasClosed
+    (Intr c)) may wire before after was
+    (ap (λ m. m.wire) notes ∙ ap (λ m. m.wire) is) (ap (λ m. m.history) notes ∙ ap (λ m. m.history) is)
+    (refl, (λ port. refl), (λ port. refl), (λ port. refl)) (λ d. refl) (λ p b a e. absurd cc) (λ d e. hung_is c d e)
+
+pub hangs_up : {W : Type 0} (hears : W → Heard → W → Type 0) (May : Subject
+    → Type 0) (config : Config) (may : May OfNone) (c : ℕ) (before after : Moment W)
+    → HangsUp hears c config before after → Quiet hears May (Some c) before after
+hangs_up hears May config may c before after h = hangs_on hears May config may c (called_of c before) before after h
+
+-- ---- an event of the wire
+
+-- what suits is done
+pub applied : {W : Type 0} (config : Config) (event : PlainEvent) (before after : Moment W) (told : List ChannelAct) (log : List Act)
+    → IsLogOf config before.history log → HearsOf (device_acts log) told → Suits event told log → Applies event config before after
+    → after ≡ record before { history = event ∷ before.history }
+applied config event before after told log was tells_so suits (result, (also, is_log, answers, is)) =
+    is ∙ ap (λ (r : Result Did Refused). record before { history = history_after event r before.history })
+    (suited config event before also result is_log answers (log, told, was, tells_so, suits))
+
+pub happened : {W : Type 0} (event : PlainEvent) (config : Config) (before after : Moment W) → Happens event config before after
+    → after ≡ record before { history = event ∷ before.history }
+happened event config before after (log, was, answers, is) = is
+
+-- the event of what was heard, with what is silent in front of it and behind it
+pub record Heeds {W : Type 0} (hears : W → Heard → W → Type 0) (May : Subject
+    → Type 0) (config : Config) (heard : Heard) (event : PlainEvent)
+    (newer older : List Heard) (before after : Moment W) : Type 0 where
+  pub hung : Option ℕ
+  pub newer_adds : Adds hung newer
+  pub newer_ends : (c : ℕ) → hung ≡ Some c → ends_port (Intr c) heard ≡ true
+  pub unhung : IsNoHang heard
+  pub older_unhung : NoneHung older
+  pub log : List Act
+  pub told : List ChannelAct
+  pub was : IsLogOf config before.history log
+  pub hears_of : HearsOf (device_acts log) told
+  pub through : Through hears (newer ++ heard ∷ older) before.wire after.wire
+  pub grown : after.history ≡ event ∷ before.history
+  pub newer_silent : AreSilent newer
+  pub newer_calm : AreCalm newer
+  pub newer_unwritten : NoneWritten newer
+  pub fits : Fits config before.history heard
+  pub older_fits : AllFit config before.history older
+  pub older_silent : AreSilent older
+  pub older_once : ClosesAtOnce (Some heard) older
+  pub calm : IsCalm heard
+  pub reason : Reasons config (event ∷ before.history) before.history heard older
+  pub may : AllMay May (newer ++ heard ∷ older)
+  pub outer : is_outer event ≡ true
+  pub same : event_of heard ≡ event ∷ []
+  pub step : (trace : List Heard) (c : ℕ) → Both c (of c log) told trace
+      → Both c (brings c event ++ of c log) (tells event log ++ told) (heard ∷ trace)
+
+abbrev pub event_keeps : {W : Type 0} (hears : W → Heard → W → Type 0) (May : Subject
+    → Type 0) (config : Config) (heard : Heard) (event : PlainEvent)
+    (newer older : List Heard) (before after : Moment W) → Heeds hears May config heard event newer older before after
+    → Keeps hears May config before after
+event_keeps hears May config heard event newer older before after e = record {
+  piece = newer ++ heard ∷ older;
+  events = event ∷ [];
+  through = e.through;
+  grown = e.grown;
+  told = rw e.outer (sym (flat_map-append event_of newer (heard ∷ older)
+      ∙ rw (silent_events newer e.newer_silent, e.same, silent_events older e.older_silent) refl));
+  may = e.may;
+  keeps = λ trace keeping. subst (λ h. Keeping config h ((newer ++ heard ∷ older) ++ trace)) (sym e.grown)
+      (subst (λ t. Keeping config (event ∷ before.history) t) (sym (append_assoc newer (heard ∷ older) trace))
+      (keeping_silent config (event ∷ before.history) newer (heard ∷ older ++ trace) e.newer_silent
+      (keeping_event only_calls only_requests config before.history e.log e.told event (older ++ trace)
+      (heard ∷ older ++ trace) e.was e.hears_of
+      (e.step (older ++ trace)) (keeping_silent config before.history older trace e.older_silent keeping))));
+  closing = closing_event config before.history after.history event heard newer older e.grown e.newer_silent e.newer_calm e.older_silent
+      e.older_once e.calm e.reason;
+  hands = λ trace so h. hands_event config before.history after.history event heard newer older trace e.grown e.newer_unwritten e.fits
+      e.older_silent e.older_fits so h;
+  lets = λ trace so h. lets_event config before.history after.history event heard newer older trace e.hung e.grown e.newer_adds e.newer_ends
+      e.unhung e.older_unhung h;
+}
+
+-- asked and answered: the event that it is happens
+abbrev pub answer_keeps : {W : Type 0} (hears : W → Heard → W → Type 0) (May : Subject
+    → Type 0) (config : Config) (heard : Heard) (may : May (about heard)) (event : PlainEvent) (wire : W)
+    (before between after : Moment W) (told : List ChannelAct) (log : List Act) → IsLogOf config before.history log
+    → HearsOf (device_acts log) told → hears before.wire heard wire
+    → between.wire ≡ wire → between.history ≡ before.history → Happens event config between after
+    → is_outer event ≡ true → event_of heard ≡ event ∷ [] → IsCalm heard → Fits config before.history heard → IsNoHang heard → ((c : ℕ)
+    → heard ≡ WasClosed (Conn c) → ⊥)
+    → ((trace : List Heard) (c : ℕ) → Both c (of c log) told trace
+    → Both c (brings c event ++ of c log) (tells event log ++ told) (heard ∷ trace))
+    → Keeps hears May config before after
+answer_keeps hears May config heard may event wire before between after told log was tells_so heard_so there same happens outer is calm
+    fits unhung stays step =
+    let done = happened event config between after happens in
+    event_keeps hears May config heard event [] [] before after (record {
+      hung = None;
+      newer_adds = adds_nothing None;
+      newer_ends = λ d e. none_hung d e;
+      unhung = unhung;
+      older_unhung = tt;
+      log = log;
+      told = told;
+      was = was;
+      hears_of = tells_so;
+      through = (before.wire, refl, subst (λ w. hears before.wire heard w) (sym (ap (λ m. m.wire) done ∙ there)) heard_so);
+      grown = ap (λ m. m.history) done ∙ ap (λ h. event ∷ h) same;
+      newer_silent = tt;
+      newer_calm = tt;
+      newer_unwritten = tt;
+      fits = fits;
+      older_fits = tt;
+      older_silent = tt;
+      older_once = tt;
+      calm = calm;
+      reason = λ trace so c e. absurd (stays c e);
+      may = (may, tt);
+      outer = outer;
+      same = is;
+      step = step;
+    })
+
+-- ---- a driver's own event
+
+abbrev pub inner_by : {W : Type 0} (hears : W → Heard → W → Type 0) (May : Subject
+    → Type 0) (config : Config) (event : PlainEvent) (result : Result Did Refused)
+    (before after : Moment W) → is_outer event ≡ false → ((c : ℕ) → brings c event ≡ []) → ((log : List Act) → tells event log ≡ [])
+    → Given event result config before after
+    → Keeps hears May config before after
+inner_by hears May config event (Err refused) before after inner none untold
+    (log, was, answers, is) = keeps_none hears May config before after is
+inner_by hears May config event (Ok what) before after inner none untold (log, was, answers, is) = record {
+  piece = [];
+  events = event ∷ [];
+  through = ap (λ m. m.wire) is;
+  grown = ap (λ m. m.history) is;
+  told = rw inner refl;
+  may = tt;
+  keeps = λ trace keeping. subst (λ h. Keeping config h trace) (sym (ap (λ m. m.history) is))
+      (let told = some_told (device_acts log) in
+      keeping_event only_calls only_requests config before.history log told.0 event trace trace was told.1
+      (λ c h. rw (none c, untold log) h) keeping);
+  closing = closing_more config before.history after.history (event ∷ []) (ap (λ m. m.history) is);
+  lets = λ trace so h. subst (λ l. LetsGoRightly config l trace) (sym (ap (λ m. m.history) is)) (lets_more config before.history
+      (event ∷ []) trace h);
+  hands = λ trace so h. subst (λ l. HandsOver config l trace) (sym (ap (λ m. m.history) is)) (hands_more config before.history
+      (event ∷ []) trace h);
+}
+
+abbrev pub inner_applies : {W : Type 0} (hears : W → Heard → W → Type 0) (May : Subject
+    → Type 0) (config : Config) (event : PlainEvent) (before after : Moment W)
+    → is_outer event ≡ false → ((c : ℕ) → brings c event ≡ []) → ((log : List Act) → tells event log ≡ [])
+    → Applies event config before after → Keeps hears May config before after
+inner_applies hears May config event before after inner none untold (result, given) =
+    inner_by hears May config event result before after inner none untold given
