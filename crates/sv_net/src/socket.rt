@@ -130,7 +130,7 @@ impl<S: Stream> Socket<S> {
         }
     }
 
-    /// Whether it is gone, where it isn't read: broken; or, where what comes is dropped, at its end.
+    /// Whether it is gone, where it isn't read: broken, or, where what comes is dropped, ended.
     pub(crate) fn probe(&mut self, drops: bool) -> Answer<()>
         ensures { Skips S.remaining drops self.old self.new }
     {

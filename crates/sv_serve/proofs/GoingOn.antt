@@ -167,7 +167,8 @@ sent_calls (Piece bytes ∷ adds) acts h = absurd h
 sent_calls (BytesTaken count ∷ adds) acts h = absurd h
 sent_calls (PortClosed ∷ adds) acts h = absurd h
 
-pub waits_calls : (adds acts : List ConnAct) → AreCalls adds → IsWithin acts → (more : List ℕ) × (waiting (adds ++ acts) ≡ waiting acts ++ more)
+pub waits_calls : (adds acts : List ConnAct) → AreCalls adds → IsWithin acts
+    → (more : List ℕ) × (waiting (adds ++ acts) ≡ waiting acts ++ more)
 waits_calls adds acts h within = elim (cases_Bool (is_open acts)) [
   | inl e ↦
       let grown = sent_calls adds acts h in
