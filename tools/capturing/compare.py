@@ -1,6 +1,7 @@
 """What a replay sends, beside what the capture has; and ticks that lie a bit otherwise."""
 import re
 import subprocess
+import time
 from dataclasses import dataclass
 
 from . import orders
@@ -9,8 +10,9 @@ from .packets import Fault
 from .script import MARKED, script
 
 NEAR = 100              # each start so many milliseconds off is tried
-STARTS = 1000           # and so many in all, those that meet an entry of the scenario farther off
-AROUND, LONGEST = 2, 16     # milliseconds around a reply, and of one that waits, that an entry may meet
+STARTS = 150            # and so many farther off for each kind of entry of the scenario
+BEFORE, BEHIND = 16, 2  # milliseconds by which such an entry comes before or behind a reply
+PATIENCE = 60           # seconds for which other starts are tried, at one difference
 ENDING = 50_000_000     # nanoseconds in front of the capture's end whose replies it may lack
 LINE = re.compile(r"refused \d+|[ci]\d+ (?:[0-9a-f]{2})+")
 
@@ -130,7 +132,10 @@ class Comparison:
         for trial in self.trials(ticks, difference, slack):
             if self.first(trial, difference.point) is None:
                 return trial
+        until = time.monotonic() + PATIENCE
         for step in self.starts(difference) if slack else []:
+            if time.monotonic() > until:
+                break
             self.farthest = max(self.farthest, abs(step))
             trial = [max(0, point.ticks + step) for point in self.points]
             if self.first(trial, difference.point) is None:
@@ -141,18 +146,23 @@ class Comparison:
     def starts(self, difference):
         """How many milliseconds earlier the server may have started, the least first, where a
         scenario tells the time: each that is near, and those at which an entry of the scenario
-        meets the reply that differs. Where no start was told it was not behind the first packet.
+        comes about the time of the reply that differs. A start that wasn't told was no later than
+        the first packet.
         """
         if not self.entries:
             return []
-        reply = reply_at(difference.flow, difference.place) if difference.flow else None
-        end = self.points[difference.point].ticks
-        begin = self.points[reply.turn].ticks if reply else end
-        met = range(max(begin, end - LONGEST) - AROUND, end + AROUND + 1)
-        found = set(range(-NEAR, NEAR + 1))
-        found |= {tick - at for tick, _ in self.entries for at in met}
-        found = [step for step in found if abs(step) > abs(self.early) and (step > 0 or self.told)]
-        return sorted(found, key=lambda step: (abs(step), -step))[:STARTS]
+        at = self.points[difference.point].ticks
+        found = set(self.farther(range(-NEAR, NEAR + 1)))
+        for kind in ("external", "input"):
+            ticks = {tick for tick, line in self.entries if line.startswith(kind)}
+            steps = {tick - at + off for tick in ticks for off in range(-BEHIND, BEFORE + 1)}
+            found.update(self.farther(steps)[:STARTS])
+        return self.farther(found)
+
+    def farther(self, steps):
+        """Those that are farther off than the start that is taken, the least first."""
+        found = [step for step in steps if abs(step) > abs(self.early) and (step > 0 or self.told)]
+        return sorted(found, key=lambda step: (abs(step), -step))
 
     def reorder(self, ticks, difference):
         """Whether the difference is gone once a call is taken behind another connection's."""
