@@ -8,6 +8,16 @@ SERVER := crates/scanvolt/out/scanvolt
 PROOF := scanvolt
 endif
 
+# A program that is named is looked at before anything is proved, built or made for it.
+TRIED := bench clients hostile soak install dist packages
+ifdef GIVEN
+ifneq ($(filter $(TRIED),$(MAKECMDGOALS)),)
+ifneq ($(shell tools/runnable '$(GIVEN)' && echo runs),runs)
+$(error SERVER=$(GIVEN) can't be taken)
+endif
+endif
+endif
+
 # What the server is measured beside.
 ECHO := crates/echo/out/echo
 
@@ -54,8 +64,8 @@ serve:
 # Proves the program as above and measures it: its speed and memory, and what they are to be.
 # Then the same of its server, beside one by rpcgen and beside a bare echo.
 bench: $(PROOF) echo
-	@bench/run $(SERVER)
-	@bench/serve $(SERVER) $(ECHO)
+	@bench/run '$(SERVER)'
+	@bench/serve '$(SERVER)' $(ECHO)
 
 # Proves the bare echo, and has it look ten times.
 echo:
@@ -64,38 +74,39 @@ echo:
 # Runs the clients of examples/ against the program and compares what they print; it needs some
 # Debian packages, which it names, and a network namespace, so root.
 clients: $(PROOF)
-	@tools/clients $(SERVER)
-	@tools/documents $(SERVER)
+	@tools/clients '$(SERVER)'
+	@tools/documents '$(SERVER)'
 
 # Serves with the program, and sends it peers that drop, reset, half-close, send random bytes or
 # never read, beside one that must lose no reply.
 hostile: $(PROOF)
-	@tools/hostile $(SERVER)
+	@tools/hostile '$(SERVER)'
 
 # Serves under such peers for MINUTES (15 if not said), and a minute each with few file descriptors and
 # with memory that is used up; beside them no reply and no request for service may be lost.
 soak: $(PROOF)
-	@tools/soak $(SERVER) $(MINUTES)
+	@tools/soak '$(SERVER)' $(MINUTES)
 
 # Installs the proved program, its man page, the scenario and scripts of the examples, and the licence.
 install: $(PROOF)
-	@install -d -m 755 $(BIN) $(MAN) $(DATA) $(DOC)
-	@install -m 755 $(SERVER) $(BIN)/scanvolt
-	@install -m 644 docs/scanvolt.1 $(MAN)
-	@install -m 644 $(DATA_FILES) $(DATA)
-	@install -m 644 $(DOC_FILES) $(DOC)
+	@install -d -m 755 '$(BIN)' '$(MAN)' '$(DATA)' '$(DOC)'
+	@install -m 755 '$(SERVER)' '$(BIN)/scanvolt'
+	@install -m 644 docs/scanvolt.1 '$(MAN)'
+	@install -m 644 $(DATA_FILES) '$(DATA)'
+	@install -m 644 $(DOC_FILES) '$(DOC)'
 
 # Removes what install put there, with the same PREFIX and DESTDIR.
 uninstall:
-	@rm -f $(BIN)/scanvolt $(MAN)/scanvolt.1
-	@rm -f $(addprefix $(DATA)/,$(notdir $(DATA_FILES))) $(addprefix $(DOC)/,$(notdir $(DOC_FILES)))
-	@for folder in $(DATA) $(DOC); do [ ! -d $$folder ] || rmdir $$folder; done
+	@rm -f '$(BIN)/scanvolt' '$(MAN)/scanvolt.1'
+	@for name in $(notdir $(DATA_FILES)); do rm -f '$(DATA)/'"$$name"; done
+	@for name in $(notdir $(DOC_FILES)); do rm -f '$(DOC)/'"$$name"; done
+	@for folder in '$(DATA)' '$(DOC)'; do [ ! -d "$$folder" ] || rmdir "$$folder"; done
 
 # Packs the proved program as a .tar.gz and a .deb in dist/, with their checksums.
 dist: $(PROOF)
-	@RT=$(RT) tools/dist $(SERVER)
+	@RT='$(RT)' tools/dist '$(SERVER)'
 
 # Packs as above, and tries the packages: they are installed, serve and replay. With ROOT, a clean
 # root as debootstrap makes one, dpkg installs in it; that wants root.
 packages: dist
-	@tools/packages $(ROOT)
+	@tools/packages $(if $(ROOT),'$(ROOT)')

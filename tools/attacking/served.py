@@ -8,9 +8,47 @@ import time
 
 from attacking.calls import PATIENCE, Lost, words
 
+TOOLS = os.path.dirname(os.path.dirname(os.path.abspath(__file__)))
+PROVED = os.path.dirname(TOOLS) + "/crates/scanvolt/out/scanvolt"
+
 
 def row(what, found, aim):
     print("%-66s %10s  %s" % (what, found, aim), flush=True)
+
+
+def runs(program):
+    """Whether the program can be run; else it is said why not."""
+    return subprocess.run([TOOLS + "/runnable", program], check=False).returncode == 0
+
+
+def whose_aims(program):
+    """What is to be known of the aims where this program is measured; nothing of the proved one."""
+    if os.path.realpath(program) == os.path.realpath(PROVED):
+        return None
+    with open(program, "rb") as file:
+        checked = b"__asan_" in file.read()
+    return "the aims are of the proved program; %s %s" % (
+        program, "is built with run-time checks" if checked else "may be another")
+
+
+class Aims:
+    """Values that have an aim, and those that are beyond it."""
+
+    def __init__(self):
+        self.beyond = []
+
+    def row(self, what, found, most, digits=1):
+        """A row of a value that is to be at most this."""
+        shown = "%.*f" % (digits, found)
+        row(what, shown, "at most %g" % most)
+        if found > most:
+            self.beyond.append("%s: %s, and not at most %g" % (what.strip(), shown, most))
+
+    def told(self, name):
+        """Tells what is beyond its aim; the status of that."""
+        for what in self.beyond:
+            print("%s: beyond its aim: %s" % (name, what), flush=True)
+        return 3 if self.beyond else 0
 
 
 class Server:
@@ -20,6 +58,7 @@ class Server:
 
     def __init__(self, program, scenario, environment=None, before=None):
         self.ports = free_ports(3)
+        self.aims = Aims()
         self.refusals = ()      # errors that calls may answer under a limit
         options = zip(("--core", "--abort", "--portmap"), map(str, self.ports))
         command = [program, "serve"] + [word for option in options for word in option]

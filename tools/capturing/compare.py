@@ -1,5 +1,7 @@
 """What a replay sends, beside what the capture has; and ticks that lie a bit otherwise."""
+import re
 import subprocess
+import time
 from dataclasses import dataclass
 
 from . import orders
@@ -7,7 +9,12 @@ from .flows import reply_at
 from .packets import Fault
 from .script import MARKED, script
 
-FAR = 10        # how many milliseconds the start may be wrong
+NEAR = 100              # each start so many milliseconds off is tried
+STARTS = 150            # and so many farther off for each kind of entry of the scenario
+BEFORE, BEHIND = 16, 2  # milliseconds by which such an entry comes before or behind a reply
+PATIENCE = 60           # seconds for which other starts are tried, at one difference
+ENDING = 50_000_000     # nanoseconds in front of the capture's end whose replies it may lack
+LINE = re.compile(r"refused \d+|[ci]\d+ (?:[0-9a-f]{2})+")
 
 
 @dataclass
@@ -22,8 +29,8 @@ class Difference:
     found: bytes = b""
 
 
-def replies(program, lines):
-    """What the replay prints behind each point."""
+def replies(program, lines, count):
+    """What the replay prints behind each of so many points."""
     text = "".join(line + "\n" for line in lines).encode()
     try:
         told = subprocess.run([program, "replay"], input=text, capture_output=True, check=False)
@@ -33,11 +40,16 @@ def replies(program, lines):
         raise Fault("%s replay: status %d, %s" % (
             program, told.returncode, told.stderr.decode(errors="replace").strip()))
     blocks = [[]]
-    for line in told.stdout.decode().splitlines():
+    for line in told.stdout.decode(errors="replace").splitlines():
         if line == MARKED:
             blocks.append([])
-        else:
+        elif LINE.fullmatch(line):
             blocks[-1].append(line.split())
+        else:
+            raise Fault("%s replay prints what no replay does: %s" % (program, line[:60]))
+    if len(blocks) <= count:
+        raise Fault("%s replay ended early, behind %d of %d events, with status 0" % (
+            program, len(blocks) - 1, count))
     return blocks[:-1]
 
 
@@ -46,16 +58,20 @@ class Comparison:
 
     def __init__(self, session, entries, program):
         self.points = session.points
+        self.told = session.told    # whether the start was told
+        self.ending = session.end - session.start - ENDING
         self.entries = entries
         self.program = program
         self.found = {}
         self.early = 0          # how many milliseconds the start is taken earlier than told
         self.swapped = 0        # calls that are taken later than told
+        self.farthest = 0       # how many milliseconds off a start was tried
 
     def first(self, ticks, last=None):
         """The first difference, up to the last point, with so many ticks in front of each."""
         points = self.points if last is None else self.points[:last + 1]
-        blocks = replies(self.program, script(points, ticks, self.entries, mark=True))
+        lines = script(points, ticks, self.entries, mark=True)
+        blocks = replies(self.program, lines, len(points))
         self.found = {}
         for number, (point, block) in enumerate(zip(points, blocks)):
             difference = self.at(number, point, block)
@@ -88,7 +104,8 @@ class Comparison:
         for place in range(begun, min(len(found), len(flow.wanted))):
             if found[place] != flow.wanted[place]:
                 return Difference("differs", number, flow, place, bytes(found))
-        if flow.loose:
+        # The capture doesn't have this stream to its end, or ends between a call and its reply.
+        if flow.loose or self.points[number].time >= self.ending:
             return None
         return Difference("more", number, flow, len(flow.wanted), bytes(found))
 
@@ -115,15 +132,37 @@ class Comparison:
         for trial in self.trials(ticks, difference, slack):
             if self.first(trial, difference.point) is None:
                 return trial
-        if not self.entries or not slack:
-            return None
-        for count in range(1, FAR + 1):
-            for step in (count, -count):
-                trial = [max(0, point.ticks + step) for point in self.points]
-                if abs(step) > abs(self.early) and self.first(trial, difference.point) is None:
-                    self.early = step
-                    return trial
+        until = time.monotonic() + PATIENCE
+        for step in self.starts(difference) if slack else []:
+            if time.monotonic() > until:
+                break
+            self.farthest = max(self.farthest, abs(step))
+            trial = [max(0, point.ticks + step) for point in self.points]
+            if self.first(trial, difference.point) is None:
+                self.early = step
+                return trial
         return None
+
+    def starts(self, difference):
+        """How many milliseconds earlier the server may have started, the least first, where a
+        scenario tells the time: each that is near, and those at which an entry of the scenario
+        comes about the time of the reply that differs. A start that wasn't told was no later than
+        the first packet.
+        """
+        if not self.entries:
+            return []
+        at = self.points[difference.point].ticks
+        found = set(self.farther(range(-NEAR, NEAR + 1)))
+        for kind in ("external", "input"):
+            ticks = {tick for tick, line in self.entries if line.startswith(kind)}
+            steps = {tick - at + off for tick in ticks for off in range(-BEHIND, BEFORE + 1)}
+            found.update(self.farther(steps)[:STARTS])
+        return self.farther(found)
+
+    def farther(self, steps):
+        """Those that are farther off than the start that is taken, the least first."""
+        found = [step for step in steps if abs(step) > abs(self.early) and (step > 0 or self.told)]
+        return sorted(found, key=lambda step: (abs(step), -step))
 
     def reorder(self, ticks, difference):
         """Whether the difference is gone once a call is taken behind another connection's."""

@@ -19,7 +19,7 @@ TOLD = {"core": 4096, "abort": 4097}     # the ports that the server of a replay
 class Session:
     """What happened, point by point."""
 
-    def __init__(self, streams, ports, start=None):
+    def __init__(self, streams, ports, end, start=None):
         self.ports = ports
         self.points = []
         self.numbers = {}       # the connections that are open, by number
@@ -34,7 +34,9 @@ class Session:
         happenings = [what for one in streams for what in one.happenings]
         happenings.sort(key=lambda what: what.number)
         of_server = [what.time for what in happenings if self.roles[id(what.stream)]]
-        self.start = start if start is not None else min(of_server, default=0)
+        self.told = start is not None
+        self.start = start if self.told else min(of_server, default=0)
+        self.end = end          # the time of the last packet
         self.swept = self.start
         self.play(happenings)
 

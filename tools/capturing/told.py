@@ -4,10 +4,14 @@ from .flows import reply_at
 MOST = 160      # hexadecimal digits that are shown of a reply
 
 
-def shown(data):
-    """Bytes in hexadecimal, as far as they fit a line."""
-    text = data.hex()
-    return text if len(text) <= MOST else text[:MOST] + ".. (%d bytes)" % len(data)
+def shown(data, place):
+    """Bytes in hexadecimal, as far as they fit a line: from the beginning, or else from a word in
+    front of this one.
+    """
+    begin = max(0, place // 4 * 4 - 4) if 2 * len(data) > MOST else 0
+    text = data[begin:].hex()
+    front = "from byte %d: " % begin if begin else ""
+    return front + text[:MOST] + (".. (%d bytes)" % len(data) if len(text) > MOST else "")
 
 
 def counted(count, one, many=None):
@@ -73,11 +77,19 @@ def told(points, difference):
             difference.place - begin, flow.wanted[difference.place],
             difference.found[difference.place]))
     if end > begin:
-        lines.append("  capture " + shown(bytes(flow.wanted[begin:end])))
+        lines.append("  capture " + shown(bytes(flow.wanted[begin:end]), difference.place - begin))
     if difference.found:
         last = end if difference.kind == "differs" else None
-        lines.append("  replay  " + shown(difference.found[begin:last]))
+        lines.append("  replay  " + shown(difference.found[begin:last], difference.place - begin))
     return lines
+
+
+def start_of(comparison):
+    """That the start may be what is wrong."""
+    begin = "--start may be wrong" if comparison.told else (
+        "the start may be wrong: without --start it is the time of the first packet")
+    return "%s; `make serve` tells it. Starts up to %d ms off were tried" % (
+        begin, comparison.farthest)
 
 
 def shown_line(line):

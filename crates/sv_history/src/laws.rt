@@ -11,7 +11,9 @@ pub fn one_log()
 {}
 
 /// While a link holds the lock, what other connections do changes nothing that is sent on its
-/// connection and on its interrupt channel (VXI-11 revision 1.0, section B.4.4).
+/// connection and on its interrupt channel (VXI-11 revision 1.0, section B.4.4); as long as no
+/// device_abort names a link of this connection, no create_link comes on it, and at the beginning
+/// no read or write of another one waits for input or output.
 pub fn isolation()
     ensures { Isolation }
 {}

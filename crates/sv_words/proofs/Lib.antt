@@ -1,2 +1,3 @@
+mod Among
 mod Asked
 mod Served

@@ -1,5 +1,6 @@
 -- What is told by the matches of the command is told by the words.
-use Rattle.std.proofs.Common.{◌≡◌, ◌∙◌, ap, sym, subst, refl, true, List, [], Err, inl, inr}
+use Rattle.std.proofs.Common.{◌≡◌, ◌∙◌, ap, sym, subst, refl, true, List, [], Err, inl, inr, codes}
+use Rattle.std.specs.List.{Contains}
 use Rattle.clap.specs.Words.{App, Text, fault_of, first_of, matches_of, HasMatchesOf, HasKind, is_simple_and_free}
 use Rattle.clap.specs.Simple.{is_simple}
 use Rattle.clap.specs.Values.{kind_of}
@@ -38,20 +39,20 @@ tells_same f g same serve (core, abort, portmap, scenario, sweeps) = (
   subst (λ o. IfGiven o (λ text. IsCount 4294967295 text serve.sweeps)) (same _) sweeps,
 )
 
--- what the command found tells what is to be served, or nothing is
+-- What the command found tells what is to be served where no word is `--`, or nothing is.
 pub served : (app : App) (words : List Text) (found : ArgMatches) (serve : Serve) → app ≡ serve_command → HasMatchesOf app words found
     → (is_simple_and_free app ≡ true → fault_of app words ≡ []) → ServesBy (λ name. first_value (found_of found) name) serve
-    → Serves words serve
-served app words found serve is has faultless tells =
+    → (Contains words (codes "--") → ⊥) → Serves words serve
+served app words found serve is has faultless tells no_end =
     let none : fault_of serve_command words ≡ [] =
     subst (λ (a : App). is_simple_and_free a ≡ true → fault_of a words ≡ []) is faultless command_is_free in
-    (none, tells_same _ _ (same_values words found (subst (λ (a : App). HasMatchesOf a words found) is has)) serve tells)
+    (no_end, none, tells_same _ _ (same_values words found (subst (λ (a : App). HasMatchesOf a words found) is has)) serve tells)
 
 pub not_served : (app : App) (words : List Text) (found : ArgMatches) → app ≡ serve_command → HasMatchesOf app words found
     → ((serve : Serve) → ServesBy (λ name. first_value (found_of found) name) serve → ⊥) → (serve : Serve) → Serves words serve → ⊥
 not_served app words found is has tells serve serves =
     tells serve (tells_same _ _
-    (λ name. sym (same_values words found (subst (λ (a : App). HasMatchesOf a words found) is has) name)) serve serves.1)
+    (λ name. sym (same_values words found (subst (λ (a : App). HasMatchesOf a words found) is has) name)) serve serves.2)
 
 -- words that the command refuses ask for no server, unless memory was refused
 pub refused : (app : App) (words : List Text) (error : Error) (fault : ProgramFault) → app ≡ serve_command
@@ -62,7 +63,7 @@ refused app words error fault is has (inr (kind, e)) =
     let faults : HasKind (fault_of serve_command words) error =
     subst (λ (a : App). is_simple_and_free a ≡ true → HasKind (fault_of a words) error) is has command_is_free in
     subst (λ (f : ProgramFault). ReadsWords (Serves words) (Err f)) (sym e)
-    (λ serve serves. none_of error kind (subst (λ faults. HasKind faults error) serves.0 faults))
+    (λ serve serves. none_of error kind (subst (λ faults. HasKind faults error) serves.1 faults))
   where
     none_of : (error : Error) → (kind_of error ≡ OutOfMemory → ⊥) → HasKind [] error → ⊥
     none_of error not (inl memory) = not memory

@@ -4,6 +4,7 @@ use Rattle.clap.specs.Words.{App, Rule, Text, fault_of, first_of, matches_of, ne
 use Rattle.clap.specs.declared.builder.action.ArgAction.TheVariants.{Set}
 use Rattle.clap.specs.declared.error.kind.ErrorKind.{ErrorKind}
 use Rattle.clap.specs.declared.error.kind.ErrorKind.TheVariants.{OutOfMemory}
+use Rattle.std.specs.List.{Contains}
 use Rattle.std.specs.Str.Parse.{IsNumeral, digits_value}
 use Rattle.sv_replay.specs.declared.fault.RunFault.TheVariants.{Memory}
 use Rattle.sv_words.specs.declared.fault.ProgramFault.{ProgramFault}
@@ -39,9 +40,10 @@ ServesBy value serve = IfGiven (value (codes "core")) (λ text. IsCount 65535 te
     × IfGiven (value (codes "scenario")) (λ text. serve.scenario.now ≡ text)
     × IfGiven (value (codes "sweeps")) (λ text. IsCount 4294967295 text serve.sweeps)
 
--- The command finds no fault in the words, and the values that it matches tell what is to be served.
+-- No word is `--`, the command finds no fault in them, and the values that it matches tell what is to be served.
 abbrev pub Serves : List Text → Serve → Type 0
-Serves words serve = (fault_of serve_command words ≡ []) × ServesBy (λ name. first_of name (matches_of serve_command words)) serve
+Serves words serve = (Contains words (codes "--") → ⊥) × (fault_of serve_command words ≡ [])
+    × ServesBy (λ name. first_of name (matches_of serve_command words)) serve
 
 -- The one word `replay`; or `serve`, with the options behind it.
 abbrev pub AsksFor : List Text → Words → Type 0

@@ -1,6 +1,7 @@
 //! The words of the command line.
 
-ghost use Rattle.std.specs.Prelude.{◌≡◌, map};
+ghost use Rattle.std.specs.Prelude.{◌≡◌, Decides, codes, map};
+ghost use Rattle.std.specs.List.{Contains};
 ghost use Rattle.clap.specs.Values.{kind_of};
 ghost use Rattle.sv_words.specs.Words.{Serves, AsksFor, ReadsWords, IsUsageFault};
 
@@ -39,7 +40,7 @@ pub struct Serve<'a> {
 /// Reads the words behind the program's name: the one word `replay`, or `serve` and five options
 /// in any order, each of them once and with its value: `--core`, `--abort` and `--portmap` with a
 /// port of 1 to 65535, `--scenario` with a path, `--sweeps` with 1 to 4,294,967,295. A number has 1
-/// to 10 decimal digits.
+/// to 10 decimal digits. There is no other word, nor a `--` behind them.
 ///
 /// # Errors
 /// `BadWords` for all others, and where memory is refused its fault.
@@ -67,6 +68,9 @@ pub fn read_words<'a, S: AsStr>(alloc: Global, words: &'a [S]) -> Result<Words<'
 fn read_serve<'a, S: AsStr>(alloc: Global, words: &'a [S]) -> Result<Serve<'a>, ProgramFault>
     ensures { ReadsWords (Serves (map S.text words.now)) result }
 {
+    if has_end_of_options(words) {
+        return Err(ProgramFault::BadWords);
+    }
     let Ok(command) = command(alloc) else {
         return Err(ProgramFault::Run(RunFault::Memory));
     };
@@ -77,6 +81,13 @@ fn read_serve<'a, S: AsStr>(alloc: Global, words: &'a [S]) -> Result<Serve<'a>, 
         },
         Err(error) => Err(refused(&error)),
     }
+}
+
+/// Whether a word is `--`. To clap it ends the options, and may stand behind them.
+fn has_end_of_options<S: AsStr>(words: &[S]) -> bool
+    ensures { Decides result (Contains (map S.text words.now) (codes "--")) }
+{
+    words.iter().any(|word| word.as_str() == "--")
 }
 
 /// Why words were refused.
