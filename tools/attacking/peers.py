@@ -6,10 +6,13 @@ import socket
 import time
 
 from attacking.calls import (ABORT, CORE, CREATE_INTR_CHAN, DESTROY_INTR_CHAN, DEVICE_ABORT, ENABLE_SRQ, GETPORT,
-                             LOCK, PORTMAP, TIMEOUT, UNLOCK, WAITLOCK, Dropped, Lost, Peer, call, opaque, record,
-                             reset, words)
+                             LOCK, PORTMAP, READ, TIMEOUT, UNLOCK, WAITLOCK, Dropped, Lost, Peer, call, opaque,
+                             record, reset, words)
 
 PLACES = 16
+LONGEST = 0xFFFFFFFF    # the longest timeout, in milliseconds
+# What leaves a connection no room while its call waits: further calls, or a record that is too long.
+FURTHER, TOO_LONG = call(1, CORE, 0) * 1000, bytes.fromhex("80002001")
 
 
 def visit(server, chance):
@@ -170,6 +173,53 @@ def never_read(server, chance):
             except BlockingIOError:
                 time.sleep(0.02)
         peer.drop(chance)
+
+
+def all_gone(server, behind):
+    """All places are taken by peers of which each has a call that waits, and these bytes behind it.
+    Then all are reset at once; the milliseconds until a new client was served.
+    """
+    peers = [Peer(server.core) for _ in range(PLACES)]
+    for peer in peers:
+        peer.make_link()
+    peers[0].do(LOCK, words(peers[0].link, 0, 0), b"")
+    for place, peer in enumerate(peers):
+        if place == 0:
+            waiting = call(9, CORE, READ, words(peer.link, 1024, LONGEST, 0, 0, 0))
+        else:
+            waiting = call(9, CORE, LOCK, words(peer.link, WAITLOCK, LONGEST))
+        peer.send(waiting + behind)
+    time.sleep(0.2)
+    for peer in peers:
+        reset(peer.socket)
+    time.sleep(0.2)
+    begun = time.monotonic()
+    try:
+        with Peer(server.core) as peer:
+            peer.make_link()
+            peer.session()
+    except OSError as fault:
+        raise Lost("sixteen peers that are gone keep their places: %s" % fault) from None
+    return 1000 * (time.monotonic() - begun)
+
+
+def urgent(server, chance):
+    """Sends a byte of urgent data between two calls, and must get both replies."""
+    with Peer(server.core) as peer:
+        peer.make_link()
+        peer.socket.settimeout(1)
+        calls = [call(xid, CORE, 0) for xid in (7, 8)]
+        cut = chance.randrange(len(calls[1]))
+        try:
+            peer.socket.sendall(calls[0])
+            peer.socket.send(b"!", socket.MSG_OOB)
+            peer.socket.sendall(calls[1][:cut])
+            peer.socket.sendall(calls[1][cut:])
+            found = peer.take(2 * 28)
+        except socket.timeout:
+            raise Lost("a call behind a byte of urgent data isn't answered") from None
+        if found != b"".join(record(words(xid, 1, 0, 0, 0, 0)) for xid in (7, 8)):
+            raise Lost("calls around a byte of urgent data are answered otherwise: %s" % found.hex())
 
 
 def all_places(server, taken=1):
