@@ -2,8 +2,8 @@
 //! with peers in the same process, and prints behind the title of each what the peers get.
 //!
 //! The server makes some sweeps between two looks of a peer. Nothing that is printed depends on how
-//! fast the machine is: times are compared from below, and a peer waits up to ten seconds before
-//! the program ends with a fault.
+//! fast the machine is: times are compared from below, and the program ends with a fault only where
+//! nothing comes to a peer that waits for ten seconds.
 //!
 //! A row has these lines, of which most name a peer by a letter:
 //!

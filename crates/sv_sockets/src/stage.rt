@@ -126,12 +126,16 @@ impl Stage {
     /// Serves until so many bytes came to a peer, or its stream ended.
     ///
     /// # Errors
-    /// Where that takes too long.
+    /// Where nothing comes for too long.
     pub(crate) fn wait_for(&mut self, name: char, count: usize) -> io::Result<()> {
-        let begun = Instant::now(&self.rt)?;
+        let (mut begun, mut came) = (Instant::now(&self.rt)?, 0usize);
         for _ in 0..LOOKS {
             if self.has(name, count)? {
                 return Ok(());
+            }
+            let now = self.peer(name)?.came.len();
+            if now > came {
+                (begun, came) = (Instant::now(&self.rt)?, now);
             }
             self.serve_on(begun)?;
         }
