@@ -80,9 +80,8 @@ Follows is_such trace = (last : Heard) × (older : List Heard) × (trace ≡ las
 
 -- So it was at a place of the history, when the wire had answered these.
 abbrev pub Once : (List PlainEvent → Type 0) → List PlainEvent → List Heard → Type 0
-Once IsSo history trace = (later earlier : List PlainEvent) × (history ≡ later ++ earlier) ×
-    (filter is_outer earlier ≡ flat_map event_of trace)
-    × IsSo earlier
+Once IsSo history trace = (later earlier : List PlainEvent) × (history ≡ later ++ earlier)
+    × (filter is_outer earlier ≡ flat_map event_of trace) × IsSo earlier
 
 -- The wire's events are those that it answered, in order. Every byte that is read goes into its connection's stream, and every byte that
 -- the wire takes comes out of what the history sends: in order, none lost, none invented, none twice. Each write hands over all that waits
@@ -116,6 +115,5 @@ InSweeps hears config start (ticks ∷ passed) now (between, swept, goes) histor
 -- So it is after any number of sweeps of a driver whose server is new, over every wire.
 abbrev pub Carried : {W : Type 0} → (W → Heard → W → Type 0) → Type 0
 Carried hears = (config : Config) (passed : List ℕ) (start now : Driving _) → StandsFor start.server config []
-    → (swept : Swept hears passed start now)
-    → (trace : List Heard) × (history : List PlainEvent) × Through hears trace start.wire now.wire × StandsFor now.server config history
-    × IsCarried config history trace × InSweeps hears config start passed now swept history trace
+    → (swept : Swept hears passed start now) → (trace : List Heard) × (history : List PlainEvent) × Through hears trace start.wire now.wire
+    × StandsFor now.server config history × IsCarried config history trace × InSweeps hears config start passed now swept history trace

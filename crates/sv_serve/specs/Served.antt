@@ -68,5 +68,4 @@ IsServed hears config old new history events piece = StandsFor old.server config
 -- So it is of every sweep, whatever happened before.
 abbrev pub Served : {W : Type 0} → (W → Heard → W → Type 0) → Type 0
 Served hears = (config : Config) (ticks : ℕ) (history : List PlainEvent) (old new : Driving _) → StandsFor old.server config history
-    → Goes (Sweeps hears ticks) old new
-    → (events : List PlainEvent) × (piece : List Heard) × IsServed hears config old new history events piece
+    → Goes (Sweeps hears ticks) old new → (done : List PlainEvent) × (piece : List Heard) × IsServed hears config old new history done piece
