@@ -17,8 +17,10 @@ const PATIENCE: u64 = 10;
 const TRIES: u32 = 2_000;
 /// How often it looks at most.
 const LOOKS: u32 = 10_000_000;
-/// How many sweeps are made between two looks: time passes behind the first one.
+/// How many sweeps are made between two looks. Behind the last one no time is counted.
 const SWEEPS: u32 = 2;
+/// How many are made where times are compared, so that most of the time is counted.
+const MORE_SWEEPS: u32 = 4;
 
 /// What is told of a row that can't be played.
 pub(crate) fn bad() -> Error {
@@ -115,12 +117,12 @@ impl Stage {
         Ok(peer.ended || peer.came.len() >= count)
     }
 
-    /// Serves on, if a peer that began to wait then isn't too late.
-    fn serve_on(&mut self, begun: Instant) -> io::Result<()> {
+    /// Makes so many sweeps, if a peer that began to wait then isn't too late.
+    fn serve_on(&mut self, begun: Instant, sweeps: u32) -> io::Result<()> {
         if begun.elapsed(&self.rt)?.as_secs() >= PATIENCE {
             return Err(late());
         }
-        self.serve(SWEEPS)
+        self.serve(sweeps)
     }
 
     /// Serves until so many bytes came to a peer, or its stream ended.
@@ -137,7 +139,7 @@ impl Stage {
             if now > came {
                 (begun, came) = (Instant::now(&self.rt)?, now);
             }
-            self.serve_on(begun)?;
+            self.serve_on(begun, SWEEPS)?;
         }
         Err(late())
     }
@@ -152,7 +154,7 @@ impl Stage {
             if self.peer(name)?.accept()? {
                 return Ok(());
             }
-            self.serve_on(begun)?;
+            self.serve_on(begun, SWEEPS)?;
         }
         Err(late())
     }
@@ -170,7 +172,7 @@ impl Stage {
             if came {
                 return Ok(so);
             }
-            self.serve_on(begun)?;
+            self.serve_on(begun, MORE_SWEEPS)?;
         }
         Err(late())
     }
