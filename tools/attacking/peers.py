@@ -182,7 +182,9 @@ def all_gone(server, behind):
     peers = [Peer(server.core) for _ in range(PLACES)]
     for peer in peers:
         peer.make_link()
+    # The first holds the lock and reads what comes when a trigger does, which is never.
     peers[0].do(LOCK, words(peers[0].link, 0, 0), b"")
+    peers[0].write(b"*RST;*CLS;:TRIG:SOUR EXT;:INIT;*OPC?\n")
     for place, peer in enumerate(peers):
         if place == 0:
             waiting = call(9, CORE, READ, words(peer.link, 1024, LONGEST, 0, 0, 0))
@@ -190,6 +192,13 @@ def all_gone(server, behind):
             waiting = call(9, CORE, LOCK, words(peer.link, WAITLOCK, LONGEST))
         peer.send(waiting + behind)
     time.sleep(0.2)
+    for peer in peers:
+        peer.socket.setblocking(False)
+        try:
+            answer = peer.socket.recv(1)
+        except BlockingIOError:
+            continue
+        raise Lost("a call that is to wait was answered, or its connection closed: %s" % answer.hex())
     for peer in peers:
         reset(peer.socket)
     time.sleep(0.2)
