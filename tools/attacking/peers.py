@@ -212,6 +212,22 @@ def all_gone(server, behind):
     return 1000 * (time.monotonic() - begun)
 
 
+def half_closed(server):
+    """Ends its own direction while its call waits and no more is read, and must get the answer."""
+    with Peer(server.core) as holder, Peer(server.core) as peer:
+        holder.make_link()
+        peer.make_link()
+        holder.do(LOCK, words(holder.link, 0, 0), b"")
+        peer.send(call(9, CORE, LOCK, words(peer.link, WAITLOCK, 300)) + FURTHER)
+        peer.socket.shutdown(socket.SHUT_WR)
+        try:
+            found = peer.take(32)
+        except OSError as fault:
+            raise Lost("a call that waits isn't answered where its peer sends no more: %s" % fault) from None
+        if found != record(words(9, 1, 0, 0, 0, 0, 11)):
+            raise Lost("where its peer sends no more, a call is answered otherwise: %s" % found.hex())
+
+
 def urgent(server, chance):
     """Sends a byte of urgent data between two calls, and must get both replies."""
     with Peer(server.core) as peer:
