@@ -1,0 +1,24 @@
+"""VXI-11 (revision 1.0) over RPC (RFC 5531), for clients: `Client` and `Link` over sockets, and the bytes
+by themselves.
+
+`xdr`, `rpc`, `calls`, `requests` and `errors` have no sockets: they say what the bytes are.
+"""
+from .calls import (ABORT, CORE, ENDED, INTERRUPT, PORT_MAPPER, REQUEST_COUNT, TERMINATOR, Call, Made, Piece,
+                    name_of)
+from .client import Channel, Client, ServiceRequests, port_of
+from .errors import DeviceError
+from .link import Carrier, Link, LinkCalls
+from .requests import RequestStream, ServiceRequest
+from .rpc import (AuthenticationRefused, BadReply, CallMessage, GarbageArguments, ProcedureUnavailable,
+                  ProgramMismatch, ProgramUnavailable, Record, Records, RpcError, RpcMismatch, SystemFault,
+                  encode_call, read_call, read_reply, record)
+from .xdr import Reader, XdrError, opaque, words
+
+__all__ = [
+    "ABORT", "AuthenticationRefused", "BadReply", "CORE", "Call", "CallMessage", "Carrier", "Channel",
+    "Client", "DeviceError", "ENDED", "GarbageArguments", "INTERRUPT", "Link", "LinkCalls", "Made",
+    "PORT_MAPPER", "Piece", "ProcedureUnavailable", "ProgramMismatch", "ProgramUnavailable",
+    "REQUEST_COUNT", "Reader", "Record", "Records", "RequestStream", "RpcError", "RpcMismatch",
+    "ServiceRequest", "ServiceRequests", "SystemFault", "TERMINATOR", "XdrError", "encode_call", "name_of",
+    "opaque", "port_of", "read_call", "read_reply", "record", "words",
+]

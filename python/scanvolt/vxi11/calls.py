@@ -1,0 +1,259 @@
+"""The calls of VXI-11 (revision 1.0, B.6) and GETPORT of the port mapper (RFC 1833, section 3).
+
+Each function gives a Call: its program, version, procedure and arguments, and how its result is read.
+Timeouts are milliseconds. `wait` is how long a call may take by its own timeouts, in milliseconds.
+"""
+from dataclasses import dataclass
+from typing import Callable, Generic, Optional, TypeVar
+
+from .errors import DeviceError
+from .rpc import encode_call
+from .xdr import Reader, opaque, words
+
+CORE, ABORT, INTERRUPT, PORT_MAPPER = 0x0607AF, 0x0607B0, 0x0607B1, 100000
+VERSIONS = {CORE: 1, ABORT: 1, INTERRUPT: 1, PORT_MAPPER: 2}
+
+CREATE_LINK, DEVICE_WRITE, DEVICE_READ, DEVICE_READSTB, DEVICE_TRIGGER, DEVICE_CLEAR = 10, 11, 12, 13, 14, 15
+DEVICE_REMOTE, DEVICE_LOCAL, DEVICE_LOCK, DEVICE_UNLOCK = 16, 17, 18, 19
+DEVICE_ENABLE_SRQ, DEVICE_DOCMD = 20, 22
+DESTROY_LINK, CREATE_INTR_CHAN, DESTROY_INTR_CHAN = 23, 25, 26
+DEVICE_ABORT, DEVICE_INTR_SRQ, GETPORT = 1, 30, 3
+NULL = 0
+
+NAMES = {
+    CORE: {10: "create_link", 11: "device_write", 12: "device_read", 13: "device_readstb", 14:
+    "device_trigger",        15: "device_clear", 16: "device_remote", 17: "device_local", 18: "device_lock",
+    19: "device_unlock",        20: "device_enable_srq", 22: "device_docmd", 23: "destroy_link", 25:
+    "create_intr_chan",        26: "destroy_intr_chan"}, ABORT: {1: "device_abort"}, INTERRUPT: {30:
+    "device_intr_srq"}, PORT_MAPPER: {3: "GETPORT"},
+}
+
+WAITLOCK, END, TERMCHRSET = 1, 8, 128               # flags of a call
+REQUEST_COUNT, TERMINATOR, ENDED = 1, 2, 4          # reasons of a read, whose sum is given
+TCP, UDP = 6, 17                                    # protocols of the port mapper
+LOOPBACK = 0x7F000001                               # 127.0.0.1
+SRQ_MOST = 40                                       # bytes of a handle
+
+Value = TypeVar("Value", covariant=True)
+
+
+@dataclass(frozen=True)
+class Call(Generic[Value]):
+    """A call, and how its result is read."""
+
+    program: int
+    procedure: int
+    arguments: bytes
+    read: Callable[[bytes], Value]
+    wait: int = 0
+
+    @property
+    def version(self) -> int:
+        return VERSIONS[self.program]
+
+    @property
+    def name(self) -> str:
+        return name_of(self.program, self.procedure)
+
+    def encode(self, xid: int) -> bytes:
+        """The call as a record."""
+        return encode_call(xid, self.program, self.version, self.procedure, self.arguments)
+
+
+@dataclass(frozen=True)
+class Made:
+    """A link that was made: its number, the port of the abort channel, the most bytes of a write."""
+
+    link: int
+    abort_port: int
+    most: int
+
+
+@dataclass(frozen=True)
+class Piece:
+    """What a device_read gave, and the reason why it ended: the sum of REQUEST_COUNT 1, TERMINATOR 2, ENDED
+    4.
+    """
+
+    data: bytes
+    reason: int
+
+    @property
+    def ended(self) -> bool:
+        """Whether the response ended with it (END)."""
+        return self.reason & ENDED != 0
+
+
+def name_of(program: int, procedure: int) -> str:
+    """The name of a procedure, by the standard."""
+    if procedure == NULL:
+        return "the null procedure"
+    return NAMES.get(program, {}).get(procedure, "procedure %d of program %#x" % (procedure, program))
+
+
+def _nothing(_result: bytes) -> None:
+    """The result of the null procedure."""
+
+
+def _checked(result: bytes) -> Reader:
+    """What follows an error of 0. Raises DeviceError for another."""
+    reader = Reader(result)
+    number = reader.signed()
+    if number != 0:
+        raise DeviceError(number)
+    return reader
+
+
+def _error(result: bytes) -> None:
+    """A result that is an error alone."""
+    _checked(result)
+
+
+def _made(result: bytes) -> Made:
+    reader = _checked(result)
+    return Made(reader.signed(), reader.word(), reader.word())
+
+
+def _size(result: bytes) -> int:
+    return _checked(result).word()
+
+
+def _status(result: bytes) -> int:
+    return _checked(result).word() & 255
+
+
+def _piece(result: bytes) -> Piece:
+    reader = _checked(result)
+    reason = reader.signed()
+    return Piece(reader.opaque(), reason)
+
+
+def _data(result: bytes) -> bytes:
+    return _checked(result).opaque()
+
+
+def _port(result: bytes) -> int:
+    return Reader(result).word()
+
+
+def _flags(lock_timeout: int) -> int:
+    """A call waits for the lock where it has time to."""
+    return WAITLOCK if lock_timeout > 0 else 0
+
+
+def null(program: int = CORE) -> Call[None]:
+    """Nothing but a reply."""
+    return Call(program, NULL, b"", _nothing)
+
+
+def create_link(device: str = "inst0", lock: bool = False, lock_timeout: int = 0,
+                client: int = 0) -> Call[Made]:
+    """Makes a link; with `lock` one that has the lock, for which it waits up to lock_timeout."""
+    arguments = words(client, lock, lock_timeout) + opaque(device.encode("latin-1"))
+    return Call(CORE, CREATE_LINK, arguments, _made, lock_timeout if lock else 0)
+
+
+def device_write(link: int, data: bytes, io_timeout: int, lock_timeout: int = 0,
+                 end: bool = True) -> Call[int]:
+    """Writes bytes, with END or not; how many were taken."""
+    flags = _flags(lock_timeout) | (END if end else 0)
+    arguments = words(link, io_timeout, lock_timeout, flags) + opaque(data)
+    return Call(CORE, DEVICE_WRITE, arguments, _size, io_timeout + lock_timeout)
+
+
+def device_read(link: int, size: int, io_timeout: int, lock_timeout: int = 0,
+                termination: Optional[int] = None) -> Call[Piece]:
+    """Reads at most so many bytes, up to a termination character (0 to 255) if one is given, or to END."""
+    flags = _flags(lock_timeout) | (0 if termination is None else TERMCHRSET)
+    arguments = words(link, size, io_timeout, lock_timeout, flags, termination or 0)
+    return Call(CORE, DEVICE_READ, arguments, _piece, io_timeout + lock_timeout)
+
+
+def _generic(link: int, io_timeout: int, lock_timeout: int) -> bytes:
+    return words(link, _flags(lock_timeout), lock_timeout, io_timeout)
+
+
+def device_readstb(link: int, io_timeout: int, lock_timeout: int = 0) -> Call[int]:
+    """The status byte, 0 to 255; it clears bit 6."""
+    arguments = _generic(link, io_timeout, lock_timeout)
+    return Call(CORE, DEVICE_READSTB, arguments, _status, io_timeout + lock_timeout)
+
+
+def _simple(procedure: int, link: int, io_timeout: int, lock_timeout: int) -> Call[None]:
+    arguments = _generic(link, io_timeout, lock_timeout)
+    return Call(CORE, procedure, arguments, _error, io_timeout + lock_timeout)
+
+
+def device_trigger(link: int, io_timeout: int, lock_timeout: int = 0) -> Call[None]:
+    """A trigger from the bus."""
+    return _simple(DEVICE_TRIGGER, link, io_timeout, lock_timeout)
+
+
+def device_clear(link: int, io_timeout: int, lock_timeout: int = 0) -> Call[None]:
+    """Drops text and response."""
+    return _simple(DEVICE_CLEAR, link, io_timeout, lock_timeout)
+
+
+def device_remote(link: int, io_timeout: int, lock_timeout: int = 0) -> Call[None]:
+    """Remote control, without local operation."""
+    return _simple(DEVICE_REMOTE, link, io_timeout, lock_timeout)
+
+
+def device_local(link: int, io_timeout: int, lock_timeout: int = 0) -> Call[None]:
+    """Local operation."""
+    return _simple(DEVICE_LOCAL, link, io_timeout, lock_timeout)
+
+
+def device_lock(link: int, lock_timeout: int = 0) -> Call[None]:
+    """Takes the lock, for which it waits up to lock_timeout."""
+    return Call(CORE, DEVICE_LOCK, words(link, _flags(lock_timeout), lock_timeout), _error, lock_timeout)
+
+
+def device_unlock(link: int) -> Call[None]:
+    """Frees the lock."""
+    return Call(CORE, DEVICE_UNLOCK, words(link), _error)
+
+
+def device_enable_srq(link: int, handle: Optional[bytes]) -> Call[None]:
+    """Service requests are sent with this handle of at most 40 bytes; None turns them off."""
+    if handle is not None and len(handle) > SRQ_MOST:
+        raise ValueError("a handle of %d bytes, at most %d may be" % (len(handle), SRQ_MOST))
+    return Call(CORE, DEVICE_ENABLE_SRQ, words(link, handle is not None) + opaque(handle or b""), _error)
+
+
+def device_docmd(link: int, command: int, data: bytes, io_timeout: int, lock_timeout: int = 0,
+                 item_size: int = 1, network_order: bool = True) -> Call[bytes]:
+    """A command that the standard leaves to the device; the data that come back."""
+    arguments = words(link, _flags(lock_timeout), io_timeout, lock_timeout, command, network_order, item_size)
+    return Call(CORE, DEVICE_DOCMD, arguments + opaque(data), _data, io_timeout + lock_timeout)
+
+
+def destroy_link(link: int) -> Call[None]:
+    """Ends a link."""
+    return Call(CORE, DESTROY_LINK, words(link), _error)
+
+
+def create_intr_chan(address: int, port: int, program: int = INTERRUPT, version: int = 1,
+                     family: int = 0, wait: int = 0) -> Call[None]:
+    """Has the instrument connect to this address and port; family 0 is TCP. `wait` is what that may take."""
+    return Call(CORE, CREATE_INTR_CHAN, words(address, port, program, version, family), _error, wait)
+
+
+def destroy_intr_chan() -> Call[None]:
+    """Closes the interrupt channel."""
+    return Call(CORE, DESTROY_INTR_CHAN, b"", _error)
+
+
+def device_abort(link: int) -> Call[None]:
+    """Ends the call of this link that waits, by error 23. It goes over the abort channel."""
+    return Call(ABORT, DEVICE_ABORT, words(link), _error)
+
+
+def getport(program: int, version: int, protocol: int = TCP) -> Call[int]:
+    """The port of a program, 0 where there is none. It goes to the port mapper."""
+    return Call(PORT_MAPPER, GETPORT, words(program, version, protocol, 0), _port)
+
+
+def read_service_request(arguments: bytes) -> bytes:
+    """The handle that the arguments of device_intr_srq say."""
+    return Reader(arguments).opaque()

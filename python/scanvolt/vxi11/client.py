@@ -1,0 +1,230 @@
+"""Clients over sockets: a channel, and a client of the core channel with its links and service requests."""
+import queue
+import socket
+import sys
+import threading
+from typing import Callable, Optional, TypeVar
+
+from . import calls
+from .calls import Call
+from .link import IO_TIMEOUT, Link
+from .requests import RequestStream, ServiceRequest
+from .rpc import BadReply, Records, read_reply
+from .xdr import XdrError
+
+Value = TypeVar("Value")
+Itself = TypeVar("Itself", bound="Channel")
+PATIENCE = 10.0         # seconds that a reply may take, beyond the timeouts of its call
+Callback = Callable[[ServiceRequest], object]
+
+
+class Channel:
+    """A connection that carries calls, one after the other; threads may share it.
+
+    patience is seconds that a reply may take, beyond the timeouts of its call: behind it the connection is
+    closed, and ConnectionError raised. So it is where a call is interrupted, since its reply would be taken
+    for another's.
+    """
+
+    def __init__(self, host: str, port: int, patience: float = PATIENCE) -> None:
+        self.host = host
+        self.patience = patience
+        self.socket = socket.create_connection((host, port), patience)
+        self.socket.setsockopt(socket.IPPROTO_TCP, socket.TCP_NODELAY, 1)
+        self.xid = 0
+        self.records = Records()
+        self.turn = threading.Lock()
+
+    def __enter__(self: Itself) -> Itself:
+        return self
+
+    def __exit__(self, *_: object) -> None:
+        self.close()
+
+    def close(self) -> None:
+        """Closes the connection; the instrument destroys its links."""
+        self.socket.close()
+
+    def do(self, call: Call[Value]) -> Value:
+        """Does a call, and waits for its result."""
+        with self.turn:
+            self.xid = (self.xid + 1) % 2 ** 32
+            try:
+                self.socket.settimeout(self.patience + call.wait / 1000)
+                self.socket.sendall(call.encode(self.xid))
+                body = self._record(call)
+            except BaseException:
+                self.close()
+                raise
+            result = read_reply(body, self.xid)
+        try:
+            return call.read(result)
+        except XdrError as fault:
+            raise BadReply("the result of %s can't be read: %s" % (call.name, fault)) from None
+
+    def _record(self, call: Call[Value]) -> bytes:
+        """The next record that comes."""
+        while True:
+            try:
+                data = self.socket.recv(65536)
+            except socket.timeout:
+                raise ConnectionError("no reply to %s within %g s" % (
+                    call.name, self.patience + call.wait / 1000)) from None
+            if not data:
+                raise ConnectionError("the connection ended within %s" % call.name)
+            found = self.records.push(data)
+            if found:
+                return found[0].body
+
+
+def port_of(host: str, program: int, version: int, port: int = 111, patience: float = PATIENCE) -> int:
+    """Asks the port mapper of a host for the TCP port of a program. Raises ConnectionError where there is
+    none.
+    """
+    with Channel(host, port, patience) as mapper:
+        found = mapper.do(calls.getport(program, version))
+    if found == 0:
+        raise ConnectionError("the port mapper of %s knows no port of program %#x" % (host, program))
+    return found
+
+
+class Client(Channel):
+    """A connection to the core channel of an instrument.
+
+    Without a port it asks the port mapper. `with Client(host) as client, client.create_link() as link:`
+    ends all.
+    """
+
+    def __init__(self, host: str = "127.0.0.1", port: Optional[int] = None, patience: float = PATIENCE,
+                 port_mapper: int = 111) -> None:
+        if port is None:
+            port = port_of(host, calls.CORE, 1, port_mapper, patience)
+        super().__init__(host, port, patience)
+        self.abort_port: Optional[int] = None
+        self.requests: Optional[ServiceRequests] = None
+
+    def create_link(self, device: str = "inst0", lock: bool = False, lock_timeout: int = 0,
+                    io_timeout: int = IO_TIMEOUT) -> Link:
+        """A link; with `lock` it has the lock. Its timeouts are those given, in milliseconds."""
+        made = self.do(calls.create_link(device, lock, lock_timeout))
+        self.abort_port = made.abort_port
+        return Link(self, made, io_timeout, lock_timeout)
+
+    def abort(self, link: int) -> None:
+        """Ends the call of a link that waits. It takes a connection of its own, and doesn't wait for other
+        calls.
+        """
+        if self.abort_port is None:
+            raise ValueError("the abort channel's port is known once there is a link")
+        with Channel(self.host, self.abort_port, self.patience) as channel:
+            channel.do(calls.device_abort(link))
+
+    def create_intr_chan(self, address: int, port: int, program: int = calls.INTERRUPT, version: int = 1,
+                         family: int = 0) -> None:
+        """Has the instrument connect to a port, of an address as a number."""
+        self.do(calls.create_intr_chan(address, port, program, version, family))
+
+    def destroy_intr_chan(self) -> None:
+        """Closes the interrupt channel."""
+        self.do(calls.destroy_intr_chan())
+
+    def listen(self, callback: Optional[Callback] = None) -> "ServiceRequests":
+        """Makes the interrupt channel: service requests go to the callback, in a thread, or to a queue."""
+        address = self.socket.getsockname()[0]
+        requests = ServiceRequests(address, callback)
+        try:
+            number = int.from_bytes(socket.inet_aton(address), "big")
+            self.create_intr_chan(number, requests.port)
+        except BaseException:
+            requests.close()
+            raise
+        self.requests = requests
+        return requests
+
+    def close(self) -> None:
+        """Closes the connection, and what listens for its service requests."""
+        super().close()
+        if self.requests is not None:
+            self.requests.close()
+
+
+class ServiceRequests:
+    """Listens on a port of its own for one interrupt channel, in a thread."""
+
+    def __init__(self, address: str, callback: Optional[Callback] = None) -> None:
+        self.callback = callback
+        self.queue: "queue.Queue[ServiceRequest]" = queue.Queue()
+        self.listener = socket.create_server((address, 0))
+        self.port: int = self.listener.getsockname()[1]
+        self.channel: Optional[socket.socket] = None
+        self.closed = False
+        self.thread = threading.Thread(target=self._serve, daemon=True, name="service requests")
+        self.thread.start()
+
+    def wait(self, seconds: Optional[float] = None) -> ServiceRequest:
+        """The next service request. Raises TimeoutError where none comes in so many seconds."""
+        try:
+            return self.queue.get(timeout=seconds)
+        except queue.Empty:
+            raise TimeoutError("no service request within %g s" % (seconds or 0)) from None
+
+    def close(self) -> None:
+        """Stops listening; requests that came stay in the queue."""
+        self.closed = True
+        for one in (self.listener, self.channel):
+            if one is not None:
+                _shut(one)
+        if self.thread is not threading.current_thread():
+            self.thread.join()
+
+    def _serve(self) -> None:
+        """Takes the one connection, and hands on what it carries until it ends."""
+        with self.listener:
+            channel = self._accepted()
+        if channel is None:
+            return
+        stream = RequestStream()
+        with channel:
+            self.channel = channel
+            while not self.closed:
+                try:
+                    data = channel.recv(65536)
+                except OSError:
+                    return
+                if not data:
+                    return
+                for request in stream.push(data):
+                    self._hand(request)
+
+    def _accepted(self) -> Optional[socket.socket]:
+        """The connection of the instrument; none if this is closed before one comes."""
+        self.listener.settimeout(0.2)
+        while not self.closed:
+            try:
+                channel = self.listener.accept()[0]
+            except socket.timeout:
+                continue
+            except OSError:
+                return None
+            channel.settimeout(None)
+            return channel
+        return None
+
+    def _hand(self, request: ServiceRequest) -> None:
+        """A callback that raises is told as a thread's fault is, and the next request comes all the same."""
+        if self.callback is None:
+            self.queue.put(request)
+            return
+        try:
+            self.callback(request)
+        except Exception:
+            kind, fault, trace = sys.exc_info()
+            threading.excepthook(threading.ExceptHookArgs((kind, fault, trace, self.thread)))
+
+
+def _shut(one: socket.socket) -> None:
+    """Ends a socket that another thread waits on."""
+    try:
+        one.shutdown(socket.SHUT_RDWR)
+    except OSError:
+        pass

@@ -1,0 +1,24 @@
+"""The errors of VXI-11 (revision 1.0, table B.2)."""
+
+NAMES = {
+    1: "syntax error", 3: "device not accessible", 4: "invalid link identifier", 5: "parameter error",
+    6: "channel not established", 8: "operation not supported", 9: "out of resources",
+    11: "device locked by another link", 12: "no lock held by this link", 15: "I/O timeout", 17: "I/O error",
+    21: "invalid address", 23: "abort", 29: "channel already established",
+}
+
+SYNTAX_ERROR, NOT_ACCESSIBLE, INVALID_LINK, PARAMETER_ERROR, NOT_ESTABLISHED, NOT_SUPPORTED = 1, 3, 4, 5, 6, 8
+OUT_OF_RESOURCES, LOCKED, NO_LOCK, IO_TIMEOUT, IO_ERROR, INVALID_ADDRESS, ABORTED = 9, 11, 12, 15, 17, 21, 23
+ALREADY_ESTABLISHED = 29
+
+
+class DeviceError(Exception):
+    """An error that a call answered: its number, and its name by the standard."""
+
+    def __init__(self, number: int, name: str = "") -> None:
+        self.number = number
+        self.name = name or NAMES.get(number, "reserved error")
+        super().__init__(number, self.name)
+
+    def __str__(self) -> str:
+        return "%s (VXI-11 error %d)" % (self.name, self.number)

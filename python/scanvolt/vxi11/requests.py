@@ -1,0 +1,41 @@
+"""Service requests: what an interrupt channel carries (B.6, device_intr_srq)."""
+from dataclasses import dataclass
+from typing import List, Optional
+
+from .calls import DEVICE_INTR_SRQ, read_service_request
+from .rpc import CallMessage, Records, read_call
+from .xdr import XdrError
+
+
+@dataclass(frozen=True)
+class ServiceRequest:
+    """A service request: the handle of its link, its xid, and in virtual time its millisecond."""
+
+    handle: bytes
+    xid: int
+    clock: Optional[int] = None
+
+
+class RequestStream:
+    """The service requests of an interrupt channel, whose bytes come in pieces. Records of other calls are
+    skipped.
+    """
+
+    def __init__(self) -> None:
+        self.records = Records()
+
+    def push(self, data: bytes, clock: Optional[int] = None) -> List[ServiceRequest]:
+        """Takes a piece; the service requests that are complete now."""
+        found = [_request(one.body, clock) for one in self.records.push(data)]
+        return [one for one in found if one is not None]
+
+
+def _request(body: bytes, clock: Optional[int]) -> Optional[ServiceRequest]:
+    """The service request of a record, if it is one."""
+    try:
+        call: CallMessage = read_call(body)
+        if call.procedure != DEVICE_INTR_SRQ:
+            return None
+        return ServiceRequest(read_service_request(call.arguments), call.xid, clock)
+    except XdrError:
+        return None

@@ -1,0 +1,189 @@
+"""Remote procedure calls (RFC 5531): records of a stream, headers of calls and of replies. No sockets."""
+from dataclasses import dataclass
+from typing import List, Optional
+
+from .xdr import Reader, XdrError, words
+
+CALL, REPLY = 0, 1              # types of a message
+ACCEPTED, DENIED = 0, 1         # what becomes of a call
+LAST = 0x80000000               # in the mark of a fragment: the record ends with it
+AUTH_MOST = 400                 # bytes that a credential or a verifier may have
+RPC_VERSION = 2
+
+
+class RpcError(Exception):
+    """A call that wasn't executed, or a reply that can't be read."""
+
+
+class BadReply(RpcError):
+    """A reply that isn't one of the call, or can't be read."""
+
+
+class ProgramUnavailable(RpcError):
+    """There is no such program (PROG_UNAVAIL)."""
+
+
+class ProgramMismatch(RpcError):
+    """There is no such version of the program (PROG_MISMATCH): the versions from low to high are there."""
+
+    def __init__(self, low: int, high: int) -> None:
+        super().__init__("versions %d to %d of the program are there" % (low, high))
+        self.low, self.high = low, high
+
+
+class ProcedureUnavailable(RpcError):
+    """The program has no such procedure (PROC_UNAVAIL)."""
+
+
+class GarbageArguments(RpcError):
+    """The arguments can't be read (GARBAGE_ARGS)."""
+
+
+class SystemFault(RpcError):
+    """The other side failed (SYSTEM_ERR)."""
+
+
+class RpcMismatch(RpcError):
+    """The version of RPC isn't there (RPC_MISMATCH): the versions from low to high are."""
+
+    def __init__(self, low: int, high: int) -> None:
+        super().__init__("versions %d to %d of RPC are there" % (low, high))
+        self.low, self.high = low, high
+
+
+class AuthenticationRefused(RpcError):
+    """The credential or the verifier was refused (AUTH_ERROR), with its number."""
+
+    def __init__(self, number: int) -> None:
+        super().__init__("authentication error %d" % number)
+        self.number = number
+
+
+def record(payload: bytes) -> bytes:
+    """A record of one fragment (section 11)."""
+    return words(LAST | len(payload)) + payload
+
+
+@dataclass(frozen=True)
+class Record:
+    """A record: where it lies in its stream, in bytes, and its bytes without the marks of fragments."""
+
+    start: int
+    end: int
+    body: bytes
+
+
+class Records:
+    """The records of a stream, whose bytes come in pieces."""
+
+    def __init__(self) -> None:
+        self.count = 0                          # bytes that came
+        self.start = 0                          # where the unfinished record begins
+        self.mark = b""                         # what came of the mark of a fragment
+        self.left: Optional[int] = None         # bytes of the fragment that are wanted still
+        self.last = False
+        self.body = bytearray()
+
+    def push(self, data: bytes) -> List[Record]:
+        """Takes a piece; the records that are complete now."""
+        found = []
+        while data:
+            data = self._step(data)
+            if self.left == 0:
+                self.left = None
+                if self.last:
+                    found.append(Record(self.start, self.count, bytes(self.body)))
+                    self.start, self.body = self.count, bytearray()
+        return found
+
+    def _step(self, data: bytes) -> bytes:
+        """Takes what belongs to the mark, or to the fragment; gives the rest."""
+        if self.left is None:
+            size = 4 - len(self.mark)
+            self.mark += data[:size]
+            if len(self.mark) == 4:
+                word = int.from_bytes(self.mark, "big")
+                self.last, self.left, self.mark = word >= LAST, word % LAST, b""
+        else:
+            size = self.left
+            self.body += data[:size]
+            self.left -= len(data[:size])
+        self.count += len(data[:size])
+        return data[size:]
+
+    def held(self) -> int:
+        """How many bytes the unfinished record has, with a mark."""
+        return 4 + len(self.body) + len(self.mark)
+
+
+def encode_call(xid: int, program: int, version: int, procedure: int, arguments: bytes = b"") -> bytes:
+    """A call as a record, without credential and verifier (section 9)."""
+    return record(words(xid, CALL, RPC_VERSION, program, version, procedure, 0, 0, 0, 0) + arguments)
+
+
+@dataclass(frozen=True)
+class CallMessage:
+    """A call that came."""
+
+    xid: int
+    program: int
+    version: int
+    procedure: int
+    arguments: bytes
+
+
+def read_call(body: bytes) -> CallMessage:
+    """The call that a record's body says. Raises XdrError where it says none."""
+    reader = Reader(body)
+    xid = reader.word()
+    if (reader.word(), reader.word()) != (CALL, RPC_VERSION):
+        raise XdrError("no call of RPC version 2")
+    program, version, procedure = reader.word(), reader.word(), reader.word()
+    for _ in range(2):          # the credential and the verifier
+        reader.word()
+        reader.opaque(AUTH_MOST)
+    return CallMessage(xid, program, version, procedure, reader.rest())
+
+
+def read_reply(body: bytes, xid: int) -> bytes:
+    """The result that a reply to the call of that xid has.
+
+    Raises the RpcError that the reply says, BadReply where it can't be read.
+    """
+    reader = Reader(body)
+    try:
+        if (reader.word(), reader.word()) != (xid, REPLY):
+            raise BadReply("no reply to call %d: %s" % (xid, body.hex()))
+        refusal = _refusal(reader)
+    except XdrError as fault:
+        raise BadReply("a reply that can't be read: %s" % fault) from None
+    if refusal is not None:
+        raise refusal
+    return reader.rest()
+
+
+def _refusal(reader: Reader) -> Optional[RpcError]:
+    """What a reply says behind its type: none where the call was executed, and the result follows."""
+    status = reader.word()
+    if status == DENIED:
+        if reader.word() == 0:
+            return RpcMismatch(reader.word(), reader.word())
+        return AuthenticationRefused(reader.word())
+    if status != ACCEPTED:
+        return BadReply("a reply neither accepted nor denied: %d" % status)
+    reader.word()               # the verifier
+    reader.opaque(AUTH_MOST)
+    return _accepted(reader.word(), reader)
+
+
+def _accepted(status: int, reader: Reader) -> Optional[RpcError]:
+    """What became of a call that was accepted."""
+    if status == 0:
+        return None
+    if status == 2:
+        return ProgramMismatch(reader.word(), reader.word())
+    refusals = {1: ProgramUnavailable("there is no such program"),
+                3: ProcedureUnavailable("there is no such procedure"),
+                4: GarbageArguments("the arguments can't be read"),
+                5: SystemFault("the other side failed")}
+    return refusals.get(status, BadReply("an accepted reply of status %d" % status))

@@ -1,0 +1,62 @@
+"""External data representation (RFC 4506), as far as VXI-11 needs it: words, booleans, opaque data."""
+import struct
+
+
+class XdrError(ValueError):
+    """Bytes that don't say what was asked for."""
+
+
+def words(*numbers: int) -> bytes:
+    """Words of four bytes, most significant byte first. A negative number stands as its complement to 2^32.
+    """
+    return struct.pack(">%dI" % len(numbers), *(number & 0xFFFFFFFF for number in numbers))
+
+
+def opaque(data: bytes) -> bytes:
+    """Variable-length opaque data: its length, its bytes, and zeros up to a multiple of four bytes."""
+    return words(len(data)) + data + bytes(-len(data) % 4)
+
+
+class Reader:
+    """Reads one value after the other. Each method raises XdrError where the bytes are too few or wrong."""
+
+    def __init__(self, data: bytes) -> None:
+        self.data = data
+        self.place = 0
+
+    def take(self, count: int) -> bytes:
+        """The next bytes, as they are."""
+        piece = self.data[self.place:self.place + count]
+        if len(piece) < count:
+            raise XdrError("%d bytes are wanted at byte %d of %d" % (count, self.place, len(self.data)))
+        self.place += count
+        return piece
+
+    def word(self) -> int:
+        """An unsigned number of four bytes."""
+        return int.from_bytes(self.take(4), "big")
+
+    def signed(self) -> int:
+        """A signed number of four bytes."""
+        return int.from_bytes(self.take(4), "big", signed=True)
+
+    def boolean(self) -> bool:
+        """A boolean, 0 or 1."""
+        found = self.word()
+        if found > 1:
+            raise XdrError("%d is no boolean" % found)
+        return found == 1
+
+    def opaque(self, most: int = 0xFFFFFFFF) -> bytes:
+        """Variable-length opaque data of at most so many bytes, whose pad has to be zeros."""
+        size = self.word()
+        if size > most:
+            raise XdrError("%d bytes of opaque data, at most %d may be" % (size, most))
+        data = self.take(size)
+        if any(self.take(-size % 4)):
+            raise XdrError("a pad that isn't zero")
+        return data
+
+    def rest(self) -> bytes:
+        """All that wasn't read."""
+        return self.take(len(self.data) - self.place)
