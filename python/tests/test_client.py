@@ -77,7 +77,8 @@ class Sessions(Served):
 
     def test_a_long_response_and_a_long_message(self) -> None:
         """4,101 bytes go in two writes; 10,240 come in two reads."""
-        self.assertEqual(self.link.write("*CLS\n*CLS\n" + " " * 4060 + "CONF:VOLT (@1:128);:TRIG:COUN 8"), 4101)
+        settings = "CONF:VOLT (@1:128);:TRIG:COUN 8"
+        self.assertEqual(self.link.write("*CLS\n*CLS\n" + " " * 4060 + settings), 4101)
         response = self.link.query("READ?")
         self.assertEqual((len(response), response[:20]), (8 * 128 * 10 - 1, "+1.250000,-0.300000,"))
 
@@ -126,20 +127,20 @@ class Sessions(Served):
         abort.start()
         self.addCleanup(abort.join)
         self.error(23, self.link.read)
-        self.error(4, lambda: self.client.abort(9999))
+        self.error(4, Link(self.client, calls.Made(9999, self.server.abort, 0)).abort)
         self.link.clear()
 
     def test_service_requests(self) -> None:
         requests = self.client.listen()
         self.link.enable_srq(b"meter 1")
         self.link.write("*CLS;*SRE 4;UNKNOWN")
-        found = requests.wait(5)
+        found = requests.wait(5000)
         self.assertEqual((found.handle, found.xid), (b"meter 1", 1))
         self.assertEqual(self.link.readstb(), 68)
         self.error(29, lambda: self.client.create_intr_chan(calls.LOOPBACK, requests.port))
         self.link.disable_srq()
         self.link.write("*CLS;UNKNOWN")
-        self.assertRaises(TimeoutError, requests.wait, 0.05)
+        self.assertRaises(TimeoutError, requests.wait, 50)
         self.client.destroy_intr_chan()
         self.error(6, self.client.destroy_intr_chan)
         requests.thread.join(5)

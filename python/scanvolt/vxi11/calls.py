@@ -32,6 +32,7 @@ WAITLOCK, END, TERMCHRSET = 1, 8, 128               # flags of a call
 REQUEST_COUNT, TERMINATOR, ENDED = 1, 2, 4          # reasons of a read, whose sum is given
 TCP, UDP = 6, 17                                    # protocols of the port mapper
 LOOPBACK = 0x7F000001                               # 127.0.0.1
+BY_TCP, BY_UDP = 0, 1                               # families of an interrupt channel
 SRQ_MOST = 40                                       # bytes of a handle
 
 Value = TypeVar("Value", covariant=True)
@@ -234,8 +235,8 @@ def destroy_link(link: int) -> Call[None]:
 
 
 def create_intr_chan(address: int, port: int, program: int = INTERRUPT, version: int = 1,
-                     family: int = 0, wait: int = 0) -> Call[None]:
-    """Has the instrument connect to this address and port; family 0 is TCP. `wait` is what that may take."""
+                     family: int = BY_TCP, wait: int = 0) -> Call[None]:
+    """Has the instrument connect to this address and port. `wait` is what that may take, in milliseconds."""
     return Call(CORE, CREATE_INTR_CHAN, words(address, port, program, version, family), _error, wait)
 
 

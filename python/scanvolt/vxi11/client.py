@@ -7,7 +7,8 @@ from typing import Callable, Optional, TypeVar
 
 from . import calls
 from .calls import Call
-from .link import IO_TIMEOUT, Link
+from .core import Core
+from .link import Link
 from .requests import RequestStream, ServiceRequest
 from .rpc import BadReply, Records, read_reply
 from .xdr import XdrError
@@ -88,7 +89,7 @@ def port_of(host: str, program: int, version: int, port: int = 111, patience: fl
     return found
 
 
-class Client(Channel):
+class Client(Channel, Core):
     """A connection to the core channel of an instrument.
 
     Without a port it asks the port mapper. `with Client(host) as client, client.create_link() as link:`
@@ -100,33 +101,14 @@ class Client(Channel):
         if port is None:
             port = port_of(host, calls.CORE, 1, port_mapper, patience)
         super().__init__(host, port, patience)
-        self.abort_port: Optional[int] = None
         self.requests: Optional[ServiceRequests] = None
 
-    def create_link(self, device: str = "inst0", lock: bool = False, lock_timeout: int = 0,
-                    io_timeout: int = IO_TIMEOUT) -> Link:
-        """A link; with `lock` it has the lock. Its timeouts are those given, in milliseconds."""
-        made = self.do(calls.create_link(device, lock, lock_timeout))
-        self.abort_port = made.abort_port
-        return Link(self, made, io_timeout, lock_timeout)
-
-    def abort(self, link: int) -> None:
+    def abort(self, link: Link) -> None:
         """Ends the call of a link that waits. It takes a connection of its own, and doesn't wait for other
         calls.
         """
-        if self.abort_port is None:
-            raise ValueError("the abort channel's port is known once there is a link")
-        with Channel(self.host, self.abort_port, self.patience) as channel:
-            channel.do(calls.device_abort(link))
-
-    def create_intr_chan(self, address: int, port: int, program: int = calls.INTERRUPT, version: int = 1,
-                         family: int = 0) -> None:
-        """Has the instrument connect to a port, of an address as a number."""
-        self.do(calls.create_intr_chan(address, port, program, version, family))
-
-    def destroy_intr_chan(self) -> None:
-        """Closes the interrupt channel."""
-        self.do(calls.destroy_intr_chan())
+        with Channel(self.host, link.abort_port, self.patience) as channel:
+            channel.do(calls.device_abort(link.number))
 
     def listen(self, callback: Optional[Callback] = None) -> "ServiceRequests":
         """Makes the interrupt channel: service requests go to the callback, in a thread, or to a queue."""
@@ -161,12 +143,12 @@ class ServiceRequests:
         self.thread = threading.Thread(target=self._serve, daemon=True, name="service requests")
         self.thread.start()
 
-    def wait(self, seconds: Optional[float] = None) -> ServiceRequest:
-        """The next service request. Raises TimeoutError where none comes in so many seconds."""
+    def wait(self, milliseconds: float) -> ServiceRequest:
+        """The next service request. Raises TimeoutError where none comes in so many milliseconds."""
         try:
-            return self.queue.get(timeout=seconds)
+            return self.queue.get(timeout=milliseconds / 1000)
         except queue.Empty:
-            raise TimeoutError("no service request within %g s" % (seconds or 0)) from None
+            raise TimeoutError("no service request within %g ms" % milliseconds) from None
 
     def close(self) -> None:
         """Stops listening; requests that came stay in the queue."""

@@ -4,6 +4,7 @@ from typing import Optional, Protocol, Type, TypeVar, Union
 
 from . import calls
 from .calls import Call, Made, Piece
+from .errors import INVALID_LINK, DeviceError
 
 Value = TypeVar("Value")
 Itself = TypeVar("Itself", bound="Link")
@@ -17,7 +18,7 @@ class Carrier(Protocol):
     def do(self, call: Call[Value]) -> Value:
         """Does a call of the core channel, and waits for its result."""
 
-    def abort(self, link: int) -> None:
+    def abort(self, link: "Link") -> None:
         """Ends the call of a link that waits, over the abort channel of the same instrument."""
 
 
@@ -90,8 +91,10 @@ class Link:
     def __exit__(self, kind: Optional[Type[BaseException]], *_: object) -> None:
         try:
             self.destroy()
-        except Exception:
-            if kind is None:
+        except ConnectionError:                         # the link has ended with it
+            pass
+        except DeviceError as fault:
+            if kind is None and fault.number != INVALID_LINK:
                 raise
 
     @property
@@ -174,7 +177,7 @@ class Link:
 
     def abort(self) -> None:
         """Ends this link's call that waits, in another thread say, by error 23."""
-        self.carrier.abort(self.number)
+        self.carrier.abort(self)
 
     def destroy(self) -> None:
         """Ends the link, and with it its lock and its requests."""

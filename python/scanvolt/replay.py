@@ -1,0 +1,227 @@
+"""The program as `scanvolt replay`, in lock step: lines go in, and what they print is known to be complete.
+
+Behind the lines goes an event that is always refused in the same way, an input of channel 255, which prints
+`refused 8`. No other line prints that here. Its print tells that all in front of it is printed, and the
+program flushes before it reads on (docs/REPLAY.md).
+"""
+import os
+import select
+import subprocess
+import weakref
+import zlib
+from typing import Iterator, List, Optional, Tuple
+
+from .program import ProgramError
+
+PROBE, SEEN = b"input 255 0\n", b"refused 8\n"
+PATIENCE = 60.0             # seconds that the program may take to answer
+PIECE = 30000               # bytes of lines that are written at once; a pipe holds 65,536
+LONGEST_TICK = 1000000      # milliseconds of one line
+LONGEST_ASK = 50000         # milliseconds that pass before the program has to answer
+STEPS = 64                  # single milliseconds that are tried before time is tried in cells
+CELLS = 64                  # cells that are tried at once
+FIRST_CELL, LAST_CELL = 16, 1024    # milliseconds of the first ones, and of the longest
+LOG_MOST = 4000000          # bytes of lines that a second program is given; about 20 ms
+
+
+def ticks(milliseconds: int) -> bytes:
+    """Lines in which so much time passes."""
+    whole, rest = divmod(milliseconds, LONGEST_TICK)
+    return b"tick %d\n" % LONGEST_TICK * whole + (b"tick %d\n" % rest if rest else b"")
+
+
+def pieces(text: bytes) -> Iterator[bytes]:
+    """A text in pieces of whole lines, each of PIECE bytes at most, or of one line."""
+    start = 0
+    while start < len(text):
+        end = text.rfind(b"\n", start, start + PIECE) + 1 or text.index(b"\n", start) + 1
+        yield text[start:end]
+        start = end
+
+
+def _end(process: "subprocess.Popen[bytes]") -> None:
+    """Ends a program, whatever it does."""
+    process.kill()
+    for pipe in (process.stdin, process.stdout, process.stderr):
+        if pipe is not None:
+            pipe.close()
+    process.wait()
+
+
+class Program:
+    """One program. It ends by `close`, when this is garbage, and when Python ends, by a signal or not."""
+
+    def __init__(self, path: str) -> None:
+        self.path = path
+        try:
+            self.process = subprocess.Popen([path, "replay"], stdin=subprocess.PIPE, stdout=subprocess.PIPE,
+                                            stderr=subprocess.PIPE, bufsize=0, start_new_session=True)
+        except OSError as fault:
+            raise ProgramError("the program can't be run: %s: %s" % (path, fault.strerror)) from None
+        assert self.process.stdin is not None and self.process.stdout is not None
+        self.close = weakref.finalize(self, _end, self.process)
+        self.source, self.target = self.process.stdout.fileno(), self.process.stdin.fileno()
+        os.set_blocking(self.target, False)
+        self.printed, self.room = select.poll(), select.poll()
+        self.printed.register(self.source, select.POLLIN)
+        self.room.register(self.source, select.POLLIN)
+        self.room.register(self.target, select.POLLOUT)
+
+    def ask(self, lines: bytes, probes: int = 1) -> bytes:
+        """Writes lines, of which so many are probes, the last one too; what they print, to the last
+        probe's.
+        """
+        if not self.close.alive:
+            raise ProgramError("the program was ended before")
+        try:
+            found = self._write(lines)
+            while not (found.endswith(SEEN) and found.count(SEEN) == probes):
+                found += self._read(self.printed)
+            return bytes(found)
+        except BaseException:
+            self.close()
+            raise
+
+    def _write(self, lines: bytes) -> bytearray:
+        """Writes lines, and reads meanwhile where there is no room for them."""
+        found = bytearray()
+        while lines:
+            try:
+                lines = lines[os.write(self.target, lines):]
+            except BlockingIOError:
+                if self._waits(self.room):
+                    found += self._read(self.printed)
+            except BrokenPipeError:
+                raise self.fault() from None
+        return found
+
+    def _waits(self, poll: select.poll) -> bool:
+        """Waits; whether there is something to read."""
+        ready = poll.poll(1000 * PATIENCE)
+        if not ready:
+            raise ProgramError("the program says nothing for %g s: %s" % (PATIENCE, self.path))
+        return any(one == self.source for one, _ in ready)
+
+    def _read(self, poll: select.poll) -> bytes:
+        self._waits(poll)
+        data = os.read(self.source, 65536)
+        if not data:
+            raise self.fault()
+        return data
+
+    def fault(self) -> ProgramError:
+        """Why the program ended: what it said on standard error, or its status."""
+        assert self.process.stderr is not None
+        try:
+            self.process.wait(1)
+        except subprocess.TimeoutExpired:       # it closed its output, and goes on
+            self.process.kill()
+            self.process.wait()
+        told = self.process.stderr.read().decode("utf-8", "replace").strip()
+        status = self.process.returncode
+        how = "by signal %d" % -status if status < 0 else "with status %d" % status
+        return ProgramError("the program ended %s%s" % (how, ": " + told if told else ""))
+
+
+class Replay:
+    """An instrument: what happens to it, and the time that passes for it.
+
+    A second program that is given the same lines prints the same. So time can be tried in long steps: if
+    something is printed within one, a second program takes the first one's place, and goes on in front of
+    that step.
+    """
+
+    def __init__(self, path: str) -> None:
+        self.path = path
+        self.log: Optional[List[bytes]] = []        # all lines that were taken; none once they are too many
+        self.size = 0                               # their bytes
+        self.since = 0                              # milliseconds that passed behind the last of them
+        self.checksum = 0                           # of all that was printed
+        self.program = Program(path)
+        self.program.ask(PROBE)
+
+    def close(self) -> None:
+        """Ends the program."""
+        self.program.close()
+
+    def do(self, lines: bytes) -> bytes:
+        """Events, in lines; what they print."""
+        return self._kept(lines, self.program.ask(lines + PROBE)[:-len(SEEN)])
+
+    def pass_time(self, milliseconds: int) -> bytes:
+        """So much time passes at once; what that prints, at whichever of its moments."""
+        found = b""
+        for start in range(0, milliseconds, LONGEST_ASK):
+            passed = min(LONGEST_ASK, milliseconds - start)
+            found += self._kept(b"", self.program.ask(ticks(passed) + PROBE)[:-len(SEEN)])
+            self.since += passed
+        return found
+
+    def seek(self, most: int) -> Tuple[int, bytes]:
+        """Time passes to the first millisecond that prints something, at most so many; how many, and the
+        print.
+        """
+        passed, found = self._steps(min(most, STEPS))
+        cell = FIRST_CELL
+        while not found and passed < most:
+            if self.log is None or cell == 1:
+                further, found = self._steps(min(most - passed, STEPS))
+            else:
+                further, found, cell = self._cells(most - passed, cell)
+            passed += further
+        return passed, found
+
+    def _kept(self, lines: bytes, found: bytes) -> bytes:
+        """Remembers what was taken, and what it printed."""
+        self.checksum = zlib.crc32(found, self.checksum)
+        if self.log is not None and lines:
+            self.log += [ticks(self.since), lines] if self.since else [lines]
+            self.size += len(lines)
+            self.since = 0
+            if self.size > LOG_MOST:
+                self.log = None
+        return found
+
+    def _steps(self, most: int) -> Tuple[int, bytes]:
+        """Single milliseconds, to the first that prints."""
+        for passed in range(1, most + 1):
+            found = self.program.ask(b"tick\n" + PROBE)
+            if found != SEEN:
+                self.since += passed
+                return passed, self._kept(b"", found[:-len(SEEN)])
+        self.since += most
+        return most, b""
+
+    def _cells(self, most: int, cell: int) -> Tuple[int, bytes, int]:
+        """Tries cells of so many milliseconds, and one of a single millisecond behind them.
+
+        How many milliseconds passed, what the last one printed, and the length of the next cells. Where
+        something was printed within a cell, time passes to its begin alone, and the next cells are its
+        parts.
+        """
+        whole = min(CELLS, (most - 1) // cell)
+        rest = most - 1 - whole * cell
+        lengths = [cell] * whole + ([] if whole == CELLS else [rest, 1] if rest else [1])
+        parts = self.program.ask(b"".join(ticks(one) + PROBE for one in lengths), len(lengths)).split(SEEN)
+        quiet = next((place for place, part in enumerate(parts) if part), len(lengths))
+        passed = sum(lengths[:quiet])
+        if quiet == len(lengths):
+            self.since += passed
+            return passed, b"", min(2 * cell, LAST_CELL)
+        if quiet == len(lengths) - 1 and lengths[quiet] == 1:
+            self.since += passed + 1
+            return passed + 1, self._kept(b"", parts[quiet]), cell
+        self._begin_again(passed)
+        return passed, b"", 1 if cell <= STEPS else cell // CELLS
+
+    def _begin_again(self, further: int) -> None:
+        """A second program takes the place of the first, at the same moment or so many milliseconds later."""
+        self.program.close()
+        self.program = Program(self.path)
+        assert self.log is not None
+        self.since += further
+        checksum = 0
+        for piece in pieces(b"".join(self.log) + ticks(self.since)):
+            checksum = zlib.crc32(self.program.ask(piece + PROBE)[:-len(SEEN)], checksum)
+        if checksum != self.checksum:
+            raise ProgramError("a second program prints otherwise: %s" % self.path)

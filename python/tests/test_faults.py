@@ -1,0 +1,177 @@
+"""Programs that are missing, end, are killed or say what they shouldn't; and none is left behind."""
+import contextlib
+import gc
+import os
+import pathlib
+import signal
+import subprocess
+import sys
+import tempfile
+import threading
+import time
+import unittest
+from typing import Iterator
+from unittest import mock
+
+from scanvolt import program, replay
+from scanvolt.program import ProgramError, Server, find_program
+from scanvolt.virtual import Meter
+
+TOP = str(pathlib.Path(__file__).resolve().parent.parent)
+
+
+@contextlib.contextmanager
+def script(text: str) -> Iterator[str]:
+    """A program of the shell."""
+    with tempfile.TemporaryDirectory() as folder:
+        path = pathlib.Path(folder, "program")
+        path.write_text("#!/bin/sh\n" + text)
+        path.chmod(0o755)
+        yield str(path)
+
+
+def is_there(number: int) -> bool:
+    """Whether a process is there, and isn't dead."""
+    try:
+        return pathlib.Path("/proc/%d/stat" % number).read_text().rpartition(")")[2].split()[0] != "Z"
+    except FileNotFoundError:
+        return False
+
+
+class Missing(unittest.TestCase):
+    """No program."""
+
+    def test_what_is_named(self) -> None:
+        for path in ("/nonexistent/scanvolt", TOP, __file__):
+            with self.subTest(path), mock.patch.dict(os.environ, SCANVOLT=path):
+                self.assertRaisesRegex(ProgramError, "SCANVOLT names no program: /", Meter)
+                self.assertRaisesRegex(ProgramError, "SCANVOLT names no program: /", Server)
+
+    def test_nothing_found(self) -> None:
+        nowhere = mock.patch.dict(os.environ, {"SCANVOLT": "", "PATH": ""})
+        with nowhere, mock.patch.object(program, "BUILT", ()):
+            self.assertRaisesRegex(ProgramError, "^no program scanvolt: set SCANVOLT .*BUILD=1`$", Meter)
+
+    def test_the_path_and_a_checkout(self) -> None:
+        with tempfile.TemporaryDirectory() as folder:
+            built = pathlib.Path(folder, "crates/scanvolt/out/scanvolt")
+            built.parent.mkdir(parents=True)
+            built.symlink_to("/bin/true")
+            below = pathlib.Path(folder, "examples/driver")
+            with mock.patch.dict(os.environ, {"SCANVOLT": "", "PATH": ""}):
+                found = find_program(below)
+                self.assertEqual(found, os.path.join(os.path.realpath(folder), program.BUILT[0]))
+            with mock.patch.dict(os.environ, {"SCANVOLT": "", "PATH": str(built.parent)}):
+                self.assertEqual(find_program(), str(built))
+
+    def test_what_cannot_be_run(self) -> None:
+        with self.assertRaisesRegex(ProgramError, "can't be run: /nonexistent: No such file"):
+            Meter("/nonexistent")
+        self.assertRaisesRegex(ProgramError, "can't be run", Server, None, "/nonexistent")
+
+
+class Ends(unittest.TestCase):
+    """Programs that end, or say something else."""
+
+    def test_other_programs(self) -> None:
+        for text, told in (("exit 0", "ended with status 0$"), ("echo fault >&2; exit 3", "status 3: fault$"),
+                           ("kill -9 $$", "ended by signal 9$")):
+            with self.subTest(text), script(text) as path:
+                self.assertRaisesRegex(ProgramError, told, Meter, path)
+        with script("echo fault >&2; exit 3") as path:
+            self.assertRaisesRegex(ProgramError, "doesn't serve: fault$", Server, None, path)
+
+    def test_a_program_that_says_nothing(self) -> None:
+        with script("exec sleep 60") as path, mock.patch.object(replay, "PATIENCE", 0.2):
+            self.assertRaisesRegex(ProgramError, "says nothing for 0.2 s", Meter, path)
+        with script("exec cat") as path, mock.patch.object(replay, "PATIENCE", 0.2):
+            self.assertRaisesRegex(ProgramError, "says nothing for 0.2 s", Meter, path)
+
+    def test_a_bad_line(self) -> None:
+        meter = Meter()
+        with self.assertRaisesRegex(ProgramError, "with status 2: scanvolt: bad line 2$"):
+            meter.replay.do(b"nonsense\n")
+        self.assertRaisesRegex(ProgramError, "ended before", meter.set_input, 1, 1)
+
+    def test_killed_between_calls(self) -> None:
+        with Meter() as meter, meter.connect() as connection:
+            link = connection.create_link()
+            meter.replay.program.process.kill()
+            self.assertRaisesRegex(ProgramError, "ended by signal 9", link.readstb)
+            self.assertRaises(ConnectionError, link.readstb)
+            self.assertRaises(ProgramError, meter.connect)
+
+    def test_killed_within_a_call(self) -> None:
+        with Meter(patience=10 ** 9) as meter, meter.connect() as connection:
+            link = connection.create_link(io_timeout=10 ** 9)
+            link.write("TRIG:SOUR EXT;:INIT;*OPC?")
+            other = meter.connect()
+            reading = other.start(other.create_link(io_timeout=10 ** 9).calls.read())
+            killer = threading.Timer(0.3, lambda: meter.replay.program.process.kill())
+            killer.start()
+            self.addCleanup(killer.join)
+            self.assertRaisesRegex(ProgramError, "ended by signal 9", link.read)
+            self.assertRaisesRegex(ProgramError, "ended by signal 9", reading.result)
+
+    def test_another_program_in_its_place(self) -> None:
+        """A second program that prints otherwise isn't taken for the first."""
+        with Meter() as meter, meter.connect() as connection, connection.create_link() as link:
+            link.write("CONF:VOLT (@1:128)")
+            meter.replay.checksum += 1
+            self.assertRaisesRegex(ProgramError, "prints otherwise", link.query, "READ?")
+
+    def test_closed(self) -> None:
+        meter = Meter()
+        connection = meter.connect()
+        link = connection.create_link()
+        meter.close()
+        meter.close()
+        self.assertRaises(ConnectionError, link.readstb)
+        self.assertRaises(ProgramError, meter.advance, 1)
+        connection.close()
+
+
+class NothingLeft(unittest.TestCase):
+    """No process is left behind."""
+
+    def test_garbage(self) -> None:
+        meter = Meter()
+        meter.connect().create_link()
+        number = meter.replay.program.process.pid
+        self.assertTrue(is_there(number))
+        del meter
+        gc.collect()
+        self.assertFalse(is_there(number))
+
+    def test_an_exception(self) -> None:
+        with self.assertRaises(LookupError), Meter() as meter:
+            number = meter.replay.program.process.pid
+            raise LookupError
+        self.assertFalse(is_there(number))
+
+    def test_python_ends(self) -> None:
+        """By itself, by Ctrl-C within a call, and killed."""
+        for how in (None, signal.SIGINT, signal.SIGTERM, signal.SIGKILL):
+            with self.subTest(how):
+                self.leaves(how)
+
+    def leaves(self, how: "signal.Signals | None") -> None:
+        text = ("from scanvolt.virtual import Meter\nmeter = Meter()\n"
+                "print(meter.replay.program.process.pid, flush=True)\n") + (
+                    "meter.connect()\nmeter.advance(10 ** 12)\n" if how else "")
+        child = subprocess.Popen([sys.executable, "-c", text], stdout=subprocess.PIPE,
+                                 stderr=subprocess.DEVNULL, cwd=TOP, text=True)
+        assert child.stdout is not None
+        number = int(child.stdout.readline())
+        if how is not None:
+            self.assertTrue(is_there(number))
+            child.send_signal(how)
+        child.communicate(timeout=20)
+        end = time.monotonic() + 20
+        while is_there(number) and time.monotonic() < end:
+            time.sleep(0.01)
+        self.assertFalse(is_there(number))
+
+
+if __name__ == "__main__":
+    unittest.main()
