@@ -30,7 +30,8 @@ class Scenarios(unittest.TestCase):
     def test_bad_lines(self) -> None:
         for line in ("input 1 0", "0 input 0 0", "0 input 129 0", "0 input 01 0", "0 input 1 1000000001",
                      "0  external", "0 external ", "0 trigger", "-1 external", "0 input 1 1.5",
-                     "0 input 1 +5", "0\texternal", "1000000000000000000 external", "0 input 1 0000000000000000000",
+                     "0 input 1 +5", "0\texternal", "1000000000000000000 external",
+                     "0 input 1 0000000000000000000",
                      "4 external"):
             self.path.write_text("5 external\n" + line + "\n")
             with self.subTest(line), self.assertRaisesRegex(ValueError, "bad line 2 of the scenario /"):

@@ -1,0 +1,258 @@
+"""The library that PyVISA calls: sessions by their numbers, and instruments by their names."""
+import itertools
+import re
+from typing import Any, Callable, Dict, Iterable, List, Optional, Tuple, TypeVar, Union
+
+from pyvisa import constants, errors, highlevel, rname
+from pyvisa.constants import StatusCode
+from pyvisa.util import LibraryPath
+
+from scanvolt.virtual import Meter
+
+from . import attributes
+from .session import Session
+from .statuses import FAULTS, Refusal, status_of
+
+Value = TypeVar("Value")
+HOST = re.compile(r"scanvolt[0-9a-z_.-]*", re.IGNORECASE)
+FIRST = "TCPIP0::scanvolt::inst0::INSTR"        # is listed always
+NONE = "no scenario"
+UNSUPPORTED = """
+    assert_interrupt_signal assert_utility_signal get_buffer_from_id gpib_command gpib_control_atn
+    gpib_pass_control gpib_send_ifc in_8 in_16 in_32 in_64 map_address map_trigger memory_allocation
+    memory_free move move_asynchronously move_in_8 move_in_16 move_in_32 move_in_64 move_out_8 move_out_16
+    move_out_32 move_out_64 out_8 out_16 out_32 out_64 peek_8 peek_16 peek_32 peek_64 poke_8 poke_16 poke_32
+    poke_64 read_asynchronously read_to_file set_buffer terminate unmap_address unmap_trigger usb_control_in
+    usb_control_out vxi_command_query write_asynchronously write_from_file
+""".split()
+
+
+class ScanvoltLibrary(highlevel.VisaLibraryBase):
+    """Instruments in virtual time. What they can't do raises VisaIOError with VISA's status."""
+
+    @staticmethod
+    def get_library_paths() -> Iterable[LibraryPath]:
+        """One, for instruments without a scenario."""
+        return (LibraryPath(NONE),)
+
+    @staticmethod
+    def get_debug_info() -> Dict[str, Any]:
+        """The program that is found."""
+        from scanvolt.program import ProgramError, find_program
+        try:
+            return {"Program": find_program()}
+        except ProgramError as fault:
+            return {"Program": str(fault)}
+
+    def _init(self) -> None:
+        self.scenario = None if self.library_path == NONE else str(self.library_path)
+        self.meters: Dict[str, Meter] = {}
+        self.sessions: Dict[int, Session] = {}
+        self.contexts: Dict[int, constants.EventType] = {}
+        self.numbers = itertools.count(1)
+        self.manager: Any = None
+        self.common = attributes.common()
+
+    def meter(self, resource: Any) -> Meter:
+        """The instrument of a resource, or of a resource's name. It is turned on by this, if it wasn't."""
+        name = getattr(resource, "_resource_name", resource)
+        return self._meter(self._parsed(str(name)).host_address)
+
+    def _meter(self, host: str) -> Meter:
+        if host.lower() not in self.meters:
+            self.meters[host.lower()] = Meter(scenario=self.scenario)
+        return self.meters[host.lower()]
+
+    def _parsed(self, name: str) -> Any:
+        """The parts of a resource name; raises VisaIOError where it is none of an instrument here."""
+        try:
+            parsed = rname.ResourceName.from_string(name)
+        except rname.InvalidResourceName:
+            return self.handle_return_value(None, StatusCode.error_invalid_resource_name)
+        if not isinstance(parsed, rname.TCPIPInstr) or not HOST.fullmatch(parsed.host_address):
+            return self.handle_return_value(None, StatusCode.error_resource_not_found)
+        if parsed.board != "0":
+            return self.handle_return_value(None, StatusCode.error_interface_number_not_configured)
+        return parsed
+
+    def _done(self, number: Any, action: Callable[[Session], Value]) -> Value:
+        """What a session does; a fault is raised as VisaIOError."""
+        session = self.sessions.get(number)
+        status = StatusCode.error_invalid_object
+        if session is not None:
+            try:
+                return action(session)
+            except FAULTS as fault:
+                status = status_of(fault)
+        self.handle_return_value(number, status)
+        raise AssertionError("a status that is no error: %s" % status)
+
+    def _told(self, number: Any, action: Callable[[Session], StatusCode]) -> StatusCode:
+        """What a session does, that gives a status."""
+        return self.handle_return_value(number, self._done(number, action))
+
+    def _plain(self, number: Any, action: Callable[[Session], object]) -> StatusCode:
+        """What a session does, that gives nothing, or nothing that is wanted."""
+        self._done(number, action)
+        return self.handle_return_value(number, StatusCode.success)
+
+    def open_default_resource_manager(self) -> Tuple[Any, StatusCode]:
+        number: Any = next(self.numbers)
+        self.manager = number
+        return self.manager, self.handle_return_value(self.manager, StatusCode.success)
+
+    def list_resources(self, session: Any, query: str = "?*::INSTR") -> Tuple[str, ...]:
+        names = {"TCPIP0::%s::inst0::INSTR" % host for host in self.meters} | {FIRST}
+        return rname.filter(sorted(names), query)
+
+    def open(self, session: Any, resource_name: str,
+             access_mode: constants.AccessModes = constants.AccessModes.no_lock,
+             open_timeout: int = constants.VI_TMO_IMMEDIATE) -> Tuple[Any, StatusCode]:
+        if access_mode not in (constants.AccessModes.no_lock, constants.AccessModes.exclusive_lock):
+            self.handle_return_value(session, StatusCode.error_invalid_access_mode)
+        parsed = self._parsed(resource_name)
+        lock_timeout = None if access_mode == constants.AccessModes.no_lock else open_timeout
+        status = StatusCode.success
+        try:
+            opened = Session(self._meter(parsed.host_address), str(parsed), parsed.host_address,
+                             parsed.lan_device_name, lock_timeout)
+        except FAULTS as fault:
+            status = StatusCode.error_allocation if isinstance(fault, ConnectionError) else status_of(fault)
+        self.handle_return_value(session, status)
+        number: Any = next(self.numbers)
+        opened.number, opened.new_context = number, self._new_context
+        self.sessions[number] = opened
+        return number, self.handle_return_value(number, StatusCode.success)
+
+    def _new_context(self) -> int:
+        """The context of an event."""
+        number = next(self.numbers)
+        self.contexts[number] = constants.EventType.service_request
+        return number
+
+    def close(self, session: Any) -> StatusCode:
+        """Closes a session, an event, or the resource manager: then all instruments are turned off."""
+        if session in self.contexts:
+            del self.contexts[session]
+        elif session == self.manager:
+            for meter in self.meters.values():
+                meter.close()
+            self.meters.clear()
+            self.sessions.clear()
+            self.contexts.clear()
+        else:
+            self._done(session, Session.close)
+            del self.sessions[session]
+        return self.handle_return_value(None, StatusCode.success)
+
+    def get_attribute(self, session: Any, attribute: Any) -> Tuple[Any, StatusCode]:
+        if session in self.contexts:
+            if attribute == constants.EventAttribute.event_type:
+                return self.contexts[session], self.handle_return_value(session, StatusCode.success)
+            self.handle_return_value(session, StatusCode.error_nonsupported_attribute)
+        if session == self.manager:
+            if attribute not in self.common:
+                self.handle_return_value(session, StatusCode.error_nonsupported_attribute)
+            return self.common[attribute].state, self.handle_return_value(session, StatusCode.success)
+        if attribute == constants.ResourceAttribute.resource_manager_session:
+            return self.manager, self.handle_return_value(session, StatusCode.success)
+        state = self._done(session, lambda one: [one.get(attribute)])[0]
+        if attribute == constants.ResourceAttribute.resource_lock_state:
+            state = self._lock_state(self.sessions[session].meter)
+        return state, self.handle_return_value(session, StatusCode.success)
+
+    def _lock_state(self, meter: Meter) -> constants.AccessModes:
+        """Whether a session to this instrument has its lock."""
+        if any(one.locks for one in self.sessions.values() if one.meter is meter):
+            return constants.AccessModes.exclusive_lock
+        return constants.AccessModes.no_lock
+
+    def set_attribute(self, session: Any, attribute: Any, attribute_state: Any) -> StatusCode:
+        return self._plain(session, lambda one: one.put(attribute, attribute_state))
+
+    def write(self, session: Any, data: bytes) -> Tuple[int, StatusCode]:
+        count = self._done(session, lambda one: one.write(bytes(data)))
+        return count, self.handle_return_value(session, StatusCode.success)
+
+    def read(self, session: Any, count: int) -> Tuple[bytes, StatusCode]:
+        data, status = self._done(session, lambda one: one.read(count))
+        return data, self.handle_return_value(session, status)
+
+    def buffer_write(self, session: Any, data: bytes) -> Tuple[int, StatusCode]:
+        """Nothing is buffered."""
+        return self.write(session, data)
+
+    def buffer_read(self, session: Any, count: int) -> Tuple[bytes, StatusCode]:
+        """Nothing is buffered."""
+        return self.read(session, count)
+
+    def flush(self, session: Any, mask: constants.BufferOperation) -> StatusCode:
+        """Nothing is buffered."""
+        return self._plain(session, lambda one: None)
+
+    def read_stb(self, session: Any) -> Tuple[int, StatusCode]:
+        status_byte = self._done(session, Session.read_stb)
+        return status_byte, self.handle_return_value(session, StatusCode.success)
+
+    def clear(self, session: Any) -> StatusCode:
+        return self._plain(session, Session.clear)
+
+    def assert_trigger(self, session: Any, protocol: constants.TriggerProtocol) -> StatusCode:
+        return self._plain(session, lambda one: one.trigger(protocol))
+
+    def gpib_control_ren(self, session: Any, mode: constants.RENLineOperation) -> StatusCode:
+        return self._plain(session, lambda one: one.control_ren(mode))
+
+    def lock(self, session: Any, lock_type: constants.Lock, timeout: int,
+             requested_key: Optional[str] = None) -> Tuple[str, StatusCode]:
+        return "", self._told(session, lambda one: one.lock(lock_type, int(timeout)))
+
+    def unlock(self, session: Any) -> StatusCode:
+        return self._told(session, Session.unlock)
+
+    def enable_event(self, session: Any, event_type: constants.EventType, mechanism: constants.EventMechanism,
+                     context: None = None) -> StatusCode:
+        return self._told(session, lambda one: one.enable(event_type, mechanism))
+
+    def disable_event(self, session: Any, event_type: constants.EventType,
+                      mechanism: constants.EventMechanism) -> StatusCode:
+        return self._told(session, lambda one: one.disable(event_type, mechanism))
+
+    def discard_events(self, session: Any, event_type: constants.EventType,
+                       mechanism: constants.EventMechanism) -> StatusCode:
+        return self._told(session, lambda one: one.discard(event_type, mechanism))
+
+    def wait_on_event(self, session: Any, in_event_type: constants.EventType,
+                      timeout: Optional[int]) -> Tuple[constants.EventType, Any, StatusCode]:
+        status = self._told(session, lambda one: one.wait(in_event_type, timeout))
+        return constants.EventType.service_request, self._new_context(), status
+
+    def install_handler(self, session: Any, event_type: constants.EventType, handler: Any,
+                        user_handle: Any) -> Tuple[Any, Any, Any, StatusCode]:
+        if event_type != constants.EventType.service_request:
+            self.handle_return_value(session, StatusCode.error_invalid_event)
+        status = self._plain(session, lambda one: one.handlers.append((handler, user_handle)))
+        return handler, user_handle, handler, status
+
+    def uninstall_handler(self, session: Any, event_type: constants.EventType, handler: Any,
+                          user_handle: Any = None) -> StatusCode:
+        def uninstall(one: Session) -> None:
+            if (handler, user_handle) not in one.handlers:
+                raise Refusal(StatusCode.error_invalid_handler_reference)
+            one.handlers.remove((handler, user_handle))
+
+        return self._plain(session, uninstall)
+
+    def status_description(self, session: Any, status: StatusCode) -> Tuple[str, StatusCode]:
+        """A status in words."""
+        known = errors.completion_and_error_messages.get(status)
+        words: Union[str, Tuple[str, ...], List[str]] = known or ("unknown status",)
+        return words if isinstance(words, str) else words[-1], StatusCode.success
+
+    def _unsupported(self, session: Any, *_rest: Any, **_named: Any) -> Any:
+        """An operation that this resource doesn't have."""
+        return self.handle_return_value(session, StatusCode.error_nonsupported_operation)
+
+
+for _name in UNSUPPORTED:
+    setattr(ScanvoltLibrary, _name, ScanvoltLibrary._unsupported)

@@ -1,0 +1,206 @@
+"""A session to an instrument: a connection of its own with one link, as other VISAs make it for TCPIP."""
+import collections
+from typing import Any, Callable, Deque, List, Optional, Tuple
+
+from pyvisa import constants
+from pyvisa.constants import EventMechanism, EventType, StatusCode
+from pyvisa.constants import ResourceAttribute as Name
+
+from scanvolt.virtual import Meter, NoAnswer
+from scanvolt.vxi11 import ENDED, TERMINATOR, DeviceError, ServiceRequest
+from scanvolt.vxi11.errors import LOCKED
+
+from . import attributes
+from .statuses import Refusal
+
+Handler = Callable[[int, EventType, int, Any], object]
+QUEUE, HANDLER, SUSPENDED = EventMechanism.queue, EventMechanism.handler, EventMechanism.suspend_handler
+LOCAL = (constants.RENLineOperation.deassert, constants.RENLineOperation.deassert_gtl,
+         constants.RENLineOperation.address_gtl)
+LONGEST = 0xFFFFFFFF            # a timeout that doesn't end, VI_TMO_INFINITE
+
+
+class Session:
+    """What a program does with a resource. Each method raises Refusal, DeviceError or ConnectionError.
+
+    Time passes by calls that wait alone, and service requests come as it passes: handlers are called within
+    them.
+    """
+
+    def __init__(self, meter: Meter, name: str, host: str, device: str, lock_timeout: Optional[int]) -> None:
+        self.meter = meter
+        self.states = attributes.of_instrument(name, host, device)
+        self.connection = meter.connect()
+        try:
+            self.link = self.connection.create_link(device, lock_timeout is not None, lock_timeout or 0)
+        except Exception:
+            self.connection.close()
+            raise
+        self.link.lock_timeout = 0                          # who is locked out is told so at once
+        self.locks = 0 if lock_timeout is None else 1       # how often the lock was taken
+        self.number = 0
+        self.mechanisms = 0                                 # by which events are enabled
+        self.handlers: List[Tuple[Handler, Any]] = []
+        self.queued: Deque[ServiceRequest] = collections.deque()
+        self.suspended: Deque[ServiceRequest] = collections.deque()
+        self.new_context: Callable[[], int] = lambda: 0
+
+    def close(self) -> None:
+        """Ends the connection, and with it link, lock and requests."""
+        self.connection.close()
+
+    def get(self, name: Name) -> Any:
+        """The state of an attribute."""
+        return attributes.get(self.states, name)
+
+    def put(self, name: Name, state: Any) -> None:
+        """Sets an attribute."""
+        attributes.put(self.states, name, state)
+
+    def _timed(self) -> None:
+        """The link's timeout is the session's."""
+        self.link.io_timeout = self.get(Name.timeout_value)
+
+    def write(self, data: bytes) -> int:
+        """Writes bytes, with END where that is enabled."""
+        self._timed()
+        return self.link.write(data, bool(self.get(Name.send_end_enabled)))
+
+    def read(self, count: int) -> Tuple[bytes, StatusCode]:
+        """Reads to END, to the termination character if that is enabled, or so many bytes: the first of
+        these tells the status, where several hold.
+        """
+        self._timed()
+        termination = self.get(Name.termchar) if self.get(Name.termchar_enabled) else None
+        data = b""
+        while len(data) < count:
+            piece = self.link.read_piece(count - len(data), termination)
+            data += piece.data
+            if piece.reason & ENDED:
+                return data, StatusCode.success
+            if piece.reason & TERMINATOR:
+                return data, StatusCode.success_termination_character_read
+        return data, StatusCode.success_max_count_read
+
+    def read_stb(self) -> int:
+        """The status byte."""
+        self._timed()
+        return self.link.readstb()
+
+    def clear(self) -> None:
+        """Device clear."""
+        self._timed()
+        self.link.clear()
+
+    def trigger(self, protocol: int) -> None:
+        """A trigger from the bus."""
+        if protocol != constants.TriggerProtocol.default:
+            raise Refusal(StatusCode.error_invalid_protocol)
+        self._timed()
+        self.link.trigger()
+
+    def control_ren(self, mode: int) -> None:
+        """Remote or local operation."""
+        self._timed()
+        if mode in LOCAL:
+            self.link.local()
+        else:
+            self.link.remote()
+
+    def lock(self, kind: int, timeout: int) -> StatusCode:
+        """Takes the lock, for which it waits up to so many milliseconds."""
+        if kind != constants.Lock.exclusive:
+            raise Refusal(StatusCode.error_invalid_lock_type)
+        try:
+            self.link.lock(timeout)
+        except DeviceError as fault:
+            if fault.number == LOCKED and timeout > 0:
+                raise Refusal(StatusCode.error_timeout) from None
+            raise
+        self.locks += 1
+        return StatusCode.success if self.locks == 1 else StatusCode.success_nested_exclusive
+
+    def unlock(self) -> StatusCode:
+        """Frees the lock, where it was taken once more than freed."""
+        if self.locks == 0:
+            raise Refusal(StatusCode.error_session_not_locked)
+        if self.locks == 1:
+            self.link.unlock()
+        self.locks -= 1
+        return StatusCode.success if self.locks == 0 else StatusCode.success_nested_exclusive
+
+    def enable(self, kind: int, mechanism: int) -> StatusCode:
+        """Service requests come from now on, by a queue or by handlers. The first time, the interrupt
+        channel is made.
+        """
+        if kind not in (EventType.service_request, EventType.all_enabled):
+            raise Refusal(StatusCode.error_invalid_event)
+        if not mechanism or mechanism & ~(QUEUE | HANDLER | SUSPENDED) or (
+                mechanism & HANDLER and mechanism & SUSPENDED):
+            raise Refusal(StatusCode.error_invalid_mechanism)
+        if mechanism & (HANDLER | SUSPENDED) and not self.handlers:
+            raise Refusal(StatusCode.error_handler_not_installed)
+        already = mechanism & ~self.mechanisms == 0
+        if not self.connection.has_channel:
+            self.connection.listen(self.came)
+        if not self.mechanisms:
+            self.link.enable_srq(b"")
+        others = ~(HANDLER | SUSPENDED) if mechanism & (HANDLER | SUSPENDED) else ~0
+        self.mechanisms = self.mechanisms & others | mechanism
+        self._resume()
+        return StatusCode.success_event_already_enabled if already else StatusCode.success
+
+    def disable(self, kind: int, mechanism: int) -> StatusCode:
+        """Service requests don't come any more by these."""
+        if kind not in (EventType.service_request, EventType.all_enabled):
+            raise Refusal(StatusCode.error_invalid_event)
+        already = self.mechanisms & mechanism == 0
+        left = self.mechanisms & ~mechanism
+        if self.mechanisms and not left:
+            self.link.disable_srq()
+        self.mechanisms = left
+        return StatusCode.success_event_already_disabled if already else StatusCode.success
+
+    def discard(self, kind: int, mechanism: int) -> StatusCode:
+        """Service requests that came and weren't taken go."""
+        if kind not in (EventType.service_request, EventType.all_enabled):
+            raise Refusal(StatusCode.error_invalid_event)
+        count = 0
+        for which, queue in ((QUEUE, self.queued), (SUSPENDED, self.suspended)):
+            if mechanism & which:
+                count += len(queue)
+                queue.clear()
+        return StatusCode.success if count else StatusCode.success_queue_already_empty
+
+    def came(self, request: ServiceRequest) -> None:
+        """A service request: into the queue, to the handlers, or kept for them."""
+        most = self.get(Name.max_queue_length)
+        if self.mechanisms & QUEUE and len(self.queued) < most:
+            self.queued.append(request)
+        if self.mechanisms & (HANDLER | SUSPENDED) and len(self.suspended) < most:
+            self.suspended.append(request)
+        self._resume()
+
+    def _resume(self) -> None:
+        """Hands on what is kept for the handlers, the last one first, if they are enabled."""
+        while self.mechanisms & HANDLER and self.suspended:
+            self.suspended.popleft()
+            for handler, user_handle in reversed(self.handlers):
+                handler(self.number, EventType.service_request, self.new_context(), user_handle)
+
+    def wait(self, kind: int, timeout: Optional[int]) -> StatusCode:
+        """Waits for a service request of the queue; time passes up to so many milliseconds."""
+        if kind not in (EventType.service_request, EventType.all_enabled):
+            raise Refusal(StatusCode.error_invalid_event)
+        if not self.mechanisms & QUEUE:
+            raise Refusal(StatusCode.error_not_enabled)
+        endless = timeout is None or timeout == LONGEST
+        end = self.meter.clock + (self.meter.patience if timeout is None or endless else timeout)
+        while not self.queued:
+            if self.meter.clock >= end:
+                if endless:
+                    raise NoAnswer("no service request within %d ms of virtual time" % self.meter.patience)
+                raise Refusal(StatusCode.error_timeout)
+            self.meter.pass_on(end - self.meter.clock)
+        self.queued.popleft()
+        return StatusCode.success_queue_not_empty if self.queued else StatusCode.success

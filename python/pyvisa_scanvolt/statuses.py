@@ -1,0 +1,40 @@
+"""VISA's statuses, of what the instrument and its connection answer."""
+from typing import Dict, Tuple, Type
+
+from pyvisa.constants import StatusCode
+
+from scanvolt.vxi11 import DeviceError, RpcError
+
+OF_DEVICE: Dict[int, StatusCode] = {
+    3: StatusCode.error_resource_not_found,
+    4: StatusCode.error_connection_lost,
+    5: StatusCode.error_invalid_parameter,
+    8: StatusCode.error_nonsupported_operation,
+    9: StatusCode.error_allocation,
+    11: StatusCode.error_resource_locked,
+    12: StatusCode.error_session_not_locked,
+    15: StatusCode.error_timeout,
+    23: StatusCode.error_abort,
+}
+
+
+class Refusal(Exception):
+    """An operation that a session doesn't do, with its status."""
+
+    def __init__(self, status: StatusCode) -> None:
+        super().__init__(status)
+        self.status = status
+
+
+FAULTS: Tuple[Type[Exception], ...] = (Refusal, DeviceError, RpcError, ConnectionError)
+
+
+def status_of(fault: Exception) -> StatusCode:
+    """The status of an operation that ends so."""
+    if isinstance(fault, Refusal):
+        return fault.status
+    if isinstance(fault, ConnectionError):
+        return StatusCode.error_connection_lost
+    if isinstance(fault, DeviceError):
+        return OF_DEVICE.get(fault.number, StatusCode.error_io)
+    return StatusCode.error_io
