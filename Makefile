@@ -9,7 +9,7 @@ PROOF := scanvolt
 endif
 
 # A program that is named is looked at before anything is proved, built or made for it.
-TRIED := bench clients hostile soak install dist packages
+TRIED := bench clients hostile soak python install dist packages
 ifdef GIVEN
 ifneq ($(filter $(TRIED),$(MAKECMDGOALS)),)
 ifneq ($(shell tools/runnable '$(GIVEN)' && echo runs),runs)
@@ -30,7 +30,7 @@ DOC = $(DESTDIR)$(PREFIX)/share/doc/scanvolt
 DATA_FILES := examples/bench.scenario examples/identity.replay examples/scan.replay
 DOC_FILES := LICENSE CHANGELOG.md docs/INSTRUMENT.md docs/REPLAY.md examples/identity.md examples/scan.md
 
-.PHONY: test lint check scanvolt run serve bench echo clients hostile soak install uninstall dist packages
+.PHONY: test lint check scanvolt run serve bench echo clients hostile soak python install uninstall dist packages
 
 # What a proof doesn't see (tools/lint); then proves what changed and the crates above it from nothing
 # (every crate and its tests by `rt ci --anew`), tries the must-fail edits in the same way, and runs
@@ -86,6 +86,11 @@ hostile: $(PROOF)
 # with memory that is used up; beside them no reply and no request for service may be lost.
 soak: $(PROOF)
 	@tools/soak '$(SERVER)' $(MINUTES)
+
+# Checks the types of the Python package and runs its tests and those of the example of a driver, over the program that
+# `tools/serve BUILD=1` builds, or over SERVER. It needs some Debian packages, which it names.
+python:
+	@python/check '$(GIVEN)'
 
 # Installs the proved program, its man page, the scenario and scripts of the examples, and the licence.
 install: $(PROOF)

@@ -5,9 +5,12 @@ time to its answer, by the instrument's own milliseconds, or to its timeout. So 
 program computes, and ends the same each time.
 """
 import collections
+import contextlib
 import functools
+import math
 import threading
-from typing import Callable, Deque, Dict, Generic, List, Optional, Type, TypeVar, cast
+import time
+from typing import Callable, Deque, Dict, Generic, Iterator, List, Optional, Type, TypeVar, cast
 
 from . import vxi11
 from .program import Name, ProgramError, find_program
@@ -238,6 +241,29 @@ class Meter:
         end = self.clock + milliseconds
         while self.clock < end:
             self.pass_on(end - self.clock)
+
+    @contextlib.contextmanager
+    def keeping_time(self) -> Iterator["Meter"]:
+        """Python's clock is the meter's: time.sleep advances it, and time.time, time.monotonic and
+        time.perf_counter tell it. So a driver that sleeps between its polls takes no real time. It holds
+        for those who say `time.sleep`, in all threads.
+        """
+        begin = time.time()
+        clocks: Dict[str, Callable[..., object]] = {
+            "sleep": self._sleep, "time": lambda: begin + self.clock / 1000,
+            "monotonic": lambda: self.clock / 1000, "perf_counter": lambda: self.clock / 1000}
+        before = {name: getattr(time, name) for name in clocks}
+        try:
+            for name, clock in clocks.items():
+                setattr(time, name, clock)
+            yield self
+        finally:
+            for name, clock in before.items():
+                setattr(time, name, clock)
+
+    def _sleep(self, seconds: float) -> None:
+        """So much time passes, in whole milliseconds: rounded up, so that a loop that sleeps ends."""
+        self.advance(math.ceil(1000 * seconds))
 
     def pass_on(self, most: int) -> None:
         """Time passes by at most so many milliseconds, no further than to the first at which something

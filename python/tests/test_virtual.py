@@ -195,6 +195,18 @@ class Moments(WithMeter):
         self.assertEqual(self.meter.clock, 100000)
         self.assertRaises(ValueError, self.meter.advance, -1)
 
+    def test_python_s_clock(self) -> None:
+        real = time.sleep, time.monotonic, time.time, time.perf_counter
+        with self.meter.keeping_time():
+            began = time.monotonic(), time.time(), time.perf_counter()
+            time.sleep(20)
+            time.sleep(0.0001)
+            passed = time.monotonic() - began[0], time.time() - began[1], time.perf_counter() - began[2]
+        self.assertEqual(self.meter.clock, 20001)
+        for seconds in passed:
+            self.assertAlmostEqual(seconds, 20.001, 5)
+        self.assertEqual((time.sleep, time.monotonic, time.time, time.perf_counter), real)
+
     def test_patience(self) -> None:
         self.link.write("TRIG:SOUR EXT;:INIT;*OPC?")
         self.link.io_timeout = 0xFFFFFFFF

@@ -1,0 +1,115 @@
+"""A driver of the voltmeter, over a PyVISA resource of any backend. It is what the tests are about."""
+import contextlib
+import enum
+import time
+from typing import Iterator, List, Optional
+
+import pyvisa
+from pyvisa.constants import EventMechanism, EventType
+from pyvisa.resources import MessageBasedResource
+
+LARGEST = 1e37          # an overload reads as 9.9E+37 or -9.9E+37
+REQUEST = 64            # bit 6 of the status byte: the instrument requests service
+LIMIT = 512             # bit 9 of the questionable register: a limit was passed
+WHOLE = 32768           # bytes of the longest response
+POLLS = 0.01            # seconds between two polls
+
+
+class Limits(enum.IntFlag):
+    """Events of the register of limits."""
+
+    BELOW = 1           # the last reading was below the lower limit
+    ABOVE = 2           # the last reading was above the upper limit
+    OUTSIDE = 4         # the input of the monitored channel is outside of them, without a scan
+
+
+class VoltmeterError(Exception):
+    """An entry of the instrument's error queue."""
+
+    def __init__(self, entry: str) -> None:
+        number, _, text = entry.partition(",")
+        super().__init__(entry)
+        self.number, self.text = int(number), text.strip('"')
+
+
+class Voltmeter:
+    """One link to the voltmeter. Others may have links to the same one: see `alone`."""
+
+    def __init__(self, resource: MessageBasedResource) -> None:
+        self.resource = resource
+        self.channels = 1       # of the list that is scanned
+        resource.read_termination = resource.write_termination = "\n"
+        resource.chunk_size = WHOLE
+        try:
+            resource.enable_event(EventType.service_request, EventMechanism.queue)
+            self.has_events = True
+        except (NotImplementedError, pyvisa.Error):     # as PyVISA-py
+            self.has_events = False
+
+    def reset(self) -> None:
+        """What others left goes: answers, settings, events, and what they enabled."""
+        self.resource.clear()
+        self.resource.write("*RST;*CLS;*ESE 0;*SRE 0;:STAT:PRES")
+        self.channels = 1
+        if self.has_events:
+            self.resource.discard_events(EventType.service_request, EventMechanism.queue)
+
+    def command(self, text: str) -> None:
+        """Writes a command, and raises the first error that it leads to; the others go."""
+        self.resource.write(text)
+        first = entry = self.resource.query("SYST:ERR?")
+        while not entry.startswith("0,"):
+            entry = self.resource.query("SYST:ERR?")
+        if not first.startswith("0,"):
+            raise VoltmeterError(first)
+
+    def configure(self, channels: List[int], volts: float = 10, scans: int = 1) -> None:
+        """Which channels are scanned, in which order, at which range (1, 10 or 100 V), and how often."""
+        listed = ",".join(str(channel) for channel in channels)
+        self.command("CONF:VOLT (@%s);:VOLT:RANG %g;:TRIG:COUN %d" % (listed, volts, scans))
+        self.channels = len(channels)
+
+    def scan(self) -> List[List[Optional[float]]]:
+        """The voltages of each scan, in the order of the channels; None for an overload."""
+        answer = self.resource.query("READ?")
+        readings = [float(text) for text in answer.split(",")]
+        found = [None if abs(volts) > LARGEST else volts for volts in readings]
+        return [found[start:start + self.channels] for start in range(0, len(found), self.channels)]
+
+    def watch(self, channel: int, lower: float, upper: float) -> None:
+        """From now on there is an alarm once a reading, or the input of this channel, is outside the
+        limits.
+        """
+        self.command("CALC:LIM:STAT OFF;:STAT:QUES:ENAB 0;*CLS")
+        self.command("ROUT:MON (@%d);:CALC:LIM:LOW %f;UPP %f" % (channel, lower, upper))
+        self.command("STAT:QUES:LIM:ENAB %d;:STAT:QUES:ENAB %d;*SRE 8" % (sum(Limits), LIMIT))
+        self.command("CALC:LIM:STAT ON")
+
+    def limits(self) -> Limits:
+        """The events of the limits, which are then cleared, and with them the reason of an alarm."""
+        _, limits = self.resource.query("STAT:QUES?;QUES:LIM?").split(";")
+        return Limits(int(limits))
+
+    def wait_for_alarm(self, seconds: float) -> int:
+        """Waits for a service request. Gives the status byte, whose bit 6 this clears."""
+        if self.has_events:
+            response = self.resource.wait_on_event(EventType.service_request, int(1000 * seconds), True)
+            if not response.timed_out:
+                return self.resource.read_stb()
+        else:
+            end = time.monotonic() + seconds
+            while time.monotonic() < end:
+                status = self.resource.read_stb()
+                if status & REQUEST:
+                    return status
+                time.sleep(POLLS)
+        raise TimeoutError("no alarm in %g seconds" % seconds)
+
+    @contextlib.contextmanager
+    def alone(self) -> Iterator["Voltmeter"]:
+        """Locks the instrument: no other link gets to it meanwhile."""
+        self.resource.lock_excl()
+        try:
+            yield self
+        finally:
+            self.resource.unlock()

@@ -1,0 +1,56 @@
+"""Fixtures of pytest: `meter`, an instrument in virtual time, and `scanvolt_server`, one on sockets.
+
+Each test that asks for one has an instrument of its own, which has just been turned on. A marker gives its
+scenario, by a path beside the test's file: `@pytest.mark.scanvolt(scenario="stand.scenario")`.
+"""
+from typing import Any, Callable, Dict, Iterator, TypeVar
+
+import pytest
+
+from .program import ProgramError, Server
+from .virtual import Meter
+
+Made = TypeVar("Made")
+MARKER = "scanvolt(scenario=FILE, patience=MILLISECONDS): the instrument of `meter` and `scanvolt_server`"
+OPTIONS = ("scenario", "patience")
+
+
+def pytest_configure(config: pytest.Config) -> None:
+    """Tells pytest of the marker."""
+    config.addinivalue_line("markers", MARKER)
+
+
+def options_of(request: pytest.FixtureRequest) -> Dict[str, Any]:
+    """What the marker of a test gives."""
+    marker = request.node.get_closest_marker("scanvolt")
+    options = {} if marker is None else dict(marker.kwargs)
+    unknown = sorted(set(options) - set(OPTIONS)) if marker is None or not marker.args else ["without a name"]
+    if unknown:
+        pytest.fail("the marker scanvolt has no option %s, but %s" % (unknown[0], ", ".join(OPTIONS)), False)
+    if "scenario" in options:
+        options["scenario"] = request.path.parent / options["scenario"]
+    return options
+
+
+def made(make: Callable[[], Made]) -> Made:
+    """An instrument; if there is none, one line says why."""
+    try:
+        return make()
+    except (ProgramError, OSError, ValueError) as fault:
+        return pytest.fail(str(fault), pytrace=False)
+
+
+@pytest.fixture
+def meter(request: pytest.FixtureRequest) -> Iterator[Meter]:
+    """An instrument in virtual time."""
+    options = options_of(request)
+    with made(lambda: Meter(**options)) as one:
+        yield one
+
+
+@pytest.fixture
+def scanvolt_server(request: pytest.FixtureRequest) -> Iterator[Server]:
+    """An instrument on free ports of 127.0.0.1: `core`, `abort` and `port_mapper`."""
+    scenario = options_of(request).get("scenario")
+    with made(lambda: Server(scenario)) as server:
+        yield server

@@ -1,0 +1,100 @@
+"""The fixtures of the plugin, each used by tests that pytest runs on its own."""
+import pathlib
+from importlib.util import find_spec
+
+import pytest
+
+TOP = pathlib.Path(__file__).resolve().parent.parent
+PLUGIN = ("-p", "scanvolt.pytest_plugin")
+BOTH = """
+    import pytest
+    from scanvolt.vxi11 import Client
+
+    @pytest.mark.scanvolt(scenario="voltages")
+    @pytest.mark.parametrize("number", range(4))
+    def test_virtual(meter, number):
+        link = meter.connect().create_link()
+        assert link.query("MEAS:VOLT? (@1)") == "+2.500000"
+        assert meter.clock == 1
+
+    @pytest.mark.scanvolt(scenario="voltages")
+    @pytest.mark.parametrize("number", range(4))
+    def test_sockets(scanvolt_server, number):
+        with Client(port_mapper=scanvolt_server.port_mapper) as client, client.create_link() as link:
+            assert link.query("MEAS:VOLT? (@1)") == "+2.500000"
+
+    def test_without_a_scenario(meter, scanvolt_server):
+        with Client(port=scanvolt_server.core) as client, client.create_link() as link:
+            assert link.query("MEAS:VOLT? (@1)") == "+0.000000"
+"""
+
+
+@pytest.fixture(autouse=True)
+def path(monkeypatch: pytest.MonkeyPatch) -> None:
+    monkeypatch.setenv("PYTHONPATH", str(TOP))
+
+
+def test_both_fixtures(pytester: pytest.Pytester) -> None:
+    pytester.makefile("", voltages="0 input 1 2500000\n")
+    pytester.makepyfile(BOTH)
+    pytester.runpytest_subprocess(*PLUGIN, "--strict-markers").assert_outcomes(passed=9)
+
+
+@pytest.mark.skipif(find_spec("xdist") is None, reason="Debian's python3-pytest-xdist isn't there")
+def test_side_by_side(pytester: pytest.Pytester) -> None:
+    pytester.makefile("", voltages="0 input 1 2500000\n")
+    pytester.makepyfile(BOTH)
+    pytester.runpytest_subprocess(*PLUGIN, "-n", "4").assert_outcomes(passed=9)
+
+
+def test_no_program(pytester: pytest.Pytester, monkeypatch: pytest.MonkeyPatch) -> None:
+    """One line says what is missing."""
+    monkeypatch.setenv("SCANVOLT", "/nonexistent/scanvolt")
+    pytester.makepyfile("def test_one(meter): pass\ndef test_two(scanvolt_server): pass")
+    result = pytester.runpytest_subprocess(*PLUGIN)
+    result.assert_outcomes(errors=2)
+    result.stdout.fnmatch_lines(["*ERROR at setup of test_one*",
+                                 "SCANVOLT names no program: /nonexistent/scanvolt"])
+    result.stdout.no_fnmatch_line("*Traceback*")
+    result.stdout.no_fnmatch_line("*plugin.py:*")
+
+
+def test_bad_options(pytester: pytest.Pytester) -> None:
+    pytester.makefile("", bad="0 trigger\n")
+    pytester.makepyfile("""
+        import pytest
+
+        @pytest.mark.scanvolt(scenario="bad")
+        def test_bad(meter): pass
+
+        @pytest.mark.scanvolt(scenario="none")
+        def test_none(meter): pass
+
+        @pytest.mark.scanvolt(voltages="1")
+        def test_option(meter): pass
+
+        @pytest.mark.scanvolt("voltages")
+        def test_no_name(meter): pass
+
+        @pytest.mark.scanvolt(scenario="bad")
+        def test_served(scanvolt_server): pass
+    """)
+    result = pytester.runpytest_subprocess(*PLUGIN)
+    result.assert_outcomes(errors=5)
+    result.stdout.fnmatch_lines([
+        "bad line 1 of the scenario /*/bad", "*No such file or directory: '/*/none'",
+        "the marker scanvolt has no option voltages, but scenario, patience",
+        "the marker scanvolt has no option without a name, but scenario, patience",
+        "*scanvolt doesn't serve: scanvolt: bad line 1"])
+
+
+def test_a_test_that_is_interrupted(pytester: pytest.Pytester) -> None:
+    """No program is left."""
+    pytester.makepyfile("""
+        def test_one(meter):
+            print("process", meter.replay.program.process.pid)
+            raise KeyboardInterrupt
+    """)
+    result = pytester.runpytest_subprocess(*PLUGIN, "-s")
+    number = [line.split()[-1] for line in result.outlines if "process" in line][0]
+    assert not pathlib.Path("/proc", number).exists()
