@@ -156,7 +156,7 @@ class Session:
             raise Refusal(StatusCode.error_invalid_event)
         already = self.mechanisms & mechanism == 0
         left = self.mechanisms & ~mechanism
-        if self.mechanisms and not left:
+        if self.mechanisms and not left and self.connection.is_open:
             self.link.disable_srq()
         self.mechanisms = left
         return StatusCode.success_event_already_disabled if already else StatusCode.success
@@ -194,13 +194,10 @@ class Session:
             raise Refusal(StatusCode.error_invalid_event)
         if not self.mechanisms & QUEUE:
             raise Refusal(StatusCode.error_not_enabled)
-        endless = timeout is None or timeout == LONGEST
-        end = self.meter.clock + (self.meter.patience if timeout is None or endless else timeout)
-        while not self.queued:
-            if self.meter.clock >= end:
-                if endless:
-                    raise NoAnswer("no service request within %d ms of virtual time" % self.meter.patience)
-                raise Refusal(StatusCode.error_timeout)
-            self.meter.pass_on(end - self.meter.clock)
+        most = self.meter.patience if timeout is None or timeout == LONGEST else timeout
+        if not self.meter.until(lambda: bool(self.queued), int(most)):
+            if timeout is None or timeout == LONGEST:
+                raise NoAnswer("no service request within %d ms of virtual time" % most)
+            raise Refusal(StatusCode.error_timeout)
         self.queued.popleft()
         return StatusCode.success_queue_not_empty if self.queued else StatusCode.success

@@ -39,8 +39,10 @@ def pieces(text: bytes) -> Iterator[bytes]:
         start = end
 
 
-def _end(process: "subprocess.Popen[bytes]") -> None:
-    """Ends a program, whatever it does."""
+def _end(process: "subprocess.Popen[bytes]", owner: int) -> None:
+    """Ends a program, whatever it does. A copy of the process that began it (fork) leaves it alone."""
+    if os.getpid() != owner:
+        return
     process.kill()
     for pipe in (process.stdin, process.stdout, process.stderr):
         if pipe is not None:
@@ -59,7 +61,7 @@ class Program:
         except OSError as fault:
             raise ProgramError("the program can't be run: %s: %s" % (path, fault.strerror)) from None
         assert self.process.stdin is not None and self.process.stdout is not None
-        self.close = weakref.finalize(self, _end, self.process)
+        self.close = weakref.finalize(self, _end, self.process, os.getpid())
         self.source, self.target = self.process.stdout.fileno(), self.process.stdin.fileno()
         os.set_blocking(self.target, False)
         self.printed, self.room = select.poll(), select.poll()

@@ -54,12 +54,9 @@ class Pending(Generic[Value]):
     def result(self) -> Value:
         """Advances time until the call is answered. Its result, or the exception of its error."""
         meter = self.connection.meter
-        end = meter.clock + meter.patience
-        while not self.done:
-            if meter.clock >= end:
-                raise NoAnswer("%s waits for more than %d ms of virtual time; see patience of Meter" % (
-                    self.call.name, meter.patience))
-            meter.pass_on(end - meter.clock)
+        if not meter.until(lambda: self.done, meter.patience):
+            raise NoAnswer("%s waits for more than %d ms of virtual time; see patience of Meter" % (
+                self.call.name, meter.patience))
         if self.fault is not None:
             raise self.fault
         result = read_reply(self.body, self.xid)
@@ -86,12 +83,8 @@ class Requests:
         """The next service request of the queue. Advances time; raises TimeoutError after so many
         milliseconds.
         """
-        meter = self.connection.meter
-        end = meter.clock + milliseconds
-        while not self.queue:
-            if meter.clock >= end:
-                raise TimeoutError("no service request within %d ms of virtual time" % milliseconds)
-            meter.pass_on(end - meter.clock)
+        if not self.connection.meter.until(lambda: bool(self.queue), milliseconds):
+            raise TimeoutError("no service request within %d ms of virtual time" % milliseconds)
         return self.queue.popleft()
 
     def close(self) -> None:
@@ -160,7 +153,7 @@ class Meter:
     program is the path of the program, found by `find_program` if it isn't said. scenario is a file of
     voltages and external triggers, as `scanvolt serve` takes it. patience is how many milliseconds of
     virtual time a call may wait, before NoAnswer is raised. Threads may share a meter, but which of them
-    comes first is the machine's.
+    comes first is the machine's, and a call that waits doesn't wait for what another thread is about to do.
     """
 
     def __init__(self, program: Optional[Name] = None, scenario: Optional[Name] = None,
@@ -238,9 +231,18 @@ class Meter:
         """So much time passes. Service requests are handed on at their millisecond."""
         if milliseconds < 0:
             raise ValueError("time doesn't go back: %d ms" % milliseconds)
-        end = self.clock + milliseconds
-        while self.clock < end:
-            self.pass_on(end - self.clock)
+        self.until(lambda: False, milliseconds)
+
+    def until(self, holds: Callable[[], bool], most: int) -> bool:
+        """Time passes until this holds, at most so many milliseconds; whether it holds then."""
+        end = self.clock + most
+        while True:
+            with self.guard:
+                if holds():
+                    return True
+                if self.clock >= end:
+                    return False
+                self._pass(end - self.clock)
 
     @contextlib.contextmanager
     def keeping_time(self) -> Iterator["Meter"]:
@@ -265,22 +267,21 @@ class Meter:
         """So much time passes, in whole milliseconds: rounded up, so that a loop that sleeps ends."""
         self.advance(math.ceil(1000 * seconds))
 
-    def pass_on(self, most: int) -> None:
+    def _pass(self, most: int) -> None:
         """Time passes by at most so many milliseconds, no further than to the first at which something
         happens.
         """
-        with self.guard:
-            if self.ahead:
-                most = min(most, self.ahead[0].clock - self.clock)
-            if self._is_quiet():
-                passed, printed = most, self._asked(lambda: self.replay.pass_time(most))
-            else:
-                most = min(most, self._next_deadline(most))
-                passed, printed = self._asked(lambda: self.replay.seek(most))
-            self.clock += passed
-            self._take(printed)
-            self._play()
-            self._deliver()
+        if self.ahead:
+            most = min(most, self.ahead[0].clock - self.clock)
+        if self._is_quiet():
+            passed, printed = most, self._asked(lambda: self.replay.pass_time(most))
+        else:
+            most = min(most, self._next_deadline(most))
+            passed, printed = self._asked(lambda: self.replay.seek(most))
+        self.clock += passed
+        self._take(printed)
+        self._play()
+        self._deliver()
 
     def send(self, connection: Connection, pending: Pending[object]) -> None:
         """Sends a call on a connection."""

@@ -1,8 +1,9 @@
 """An instrument in virtual time: the sessions and milliseconds that docs/INSTRUMENT.md names."""
 import decimal
+import threading
 import time
 import unittest
-from typing import Callable, List, Tuple
+from typing import Callable, List, Tuple, TypeVar
 from unittest import mock
 
 from scanvolt import replay
@@ -12,6 +13,7 @@ from scanvolt.virtual import Connection, Meter, NoAnswer
 from scanvolt.vxi11 import (CORE, DeviceError, GarbageArguments, Link, ProcedureUnavailable, ProgramMismatch,
                             ProgramUnavailable, ServiceRequest, calls)
 
+Value = TypeVar("Value")
 REAL_TIME = 0.05        # seconds that a measurement of 2,048 ms may take, by the proved program
 
 
@@ -35,7 +37,7 @@ class WithMeter(unittest.TestCase):
             call()
         self.assertEqual(caught.exception.number, number)
 
-    def takes(self, milliseconds: int, call: Callable[[], object]) -> object:
+    def takes(self, milliseconds: int, call: Callable[[], Value]) -> Value:
         """A call that takes so much virtual time."""
         began = self.meter.clock
         try:
@@ -157,18 +159,20 @@ class Moments(WithMeter):
             with self.subTest(channels=channels, count=count):
                 self.link.write("CONF:VOLT (@1:%d);:TRIG:COUN %d" % (channels, count))
                 answer = self.takes(channels * count, lambda: self.link.query("READ?"))
-                self.assertEqual(str(answer).count(","), channels * count - 1)
+                self.assertEqual(answer.count(","), channels * count - 1)
 
     def test_the_longest_measurement(self) -> None:
         """2,048 ms, whose response of 20,480 bytes is read whole, in little real time."""
+        passed: List[float] = []
         self.link.write("CONF:VOLT (@1:128);:TRIG:COUN 16")
-        began = time.perf_counter()
-        self.link.write("READ?")
-        answer = self.takes(2048, self.link.read)
-        passed = time.perf_counter() - began
-        self.assertEqual(len(bytes(answer)), 20480)     # type: ignore[call-overload]
+        for _ in range(3):
+            began = time.perf_counter()
+            self.link.write("READ?")
+            answer = self.takes(2048, self.link.read)
+            passed.append(time.perf_counter() - began)
+            self.assertEqual(len(answer), 20480)
         if "unproved" not in find_program():
-            self.assertLess(passed, REAL_TIME)
+            self.assertLess(min(passed), REAL_TIME)
 
     def test_without_a_second_program(self) -> None:
         """Where too many lines went by, time is tried millisecond by millisecond."""
@@ -297,6 +301,21 @@ class InFlight(WithMeter):
         for _ in range(4):
             self.connection.start(write)
         self.assertRaisesRegex(ConnectionError, "no room", self.connection.start, write)
+
+    def test_threads(self) -> None:
+        """They share a meter, each with a connection of its own. No call waits, so no time passes."""
+        polls: List[int] = []
+
+        def poll() -> None:
+            link = self.controller()[1]
+            polls.extend(link.readstb() for _ in range(50))
+
+        threads = [threading.Thread(target=poll) for _ in range(4)]
+        for thread in threads:
+            thread.start()
+        for thread in threads:
+            thread.join()
+        self.assertEqual((polls, self.meter.clock), ([0] * 200, 0))
 
     def test_many_meters(self) -> None:
         with Meter() as other, other.connect().create_link() as link:

@@ -363,6 +363,7 @@ class Others(WithResource):
         self.assertIsNot(self.meter_of(self.open()), self.meter)
 
     def test_a_program_that_ends(self) -> None:
+        self.resource.enable_event(SRQ, QUEUE)
         self.meter.replay.program.process.kill()
         self.assertRaisesRegex(ProgramError, "ended by signal 9", self.resource.read_stb)
         self.error(StatusCode.error_connection_lost, self.resource.read_stb)
