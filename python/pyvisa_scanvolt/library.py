@@ -97,17 +97,20 @@ class ScanvoltLibrary(highlevel.VisaLibraryBase):
         return self.handle_return_value(number, StatusCode.success)
 
     def open_default_resource_manager(self) -> Tuple[Any, StatusCode]:
+        """The session of the resource manager (viOpenDefaultRM)."""
         number: Any = next(self.numbers)
         self.manager = number
         return self.manager, self.handle_return_value(self.manager, StatusCode.success)
 
     def list_resources(self, session: Any, query: str = "?*::INSTR") -> Tuple[str, ...]:
+        """The instruments that are on, and one that always is there (viFindRsrc)."""
         names = {"TCPIP0::%s::inst0::INSTR" % host for host in self.meters} | {FIRST}
         return rname.filter(sorted(names), query)
 
     def open(self, session: Any, resource_name: str,
              access_mode: constants.AccessModes = constants.AccessModes.no_lock,
              open_timeout: int = constants.VI_TMO_IMMEDIATE) -> Tuple[Any, StatusCode]:
+        """A session to an instrument, with its lock if that is asked for (viOpen)."""
         if access_mode not in (constants.AccessModes.no_lock, constants.AccessModes.exclusive_lock):
             self.handle_return_value(session, StatusCode.error_invalid_access_mode)
         parsed = self._parsed(resource_name)
@@ -146,6 +149,7 @@ class ScanvoltLibrary(highlevel.VisaLibraryBase):
         return self.handle_return_value(None, StatusCode.success)
 
     def get_attribute(self, session: Any, attribute: Any) -> Tuple[Any, StatusCode]:
+        """The state of an attribute, of a session, an event or the resource manager (viGetAttribute)."""
         if session in self.contexts:
             if attribute == constants.EventAttribute.event_type:
                 return self.contexts[session], self.handle_return_value(session, StatusCode.success)
@@ -168,13 +172,16 @@ class ScanvoltLibrary(highlevel.VisaLibraryBase):
         return constants.AccessModes.no_lock
 
     def set_attribute(self, session: Any, attribute: Any, attribute_state: Any) -> StatusCode:
+        """Sets an attribute of a session (viSetAttribute)."""
         return self._plain(session, lambda one: one.put(attribute, attribute_state))
 
     def write(self, session: Any, data: bytes) -> Tuple[int, StatusCode]:
+        """Writes bytes; how many were taken (viWrite)."""
         count = self._done(session, lambda one: one.write(bytes(data)))
         return count, self.handle_return_value(session, StatusCode.success)
 
     def read(self, session: Any, count: int) -> Tuple[bytes, StatusCode]:
+        """Reads at most so many bytes (viRead)."""
         data, status = self._done(session, lambda one: one.read(count))
         return data, self.handle_return_value(session, status)
 
@@ -191,44 +198,55 @@ class ScanvoltLibrary(highlevel.VisaLibraryBase):
         return self._plain(session, lambda one: None)
 
     def read_stb(self, session: Any) -> Tuple[int, StatusCode]:
+        """The status byte (viReadSTB)."""
         status_byte = self._done(session, Session.read_stb)
         return status_byte, self.handle_return_value(session, StatusCode.success)
 
     def clear(self, session: Any) -> StatusCode:
+        """Device clear (viClear)."""
         return self._plain(session, Session.clear)
 
     def assert_trigger(self, session: Any, protocol: constants.TriggerProtocol) -> StatusCode:
+        """A trigger from the bus (viAssertTrigger)."""
         return self._plain(session, lambda one: one.trigger(protocol))
 
     def gpib_control_ren(self, session: Any, mode: constants.RENLineOperation) -> StatusCode:
+        """Remote or local operation (viGpibControlREN)."""
         return self._plain(session, lambda one: one.control_ren(mode))
 
     def lock(self, session: Any, lock_type: constants.Lock, timeout: int,
              requested_key: Optional[str] = None) -> Tuple[str, StatusCode]:
+        """Takes the lock, for which it waits up to so many milliseconds (viLock)."""
         return "", self._told(session, lambda one: one.lock(lock_type, int(timeout)))
 
     def unlock(self, session: Any) -> StatusCode:
+        """Frees the lock (viUnlock)."""
         return self._told(session, Session.unlock)
 
     def enable_event(self, session: Any, event_type: constants.EventType, mechanism: constants.EventMechanism,
                      context: None = None) -> StatusCode:
+        """Service requests come from now on (viEnableEvent)."""
         return self._told(session, lambda one: one.enable(event_type, mechanism))
 
     def disable_event(self, session: Any, event_type: constants.EventType,
                       mechanism: constants.EventMechanism) -> StatusCode:
+        """Service requests do not come any more (viDisableEvent)."""
         return self._told(session, lambda one: one.disable(event_type, mechanism))
 
     def discard_events(self, session: Any, event_type: constants.EventType,
                        mechanism: constants.EventMechanism) -> StatusCode:
+        """Service requests that came go (viDiscardEvents)."""
         return self._told(session, lambda one: one.discard(event_type, mechanism))
 
     def wait_on_event(self, session: Any, in_event_type: constants.EventType,
                       timeout: Optional[int]) -> Tuple[constants.EventType, Any, StatusCode]:
+        """Waits for a service request, up to so many milliseconds (viWaitOnEvent)."""
         status = self._told(session, lambda one: one.wait(in_event_type, timeout))
         return constants.EventType.service_request, self._new_context(), status
 
     def install_handler(self, session: Any, event_type: constants.EventType, handler: Any,
                         user_handle: Any) -> Tuple[Any, Any, Any, StatusCode]:
+        """A handler of service requests, which is called once they are enabled (viInstallHandler)."""
         if event_type != constants.EventType.service_request:
             self.handle_return_value(session, StatusCode.error_invalid_event)
         status = self._plain(session, lambda one: one.handlers.append((handler, user_handle)))
@@ -236,6 +254,7 @@ class ScanvoltLibrary(highlevel.VisaLibraryBase):
 
     def uninstall_handler(self, session: Any, event_type: constants.EventType, handler: Any,
                           user_handle: Any = None) -> StatusCode:
+        """The handler goes (viUninstallHandler)."""
         def uninstall(one: Session) -> None:
             if (handler, user_handle) not in one.handlers:
                 raise Refusal(StatusCode.error_invalid_handler_reference)

@@ -8,6 +8,7 @@ import collections
 import contextlib
 import functools
 import math
+import queue
 import threading
 import time
 from typing import Callable, Deque, Dict, Generic, Iterator, List, Optional, Type, TypeVar, cast
@@ -19,8 +20,7 @@ from .stimulus import Entry, Volts, input_line, read_scenario
 from .vxi11 import Link, RequestStream, ServiceRequest, calls
 from .vxi11.calls import Call
 from .vxi11.core import Core
-from .vxi11.rpc import BadReply, Records, read_reply
-from .vxi11.xdr import XdrError
+from .vxi11.rpc import Records
 
 Value = TypeVar("Value")
 Itself = TypeVar("Itself", bound="Connection")
@@ -59,11 +59,7 @@ class Pending(Generic[Value]):
                 self.call.name, meter.patience))
         if self.fault is not None:
             raise self.fault
-        result = read_reply(self.body, self.xid)
-        try:
-            return self.call.read(result)
-        except XdrError as fault:
-            raise BadReply("the result of %s can't be read: %s" % (self.call.name, fault)) from None
+        return self.call.answer(self.body, self.xid)
 
     def end(self, clock: int, body: bytes = b"", fault: Optional[Exception] = None) -> None:
         """It was answered, or can't be any more."""
@@ -76,16 +72,16 @@ class Requests:
     def __init__(self, connection: "Connection") -> None:
         self.connection = connection
         self.callback: Optional[Callback] = None
-        self.queue: Deque[ServiceRequest] = collections.deque()
+        self.queue: "queue.Queue[ServiceRequest]" = queue.Queue()
         self.stream = RequestStream()
 
     def wait(self, milliseconds: int) -> ServiceRequest:
         """The next service request of the queue. Advances time; raises TimeoutError after so many
         milliseconds.
         """
-        if not self.connection.meter.until(lambda: bool(self.queue), milliseconds):
+        if not self.connection.meter.until(lambda: not self.queue.empty(), milliseconds):
             raise TimeoutError("no service request within %d ms of virtual time" % milliseconds)
-        return self.queue.popleft()
+        return self.queue.get_nowait()
 
     def close(self) -> None:
         """Closes the interrupt channel, if there is one. Requests that came stay in the queue."""
@@ -120,10 +116,11 @@ class Connection(Core):
 
     def start(self, call: Call[Value]) -> Pending[Value]:
         """Sends a call, and has the instrument begin with it once those in front of it are answered."""
-        self.xid = (self.xid + 1) % 2 ** 32
-        pending = Pending(self, call, self.xid)
-        self.meter.send(self, cast("Pending[object]", pending))
-        return pending
+        with self.meter.guard:
+            self.xid = (self.xid + 1) % 2 ** 32
+            pending = Pending(self, call, self.xid)
+            self.meter.send(self, cast("Pending[object]", pending))
+            return pending
 
     def do(self, call: Call[Value]) -> Value:
         """Does a call: advances time until it is answered."""
@@ -395,7 +392,7 @@ class Meter:
     def _hand(self, connection: Connection, request: ServiceRequest) -> None:
         """Hands on a service request."""
         if connection.requests.callback is None:
-            connection.requests.queue.append(request)
+            connection.requests.queue.put(request)
         else:
             connection.requests.callback(request)
 

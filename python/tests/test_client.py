@@ -240,6 +240,13 @@ class Peers(unittest.TestCase):
         link = self.link(bytes.fromhex("8000001a 00000002 00000001 00000000 00000000 00000000 00000000 0000"))
         self.assertRaisesRegex(BadReply, "device_readstb", link.readstb)
 
+    def test_writes_that_take_less(self) -> None:
+        """What wasn't taken is written again; that nothing is taken is a fault."""
+        head = "80000020 %08x 00000001 00000000 00000000 00000000 00000000 00000000 %08x"
+        link = self.link(*(bytes.fromhex(head % reply) for reply in ((2, 2), (3, 4), (4, 0))))
+        self.assertEqual(link.write("*IDN?\n"), 6)
+        self.assertRaisesRegex(BadReply, "took no byte of 6", link.write, "*IDN?\n")
+
     def test_nobody(self) -> None:
         with socket.create_server(("127.0.0.1", 0)) as listener:
             port = listener.getsockname()[1]

@@ -1,5 +1,6 @@
 """An instrument in virtual time: the sessions and milliseconds that docs/INSTRUMENT.md names."""
 import decimal
+import pathlib
 import threading
 import time
 import unittest
@@ -116,6 +117,22 @@ class Sessions(WithMeter):
         self.assertTrue(reading.done)
         self.assertEqual(reading.clock, 10)
         self.error(23, reading.result)
+
+
+class Lines(unittest.TestCase):
+    """A session of examples/, whose lines and print were written down by hand (examples/identity.md)."""
+
+    def test_the_lines_of_a_session(self) -> None:
+        script = pathlib.Path(__file__).resolve().parents[2] / "examples/identity.replay"
+        expected = [line for line in script.read_text().splitlines() if line]
+        with Meter() as meter:
+            do = meter.replay.do
+            with mock.patch.object(meter.replay, "do", side_effect=do) as done:
+                link = meter.connect().create_link(io_timeout=1000)
+                self.assertEqual(link.write("*IDN?\n"), 6)
+                self.assertEqual(link.read_piece(256), calls.Piece(b"SCANVOLT,SV32,0,1.0\n", 4))
+        sent = b"".join(call.args[0] for call in done.call_args_list).decode()
+        self.assertEqual(sent.splitlines(), expected)
 
 
 class Moments(WithMeter):
@@ -344,7 +361,7 @@ class ServiceRequests(WithMeter):
         self.assertEqual(self.meter.clock, 103)
         self.link.write("*CLS;:INIT")
         self.meter.advance(50)
-        self.assertEqual(list(requests.queue), [ServiceRequest(b"handle", 2, 106)])
+        self.assertEqual(list(requests.queue.queue), [ServiceRequest(b"handle", 2, 106)])
 
     def test_a_callback(self) -> None:
         """It is called at its millisecond, and may do calls."""
@@ -380,7 +397,7 @@ class ServiceRequests(WithMeter):
         self.error(6, self.connection.destroy_intr_chan)
         self.link.write("INIT")
         self.meter.advance(10)
-        self.assertFalse(requests.queue)
+        self.assertTrue(requests.queue.empty())
         self.connection.listen().close()
         self.connection.listen()
         self.meter.drop_channel(self.connection)

@@ -7,8 +7,8 @@ from dataclasses import dataclass
 from typing import Callable, Generic, Optional, TypeVar
 
 from .errors import DeviceError
-from .rpc import encode_call
-from .xdr import Reader, opaque, words
+from .rpc import BadReply, encode_call, read_reply
+from .xdr import Reader, XdrError, opaque, words
 
 CORE, ABORT, INTERRUPT, PORT_MAPPER = 0x0607AF, 0x0607B0, 0x0607B1, 100000
 VERSIONS = {CORE: 1, ABORT: 1, INTERRUPT: 1, PORT_MAPPER: 2}
@@ -59,6 +59,16 @@ class Call(Generic[Value]):
     def encode(self, xid: int) -> bytes:
         """The call as a record."""
         return encode_call(xid, self.program, self.version, self.procedure, self.arguments)
+
+    def answer(self, body: bytes, xid: int) -> Value:
+        """The result that a reply's record says. Raises DeviceError, or the RpcError by which it was
+        refused.
+        """
+        result = read_reply(body, xid)
+        try:
+            return self.read(result)
+        except XdrError as fault:
+            raise BadReply("the result of %s can't be read: %s" % (self.name, fault)) from None
 
 
 @dataclass(frozen=True)

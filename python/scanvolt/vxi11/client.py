@@ -10,8 +10,7 @@ from .calls import Call
 from .core import Core
 from .link import Link
 from .requests import RequestStream, ServiceRequest
-from .rpc import BadReply, Records, read_reply
-from .xdr import XdrError
+from .rpc import Records
 
 Value = TypeVar("Value")
 Itself = TypeVar("Itself", bound="Channel")
@@ -57,11 +56,7 @@ class Channel:
             except BaseException:
                 self.close()
                 raise
-            result = read_reply(body, self.xid)
-        try:
-            return call.read(result)
-        except XdrError as fault:
-            raise BadReply("the result of %s can't be read: %s" % (call.name, fault)) from None
+            return call.answer(body, self.xid)
 
     def _record(self, call: Call[Value]) -> bytes:
         """The next record that comes."""

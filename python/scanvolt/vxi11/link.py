@@ -5,6 +5,7 @@ from typing import Optional, Protocol, Type, TypeVar, Union
 from . import calls
 from .calls import Call, Made, Piece
 from .errors import INVALID_LINK, DeviceError
+from .rpc import BadReply
 
 Value = TypeVar("Value")
 Itself = TypeVar("Itself", bound="Link")
@@ -24,7 +25,9 @@ class Carrier(Protocol):
 
 @dataclass(frozen=True)
 class LinkCalls:
-    """The calls of a link with its timeouts, in milliseconds; they aren't done yet."""
+    """The calls of a link with its timeouts, in milliseconds; they aren't done yet. `scanvolt.vxi11.calls`
+    has each.
+    """
 
     link: int
     io_timeout: int
@@ -110,9 +113,12 @@ class Link:
         place = 0
         while True:
             piece = data[place:place + self.most]
-            place += self.carrier.do(self.calls.write(piece, end and place + len(piece) == len(data)))
+            taken = self.carrier.do(self.calls.write(piece, end and place + len(piece) == len(data)))
+            place += taken
             if place >= len(data):
                 return place
+            if taken == 0:
+                raise BadReply("device_write took no byte of %d" % len(piece))
 
     def read_piece(self, size: int = READ_SIZE, termination: Optional[int] = None) -> Piece:
         """One device_read: at most so many bytes, up to a termination character (0 to 255) or to END."""
