@@ -114,15 +114,21 @@ class Program:
     def fault(self) -> ProgramError:
         """Why the program ended: what it said on standard error, or its status."""
         assert self.process.stderr is not None
-        try:
-            self.process.wait(1)
-        except subprocess.TimeoutExpired:       # it closed its output, and goes on
+        told = b""
+        ended = select.poll()
+        ended.register(self.process.stderr, select.POLLIN)
+        while ended.poll(1000):
+            piece = os.read(self.process.stderr.fileno(), 4096)
+            if not piece:
+                break
+            told += piece
+        else:                                   # it closed its output, and goes on
             self.process.kill()
-            self.process.wait()
-        told = self.process.stderr.read().decode("utf-8", "replace").strip()
+        self.process.wait()
         status = self.process.returncode
+        text = told.decode("utf-8", "replace").strip()
         how = "by signal %d" % -status if status < 0 else "with status %d" % status
-        return ProgramError("the program ended %s%s" % (how, ": " + told if told else ""))
+        return ProgramError("the program ended %s%s" % (how, ": " + text if text else ""))
 
 
 class Replay:

@@ -26,6 +26,7 @@ Value = TypeVar("Value")
 Itself = TypeVar("Itself", bound="Connection")
 Callback = Callable[[ServiceRequest], object]
 ROLES = ("core", "abort", "portmap")
+CLOCKS = ("time", "monotonic", "perf_counter")      # of Python's module time
 PLACES = 16             # connections that there are
 PATIENCE = 600000       # milliseconds of virtual time that a call may wait
 
@@ -243,26 +244,30 @@ class Meter:
 
     @contextlib.contextmanager
     def keeping_time(self) -> Iterator["Meter"]:
-        """Python's clock is the meter's: time.sleep advances it, and time.time, time.monotonic and
-        time.perf_counter tell it. So a driver that sleeps between its polls takes no real time. It holds
-        for those who say `time.sleep`, in all threads.
+        """Python's clock is the meter's for the thread that says so: time.sleep advances the meter, and
+        time.time, time.monotonic and time.perf_counter go on by what passes there, from where they were. So
+        a driver that sleeps between its polls takes no real time. It holds for those who say `time.sleep`.
         """
-        begin = time.time()
-        clocks: Dict[str, Callable[..., object]] = {
-            "sleep": self._sleep, "time": lambda: begin + self.clock / 1000,
-            "monotonic": lambda: self.clock / 1000, "perf_counter": lambda: self.clock / 1000}
-        before = {name: getattr(time, name) for name in clocks}
-        try:
-            for name, clock in clocks.items():
-                setattr(time, name, clock)
+        thread, begin = threading.get_ident(), self.clock
+
+        def own(real: Callable[..., object], virtual: Callable[..., object]) -> Callable[..., object]:
+            return lambda *given: (virtual if threading.get_ident() == thread else real)(*given)
+
+        def going_on(since: float) -> Callable[[], float]:
+            return lambda: since + (self.clock - begin) / 1000
+
+        virtual: Dict[str, Callable[..., object]] = {name: going_on(getattr(time, name)()) for name in CLOCKS}
+        virtual["sleep"] = self._sleep
+        with contextlib.ExitStack() as stack:
+            for name, clock in virtual.items():
+                real = getattr(time, name)
+                stack.callback(setattr, time, name, real)
+                setattr(time, name, own(real, clock))
             yield self
-        finally:
-            for name, clock in before.items():
-                setattr(time, name, clock)
 
     def _sleep(self, seconds: float) -> None:
         """So much time passes, in whole milliseconds: rounded up, so that a loop that sleeps ends."""
-        self.advance(math.ceil(1000 * seconds))
+        self.advance(math.ceil(round(1000 * seconds, 3)))
 
     def _pass(self, most: int) -> None:
         """Time passes by at most so many milliseconds, no further than to the first at which something

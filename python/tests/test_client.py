@@ -8,6 +8,7 @@ import threading
 import time
 import unittest
 from typing import Callable, List, Tuple
+from unittest import mock
 
 from scanvolt.program import Server
 from scanvolt.vxi11 import (CORE, BadReply, Channel, Client, DeviceError, GarbageArguments, Link,
@@ -160,6 +161,24 @@ class Sessions(Served):
         self.link.write("*CLS;*SRE 4;UNKNOWN")
         self.assertTrue(came.wait(5))
         self.assertEqual(polls, [68])
+
+    def test_a_callback_that_raises(self) -> None:
+        """It is told as a thread's fault, and the next request comes."""
+        came = threading.Semaphore(0)
+
+        def refuse(_request: object) -> None:
+            came.release()
+            raise LookupError
+
+        with mock.patch("threading.excepthook") as told:
+            self.client.listen(refuse)
+            self.link.enable_srq()
+            for _ in range(2):
+                self.link.write("*CLS;*SRE 4;UNKNOWN")
+                self.assertTrue(came.acquire(timeout=5))
+                self.link.readstb()
+            self.client.close()
+        self.assertEqual([call.args[0].exc_type for call in told.call_args_list], [LookupError] * 2)
 
     def test_an_interrupt_channel_that_cannot_be(self) -> None:
         self.error(21, lambda: self.client.create_intr_chan(0x08080808, 4000))

@@ -75,7 +75,8 @@ class Ends(unittest.TestCase):
 
     def test_other_programs(self) -> None:
         for text, told in (("exit 0", "ended with status 0$"), ("echo fault >&2; exit 3", "status 3: fault$"),
-                           ("kill -9 $$", "ended by signal 9$")):
+                           ("kill -9 $$", "ended by signal 9$"),
+                           ("exec >&-; exec sleep 60", "ended by signal 9$")):
             with self.subTest(text), script(text) as path:
                 self.assertRaisesRegex(ProgramError, told, Meter, path)
         with script("echo fault >&2; exit 3") as path:
