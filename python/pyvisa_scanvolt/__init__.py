@@ -1,10 +1,17 @@
 """A backend of PyVISA: `pyvisa.ResourceManager("@scanvolt")` has simulated voltmeters in virtual time.
 
-`TCPIP::scanvolt::INSTR` is one, `TCPIP::scanvolt2::INSTR` another, and so each host name that begins so.
-They are on once they are named. `ResourceManager("FILE@scanvolt")` turns them on with this scenario.
+`TCPIP::scanvolt::INSTR` is one, `TCPIP::scanvolt2::INSTR` another, and so each host name that begins so. They
+are on once they are named. `ResourceManager("FILE@scanvolt")` turns them on with this scenario.
 """
-from .library import ScanvoltLibrary
+from typing import TYPE_CHECKING
 
-WRAPPER_CLASS = ScanvoltLibrary
+if TYPE_CHECKING:
+    from .library import ScanvoltLibrary
 
-__all__ = ["WRAPPER_CLASS", "ScanvoltLibrary"]
+
+def __getattr__(name: str) -> "type[ScanvoltLibrary]":
+    """WRAPPER_CLASS, for which PyVISA asks. PyVISA is imported by that alone."""
+    if name not in ("WRAPPER_CLASS", "ScanvoltLibrary"):
+        raise AttributeError("module %s has no attribute %s" % (__name__, name))
+    from .library import ScanvoltLibrary
+    return ScanvoltLibrary
