@@ -7,35 +7,42 @@ use Rattle.sv_errors.specs.declared.code.Code.TheVariants.{NoError, InvalidChara
 abbrev minus : ℕ → ℤ
 minus n = neg_ℤ (pos n)
 
+-- number and text
+abbrev pub entry : Code → ℤ × List ℕ
+entry NoError = (pos 0, codes "No error")
+entry InvalidCharacter = (minus 101, codes "Invalid character")
+entry SyntaxError = (minus 102, codes "Syntax error")
+entry DataTypeError = (minus 104, codes "Data type error")
+entry ParameterNotAllowed = (minus 108, codes "Parameter not allowed")
+entry MissingParameter = (minus 109, codes "Missing parameter")
+entry ProgramMnemonicTooLong = (minus 112, codes "Program mnemonic too long")
+entry UndefinedHeader = (minus 113, codes "Undefined header")
+entry InvalidCharacterInNumber = (minus 121, codes "Invalid character in number")
+entry ExponentTooLarge = (minus 123, codes "Exponent too large")
+entry TooManyDigits = (minus 124, codes "Too many digits")
+entry InvalidSuffix = (minus 131, codes "Invalid suffix")
+entry SuffixNotAllowed = (minus 138, codes "Suffix not allowed")
+entry InvalidCharacterData = (minus 141, codes "Invalid character data")
+entry InvalidExpression = (minus 171, codes "Invalid expression")
+entry TriggerIgnored = (minus 211, codes "Trigger ignored")
+entry InitIgnored = (minus 213, codes "Init ignored")
+entry TriggerDeadlock = (minus 214, codes "Trigger deadlock")
+entry SettingsConflict = (minus 221, codes "Settings conflict")
+entry DataOutOfRange = (minus 222, codes "Data out of range")
+entry TooMuchData = (minus 223, codes "Too much data")
+entry IllegalParameterValue = (minus 224, codes "Illegal parameter value")
+entry DataCorruptOrStale = (minus 230, codes "Data corrupt or stale")
+entry QueueOverflow = (minus 350, codes "Queue overflow")
+entry InputBufferOverrun = (minus 363, codes "Input buffer overrun")
+entry QueryInterrupted = (minus 410, codes "Query INTERRUPTED")
+entry QueryUnterminated = (minus 420, codes "Query UNTERMINATED")
+entry QueryDeadlocked = (minus 430, codes "Query DEADLOCKED")
+
 abbrev pub number_of : Code → ℤ
-number_of NoError = pos 0
-number_of InvalidCharacter = minus 101
-number_of SyntaxError = minus 102
-number_of DataTypeError = minus 104
-number_of ParameterNotAllowed = minus 108
-number_of MissingParameter = minus 109
-number_of ProgramMnemonicTooLong = minus 112
-number_of UndefinedHeader = minus 113
-number_of InvalidCharacterInNumber = minus 121
-number_of ExponentTooLarge = minus 123
-number_of TooManyDigits = minus 124
-number_of InvalidSuffix = minus 131
-number_of SuffixNotAllowed = minus 138
-number_of InvalidCharacterData = minus 141
-number_of InvalidExpression = minus 171
-number_of TriggerIgnored = minus 211
-number_of InitIgnored = minus 213
-number_of TriggerDeadlock = minus 214
-number_of SettingsConflict = minus 221
-number_of DataOutOfRange = minus 222
-number_of TooMuchData = minus 223
-number_of IllegalParameterValue = minus 224
-number_of DataCorruptOrStale = minus 230
-number_of QueueOverflow = minus 350
-number_of InputBufferOverrun = minus 363
-number_of QueryInterrupted = minus 410
-number_of QueryUnterminated = minus 420
-number_of QueryDeadlocked = minus 430
+number_of code = (entry code).0
+
+abbrev pub text_of : Code → List ℕ
+text_of code = (entry code).1
 
 -- the class of an error, and of nothing wrong: the hundreds of its number
 abbrev pub class_of : Code → ℕ
@@ -53,33 +60,3 @@ class_event class =
 
 abbrev pub standard_event_of : Code → ℕ
 standard_event_of code = class_event (class_of code)
-
-abbrev pub text_of : Code → List ℕ
-text_of NoError = codes "No error"
-text_of InvalidCharacter = codes "Invalid character"
-text_of SyntaxError = codes "Syntax error"
-text_of DataTypeError = codes "Data type error"
-text_of ParameterNotAllowed = codes "Parameter not allowed"
-text_of MissingParameter = codes "Missing parameter"
-text_of ProgramMnemonicTooLong = codes "Program mnemonic too long"
-text_of UndefinedHeader = codes "Undefined header"
-text_of InvalidCharacterInNumber = codes "Invalid character in number"
-text_of ExponentTooLarge = codes "Exponent too large"
-text_of TooManyDigits = codes "Too many digits"
-text_of InvalidSuffix = codes "Invalid suffix"
-text_of SuffixNotAllowed = codes "Suffix not allowed"
-text_of InvalidCharacterData = codes "Invalid character data"
-text_of InvalidExpression = codes "Invalid expression"
-text_of TriggerIgnored = codes "Trigger ignored"
-text_of InitIgnored = codes "Init ignored"
-text_of TriggerDeadlock = codes "Trigger deadlock"
-text_of SettingsConflict = codes "Settings conflict"
-text_of DataOutOfRange = codes "Data out of range"
-text_of TooMuchData = codes "Too much data"
-text_of IllegalParameterValue = codes "Illegal parameter value"
-text_of DataCorruptOrStale = codes "Data corrupt or stale"
-text_of QueueOverflow = codes "Queue overflow"
-text_of InputBufferOverrun = codes "Input buffer overrun"
-text_of QueryInterrupted = codes "Query INTERRUPTED"
-text_of QueryUnterminated = codes "Query UNTERMINATED"
-text_of QueryDeadlocked = codes "Query DEADLOCKED"

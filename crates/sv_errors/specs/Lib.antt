@@ -1,4 +1,3 @@
-pub mod Since
 pub mod Code
 pub mod ErrorQueue
 pub mod Answered

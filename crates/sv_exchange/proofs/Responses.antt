@@ -1,7 +1,7 @@
 -- What each act makes of the response.
 use Rattle.std.proofs.Common.{◌≡◌, ℕ, cond, List, [], ◌∷◌, ◌++◌, drop, refl, sym, ap}
 use Rattle.std.proofs.lemmas.List.{drop-drop}
-use Rattle.sv_errors.specs.Since.{newest, since_place}
+use Rattle.sv_logs.specs.Since.{newest, since_place}
 use Rattle.sv_exchange.specs.Exchange.{ExchangeAct, Finished, ResponseRead, is_answered, whole_response, read_since, renews, renewed, bytes_read, answers, joined, response}
 
 -- what finishing a message makes of the response before it

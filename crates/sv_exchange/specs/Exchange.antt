@@ -2,7 +2,7 @@
 -- which are read from the newest.
 use Rattle.std.specs.Prelude.{ℕ, ◌+◌, ◌==◌, Bool, true, false, not, ◌&&◌, List, [], ◌∷◌, ◌++◌, length, drop, map, filter, Option, Some, None, nat_lt, slice_get, slice_index_or, if◌then◌else◌}
 use Rattle.std.specs.List.{list_any}
-use Rattle.sv_errors.specs.Since.{since, newest, since_place}
+use Rattle.sv_logs.specs.Since.{since, newest, since_place}
 use Rattle.sv_text.specs.Cut.{cut_at, onto}
 use Rattle.sv_text.specs.White.{trim}
 use Rattle.sv_exchange.specs.Limits.{max_message, max_response}
@@ -134,16 +134,14 @@ is_answered (answer ∷ others) = true
 
 -- At the newest act the response is another: a message that had answers is finished, or the response is interrupted.
 abbrev pub renews : List ExchangeAct → Bool
-renews [] = false
 renews (Finished ∷ acts) = is_answered (answers acts)
 renews (Interrupted ∷ acts) = true
-renews (_ ∷ acts) = false
+renews _ = false
 
 -- what it is then: the answers, joined and ended by a new line; none once interrupted
 abbrev pub renewed : List ExchangeAct → List ℕ
-renewed [] = []
 renewed (Finished ∷ acts) = joined (answers acts) ++ 10 ∷ []
-renewed (_ ∷ acts) = []
+renewed _ = []
 
 -- the response as it was when it began
 abbrev pub whole_response : List ExchangeAct → List ℕ

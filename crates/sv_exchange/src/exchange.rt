@@ -14,9 +14,9 @@ use crate::message::first_message;
 use crate::read::{Read, read_of};
 use std::alloc::{AllocError, Allocator, Global};
 use std::marker::Model;
+use sv_bytes::{append, drop_front};
 use sv_errors::Code;
 use sv_lexer::Unit;
-use sv_text::{append, drop_front};
 
 /// What is due.
 #[derive(Clone, Copy)]

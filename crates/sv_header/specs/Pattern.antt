@@ -56,12 +56,10 @@ Fits sent (part ∷ parts) = IsThere sent part (λ others. Fits others parts) �
 abbrev pub is_common : Form → Bool
 is_common CommonCommand = true
 is_common CommonQuery = true
-is_common Command = false
-is_common Query = false
+is_common _ = false
 
 -- whether it has the query sign
 abbrev pub has_sign : Form → Bool
-has_sign CommonCommand = false
 has_sign CommonQuery = true
-has_sign Command = false
 has_sign Query = true
+has_sign _ = false

@@ -10,9 +10,8 @@ use Rattle.sv_header.specs.Table.{table}
 
 -- what stands in front of a header: the path, unless it starts at the root or is a common command
 abbrev pub path_before : Lead → List (List ℕ) → List (List ℕ)
-path_before Common path = []
-path_before Root path = []
 path_before Onward path = path
+path_before _ path = []
 
 -- the header with the path in front of it
 abbrev pub full : List (List ℕ) → List ℕ → List (List ℕ)
@@ -20,8 +19,7 @@ full path header = path_before (lead header) path ++ mnemonics header
 
 abbrev pub leads_common : Lead → Bool
 leads_common Common = true
-leads_common Root = false
-leads_common Onward = false
+leads_common _ = false
 
 -- A header behind a path fits a row: both are common commands or neither is, both have the query sign or neither has, and the mnemonics
 -- fit.
@@ -41,8 +39,7 @@ but_last (part ∷ other ∷ others) = part ∷ but_last (other ∷ others)
 
 abbrev pub kept_by : Lead → List (List ℕ) → List (List ℕ) → List (List ℕ)
 kept_by Common path all = path
-kept_by Root path all = but_last all
-kept_by Onward path all = but_last all
+kept_by _ path all = but_last all
 
 -- the path behind a header: its mnemonics and those in front of it, as they were sent, without the last; a common command leaves the path
 abbrev pub kept : List (List ℕ) → List ℕ → List (List ℕ)

@@ -4,7 +4,7 @@ use Rattle.std.specs.Prelude.{◌↔◌, ◌&&◌, ◌||◌, not, bit_xor}
 use Rattle.std.specs.Int.{bit_at}
 use Rattle.std.proofs.lemmas.Bool.{cases_eq}
 use Rattle.std.proofs.lemmas.Nat.Bits.{bit_at-lt, bit_at-pow_other}
-use Rattle.sv_errors.proofs.Since.{since_empty, since_step, then_same, both_true, either_true}
+use Rattle.sv_logs.proofs.Since.{since_empty, since_step, then_same, both_true, either_true}
 use Rattle.sv_status.proofs.Words.{both_bits, either_bit, not_zero, rose}
 use Rattle.sv_links.specs.Channels.{ChannelAct}
 use Rattle.sv_layers.specs.Act.{Act as InstrumentAct, Polled}

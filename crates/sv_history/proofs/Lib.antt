@@ -4,19 +4,3 @@ pub mod OneStep
 pub mod StillSettled
 pub mod AlwaysTold
 pub mod Unrecorded
-mod Stillness
-pub mod OneLog
-mod EveryLog
-mod Isolation
-mod Cuts
-pub mod NoneLate
-pub mod EachAnswered
-pub mod RepliesMatch
-pub mod TurnAnswered
-pub mod Brought
-pub mod OnlyCalls
-pub mod ShutIsClear
-pub mod NothingLost
-pub mod OnlyRequests
-pub mod CanBeRefused
-pub mod TicksTaken

@@ -18,8 +18,7 @@ creates_link None = false
 -- the number of the link that is named; none has a negative one
 abbrev pub lid_of : Option ℤ → Option ℕ
 lid_of (Some (pos lid)) = Some lid
-lid_of (Some (negsuc n)) = None
-lid_of None = None
+lid_of _ = None
 
 -- whether a write brings more than 4,096 bytes
 abbrev pub is_too_long : Arguments → Bool

@@ -20,8 +20,4 @@ pub mod Settling
 pub mod History
 pub mod Queries
 pub mod Still
-pub mod Adding
-pub mod Isolation
-pub mod Cuts
 pub mod Print
-pub mod Laws

@@ -30,9 +30,8 @@ program_of Abort = 395184
 program_of Portmap = 100000
 
 abbrev pub version_of : Role → ℕ
-version_of Core = 1
-version_of Abort = 1
 version_of Portmap = 2
+version_of _ = 1
 
 abbrev pub procedures_of : Role → List ℕ
 procedures_of Core = core_calls

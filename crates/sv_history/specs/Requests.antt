@@ -9,9 +9,7 @@ use Rattle.sv_history.specs.Act.{DeviceAct, Linked, Waited, Channel, Happened, T
 -- what a link's act is to them
 abbrev pub link_told : LinkAct → List ChannelAct → List ChannelAct
 link_told (Destroyed lid) told = SrqDisabled lid ∷ told
-link_told (Made lid conn) told = told
-link_told (Locked lid) told = told
-link_told (Unlocked lid) told = told
+link_told _ told = told
 
 -- and that of the instrument, where it raises a request
 abbrev pub request_told : Bool → List ChannelAct → List ChannelAct
@@ -25,5 +23,4 @@ HearsOf (Channel act ∷ acts) told = (before : List ChannelAct) × HearsOf acts
 HearsOf (Linked act ∷ acts) told = (before : List ChannelAct) × HearsOf acts before × (told ≡ link_told act before)
 HearsOf (Happened act ∷ acts) told = (before : List ChannelAct) × (raised : Bool) × HearsOf acts before
     × ((raised ≡ true) ↔ IsRaised (act ∷ instrument_acts acts)) × (told ≡ request_told raised before)
-HearsOf (Waited act ∷ acts) told = HearsOf acts told
-HearsOf (Ticked ∷ acts) told = HearsOf acts told
+HearsOf (_ ∷ acts) told = HearsOf acts told

@@ -23,9 +23,7 @@ leaving c outcome = record outcome { adds = outcome.adds ++ Waited (Left c) ∷ 
 -- what a call waits for next that waited for the lock; one that waited for something else is done
 abbrev pub next_wait : Wait → Arguments → List DeviceAct → Option Wait
 next_wait Lock arguments acts = device_wait arguments acts
-next_wait Input arguments acts = None
-next_wait Response arguments acts = None
-next_wait Dial arguments acts = None
+next_wait _ arguments acts = None
 
 abbrev pub continued : Config → ℕ → ℕ → Arguments → Option Wait → List DeviceAct → CallOutcome
 continued config polled c arguments (Some wait) acts = suspended (Again c wait (deadline config (io_timeout arguments) acts))
@@ -53,6 +51,4 @@ connected c ok call = effect_of c (λ arguments. leaving c (dialed c ok argument
 -- the error of a call that waited too long for this
 abbrev pub late : Wait → ErrorCode
 late Lock = DeviceLocked
-late Input = IoTimeout
-late Response = IoTimeout
-late Dial = IoTimeout
+late _ = IoTimeout

@@ -1,13 +1,11 @@
 -- Moments at which nothing waits for time.
-use Rattle.std.specs.Prelude.{◌≡◌, ℕ, ◌+◌, ◌≤◌, false, List, ◌++◌, replicate}
+use Rattle.std.specs.Prelude.{◌≡◌, ℕ, ◌+◌, false, List}
 use Rattle.sv_links.specs.Waiting.{IsExpired}
 use Rattle.sv_scan.specs.Counted.{is_scanning}
 use Rattle.sv_scan.specs.Scan.{state}
 use Rattle.sv_layers.specs.Condition.{counted}
 use Rattle.sv_history.specs.declared.event.Config.{Config}
-use Rattle.sv_history.specs.Event.{PlainEvent, Tick}
-use Rattle.sv_history.specs.Act.{Act, DeviceAct, Ticked, OnDevice, device_acts, wait_acts, instrument_acts, ticks}
-use Rattle.sv_history.specs.History.{IsLogOf, last_clock}
+use Rattle.sv_history.specs.Act.{DeviceAct, wait_acts, instrument_acts, ticks}
 
 -- No call that waits has a deadline that comes within so many milliseconds (VXI-11 revision 1.0, section B.4.4).
 abbrev pub IsUnhurried : ℕ → Config → List DeviceAct → Type 0
@@ -16,9 +14,3 @@ IsUnhurried most config acts = (c : ℕ) → IsExpired (config.clock + ticks act
 -- And no scan is under way, of which each millisecond reads a channel.
 abbrev pub IsStill : ℕ → Config → List DeviceAct → Type 0
 IsStill most config acts = (is_scanning (state (counted (instrument_acts acts))) ≡ false) × IsUnhurried most config acts
-
--- Then so many milliseconds only count: that they passed is all that the log gains, unless the clock comes to its end.
-abbrev pub TimeOnlyCounts : Type 0
-TimeOnlyCounts = (config : Config) (history : List PlainEvent) (log : List Act) (most : ℕ) → IsLogOf config history log
-    → IsStill most config (device_acts log) → config.clock + ticks (device_acts log) + most ≤ last_clock
-    → IsLogOf config (replicate most Tick ++ history) (replicate most (OnDevice Ticked) ++ log)

@@ -4,6 +4,5 @@
 #![tactic(auto)]
 
 mod event;
-pub mod laws;
 
 pub use event::{Config, Dial, Did, Event, Port, Refused, Role};

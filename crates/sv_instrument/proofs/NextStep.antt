@@ -10,22 +10,13 @@ use Rattle.sv_layers.specs.declared.change.Awaited.{Awaited}
 use Rattle.sv_layers.specs.Act.{Act, exchange_acts}
 use Rattle.sv_layers.specs.Condition.{is_idle}
 use Rattle.sv_layers.specs.Inside.Kept.{Layered, state_by}
-use Rattle.sv_instrument.specs.declared.unit_outcome.Outcome.{Outcome}
 use Rattle.sv_instrument.specs.HeldUnit.{held}
 use Rattle.sv_instrument.specs.Path.{IsPath}
-use Rattle.sv_instrument.specs.RequestCount.{Raises}
 use Rattle.sv_instrument.specs.Step.{StepOf, IsStep, Starts}
-use Rattle.sv_instrument.specs.Representation.{Kept, Ran, IsHeldRight, unheld, waits}
-use Rattle.sv_instrument.specs.Inside.Acted.{Acted, Behaves, Follows, StartsUnit}
-use Rattle.sv_instrument.proofs.Running.{raises_then}
+use Rattle.sv_instrument.specs.Representation.{Kept, IsHeldRight, unheld, waits}
+use Rattle.sv_instrument.specs.Inside.Acted.{Behaves, Follows, StartsUnit}
 use Rattle.sv_instrument.proofs.Paths.{started_path}
 use Rattle.sv_instrument.proofs.Dues.{unit_is_next}
-
--- what is kept, by its parts
-pub ran_of : (kept : Kept) (log new : List Act) (count : ℕ) → Acted kept.layers count log new → kept.held ≡ held new → IsPath new kept.path
-    → Ran kept count log new
-ran_of kept log new count acted is path =
-    record { stands = record { layers = acted.stands; held = is; path = path }; raises = acted.raises }
 
 -- the step that is due, by what is held and what is due of the exchange
 pub step_of : (log new : List Act) (kept : Option Awaited) (next : Due) → kept ≡ held log → next ≡ due (exchange_acts log)
@@ -63,26 +54,21 @@ unit_step log new unit text free is next starts =
     (subst (λ (bytes : List ℕ). Starts bytes log new)
     (same_unit (next_unit (exchange_acts log)) unit text next (unit_is_next (exchange_acts log) text is)) starts)
 
--- a unit started behind the acts in front of it
-pub started : (log front : List Act) (unit : List ℕ) (path : List (List ℕ)) (kept : Kept) (outcome : Outcome) (first count : ℕ)
-    → Raises log front first → None ≡ held front → next_unit (exchange_acts front) ≡ Some unit
-    → next_unit (exchange_acts log) ≡ next_unit (exchange_acts front) → IsPath front path
-    → Behaves (Follows unit path kept.path front) kept.layers outcome front → kept.held ≡ outcome.held → count ≡ first + outcome.raised
-    → StartsUnit log front kept count
-started log front unit path kept outcome first count before free next apart here b is sum =
+-- a unit started
+pub started : (start log : List Act) (unit : List ℕ) (path : List (List ℕ)) (kept : Kept) → None ≡ held log
+    → next_unit (exchange_acts log) ≡ Some unit → IsPath log path
+    → Behaves (Follows unit path kept.path log) start kept.layers kept.held log → StartsUnit start log kept
+started start log unit path kept free next here b =
     let read = b.makes in
     record {
       unit = unit;
       new = b.new;
-      next = apart ∙ next;
+      next = next;
       starts = (path, kept.path, read.0, here, read.1, read.2);
-      ran = record {
-        stands = record {
-          layers = b.acted.stands;
-          held = is ∙ b.held;
-          path = started_path front b.new unit path kept.path read.0 free b.begins next here read.1;
-        };
-        raises = raises_then before b.acted.raises sum;
+      runs = record {
+        layers = b.counts;
+        held = b.held;
+        path = started_path log b.new unit path kept.path read.0 free b.begins next here read.1;
       };
     }
 

@@ -41,7 +41,8 @@ pub none_begun : (kept : Kept) (log : List Act) → StandsFor kept log → IsHel
     → units_begun log ≡ 0
 none_begun kept log s right open_now =
     let unended = not_true kept.layers.exchange.ended open_now in
-    let exchange = subst (λ (acts : List ExchangeAct). Exchanges kept.layers.exchange acts) (projected log).0 s.layers.joined.exchange in
+    let joined = s.layers.stands.joined in
+    let exchange = subst (λ (acts : List ExchangeAct). Exchanges kept.layers.exchange acts) (projected log).0 joined.exchange in
     let done = none_done kept.layers.exchange (exchange_acts log) exchange unended in
     let held_now : one_if_held (held log) ≡ 0 = ap one_if_held (sym s.held) ∙ none_held kept.held kept.layers right unended in
     omega (arith, done, held_now)

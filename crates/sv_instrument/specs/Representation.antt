@@ -5,7 +5,7 @@ use Rattle.sv_scan.specs.declared.setting.State.TheVariants.{Idle, Waiting, Scan
 use Rattle.sv_exchange.specs.Contents.{IsUnitDue, next_of, work_of}
 use Rattle.sv_layers.specs.declared.change.Awaited.{Awaited}
 use Rattle.sv_layers.specs.Act.{Act}
-use Rattle.sv_layers.specs.Inside.Kept.{Layered, StandsFor as Layers, state_by}
+use Rattle.sv_layers.specs.Inside.Kept.{Layered, AllRead as Layers, state_by}
 use Rattle.sv_instrument.specs.HeldUnit.{held}
 use Rattle.sv_instrument.specs.Path.{IsPath}
 use Rattle.sv_instrument.specs.RequestCount.{Raises}

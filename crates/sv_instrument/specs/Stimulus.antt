@@ -29,8 +29,7 @@ external_acts log = or_nothing (trigger_fault (counted log) External)
 -- a millisecond: in a scan the next channel is read
 abbrev pub where_scanning : State → List Act
 where_scanning Scanning = Scanned Sample ∷ []
-where_scanning Idle = []
-where_scanning Waiting = []
+where_scanning _ = []
 
 abbrev pub tick_acts : List Act → List Act
 tick_acts log = where_scanning (state (counted log))

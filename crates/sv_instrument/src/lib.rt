@@ -13,11 +13,11 @@ mod orders;
 mod polling;
 mod queries;
 mod readings;
+mod request_count;
 mod scanning;
 mod steps;
 mod stimuli;
 mod unit_effects;
-mod unit_outcome;
 mod unit_start;
 
 pub use instrument::Instrument;

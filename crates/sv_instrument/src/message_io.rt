@@ -11,8 +11,6 @@ ghost use Rattle.sv_instrument.specs.Step.{is_answerable};
 ghost use Rattle.sv_instrument.specs.Representation.{StandsFor, Ran};
 
 use crate::instrument::Instrument;
-use crate::unit_effects::change;
-use crate::unit_outcome::one;
 use std::alloc::Allocator;
 use sv_errors::Code;
 use sv_exchange::{MAX_MESSAGE, Read};
@@ -38,7 +36,8 @@ impl<A: Allocator> Instrument<A> {
         ensures { (log : List Act) → StandsFor self.old log
             → Ran self.new result log (Exchanged (Accepted bytes.now ended) ∷ log) }
     {
-        one(self.layers.accept(bytes, ended))
+        self.layers.accept(bytes, ended);
+        self.take_requests()
     }
 
     /// Whether there is a response to read.
@@ -76,7 +75,8 @@ impl<A: Allocator> Instrument<A> {
         ensures { (log : List Act) → StandsFor self.old log
             → Ran self.new result log (Exchanged (ResponseRead count) ∷ log) }
     {
-        one(self.layers.take(count))
+        self.layers.take(count);
+        self.take_requests()
     }
 
     /// Drops the text of a message that hasn't ended, and reports that a response was asked for
@@ -89,9 +89,9 @@ impl<A: Allocator> Instrument<A> {
     {
         self.held = None;
         self.path = Path::root();
-        let dropped = one(self.layers.drop_unfinished());
-        let told = change(&mut self.layers, Change::Report(Code::QueryUnterminated));
-        dropped + told
+        self.layers.drop_unfinished();
+        self.layers.happen(Change::Report(Code::QueryUnterminated));
+        self.take_requests()
     }
 
     /// Drops program text, the held unit and the response, and cancels an `*OPC` (VXI-11,
@@ -102,6 +102,7 @@ impl<A: Allocator> Instrument<A> {
     {
         self.held = None;
         self.path = Path::root();
-        one(self.layers.purge())
+        self.layers.purge();
+        self.take_requests()
     }
 }

@@ -4,39 +4,37 @@ ghost use Rattle.std.specs.Prelude.{◌≤◌, List, vec_capacity};
 ghost use Rattle.sv_exchange.specs.Contents.{IsUnitDue, next_of};
 ghost use Rattle.sv_exchange.specs.Limits.{max_response};
 ghost use Rattle.sv_layers.specs.Act.{Act};
-ghost use Rattle.sv_layers.specs.Inside.Kept.{StandsFor as Stands};
 ghost use Rattle.sv_instrument.specs.CommandEffect.{Performs};
-ghost use Rattle.sv_instrument.specs.Inside.Acted.{Behaves, Advances};
+ghost use Rattle.sv_instrument.specs.Inside.Acted.{Counts, Behaves, Advances};
 
 use crate::queries::ask;
 use crate::scanning::{configure, initiate, measure, read, set, trigger};
 use crate::unit_effects::{carry_out, end, hold};
-use crate::unit_outcome::Outcome;
 use std::alloc::Allocator;
 use sv_command::Order;
 use sv_layers::{Awaited, Change, Layers};
 use sv_scan::ScanAct;
 
-/// Performs the order of the unit that is due; an answer is put into a vector on the way.
+/// Performs the order of the unit that is due; an answer is put into a vector on the way. It tells
+/// what the unit will answer, if it is held.
 pub(crate) fn perform<A: Allocator>(
     layers: &mut Layers<A>,
     answer: &mut Vec<u8, A>,
     order: Order,
-) -> Outcome
+) -> Option<Awaited>
     requires due { IsUnitDue (next_of layers.old.exchange) }
     requires room { max_response ≤ vec_capacity answer.old }
-    ensures behaves { (log : List Act) → Stands layers.old log
-        → Behaves (Performs order log) layers.new result log }
-    ensures advances { Advances layers.old layers.new result.held }
-    ensures few { result.raised ≤ 8 }
+    ensures behaves { (start log : List Act) → Counts start layers.old log
+        → Behaves (Performs order log) start layers.new result log }
+    ensures advances { Advances layers.old layers.new result }
     ensures capacity { max_response ≤ vec_capacity answer.new }
 {
     let change = match order {
         Order::ClearStatus => Change::ClearStatus,
         Order::Reset => Change::Scan(ScanAct::Reset),
         Order::TellComplete => Change::AskComplete,
-        Order::Wait => return hold(layers, 0, Awaited::Nothing),
-        Order::WaitAndTell => return hold(layers, 0, Awaited::One),
+        Order::Wait => return hold(layers, Awaited::Nothing),
+        Order::WaitAndTell => return hold(layers, Awaited::One),
         Order::Trigger => return trigger(layers),
         Order::Preset => Change::Preset,
         Order::EnableStandard(mask) => Change::EnableStandard(mask),
@@ -48,8 +46,9 @@ pub(crate) fn perform<A: Allocator>(
         Order::Initiate => return initiate(layers),
         Order::Abort => Change::Scan(ScanAct::Abort),
         Order::Configure(list) => {
-            let raised = configure(layers, list);
-            return end(layers, raised);
+            configure(layers, list);
+            end(layers);
+            return None;
         }
         Order::Read => return read(layers),
         Order::Measure(list) => return measure(layers, list),

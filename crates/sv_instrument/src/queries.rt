@@ -6,17 +6,16 @@ ghost use Rattle.sv_exchange.specs.Limits.{max_response};
 ghost use Rattle.sv_layers.specs.Act.{Act};
 ghost use Rattle.sv_layers.specs.Inside.Kept.{StandsFor as Stands};
 ghost use Rattle.sv_instrument.specs.CommandEffect.{question_fault, taken, Replies};
-ghost use Rattle.sv_instrument.specs.Inside.Acted.{Acted, Behaves, Advances};
+ghost use Rattle.sv_instrument.specs.Inside.Acted.{Counts, Behaves, Advances};
 ghost use Rattle.sv_instrument.specs.QueryResponse.{Says};
 
 use crate::readings::put_readings;
-use crate::unit_effects::{carry_out, change, reply};
-use crate::unit_outcome::Outcome;
+use crate::unit_effects::{carry_out, reply};
 use std::alloc::Allocator;
+use sv_bytes::append;
 use sv_command::Question;
 use sv_errors::Code;
-use sv_layers::{Change, Layers};
-use sv_text::append;
+use sv_layers::{Awaited, Change, Layers};
 use sv_value::printing::{put_channels, put_error, put_source, put_switch, put_voltage, put_whole};
 
 /// Answers the query that is due; the answer is put into a vector on the way.
@@ -24,21 +23,21 @@ pub(crate) fn ask<A: Allocator>(
     layers: &mut Layers<A>,
     answer: &mut Vec<u8, A>,
     question: Question,
-) -> Outcome
+) -> Option<Awaited>
     requires due { IsUnitDue (next_of layers.old.exchange) }
     requires room { max_response ≤ vec_capacity answer.old }
-    ensures behaves { (log : List Act) → Stands layers.old log
-        → Behaves (Replies (question_fault question log) question log) layers.new result log }
-    ensures advances { Advances layers.old layers.new result.held }
-    ensures few { result.raised ≤ 7 }
+    ensures behaves { (start log : List Act) → Counts start layers.old log
+        → Behaves (Replies (question_fault question log) question log) start layers.new result log }
+    ensures advances { Advances layers.old layers.new result }
     ensures capacity { max_response ≤ vec_capacity answer.new }
 {
     match refused(layers, question) {
         Some(code) => carry_out(layers, Change::Report(code)),
         None => {
             put_answer(answer, layers, question);
-            let raised = take(layers, question);
-            reply(layers, raised, answer.as_slice())
+            take(layers, question);
+            reply(layers, answer.as_slice());
+            None
         }
     }
 }
@@ -54,17 +53,16 @@ fn refused<A: Allocator>(layers: &Layers<A>, question: Question) -> Option<Code>
 }
 
 /// What a query asks for is taken, or cleared.
-fn take<A: Allocator>(layers: &mut Layers<A>, question: Question) -> u8
-    ensures acts { (log : List Act) → Stands layers.old log
-        → Acted layers.new result log (taken question log) }
-    ensures few { result ≤ 1 }
+fn take<A: Allocator>(layers: &mut Layers<A>, question: Question)
+    ensures counts { (start log : List Act) → Counts start layers.old log
+        → Counts start layers.new (taken question log) }
     ensures exchange { layers.new.exchange ≡ layers.old.exchange }
 {
     match question {
-        Question::StandardEvents => change(layers, Change::ReadStandard),
-        Question::Error => change(layers, Change::TakeEntry),
-        Question::Events(name) => change(layers, Change::ReadEvent(name)),
-        _ => 0,
+        Question::StandardEvents => layers.happen(Change::ReadStandard),
+        Question::Error => layers.happen(Change::TakeEntry),
+        Question::Events(name) => layers.happen(Change::ReadEvent(name)),
+        _ => (),
     }
 }
 

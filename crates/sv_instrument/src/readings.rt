@@ -6,8 +6,8 @@ ghost use Rattle.sv_scan.specs.Scan.{is_bounded};
 ghost use Rattle.sv_instrument.specs.QueryResponse.{reading_text, readings_text};
 
 use std::alloc::Allocator;
+use sv_bytes::append;
 use sv_scan::Reading;
-use sv_text::append;
 use sv_value::printing::{put_overload, put_voltage};
 
 /// Puts readings, with commas between them, behind bytes that have room for 13 more for each.

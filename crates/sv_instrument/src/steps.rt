@@ -7,11 +7,10 @@ ghost use Rattle.sv_exchange.specs.Contents.{IsUnitDue, next_of};
 ghost use Rattle.sv_layers.specs.Act.{Act, Exchanged, Reported};
 ghost use Rattle.sv_instrument.specs.Stimulus.{IsFired};
 ghost use Rattle.sv_instrument.specs.Step.{IsStep, interrupted};
-ghost use Rattle.sv_instrument.specs.Representation.{StandsFor, Ran, Takes, left_of};
-ghost use Rattle.sv_instrument.specs.Inside.Acted.{StartsUnit};
+ghost use Rattle.sv_instrument.specs.Representation.{StandsFor, Takes, left_of};
+ghost use Rattle.sv_instrument.specs.Inside.Acted.{Runs, StartsUnit, Steps};
 
 use crate::instrument::Instrument;
-use crate::unit_outcome::one;
 use crate::unit_start;
 use std::alloc::Allocator;
 use sv_errors::{Code, Source};
@@ -31,7 +30,7 @@ impl<A: Allocator> Instrument<A> {
         ensures idle { IfNone result (self.new ≡ self.old) }
     {
         match self.layers.trigger(Source::Immediate) {
-            Ok(raised) => Some(one(raised)),
+            Ok(()) => Some(self.take_requests()),
             Err(_ignored) => None,
         }
     }
@@ -46,6 +45,17 @@ impl<A: Allocator> Instrument<A> {
         ensures measure { OnSome result (left_of self.new < left_of self.old) }
         ensures idle { IfNone result (self.new ≡ self.old) }
     {
+        if self.take_step() {
+            Some(self.take_requests())
+        } else {
+            None
+        }
+    }
+
+    /// Takes the step that is due, and tells whether one was.
+    fn take_step(&mut self) -> bool
+        ensures { Steps result self.old self.new }
+    {
         match self.held {
             Some(awaited) => self.release(awaited),
             None => self.next_step(),
@@ -53,101 +63,86 @@ impl<A: Allocator> Instrument<A> {
     }
 
     /// The unit that is held ends where no measurement is under way.
-    fn release(&mut self, awaited: Awaited) -> Option<u8>
+    fn release(&mut self, awaited: Awaited) -> bool
         requires { self.old.held ≡ Some awaited }
-        ensures steps { (log : List Act) → StandsFor self.old log
-            → Takes IsStep self.new result log }
-        ensures measure { OnSome result (left_of self.new < left_of self.old) }
-        ensures idle { IfNone result (self.new ≡ self.old) }
+        ensures { Steps result self.old self.new }
     {
         match self.layers.scanner().state() {
             State::Idle => {
-                let done = unit_start::release(&mut self.layers, &mut self.answer, awaited);
+                unit_start::release(&mut self.layers, &mut self.answer, awaited);
                 self.held = None;
-                Some(done.raised)
+                true
             }
-            State::Waiting => None,
-            State::Scanning => None,
+            State::Waiting => false,
+            State::Scanning => false,
         }
     }
 
     /// The step that is due where no unit is held.
-    fn next_step(&mut self) -> Option<u8>
+    fn next_step(&mut self) -> bool
         requires { self.old.held ≡ None }
-        ensures steps { (log : List Act) → StandsFor self.old log
-            → Takes IsStep self.new result log }
-        ensures measure { OnSome result (left_of self.new < left_of self.old) }
-        ensures idle { IfNone result (self.new ≡ self.old) }
+        ensures { Steps result self.old self.new }
     {
         match self.layers.exchange().next_unit() {
-            Next::Nothing => None,
-            Next::Overrun => Some(self.overran()),
-            Next::Interrupt => Some(self.interrupt()),
-            Next::Unit(_text) => Some(self.start()),
-            Next::Finish => Some(self.finish()),
+            Next::Nothing => return false,
+            Next::Overrun => self.overran(),
+            Next::Interrupt => self.interrupt(),
+            Next::Unit(_text) => self.start(),
+            Next::Finish => self.finish(),
         }
+        true
     }
 
     /// The message that is too long is reported.
-    fn overran(&mut self) -> u8
+    fn overran(&mut self)
         requires free { self.old.held ≡ None }
         requires due { next_of self.old.layers.exchange ≡ OverrunDue }
-        ensures ran { (log : List Act) → StandsFor self.old log → Ran self.new result log
+        ensures runs { (start log : List Act) → Runs start self.old log → Runs start self.new
             (Reported InputBufferOverrun ∷ Exchanged Overran ∷ log) }
         ensures measure { left_of self.new < left_of self.old }
     {
-        let first = one(self.layers.overran());
-        let last = one(self.layers.happen(Change::Report(Code::InputBufferOverrun)));
-        first + last
+        self.layers.overran();
+        self.layers.happen(Change::Report(Code::InputBufferOverrun));
     }
 
     /// The response is interrupted, and the unit that is due starts.
-    fn interrupt(&mut self) -> u8
+    fn interrupt(&mut self)
         requires free { self.old.held ≡ None }
         requires due { next_of self.old.layers.exchange ≡ InterruptDue }
-        ensures ran { (log : List Act) → StandsFor self.old log
-            → StartsUnit log (interrupted log) self.new result }
+        ensures starts { (start log : List Act) → Runs start self.old log
+            → StartsUnit start (interrupted log) self.new }
         ensures measure { left_of self.new < left_of self.old }
     {
-        let first = one(self.layers.interrupt());
-        let second = one(self.layers.happen(Change::Report(Code::QueryInterrupted)));
-        let unit = unit_start::start(
-            &self.table,
-            &mut self.path,
-            &mut self.layers,
-            &mut self.answer,
-        );
-        self.held = unit.held;
-        first + second + unit.raised
+        self.layers.interrupt();
+        self.layers.happen(Change::Report(Code::QueryInterrupted));
+        self.start();
     }
 
     /// The unit that is due starts.
-    fn start(&mut self) -> u8
+    fn start(&mut self)
         requires free { self.old.held ≡ None }
         requires due { IsUnitDue (next_of self.old.layers.exchange) }
-        ensures ran { (log : List Act) → StandsFor self.old log
-            → StartsUnit log log self.new result }
+        ensures starts { (start log : List Act) → Runs start self.old log
+            → StartsUnit start log self.new }
         ensures measure { left_of self.new < left_of self.old }
     {
-        let unit = unit_start::start(
+        self.held = unit_start::start(
             &self.table,
             &mut self.path,
             &mut self.layers,
             &mut self.answer,
         );
-        self.held = unit.held;
-        unit.raised
     }
 
     /// The message that has ended is finished.
-    fn finish(&mut self) -> u8
+    fn finish(&mut self)
         requires free { self.old.held ≡ None }
         requires due { next_of self.old.layers.exchange ≡ FinishDue }
-        ensures ran { (log : List Act) → StandsFor self.old log
-            → Ran self.new result log (Exchanged Finished ∷ log) }
+        ensures runs { (start log : List Act) → Runs start self.old log
+            → Runs start self.new (Exchanged Finished ∷ log) }
         ensures measure { left_of self.new < left_of self.old }
     {
         self.path = Path::root();
-        one(self.layers.finish())
+        self.layers.finish();
     }
 }

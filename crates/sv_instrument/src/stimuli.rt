@@ -10,8 +10,6 @@ ghost use Rattle.sv_instrument.specs.Stimulus.{trigger_acts, external_acts, tick
 ghost use Rattle.sv_instrument.specs.Representation.{StandsFor, Ran};
 
 use crate::instrument::Instrument;
-use crate::unit_effects::change;
-use crate::unit_outcome::one;
 use std::alloc::Allocator;
 use sv_errors::Source;
 use sv_layers::Change;
@@ -25,10 +23,9 @@ impl<A: Allocator> Instrument<A> {
         ensures { (log : List Act) → StandsFor self.old log
             → Ran self.new result log (Scanned (Input channel microvolts) ∷ log) }
     {
-        change(
-            &mut self.layers,
-            Change::Scan(ScanAct::Input(channel, microvolts)),
-        )
+        self.layers
+            .happen(Change::Scan(ScanAct::Input(channel, microvolts)));
+        self.take_requests()
     }
 
     /// A trigger comes in at the trigger input: the next scan begins where an external trigger is
@@ -38,7 +35,7 @@ impl<A: Allocator> Instrument<A> {
             → Ran self.new result log (external_acts log ++ log) }
     {
         match self.layers.trigger(Source::External) {
-            Ok(raised) => one(raised),
+            Ok(()) => self.take_requests(),
             Err(_ignored) => 0,
         }
     }
@@ -50,9 +47,10 @@ impl<A: Allocator> Instrument<A> {
             → Ran self.new result log (trigger_acts log ++ log) }
     {
         match self.layers.trigger(Source::Bus) {
-            Ok(raised) => one(raised),
-            Err(ignored) => change(&mut self.layers, Change::Report(ignored)),
+            Ok(()) => (),
+            Err(ignored) => self.layers.happen(Change::Report(ignored)),
         }
+        self.take_requests()
     }
 
     /// A millisecond goes by: in a scan the next channel is read.
@@ -61,7 +59,10 @@ impl<A: Allocator> Instrument<A> {
             → Ran self.new result log (tick_acts log ++ log) }
     {
         match self.layers.scanner().state() {
-            State::Scanning => change(&mut self.layers, Change::Scan(ScanAct::Sample)),
+            State::Scanning => {
+                self.layers.happen(Change::Scan(ScanAct::Sample));
+                self.take_requests()
+            }
             State::Idle => 0,
             State::Waiting => 0,
         }

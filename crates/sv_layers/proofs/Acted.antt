@@ -6,9 +6,9 @@ use Rattle.sv_layers.specs.Act.{Act, Exchanged}
 use Rattle.sv_layers.specs.Inside.Seen.{seen}
 use Rattle.sv_layers.specs.Inside.Kept.{Layered, StandsFor, Begun}
 
-pub exchange_acted : (layered : Layered) (log : List Act) (h : StandsFor layered log) (new : Contents) (act : ExchangeAct)
+pub exchange_acted : {log : List Act} {layered : Layered} {new : Contents} {act : ExchangeAct} → StandsFor layered log
     → Exchanges new (act ∷ (seen log).exchange) → Begun (record layered { exchange = new }) (Exchanged act) log
-exchange_acted layered log h new act stands = record {
+exchange_acted h stands = record {
   told = h.told;
   are = h.are;
   joined = record {

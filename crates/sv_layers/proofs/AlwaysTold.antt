@@ -1,7 +1,6 @@
 -- For each log there is one list of acts that the status byte is told.
 use Rattle.std.proofs.Common.{◌≡◌, ℕ, Bool, true, eqb, List, [], ◌∷◌, refl, bit_and}
 use Rattle.std.specs.Prelude.{◌↔◌, not}
-use Rattle.sv_errors.proofs.Since.{then_same}
 use Rattle.sv_status.specs.declared.register.RegisterAct.{RegisterAct}
 use Rattle.sv_status.specs.declared.register.RegisterAct.TheVariants.{Condition, SetFilter, SetEnable, ReadEvent, Preset, Clear}
 use Rattle.sv_status.specs.declared.standard_event.StandardAct.{StandardAct}
@@ -9,7 +8,7 @@ use Rattle.sv_status.specs.declared.standard_event.StandardAct.TheVariants as st
 use Rattle.sv_status.specs.declared.status_byte.StatusAct.{StatusAct}
 use Rattle.sv_status.specs.Register as register
 use Rattle.sv_status.specs.StandardEvent as standards
-use Rattle.sv_status.proofs.Words.{meets, no_bits}
+use Rattle.sv_status.proofs.Words.{enabled_is, no_bits}
 use Rattle.sv_status.proofs.Registers as registers
 use Rattle.sv_status.proofs.StandardEvents as events
 use Rattle.sv_status.specs.declared.register_name.RegisterName.TheVariants.{Operation, Questionable}
@@ -52,11 +51,11 @@ standard_kept (standard.Clear ∷ acts) = let h = standard_kept acts in (_, even
 -- a test whether an enabled bit stands
 register_test : (start : ℕ) (acts : List RegisterAct) → (stands : Bool) × ((stands ≡ true) ↔ register.Summary start acts)
 register_test start acts = let h = register_kept start acts in
-    (not (eqb (bit_and h.0.event h.0.enable) 0), then_same (meets h.0.event h.0.enable) (registers.summary_is start h.0 acts h.1))
+    (not (eqb (bit_and h.0.event h.0.enable) 0), enabled_is _ _ _ h.1.enable h.1.event)
 
 standard_test : (acts : List StandardAct) → (stands : Bool) × ((stands ≡ true) ↔ standards.Summary acts)
 standard_test acts = let h = standard_kept acts in
-    (not (eqb (bit_and h.0.event h.0.enable) 0), then_same (meets h.0.event h.0.enable) (events.summary_is h.0 acts h.1))
+    (not (eqb (bit_and h.0.event h.0.enable) 0), enabled_is _ _ _ h.1.enable h.1.event)
 
 -- a word has the summary bits
 some_summary : (at : Seen) → (word : ℕ) × IsSummary word at

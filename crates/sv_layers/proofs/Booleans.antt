@@ -2,6 +2,7 @@
 use Rattle.std.proofs.Common.{◌≡◌, ℕ, suc, ◌^◌, Bool, true, false, cond, List, [], ◌∷◌, length, refl, sym, nat_lt, arith}
 use Rattle.std.specs.Prelude.{◌↔◌, not, ◌&&◌, ◌||◌}
 use Rattle.std.proofs.lemmas.Bool.{lt-ltb, and_parts, and_from}
+use Rattle.std.specs.Int.{from_bool}
 use Rattle.sv_errors.specs.ErrorQueue.{is_any}
 use Rattle.sv_scan.specs.Condition.{bit}
 
@@ -16,6 +17,10 @@ same_bool false false p q = refl
 pub bit_is : (k : ℕ) (b : Bool) → cond b (2 ^ k) 0 ≡ bit k b
 bit_is k true = refl
 bit_is k false = refl
+
+pub byte_is : (b : Bool) → from_bool b ≡ bit 0 b
+byte_is true = refl
+byte_is false = refl
 
 -- whether there is any place, by how many there are
 pub any_is : (places : List ℕ) → nat_lt 0 (length places) ≡ is_any places

@@ -1,7 +1,7 @@
 -- Whether an `*OPC` waits, and whether it completes at an act, as it is seen and as the log tells.
 use Rattle.std.proofs.Common.{◌≡◌, Bool, true, false, List, ◌∷◌, refl, ap, ◌∙◌, sym, ◌⊎◌, inl, inr}
 use Rattle.std.specs.Prelude.{◌↔◌, not, ◌&&◌}
-use Rattle.sv_errors.proofs.Since.{since_unique, step_kept, step_same, step_ended, then_same}
+use Rattle.sv_logs.proofs.Since.{since_unique, step_kept, step_same, step_ended, then_same}
 use Rattle.sv_scan.specs.declared.acts.ScanAct.{ScanAct}
 use Rattle.sv_scan.specs.declared.acts.ScanAct.TheVariants.{Reset}
 use Rattle.sv_scan.specs.Scan.{state}

@@ -1,7 +1,7 @@
 -- A condition that isn't touched was told before, and need not be told again.
 use Rattle.std.proofs.Common.{◌≡◌, ℕ, ◌+◌, Bool, true, false, List, ◌∷◌, refl, ap, ◌∙◌, sym, subst, bit_or}
 use Rattle.std.proofs.lemmas.Bool.{cond_both}
-use Rattle.sv_errors.proofs.Since.{then_same}
+use Rattle.sv_logs.proofs.Since.{then_same}
 use Rattle.sv_status.specs.declared.register_name.RegisterName.{RegisterName}
 use Rattle.sv_status.specs.declared.register.RegisterAct.{RegisterAct}
 use Rattle.sv_status.specs.declared.register.RegisterAct.TheVariants.{Condition}

@@ -1,37 +1,36 @@
 -- The summary of the register of limits, as a test and as it is said of any register.
-use Rattle.std.proofs.Common.{◌≡◌, ℕ, zero, suc, ◌<◌, ◌^◌, Bool, true, false, List, [], ◌∷◌, refl, ap, ◌∙◌, sym, arith, inl, inr}
+use Rattle.std.proofs.Common.{◌≡◌, ℕ, ◌<◌, ◌^◌, Bool, true, false, List, [], ◌∷◌, refl, ap, ◌∙◌, sym, arith, inl, inr, get_or}
 use Rattle.std.specs.Prelude.{◌↔◌, ◌&&◌, ◌||◌, if◌then◌else◌}
 use Rattle.std.specs.Int.{bit_at}
+use Rattle.std.specs.List.{list_any, range_with_len}
 use Rattle.std.proofs.lemmas.Bool.{cases_lt}
+use Rattle.std.proofs.lemmas.List.Folds.{list_any_at}
+use Rattle.std.proofs.lemmas.List.FromFn.{get_or-range_with_len}
 use Rattle.std.proofs.lemmas.Nat.{mod_below}
 use Rattle.std.proofs.lemmas.Nat.Bits.{bit_at_above}
-use Rattle.sv_errors.specs.Since.{is_since}
-use Rattle.sv_errors.proofs.Since.{both_true, either_true, is_since_is}
+use Rattle.sv_logs.specs.Since.{is_since}
+use Rattle.sv_logs.proofs.Since.{both_true, either_true, is_since_is}
 use Rattle.sv_status.specs.declared.register_name.RegisterName.{RegisterName}
 use Rattle.sv_status.specs.declared.register_name.RegisterName.TheVariants.{Operation, Questionable, Limit}
 use Rattle.sv_status.specs.Register.{masked}
 use Rattle.sv_layers.specs.Act.{Act, Enabled, Preset}
-use Rattle.sv_layers.specs.Filter.{is_same, start, enable, has_bit, passes, leaves, some_below}
+use Rattle.sv_layers.specs.Filter.{is_same, start, enable, has_bit, passes, leaves}
 use Rattle.sv_layers.specs.Condition.{limit, limit_summary, condition}
 use Rattle.sv_layers.specs.Event.{EventStands, Summary}
 use Rattle.sv_layers.proofs.Transitions.{has_is}
 
--- some number below another is such
-found_below : (n : ℕ) (is_such : ℕ → Bool) → some_below n is_such ≡ true → (k : ℕ) × (is_such k ≡ true)
-found_below zero is_such e = absurd cc
-found_below (suc n) is_such e = elim ((either_true (is_such n) (some_below n is_such)).0 e) [
-  | inl here ↦ (n, here)
-  | inr below ↦ found_below n is_such below
+-- one of these numbers is such
+found_of : (ks : List ℕ) (is_such : ℕ → Bool) → list_any is_such ks ≡ true → (k : ℕ) × (is_such k ≡ true)
+found_of [] is_such e = absurd cc
+found_of (k ∷ ks) is_such e = elim ((either_true (is_such k) (list_any is_such ks)).0 e) [
+  | inl here ↦ (k, here)
+  | inr behind ↦ found_of ks is_such behind
 ]
 
-pub below_found : (n k : ℕ) (is_such : ℕ → Bool) → k < n → is_such k ≡ true → some_below n is_such ≡ true
-below_found zero k is_such lt e = absurd (omega (arith, lt))
-below_found (suc n) k is_such lt e = elim (cases_lt k n) [
-  | inl less ↦ (either_true (is_such n) (some_below n is_such)).1 (inr (below_found n k is_such less e))
-  | inr least ↦
-      let same : k ≡ n = omega (arith, lt, least) in
-      (either_true (is_such n) (some_below n is_such)).1 (inl (ap is_such (sym same) ∙ e))
-]
+below_found : (k : ℕ) (is_such : ℕ → Bool) → k < 16 → is_such k ≡ true → list_any is_such (range_with_len 0 16) ≡ true
+below_found k is_such lt e =
+    let at : get_or (range_with_len 0 16) k 0 ≡ k = (let found = get_or-range_with_len 0 16 k 0 lt in omega (arith, found)) in
+    list_any_at is_such (range_with_len 0 16) k 0 lt (ap is_such at ∙ e)
 
 -- a mask has no bit 15
 small_of : (b : Bool) (mask word : ℕ) → word < 2 ^ 16 → (if b then masked mask else word) < 2 ^ 16
@@ -77,16 +76,16 @@ pub limit_summary_is : (log : List Act) → (limit_summary log ≡ true) ↔ Sum
 limit_summary_is log =
     let is_such : ℕ → Bool = λ k. is_since (passes limit Limit k) (leaves Limit) log && has_bit (enable Limit log) k in (
       (λ e.
-          let found = found_below 16 is_such e in
+          let found = found_of (range_with_len 0 16) is_such e in
           let both =
           (both_true (is_since (passes limit Limit found.0) (leaves Limit) log) (has_bit (enable Limit log) found.0)).0 found.1 in
           (found.0, (stands_is found.0 log).0 both.0, (has_is (enable Limit log) found.0).0 both.1)),
-      (λ s. below_found 16 s.0 is_such (enabled_below Limit log s.0 s.2)
+      (λ s. below_found s.0 is_such (enabled_below Limit log s.0 s.2)
           ((both_true (is_since (passes limit Limit s.0) (leaves Limit) log) (has_bit (enable Limit log) s.0)).1
           ((stands_is s.0 log).1 s.1, (has_is (enable Limit log) s.0).1 s.2))),
     )
 
 -- two tests that say the same of each number
-pub some_same : (n : ℕ) (p q : ℕ → Bool) → ((k : ℕ) → p k ≡ q k) → some_below n p ≡ some_below n q
-some_same zero p q same = refl
-some_same (suc n) p q same = ap (λ (b : Bool). b || some_below n p) (same n) ∙ ap (λ (b : Bool). q n || b) (some_same n p q same)
+pub some_same : (ks : List ℕ) (p q : ℕ → Bool) → ((k : ℕ) → p k ≡ q k) → list_any p ks ≡ list_any q ks
+some_same [] p q same = refl
+some_same (k ∷ ks) p q same = ap (λ (b : Bool). b || list_any p ks) (same k) ∙ ap (λ (b : Bool). q k || b) (some_same ks p q same)

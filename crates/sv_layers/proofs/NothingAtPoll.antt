@@ -1,23 +1,24 @@
--- A poll changes nothing that the status byte sums up, so it gives no reason for service.
+-- A poll changes nothing that the status byte sums up, so it gives no reason for service. It ends a request, and raises none.
 use Rattle.std.proofs.Common.{◌≡◌, ℕ, ◌+◌, Bool, true, List, [], ◌∷◌, ◌⊎◌, inl, inr, arith, refl, ap, sym, ◌∙◌}
 use Rattle.std.specs.Prelude.{◌&&◌, ◌||◌}
-use Rattle.sv_errors.specs.Since.{is_since}
-use Rattle.sv_errors.proofs.Since.{since_empty, since_step, since_same}
+use Rattle.std.specs.List.{range_with_len}
+use Rattle.sv_logs.specs.Since.{is_since}
+use Rattle.sv_logs.proofs.Since.{since_empty, since_step, since_same, since_ended}
 use Rattle.sv_status.specs.declared.register_name.RegisterName.{RegisterName}
 use Rattle.sv_status.specs.declared.register_name.RegisterName.TheVariants.{Operation, Questionable, Limit}
 use Rattle.sv_scan.specs.Condition as scan
 use Rattle.sv_layers.specs.Act.{Act, Polled}
 use Rattle.sv_layers.specs.Filter.{rise, fall, enable, has_bit, passes, leaves}
 use Rattle.sv_layers.specs.Condition.{counted, limit, limit_summary, condition}
-use Rattle.sv_layers.specs.Event.{Passes, NotCleared, Summary}
+use Rattle.sv_layers.specs.Event.{Summary}
 use Rattle.sv_layers.specs.Standard.{IsAsked, IsPending, Completes, Occurs, NotCleared as StandardNotCleared, Summary as StandardSummary}
-use Rattle.sv_layers.specs.StatusByte.{Asks}
-use Rattle.sv_layers.proofs.Transitions.{changes, no_change}
+use Rattle.sv_layers.specs.StatusByte.{Asks, IsRaised, Lasts, Reason, Request}
+use Rattle.sv_layers.proofs.Transitions.{Passes, NotCleared, changes, no_change}
 use Rattle.sv_layers.proofs.LimitSummary.{some_same}
 
 -- it passes no limit, and leaves their summary
 limits_stay : (log : List Act) → limit_summary (Polled ∷ log) ≡ limit_summary log
-limits_stay log = some_same 16 _ _ (λ k.
+limits_stay log = some_same (range_with_len 0 16) _ _ (λ k.
     ap (λ (b : Bool). (b || is_since (passes limit Limit k) (leaves Limit) log) && has_bit (enable Limit log) k)
     (no_change (has_bit (limit log) k) (has_bit (rise Limit log) k) (has_bit (fall Limit log) k)))
 
@@ -59,3 +60,9 @@ polled_asks k log asks =
     let bit = some_of_five (λ h. (h.0, polled_summary Operation log h.1)) (λ h. (h.0, polled_standard log h.1))
     (λ h. (h.0, polled_summary Questionable log h.1)) asks.0 in
     (bit, asks.1)
+
+pub polled_ended : (log : List Act) → Request (Polled ∷ log) → ⊥
+polled_ended log = since_ended Reason Lasts Polled log (λ lasts. lasts)
+
+pub unraised : (log : List Act) → IsRaised (Polled ∷ log) → ⊥
+unraised log raised = polled_ended log raised.0

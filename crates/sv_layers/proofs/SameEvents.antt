@@ -1,7 +1,7 @@
 -- Which bits of a status register stand, as it is seen and as the log tells.
 use Rattle.std.proofs.Common.{◌≡◌, ℕ, Bool, true, false, List, [], ◌∷◌, refl, ◌⊎◌}
 use Rattle.std.specs.Prelude.{◌↔◌, not, if◌then◌else◌}
-use Rattle.sv_errors.proofs.Since.{since_unique, step_kept, step_ended, then_same}
+use Rattle.sv_logs.proofs.Since.{since_unique, step_kept, step_ended, then_same}
 use Rattle.sv_status.specs.declared.register_name.RegisterName.{RegisterName}
 use Rattle.sv_status.specs.declared.register_name.RegisterName.TheVariants.{Operation, Questionable, Limit}
 use Rattle.sv_status.specs.declared.register.RegisterAct.{RegisterAct}
@@ -11,12 +11,11 @@ use Rattle.sv_status.proofs.Registers.{event-none, event-condition, event-read, 
 use Rattle.sv_layers.specs.Act.{Act, Cleared, Preset, EventRead, Enabled, RiseSet, FallSet}
 use Rattle.sv_layers.specs.Condition.{condition}
 use Rattle.sv_layers.specs.Filter.{is_same, rise, fall}
-use Rattle.sv_layers.specs.Event.{Passes, NotCleared}
 use Rattle.sv_layers.specs.Inside.Seen.{own, seen, register_acts}
 use Rattle.sv_layers.specs.Laws.{SameEvents}
 use Rattle.sv_layers.proofs.Registered.{seen_register}
 use Rattle.sv_layers.proofs.Either.{unchanged, either_same}
-use Rattle.sv_layers.proofs.Transitions.{changes_is}
+use Rattle.sv_layers.proofs.Transitions.{Passes, NotCleared, changes_is}
 use Rattle.sv_layers.proofs.SameWords.{same_words}
 
 flip : {P Q : Type 0} → P ↔ Q → Q ↔ P

@@ -2,7 +2,7 @@
 use Rattle.std.proofs.Common.{◌≡◌, ◌≢◌, ℕ, List, [], ◌∷◌, refl, ap, sym, ◌∙◌, ◌⊎◌, inl, inr, arith}
 use Rattle.std.specs.Prelude.{◌↔◌}
 use Rattle.std.specs.Int.{bit_at}
-use Rattle.sv_errors.proofs.Since.{since_empty, since_step, since_ended}
+use Rattle.sv_logs.proofs.Since.{since_empty, since_step}
 use Rattle.sv_status.specs.declared.status_byte.StatusAct.{StatusAct}
 use Rattle.sv_status.specs.declared.status_byte.StatusAct.TheVariants.{Update, Poll}
 use Rattle.sv_status.specs.StatusByte as status
@@ -14,7 +14,7 @@ use Rattle.sv_layers.specs.Inside.Kept.{IsSummary, IsStatus, own_status}
 use Rattle.sv_layers.specs.Laws.{SameRequests, SameStatus}
 use Rattle.sv_layers.proofs.Projected.{projected}
 use Rattle.sv_layers.proofs.SameSummaries.{same_summaries, no_summary}
-use Rattle.sv_layers.proofs.NothingAtPoll.{polled_asks}
+use Rattle.sv_layers.proofs.NothingAtPoll.{polled_asks, polled_ended}
 
 -- an act that is no poll: it isn't told of itself, and a request lasts at it by the master summary alone
 abbrev IsOther : Act → Type 0
@@ -49,10 +49,6 @@ told_asks log told is k =
 told_master : (log : List Act) (told : List StatusAct) → IsStatus log told → status.Master told ↔ Master log
 told_master log told is =
     ((λ m. (m.0, (told_asks log told is m.0).0 m.1)), (λ m. (m.0, (told_asks log told is m.0).1 m.1)))
-
--- a poll ends a request
-polled_ended : (log : List Act) → Request (Polled ∷ log) → ⊥
-polled_ended log = since_ended Reason Lasts Polled log (λ lasts. lasts)
 
 -- the request behind an act by that before it
 abbrev RequestStep : Act → Type 0

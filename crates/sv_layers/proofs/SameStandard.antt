@@ -5,7 +5,7 @@ use Rattle.sv_errors.specs.declared.code.Code.{Code}
 use Rattle.sv_errors.specs.declared.error_queue.QueueAct.{QueueAct}
 use Rattle.sv_errors.specs.Code.{standard_event_of}
 use Rattle.sv_errors.specs.ErrorQueue.{is_full}
-use Rattle.sv_errors.proofs.Since.{since_unique, step_kept, step_ended, then_same}
+use Rattle.sv_logs.proofs.Since.{since_unique, step_kept, step_ended, then_same}
 use Rattle.sv_status.specs.declared.standard_event.StandardAct.{StandardAct}
 use Rattle.sv_status.specs.declared.standard_event.StandardAct.TheVariants as standard
 use Rattle.sv_status.specs.StandardEvent as stands

@@ -1,16 +1,16 @@
 -- The summary bits of the status byte, as they are seen and as the log tells.
-use Rattle.std.proofs.Common.{◌≡◌, ℕ, ◌+◌, false, List, [], refl, ap, ◌∙◌, sym, arith}
+use Rattle.std.proofs.Common.{◌≡◌, ◌+◌, false, List, [], refl, ap, arith}
 use Rattle.std.specs.Prelude.{◌↔◌}
-use Rattle.std.specs.Int.{bit_at}
 use Rattle.std.proofs.lemmas.Nat.Bits.{bit_at-zero}
 use Rattle.sv_errors.specs.declared.error_queue.QueueAct.{QueueAct}
 use Rattle.sv_errors.specs.ErrorQueue.{entries, is_any}
-use Rattle.sv_errors.proofs.Since.{then_same}
+use Rattle.sv_logs.proofs.Since.{then_same}
 use Rattle.sv_status.specs.declared.register_name.RegisterName.{RegisterName}
 use Rattle.sv_status.specs.declared.register_name.RegisterName.TheVariants.{Operation, Questionable}
 use Rattle.sv_status.specs.Register as register
 use Rattle.sv_status.specs.StandardEvent as standard
 use Rattle.sv_status.proofs.Registers.{event-none}
+use Rattle.sv_status.proofs.Words.{same_enabled}
 use Rattle.sv_scan.specs.Condition.{bit}
 use Rattle.sv_exchange.specs.Exchange.{ExchangeAct, response, is_something}
 use Rattle.sv_layers.specs.Act.{Act}
@@ -30,18 +30,10 @@ use Rattle.sv_layers.proofs.SameStandard.{same_enable, same_standard_events}
 -- whether an enabled bit stands
 pub same_summary : (name : RegisterName) (log : List Act)
     → register.Summary (start name) (register_acts name (seen log)) ↔ Summary name log
-same_summary name log =
-    let enable = (same_words name log).3 in (
-      (λ s. (s.0, (same_events name s.0 log).0 s.1, ap (λ (w : ℕ). bit_at w s.0) (sym enable) ∙ s.2)),
-      (λ s. (s.0, (same_events name s.0 log).1 s.1, ap (λ (w : ℕ). bit_at w s.0) enable ∙ s.2)),
-    )
+same_summary name log = same_enabled _ _ (same_words name log).3 (λ k. same_events name k log)
 
 same_standard_summary : (log : List Act) → standard.Summary (seen log).standard ↔ StandardSummary log
-same_standard_summary log =
-    let enable = same_enable log in (
-      (λ s. (s.0, (same_standard_events s.0 log).0 s.1, ap (λ (w : ℕ). bit_at w s.0) (sym enable) ∙ s.2)),
-      (λ s. (s.0, (same_standard_events s.0 log).1 s.1, ap (λ (w : ℕ). bit_at w s.0) enable ∙ s.2)),
-    )
+same_standard_summary log = same_enabled _ _ (same_enable log) (λ k. same_standard_events k log)
 
 pub same_summaries : SameSummaries
 same_summaries word log is k =

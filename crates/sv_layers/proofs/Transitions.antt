@@ -1,12 +1,23 @@
--- Whether a bit changes in a direction whose filter is on: as a test, and as it is said of a register.
-use Rattle.std.proofs.Common.{◌≡◌, ℕ, Bool, true, false, refl, ◌⊎◌, arith, eq-eqb}
+-- Whether a bit changes in a direction whose filter is on: as a test, and as it is said of a register. By both an event stands.
+use Rattle.std.proofs.Common.{◌≡◌, ℕ, Bool, true, false, List, refl, ◌⊎◌, arith, eq-eqb}
 use Rattle.std.specs.Prelude.{◌↔◌, not, ◌&&◌, ◌||◌}
 use Rattle.std.specs.Int.{bit_at}
 use Rattle.std.proofs.lemmas.Bool.{eqb-true, eqb-false, ne_eqb}
 use Rattle.std.proofs.lemmas.Nat.Bits.{bit_at-lt}
-use Rattle.sv_errors.proofs.Since.{both_true, either_true}
-use Rattle.sv_layers.specs.Filter.{has_bit}
+use Rattle.sv_logs.proofs.Since.{both_true, either_true}
+use Rattle.sv_status.specs.declared.register_name.RegisterName.{RegisterName}
+use Rattle.sv_layers.specs.Act.{Act}
+use Rattle.sv_layers.specs.Condition.{condition}
+use Rattle.sv_layers.specs.Filter.{has_bit, passes, leaves}
 use Rattle.sv_layers.proofs.Either.{either_same}
+
+-- At the newest act a bit of the condition passes its filter.
+abbrev pub Passes : RegisterName → ℕ → List Act → Type 0
+Passes name k log = passes (condition name) name k log ≡ true
+
+-- The newest act doesn't clear the event register.
+abbrev pub NotCleared : RegisterName → List Act → Type 0
+NotCleared name log = leaves name log ≡ true
 
 pub has_is : (word k : ℕ) → (has_bit word k ≡ true) ↔ (bit_at word k ≡ 1)
 has_is word k = (eqb-true (bit_at word k) 1, eq-eqb (bit_at word k) 1)

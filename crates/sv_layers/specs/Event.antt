@@ -1,23 +1,15 @@
 -- The events and the summaries of the event registers (SCPI-1999, chapter 20, STATus), by searches of the instrument's log.
 use Rattle.std.specs.Prelude.{◌≡◌, ℕ, true, List}
 use Rattle.std.specs.Int.{bit_at}
-use Rattle.sv_errors.specs.Since.{Since}
+use Rattle.sv_logs.specs.Since.{Since}
 use Rattle.sv_status.specs.declared.register_name.RegisterName.{RegisterName}
 use Rattle.sv_layers.specs.Act.{Act}
 use Rattle.sv_layers.specs.Condition.{condition}
 use Rattle.sv_layers.specs.Filter.{enable, passes, leaves}
 
--- At the newest act a bit of the condition passes its filter.
-abbrev pub Passes : RegisterName → ℕ → List Act → Type 0
-Passes name k log = passes (condition name) name k log ≡ true
-
--- The newest act doesn't clear the event register.
-abbrev pub NotCleared : RegisterName → List Act → Type 0
-NotCleared name log = leaves name log ≡ true
-
 -- A bit of an event register stands exactly if a transition passed its filter after the last clearing.
 abbrev pub EventStands : RegisterName → ℕ → List Act → Type 0
-EventStands name k log = Since (Passes name k) (NotCleared name) log
+EventStands name k log = Since (λ place. passes (condition name) name k place ≡ true) (λ place. leaves name place ≡ true) log
 
 -- Some bit of it stands that is enabled.
 abbrev pub Summary : RegisterName → List Act → Type 0

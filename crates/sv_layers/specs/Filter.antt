@@ -1,5 +1,5 @@
 -- What the event registers (SCPI-1999, chapter 20, STATus) let pass, enable and clear, by searches of the instrument's log.
-use Rattle.std.specs.Prelude.{ℕ, zero, suc, ◌==◌, Bool, true, false, not, ◌&&◌, ◌||◌, List, [], ◌∷◌, if◌then◌else◌}
+use Rattle.std.specs.Prelude.{ℕ, ◌==◌, Bool, true, false, not, ◌&&◌, ◌||◌, List, [], ◌∷◌, if◌then◌else◌}
 use Rattle.std.specs.Int.{bit_at}
 use Rattle.sv_status.specs.declared.register_name.RegisterName.{RegisterName}
 use Rattle.sv_status.specs.declared.register_name.RegisterName.TheVariants.{Operation, Questionable, Limit}
@@ -52,8 +52,3 @@ abbrev pub leaves : RegisterName → List Act → Bool
 leaves name (EventRead other ∷ log) = not (is_same name other)
 leaves name (Cleared ∷ log) = false
 leaves name _ = true
-
--- whether some number below this one is such
-abbrev pub some_below : ℕ → (ℕ → Bool) → Bool
-some_below zero is_such = false
-some_below (suc n) is_such = is_such n || some_below n is_such

@@ -1,7 +1,7 @@
 -- Standard events (IEEE 488.2, 11.5.1) and the completion of operations (12.5.2), by searches of the instrument's log.
 use Rattle.std.specs.Prelude.{◌≡◌, ◌⊎◌, ℕ, Bool, true, false, ⊤, List, [], ◌∷◌}
 use Rattle.std.specs.Int.{bit_at}
-use Rattle.sv_errors.specs.Since.{Since}
+use Rattle.sv_logs.specs.Since.{Since}
 use Rattle.sv_errors.specs.Code.{standard_event_of}
 use Rattle.sv_errors.specs.ErrorQueue.{is_full}
 use Rattle.sv_scan.specs.declared.acts.ScanAct.TheVariants.{Reset}

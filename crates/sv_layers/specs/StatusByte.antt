@@ -1,7 +1,7 @@
 -- The status byte and requests for service (IEEE 488.2, 11.2 and 11.3), by searches of the instrument's log.
 use Rattle.std.specs.Prelude.{◌≡◌, ◌⊎◌, ℕ, true, List, [], ◌∷◌}
 use Rattle.std.specs.Int.{bit_at}
-use Rattle.sv_errors.specs.Since.{Since}
+use Rattle.sv_logs.specs.Since.{Since}
 use Rattle.sv_errors.specs.ErrorQueue.{entries, is_any}
 use Rattle.sv_status.specs.declared.register_name.RegisterName.TheVariants.{Operation, Questionable}
 use Rattle.sv_exchange.specs.Exchange.{response, is_something}

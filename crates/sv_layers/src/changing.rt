@@ -22,15 +22,15 @@ use sv_scan::ScanAct;
 const DEVICE: u8 = 1 << 3;
 
 impl<A: Allocator> Layers<A> {
-    /// Lets a change happen, and tells whether it raises a request for service.
-    pub fn happen(&mut self, change: Change) -> bool
+    /// Lets a change happen.
+    pub fn happen(&mut self, change: Change)
         ensures happens { (log : List Act) → StandsFor self.old log
-            → Happens self.new result (act_of change ∷ log) }
+            → Happens self.old.requests self.new (act_of change ∷ log) }
         ensures exchange { self.new.exchange ≡ self.old.exchange }
     {
         self.begin(&change);
         self.end(&change);
-        self.tell()
+        self.tell();
     }
 
     /// Begins a change: what it does to its own layer.
@@ -38,6 +38,7 @@ impl<A: Allocator> Layers<A> {
         ensures stands { (at : Seen) (told : List StatusAct) → Joined self.old at told
             → Joined self.new (begun (act_of change.now) at) told }
         ensures exchange { self.new.exchange ≡ self.old.exchange }
+        ensures requests { self.new.requests ≡ self.old.requests }
     {
         match change {
             Change::Scan(act) => self.scan(*act),
@@ -67,6 +68,7 @@ impl<A: Allocator> Layers<A> {
         ensures stands { (at : Seen) (told : List StatusAct) → Joined self.old at told
             → Joined self.new (begun (Scanned act) at) told }
         ensures exchange { self.new.exchange ≡ self.old.exchange }
+        ensures requests { self.new.requests ≡ self.old.requests }
     {
         self.waits &= !is_reset(&act);
         self.scanner.act(act);
@@ -77,22 +79,22 @@ impl<A: Allocator> Layers<A> {
         ensures stands { (at : Seen) (told : List StatusAct) → Joined self.old at told
             → Joined self.new (begun (Reported code) at) told }
         ensures exchange { self.new.exchange ≡ self.old.exchange }
+        ensures requests { self.new.requests ≡ self.old.requests }
     {
         let overflows = self.errors.report(code);
         self.standard.occur(code.standard_event());
         self.standard.occur(mask_where(DEVICE, overflows));
     }
 
-    /// A trigger from this source, where one from there is waited for; it tells whether a request
-    /// for service is raised.
+    /// A trigger from this source, where one from there is waited for.
     ///
     /// # Errors
     /// [`Code::TriggerIgnored`] where none is waited for, or one from another source; then nothing
     /// happens.
-    pub fn trigger(&mut self, source: Source) -> Result<bool, Code>
+    pub fn trigger(&mut self, source: Source) -> Result<(), Code>
         ensures happens { (log : List Act) → StandsFor self.old log
-            → MatchResult result (λ raised. (trigger_fault (counted log) source ≡ None)
-            × Happens self.new raised (Scanned (Trigger source) ∷ log))
+            → MatchResult result (λ done. (trigger_fault (counted log) source ≡ None)
+            × Happens self.old.requests self.new (Scanned (Trigger source) ∷ log))
             (λ code. trigger_fault (counted log) source ≡ Some code) }
         ensures exchange { self.new.exchange ≡ self.old.exchange }
         ensures scanning { OnOk result ((state_by self.old ≡ Waiting)
@@ -100,7 +102,10 @@ impl<A: Allocator> Layers<A> {
         ensures refused { OnErr result (self.new ≡ self.old) }
     {
         match self.scanner.trigger(source) {
-            Ok(()) => Ok(self.settle()),
+            Ok(()) => {
+                self.settle();
+                Ok(())
+            }
             Err(ignored) => Err(ignored),
         }
     }

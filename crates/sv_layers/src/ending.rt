@@ -36,6 +36,7 @@ impl<A: Allocator> Layers<A> {
             → Joined self.new (seen (act ∷ log)) told }
         ensures exchange { self.new.exchange ≡ self.old.exchange }
         ensures scanner { self.new.scanner ≡ self.old.scanner }
+        ensures requests { self.new.requests ≡ self.old.requests }
     {
         let touched = self.scanner.touched();
         let now = self.scanner.conditions();
@@ -59,6 +60,7 @@ impl<A: Allocator> Layers<A> {
             → Joined self.new (completed at) told }
         ensures exchange { self.new.exchange ≡ self.old.exchange }
         ensures scanner { self.new.scanner ≡ self.old.scanner }
+        ensures requests { self.new.requests ≡ self.old.requests }
     {
         let idle = self.scanner.state().is_idle();
         self.standard.occur(mask_where(COMPLETE, self.waits & idle));

@@ -9,7 +9,7 @@ ghost use Rattle.sv_exchange.specs.Contents.{StandsFor as Exchanges};
 ghost use Rattle.sv_layers.specs.Act.{Act, exchange_acts, queue_acts, scan_acts};
 ghost use Rattle.sv_layers.specs.Filter.{start};
 ghost use Rattle.sv_layers.specs.Inside.Seen.{Seen, register_acts};
-ghost use Rattle.sv_layers.specs.Inside.Kept.{StandsFor, Joined};
+ghost use Rattle.sv_layers.specs.Inside.Kept.{StandsFor, AllRead, Joined};
 
 use std::alloc::{AllocError, Allocator, Global};
 use std::marker::Model;
@@ -41,6 +41,8 @@ pub struct Layers<A: Allocator = Global> {
     pub(crate) service: u8,
     /// Whether an `*OPC` waits for the end of a measurement.
     pub(crate) waits: bool,
+    /// How many requests for service were raised that weren't read yet; 255 where there are more.
+    pub(crate) requests: u8,
 }
 
 impl<A: Allocator> Model for Layers<A> {
@@ -59,6 +61,7 @@ impl<A: Allocator> Model for Layers<A> {
       scanner = a.scanner;
       service = a.service;
       waits = a.waits;
+      requests = a.requests;
     } };
 }
 
@@ -68,7 +71,7 @@ impl<A: Allocator + Copy> Layers<A> {
     /// # Errors
     /// Where memory is refused.
     pub fn new(alloc: A) -> Result<Layers<A>, AllocError>
-        ensures { IfOk result (λ layers. StandsFor layers []) }
+        ensures { IfOk result (λ layers. AllRead layers []) }
     {
         Ok(Layers {
             exchange: Exchange::new(alloc)?,
@@ -81,6 +84,7 @@ impl<A: Allocator + Copy> Layers<A> {
             scanner: Scanner::new(alloc)?,
             service: 0,
             waits: false,
+            requests: 0,
         })
     }
 }

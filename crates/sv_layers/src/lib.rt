@@ -20,4 +20,3 @@ pub use laws::{
     same_standard_events, same_status, same_summaries, same_waiting, same_words,
 };
 pub use layers::Layers;
-pub use message_exchange::Response;

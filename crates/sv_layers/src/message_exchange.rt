@@ -10,129 +10,119 @@ ghost use Rattle.sv_layers.specs.Inside.Kept.{StandsFor, Happens};
 use crate::layers::Layers;
 use std::alloc::Allocator;
 
-/// What becomes of an answer.
-#[derive(Clone, Copy)]
-pub struct Response {
-    /// Whether it has room; else all answers of the message are dropped.
-    pub fits: bool,
-    /// Whether a request for service is raised.
-    pub raised: bool,
-}
-
 impl<A: Allocator> Layers<A> {
     /// Takes in the bytes of a write, and whether END came with the last of them. It has to be open
-    /// for a write, of at most [`MAX_MESSAGE`](sv_exchange::MAX_MESSAGE) bytes. It tells whether a
-    /// request for service is raised, as all calls below do.
-    pub fn accept(&mut self, bytes: &[u8], ended: bool) -> bool
+    /// for a write, of at most [`MAX_MESSAGE`](sv_exchange::MAX_MESSAGE) bytes.
+    pub fn accept(&mut self, bytes: &[u8], ended: bool)
         requires open { IsTrue (is_open self.old.exchange) }
         requires short { length bytes.now ≤ max_message }
         ensures happens { (log : List Act) → StandsFor self.old log
-            → Happens self.new result (Exchanged (Accepted bytes.now ended) ∷ log) }
+            → Happens self.old.requests self.new (Exchanged (Accepted bytes.now ended) ∷ log) }
         ensures bounded { work_of self.new.exchange
             ≤ work_of self.old.exchange + 3 * length bytes.now + 4 }
     {
         self.exchange.accept(bytes, ended);
-        self.settle()
+        self.settle();
     }
 
     /// Steps over the unit that was due, which was executed.
-    pub fn done(&mut self) -> bool
+    pub fn done(&mut self)
         requires { IsUnitDue (next_of self.old.exchange) }
         ensures happens { (log : List Act) → StandsFor self.old log
-            → Happens self.new result (Exchanged UnitDone ∷ log) }
+            → Happens self.old.requests self.new (Exchanged UnitDone ∷ log) }
         ensures measure { work_of self.new.exchange < work_of self.old.exchange }
         ensures stays_open { is_open self.new.exchange ≡ is_open self.old.exchange }
         ensures may_respond { IsTrue (may_respond self.new.exchange) }
     {
         self.exchange.done();
-        self.settle()
+        self.settle();
     }
 
     /// The message that is too long was told.
-    pub fn overran(&mut self) -> bool
+    pub fn overran(&mut self)
         requires { next_of self.old.exchange ≡ OverrunDue }
         ensures happens { (log : List Act) → StandsFor self.old log
-            → Happens self.new result (Exchanged Overran ∷ log) }
+            → Happens self.old.requests self.new (Exchanged Overran ∷ log) }
         ensures measure { work_of self.new.exchange < work_of self.old.exchange }
         ensures stays_open { is_open self.new.exchange ≡ is_open self.old.exchange }
     {
         self.exchange.overran();
-        self.settle()
+        self.settle();
     }
 
     /// Drops the response, which is interrupted by a new message.
-    pub fn interrupt(&mut self) -> bool
+    pub fn interrupt(&mut self)
         requires { next_of self.old.exchange ≡ InterruptDue }
         ensures happens { (log : List Act) → StandsFor self.old log
-            → Happens self.new result (Exchanged Interrupted ∷ log) }
+            → Happens self.old.requests self.new (Exchanged Interrupted ∷ log) }
         ensures measure { work_of self.new.exchange < work_of self.old.exchange }
         ensures stays_open { is_open self.new.exchange ≡ is_open self.old.exchange }
         ensures next { IsUnitDue (next_of self.new.exchange) }
     {
         self.exchange.drop_response();
-        self.settle()
+        self.settle();
     }
 
     /// Goes on to the next message; the answers become the response.
-    pub fn finish(&mut self) -> bool
+    pub fn finish(&mut self)
         requires { next_of self.old.exchange ≡ FinishDue }
         ensures happens { (log : List Act) → StandsFor self.old log
-            → Happens self.new result (Exchanged Finished ∷ log) }
+            → Happens self.old.requests self.new (Exchanged Finished ∷ log) }
         ensures measure { work_of self.new.exchange < work_of self.old.exchange }
     {
         self.exchange.finish();
-        self.settle()
+        self.settle();
     }
 
-    /// Puts an answer behind those of the units before; where it has no room, all answers of the
-    /// message are dropped.
-    pub fn respond(&mut self, answer: &[u8]) -> Response
+    /// Puts an answer behind those of the units before, and tells whether it has room; where it has
+    /// none, all answers of the message are dropped.
+    pub fn respond(&mut self, answer: &[u8]) -> bool
         requires { IsTrue (may_respond self.old.exchange) }
         ensures fits { (log : List Act) → StandsFor self.old log
-            → result.fits ≡ fits_response (answers (exchange_acts log)) answer.now }
+            → result ≡ fits_response (answers (exchange_acts log)) answer.now }
         ensures happens { (log : List Act) → StandsFor self.old log
-            → Happens self.new result.raised (Exchanged
-            (if result.fits then Answered answer.now else AnswersDropped) ∷ log) }
+            → Happens self.old.requests self.new (Exchanged
+            (if result then Answered answer.now else AnswersDropped) ∷ log) }
         ensures measure { work_of self.new.exchange ≤ work_of self.old.exchange }
         ensures stays_open { is_open self.new.exchange ≡ is_open self.old.exchange }
     {
         let fits = self.exchange.respond(answer);
-        let raised = self.settle();
-        Response { fits, raised }
+        self.settle();
+        fits
     }
 
     /// Drops so many bytes of the response, which were read.
-    pub fn take(&mut self, count: usize) -> bool
+    pub fn take(&mut self, count: usize)
         requires { count ≤ length (shown_by self.old.exchange) }
         ensures happens { (log : List Act) → StandsFor self.old log
-            → Happens self.new result (Exchanged (ResponseRead count) ∷ log) }
+            → Happens self.old.requests self.new (Exchanged (ResponseRead count) ∷ log) }
         ensures value { self.new.exchange ≡ record self.old.exchange {
           output = drop count self.old.exchange.output;
         } }
     {
         self.exchange.take(count);
-        self.settle()
+        self.settle();
     }
 
     /// Drops the text of the current message, which must not have ended.
-    pub fn drop_unfinished(&mut self) -> bool
+    pub fn drop_unfinished(&mut self)
         requires { IsTrue (is_open self.old.exchange) }
         ensures happens { (log : List Act) → StandsFor self.old log
-            → Happens self.new result (Exchanged TextDropped ∷ log) }
+            → Happens self.old.requests self.new (Exchanged TextDropped ∷ log) }
         ensures stays_open { IsTrue (is_open self.new.exchange) }
     {
         self.exchange.drop_unfinished();
-        self.settle()
+        self.settle();
     }
 
     /// Drops program text, answers and response, and cancels an `*OPC`, as a device clear does.
-    pub fn purge(&mut self) -> bool
+    pub fn purge(&mut self)
         ensures happens { (log : List Act) → StandsFor self.old log
-            → Happens self.new result (Purged ∷ log) }
+            → Happens self.old.requests self.new (Purged ∷ log) }
         ensures value { self.new.exchange ≡ empty }
     {
         self.waits = false;
         self.exchange.clear();
-        self.settle()
+        self.settle();
     }
 }

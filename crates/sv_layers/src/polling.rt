@@ -1,6 +1,6 @@
 //! Polling the status byte.
 
-ghost use Rattle.std.specs.Prelude.{◌≡◌, ◌↔◌, ℕ, false, List, ◌∷◌};
+ghost use Rattle.std.specs.Prelude.{◌≡◌, ◌↔◌, ℕ, List, ◌∷◌};
 ghost use Rattle.std.specs.Int.{bit_at};
 ghost use Rattle.sv_layers.specs.Act.{Act, Polled};
 ghost use Rattle.sv_layers.specs.StatusByte.{PolledBit};
@@ -16,7 +16,7 @@ impl<A: Allocator> Layers<A> {
         ensures status { (log : List Act) → StandsFor self.old log
             → (k : ℕ) → (bit_at result k ≡ 1) ↔ PolledBit k log }
         ensures happens { (log : List Act) → StandsFor self.old log
-            → Happens self.new false (Polled ∷ log) }
+            → Happens self.old.requests self.new (Polled ∷ log) }
         ensures exchange { self.new.exchange ≡ self.old.exchange }
     {
         let status = self.status.poll();

@@ -1,10 +1,10 @@
-//! Telling the status byte what an act ended in.
+//! Telling the status byte what an act ended in, and counting the requests for service.
 
 ghost use Rattle.std.specs.Prelude.{◌≡◌, true, List, ◌∷◌, if◌then◌else◌};
 ghost use Rattle.sv_status.specs.declared.status_byte.StatusAct.{StatusAct};
 ghost use Rattle.sv_layers.specs.Act.{Act};
 ghost use Rattle.sv_layers.specs.Inside.Seen.{Seen, seen, is_plain};
-ghost use Rattle.sv_layers.specs.Inside.Kept.{IsSummary, IsStatus, Joined, Begun, Happens, own_status};
+ghost use Rattle.sv_layers.specs.Inside.Kept.{IsSummary, IsStatus, AllRead, Joined, Begun, Happens, StandsFor, own_status};
 
 use crate::change::{Awaited, Change};
 use crate::layers::Layers;
@@ -34,28 +34,41 @@ impl<A: Allocator> Layers<A> {
             + mask_where(ERRORS, self.errors.count() > 0)
     }
 
-    /// Tells the status byte, and whether a request for service is raised.
-    pub(crate) fn tell(&mut self) -> bool
+    /// Tells the status byte, and counts the request for service that this raises, if it does.
+    pub(crate) fn tell(&mut self)
         ensures happens { (log : List Act) (act : Act) (before : List StatusAct)
             → IsStatus log before → Joined self.old (seen (act ∷ log)) (own_status act before)
-            → Happens self.new result (act ∷ log) }
+            → Happens self.old.requests self.new (act ∷ log) }
         ensures exchange { self.new.exchange ≡ self.old.exchange }
         ensures scanner { self.new.scanner ≡ self.old.scanner }
     {
         let bits = self.summary();
-        self.status.update(bits, self.service)
+        let raised = self.status.update(bits, self.service);
+        self.requests = self.requests.saturating_add(u8::from(raised));
+    }
+
+    /// How many requests for service were raised since this was asked last; 255 where there are
+    /// more.
+    pub fn take_requests(&mut self) -> u8
+        ensures count { result ≡ self.old.requests }
+        ensures stands { (log : List Act) → StandsFor self.old log → AllRead self.new log }
+        ensures value { self.new ≡ record self.old { requests = 0 } }
+    {
+        let requests = self.requests;
+        self.requests = 0;
+        requests
     }
 
     /// What follows an act that does nothing to a register itself: it ends, and the status byte is
-    /// told. It tells whether a request for service is raised.
-    pub(crate) fn settle(&mut self) -> bool
+    /// told.
+    pub(crate) fn settle(&mut self)
         ensures happens { (log : List Act) (act : Act) → Begun self.old act log
-            → is_plain act ≡ true → Happens self.new result (act ∷ log) }
+            → is_plain act ≡ true → Happens self.old.requests self.new (act ∷ log) }
         ensures exchange { self.new.exchange ≡ self.old.exchange }
         ensures scanner { self.new.scanner ≡ self.old.scanner }
     {
         self.end(&Change::Hold(Awaited::Nothing));
-        self.tell()
+        self.tell();
     }
 }
 

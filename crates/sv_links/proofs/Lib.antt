@@ -8,7 +8,7 @@ pub mod Locks
 pub mod Slots
 pub mod Tables
 mod Named
-mod Closing
+pub mod Closing
 pub mod Live
 mod Left
 mod Requests
@@ -18,7 +18,3 @@ mod Calling
 pub mod Asking
 pub mod Rising
 mod Acts
-pub mod LinksAlike
-pub mod CallsAlike
-pub mod ChannelsAlike
-pub mod Closed

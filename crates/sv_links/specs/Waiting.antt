@@ -2,7 +2,7 @@
 -- are read from the newest.
 use Rattle.std.specs.Prelude.{◌≡◌, ℕ, ◌==◌, ◌≤◌, not, ◌&&◌, Bool, true, false, List, [], ◌∷◌, length, filter, is_none, option_map, Option, Some, None, if◌then◌else◌}
 use Rattle.std.specs.List.{range_with_len}
-use Rattle.sv_errors.specs.Since.{newest}
+use Rattle.sv_logs.specs.Since.{newest}
 use Rattle.sv_links.specs.declared.waiting.Wait.{Wait}
 use Rattle.sv_links.specs.Limits.{max_connections}
 use Rattle.sv_links.specs.Links.{is_locked_out}
@@ -59,8 +59,7 @@ abbrev pub is_there : Option ℕ → Bool → Bool → Option ℕ → Option Wai
 is_there holder can_write can_read named (Some Lock) = not (is_locked_out holder named)
 is_there holder can_write can_read named (Some Input) = can_write
 is_there holder can_write can_read named (Some Response) = can_read
-is_there holder can_write can_read named (Some Dial) = false
-is_there holder can_write can_read named None = false
+is_there holder can_write can_read named _ = false
 
 -- The call of a connection can go on.
 abbrev pub IsAble : Option ℕ → Bool → Bool → List WaitAct → ℕ → Type 0

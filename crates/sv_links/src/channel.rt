@@ -12,7 +12,7 @@ use crate::request::{Peer, put_request};
 use arrayvec::ArrayVec;
 use std::alloc::{AllocError, Allocator};
 use std::marker::Model;
-use sv_text::drop_front;
+use sv_bytes::drop_front;
 
 /// How far a channel is.
 #[derive(Clone, Copy, Debug, PartialEq, Eq)]

@@ -8,6 +8,5 @@ pub mod Written
 pub mod Calls
 pub mod PrefixFree
 pub mod EveryStream
-pub mod ReadOn
 pub mod Mappings
 pub mod Keeping

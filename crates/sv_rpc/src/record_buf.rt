@@ -10,7 +10,7 @@ ghost use Rattle.sv_rpc.specs.Representation.{InRoom, GoesOn, Keeps, IsInHeader,
 use crate::NoMemory;
 use std::alloc::{Allocator, Global};
 use std::marker::Model;
-use sv_text::{append, drop_front};
+use sv_bytes::{append, drop_front};
 use thiserror::Error;
 
 /// How many bytes the records in a buffer may take, with 4 for each.

@@ -4,7 +4,7 @@ ghost use Rattle.std.specs.Prelude.{◌≡◌, ◌+◌, ◌<◌, ◌≤◌, ◌^
 ghost use Rattle.sv_rpc.specs.Record.{fragment};
 
 use std::alloc::Allocator;
-use sv_text::append;
+use sv_bytes::append;
 
 /// Puts a record of one fragment behind the outgoing bytes, which have to have room for it; it has
 /// to be shorter than 2,147,483,648 bytes.

@@ -16,24 +16,21 @@ abbrev pub operation : List ScanAct → ℕ
 operation log = bit 4 (is_scanning (state log)) + bit 5 (is_waiting (state log)) + bit 8 (not (is_idle (state log)))
 
 abbrev pub is_overload : Option Reading → Bool
-is_overload None = false
-is_overload (Some (Value value)) = false
 is_overload (Some Over) = true
 is_overload (Some Under) = true
+is_overload _ = false
 
 -- a reading below a limit: a negative overload is below every limit
 abbrev pub is_below : Option Reading → ℤ → Bool
-is_below None limit = false
 is_below (Some (Value value)) limit = int_lt value limit
-is_below (Some Over) limit = false
 is_below (Some Under) limit = true
+is_below _ limit = false
 
 -- a reading above a limit: a positive overload is above every limit
 abbrev pub is_above : Option Reading → ℤ → Bool
-is_above None limit = false
 is_above (Some (Value value)) limit = int_lt limit value
 is_above (Some Over) limit = true
-is_above (Some Under) limit = false
+is_above _ limit = false
 
 -- whether the live input of the monitored channel is outside the limits
 abbrev pub is_outside : List ScanAct → Bool

@@ -15,18 +15,15 @@ use Rattle.sv_scan.specs.Scan.{state}
 
 abbrev pub is_idle : State → Bool
 is_idle Idle = true
-is_idle Waiting = false
-is_idle Scanning = false
+is_idle _ = false
 
 abbrev pub is_waiting : State → Bool
 is_waiting Waiting = true
-is_waiting Idle = false
-is_waiting Scanning = false
+is_waiting _ = false
 
 abbrev pub is_scanning : State → Bool
 is_scanning Scanning = true
-is_scanning Idle = false
-is_scanning Waiting = false
+is_scanning _ = false
 
 abbrev pub same_source : Source → Source → Bool
 same_source Immediate Immediate = true

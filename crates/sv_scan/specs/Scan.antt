@@ -1,7 +1,7 @@
 -- The trigger state and the readings (SCPI-1999, volume 2, chapter 24), by counts over the acts that count, which are read from the newest.
 use Rattle.std.specs.Prelude.{ℕ, ◌*◌, ◌%◌, ◌==◌, ℤ, neg_ℤ, int_lt, nat_le, unsigned_abs, Bool, true, false, List, [], ◌∷◌, ◌++◌, length, filter, Option, Some, None, slice_index_or, if◌then◌else◌}
 use Rattle.sv_errors.specs.Limits.{most_microvolts}
-use Rattle.sv_errors.specs.Since.{since}
+use Rattle.sv_logs.specs.Since.{since}
 use Rattle.sv_scan.specs.declared.setting.Reading.{Reading}
 use Rattle.sv_scan.specs.declared.setting.Reading.TheVariants.{Value, Over, Under}
 use Rattle.sv_scan.specs.declared.setting.State.{State}
@@ -60,8 +60,7 @@ reading_in range value = if int_lt range value then Over else if int_lt value (n
 -- whether a reading has no voltage beyond 1,000 V in magnitude
 abbrev pub is_bounded : Reading → Bool
 is_bounded (Value microvolts) = nat_le (unsigned_abs microvolts) most_microvolts
-is_bounded Over = true
-is_bounded Under = true
+is_bounded _ = true
 
 -- the channel of the sample that has so many before it: they go round the list
 abbrev pub channel_at : List ℕ → ℕ → ℕ

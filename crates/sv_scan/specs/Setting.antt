@@ -98,9 +98,8 @@ is_possible (Monitor channel) = is_channel channel
 is_possible (Range wanted) = is_between (pos 0) wanted (pos 100000000)
 is_possible (Upper limit) = is_limit limit
 is_possible (Lower limit) = is_limit limit
-is_possible (Limits on) = true
-is_possible (SetSource source) = true
 is_possible (Count scans) = nat_le 1 scans && nat_le scans most_scans
+is_possible _ = true
 
 -- whether it can be changed in the idle state alone
 abbrev pub is_fixed : Setting → Bool
@@ -108,7 +107,4 @@ is_fixed (SetList channels) = true
 is_fixed (Range wanted) = true
 is_fixed (SetSource source) = true
 is_fixed (Count scans) = true
-is_fixed (Monitor channel) = false
-is_fixed (Upper limit) = false
-is_fixed (Lower limit) = false
-is_fixed (Limits on) = false
+is_fixed _ = false

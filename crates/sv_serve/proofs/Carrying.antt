@@ -17,7 +17,7 @@ use Rattle.sv_history.specs.Connection.{is_open, room, waiting, waiting_on, is_f
 use Rattle.sv_history.specs.Requests.{HearsOf}
 use Rattle.sv_history.specs.History.{IsLogOf}
 use Rattle.sv_history.specs.Print.{is_no_memory}
-use Rattle.sv_history.proofs.OneLog.{one_log}
+use Rattle.sv_laws.proofs.OneLog.{one_log}
 use Rattle.sv_history.proofs.AlwaysTold.{some_told}
 use Rattle.sv_serve.specs.declared.wire.Answer.{Answer}
 use Rattle.sv_serve.specs.declared.wire.Answer.TheVariants.{Got, Pending, Failed}

@@ -14,9 +14,9 @@ use Rattle.sv_history.specs.Event.{PlainEvent, Open, Bytes, Turn, Refuse, Took, 
 use Rattle.sv_history.specs.Act.{Act, ConnAct, Opened, Piece, CallTaken, Faulted, Replied, BytesTaken, PortClosed, of}
 use Rattle.sv_history.specs.Connection.{is_open, sent, given, untaken, waiting, free}
 use Rattle.sv_history.specs.History.{refusal, is_shut, IsLogOf}
-use Rattle.sv_history.proofs.Brought.{brings, AreCalls}
-use Rattle.sv_history.proofs.OneLog.{one_log}
-use Rattle.sv_history.proofs.OnlyCalls.{only_calls}
+use Rattle.sv_laws.proofs.Brought.{brings, AreCalls}
+use Rattle.sv_laws.proofs.OneLog.{one_log}
+use Rattle.sv_laws.proofs.OnlyCalls.{only_calls}
 use Rattle.sv_serve.specs.declared.wire.Answer.TheVariants.{Got, Pending, Failed}
 use Rattle.sv_serve.specs.Heard.{Heard, WasAccepted, WasRead, WasProbed, WasWritten, WasDialed, PeerAnswered, WasClosed}
 use Rattle.sv_serve.specs.Served.{event_of, is_outer}

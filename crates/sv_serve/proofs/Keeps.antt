@@ -12,11 +12,11 @@ use Rattle.sv_history.specs.Event.{PlainEvent}
 use Rattle.sv_history.specs.Act.{Act, of, device_acts}
 use Rattle.sv_history.specs.Requests.{HearsOf}
 use Rattle.sv_history.specs.History.{IsLogOf, history_after}
-use Rattle.sv_history.proofs.OnlyCalls.{only_calls}
-use Rattle.sv_history.proofs.OnlyRequests.{only_requests}
+use Rattle.sv_laws.proofs.OnlyCalls.{only_calls}
+use Rattle.sv_laws.proofs.OnlyRequests.{only_requests}
 use Rattle.sv_history.proofs.AlwaysTold.{some_told}
-use Rattle.sv_history.specs.Laws.{Suits}
-use Rattle.sv_history.proofs.Brought.{brings, tells}
+use Rattle.sv_laws.specs.Laws.{Suits}
+use Rattle.sv_laws.proofs.Brought.{brings, tells}
 use Rattle.sv_serve.specs.Heard.{Heard, WasAccepted, WasRead, WasProbed, WasWritten, WasClosed}
 use Rattle.sv_serve.specs.Moment.{Moment, Each}
 use Rattle.sv_serve.specs.Steps.{Given, Happens, called_of, HangsUpOn, HangsUp}

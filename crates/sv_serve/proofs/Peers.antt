@@ -21,7 +21,7 @@ use Rattle.sv_history.proofs.AlwaysTold.{some_told}
 use Rattle.sv_replay.specs.Entry.{stimulus_event}
 use Rattle.sv_replay.specs.declared.entry.Stimulus.{Stimulus}
 use Rattle.sv_replay.specs.declared.entry.Stimulus.TheVariants as stimuli
-use Rattle.sv_history.proofs.Brought.{brings, tells, peer_in, opened_to}
+use Rattle.sv_laws.proofs.Brought.{brings, tells, peer_in, opened_to}
 use Rattle.sv_serve.specs.declared.wire.Answer.{Answer}
 use Rattle.sv_serve.specs.declared.wire.Answer.TheVariants.{Got, Pending, Failed}
 use Rattle.sv_serve.specs.Heard.{Heard, WasDialed, PeerAnswered, WasClosed}

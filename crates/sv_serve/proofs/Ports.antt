@@ -17,7 +17,7 @@ use Rattle.sv_history.specs.Act.{Act, ConnAct, Opened, Piece, CallTaken, Faulted
 use Rattle.sv_history.specs.Requests.{HearsOf}
 use Rattle.sv_history.specs.Connection.{is_open, stream, sent, given, untaken, waiting}
 use Rattle.sv_history.specs.History.{IsLogOf}
-use Rattle.sv_history.proofs.Brought.{brings, AreCalls, OnlyCalls, tells, OnlyAdds, OnlyRequests}
+use Rattle.sv_laws.proofs.Brought.{brings, AreCalls, OnlyCalls, tells, OnlyAdds, OnlyRequests}
 use Rattle.sv_serve.specs.declared.wire.Answer.TheVariants.{Got}
 use Rattle.sv_serve.specs.Heard.{Heard, WasAccepted, WasRead, WasWritten, WasClosed}
 use Rattle.sv_serve.specs.Served.{event_of}

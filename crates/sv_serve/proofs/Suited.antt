@@ -18,15 +18,15 @@ use Rattle.sv_history.specs.Connection.{is_open, open_role, room, waiting, is_fa
 use Rattle.sv_history.specs.Interrupts.{has_channel}
 use Rattle.sv_history.specs.Requests.{HearsOf}
 use Rattle.sv_history.specs.History.{is_port_shut, IsLogOf, Answers, history_after}
-use Rattle.sv_history.proofs.Brought.{IsClear}
+use Rattle.sv_laws.proofs.Brought.{IsClear}
 use Rattle.sv_history.specs.Print.{is_no_memory}
 use Rattle.sv_history.proofs.AlwaysTold.{some_told}
 use Rattle.sv_history.proofs.Telling.{has_channel_told}
 use Rattle.sv_history.proofs.Unrecorded.{nothing_faulted}
-use Rattle.sv_history.proofs.OneLog.{one_log}
-use Rattle.sv_history.proofs.NothingLost.{nothing_lost}
-use Rattle.sv_history.proofs.CanBeRefused.{can_be_refused}
-use Rattle.sv_history.proofs.ShutIsClear.{shut_is_clear}
+use Rattle.sv_laws.proofs.OneLog.{one_log}
+use Rattle.sv_laws.proofs.NothingLost.{nothing_lost}
+use Rattle.sv_laws.proofs.CanBeRefused.{can_be_refused}
+use Rattle.sv_laws.proofs.ShutIsClear.{shut_is_clear}
 use Rattle.sv_serve.specs.declared.wire.Answer.{Answer}
 use Rattle.sv_serve.specs.declared.wire.Answer.TheVariants.{Got}
 use Rattle.sv_serve.specs.Heard.{Heard}

@@ -19,9 +19,9 @@ use Rattle.sv_replay.specs.Scenario.{IsScenario}
 use Rattle.sv_replay.specs.declared.entry.Entry.{Entry}
 use Rattle.sv_replay.specs.declared.entry.Stimulus.{Stimulus}
 use Rattle.sv_replay.specs.declared.entry.Stimulus.TheVariants as stimuli
-use Rattle.sv_history.specs.Laws.{Suits}
-use Rattle.sv_history.proofs.Brought.{is_tick}
-use Rattle.sv_history.proofs.TicksTaken.{ticks_taken}
+use Rattle.sv_laws.specs.Laws.{Suits}
+use Rattle.sv_laws.proofs.Brought.{is_tick}
+use Rattle.sv_laws.proofs.TicksTaken.{ticks_taken}
 use Rattle.sv_serve.specs.Heard.{Heard}
 use Rattle.sv_serve.specs.Moment.{Driving, Moment, moment, Each, ◌then◌}
 use Rattle.sv_serve.specs.Steps.{ReadsFrom, Turns, Dials, WritesTo, Ends}

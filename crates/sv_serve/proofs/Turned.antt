@@ -19,9 +19,9 @@ use Rattle.sv_history.specs.Connection.{is_open, open_role, given, waiting, is_i
 use Rattle.sv_history.specs.Limits.{longest_reply}
 use Rattle.sv_history.specs.History.{refusal, IsLogOf, Answers}
 use Rattle.sv_history.proofs.Unrecorded.{nothing_idle}
-use Rattle.sv_history.proofs.Brought.{brings, IsClear}
-use Rattle.sv_history.proofs.OneLog.{one_log}
-use Rattle.sv_history.proofs.ShutIsClear.{shut_is_clear}
+use Rattle.sv_laws.proofs.Brought.{brings, IsClear}
+use Rattle.sv_laws.proofs.OneLog.{one_log}
+use Rattle.sv_laws.proofs.ShutIsClear.{shut_is_clear}
 use Rattle.sv_serve.specs.Heard.{Heard, WasWritten}
 use Rattle.sv_serve.specs.Moment.{Moment, Each}
 use Rattle.sv_serve.specs.Steps.{Given, EndsTurn, TurnsIf, Turns}

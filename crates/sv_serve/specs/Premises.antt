@@ -11,7 +11,7 @@ use Rattle.sv_history.specs.Event.{PlainEvent, Turn}
 use Rattle.sv_history.specs.Act.{Act, device_acts}
 use Rattle.sv_history.specs.Requests.{HearsOf}
 use Rattle.sv_history.specs.History.{IsLogOf, Answers}
-use Rattle.sv_history.specs.Laws.{Suits}
+use Rattle.sv_laws.specs.Laws.{Suits}
 use Rattle.sv_server.specs.Server.State.{StandsFor}
 use Rattle.sv_serve.specs.declared.wire.Answer.{Answer}
 use Rattle.sv_serve.specs.Heard.{IsWithin}

@@ -5,20 +5,23 @@ ghost use Rattle.std.specs.Prelude.{◌≡◌, ◌≢◌, ◌+◌, ◌≤◌, �
 ghost use Rattle.sv_rpc.specs.RecordBuf.{StandsFor, room_of, no_records};
 ghost use Rattle.sv_history.specs.Act.{ConnAct, Opened, Piece, CallTaken, Faulted, Replied, BytesTaken, PortClosed};
 ghost use Rattle.sv_history.specs.Connection.{is_open, unanswered, is_busy, next_call, is_idle, is_overlong, is_faulted, room, free, waiting};
+ghost use Rattle.sv_history.specs.Request.{core_call_in};
 ghost use Rattle.sv_history.specs.Limits.{longest_reply, max_output};
 ghost use Rattle.sv_server.specs.Connection.Representation.{IsConnection};
 ghost use Rattle.sv_server.specs.Connection.Inside.NextCall.{kept_next};
-ghost use Rattle.sv_server.specs.Device.Inside.Outcome.{answer_bytes, IsShort};
+ghost use Rattle.sv_server.specs.Connection.Inside.Requests.{plain_core_call};
+ghost use Rattle.sv_server.specs.Connection.Inside.Replies.{answer_bytes, IsShort};
 
 pub mod reply;
 pub mod request;
 
 use crate::connection::reply::{Answer, LONGEST_REPLY, put_reply};
+use crate::connection::request::{CoreCall, core_call};
 use std::alloc::{AllocError, Allocator};
 use std::marker::Model;
+use sv_bytes::drop_front;
 use sv_history::Role;
 use sv_rpc::{RecordBuf, RpcFault};
-use sv_text::drop_front;
 
 /// How many outgoing bytes may wait that the peer hasn't taken.
 const MAX_OUTPUT: usize = 16384;
@@ -213,7 +216,7 @@ impl<A: Allocator> Connection<A> {
     }
 
     /// The call that was taken and isn't answered, where there is one.
-    pub fn taken(&self) -> Option<&[u8]>
+    fn taken(&self) -> Option<&[u8]>
         ensures { (acts : List ConnAct) → IsConnection self.now acts
             → option_map (λ call. call.now) result ≡ unanswered acts }
     {
@@ -224,6 +227,14 @@ impl<A: Allocator> Connection<A> {
             Ok(found) => found,
             Err(_) => None,
         }
+    }
+
+    /// The same, where it is one of the core channel, read once more as when it was taken.
+    pub fn taken_call(&self) -> Option<CoreCall<'_>>
+        ensures { (acts : List ConnAct) → IsConnection self.now acts
+            → option_map plain_core_call result ≡ core_call_in (unanswered acts) }
+    {
+        core_call(self.taken()?)
     }
 
     /// Whether there is room for the longest reply.

@@ -14,27 +14,31 @@ ghost use Rattle.sv_instrument.specs.Representation.{left_of};
 ghost use Rattle.sv_history.specs.declared.event.Config.{Config};
 ghost use Rattle.sv_links.specs.Channels.{ChannelClosed};
 ghost use Rattle.sv_history.specs.Act.{DeviceAct, Linked, Waited, Channel, Happened, Ticked, link_acts, wait_acts, instrument_acts, ticks};
+ghost use Rattle.sv_history.specs.Execution.{ports_of};
 ghost use Rattle.sv_history.specs.Settling.{CanResume};
 ghost use Rattle.sv_history.specs.Still.{IsStill};
 ghost use Rattle.sv_server.specs.Device.Inside.WaitingCall.{IsKept};
-ghost use Rattle.sv_server.specs.Server.Inside.Acting.{InstrumentSteps};
+ghost use Rattle.sv_server.specs.Device.Inside.Outcome.{InstrumentSteps};
 ghost use Rattle.sv_layers.specs.Act.{Act as InstrumentAct};
 ghost use Rattle.sv_instrument.specs.RequestCount.{Raise};
 ghost use Rattle.sv_server.specs.Device.Representation.{IsDevice, HasDone};
 
 pub mod abort_channel;
 pub mod admission;
+mod arguments;
 pub mod call_outcome;
-pub mod core_call;
-pub mod core_channel;
+mod core_channel;
 pub mod error_results;
-pub mod interrupts;
+mod interrupts;
+pub mod resuming;
 
+use crate::conn::Conn;
 use std::alloc::{AllocError, Allocator};
 use std::marker::Model;
 use sv_history::Config;
 use sv_instrument::Instrument;
 use sv_links::{Entry, Intr, Links, Waiting};
+use sv_rpc::Ports;
 
 /// The last value of the clock, in milliseconds.
 const LAST_CLOCK: u64 = 9_223_372_036_854_775_807;
@@ -42,11 +46,11 @@ const LAST_CLOCK: u64 = 9_223_372_036_854_775_807;
 /// What all connections share.
 #[derive(Drop)]
 pub struct Device<A: Allocator> {
-    pub links: Links<A>,
-    pub waiting: Waiting<A>,
-    pub intr: Intr<A>,
-    pub instrument: Instrument<A>,
-    pub config: Config,
+    links: Links<A>,
+    waiting: Waiting<A>,
+    intr: Intr<A>,
+    instrument: Instrument<A>,
+    config: Config,
     clock: u64,
 }
 
@@ -89,7 +93,7 @@ impl<A: Allocator + Copy> Device<A> {
 
 impl<A: Allocator> Device<A> {
     /// The clock, in milliseconds.
-    pub fn clock(&self) -> u64
+    fn clock(&self) -> u64
         ensures value { result ≡ self.now.clock }
         ensures bounded { result ≤ 9223372036854775807 }
     {
@@ -148,19 +152,29 @@ impl<A: Allocator> Device<A> {
         self.raise(raised);
     }
 
+    /// The ports of the configuration.
+    pub fn ports(&self) -> Ports
+        ensures { (config : Config) (acts : List DeviceAct) → IsDevice self.now config acts
+            → result ≡ ports_of config }
+    {
+        Ports {
+            core: self.config.core,
+            abort: self.config.abort,
+        }
+    }
+
     /// Ends the wait of a connection's call, destroys its links, and closes its interrupt channel.
-    pub fn close_connection(&mut self, conn: u8)
-        requires { conn < 16 }
+    pub fn close_connection(&mut self, conn: Conn)
         ensures stands { (config : Config) (acts : List DeviceAct) → IsDevice self.old config acts
             → IsDevice self.new config
-            (Channel (ChannelClosed conn) ∷ map Linked (closing conn (link_acts acts))
-            ++ Waited (Left conn) ∷ acts) }
-        ensures waiting { self.new.waiting ≡ without conn self.old.waiting }
+            (Channel (ChannelClosed conn.number) ∷ map Linked (closing conn.number (link_acts acts))
+            ++ Waited (Left conn.number) ∷ acts) }
+        ensures waiting { self.new.waiting ≡ without conn.number self.old.waiting }
     {
-        self.waiting.leave(conn);
-        self.intr.disable_connection(conn);
-        self.links.close_connection(conn);
-        self.intr.cancel(conn);
+        self.waiting.leave(conn.number);
+        self.intr.disable_connection(conn.number);
+        self.links.close_connection(conn.number);
+        self.intr.cancel(conn.number);
         self.close_channel(conn);
     }
 
@@ -193,8 +207,17 @@ impl<A: Allocator> Device<A> {
         self.waiting.expired(self.clock)
     }
 
+    /// The call of a connection waits no more.
+    pub fn end_wait(&mut self, conn: Conn)
+        ensures stands { (config : Config) (acts : List DeviceAct) → IsDevice self.old config acts
+            → IsDevice self.new config (Waited (Left conn.number) ∷ acts) }
+        ensures waiting { self.new.waiting ≡ without conn.number self.old.waiting }
+    {
+        self.waiting.leave(conn.number);
+    }
+
     /// So many requests for service were raised by what the instrument did.
-    pub fn raise(&mut self, raised: u8)
+    fn raise(&mut self, raised: u8)
         ensures stands { (config : Config) (acts : List DeviceAct) (adds : List InstrumentAct)
             → HasDone adds self.old config acts → Raise adds (instrument_acts acts) raised
             → IsDevice self.new config (map Happened adds ++ acts) }

@@ -1,7 +1,7 @@
 //! The server: it joins the connections and the device. An event is refused or done, and then the
 //! steps that are due are taken.
 
-ghost use Rattle.std.specs.Prelude.{◌≡◌, ◌<◌, ◌≤◌, ◌++◌, ℕ, not, List, [], length, slice_index_or, true, false, if◌then◌else◌, MatchOption, Some, None, IfOk, OnErr};
+ghost use Rattle.std.specs.Prelude.{◌≡◌, ◌<◌, ◌≤◌, ◌++◌, ℕ, not, List, [], length, slice_index_or, true, false, if◌then◌else◌, MatchOption, MatchResult, Some, None, IfOk, OnErr};
 ghost use Rattle.sv_history.specs.declared.event.Config.{Config};
 ghost use Rattle.sv_links.specs.Channels.{ChannelAct};
 ghost use Rattle.sv_history.specs.Event.{PlainEvent, Open, Bytes, Turn, Refuse, Took, Close, Input, External, Tick, plain, IsEvent};
@@ -25,6 +25,7 @@ pub mod resuming;
 pub mod settling;
 pub mod turn;
 
+use crate::conn::{CONNECTIONS, Conn};
 use crate::connection::Connection;
 use crate::device::Device;
 use crate::server::input_check::may_input;
@@ -35,9 +36,6 @@ use std::alloc::{AllocError, Allocator, Global};
 use std::marker::Model;
 use sv_history::{Config, Did, Event, Port, Refused, Role};
 use sv_vxi::ErrorCode;
-
-/// How many connections there may be.
-pub(crate) const CONNECTIONS: usize = 16;
 
 /// One simulated instrument and the connections to it.
 #[derive(Drop)]
@@ -64,21 +62,6 @@ impl<A: Allocator> Model for Server<A> {
     ghost invariant = { λ a. length a.connections.items ≡ 16 };
 }
 
-impl<A: Allocator + Copy> Server<A> {
-    /// A server to which nothing happened. It takes all the memory that it ever uses, but for that
-    /// of links.
-    pub fn new(alloc: A, config: Config) -> Result<Server<A>, AllocError>
-        requires { config.clock ≤ 9223372036854775807 }
-        ensures { IfOk result (λ server. StandsFor server config []) }
-    {
-        Ok(Server {
-            connections: connections(alloc)?,
-            device: Device::new(alloc, config)?,
-            used: 0,
-        })
-    }
-}
-
 /// Sixteen connections, none of them open.
 fn connections<A: Allocator + Copy>(alloc: A) -> Result<Vec<Connection<A>, A>, AllocError>
     ensures { IfOk result (λ connections. (length connections.items ≡ 16)
@@ -93,6 +76,21 @@ fn connections<A: Allocator + Copy>(alloc: A) -> Result<Vec<Connection<A>, A>, A
 }
 
 impl<A: Allocator> Server<A> {
+    /// A server to which nothing happened. It takes all the memory that it ever uses, but for that
+    /// of links.
+    pub fn new(alloc: A, config: Config) -> Result<Server<A>, AllocError>
+    where
+        A: Copy,
+        requires { config.clock ≤ 9223372036854775807 }
+        ensures { IfOk result (λ server. StandsFor server config []) }
+    {
+        Ok(Server {
+            connections: connections(alloc)?,
+            device: Device::new(alloc, config)?,
+            used: 0,
+        })
+    }
+
     /// The bytes that wait on a port, in the order in which they are to be sent; none where it
     /// isn't open.
     pub fn waiting(&self, port: Port) -> &[u8]
@@ -212,29 +210,43 @@ impl<A: Allocator> Server<A> {
             → MatchOption result (of conn log ≡ [])
             (λ connection. IsConnection connection.now (of conn log)) }
     {
-        if usize::from(conn) >= CONNECTIONS {
-            return None;
-        }
-        Some(&self.connections[usize::from(conn)])
+        let conn = Conn::new(conn)?;
+        Some(&self.connections[conn.index()])
     }
-}
 
-impl<A: Allocator> Server<A> {
+    /// The connection of this number, which is open, and what it is open for; else `NoConn`.
+    pub(crate) fn open_connection(&self, conn: u8) -> Result<(Conn, Role), Refused>
+        ensures answer { (config : Config) (log : List Act) → Represents self.now config log
+            → MatchResult result (λ found. is_shut conn log ≡ false)
+            (λ refused. (refused ≡ Refused.NoConn) × (is_shut conn log ≡ true)) }
+        ensures same { IfOk result (λ found. found.0.number ≡ conn) }
+        ensures role { IfOk result (λ found. (other : KeptConnection)
+            → (slice_index_or self.now.connections conn other).role ≡ Some found.1) }
+    {
+        let Some(number) = Conn::new(conn) else {
+            return Err(Refused::NoConn);
+        };
+        match self.connections[number.index()].role() {
+            Some(role) => Ok((number, role)),
+            None => Err(Refused::NoConn),
+        }
+    }
+
     /// Opens a connection.
     fn open(&mut self, conn: u8, role: Role) -> Result<Did, Refused>
         ensures acts { (config : Config) (log : List Act) → Represents self.old config log
             → Acts config (Open conn role) log result self.new }
         ensures err { OnErr result (self.new ≡ self.old) }
     {
-        if usize::from(conn) >= CONNECTIONS {
+        let Some(conn) = Conn::new(conn) else {
             return Err(Refused::NoConn);
-        }
-        let connection = &mut self.connections[usize::from(conn)];
+        };
+        let connection = &mut self.connections[conn.index()];
         if connection.is_open() {
             return Err(Refused::ConnInUse);
         }
         connection.open(role);
-        self.used = self.used.max(conn + 1);
+        self.used = self.used.max(conn.number + 1);
         Ok(Did::Done)
     }
 
@@ -245,13 +257,8 @@ impl<A: Allocator> Server<A> {
             → Acts config (Bytes conn piece.now) log result self.new }
         ensures err { OnErr result (self.new ≡ self.old) }
     {
-        if usize::from(conn) >= CONNECTIONS {
-            return Err(Refused::NoConn);
-        }
-        let connection = &mut self.connections[usize::from(conn)];
-        if !connection.is_open() {
-            return Err(Refused::NoConn);
-        }
+        let (conn, _) = self.open_connection(conn)?;
+        let connection = &mut self.connections[conn.index()];
         if connection.room() < piece.len() {
             return Err(Refused::NoRoom);
         }
@@ -265,13 +272,8 @@ impl<A: Allocator> Server<A> {
             → Acts config (Took (Port.Conn conn) count) log result self.new }
         ensures err { OnErr result (self.new ≡ self.old) }
     {
-        if usize::from(conn) >= CONNECTIONS {
-            return Err(Refused::NoConn);
-        }
-        let connection = &mut self.connections[usize::from(conn)];
-        if !connection.is_open() {
-            return Err(Refused::NoConn);
-        }
+        let (conn, _) = self.open_connection(conn)?;
+        let connection = &mut self.connections[conn.index()];
         if connection.waiting().len() < count as usize {
             return Err(Refused::NotSent);
         }
@@ -286,13 +288,8 @@ impl<A: Allocator> Server<A> {
             → Acts config (Close (Port.Conn conn)) log result self.new }
         ensures err { OnErr result (self.new ≡ self.old) }
     {
-        if usize::from(conn) >= CONNECTIONS {
-            return Err(Refused::NoConn);
-        }
-        let connection = &mut self.connections[usize::from(conn)];
-        if !connection.is_open() {
-            return Err(Refused::NoConn);
-        }
+        let (conn, _) = self.open_connection(conn)?;
+        let connection = &mut self.connections[conn.index()];
         connection.close();
         self.device.close_connection(conn);
         Ok(Did::Done)
@@ -342,13 +339,8 @@ impl<A: Allocator> Server<A> {
             → Acts config (Turn conn) log result self.new }
         ensures err { OnErr result (self.new ≡ self.old) }
     {
-        if usize::from(conn) >= CONNECTIONS {
-            return Err(Refused::NoConn);
-        }
-        let connection = &mut self.connections[usize::from(conn)];
-        let Some(role) = connection.role() else {
-            return Err(Refused::NoConn);
-        };
+        let (conn, role) = self.open_connection(conn)?;
+        let connection = &mut self.connections[conn.index()];
         match turn(connection, &mut self.device, conn, role) {
             Ok(Turned::Idle) => Ok(Did::Idle),
             Ok(Turned::Done { aborts }) => {
@@ -365,13 +357,8 @@ impl<A: Allocator> Server<A> {
             → Acts config (Refuse conn) log result self.new }
         ensures err { OnErr result (self.new ≡ self.old) }
     {
-        if usize::from(conn) >= CONNECTIONS {
-            return Err(Refused::NoConn);
-        }
-        let connection = &mut self.connections[usize::from(conn)];
-        let Some(role) = connection.role() else {
-            return Err(Refused::NoConn);
-        };
+        let (conn, role) = self.open_connection(conn)?;
+        let connection = &mut self.connections[conn.index()];
         match refuse(connection, role) {
             Ok(()) => Ok(Did::Done),
             Err(refused) => Err(refused),
@@ -385,19 +372,10 @@ impl<A: Allocator> Server<A> {
             → ⊥)
             → Represents self.new config (abort_acts aborts log ++ log) }
     {
-        match aborts {
-            Some(conn) => self.abort_call(conn),
-            None => {}
-        }
-    }
-
-    /// Ends the call of a connection, which waits, by device_abort.
-    fn abort_call(&mut self, conn: u8)
-        ensures { (config : Config) (log : List Act) → Represents self.old config log
-            → (waits conn (wait_acts (device_acts log)) ≡ None → ⊥)
-            → Represents self.new config (abort_acts (Some conn) log ++ log) }
-    {
-        if usize::from(conn) < CONNECTIONS {
+        let Some(number) = aborts else {
+            return;
+        };
+        if let Some(conn) = Conn::new(number) {
             self.give_up(conn, ErrorCode::Abort);
         }
     }

@@ -1,11 +1,11 @@
 -- A register after one more act: what of its events stands (`event-..`), and that what it keeps stands for the acts (`StandsFor-..`).
-use Rattle.std.proofs.Common.{◌≡◌, ℕ, List, [], ◌∷◌, refl, ap, ◌∙◌, subst, sym, ◌⊎◌, inl, inr, bit_and, bit_or, arith}
+use Rattle.std.proofs.Common.{◌≡◌, ℕ, List, [], ◌∷◌, refl, subst, sym, ◌⊎◌, inl, inr, bit_and, bit_or, arith}
 use Rattle.std.specs.Prelude.{◌↔◌, bit_xor}
 use Rattle.std.specs.Int.{bit_at}
-use Rattle.sv_errors.proofs.Since.{since_empty, since_step, since_kept, since_same, since_ended, then_same}
+use Rattle.sv_logs.proofs.Since.{since_empty, since_step, since_kept, since_same, since_ended, then_same}
 use Rattle.sv_status.specs.declared.register.RegisterAct.{RegisterAct}
 use Rattle.sv_status.specs.declared.register.RegisterAct.TheVariants.{Condition, SetFilter, SetEnable, ReadEvent, Preset, Clear}
-use Rattle.sv_status.specs.Register.{Latches, StandsFor, EventStands, Passes, NotCleared, Summary, condition, rise, fall, masked}
+use Rattle.sv_status.specs.Register.{Latches, StandsFor, EventStands, Passes, NotCleared, condition, rise, fall, masked}
 use Rattle.sv_status.proofs.Words.{no_bits, both_bits, either_bit, rose, fell}
 
 -- a bit that doesn't change passes no filter
@@ -152,14 +152,6 @@ StandsFor-condition start latches acts word is = record {
         (λ s. bit.1 (elim (law.0 s).1 [ inl passes ↦ inl (from passes) | inr before ↦ inr ((is.event k).1 before) ])),
       );
 }
-
--- some bit stands that is enabled
-pub summary_is : (start : ℕ) (latches : Latches) (acts : List RegisterAct) → StandsFor start latches acts
-    → ((k : ℕ) × (bit_at latches.event k ≡ 1) × (bit_at latches.enable k ≡ 1)) ↔ Summary start acts
-summary_is start latches acts is = (
-  (λ h. (h.0, (is.event h.0).0 h.1, ap (λ (w : ℕ). bit_at w h.0) (sym is.enable) ∙ h.2)),
-  (λ h. (h.0, (is.event h.0).1 h.1, ap (λ (w : ℕ). bit_at w h.0) is.enable ∙ h.2)),
-)
 
 -- the event register is cleared, by reading it or by itself
 pub StandsFor-read : (start : ℕ) (latches : Latches) (acts : List RegisterAct) → StandsFor start latches acts

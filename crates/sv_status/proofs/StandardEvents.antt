@@ -1,14 +1,14 @@
 -- The standard events after one more act: which of them stand (`stands-..`), and that what is kept stands for the acts
 -- (`StandsFor-..`).
-use Rattle.std.proofs.Common.{◌≡◌, ℕ, List, [], ◌∷◌, refl, ap, ◌∙◌, sym, ◌⊎◌, inl, inr, bit_or, arith}
+use Rattle.std.proofs.Common.{◌≡◌, ℕ, List, [], ◌∷◌, refl, ap, ◌⊎◌, inl, inr, bit_or, arith}
 use Rattle.std.specs.Prelude.{◌↔◌}
 use Rattle.std.specs.Int.{bit_at}
 use Rattle.std.proofs.lemmas.Bool.{cases_eq}
 use Rattle.std.proofs.lemmas.Nat.Bits.{bit_at-pow_other}
-use Rattle.sv_errors.proofs.Since.{since_empty, since_step, since_kept, since_same, since_ended}
+use Rattle.sv_logs.proofs.Since.{since_empty, since_step, since_kept, since_same, since_ended}
 use Rattle.sv_status.specs.declared.standard_event.StandardAct.{StandardAct}
 use Rattle.sv_status.specs.declared.standard_event.StandardAct.TheVariants.{Occur, Read, SetEnable, Clear}
-use Rattle.sv_status.specs.StandardEvent.{Latches, StandsFor, Stands, Occurs, NotCleared, Summary}
+use Rattle.sv_status.specs.StandardEvent.{Latches, StandsFor, Stands, Occurs, NotCleared}
 use Rattle.sv_status.proofs.Words.{no_bits, either_bit}
 
 -- ---- which events stand
@@ -65,14 +65,6 @@ StandsFor-enable latches acts word is = record {
       let law = since_step (Occurs k) NotCleared (SetEnable word) acts in
       ((λ h. law.1 (tt, inr ((is.event k).0 h))), (λ s. elim (law.0 s).1 [ inl none ↦ absurd none | inr before ↦ (is.event k).1 before ]));
 }
-
--- some event stands that is enabled
-pub summary_is : (latches : Latches) (acts : List StandardAct) → StandsFor latches acts
-    → ((k : ℕ) × (bit_at latches.event k ≡ 1) × (bit_at latches.enable k ≡ 1)) ↔ Summary acts
-summary_is latches acts is = (
-  (λ h. (h.0, (is.event h.0).0 h.1, ap (λ (w : ℕ). bit_at w h.0) (sym is.enable) ∙ h.2)),
-  (λ h. (h.0, (is.event h.0).1 h.1, ap (λ (w : ℕ). bit_at w h.0) is.enable ∙ h.2)),
-)
 
 -- the register is cleared, by reading it or by itself
 pub StandsFor-read : (latches : Latches) (acts : List StandardAct) → StandsFor latches acts

@@ -5,7 +5,7 @@ use Rattle.std.specs.Prelude.{◌↔◌, not, bit_xor}
 use Rattle.std.specs.Int.{bit_at}
 use Rattle.std.proofs.lemmas.Bool.{and_from, and_parts, false_from_ne_true, not_from_false, or_cases, or_left, or_right, cases_eq}
 use Rattle.std.proofs.lemmas.Nat.Bits.{bit_at-lt, bit_at-pow_other}
-use Rattle.sv_errors.proofs.Since.{since_empty, since_step, since_ended}
+use Rattle.sv_logs.proofs.Since.{since_empty, since_step, since_ended}
 use Rattle.sv_status.specs.declared.status_byte.StatusAct.{StatusAct}
 use Rattle.sv_status.specs.declared.status_byte.StatusAct.TheVariants.{Update, Poll}
 use Rattle.sv_status.specs.StatusByte.{Latches, StandsFor, Asks, AsksAt, Master, Reason, Lasts, Request, IsRaised, StatusBit, MasterBit, bits, enable}

@@ -4,6 +4,7 @@ use Rattle.std.specs.Prelude.{◌↔◌, not, min, max, bit_xor}
 use Rattle.std.specs.Int.{bit_at}
 use Rattle.std.proofs.lemmas.Bool.{cases_eq, cases_lt, ne_eqb}
 use Rattle.std.proofs.Common.{eq-eqb}
+use Rattle.sv_logs.proofs.Since.{then_same}
 use Rattle.std.proofs.lemmas.Nat.Bits.{bit_at_and, bit_at_or, bit_at_xor, bit_at-lt, bit_at-zero, bit_at_lowest, bit_at-suc, bit_at_above}
 
 -- a word that isn't 0 has a bit
@@ -49,6 +50,19 @@ meets a b = (
   (λ h. let some = (not_zero (bit_and a b)).0 h in let both = (both_bits a b some.0).0 some.1 in (some.0, both.0, both.1)),
   (λ h. (not_zero (bit_and a b)).1 (h.0, (both_bits a b h.0).1 (h.1, h.2))),
 )
+
+-- some bit stands that is enabled
+pub same_enabled : {P Q : ℕ → Type 0} (mask other : ℕ) → mask ≡ other → ((k : ℕ) → P k ↔ Q k)
+    → ((k : ℕ) × P k × (bit_at mask k ≡ 1)) ↔ ((k : ℕ) × Q k × (bit_at other k ≡ 1))
+same_enabled mask other same stands = (
+  (λ s. (s.0, (stands s.0).0 s.1, ap (λ (w : ℕ). bit_at w s.0) (sym same) ∙ s.2)),
+  (λ s. (s.0, (stands s.0).1 s.1, ap (λ (w : ℕ). bit_at w s.0) same ∙ s.2)),
+)
+
+-- the same, as a test of the word of these bits
+pub enabled_is : {P : ℕ → Type 0} (event mask other : ℕ) → mask ≡ other → ((k : ℕ) → (bit_at event k ≡ 1) ↔ P k)
+    → (not (eqb (bit_and event mask) 0) ≡ true) ↔ ((k : ℕ) × P k × (bit_at other k ≡ 1))
+enabled_is event mask other same stands = then_same (meets event mask) (same_enabled mask other same stands)
 
 -- one bit or another
 either_of : (a b : ℕ) → a < 2 → b < 2 → max a b ≡ 1 → (a ≡ 1) ⊎ (b ≡ 1)

@@ -2,7 +2,7 @@
 -- read from the newest.
 use Rattle.std.specs.Prelude.{◌≡◌, ◌↔◌, ◌⊎◌, ℕ, ◌%◌, ◌^◌, ⊤, List, [], ◌∷◌}
 use Rattle.std.specs.Int.{bit_at}
-use Rattle.sv_errors.specs.Since.{Since}
+use Rattle.sv_logs.specs.Since.{Since}
 use Rattle.sv_status.specs.declared.register.RegisterAct.{RegisterAct}
 use Rattle.sv_status.specs.declared.register.RegisterAct.TheVariants.{Condition, SetFilter, SetEnable, ReadEvent, Preset, Clear}
 

@@ -1,7 +1,7 @@
 -- The status byte and requests for service (IEEE 488.2, 11.2 and 11.3), found by a search of the acts, which are read from the newest.
 use Rattle.std.specs.Prelude.{◌≡◌, ◌≢◌, ◌↔◌, ◌⊎◌, ℕ, Bool, true, List, [], ◌∷◌}
 use Rattle.std.specs.Int.{bit_at}
-use Rattle.sv_errors.specs.Since.{Since}
+use Rattle.sv_logs.specs.Since.{Since}
 use Rattle.sv_status.specs.declared.status_byte.StatusAct.{StatusAct}
 use Rattle.sv_status.specs.declared.status_byte.StatusAct.TheVariants.{Update, Poll}
 

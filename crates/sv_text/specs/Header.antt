@@ -22,9 +22,8 @@ lead [] = Onward
 lead (b ∷ text) = if b == 42 then Common else if b == 58 then Root else Onward
 
 abbrev lead_size : Lead → ℕ
-lead_size Common = 1
-lead_size Root = 1
 lead_size Onward = 0
+lead_size _ = 1
 
 -- what stands between the lead and the query sign
 abbrev pub body : List ℕ → List ℕ

@@ -29,10 +29,7 @@ power_of_none suffix = if is_empty suffix then Some 0 else None
 -- data of a kind that the place doesn't take
 abbrev pub wrong_kind : Kind → Code
 wrong_kind Other = SyntaxError
-wrong_kind Number = DataTypeError
-wrong_kind Base = DataTypeError
-wrong_kind Word = DataTypeError
-wrong_kind Expression = DataTypeError
+wrong_kind _ = DataTypeError
 
 -- up to 1,000 V in magnitude
 abbrev pub within_volts : Result ℤ Code → Result ℤ Code
@@ -43,10 +40,7 @@ within_volts (Ok value) = if int_le (neg_ℤ (pos most_microvolts)) value && int
 -- a voltage, in microvolts
 abbrev pub read_voltage : Kind → List ℕ → Result ℤ Code
 read_voltage Number text = within_volts (read_decimal power_of_volts InvalidSuffix text)
-read_voltage Base text = Err (wrong_kind Base)
-read_voltage Word text = Err (wrong_kind Word)
-read_voltage Expression text = Err (wrong_kind Expression)
-read_voltage Other text = Err (wrong_kind Other)
+read_voltage kind text = Err (wrong_kind kind)
 
 abbrev pub within : ℕ → ℕ → Result ℤ Code → Result ℕ Code
 within low high (Err code) = Err code
@@ -57,9 +51,7 @@ within low high (Ok (pos n)) = if nat_le low n && nat_le n high then Ok n else E
 abbrev pub read_whole : ℕ → ℕ → Kind → List ℕ → Result ℕ Code
 read_whole low high Number text = within low high (read_decimal power_of_none SuffixNotAllowed text)
 read_whole low high Base text = within low high (read_based text)
-read_whole low high Word text = Err (wrong_kind Word)
-read_whole low high Expression text = Err (wrong_kind Expression)
-read_whole low high Other text = Err (wrong_kind Other)
+read_whole low high kind text = Err (wrong_kind kind)
 
 -- 0 is off, all others are on
 abbrev pub is_on : Result ℤ Code → Result Bool Code
@@ -72,24 +64,17 @@ abbrev pub read_boolean : Kind → List ℕ → Result Bool Code
 read_boolean Number text = is_on (read_decimal power_of_none SuffixNotAllowed text)
 read_boolean Base text = is_on (read_based text)
 read_boolean Word text = read_switch text
-read_boolean Expression text = Err (wrong_kind Expression)
-read_boolean Other text = Err (wrong_kind Other)
+read_boolean kind text = Err (wrong_kind kind)
 
 -- a source of triggers
 abbrev pub read_source : Kind → List ℕ → Result Source Code
 read_source Word text = read_keyword text
-read_source Number text = Err (wrong_kind Number)
-read_source Base text = Err (wrong_kind Base)
-read_source Expression text = Err (wrong_kind Expression)
-read_source Other text = Err (wrong_kind Other)
+read_source kind text = Err (wrong_kind kind)
 
 -- a channel list
 abbrev pub read_channels : Kind → List ℕ → Result (List ℕ) Code
 read_channels Expression text = read_list text
-read_channels Number text = Err (wrong_kind Number)
-read_channels Base text = Err (wrong_kind Base)
-read_channels Word text = Err (wrong_kind Word)
-read_channels Other text = Err (wrong_kind Other)
+read_channels kind text = Err (wrong_kind kind)
 
 -- What is read as a channel list is one.
 abbrev pub ReadIsChannelList : Type 0

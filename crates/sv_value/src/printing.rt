@@ -10,8 +10,8 @@ ghost use Rattle.sv_value.specs.PrintedVoltage.{voltage_text};
 use crate::writing::write_microvolts;
 use itoa::Buffer;
 use std::alloc::Allocator;
+use sv_bytes::append;
 use sv_errors::{Code, Source};
-use sv_text::append;
 
 /// Puts a voltage of so many microvolts, up to 1,000 V in magnitude, behind bytes that have room
 /// for 12 more: a sign (`+` for 0), whole volts, a point and six digits.

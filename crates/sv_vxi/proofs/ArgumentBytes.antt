@@ -1,149 +1,113 @@
--- What is read as arguments is spelled so, and what isn't read is spelled by none.
-use Rattle.std.proofs.Common.{◌≡◌, ℕ, ◌++◌, Bool, true, false, ◌||◌, ◌==◌, ℤ, List, [], ◌∷◌, Result, Ok, Err, refl, sym, subst, eqb-true}
+-- What is read as the arguments of a call is what the bytes are as such.
+use Rattle.std.proofs.Common.{◌≡◌, ℕ, ◌++◌, Bool, true, false, ◌||◌, ◌==◌, List, [], ◌∷◌, Result, Ok, Err, refl, sym, ap, ◌∙◌, subst, eqb-true}
 use Rattle.std.specs.List.{AllByRecursion}
-use Rattle.sv_xdr.specs.declared.fault.XdrFault.{XdrFault}
 use Rattle.sv_xdr.specs.declared.garbage.Garbage.{Garbage}
-use Rattle.sv_xdr.specs.Garbage.{◌>>=◌}
-use Rattle.sv_xdr.specs.Spelling.{Field, Unsigned, Signed, Boolean, Opaque, Begins, BeginsAll}
-use Rattle.sv_xdr.specs.Reader.{opaque_at}
-use Rattle.sv_xdr.proofs.Fields.{IsBytes, bytes_after, unsigned_takes, signed_takes, boolean_takes, opaque_at-takes}
+use Rattle.sv_xdr.specs.Spelling.{BeginsAll}
+use Rattle.sv_xdr.proofs.Fields.{IsBytes}
+use Rattle.sv_vxi.specs.Arguments.{GenericParms, Arguments, DeviceAbort, CreateLink, DeviceWrite, DeviceRead, DeviceReadstb, DeviceTrigger, DeviceClear, DeviceRemote, DeviceLocal, DeviceLock, DeviceUnlock, DeviceEnableSrq, DeviceDocmd, DestroyLink, CreateIntrChan, DestroyIntrChan, procedure_of, generic_fields, argument_fields, InBounds, BeginsWith, core_calls, abort_calls, is_one_of, ArgumentsAre}
 use Rattle.sv_vxi.specs.Limits.{max_handle}
-use Rattle.sv_vxi.specs.Arguments.{GenericParms, Arguments, procedure_of, argument_fields, InBounds, core_calls, abort_calls, is_one_of, ArgumentsAre}
-use Rattle.sv_vxi.specs.Reading.{any_length, create_link_at, device_write_at, device_read_at, generic, generic_at, device_lock_at, device_enable_srq_at, device_docmd_at, create_intr_chan_at, of_link, link_at, arguments_at}
-use Rattle.sv_vxi.proofs.Spelled.{arguments_read}
+use Rattle.sv_vxi.specs.Reading.{Kind, signed, unsigned, boolean, opaque, any, Makes, read, read_generic, arguments_at}
+use Rattle.sv_vxi.proofs.Spelled.{Values, fields, make, Bounded, text_bound, read_begins, read_takes}
 
--- the value of a step that did not fail
-bind_ok : {A : Type 0} (r : Result A XdrFault) (f : A → Result Arguments Garbage) (a : Arguments) → (r >>= f) ≡ Ok a
-    → (x : A) × (r ≡ Ok x) × (f x ≡ Ok a)
-bind_ok (Ok x) f a e = (x, refl, e)
-bind_ok (Err fault) f a e = absurd cc
+-- a value, and those behind it
+infixr 10 ◌&◌
+abbrev ◌&◌ : {A B : Type 0} → A → B → A × B
+a & b = (a, b)
 
--- Arguments that are read are those of the call, and the bytes begin with their fields but for some that were read before.
-abbrev Reads : ℕ → (List Field → List Field) → List ℕ → Result Arguments Garbage → Type 0
-Reads proc before bytes r = (a : Arguments) → r ≡ Ok a
-    → (procedure_of a ≡ proc) × InBounds a × (fields : List Field) × (argument_fields a ≡ before fields)
-    × (after : List ℕ) × BeginsAll bytes fields after
+-- the fields of the calls
+abbrev link : List Kind
+link = signed ∷ []
 
--- no field is left
-done : {proc : ℕ} {before : List Field → List Field} {bytes : List ℕ} {a : Arguments} → procedure_of a ≡ proc → InBounds a
-    → argument_fields a ≡ before [] → Reads proc before bytes (Ok a)
-done {proc} {before} {bytes} {a} call bounds same b e =
-    let is : a ≡ b = cc in
-    subst (λ (b : Arguments). (procedure_of b ≡ proc) × InBounds b × (fields : List Field) × (argument_fields b ≡ before fields)
-    × (after : List ℕ) × BeginsAll bytes fields after) is (call, bounds, [], same, bytes, refl)
+abbrev generic : List Kind
+generic = signed ∷ unsigned ∷ unsigned ∷ unsigned ∷ []
 
--- A field is read, and behind it the others.
-step : {A : Type 0} {at : List ℕ → Result (A × List ℕ) XdrFault} {proc : ℕ} {before : List Field → List Field} {bytes : List ℕ}
-    → (field : A → Field)
-    → ((bytes after : List ℕ) (x : A) → IsBytes bytes → at bytes ≡ Ok (x, after) → Begins bytes (field x) after)
-    → (f : A × List ℕ → Result Arguments Garbage) → IsBytes bytes
-    → ((x : A) (after : List ℕ) → at bytes ≡ Ok (x, after) → IsBytes after
-    → Reads proc (λ fields. before (field x ∷ fields)) after (f (x, after)))
-    → Reads proc before bytes (at bytes >>= f)
-step {A} {at} {proc} {before} {bytes} field takes f fits then a e =
-    let s = bind_ok (at bytes) f a e in
-    let b = takes bytes s.0.1 s.0.0 fits s.1 in
-    let r = then s.0.0 s.0.1 s.1 (bytes_after (field s.0.0) bytes s.0.1 fits b) a s.2 in
-    (r.0, r.1, field s.0.0 ∷ r.2, r.3, r.4, (s.0.1, b, r.5))
+abbrev create_link : List Kind
+create_link = signed ∷ boolean ∷ unsigned ∷ any ∷ []
 
--- opaque data that are read are spelled so
-opaque_takes : (most : ℕ) (bytes after text : List ℕ) → IsBytes bytes → opaque_at most bytes ≡ Ok (text, after)
-    → Begins bytes (Opaque text) after
-opaque_takes most bytes after text fits e = (opaque_at-takes most bytes text after fits e).0
+abbrev device_write : List Kind
+device_write = signed ∷ unsigned ∷ unsigned ∷ unsigned ∷ any ∷ []
+
+abbrev device_read : List Kind
+device_read = signed ∷ unsigned ∷ unsigned ∷ unsigned ∷ unsigned ∷ unsigned ∷ []
+
+abbrev device_lock : List Kind
+device_lock = signed ∷ unsigned ∷ unsigned ∷ []
+
+abbrev enable_srq : List Kind
+enable_srq = signed ∷ boolean ∷ opaque max_handle ∷ []
+
+abbrev device_docmd : List Kind
+device_docmd = signed ∷ unsigned ∷ unsigned ∷ unsigned ∷ signed ∷ boolean ∷ signed ∷ any ∷ []
+
+abbrev create_intr_chan : List Kind
+create_intr_chan = unsigned ∷ unsigned ∷ unsigned ∷ unsigned ∷ unsigned ∷ []
+
+generic_begins : (makes : GenericParms → Arguments) (p : GenericParms) (bytes after : List ℕ) → BeginsAll bytes (generic_fields p) after
+    → read_generic makes bytes ≡ Ok (makes p)
+generic_begins makes p bytes after h = read_begins generic
+    (λ lid flags lock_timeout io_timeout. makes (record { lid = lid; flags = flags; lock_timeout = lock_timeout; io_timeout = io_timeout }))
+    (p.lid & p.flags & p.lock_timeout & p.io_timeout & tt) bytes after tt h
+
+-- arguments that are spelled are read
+pub arguments_begin : (a : Arguments) (bytes after : List ℕ) → BeginsWith bytes a after → arguments_at (procedure_of a) bytes ≡ Ok a
+arguments_begin (DeviceAbort lid) bytes after (bounds, h) = read_begins link DeviceAbort (lid & tt) bytes after tt h
+arguments_begin (CreateLink client_id lock_device lock_timeout device) bytes after (bounds, h) =
+    read_begins create_link CreateLink (client_id & lock_device & lock_timeout & device & tt) bytes after (text_bound _ h.2.2.2.1, tt) h
+arguments_begin (DeviceWrite lid io_timeout lock_timeout flags text) bytes after (bounds, h) =
+    read_begins device_write DeviceWrite (lid & io_timeout & lock_timeout & flags & text & tt) bytes after (text_bound _ h.2.2.2.2.1, tt) h
+arguments_begin (DeviceRead lid request_size io_timeout lock_timeout flags term_char) bytes after (bounds, h) =
+    read_begins device_read DeviceRead (lid & request_size & io_timeout & lock_timeout & flags & term_char & tt) bytes after tt h
+arguments_begin (DeviceReadstb p) bytes after (bounds, h) = generic_begins DeviceReadstb p bytes after h
+arguments_begin (DeviceTrigger p) bytes after (bounds, h) = generic_begins DeviceTrigger p bytes after h
+arguments_begin (DeviceClear p) bytes after (bounds, h) = generic_begins DeviceClear p bytes after h
+arguments_begin (DeviceRemote p) bytes after (bounds, h) = generic_begins DeviceRemote p bytes after h
+arguments_begin (DeviceLocal p) bytes after (bounds, h) = generic_begins DeviceLocal p bytes after h
+arguments_begin (DeviceLock lid flags lock_timeout) bytes after (bounds, h) =
+    read_begins device_lock DeviceLock (lid & flags & lock_timeout & tt) bytes after tt h
+arguments_begin (DeviceUnlock lid) bytes after (bounds, h) = read_begins link DeviceUnlock (lid & tt) bytes after tt h
+arguments_begin (DeviceEnableSrq lid enable handle) bytes after (bounds, h) =
+    read_begins enable_srq DeviceEnableSrq (lid & enable & handle & tt) bytes after (bounds, tt) h
+arguments_begin (DeviceDocmd lid flags io_timeout lock_timeout cmd network_order datasize text) bytes after (bounds, h) =
+    read_begins device_docmd DeviceDocmd (lid & flags & io_timeout & lock_timeout & cmd & network_order & datasize & text & tt) bytes after
+    (text_bound _ h.2.2.2.2.2.2.2.1, tt) h
+arguments_begin (DestroyLink lid) bytes after (bounds, h) = read_begins link DestroyLink (lid & tt) bytes after tt h
+arguments_begin (CreateIntrChan host_addr host_port prog_num prog_vers prog_family) bytes after (bounds, h) =
+    read_begins create_intr_chan CreateIntrChan (host_addr & host_port & prog_num & prog_vers & prog_family & tt) bytes after tt h
+arguments_begin DestroyIntrChan bytes after h = refl
+
+-- what the bytes are as arguments is read
+pub arguments_read : (proc : ℕ) (bytes : List ℕ) (a : Arguments) → ArgumentsAre proc bytes (Ok a) → arguments_at proc bytes ≡ Ok a
+arguments_read proc bytes a h = ap (λ (n : ℕ). arguments_at n bytes) (sym h.0) ∙ arguments_begin a bytes h.1 h.2
+
+-- two outcomes of one call's bytes are one
+pub one_arguments : (proc : ℕ) (bytes : List ℕ) (a b : Result Arguments Garbage) → ArgumentsAre proc bytes a → ArgumentsAre proc bytes b
+    → a ≡ b
+one_arguments proc bytes (Ok a) (Ok b) h k = sym (arguments_read proc bytes a h) ∙ arguments_read proc bytes b k
+one_arguments proc bytes (Ok a) (Err garbage) h k = absurd (k a h.1 h.0 h.2)
+one_arguments proc bytes (Err garbage) (Ok b) h k = absurd (h b k.1 k.0 k.2)
+one_arguments proc bytes (Err garbage) (Err other) h k = refl
 
 -- The arguments of this call that are read so are spelled.
 abbrev Takes : ℕ → (List ℕ → Result Arguments Garbage) → Type 0
-Takes proc at = (bytes : List ℕ) → IsBytes bytes → Reads proc (λ fields. fields) bytes (at bytes)
+Takes proc at = (bytes : List ℕ) (a : Arguments) → IsBytes bytes → at bytes ≡ Ok a → ArgumentsAre proc bytes (Ok a)
 
-create_link : Takes 10 create_link_at
-unfolding create_link_at
-create_link bytes h =
-    step Signed signed_takes _ h (λ client_id l1 _ h1.
-    step Boolean boolean_takes _ h1 (λ lock_device l2 _ h2.
-    step Unsigned unsigned_takes _ h2 (λ lock_timeout l3 _ h3.
-    step Opaque (opaque_takes any_length) _ h3 (λ device l4 _ h4. done refl tt refl))))
+-- What is made of these fields are arguments of this call, and spelled by them.
+abbrev Spells : ℕ → (kinds : List Kind) → Makes kinds → Type 0
+Spells proc kinds makes = (values : Values kinds) → Bounded kinds values → (procedure_of (make kinds makes values) ≡ proc)
+    × InBounds (make kinds makes values) × (argument_fields (make kinds makes values) ≡ fields kinds values)
 
-device_write : Takes 11 device_write_at
-unfolding device_write_at
-device_write bytes h =
-    step Signed signed_takes _ h (λ lid l1 _ h1.
-    step Unsigned unsigned_takes _ h1 (λ io_timeout l2 _ h2.
-    step Unsigned unsigned_takes _ h2 (λ lock_timeout l3 _ h3.
-    step Unsigned unsigned_takes _ h3 (λ flags l4 _ h4.
-    step Opaque (opaque_takes any_length) _ h4 (λ bytes l5 _ h5. done refl tt refl)))))
+takes : (proc : ℕ) (kinds : List Kind) (makes : Makes kinds) → Spells proc kinds makes → Takes proc (read kinds makes)
+takes proc kinds makes spells bytes a fits e =
+    let r = read_takes kinds makes bytes a fits e in
+    let s = spells r.0 r.2 in
+    subst (λ (b : Arguments). ArgumentsAre proc bytes (Ok b)) (sym r.1)
+    (s.0, r.3, (s.1, rw s.2 r.4))
 
-device_read : Takes 12 device_read_at
-unfolding device_read_at
-device_read bytes h =
-    step Signed signed_takes _ h (λ lid l1 _ h1.
-    step Unsigned unsigned_takes _ h1 (λ request_size l2 _ h2.
-    step Unsigned unsigned_takes _ h2 (λ io_timeout l3 _ h3.
-    step Unsigned unsigned_takes _ h3 (λ lock_timeout l4 _ h4.
-    step Unsigned unsigned_takes _ h4 (λ flags l5 _ h5.
-    step Unsigned unsigned_takes _ h5 (λ term_char l6 _ h6. done refl tt refl))))))
-
-device_lock : Takes 18 device_lock_at
-unfolding device_lock_at
-device_lock bytes h =
-    step Signed signed_takes _ h (λ lid l1 _ h1.
-    step Unsigned unsigned_takes _ h1 (λ flags l2 _ h2.
-    step Unsigned unsigned_takes _ h2 (λ lock_timeout l3 _ h3. done refl tt refl)))
-
-device_docmd : Takes 22 device_docmd_at
-unfolding device_docmd_at
-device_docmd bytes h =
-    step Signed signed_takes _ h (λ lid l1 _ h1.
-    step Unsigned unsigned_takes _ h1 (λ flags l2 _ h2.
-    step Unsigned unsigned_takes _ h2 (λ io_timeout l3 _ h3.
-    step Unsigned unsigned_takes _ h3 (λ lock_timeout l4 _ h4.
-    step Signed signed_takes _ h4 (λ cmd l5 _ h5.
-    step Boolean boolean_takes _ h5 (λ network_order l6 _ h6.
-    step Signed signed_takes _ h6 (λ datasize l7 _ h7.
-    step Opaque (opaque_takes any_length) _ h7 (λ bytes l8 _ h8. done refl tt refl))))))))
-
-create_intr_chan : Takes 25 create_intr_chan_at
-unfolding create_intr_chan_at
-create_intr_chan bytes h =
-    step Unsigned unsigned_takes _ h (λ host_addr l1 _ h1.
-    step Unsigned unsigned_takes _ h1 (λ host_port l2 _ h2.
-    step Unsigned unsigned_takes _ h2 (λ prog_num l3 _ h3.
-    step Unsigned unsigned_takes _ h3 (λ prog_vers l4 _ h4.
-    step Unsigned unsigned_takes _ h4 (λ prog_family l5 _ h5. done refl tt refl)))))
-
-device_enable_srq : Takes 20 device_enable_srq_at
-unfolding device_enable_srq_at
-device_enable_srq bytes h =
-    step Signed signed_takes _ h (λ lid l1 _ h1.
-    step Boolean boolean_takes _ h1 (λ enable l2 _ h2.
-    step Opaque (opaque_takes max_handle) _ h2 (λ handle l3 e3 h3.
-    done refl (opaque_at-takes max_handle l2 handle l3 h2 e3).1 refl)))
-
--- of the calls of one shape
-generic_call : (proc : ℕ)
-    → ((parms : GenericParms) (bytes : List ℕ)
-    → Reads proc (λ fields. Signed parms.lid ∷ Unsigned parms.flags ∷ Unsigned parms.lock_timeout ∷ Unsigned parms.io_timeout ∷ fields)
-    bytes (Ok (generic proc parms)))
-    → Takes proc (generic_at proc)
-unfolding generic_at
-generic_call proc is bytes h =
-    step Signed signed_takes _ h (λ lid l1 _ h1.
-    step Unsigned unsigned_takes _ h1 (λ flags l2 _ h2.
-    step Unsigned unsigned_takes _ h2 (λ lock_timeout l3 _ h3.
-    step Unsigned unsigned_takes _ h3 (λ io_timeout l4 _ h4.
-    is (record { lid = lid; flags = flags; lock_timeout = lock_timeout; io_timeout = io_timeout }) l4))))
-
-link_call : (proc : ℕ) → ((lid : ℤ) (bytes : List ℕ) → Reads proc (λ fields. Signed lid ∷ fields) bytes (Ok (of_link proc lid)))
-    → Takes proc (link_at proc)
-unfolding link_at
-link_call proc is bytes h = step Signed signed_takes _ h (λ lid l1 _ h1. is lid l1)
-
--- an outcome is what the bytes are, if what is read is spelled
-outcome_is : (proc : ℕ) (bytes : List ℕ) (r : Result Arguments Garbage) → Reads proc (λ fields. fields) bytes r
-    → arguments_at proc bytes ≡ r → ArgumentsAre proc bytes r
-outcome_is proc bytes (Ok a) reads e =
-    let r = reads a refl in
-    (r.0, r.4, (r.1, subst (λ fields. BeginsAll bytes fields r.4) (sym r.3) r.5))
-outcome_is proc bytes (Err garbage) reads e = λ a after p h. absurd (cc (arguments_read proc bytes a (p, after, h)))
+generic_takes : (proc : ℕ) (makes : GenericParms → Arguments) → ((parms : GenericParms) → (procedure_of (makes parms) ≡ proc)
+    × InBounds (makes parms) × (argument_fields (makes parms) ≡ generic_fields parms)) → Takes proc (read_generic makes)
+generic_takes proc makes is = takes proc generic
+    (λ lid flags lock_timeout io_timeout. makes (record { lid = lid; flags = flags; lock_timeout = lock_timeout; io_timeout = io_timeout }))
+    (λ values _. is (record { lid = values.0; flags = values.1.0; lock_timeout = values.1.1.0; io_timeout = values.1.1.1.0 }))
 
 either : {P : Type 0} (b c : Bool) → (b || c) ≡ true → (b ≡ true → P) → (c ≡ true → P) → P
 either true c e f g = f refl
@@ -155,25 +119,34 @@ of_each P [] proc all one = absurd cc
 of_each P (call ∷ calls) proc all one = either (proc == call) (is_one_of calls proc) one
     (λ same. subst P (sym (eqb-true proc call same)) all.0) (λ rest. of_each P calls proc all.1 rest)
 
--- what holds of a call, and of those behind it
-infixr 10 ◌&◌
-◌&◌ : {A B : Type 0} → A → B → A × B
-a & b = (a, b)
-
--- Each call: of those of one shape, the fields that are read are those of this one.
+-- Each call, in the order of their numbers, and then device_abort.
 each_takes : AllByRecursion (λ proc. Takes proc (arguments_at proc)) (core_calls ++ abort_calls)
 each_takes =
-    create_link & device_write & device_read
-    & generic_call 13 (λ _ _. done refl tt refl)
-    & generic_call 14 (λ _ _. done refl tt refl)
-    & generic_call 15 (λ _ _. done refl tt refl)
-    & generic_call 16 (λ _ _. done refl tt refl)
-    & generic_call 17 (λ _ _. done refl tt refl)
-    & device_lock & link_call 19 (λ _ _. done refl tt refl) & device_enable_srq & device_docmd
-    & link_call 23 (λ _ _. done refl tt refl) & create_intr_chan & (λ _ _. done refl tt refl)
-    & link_call 1 (λ _ _. done refl tt refl) & tt
+    takes 10 create_link CreateLink (λ _ _. (refl, tt, refl))
+    & takes 11 device_write DeviceWrite (λ _ _. (refl, tt, refl))
+    & takes 12 device_read DeviceRead (λ _ _. (refl, tt, refl))
+    & generic_takes 13 DeviceReadstb (λ _. (refl, tt, refl))
+    & generic_takes 14 DeviceTrigger (λ _. (refl, tt, refl))
+    & generic_takes 15 DeviceClear (λ _. (refl, tt, refl))
+    & generic_takes 16 DeviceRemote (λ _. (refl, tt, refl))
+    & generic_takes 17 DeviceLocal (λ _. (refl, tt, refl))
+    & takes 18 device_lock DeviceLock (λ _ _. (refl, tt, refl))
+    & takes 19 link DeviceUnlock (λ _ _. (refl, tt, refl))
+    & takes 20 enable_srq DeviceEnableSrq (λ _ b. (refl, b.0, refl))
+    & takes 22 device_docmd DeviceDocmd (λ _ _. (refl, tt, refl))
+    & takes 23 link DestroyLink (λ _ _. (refl, tt, refl))
+    & takes 25 create_intr_chan CreateIntrChan (λ _ _. (refl, tt, refl))
+    & takes 26 [] DestroyIntrChan (λ _ _. (refl, tt, refl))
+    & takes 1 link DeviceAbort (λ _ _. (refl, tt, refl))
+    & tt
+
+-- an outcome is what the bytes are, if what is read is spelled
+outcome_is : (proc : ℕ) (bytes : List ℕ) (r : Result Arguments Garbage) → ((a : Arguments) → r ≡ Ok a → ArgumentsAre proc bytes (Ok a))
+    → arguments_at proc bytes ≡ r → ArgumentsAre proc bytes r
+outcome_is proc bytes (Ok a) reads e = reads a refl
+outcome_is proc bytes (Err garbage) reads e = λ a after p h. absurd (cc (arguments_read proc bytes a (p, after, h)))
 
 pub arguments_are : (proc : ℕ) (bytes : List ℕ) → IsBytes bytes → is_one_of (core_calls ++ abort_calls) proc ≡ true
     → ArgumentsAre proc bytes (arguments_at proc bytes)
 arguments_are proc bytes fits one = outcome_is proc bytes (arguments_at proc bytes)
-    (of_each (λ proc. Takes proc (arguments_at proc)) (core_calls ++ abort_calls) proc each_takes one bytes fits) refl
+    (λ a e. of_each (λ proc. Takes proc (arguments_at proc)) (core_calls ++ abort_calls) proc each_takes one bytes a fits e) refl

@@ -8,7 +8,7 @@ use Rattle.sv_vxi.specs.Arguments.{Arguments, argument_fields}
 use Rattle.sv_vxi.specs.Reading.{arguments_at}
 use Rattle.sv_vxi.specs.Results.{Link, Size, Read, Status, Plain, Data}
 use Rattle.sv_vxi.specs.Laws.{ArgumentsPrefixFree, ResultsPrefixFree}
-use Rattle.sv_vxi.proofs.Spelled.{arguments_begin}
+use Rattle.sv_vxi.proofs.ArgumentBytes.{arguments_begin}
 
 ok_is : (x y : Arguments) → (let r : Result Arguments Garbage = Ok x in r) ≡ Ok y → x ≡ y
 ok_is x y e = cc

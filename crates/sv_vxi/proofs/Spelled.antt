@@ -1,67 +1,93 @@
--- Arguments that are spelled are read.
-use Rattle.std.proofs.Common.{◌≡◌, ℕ, ℤ, List, length, Result, Ok, Err, refl, sym, ap, ◌∙◌, arith}
-use Rattle.sv_xdr.specs.Spelling.{Opaque, Begins, BeginsAll}
-use Rattle.sv_xdr.specs.Reader.{opaque_at}
+-- Arguments that are spelled are read, and what is read is spelled so.
+use Rattle.std.proofs.Common.{◌≡◌, ◌≤◌, ℕ, ℤ, Bool, List, [], ◌∷◌, length, Result, Ok, Err, refl, sym, ap, subst, ◌∙◌, arith}
+use Rattle.std.specs.Bool.{⊤}
+use Rattle.sv_xdr.specs.declared.fault.XdrFault.{XdrFault}
 use Rattle.sv_xdr.specs.declared.garbage.Garbage.{Garbage}
-use Rattle.sv_xdr.proofs.Fields.{unsigned_begins, signed_begins, boolean_begins, opaque_again, word_fits}
-use Rattle.sv_vxi.specs.Limits.{max_handle}
-use Rattle.sv_vxi.specs.Arguments.{GenericParms, Arguments, DeviceAbort, CreateLink, DeviceWrite, DeviceRead, DeviceReadstb, DeviceTrigger, DeviceClear, DeviceRemote, DeviceLocal, DeviceLock, DeviceUnlock, DeviceEnableSrq, DeviceDocmd, DestroyLink, CreateIntrChan, DestroyIntrChan, procedure_of, generic_fields, link_fields, BeginsWith, ArgumentsAre}
-use Rattle.sv_vxi.specs.Reading.{any_length, create_link_at, device_write_at, device_read_at, generic, generic_at, device_lock_at, device_enable_srq_at, device_docmd_at, create_intr_chan_at, of_link, link_at, arguments_at}
+use Rattle.sv_xdr.specs.Garbage.{◌>>=◌}
+use Rattle.sv_xdr.specs.Spelling.{Field, Unsigned, Signed, Boolean, Opaque, Begins, BeginsAll}
+use Rattle.sv_xdr.specs.Reader.{unsigned_at, signed_at, boolean_at, opaque_at}
+use Rattle.sv_xdr.proofs.Fields.{IsBytes, bytes_after, unsigned_begins, signed_begins, boolean_begins, opaque_again, word_fits, unsigned_takes, signed_takes, boolean_takes, opaque_at-takes}
+use Rattle.sv_vxi.specs.Arguments.{Arguments}
+use Rattle.sv_vxi.specs.Reading.{Kind, signed, unsigned, boolean, opaque, Makes, read}
 
--- opaque data that are spelled are read, whatever their length
-text_begins : (bytes text after : List ℕ) → Begins bytes (Opaque text) after → opaque_at any_length bytes ≡ Ok (text, after)
-text_begins bytes text after b = opaque_again any_length bytes text after b (omega (arith, word_fits b.1.0 (length text) b.1.2))
+-- the values of these fields, how they are spelled, and what is made of them
+abbrev pub Values : List Kind → Type 0
+Values [] = ⊤
+Values (signed ∷ kinds) = ℤ × Values kinds
+Values (unsigned ∷ kinds) = ℕ × Values kinds
+Values (boolean ∷ kinds) = Bool × Values kinds
+Values (opaque most ∷ kinds) = List ℕ × Values kinds
 
-generic_begins : (proc : ℕ) (parms : GenericParms) (bytes after : List ℕ)
-    → BeginsAll bytes (generic_fields parms) after → generic_at proc bytes ≡ Ok (generic proc parms)
-unfolding generic_at
-generic_begins proc parms bytes after h =
-    rw (signed_begins _ _ _ h.1, unsigned_begins _ _ _ h.2.1, unsigned_begins _ _ _ h.2.2.1, unsigned_begins _ _ _ h.2.2.2.1) refl
+abbrev pub fields : (kinds : List Kind) → Values kinds → List Field
+fields [] values = []
+fields (signed ∷ kinds) values = Signed values.0 ∷ fields kinds values.1
+fields (unsigned ∷ kinds) values = Unsigned values.0 ∷ fields kinds values.1
+fields (boolean ∷ kinds) values = Boolean values.0 ∷ fields kinds values.1
+fields (opaque most ∷ kinds) values = Opaque values.0 ∷ fields kinds values.1
 
-link_begins : (proc : ℕ) (lid : ℤ) (bytes after : List ℕ) → BeginsAll bytes (link_fields lid) after
-    → link_at proc bytes ≡ Ok (of_link proc lid)
-unfolding link_at
-link_begins proc lid bytes after h = rw (signed_begins _ _ _ h.1) refl
+abbrev pub make : (kinds : List Kind) → Makes kinds → Values kinds → Arguments
+make [] makes values = makes
+make (signed ∷ kinds) makes values = make kinds (makes values.0) values.1
+make (unsigned ∷ kinds) makes values = make kinds (makes values.0) values.1
+make (boolean ∷ kinds) makes values = make kinds (makes values.0) values.1
+make (opaque most ∷ kinds) makes values = make kinds (makes values.0) values.1
 
-pub arguments_begin : (a : Arguments) (bytes after : List ℕ) → BeginsWith bytes a after → arguments_at (procedure_of a) bytes ≡ Ok a
-unfolding create_link_at device_write_at device_read_at device_lock_at device_enable_srq_at device_docmd_at create_intr_chan_at
-arguments_begin (CreateLink client_id lock_device lock_timeout device) bytes after (bounds, h) =
-    rw (signed_begins _ _ _ h.1, boolean_begins _ _ _ h.2.1, unsigned_begins _ _ _ h.2.2.1, text_begins _ _ _ h.2.2.2.1) refl
-arguments_begin (DeviceWrite lid io_timeout lock_timeout flags text) bytes after (bounds, h) =
-    rw (signed_begins _ _ _ h.1, unsigned_begins _ _ _ h.2.1, unsigned_begins _ _ _ h.2.2.1, unsigned_begins _ _ _ h.2.2.2.1)
-    (rw (text_begins _ _ _ h.2.2.2.2.1) refl)
-arguments_begin (DeviceRead lid request_size io_timeout lock_timeout flags term_char) bytes after (bounds, h) =
-    rw (signed_begins _ _ _ h.1, unsigned_begins _ _ _ h.2.1, unsigned_begins _ _ _ h.2.2.1, unsigned_begins _ _ _ h.2.2.2.1)
-    (rw (unsigned_begins _ _ _ h.2.2.2.2.1, unsigned_begins _ _ _ h.2.2.2.2.2.1) refl)
-arguments_begin (DeviceReadstb parms) bytes after (bounds, h) = generic_begins 13 parms bytes after h
-arguments_begin (DeviceTrigger parms) bytes after (bounds, h) = generic_begins 14 parms bytes after h
-arguments_begin (DeviceClear parms) bytes after (bounds, h) = generic_begins 15 parms bytes after h
-arguments_begin (DeviceRemote parms) bytes after (bounds, h) = generic_begins 16 parms bytes after h
-arguments_begin (DeviceLocal parms) bytes after (bounds, h) = generic_begins 17 parms bytes after h
-arguments_begin (DeviceLock lid flags lock_timeout) bytes after (bounds, h) =
-    rw (signed_begins _ _ _ h.1, unsigned_begins _ _ _ h.2.1, unsigned_begins _ _ _ h.2.2.1) refl
-arguments_begin (DeviceEnableSrq lid enable handle) bytes after (bounds, h) =
-    rw (signed_begins _ _ _ h.1, boolean_begins _ _ _ h.2.1, opaque_again max_handle _ _ _ h.2.2.1 bounds) refl
-arguments_begin (DeviceDocmd lid flags io_timeout lock_timeout cmd network_order datasize text) bytes after (bounds, h) =
-    rw (signed_begins _ _ _ h.1, unsigned_begins _ _ _ h.2.1, unsigned_begins _ _ _ h.2.2.1, unsigned_begins _ _ _ h.2.2.2.1)
-    (rw (signed_begins _ _ _ h.2.2.2.2.1, boolean_begins _ _ _ h.2.2.2.2.2.1, signed_begins _ _ _ h.2.2.2.2.2.2.1)
-    (rw (text_begins _ _ _ h.2.2.2.2.2.2.2.1) refl))
-arguments_begin (CreateIntrChan host_addr host_port prog_num prog_vers prog_family) bytes after (bounds, h) =
-    rw (unsigned_begins _ _ _ h.1, unsigned_begins _ _ _ h.2.1, unsigned_begins _ _ _ h.2.2.1, unsigned_begins _ _ _ h.2.2.2.1)
-    (rw (unsigned_begins _ _ _ h.2.2.2.2.1) refl)
-arguments_begin DestroyIntrChan bytes after h = refl
-arguments_begin (DeviceAbort lid) bytes after (bounds, h) = link_begins 1 lid bytes after h
-arguments_begin (DeviceUnlock lid) bytes after (bounds, h) = link_begins 19 lid bytes after h
-arguments_begin (DestroyLink lid) bytes after (bounds, h) = link_begins 23 lid bytes after h
+-- No opaque data are longer than they may be.
+abbrev pub Bounded : (kinds : List Kind) → Values kinds → Type 0
+Bounded [] values = ⊤
+Bounded (signed ∷ kinds) values = Bounded kinds values.1
+Bounded (unsigned ∷ kinds) values = Bounded kinds values.1
+Bounded (boolean ∷ kinds) values = Bounded kinds values.1
+Bounded (opaque most ∷ kinds) values = (length values.0 ≤ most) × Bounded kinds values.1
 
--- what the bytes are as arguments is read
-pub arguments_read : (proc : ℕ) (bytes : List ℕ) (a : Arguments) → ArgumentsAre proc bytes (Ok a) → arguments_at proc bytes ≡ Ok a
-arguments_read proc bytes a h = ap (λ (n : ℕ). arguments_at n bytes) (sym h.0) ∙ arguments_begin a bytes h.1 h.2
+-- opaque data that are spelled are no longer than a length can tell
+pub text_bound : {bytes after : List ℕ} (text : List ℕ) → Begins bytes (Opaque text) after → length text ≤ 4294967295
+text_bound {bytes} {after} text b = omega (arith, word_fits b.1.0 (length text) b.1.2)
 
--- two outcomes of one call's bytes are one
-pub one_arguments : (proc : ℕ) (bytes : List ℕ) (a b : Result Arguments Garbage) → ArgumentsAre proc bytes a → ArgumentsAre proc bytes b
-    → a ≡ b
-one_arguments proc bytes (Ok a) (Ok b) h k = sym (arguments_read proc bytes a h) ∙ arguments_read proc bytes b k
-one_arguments proc bytes (Ok a) (Err garbage) h k = absurd (k a h.1 h.0 h.2)
-one_arguments proc bytes (Err garbage) (Ok b) h k = absurd (h b k.1 k.0 k.2)
-one_arguments proc bytes (Err garbage) (Err other) h k = refl
+-- fields that are spelled are read
+pub read_begins : (kinds : List Kind) (makes : Makes kinds) (values : Values kinds) (bytes after : List ℕ) → Bounded kinds values
+    → BeginsAll bytes (fields kinds values) after → read kinds makes bytes ≡ Ok (make kinds makes values)
+read_begins [] makes values bytes after bounds h = refl
+read_begins (signed ∷ kinds) makes values bytes after bounds h =
+    rw (signed_begins _ _ _ h.1) (read_begins kinds (makes values.0) values.1 h.0 after bounds h.2)
+read_begins (unsigned ∷ kinds) makes values bytes after bounds h =
+    rw (unsigned_begins _ _ _ h.1) (read_begins kinds (makes values.0) values.1 h.0 after bounds h.2)
+read_begins (boolean ∷ kinds) makes values bytes after bounds h =
+    rw (boolean_begins _ _ _ h.1) (read_begins kinds (makes values.0) values.1 h.0 after bounds h.2)
+read_begins (opaque most ∷ kinds) makes values bytes after bounds h =
+    rw (opaque_again most _ _ _ h.1 bounds.0) (read_begins kinds (makes values.0) values.1 h.0 after bounds.1 h.2)
+
+-- the value of a step that did not fail
+bind_ok : {A : Type 0} (r : Result A XdrFault) (f : A → Result Arguments Garbage) (a : Arguments) → (r >>= f) ≡ Ok a
+    → (x : A) × (r ≡ Ok x) × (f x ≡ Ok a)
+bind_ok (Ok x) f a e = (x, refl, e)
+bind_ok (Err fault) f a e = absurd cc
+
+-- Fields that are read are spelled.
+abbrev Read : (kinds : List Kind) → Makes kinds → List ℕ → Arguments → Type 0
+Read kinds makes bytes a = (values : Values kinds) × (a ≡ make kinds makes values) × Bounded kinds values × (after : List ℕ)
+    × BeginsAll bytes (fields kinds values) after
+
+pub read_takes : (kinds : List Kind) (makes : Makes kinds) (bytes : List ℕ) (a : Arguments) → IsBytes bytes
+    → read kinds makes bytes ≡ Ok a → Read kinds makes bytes a
+read_takes [] makes bytes a fits e = (tt, cc, tt, bytes, refl)
+read_takes (signed ∷ kinds) makes bytes a fits e =
+    let s = bind_ok (signed_at bytes) (λ x. read kinds (makes x.0) x.1) a e in
+    let b = signed_takes bytes s.0.1 s.0.0 fits s.1 in
+    let r = read_takes kinds (makes s.0.0) s.0.1 a (bytes_after (Signed s.0.0) bytes s.0.1 fits b) s.2 in
+    ((s.0.0, r.0), r.1, r.2, r.3, (s.0.1, b, r.4))
+read_takes (unsigned ∷ kinds) makes bytes a fits e =
+    let s = bind_ok (unsigned_at bytes) (λ x. read kinds (makes x.0) x.1) a e in
+    let b = unsigned_takes bytes s.0.1 s.0.0 fits s.1 in
+    let r = read_takes kinds (makes s.0.0) s.0.1 a (bytes_after (Unsigned s.0.0) bytes s.0.1 fits b) s.2 in
+    ((s.0.0, r.0), r.1, r.2, r.3, (s.0.1, b, r.4))
+read_takes (boolean ∷ kinds) makes bytes a fits e =
+    let s = bind_ok (boolean_at bytes) (λ x. read kinds (makes x.0) x.1) a e in
+    let b = boolean_takes bytes s.0.1 s.0.0 fits s.1 in
+    let r = read_takes kinds (makes s.0.0) s.0.1 a (bytes_after (Boolean s.0.0) bytes s.0.1 fits b) s.2 in
+    ((s.0.0, r.0), r.1, r.2, r.3, (s.0.1, b, r.4))
+read_takes (opaque most ∷ kinds) makes bytes a fits e =
+    let s = bind_ok (opaque_at most bytes) (λ x. read kinds (makes x.0) x.1) a e in
+    let b = opaque_at-takes most bytes s.0.0 s.0.1 fits s.1 in
+    let r = read_takes kinds (makes s.0.0) s.0.1 a (bytes_after (Opaque s.0.0) bytes s.0.1 fits b.0) s.2 in
+    ((s.0.0, r.0), r.1, (b.1, r.2), r.3, (s.0.1, b.0, r.4))

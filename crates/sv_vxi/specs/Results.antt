@@ -43,12 +43,9 @@ plain_result (results.Data error bytes) = Data error bytes.now
 
 -- the data of a result, where it has any
 abbrev pub data_of : Outcome → List ℕ
-data_of (Link error lid abort_port max_recv_size) = []
-data_of (Size error size) = []
 data_of (Read error reason bytes) = unless_error error bytes []
-data_of (Status error stb) = []
-data_of (Plain error) = []
 data_of (Data error bytes) = unless_error error bytes []
+data_of _ = []
 
 -- two results are of calls that answer alike
 abbrev pub SameShape : Outcome → Outcome → Type 0

@@ -1,14 +1,15 @@
 //! Reading the arguments of calls (VXI-11 revision 1.0, sections B.5 and B.6).
 
-ghost use Rattle.std.specs.Prelude.{◌≡◌, ◌++◌, Result, true};
+ghost use Rattle.std.specs.Prelude.{◌≡◌, ◌++◌, ℤ, Result, true};
 ghost use Rattle.sv_xdr.specs.declared.garbage.Garbage.{Garbage};
 ghost use Rattle.sv_vxi.specs.Arguments.{Arguments, ArgumentsAre, core_calls, abort_calls, is_one_of};
-ghost use Rattle.sv_vxi.specs.Reading.{arguments_at, create_link_at, device_write_at, device_read_at, generic_at, device_lock_at, device_enable_srq_at, device_docmd_at, create_intr_chan_at, link_at, plain_reading};
+ghost use Rattle.sv_vxi.specs.Arguments.{GenericParms as Parms};
+ghost use Rattle.sv_vxi.specs.Reading.{arguments_at, read_generic, read_link, made, plain_parms, plain_reading};
 
 use crate::arguments::{Args, GenericParms};
 use crate::flags::Flags;
 use crate::procedure::{
-    CREATE_INTR_CHAN, CREATE_LINK, DESTROY_INTR_CHAN, DEVICE_ABORT, DEVICE_CLEAR, DEVICE_DOCMD,
+    CREATE_INTR_CHAN, CREATE_LINK, DESTROY_LINK, DEVICE_ABORT, DEVICE_CLEAR, DEVICE_DOCMD,
     DEVICE_ENABLE_SRQ, DEVICE_LOCAL, DEVICE_LOCK, DEVICE_READ, DEVICE_READSTB, DEVICE_REMOTE,
     DEVICE_TRIGGER, DEVICE_UNLOCK, DEVICE_WRITE,
 };
@@ -37,24 +38,27 @@ fn args_of(proc: u32, bytes: &[u8]) -> Result<Args<'_>, Garbage>
     ensures { plain_reading result ≡ arguments_at proc bytes.now }
 {
     match proc {
+        DEVICE_ABORT => Ok(Args::DeviceAbort { lid: link(bytes)? }),
         CREATE_LINK => create_link(bytes),
         DEVICE_WRITE => device_write(bytes),
         DEVICE_READ => device_read(bytes),
-        DEVICE_READSTB | DEVICE_TRIGGER | DEVICE_CLEAR | DEVICE_REMOTE | DEVICE_LOCAL => {
-            generic(proc, bytes)
-        }
+        DEVICE_READSTB => Ok(Args::DeviceReadstb(generic(bytes)?)),
+        DEVICE_TRIGGER => Ok(Args::DeviceTrigger(generic(bytes)?)),
+        DEVICE_CLEAR => Ok(Args::DeviceClear(generic(bytes)?)),
+        DEVICE_REMOTE => Ok(Args::DeviceRemote(generic(bytes)?)),
+        DEVICE_LOCAL => Ok(Args::DeviceLocal(generic(bytes)?)),
         DEVICE_LOCK => device_lock(bytes),
+        DEVICE_UNLOCK => Ok(Args::DeviceUnlock { lid: link(bytes)? }),
         DEVICE_ENABLE_SRQ => device_enable_srq(bytes),
         DEVICE_DOCMD => device_docmd(bytes),
+        DESTROY_LINK => Ok(Args::DestroyLink { lid: link(bytes)? }),
         CREATE_INTR_CHAN => create_intr_chan(bytes),
-        DESTROY_INTR_CHAN => Ok(Args::DestroyIntrChan),
-        _ => link(proc, bytes),
+        _ => Ok(Args::DestroyIntrChan),
     }
 }
 
-#[tactic(auto, unfolding(crate::specs::Reading::create_link_at))]
 fn create_link(bytes: &[u8]) -> Result<Args<'_>, Garbage>
-    ensures { plain_reading result ≡ create_link_at bytes.now }
+    ensures { plain_reading result ≡ arguments_at 10 bytes.now }
 {
     let mut reader = Reader::new(bytes);
     Ok(Args::CreateLink {
@@ -65,9 +69,8 @@ fn create_link(bytes: &[u8]) -> Result<Args<'_>, Garbage>
     })
 }
 
-#[tactic(auto, unfolding(crate::specs::Reading::device_write_at))]
 fn device_write(bytes: &[u8]) -> Result<Args<'_>, Garbage>
-    ensures { plain_reading result ≡ device_write_at bytes.now }
+    ensures { plain_reading result ≡ arguments_at 11 bytes.now }
 {
     let mut reader = Reader::new(bytes);
     Ok(Args::DeviceWrite {
@@ -79,9 +82,8 @@ fn device_write(bytes: &[u8]) -> Result<Args<'_>, Garbage>
     })
 }
 
-#[tactic(auto, unfolding(crate::specs::Reading::device_read_at))]
 fn device_read(bytes: &[u8]) -> Result<Args<'_>, Garbage>
-    ensures { plain_reading result ≡ device_read_at bytes.now }
+    ensures { plain_reading result ≡ arguments_at 12 bytes.now }
 {
     let mut reader = Reader::new(bytes);
     Ok(Args::DeviceRead {
@@ -94,30 +96,22 @@ fn device_read(bytes: &[u8]) -> Result<Args<'_>, Garbage>
     })
 }
 
-/// Reads the arguments of one of the calls that name a link and say how long to wait.
-#[tactic(auto, unfolding(crate::specs::Reading::generic_at))]
-fn generic(proc: u32, bytes: &[u8]) -> Result<Args<'_>, Garbage>
-    ensures { plain_reading result ≡ generic_at proc bytes.now }
+/// Reads what five calls have in common.
+fn generic(bytes: &[u8]) -> Result<GenericParms, Garbage>
+    ensures { (makes : Parms → Arguments)
+        → made (λ parms. makes (plain_parms parms)) result ≡ read_generic makes bytes.now }
 {
     let mut reader = Reader::new(bytes);
-    let parms = GenericParms {
+    Ok(GenericParms {
         lid: reader.i32()?,
         flags: Flags(reader.u32()?),
         lock_timeout: reader.u32()?,
         io_timeout: reader.u32()?,
-    };
-    Ok(match proc {
-        DEVICE_READSTB => Args::DeviceReadstb(parms),
-        DEVICE_TRIGGER => Args::DeviceTrigger(parms),
-        DEVICE_CLEAR => Args::DeviceClear(parms),
-        DEVICE_REMOTE => Args::DeviceRemote(parms),
-        _ => Args::DeviceLocal(parms),
     })
 }
 
-#[tactic(auto, unfolding(crate::specs::Reading::device_lock_at))]
 fn device_lock(bytes: &[u8]) -> Result<Args<'_>, Garbage>
-    ensures { plain_reading result ≡ device_lock_at bytes.now }
+    ensures { plain_reading result ≡ arguments_at 18 bytes.now }
 {
     let mut reader = Reader::new(bytes);
     Ok(Args::DeviceLock {
@@ -127,9 +121,8 @@ fn device_lock(bytes: &[u8]) -> Result<Args<'_>, Garbage>
     })
 }
 
-#[tactic(auto, unfolding(crate::specs::Reading::device_enable_srq_at))]
 fn device_enable_srq(bytes: &[u8]) -> Result<Args<'_>, Garbage>
-    ensures { plain_reading result ≡ device_enable_srq_at bytes.now }
+    ensures { plain_reading result ≡ arguments_at 20 bytes.now }
 {
     let mut reader = Reader::new(bytes);
     Ok(Args::DeviceEnableSrq {
@@ -139,9 +132,8 @@ fn device_enable_srq(bytes: &[u8]) -> Result<Args<'_>, Garbage>
     })
 }
 
-#[tactic(auto, unfolding(crate::specs::Reading::device_docmd_at))]
 fn device_docmd(bytes: &[u8]) -> Result<Args<'_>, Garbage>
-    ensures { plain_reading result ≡ device_docmd_at bytes.now }
+    ensures { plain_reading result ≡ arguments_at 22 bytes.now }
 {
     let mut reader = Reader::new(bytes);
     Ok(Args::DeviceDocmd {
@@ -156,9 +148,8 @@ fn device_docmd(bytes: &[u8]) -> Result<Args<'_>, Garbage>
     })
 }
 
-#[tactic(auto, unfolding(crate::specs::Reading::create_intr_chan_at))]
 fn create_intr_chan(bytes: &[u8]) -> Result<Args<'_>, Garbage>
-    ensures { plain_reading result ≡ create_intr_chan_at bytes.now }
+    ensures { plain_reading result ≡ arguments_at 25 bytes.now }
 {
     let mut reader = Reader::new(bytes);
     Ok(Args::CreateIntrChan {
@@ -170,16 +161,9 @@ fn create_intr_chan(bytes: &[u8]) -> Result<Args<'_>, Garbage>
     })
 }
 
-/// Reads the arguments of one of the calls that name a link alone.
-#[tactic(auto, unfolding(crate::specs::Reading::link_at))]
-fn link(proc: u32, bytes: &[u8]) -> Result<Args<'_>, Garbage>
-    ensures { plain_reading result ≡ link_at proc bytes.now }
+/// Reads the link of a call that names nothing else.
+fn link(bytes: &[u8]) -> Result<i32, Garbage>
+    ensures { (makes : ℤ → Arguments) → made makes result ≡ read_link makes bytes.now }
 {
-    let mut reader = Reader::new(bytes);
-    let lid = reader.i32()?;
-    Ok(match proc {
-        DEVICE_ABORT => Args::DeviceAbort { lid },
-        DEVICE_UNLOCK => Args::DeviceUnlock { lid },
-        _ => Args::DestroyLink { lid },
-    })
+    Ok(Reader::new(bytes).i32()?)
 }

@@ -1,5 +1,5 @@
 -- What parts of a step make of the layers, and of a log.
-use Rattle.std.specs.Prelude.{◌≡◌, ℕ, ◌+◌, ◌*◌, ◌<◌, List, Option, Some, Result}
+use Rattle.std.specs.Prelude.{◌≡◌, ℕ, ◌+◌, ◌*◌, ◌<◌, ◌≤◌, min, Bool, true, false, List, length, Option, Some, Result}
 use Rattle.sv_errors.specs.declared.code.Code.{Code}
 use Rattle.sv_exchange.specs.Exchange.{units_done, current, message, next_unit}
 use Rattle.sv_exchange.specs.Contents.{work_of}
@@ -7,18 +7,29 @@ use Rattle.sv_command.specs.declared.order.Order.{Order}
 use Rattle.sv_command.specs.Unit.{IsReadAs}
 use Rattle.sv_layers.specs.declared.change.Awaited.{Awaited}
 use Rattle.sv_layers.specs.Act.{Act, exchange_acts}
-use Rattle.sv_layers.specs.Inside.Kept.{Layered, StandsFor as Layers}
-use Rattle.sv_instrument.specs.declared.unit_outcome.Outcome.{Outcome}
+use Rattle.sv_layers.specs.Inside.Kept.{Layered, StandsFor as Layers, max_count}
 use Rattle.sv_instrument.specs.HeldUnit.{held}
-use Rattle.sv_instrument.specs.Path.{units_begun}
+use Rattle.sv_instrument.specs.Path.{IsPath, units_begun}
 use Rattle.sv_instrument.specs.RequestCount.{Raises}
-use Rattle.sv_instrument.specs.Step.{Does, Starts}
-use Rattle.sv_instrument.specs.Representation.{Kept, Ran, unheld, IsHeldRight}
+use Rattle.sv_instrument.specs.Step.{Does, Starts, IsStep}
+use Rattle.sv_instrument.specs.Representation.{Kept, StandsFor, unheld, left_of, IsHeldRight}
 
--- The layers stand for the new log, and so many requests for service were raised on the way to it.
-pub record Acted (layers : Layered) (count : ℕ) (log new : List Act) : Type 0 where
-  pub stands : Layers layers new
-  pub raises : Raises log new count
+-- The layers stand for the log, and have counted the requests for service that were raised from another log on.
+pub record Counts (start : List Act) (layers : Layered) (log : List Act) : Type 0 where
+  pub stands : Layers layers log
+  pub raised : ℕ
+  pub raises : Raises start log raised
+  pub count : layers.requests ≡ min raised max_count
+
+-- So few acts are between that each request can be counted.
+abbrev pub IsCountable : List Act → List Act → Type 0
+IsCountable start log = length log ≤ length start + max_count
+
+-- What is kept stands for the log, and the requests that were raised from another log on are counted.
+pub record Runs (start : List Act) (kept : Kept) (log : List Act) : Type 0 where
+  pub layers : Counts start kept.layers log
+  pub held : kept.held ≡ held log
+  pub path : IsPath log kept.path
 
 -- The exchange saw nothing between.
 abbrev pub IsApart : List Act → List Act → Type 0
@@ -29,12 +40,13 @@ pub record BeginsOne (log new : List Act) : Type 0 where
   pub message : message (exchange_acts new) ≡ message (exchange_acts log)
   pub begun : units_begun new ≡ units_done (current (exchange_acts log)) + 1
 
--- A unit made this of a log.
-pub record Behaves (Makes : List Act → Type 0) (layers : Layered) (outcome : Outcome) (log : List Act) : Type 0 where
+-- A unit made this of a log, behind a place from which requests are counted; what it will answer is told, if it is held.
+pub record Behaves (Makes : List Act → Type 0) (start : List Act) (layers : Layered) (awaited : Option Awaited) (log : List Act)
+    : Type 0 where
   pub new : List Act
   pub makes : Makes new
-  pub acted : Acted layers outcome.raised log new
-  pub held : outcome.held ≡ held new
+  pub counts : Counts start layers new
+  pub held : awaited ≡ held new
   pub begins : BeginsOne log new
 
 -- A unit was read behind a path, and left another, and this came of it.
@@ -46,10 +58,16 @@ pub record Advances (before after : Layered) (held : Option Awaited) : Type 0 wh
   pub less : 2 * work_of after.exchange + unheld held < 2 * work_of before.exchange + 1
   pub right : IsHeldRight held after
 
--- From a log on, the next unit started behind the acts in front of it.
-pub record StartsUnit (log front : List Act) (kept : Kept) (count : ℕ) : Type 0 where
+-- The next unit of a log started.
+pub record StartsUnit (start log : List Act) (kept : Kept) : Type 0 where
   pub unit : List ℕ
   pub new : List Act
   pub next : next_unit (exchange_acts log) ≡ Some unit
-  pub starts : Starts unit front new
-  pub ran : Ran kept count log new
+  pub starts : Starts unit log new
+  pub runs : Runs start kept new
+
+-- The step that is due was taken, so that less is left to be done; or none is due, and nothing changed.
+abbrev pub Steps : Bool → Kept → Kept → Type 0
+Steps true before after = ((log : List Act) → StandsFor before log → (new : List Act) × IsStep log new × Runs log after new)
+    × (left_of after < left_of before)
+Steps false before after = ((log : List Act) → StandsFor before log → (new : List Act) → IsStep log new → ⊥) × (after ≡ before)

@@ -1,5 +1,5 @@
 -- What the layers keep, and that it stands for a log.
-use Rattle.std.specs.Prelude.{◌≡◌, ◌↔◌, ℕ, ◌+◌, Bool, true, List, [], ◌∷◌, length}
+use Rattle.std.specs.Prelude.{◌≡◌, ◌↔◌, ℕ, ◌+◌, min, Bool, true, List, [], ◌∷◌, length}
 use Rattle.sv_errors.specs.declared.code.Code.{Code}
 use Rattle.sv_errors.specs.ErrorQueue.{entries, is_any, StandsFor as Queues}
 use Rattle.sv_status.specs.declared.register_name.RegisterName.TheVariants.{Operation, Questionable, Limit}
@@ -30,6 +30,7 @@ pub record Layered : Type 0 where
   pub scanner : ScanContents
   pub service : ℕ
   pub waits : Bool
+  pub requests : ℕ
 
 -- a word has the summary bits of what the layers see
 pub record IsSummary (word : ℕ) (at : Seen) : Type 0 where
@@ -82,10 +83,21 @@ pub record Begun (layered : Layered) (act : Act) (log : List Act) : Type 0 where
   pub are : IsStatus log told
   pub joined : Joined layered (begun act (seen log)) (own_status act told)
 
--- What is kept stands for the log, and a request was raised at its newest act exactly if this says so.
-pub record Happens (layered : Layered) (raised : Bool) (log : List Act) : Type 0 where
+-- What is kept stands for the log, and each request that was counted is read.
+pub record AllRead (layered : Layered) (log : List Act) : Type 0 where
   pub stands : StandsFor layered log
+  pub none : layered.requests ≡ 0
+
+-- where the count of requests stays
+abbrev pub max_count : ℕ
+max_count = 255
+
+-- What is kept stands for the log, and where a request was raised at its newest act, that is counted beside those before.
+pub record Happens (before : ℕ) (layered : Layered) (log : List Act) : Type 0 where
+  pub stands : StandsFor layered log
+  pub raised : Bool
   pub requests : (raised ≡ true) ↔ IsRaised log
+  pub count : layered.requests ≡ min (before + bit 0 raised) max_count
 
 -- the state of the trigger system, by what is kept
 abbrev pub state_by : Layered → State

@@ -14,7 +14,7 @@ use Rattle.sv_rpc.specs.declared.reply.Reply.TheVariants.{Success}
 use Rattle.sv_rpc.specs.Reply.{reply_fields}
 use Rattle.sv_server.specs.declared.connection.reply.Answer.{Answer}
 use Rattle.sv_server.specs.declared.connection.reply.Answer.TheVariants as answers
-use Rattle.sv_server.specs.Device.Inside.Outcome.{HasAtMost, answer_text}
+use Rattle.sv_server.specs.Connection.Inside.Replies.{HasAtMost, answer_text}
 use Rattle.sv_vxi.specs.Results.{Outcome, plain_result, Read, Data, result_fields, data_of}
 
 -- the header of a reply is at most eight words

@@ -1,6 +1,6 @@
 -- Interrupt channels, as ports.
 use Rattle.std.proofs.Common.{◌≡◌, ◌≢◌, ℕ, ◌<◌, ◌≤◌, not, Bool, true, false, cond, List, [], ◌∷◌, length, Option, Some, None, refl, sym, ap, subst, ◌∙◌, inl, inr, arith}
-use Rattle.std.specs.Prelude.{is_some}
+use Rattle.std.specs.Prelude.{◌||◌, is_some, nat_lt}
 use Rattle.std.specs.List.{concat}
 use Rattle.std.proofs.lemmas.Bool.{lt-ltb, le-ltb, ne_eqb, cases_lt}
 use Rattle.sv_links.specs.declared.request.Peer.{Peer}
@@ -11,6 +11,7 @@ use Rattle.sv_history.specs.Act.{Act, DeviceAct, of, device_acts, wait_acts}
 use Rattle.sv_history.specs.Requests.{HearsOf}
 use Rattle.sv_history.specs.Interrupts.{has_channel, is_dial, is_dialing, dial_of, dial_in}
 use Rattle.sv_history.specs.Connection.{unanswered}
+use Rattle.sv_history.specs.CoreCall.{CoreCall}
 use Rattle.sv_history.specs.Request.{core_call_in}
 use Rattle.sv_history.specs.declared.event.Refused.TheVariants.{NotSent}
 use Rattle.sv_links.specs.Waiting.{WaitAct, waits}
@@ -58,6 +59,14 @@ channel_within kept config acts told c is tells there = elim (cases_lt c 16) [
 pub channel_shut_is : (c : ℕ) (log : List Act) (b : Bool) → c < 16 → has_channel c (device_acts log) ≡ b → is_channel_shut c log ≡ not b
 channel_shut_is c log b lt e = rw (le-ltb 15 c (omega arith), e) refl
 
+pub channel_there : (c : ℕ) (log : List Act) → is_channel_shut c log ≡ false → has_channel c (device_acts log) ≡ true
+channel_there c log unshut = neither (nat_lt 15 c) (has_channel c (device_acts log)) unshut
+  where
+    neither : (a b : Bool) → (a || not b) ≡ false → b ≡ true
+    neither a true e = refl
+    neither true false e = absurd cc
+    neither false false e = absurd cc
+
 pub channel_beyond : (c : ℕ) (log : List Act) → 16 ≤ c → is_channel_shut c log ≡ true
 channel_beyond c log above = rw (lt-ltb 15 c (omega arith)) refl
 
@@ -77,9 +86,9 @@ pub dialing_waits : (c : ℕ) (acts : List WaitAct) → is_dialing c acts ≡ tr
 dialing_waits c acts e none = absurd (let z : false ≡ true = sym (ap is_dial none) ∙ e in cc)
 
 -- whom it asks to be called
-pub dial_is : (c : ℕ) (log : List Act) (call : Option (List ℕ)) → is_dialing c (wait_acts (device_acts log)) ≡ true
-    → unanswered (of c log) ≡ call → dial_of c log ≡ dial_in (core_call_in call)
-dial_is c log call dialing known = rw dialing (ap (λ (found : Option (List ℕ)). dial_in (core_call_in found)) known)
+pub dial_is : (c : ℕ) (log : List Act) (call : Option CoreCall) → is_dialing c (wait_acts (device_acts log)) ≡ true
+    → core_call_in (unanswered (of c log)) ≡ call → dial_of c log ≡ dial_in call
+dial_is c log call dialing known = rw dialing (ap dial_in known)
 
 pub no_dial : (c : ℕ) (log : List Act) → is_dialing c (wait_acts (device_acts log)) ≡ false → dial_of c log ≡ None
 no_dial c log idle = rw idle refl

@@ -297,7 +297,7 @@ not_refused lid e = cc
 
 -- ---- the lock
 
-not_true : (b : Bool) → true ≡ not b → b ≡ false
+pub not_true : (b : Bool) → true ≡ not b → b ≡ false
 not_true true e = absurd cc
 not_true false e = refl
 

@@ -12,7 +12,7 @@ use Rattle.sv_history.specs.Act.{DeviceAct, Happened, instrument_acts}
 use Rattle.sv_server.specs.Device.Representation.{Device, IsDevice, HasDone}
 use Rattle.sv_history.proofs.Projections.{link_acts-happened, instrument_acts-happened, ticks-happened, wait_acts-happened}
 use Rattle.sv_server.proofs.OnDevice.Effects.{device_done}
-use Rattle.sv_server.specs.Server.Inside.Acting.{InstrumentSteps}
+use Rattle.sv_server.specs.Device.Inside.Outcome.{InstrumentSteps}
 use Rattle.sv_history.proofs.Telling.{requests, tells_raised}
 
 -- what stands for acts stands with so many requests more behind them

@@ -1,47 +1,33 @@
 -- What the calls of the core channel add, where they are done.
-use Rattle.std.proofs.Common.{◌≡◌, ℕ, ◌==◌, Bool, true, false, List, [], ◌∷◌, ◌++◌, length, nat_lt, append_assoc, refl, sym, ap, subst, inl, inr}
-use Rattle.std.specs.Int.{bit_at}
+use Rattle.std.proofs.Common.{◌≡◌, ℕ, ◌<◌, true, List, [], ◌∷◌, append_assoc, refl, ap, inl, inr, arith}
 use Rattle.std.specs.Prelude.{Option, Some, None}
-use Rattle.sv_errors.specs.declared.code.Code.TheVariants.{QueryUnterminated}
-use Rattle.sv_vxi.specs.declared.error_code.ErrorCode.TheVariants.{NoError, IoTimeout}
-use Rattle.sv_vxi.specs.Results.{Outcome as VxiOutcome, Size}
-use Rattle.sv_exchange.specs.Exchange.{Accepted, TextDropped, has_ended, response, is_something}
-use Rattle.sv_exchange.specs.Limits.{max_message}
-use Rattle.sv_layers.specs.Act.{Exchanged, Reported}
-use Rattle.sv_instrument.specs.Step.{is_answerable}
+use Rattle.sv_vxi.specs.Results.{Outcome as VxiOutcome}
 use Rattle.sv_history.specs.declared.event.Config.{Config}
-use Rattle.sv_history.specs.Act.{DeviceAct, Replied, Happened, instrument_acts, exchange_acts}
-use Rattle.sv_history.specs.CoreCall.{no_bytes}
-use Rattle.sv_history.specs.CoreChannel.{device_write, device_read, own_call}
-use Rattle.sv_history.specs.CallOutcome.{CallOutcome}
-use Rattle.sv_history.specs.Effect.{Effect, result_reply, replies, call_effect, replied}
+use Rattle.sv_history.specs.Act.{DeviceAct, Replied}
+use Rattle.sv_history.specs.CoreChannel.{own_call}
+use Rattle.sv_history.specs.CallOutcome.{CallOutcome, only}
+use Rattle.sv_history.specs.Effect.{Effect, result_reply, replies, call_effect}
 use Rattle.sv_server.specs.declared.device.call_outcome.CallOutcome.{CallOutcome as Outcome}
 use Rattle.sv_server.specs.declared.device.call_outcome.CallOutcome.TheVariants as outcomes
-use Rattle.sv_server.specs.Device.Representation.{IsDevice, Device}
+use Rattle.sv_server.specs.declared.server.execution.Executed.TheVariants as executions
+use Rattle.sv_server.specs.Device.Representation.{Device, IsDevice}
 use Rattle.sv_vxi.specs.Arguments.{Arguments, is_create_link}
 use Rattle.sv_links.specs.declared.waiting.Wait.{Wait}
+use Rattle.sv_links.specs.declared.waiting.Wait.TheVariants.{Lock, Input, Response, Dial}
+use Rattle.sv_links.specs.Queue.{without, rank}
 use Rattle.sv_links.specs.declared.waiting.Entry.{Entry}
 use Rattle.sv_links.specs.Waiting.{Left}
 use Rattle.sv_history.specs.Act.{ConnAct, Waited}
-use Rattle.sv_history.specs.CoreCall.{CoreCall}
-use Rattle.sv_history.specs.Resuming.{leaving, continued}
-use Rattle.sv_server.specs.Connection.Representation.{Connection}
-use Rattle.sv_server.specs.Server.Inside.Acting.{Concludes}
-use Rattle.sv_server.specs.Device.Inside.Outcome.{IsResult, OutcomeIs, EndsAs, ResumedAs, Resumes, WaitsOn, IsPortReply, Enters, Holds}
+use Rattle.sv_history.specs.CoreCall.{CoreCall, failure}
+use Rattle.sv_history.specs.Interrupts.{dialed}
+use Rattle.sv_history.specs.Resuming.{leaving, continued, next_wait}
+use Rattle.sv_server.specs.declared.device.resuming.Cause.{Cause}
+use Rattle.sv_server.specs.declared.device.resuming.Cause.TheVariants as causes
+use Rattle.sv_server.specs.Connection.Representation.{Connection, IsConnection}
+use Rattle.sv_server.specs.Device.Inside.Outcome.{IsResult, OutcomeIs, ResumedAs, Resumes, Enters, MayGoOn, GoesOnAs, IsNearer, is_able}
+use Rattle.sv_server.specs.Server.Inside.Ending.{CallEndsAs, Concludes, WaitsOn, WentOn, Holds, MayTakeUp, taken_up}
+use Rattle.sv_server.proofs.OnDevice.Granted.{may_make_link}
 use Rattle.sv_history.specs.Request.{CoreRequest}
-
-pub written_ends : (config : Config) (acts : List DeviceAct) (new : Device) (flags : ℕ) (bytes : List ℕ) (ended : Bool) (told : VxiOutcome)
-    → nat_lt max_message (length bytes) ≡ false → has_ended (exchange_acts acts) ≡ false → ended ≡ (bit_at flags 3 == 1)
-    → told ≡ Size NoError (length bytes) → IsDevice new config (Happened (Exchanged (Accepted bytes ended)) ∷ acts)
-    → IsResult (device_write flags bytes acts).result told × IsDevice new config ((device_write flags bytes acts).adds ++ acts)
-written_ends config acts new flags bytes ended told short unended end tells stands = rw (short, unended)
-    (sym tells, subst (λ (b : Bool). IsDevice new config (Happened (Exchanged (Accepted bytes b)) ∷ acts)) end stands)
-
-pub unread_ends : (config : Config) (acts : List DeviceAct) (new : Device) (most : ℕ) (term : Option ℕ) (told : VxiOutcome)
-    → is_something (response (exchange_acts acts)) ≡ false → is_answerable (instrument_acts acts) ≡ true → told ≡ no_bytes IoTimeout
-    → IsDevice new config (Happened (Reported QueryUnterminated) ∷ Happened (Exchanged TextDropped) ∷ acts)
-    → IsResult (device_read most term acts).result told × IsDevice new config ((device_read most term acts).adds ++ acts)
-unread_ends config acts new most term told nothing none tells stands = rw (none, nothing) (sym tells, stands)
 
 -- what comes of a call is what comes of its record
 replies_as : (xid : ℕ) (result : Option VxiOutcome) (told : VxiOutcome) → IsResult result told
@@ -50,14 +36,13 @@ replies_as xid (Some result) told is = ap (λ (o : VxiOutcome). Replied (result_
 replies_as xid None told is = absurd is
 
 pub outcome_ends : (outcome : Outcome) (xid : ℕ) (device : Device) (config : Config) (acts : List DeviceAct) (what : CallOutcome)
-    → OutcomeIs outcome device config acts what → EndsAs outcome xid device config acts (call_effect xid what)
+    → OutcomeIs outcome device config acts what → CallEndsAs outcome xid device config acts (call_effect xid what)
 outcome_ends (outcomes.Result given) xid device config acts what is = (replies_as xid what.result _ is.0, is.1)
 outcome_ends (outcomes.Reads most term) xid device config acts what is = (ap (call_effect xid) is.0, is.1)
 outcome_ends outcomes.Suspended xid device config acts what is = (ap (replies xid) is.0, is.1)
-outcome_ends _ xid device config acts what is = absurd is
 
 -- a call that waited and is done
-pub left_concludes : (config : Config) (c xid : ℕ) (acts : List ConnAct) (before : List DeviceAct) (what : CallOutcome)
+left_concludes : (config : Config) (c xid : ℕ) (acts : List ConnAct) (before : List DeviceAct) (what : CallOutcome)
     (connection : Connection) (device : Device)
     → Concludes (call_effect xid what) config acts (Waited (Left c) ∷ before) connection device
     → Concludes (call_effect xid (leaving c what)) config acts before connection device
@@ -65,10 +50,10 @@ left_concludes config c xid acts before what connection device (mine, all) =
     (mine, rw (append_assoc what.adds (Waited (Left c) ∷ []) before) all)
 
 -- a call that resumed
-pub resumed_concludes : (next : Option Wait) (outcome : Outcome) (device : Device) (config : Config) (polled c xid : ℕ)
+resumed_concludes : (next : Option Wait) (outcome : Outcome) (device : Device) (config : Config) (polled c xid : ℕ)
     (arguments : Arguments) (acts : List ConnAct) (before : List DeviceAct) (connection : Connection) (new : Device)
     → ResumedAs next outcome device config polled c arguments before
-    → ((log : List DeviceAct) (effect : Effect) → EndsAs outcome xid device config log effect
+    → ((log : List DeviceAct) (effect : Effect) → CallEndsAs outcome xid device config log effect
     → Concludes effect config acts log connection new)
     → Concludes (call_effect xid (continued config polled c arguments next before)) config acts before connection new
 resumed_concludes (Some wait) outcome device config polled c xid arguments acts before connection new so ends =
@@ -79,7 +64,7 @@ resumed_concludes None outcome device config polled c xid arguments acts before 
     left_concludes config c xid acts before what connection new (ends log _ (outcome_ends outcome xid device config log what so))
 
 -- it waits no more, or anew
-pub waits_on : (next : Option Wait) (outcome : Outcome) (device : Device) (config : Config) (polled c xid : ℕ) (call : CoreCall)
+waits_on : (next : Option Wait) (outcome : Outcome) (device : Device) (config : Config) (polled c xid : ℕ) (call : CoreCall)
     (before : List DeviceAct) (old new : List Entry)
     → ResumedAs next outcome device config polled c call.arguments before → Resumes outcome c (is_create_link call.arguments) old new
     → WaitsOn (call_effect xid (continued config polled c call.arguments next before)) c (Some call) old new
@@ -89,15 +74,68 @@ waits_on (Some for) outcome device config polled c xid call before old new so (i
 waits_on None outcome device config polled c xid call before old new so (inr (waits, wait, deadline, anew, other)) =
     inr (ap (replies xid) (rw waits at so).0, wait, deadline, anew, other)
 
--- what GETPORT is answered
-pub port_ends : (outcome : Outcome) (xid : ℕ) (device : Device) (config : Config) (acts : List DeviceAct) (bytes : List ℕ)
-    → IsPortReply outcome xid bytes → IsDevice device config acts → EndsAs outcome xid device config acts (replied bytes)
-port_ends (outcomes.Header reply) xid device config acts bytes is kept = (ap (λ (l : List ℕ). Replied l ∷ []) is, kept)
-port_ends (outcomes.Port port) xid device config acts bytes is kept = (ap (λ (l : List ℕ). Replied l ∷ []) is, kept)
-port_ends _ xid device config acts bytes is kept = absurd is
+-- ---- a call that is taken up again
+
+pub may_go : (cause : Cause) (c : ℕ) (call : CoreCall) (kept : Device) (acts : List DeviceAct)
+    → MayTakeUp cause c (Some call) kept acts → MayGoOn cause c call.arguments kept acts
+may_go (causes.Able wait) c call kept acts (waits, makes) = (waits, may_make_link call.arguments kept acts c makes)
+may_go (causes.Dialed ok) c call kept acts dials = dials
+may_go (causes.Failed error) c call kept acts so = tt
+
+pub goes_concludes : (cause : Cause) (outcome : Outcome) (device : Device) (config : Config) (polled c : ℕ) (call : CoreCall)
+    (acts : List ConnAct) (before : List DeviceAct) (connection : Connection) (new : Device)
+    → GoesOnAs cause outcome device config polled c call.arguments before
+    → ((log : List DeviceAct) (effect : Effect) → CallEndsAs outcome call.xid device config log effect
+    → Concludes effect config acts log connection new)
+    → Concludes (taken_up cause config polled c (Some call) before) config acts before connection new
+goes_concludes (causes.Able wait) outcome device config polled c call acts before connection new so ends =
+    resumed_concludes (next_wait wait call.arguments before) outcome device config polled c call.xid call.arguments acts before connection
+    new so ends
+goes_concludes (causes.Dialed ok) outcome device config polled c call acts before connection new so ends =
+    let log = Waited (Left c) ∷ before in
+    let what = dialed c ok call.arguments in
+    left_concludes config c call.xid acts before what connection new
+    (ends log (call_effect call.xid what) (outcome_ends outcome call.xid device config log what so))
+goes_concludes (causes.Failed error) outcome device config polled c call acts before connection new so ends =
+    let log = Waited (Left c) ∷ before in
+    let what = only (failure call.arguments error) in
+    left_concludes config c call.xid acts before what connection new
+    (ends log (call_effect call.xid what) (outcome_ends outcome call.xid device config log what so))
+
+pub goes_waits : (cause : Cause) (outcome : Outcome) (device : Device) (config : Config) (polled c : ℕ) (call : CoreCall)
+    (before : List DeviceAct) (old new : List Entry)
+    → GoesOnAs cause outcome device config polled c call.arguments before → Resumes outcome c (is_create_link call.arguments) old new
+    → WaitsOn (taken_up cause config polled c (Some call) before) c (Some call) old new
+goes_waits (causes.Able wait) outcome device config polled c call before old new so waits =
+    waits_on (next_wait wait call.arguments before) outcome device config polled c call.xid call before old new so waits
+goes_waits (causes.Dialed ok) outcome device config polled c call before old new so (inl left) = inl left
+goes_waits (causes.Dialed ok) outcome device config polled c call before old new so (inr (waits, wait, deadline, anew, other)) =
+    inr (ap (replies call.xid) (rw waits at so).0, wait, deadline, anew, other)
+goes_waits (causes.Failed error) outcome device config polled c call before old new so (inl left) = inl left
+goes_waits (causes.Failed error) outcome device config polled c call before old new so (inr (waits, wait, deadline, anew, other)) =
+    inr (ap (replies call.xid) (rw waits at so).0, wait, deadline, anew, other)
+
+-- where its record is no call, it waits no more
+pub none_goes : (cause : Cause) (config : Config) (polled c : ℕ) (acts : List ConnAct) (before : List DeviceAct) (old : List Entry)
+    (connection : Connection) (new : Device)
+    → IsConnection connection acts → IsDevice new config (Waited (Left c) ∷ before) → new.waiting ≡ without c old
+    → WentOn (taken_up cause config polled c None before) c None config acts before old connection new
+none_goes (causes.Able wait) config polled c acts before old connection new mine all left = ((mine, all), inl left)
+none_goes (causes.Dialed ok) config polled c acts before old connection new mine all left = ((mine, all), inl left)
+none_goes (causes.Failed error) config polled c acts before old connection new mine all left = ((mine, all), inl left)
+
+-- and is nearer to its end
+pub none_nearer : (cause : Cause) (c : ℕ) (old new : List Entry) → IsNearer cause c old → new ≡ without c old → is_able cause ≡ true
+    → rank new < rank old
+none_nearer (causes.Able Lock) c old new nearer left able = rw left (omega (arith, nearer))
+none_nearer (causes.Able Input) c old new nearer left able = rw left (omega (arith, nearer))
+none_nearer (causes.Able Response) c old new nearer left able = rw left (omega (arith, nearer))
+none_nearer (causes.Able Dial) c old new nearer left able = rw left (omega (arith, nearer))
+none_nearer (causes.Dialed ok) c old new nearer left able = absurd cc
+none_nearer (causes.Failed error) c old new nearer left able = absurd cc
 
 -- a call that waits is one that was asked for
 pub holds_as : (outcome : Outcome) (c : ℕ) (call : CoreCall) (old new : List Entry)
-    → Enters outcome c (is_create_link call.arguments) old new → Holds outcome c (CoreRequest call) old new
+    → Enters outcome c (is_create_link call.arguments) old new → Holds (executions.Call outcome) c (CoreRequest call) old new
 holds_as outcome c call old new (inl same) = inl same
-holds_as outcome c call old new (inr (waits, behind)) = inr (waits, call, refl, behind)
+holds_as outcome c call old new (inr (waits, behind)) = inr (ap executions.Call waits, call, refl, behind)

@@ -20,8 +20,11 @@ use Rattle.sv_server.specs.Connection.Representation.{Connection}
 use Rattle.sv_server.specs.Device.Representation.{Device as KeptDevice}
 use Rattle.sv_history.specs.CoreCall.{creates_link}
 use Rattle.sv_server.specs.Server.State.{State, Represents, IsTaken}
-use Rattle.sv_server.specs.Server.Inside.Acting.{Concludes, WentOn, TakesStep, InstrumentSteps}
-use Rattle.sv_server.specs.Device.Inside.Outcome.{MayGoOn, WaitsOn}
+use Rattle.sv_server.specs.Server.Inside.Ending.{Concludes, WentOn}
+use Rattle.sv_server.specs.declared.device.resuming.Cause.TheVariants.{Able}
+use Rattle.sv_server.specs.Server.Inside.Acting.{TakesStep}
+use Rattle.sv_server.specs.Device.Inside.Outcome.{InstrumentSteps}
+use Rattle.sv_server.specs.Server.Inside.Ending.{MayTakeUp, WaitsOn}
 use Rattle.sv_history.proofs.Projections.{others_effect}
 use Rattle.sv_server.proofs.OnDevice.Effects.{of_same}
 use Rattle.sv_server.proofs.OnServer.Taken.{taken_without, taken_anew, taken_one}
@@ -121,7 +124,7 @@ pub may_go_on : (kept : KeptDevice) (entry : Entry) (log : List Act) (call : Lis
     → CanResume (device_acts log) entry.conn → IsEntry (wait_acts (device_acts log)) entry
     → (creates entry ≡ true → creations (without entry.conn kept.waiting) < creations kept.waiting)
     → (creates_link (core_call call) ≡ true → creates entry ≡ true)
-    → MayGoOn entry (core_call call) kept (device_acts log)
+    → MayTakeUp (Able entry.wait) entry.conn (core_call call) kept (device_acts log)
 may_go_on kept entry log call able is fewer makes = (
   λ none. let z : Some entry.wait ≡ None = sym is.0 ∙ none in cc,
   λ creates_it.

@@ -10,8 +10,8 @@ use Rattle.sv_links.specs.Waiting.{Left}
 use Rattle.sv_links.specs.Channels.{ChannelClosed}
 use Rattle.sv_links.specs.Queue.{without}
 use Rattle.sv_history.specs.declared.event.Config.{Config}
-use Rattle.sv_server.specs.Server.Inside.Acting.{Concludes}
-use Rattle.sv_server.specs.Device.Inside.Outcome.{HeldAs}
+use Rattle.sv_server.specs.Server.Inside.Ending.{Concludes}
+use Rattle.sv_server.specs.Server.Inside.Ending.{HeldAs}
 use Rattle.sv_history.specs.Act.{Act, ConnAct, DeviceAct, CallTaken, PortClosed, Linked, Waited, Channel, Ticked, On, OnDevice, of, device_acts, link_acts}
 use Rattle.sv_history.specs.Connection.{is_open, is_busy, unanswered}
 use Rattle.sv_history.specs.Request.{core_call}
@@ -23,7 +23,7 @@ use Rattle.sv_history.specs.History.{is_shut}
 use Rattle.sv_history.proofs.Projections.{of_mine, of_other, of_shared, device_shared, of_effect, others_effect, device_effect}
 use Rattle.sv_server.proofs.OnDevice.Effects.{of_taken, others_taken, device_taken}
 use Rattle.sv_history.specs.Queries.{IsUsed}
-use Rattle.sv_server.proofs.OnServer.Used.{open_used, behind, used_acted, used_act, used_same}
+use Rattle.sv_server.proofs.OnServer.Used.{behind, used_acted, used_act, used_same}
 use Rattle.sv_server.proofs.OnServer.Taken.{taken_acted, taken_without, taken_push}
 
 -- the connection of a number
@@ -117,20 +117,23 @@ ticked state config log device adds rep all same =
     (rw (append_assoc adds (Ticked ∷ []) (device_acts log)) all) same)
 
 -- a connection that closes, with its links
-pub closes : (state : State) (config : Config) (log : List Act) (c : ℕ) (old new : Connection) (device : KeptDevice)
+abbrev closed_acts : ℕ → List Act → List Act
+closed_acts c log = map OnDevice (Channel (ChannelClosed c) ∷ map Linked (closing c (link_acts (device_acts log))) ++ Waited (Left c) ∷ [])
+    ++ On c PortClosed ∷ []
+
+closes : (state : State) (config : Config) (log : List Act) (c : ℕ) (old new : Connection) (device : KeptDevice)
     → Represents state config log → length state.connections ≡ 16 → c < 16 → old ≡ get_or state.connections c old
     → (IsConnection old (of c log) → IsConnection new (PortClosed ∷ of c log))
     → ((acts : List DeviceAct) → IsDevice state.device config acts
     → IsDevice device config (Channel (ChannelClosed c) ∷ map Linked (closing c (link_acts acts)) ++ Waited (Left c) ∷ acts))
-    → device.waiting ≡ without c state.device.waiting → is_open (of c log) ≡ true
-    → let adds = Channel (ChannelClosed c) ∷ map Linked (closing c (link_acts (device_acts log))) ++ Waited (Left c) ∷ [] in
-    Represents (record state { connections = set state.connections c new; device = device }) config
-    (map OnDevice adds ++ On c PortClosed ∷ log)
-closes state config log c old new device rep sixteen lt e goes freed left opened =
+    → device.waiting ≡ without c state.device.waiting → of c log ≢ []
+    → Represents (record state { connections = set state.connections c new; device = device }) config (closed_acts c log ++ log)
+closes state config log c old new device rep sixteen lt e goes freed left there =
     let links = map Linked (closing c (link_acts (device_acts log))) in
     let adds = Channel (ChannelClosed c) ∷ links ++ Waited (Left c) ∷ [] in
     let others = λ (d : ℕ) (ne : d ≢ c). of_shared d adds (On c PortClosed ∷ log) ∙ of_other c d PortClosed log ne in
-    acted state config log (map OnDevice adds ++ On c PortClosed ∷ log) c new device rep sixteen lt
+    rw (append_assoc (map OnDevice adds) (On c PortClosed ∷ []) log)
+    (acted state config log (map OnDevice adds ++ On c PortClosed ∷ log) c new device rep sixteen lt
     (rw (of_shared c adds (On c PortClosed ∷ log), of_mine) (goes (connection_of state config log c old rep lt e)))
     (subst (λ (acts : List DeviceAct). IsDevice device config acts)
     (sym (device_shared adds (On c PortClosed ∷ log)
@@ -139,7 +142,20 @@ closes state config log c old new device rep sixteen lt e goes freed left opened
     (rw left (taken_without c log (map OnDevice adds ++ On c PortClosed ∷ log) state.device.waiting others rep.taken))
     state.used
     (used_same state.used (On c PortClosed ∷ log) (map OnDevice adds ++ On c PortClosed ∷ log)
-    (used_act state.used c PortClosed log rep.used (open_used (of c log) opened)) (λ d. of_shared d adds (On c PortClosed ∷ log)))
+    (used_act state.used c PortClosed log rep.used there) (λ d. of_shared d adds (On c PortClosed ∷ log))))
+
+-- the same, of the number that an event names
+pub closes_named : (state : State) (config : Config) (log : List Act) (c named : ℕ) (old new : Connection) (device : KeptDevice)
+    → c ≡ named → Represents state config log → length state.connections ≡ 16 → c < 16 → old ≡ get_or state.connections c old
+    → (IsConnection old (of c log) → IsConnection new (PortClosed ∷ of c log))
+    → ((acts : List DeviceAct) → IsDevice state.device config acts
+    → IsDevice device config (Channel (ChannelClosed c) ∷ map Linked (closing c (link_acts acts)) ++ Waited (Left c) ∷ acts))
+    → device.waiting ≡ without c state.device.waiting → of c log ≢ []
+    → Represents (record state { connections = set state.connections c new; device = device }) config
+    (closed_acts named log ++ log)
+closes_named state config log c named old new device same rep sixteen lt e goes freed left there =
+    subst (λ (n : ℕ). Represents (record state { connections = set state.connections c new; device = device }) config
+    (closed_acts n log ++ log)) same (closes state config log c old new device rep sixteen lt e goes freed left there)
 
 -- a call that is busy isn't idle
 pub busy_idle : (acts : List ConnAct) (call : List ℕ) → unanswered acts ≡ Some call → is_busy acts ≡ false → ⊥

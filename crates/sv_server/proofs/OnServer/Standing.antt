@@ -1,5 +1,5 @@
 -- An event that was done, and the steps that are due after it, leave what stands for the longer history; and a history has one log.
-use Rattle.std.proofs.Common.{◌≡◌, ℕ, zero, suc, ap, Bool, true, false, List, [], ◌∷◌, ◌++◌, None, Some, inl, inr, refl, sym, subst}
+use Rattle.std.proofs.Common.{◌≡◌, ℕ, zero, suc, ap, Bool, true, false, List, [], ◌∷◌, ◌++◌, None, Some, inl, inr, refl, sym, subst, ◌∙◌}
 use Rattle.std.specs.Prelude.{Option, Result, Ok, Err, IsErr, IsErrAnd}
 use Rattle.sv_history.specs.declared.event.Config.{Config}
 use Rattle.sv_history.specs.declared.event.Did.{Did}
@@ -111,3 +111,9 @@ answered config event log (Err TimeOver) old new rep why = told_so config event 
 pub passed_on : {A E : Type 0} (r : Result A E) (e : E) → IsErr r → IsErrAnd r (λ x. x ≡ e) → r ≡ Err e
 passed_on (Ok a) e failed is = absurd cc
 passed_on (Err x) e failed is = ap Err is
+
+-- an event of what isn't open
+pub no_connection : (config : Config) (event : PlainEvent) (log : List Act) (r : Result Did Refused) (passed : Refused) (new : State)
+    {IsShut : Type 0} → IsErr r × IsErrAnd r (λ x. x ≡ passed) → (passed ≡ NoConn) × IsShut
+    → (IsShut → IsRefusal config event log (Some NoConn)) → Acts config event log r new
+no_connection config event log r passed new (failed, is) (none, shut) why = rw (passed_on r passed failed is ∙ ap Err none) (why shut)

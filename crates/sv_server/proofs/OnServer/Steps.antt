@@ -13,7 +13,7 @@ use Rattle.sv_server.specs.Device.Representation.{IsDevice, Device as KeptDevice
 -- what a poll would give
 pub polled_now : (kept : KeptDevice) (config : Config) (acts : List DeviceAct) → IsDevice kept config acts
     → (polled : ℕ) × IsPolled polled acts
-polled_now kept config acts is = polled_byte kept.instrument.layers (instrument_acts acts) is.1.layers
+polled_now kept config acts is = polled_byte kept.instrument.layers (instrument_acts acts) is.1.layers.stands
 
 -- what is told to interrupt channels
 pub told_now : (kept : KeptDevice) (config : Config) (acts : List DeviceAct) → IsDevice kept config acts

@@ -3,7 +3,7 @@
 ghost use Rattle.std.specs.Prelude.{◌≡◌, ◌+◌, ◌≤◌, ◌++◌, [], true, length, vec_len, vec_capacity};
 ghost use Rattle.sv_xdr.specs.Writer.{text_of, rest_of};
 ghost use Rattle.sv_history.specs.Limits.{longest_reply};
-ghost use Rattle.sv_server.specs.Device.Inside.Outcome.{answer_text, answer_bytes, HasAtMost, IsShort};
+ghost use Rattle.sv_server.specs.Connection.Inside.Replies.{answer_text, answer_bytes, HasAtMost, IsShort};
 
 use std::alloc::Allocator;
 use sv_exchange::MAX_READ;

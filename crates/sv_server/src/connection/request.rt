@@ -6,9 +6,8 @@ ghost use Rattle.sv_rpc.specs.Call.{plain_call, call_at};
 ghost use Rattle.sv_vxi.specs.Arguments.{core_calls, abort_calls, is_one_of};
 ghost use Rattle.sv_vxi.specs.Reading.{arguments_at};
 ghost use Rattle.sv_history.specs.Request.{program_of as program_for, version_of as version_for, procedures_of, header_reply as reply_to, core_request as core_request_for, link_in, abort_request as abort_request_for, procedure_request as procedure_request_for, unless_decided, request_of as request_for, core_call as core_call_in_record};
-ghost use Rattle.sv_server.specs.Device.Inside.Outcome.{plain_request, plain_core_call, xid_of};
+ghost use Rattle.sv_server.specs.Connection.Inside.Requests.{plain_request, plain_core_call, xid_of};
 
-use crate::device::core_call::CoreCall;
 use sv_history::Role;
 use sv_rpc::{Call, CallFault, Reply, read_call};
 use sv_vxi::procedure::{
@@ -16,12 +15,21 @@ use sv_vxi::procedure::{
     DEVICE_DOCMD, DEVICE_ENABLE_SRQ, DEVICE_LOCAL, DEVICE_LOCK, DEVICE_READ, DEVICE_READSTB,
     DEVICE_REMOTE, DEVICE_TRIGGER, DEVICE_UNLOCK, DEVICE_WRITE,
 };
-use sv_vxi::read_args;
+use sv_vxi::{Args, read_args};
 
 /// The procedure that does nothing, of every program.
 const NULL: u32 = 0;
 /// GETPORT of the port mapper.
 const GETPORT: u32 = 3;
+
+/// A call of the core channel.
+#[derive(Clone, Copy)]
+pub struct CoreCall<'a> {
+    /// Its transaction.
+    pub xid: u32,
+    /// Its arguments.
+    pub args: Args<'a>,
+}
 
 /// What a record asks for.
 #[derive(Clone, Copy)]

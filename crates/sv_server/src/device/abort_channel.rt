@@ -6,12 +6,23 @@ ghost use Rattle.sv_links.specs.Links.{is_this as is_this_link};
 ghost use Rattle.sv_history.specs.declared.event.Config.{Config};
 ghost use Rattle.sv_history.specs.Act.{DeviceAct};
 ghost use Rattle.sv_server.specs.Device.Representation.{IsDevice};
+ghost use Rattle.sv_history.specs.CoreCall.{lid_of as lid_for};
 ghost use Rattle.sv_history.specs.AbortChannel.{owner_of as owner_for, waits_with as waits_with_link, where_waiting as where_waiting_with, aborted as aborted_by, abort_result as result_of};
 
 use crate::device::Device;
+use crate::device::arguments::lid_of;
 use crate::device::error_results::plain;
 use std::alloc::Allocator;
 use sv_vxi::{ErrorCode, VxiResult};
+
+/// What device_abort comes to.
+#[derive(Clone, Copy)]
+pub struct Aborted {
+    /// Its result.
+    pub result: VxiResult<'static>,
+    /// The connection whose waiting call it ends: the one that names the link.
+    pub conn: Option<u8>,
+}
 
 /// Whether a link is this one.
 fn is_this(lid: u32, named: Option<u32>) -> bool
@@ -24,6 +35,21 @@ fn is_this(lid: u32, named: Option<u32>) -> bool
 }
 
 impl<A: Allocator> Device<A> {
+    /// device_abort of a link.
+    pub fn abort(&self, lid: i32) -> Aborted
+        ensures answer { (config : Config) (acts : List DeviceAct) → IsDevice self.now config acts
+            → plain_result result.result ≡ result_of (lid_for (Some lid)) acts }
+        ensures conn { (config : Config) (acts : List DeviceAct) → IsDevice self.now config acts
+            → result.conn ≡ aborted_by (lid_for (Some lid)) acts }
+        ensures short { data_of (plain_result result.result) ≡ [] }
+    {
+        let lid = lid_of(Some(lid));
+        Aborted {
+            result: self.abort_result(lid),
+            conn: self.aborted(lid),
+        }
+    }
+
     /// The connection that made a link, while it lives.
     fn owner_of(&self, lid: Option<u32>) -> Option<u8>
         ensures { (config : Config) (acts : List DeviceAct) → IsDevice self.now config acts
@@ -62,7 +88,7 @@ impl<A: Allocator> Device<A> {
     }
 
     /// The connection whose waiting call device_abort ends: the one that names the link.
-    pub fn aborted(&self, lid: Option<u32>) -> Option<u8>
+    fn aborted(&self, lid: Option<u32>) -> Option<u8>
         ensures { (config : Config) (acts : List DeviceAct) → IsDevice self.now config acts
             → result ≡ aborted_by lid acts }
     {
@@ -73,7 +99,7 @@ impl<A: Allocator> Device<A> {
     }
 
     /// The result of device_abort.
-    pub fn abort_result(&self, lid: Option<u32>) -> VxiResult<'static>
+    fn abort_result(&self, lid: Option<u32>) -> VxiResult<'static>
         ensures answer { (config : Config) (acts : List DeviceAct) → IsDevice self.now config acts
             → plain_result result ≡ result_of lid acts }
         ensures short { data_of (plain_result result) ≡ [] }

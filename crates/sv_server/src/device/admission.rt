@@ -15,9 +15,10 @@ ghost use Rattle.sv_history.specs.Admission.{names_another, is_kept_out, lock_st
 ghost use Rattle.sv_server.specs.Device.Representation.{IsDevice, HasPlace};
 ghost use Rattle.sv_server.specs.Device.Inside.Outcome.{plain_stop, IsBehind, Admits, AdmitsAt};
 
+use crate::conn::Conn;
 use crate::device::Device;
+use crate::device::arguments::{is_too_long, lid_of};
 use crate::device::call_outcome::CallOutcome;
-use crate::device::core_call::{is_too_long, lid_of};
 use crate::device::error_results::failure;
 use crate::device::interrupts::channel_fault;
 use std::alloc::{AllocError, Allocator};
@@ -73,9 +74,9 @@ fn channel_stop(fault: Option<ErrorCode>) -> Stop
 
 impl<A: Allocator> Device<A> {
     /// Whether a call names a link that isn't one of its connection.
-    fn names_another(&self, conn: u8, named: Option<i32>) -> bool
+    fn names_another(&self, conn: Conn, named: Option<i32>) -> bool
         ensures { (config : Configured) (acts : List DeviceAct) → IsDevice self.now config acts
-            → result ≡ names_another conn named acts }
+            → result ≡ names_another conn.number named acts }
     {
         match named {
             Some(_) => !self.owns(conn, lid_of(named)),
@@ -96,7 +97,7 @@ impl<A: Allocator> Device<A> {
 
     /// What a call waits for that isn't kept out: a write until no ended message waits to be
     /// finished, a read until there is something to answer.
-    pub fn device_wait(&self, args: &Args<'_>) -> Option<Wait>
+    pub(super) fn device_wait(&self, args: &Args<'_>) -> Option<Wait>
         ensures answer { (config : Configured) (acts : List DeviceAct)
             → IsDevice self.now config acts
             → result ≡ device_wait (plain_arguments args.now) acts }
@@ -196,10 +197,10 @@ impl<A: Allocator> Device<A> {
     }
 
     /// What stops a call by what it is.
-    fn own_stop(&self, conn: u8, args: &Args<'_>) -> Option<Stop>
-        requires { conn < 16 }
+    fn own_stop(&self, conn: Conn, args: &Args<'_>) -> Option<Stop>
         ensures { (config : Configured) (acts : List DeviceAct) → IsDevice self.now config acts
-            → option_map plain_stop result ≡ own_stop_for conn (plain_arguments args.now) acts }
+            → option_map plain_stop result
+            ≡ own_stop_for conn.number (plain_arguments args.now) acts }
     {
         match *args {
             Args::CreateLink {
@@ -238,10 +239,9 @@ impl<A: Allocator> Device<A> {
 
     /// What stops a call: the link that it names is looked at first, then how much a write brings,
     /// then the lock.
-    fn stop(&self, conn: u8, args: &Args<'_>) -> Option<Stop>
-        requires { conn < 16 }
+    fn stop(&self, conn: Conn, args: &Args<'_>) -> Option<Stop>
         ensures { (config : Configured) (acts : List DeviceAct) → IsDevice self.now config acts
-            → option_map plain_stop result ≡ stop_of conn (plain_arguments args.now) acts }
+            → option_map plain_stop result ≡ stop_of conn.number (plain_arguments args.now) acts }
     {
         if self.names_another(conn, args.link()) {
             return Some(Stop::Fails(ErrorCode::InvalidLink));
@@ -256,7 +256,7 @@ impl<A: Allocator> Device<A> {
     }
 
     /// The clock, so many milliseconds from now.
-    pub fn deadline(&self, timeout: Option<u32>) -> Option<u64>
+    pub(super) fn deadline(&self, timeout: Option<u32>) -> Option<u64>
         ensures { (config : Configured) (acts : List DeviceAct) → IsDevice self.now config acts
             → result ≡ deadline_for config timeout acts }
     {
@@ -283,21 +283,20 @@ impl<A: Allocator> Device<A> {
     }
 
     /// A call begins to wait, for something else than its peer.
-    fn enter(&mut self, conn: u8, lid: Option<u32>, wait: Wait, timeout: Option<u32>)
-        requires within { conn < 16 }
-        requires plain { is_dial (Some wait) ≡ false }
+    fn enter(&mut self, conn: Conn, lid: Option<u32>, wait: Wait, timeout: Option<u32>)
+        requires { is_dial (Some wait) ≡ false }
         ensures stands { (config : Configured) (acts : List DeviceAct)
             → IsDevice self.old config acts
             → ((is_lock (Some wait) && is_none lid) ≡ true → HasPlace self.old acts)
-            → IsDevice self.new config (Waited (Entered conn lid wait
+            → IsDevice self.new config (Waited (Entered conn.number lid wait
             (deadline_for config timeout acts)) ∷ acts) }
         ensures waits { (makes : Bool)
             → (makes ≡ true → (is_lock (Some wait) && is_none lid) ≡ true)
-            → IsBehind conn makes self.old.waiting self.new.waiting }
+            → IsBehind conn.number makes self.old.waiting self.new.waiting }
     {
         let deadline = self.deadline(timeout);
         self.waiting.enter(Entry {
-            conn,
+            conn: conn.number,
             lid,
             wait,
             deadline,
@@ -307,18 +306,17 @@ impl<A: Allocator> Device<A> {
     /// A create_intr_chan waits until its peer was called; there is no channel.
     fn await_peer(
         &mut self,
-        conn: u8,
+        conn: Conn,
         args: &Args<'_>,
         timeout: Option<u32>,
     ) -> Result<CallOutcome, AllocError>
-        requires { conn < 16 }
-        ensures { AdmitsAt (Some (Awaits Wait.Dial timeout)) result conn (plain_arguments args.now)
-            self.old self.new }
+        ensures { AdmitsAt (Some (Awaits Wait.Dial timeout)) result conn.number
+            (plain_arguments args.now) self.old self.new }
     {
-        self.intr.prepare(conn)?;
+        self.intr.prepare(conn.number)?;
         let deadline = self.deadline(timeout);
         self.waiting.enter(Entry {
-            conn,
+            conn: conn.number,
             lid: lid_of(args.link()),
             wait: Wait::Dial,
             deadline,
@@ -329,15 +327,14 @@ impl<A: Allocator> Device<A> {
     /// A call waits for the lock or for the device.
     fn await_device(
         &mut self,
-        conn: u8,
+        conn: Conn,
         args: &Args<'_>,
         wait: Wait,
         timeout: Option<u32>,
     ) -> Result<CallOutcome, AllocError>
-        requires within { conn < 16 }
-        requires plain { is_dial (Some wait) ≡ false }
-        ensures { AdmitsAt (Some (Awaits wait timeout)) result conn (plain_arguments args.now)
-            self.old self.new }
+        requires { is_dial (Some wait) ≡ false }
+        ensures { AdmitsAt (Some (Awaits wait timeout)) result conn.number
+            (plain_arguments args.now) self.old self.new }
     {
         self.reserve(args)?;
         self.enter(conn, lid_of(args.link()), wait, timeout);
@@ -347,14 +344,13 @@ impl<A: Allocator> Device<A> {
     /// A call waits.
     fn suspend(
         &mut self,
-        conn: u8,
+        conn: Conn,
         args: &Args<'_>,
         wait: Wait,
         timeout: Option<u32>,
     ) -> Result<CallOutcome, AllocError>
-        requires { conn < 16 }
-        ensures { AdmitsAt (Some (Awaits wait timeout)) result conn (plain_arguments args.now)
-            self.old self.new }
+        ensures { AdmitsAt (Some (Awaits wait timeout)) result conn.number
+            (plain_arguments args.now) self.old self.new }
     {
         match wait {
             Wait::Dial => self.await_peer(conn, args, timeout),
@@ -365,9 +361,8 @@ impl<A: Allocator> Device<A> {
     }
 
     /// A call that this stops fails, or waits.
-    fn halt(&mut self, conn: u8, args: &Args<'_>, stop: Stop) -> Result<CallOutcome, AllocError>
-        requires { conn < 16 }
-        ensures { AdmitsAt (Some (plain_stop stop)) result conn (plain_arguments args.now)
+    fn halt(&mut self, conn: Conn, args: &Args<'_>, stop: Stop) -> Result<CallOutcome, AllocError>
+        ensures { AdmitsAt (Some (plain_stop stop)) result conn.number (plain_arguments args.now)
             self.old self.new }
     {
         match stop {
@@ -377,18 +372,16 @@ impl<A: Allocator> Device<A> {
     }
 
     /// A call that nothing stops is done.
-    fn start(&mut self, conn: u8, args: &Args<'_>) -> Result<CallOutcome, AllocError>
-        requires { conn < 16 }
-        ensures { AdmitsAt None result conn (plain_arguments args.now) self.old self.new }
+    fn start(&mut self, conn: Conn, args: &Args<'_>) -> Result<CallOutcome, AllocError>
+        ensures { AdmitsAt None result conn.number (plain_arguments args.now) self.old self.new }
     {
         self.reserve(args)?;
         Ok(self.own_call(conn, args))
     }
 
     /// Does a call whose arguments were read, unless something stops it.
-    pub fn admit(&mut self, conn: u8, args: &Args<'_>) -> Result<CallOutcome, AllocError>
-        requires { conn < 16 }
-        ensures { Admits result conn (plain_arguments args.now) self.old self.new }
+    pub fn admit(&mut self, conn: Conn, args: &Args<'_>) -> Result<CallOutcome, AllocError>
+        ensures { Admits result conn.number (plain_arguments args.now) self.old self.new }
     {
         match self.stop(conn, args) {
             Some(stop) => self.halt(conn, args, stop),

@@ -1,18 +1,11 @@
-//! What comes of a record that was taken, or of a call that was suspended.
+//! What comes of a call of the core channel.
 
-use sv_rpc::Reply;
 use sv_vxi::VxiResult;
 
-/// What comes of a record that was taken, or of a call that was suspended.
+/// What comes of a call of the core channel, as it begins or after it was suspended.
 #[derive(Clone, Copy)]
 pub enum CallOutcome {
-    /// It is no call, and faults its connection.
-    NoCall,
-    /// It is answered with what its header or its arguments alone decide.
-    Header(Reply),
-    /// It is answered with the port that GETPORT asks for.
-    Port(u32),
-    /// It is answered with the result of a call of the core or the abort channel.
+    /// It has this result.
     Result(VxiResult<'static>),
     /// It is answered with what is to be read of the response.
     Reads {

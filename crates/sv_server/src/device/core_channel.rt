@@ -1,36 +1,40 @@
 //! What each call of the core channel does, once it needn't wait (VXI-11 revision 1.0, B.6).
 
-ghost use Rattle.std.specs.Prelude.{◌≡◌, ◌<◌, ◌^◌, ℕ, pos, List, [], ◌∷◌, map, None, true, false};
+ghost use Rattle.std.specs.Prelude.{◌≡◌, ◌<◌, ◌≤◌, ◌^◌, ℕ, pos, List, [], ◌∷◌, length, map, Some, None, true, false};
 ghost use Rattle.sv_vxi.specs.Reading.{plain_arguments};
 ghost use Rattle.sv_vxi.specs.declared.error_code.ErrorCode.TheVariants.{NoError};
 ghost use Rattle.sv_vxi.specs.Results.{Link, Status, Plain, plain_result, data_of};
-ghost use Rattle.sv_layers.specs.Act.{Polled, Purged};
+ghost use Rattle.sv_layers.specs.Act.{Exchanged, Polled, Purged};
+ghost use Rattle.sv_exchange.specs.Exchange.{ResponseRead, response};
+ghost use Rattle.sv_exchange.specs.ReadGiven.{IsReadOf};
+ghost use Rattle.sv_exchange.specs.Contents.{shown_by};
 ghost use Rattle.sv_instrument.specs.Stimulus.{trigger_acts};
 ghost use Rattle.sv_history.specs.declared.event.Config.{Config as Configured};
 ghost use Rattle.sv_links.specs.Links.{holder, is_locked_out};
-ghost use Rattle.sv_exchange.specs.Limits.{max_message};
-ghost use Rattle.sv_history.specs.Act.{DeviceAct, Happened, link_acts, instrument_acts};
+ghost use Rattle.sv_exchange.specs.Limits.{max_message, max_read};
+ghost use Rattle.sv_history.specs.Act.{DeviceAct, Happened, link_acts, instrument_acts, exchange_acts};
 ghost use Rattle.sv_history.specs.CallOutcome.{answered};
 ghost use Rattle.sv_server.specs.Device.Representation.{IsDevice, HasPlace};
 ghost use Rattle.sv_history.specs.CoreChannel.{owns, make_link, destroy_link, device_lock, device_unlock, device_write, device_read, own_call};
 ghost use Rattle.sv_server.specs.Device.Inside.Outcome.{IsDeviceAt, IsGranted, OutcomeIs, IsBrief};
 
+use crate::conn::Conn;
 use crate::device::Device;
+use crate::device::arguments::{lid_of, term_of};
 use crate::device::call_outcome::CallOutcome;
-use crate::device::core_call::{lid_of, term_of};
 use crate::device::error_results::{failure, no_link, nothing_read, plain, written};
 use std::alloc::Allocator;
-use sv_exchange::MAX_MESSAGE;
+use sv_exchange::{MAX_MESSAGE, Read};
 use sv_vxi::{Args, ErrorCode, Flags, VxiResult};
 
 impl<A: Allocator> Device<A> {
     /// Whether a link is one of this connection.
-    pub fn owns(&self, conn: u8, lid: Option<u32>) -> bool
+    pub(super) fn owns(&self, conn: Conn, lid: Option<u32>) -> bool
         ensures { (config : Configured) (acts : List DeviceAct) → IsDevice self.now config acts
-            → result ≡ owns conn lid acts }
+            → result ≡ owns conn.number lid acts }
     {
         match lid {
-            Some(lid) => self.links.owner(lid) == Some(conn),
+            Some(lid) => self.links.owner(lid) == Some(conn.number),
             None => false,
         }
     }
@@ -51,28 +55,28 @@ impl<A: Allocator> Device<A> {
     }
 
     /// Makes a link. There are a place and memory for it.
-    pub fn make_free(&mut self, conn: u8) -> CallOutcome
+    fn make_free(&mut self, conn: Conn) -> CallOutcome
         ensures ends { (config : Configured) (acts : List DeviceAct) → IsDevice self.old config acts
             → HasPlace self.old acts
-            → OutcomeIs result self.new config acts (make_link config conn false acts) }
+            → OutcomeIs result self.new config acts (make_link config conn.number false acts) }
         ensures short { IsBrief result }
         ensures waiting { self.new.waiting ≡ self.old.waiting }
     {
-        let Ok(lid) = self.links.create(conn) else {
+        let Ok(lid) = self.links.create(conn.number) else {
             return CallOutcome::Result(no_link(ErrorCode::OutOfResources));
         };
         CallOutcome::Result(self.told_link(lid))
     }
 
     /// Makes a link that has the lock, which no link has. There are a place and memory for it.
-    pub fn make_locked(&mut self, conn: u8) -> CallOutcome
+    fn make_locked(&mut self, conn: Conn) -> CallOutcome
         ensures ends { (config : Configured) (acts : List DeviceAct) → IsDevice self.old config acts
             → HasPlace self.old acts → is_locked_out (holder (link_acts acts)) None ≡ false
-            → OutcomeIs result self.new config acts (make_link config conn true acts) }
+            → OutcomeIs result self.new config acts (make_link config conn.number true acts) }
         ensures short { IsBrief result }
         ensures waiting { self.new.waiting ≡ self.old.waiting }
     {
-        let Ok(lid) = self.links.create(conn) else {
+        let Ok(lid) = self.links.create(conn.number) else {
             return CallOutcome::Result(no_link(ErrorCode::OutOfResources));
         };
         let _ = self.links.lock(lid);
@@ -80,11 +84,12 @@ impl<A: Allocator> Device<A> {
     }
 
     /// Makes a link, with the lock where it asks for it.
-    fn make_link(&mut self, conn: u8, lock_device: bool) -> CallOutcome
+    fn make_link(&mut self, conn: Conn, lock_device: bool) -> CallOutcome
         ensures ends { (config : Configured) (acts : List DeviceAct) → IsDevice self.old config acts
             → HasPlace self.old acts
             → (lock_device ≡ true → is_locked_out (holder (link_acts acts)) None ≡ false)
-            → OutcomeIs result self.new config acts (make_link config conn lock_device acts) }
+            → OutcomeIs result self.new config acts
+            (make_link config conn.number lock_device acts) }
         ensures short { IsBrief result }
         ensures waiting { self.new.waiting ≡ self.old.waiting }
     {
@@ -95,30 +100,24 @@ impl<A: Allocator> Device<A> {
     }
 
     /// destroy_link.
-    fn destroy_link(&mut self, lid: Option<u32>) -> CallOutcome
+    fn destroy_link(&mut self, lid: u32) -> CallOutcome
         ensures ends { (config : Configured) (acts : List DeviceAct) → IsDevice self.old config acts
-            → OutcomeIs result self.new config acts (destroy_link lid) }
+            → OutcomeIs result self.new config acts (destroy_link (Some lid)) }
         ensures short { IsBrief result }
         ensures waiting { self.new.waiting ≡ self.old.waiting }
     {
-        let Some(lid) = lid else {
-            return CallOutcome::Result(plain(ErrorCode::InvalidLink));
-        };
         self.links.destroy(lid);
         self.intr.disable(lid);
         CallOutcome::Result(plain(ErrorCode::NoError))
     }
 
     /// device_lock: the link gets the lock, unless another has it.
-    fn device_lock(&mut self, lid: Option<u32>) -> CallOutcome
+    fn device_lock(&mut self, lid: u32) -> CallOutcome
         ensures ends { (config : Configured) (acts : List DeviceAct) → IsDevice self.old config acts
-            → OutcomeIs result self.new config acts (device_lock lid acts) }
+            → OutcomeIs result self.new config acts (device_lock (Some lid) acts) }
         ensures short { IsBrief result }
         ensures waiting { self.new.waiting ≡ self.old.waiting }
     {
-        let Some(lid) = lid else {
-            return CallOutcome::Result(plain(ErrorCode::InvalidLink));
-        };
         if !self.links.lock(lid) {
             return CallOutcome::Result(plain(ErrorCode::Locked));
         }
@@ -126,15 +125,12 @@ impl<A: Allocator> Device<A> {
     }
 
     /// device_unlock: the lock is free, where the link had it.
-    fn device_unlock(&mut self, lid: Option<u32>) -> CallOutcome
+    fn device_unlock(&mut self, lid: u32) -> CallOutcome
         ensures ends { (config : Configured) (acts : List DeviceAct) → IsDevice self.old config acts
-            → OutcomeIs result self.new config acts (device_unlock lid acts) }
+            → OutcomeIs result self.new config acts (device_unlock (Some lid) acts) }
         ensures short { IsBrief result }
         ensures waiting { self.new.waiting ≡ self.old.waiting }
     {
-        let Some(lid) = lid else {
-            return CallOutcome::Result(plain(ErrorCode::InvalidLink));
-        };
         if !self.links.unlock(lid) {
             return CallOutcome::Result(plain(ErrorCode::NoLock));
         }
@@ -178,6 +174,30 @@ impl<A: Allocator> Device<A> {
         CallOutcome::Result(nothing_read(ErrorCode::IoTimeout))
     }
 
+    /// What a read gives of the response.
+    pub fn peek_response(&self, most: u32, term: Option<u8>) -> Read<'_>
+        ensures within { length result.bytes.now
+            ≤ length (shown_by self.now.instrument.layers.exchange) }
+        ensures short { length result.bytes.now ≤ max_read }
+        ensures answer { (config : Configured) (acts : List DeviceAct)
+            → IsDevice self.now config acts
+            → IsReadOf result (response (exchange_acts acts)) most term }
+    {
+        self.instrument.peek(most, term)
+    }
+
+    /// So many bytes of the response were read.
+    pub fn take_response(&mut self, count: usize)
+        requires { count ≤ length (shown_by self.old.instrument.layers.exchange) }
+        ensures stands { (config : Configured) (acts : List DeviceAct)
+            → IsDevice self.old config acts
+            → IsDevice self.new config (Happened (Exchanged (ResponseRead count)) ∷ acts) }
+        ensures waiting { self.new.waiting ≡ self.old.waiting }
+    {
+        let raised = self.instrument.take(count);
+        self.raise(raised);
+    }
+
     /// device_readstb: the status byte, whose request for service ends thereby.
     fn device_readstb(&mut self) -> CallOutcome
         ensures ends { (config : Configured) (polled : ℕ) (acts : List DeviceAct)
@@ -219,41 +239,55 @@ impl<A: Allocator> Device<A> {
         CallOutcome::Result(plain(ErrorCode::NoError))
     }
 
-    /// Does a call that needn't wait.
-    pub fn own_call(&mut self, conn: u8, args: &Args<'_>) -> CallOutcome
-        requires { conn < 16 }
+    /// Does a call that needn't wait, with the link that it names. One without a link of its own is
+    /// none that was admitted.
+    pub(super) fn own_call(&mut self, conn: Conn, args: &Args<'_>) -> CallOutcome
         ensures ends { (config : Configured) (polled : ℕ) (acts : List DeviceAct)
             → IsDeviceAt self.old config polled acts
             → IsGranted (plain_arguments args.now) self.old acts
             → OutcomeIs result self.new config acts
-            (own_call config polled conn (plain_arguments args.now) acts) }
+            (own_call config polled conn.number (plain_arguments args.now) acts) }
         ensures short { IsBrief result }
         ensures waiting { self.new.waiting ≡ self.old.waiting }
     {
-        match *args {
-            Args::CreateLink { lock_device, .. } => self.make_link(conn, lock_device),
-            Args::DeviceWrite { flags, bytes, .. } => self.device_write(flags, bytes),
-            Args::DeviceRead {
-                request_size,
-                flags,
-                term_char,
-                ..
-            } => self.device_read(request_size, term_of(flags, term_char)),
-            Args::DestroyLink { lid } => self.destroy_link(lid_of(Some(lid))),
-            Args::DeviceRemote(_) => CallOutcome::Result(plain(ErrorCode::NoError)),
-            Args::DeviceLocal(_) => CallOutcome::Result(plain(ErrorCode::NoError)),
-            Args::DeviceReadstb(_) => self.device_readstb(),
-            Args::DeviceTrigger(_) => self.device_trigger(),
-            Args::DeviceClear(_) => self.device_clear(),
-            Args::DeviceLock { lid, .. } => self.device_lock(lid_of(Some(lid))),
-            Args::DeviceUnlock { lid } => self.device_unlock(lid_of(Some(lid))),
-            Args::DeviceEnableSrq {
-                lid,
-                enable,
-                handle,
-            } => self.device_enable_srq(conn, lid_of(Some(lid)), enable, handle),
-            Args::DestroyIntrChan => self.destroy_channel(conn),
-            Args::DeviceAbort { .. } | Args::DeviceDocmd { .. } | Args::CreateIntrChan { .. } => {
+        match (*args, lid_of(args.link())) {
+            (Args::CreateLink { lock_device, .. }, _) => self.make_link(conn, lock_device),
+            (Args::DeviceWrite { flags, bytes, .. }, _) => self.device_write(flags, bytes),
+            (
+                Args::DeviceRead {
+                    request_size,
+                    flags,
+                    term_char,
+                    ..
+                },
+                _,
+            ) => self.device_read(request_size, term_of(flags, term_char)),
+            (Args::DeviceRemote(_), _) => CallOutcome::Result(plain(ErrorCode::NoError)),
+            (Args::DeviceLocal(_), _) => CallOutcome::Result(plain(ErrorCode::NoError)),
+            (Args::DeviceReadstb(_), _) => self.device_readstb(),
+            (Args::DeviceTrigger(_), _) => self.device_trigger(),
+            (Args::DeviceClear(_), _) => self.device_clear(),
+            (Args::DestroyLink { .. }, Some(lid)) => self.destroy_link(lid),
+            (Args::DeviceLock { .. }, Some(lid)) => self.device_lock(lid),
+            (Args::DeviceUnlock { .. }, Some(lid)) => self.device_unlock(lid),
+            (Args::DeviceEnableSrq { enable, handle, .. }, Some(lid)) => {
+                self.device_enable_srq(conn, lid, enable, handle)
+            }
+            (
+                Args::DestroyLink { .. }
+                | Args::DeviceLock { .. }
+                | Args::DeviceUnlock { .. }
+                | Args::DeviceEnableSrq { .. },
+                None,
+            ) => CallOutcome::Result(plain(ErrorCode::InvalidLink)),
+            (Args::DestroyIntrChan, _) => self.destroy_channel(conn),
+            (Args::DeviceAbort { .. }, _) => {
+                CallOutcome::Result(failure(args, ErrorCode::NotSupported))
+            }
+            (Args::DeviceDocmd { .. }, _) => {
+                CallOutcome::Result(failure(args, ErrorCode::NotSupported))
+            }
+            (Args::CreateIntrChan { .. }, _) => {
                 CallOutcome::Result(failure(args, ErrorCode::NotSupported))
             }
         }

@@ -19,6 +19,7 @@ ghost use Rattle.sv_history.specs.Requests.{HearsOf};
 ghost use Rattle.sv_history.specs.CoreChannel.{owns};
 ghost use Rattle.sv_server.specs.Device.Inside.Outcome.{OutcomeIs, IsBrief};
 
+use crate::conn::Conn;
 use crate::device::Device;
 use crate::device::call_outcome::CallOutcome;
 use crate::device::error_results::{failure, plain};
@@ -76,43 +77,40 @@ fn peer_by(args: &Args<'_>) -> Option<Peer>
 
 impl<A: Allocator> Device<A> {
     /// Whether the interrupt channel of a connection is open.
-    pub fn has_channel(&self, conn: u8) -> bool
-        requires { conn < 16 }
+    pub fn has_channel(&self, conn: Conn) -> bool
         ensures { (config : Configured) (acts : List DeviceAct) → IsDevice self.now config acts
-            → result ≡ channel_there conn acts }
+            → result ≡ channel_there conn.number acts }
     {
-        self.intr.is_open(conn)
+        self.intr.is_open(conn.number)
     }
 
     /// device_enable_srq of a link, where it is one of the connection.
-    pub fn device_enable_srq(
+    pub(super) fn device_enable_srq(
         &mut self,
-        conn: u8,
-        lid: Option<u32>,
+        conn: Conn,
+        lid: u32,
         enable: bool,
         handle: &[u8],
     ) -> CallOutcome
         ensures ends { (config : Configured) (acts : List DeviceAct) → IsDevice self.old config acts
             → OutcomeIs result self.new config acts
-            (done_enable_srq conn (owns conn lid acts) enable lid handle.now) }
+            (done_enable_srq conn.number (owns conn.number (Some lid) acts) enable (Some lid)
+            handle.now) }
         ensures short { IsBrief result }
         ensures waiting { self.new.waiting ≡ self.old.waiting }
     {
-        let owned = self.owns(conn, lid);
-        let Some(lid) = lid else {
-            return CallOutcome::Result(plain(ErrorCode::InvalidLink));
-        };
-        if !owned {
+        if !self.owns(conn, Some(lid)) {
             return CallOutcome::Result(plain(ErrorCode::InvalidLink));
         }
         self.enable_srq(conn, enable, lid, handle)
     }
 
     /// A link of the connection asks for service requests, or asks no more.
-    fn enable_srq(&mut self, conn: u8, enable: bool, lid: u32, handle: &[u8]) -> CallOutcome
+    fn enable_srq(&mut self, conn: Conn, enable: bool, lid: u32, handle: &[u8]) -> CallOutcome
         ensures ends { (config : Configured) (acts : List DeviceAct) → IsDevice self.old config acts
-            → owns conn (Some lid) acts ≡ true
-            → OutcomeIs result self.new config acts (enabled_srq conn enable lid handle.now) }
+            → owns conn.number (Some lid) acts ≡ true
+            → OutcomeIs result self.new config acts
+            (enabled_srq conn.number enable lid handle.now) }
         ensures short { IsBrief result }
         ensures waiting { self.new.waiting ≡ self.old.waiting }
     {
@@ -123,15 +121,14 @@ impl<A: Allocator> Device<A> {
         if handle.len() > MAX_HANDLE {
             return CallOutcome::Result(plain(ErrorCode::ParameterError));
         }
-        self.intr.enable(lid, conn, handle);
+        self.intr.enable(lid, conn.number, handle);
         CallOutcome::Result(plain(ErrorCode::NoError))
     }
 
     /// destroy_intr_chan: the channel is closed, where one is open.
-    pub fn destroy_channel(&mut self, conn: u8) -> CallOutcome
-        requires { conn < 16 }
+    pub(super) fn destroy_channel(&mut self, conn: Conn) -> CallOutcome
         ensures ends { (config : Configured) (acts : List DeviceAct) → IsDevice self.old config acts
-            → OutcomeIs result self.new config acts (destroyed_channel conn acts) }
+            → OutcomeIs result self.new config acts (destroyed_channel conn.number acts) }
         ensures short { IsBrief result }
         ensures waiting { self.new.waiting ≡ self.old.waiting }
     {
@@ -153,14 +150,13 @@ impl<A: Allocator> Device<A> {
 
     /// The peer was called for whose answer a call waits: its channel is open, or can't be. The
     /// call waits no more.
-    pub fn end_dial(&mut self, conn: u8, ok: bool, args: &Args<'_>) -> CallOutcome
-        requires { conn < 16 }
+    pub(super) fn end_dial(&mut self, conn: Conn, ok: bool, args: &Args<'_>) -> CallOutcome
         ensures ends { (config : Configured) (acts : List DeviceAct)
-            → IsDevice self.old config acts → is_dialing conn (wait_acts acts) ≡ true
-            → OutcomeIs result self.new config (Waited (Left conn) ∷ acts)
-            (dialed conn ok (plain_arguments args.now)) }
+            → IsDevice self.old config acts → is_dialing conn.number (wait_acts acts) ≡ true
+            → OutcomeIs result self.new config (Waited (Left conn.number) ∷ acts)
+            (dialed conn.number ok (plain_arguments args.now)) }
         ensures short { IsBrief result }
-        ensures waiting { self.new.waiting ≡ without conn self.old.waiting }
+        ensures waiting { self.new.waiting ≡ without conn.number self.old.waiting }
     {
         match peer_by(args) {
             Some(peer) => self.end_channel(conn, ok, peer),
@@ -172,14 +168,13 @@ impl<A: Allocator> Device<A> {
     }
 
     /// The same for this peer.
-    fn end_channel(&mut self, conn: u8, ok: bool, peer: Peer) -> CallOutcome
-        requires { conn < 16 }
+    fn end_channel(&mut self, conn: Conn, ok: bool, peer: Peer) -> CallOutcome
         ensures ends { (config : Configured) (acts : List DeviceAct)
-            → IsDevice self.old config acts → is_dialing conn (wait_acts acts) ≡ true
-            → OutcomeIs result self.new config (Waited (Left conn) ∷ acts)
-            (ended_channel conn ok peer) }
+            → IsDevice self.old config acts → is_dialing conn.number (wait_acts acts) ≡ true
+            → OutcomeIs result self.new config (Waited (Left conn.number) ∷ acts)
+            (ended_channel conn.number ok peer) }
         ensures short { IsBrief result }
-        ensures waiting { self.new.waiting ≡ without conn self.old.waiting }
+        ensures waiting { self.new.waiting ≡ without conn.number self.old.waiting }
     {
         if !ok {
             self.give_up_channel(conn);
@@ -190,62 +185,57 @@ impl<A: Allocator> Device<A> {
     }
 
     /// The channel for which a create_intr_chan waits is open: the call waits no more.
-    fn open_channel(&mut self, conn: u8, peer: Peer)
-        requires { conn < 16 }
+    fn open_channel(&mut self, conn: Conn, peer: Peer)
         ensures stands { (config : Configured) (acts : List DeviceAct)
-            → IsDevice self.old config acts → is_dialing conn (wait_acts acts) ≡ true
+            → IsDevice self.old config acts → is_dialing conn.number (wait_acts acts) ≡ true
             → IsDevice self.new config
-            (Channel (ChannelOpened conn peer) ∷ Waited (Left conn) ∷ acts) }
-        ensures waiting { self.new.waiting ≡ without conn self.old.waiting }
+            (Channel (ChannelOpened conn.number peer) ∷ Waited (Left conn.number) ∷ acts) }
+        ensures waiting { self.new.waiting ≡ without conn.number self.old.waiting }
     {
-        self.waiting.leave(conn);
-        self.intr.open(conn, peer);
+        self.waiting.leave(conn.number);
+        self.intr.open(conn.number, peer);
     }
 
     /// It can't be opened: the call waits no more.
-    pub fn give_up_channel(&mut self, conn: u8)
-        requires { conn < 16 }
+    fn give_up_channel(&mut self, conn: Conn)
         ensures stands { (config : Configured) (acts : List DeviceAct)
             → IsDevice self.old config acts
-            → IsDevice self.new config (Waited (Left conn) ∷ acts) }
-        ensures waiting { self.new.waiting ≡ without conn self.old.waiting }
+            → IsDevice self.new config (Waited (Left conn.number) ∷ acts) }
+        ensures waiting { self.new.waiting ≡ without conn.number self.old.waiting }
     {
-        self.waiting.leave(conn);
-        self.intr.cancel(conn);
+        self.waiting.leave(conn.number);
+        self.intr.cancel(conn.number);
     }
 
     /// The bytes that wait on the interrupt channel of a connection; none where it isn't open.
-    pub fn channel_waiting(&self, conn: u8) -> &[u8]
-        requires { conn < 16 }
-        ensures same { result.now ≡ bytes_of self.now.intr conn }
+    pub fn channel_waiting(&self, conn: Conn) -> &[u8]
+        ensures same { result.now ≡ bytes_of self.now.intr conn.number }
         ensures answer { (config : Configured) (acts : List DeviceAct) (told : List ChannelAct)
             → IsDevice self.now config acts → HearsOf acts told
-            → result.now ≡ channel_bytes conn told }
+            → result.now ≡ channel_bytes conn.number told }
         ensures bounded { length result.now ≤ max_queued }
     {
-        self.intr.waiting(conn)
+        self.intr.waiting(conn.number)
     }
 
     /// Lets bytes of the open interrupt channel of a connection go that the peer took.
-    pub fn channel_took(&mut self, conn: u8, count: usize)
-        requires within { conn < 16 }
-        requires waits { count ≤ length (bytes_of self.old.intr conn) }
+    pub fn channel_took(&mut self, conn: Conn, count: usize)
+        requires { count ≤ length (bytes_of self.old.intr conn.number) }
         ensures stands { (config : Configured) (acts : List DeviceAct)
-            → IsDevice self.old config acts → channel_there conn acts ≡ true
-            → IsDevice self.new config (Channel (ChannelTaken conn count) ∷ acts) }
+            → IsDevice self.old config acts → channel_there conn.number acts ≡ true
+            → IsDevice self.new config (Channel (ChannelTaken conn.number count) ∷ acts) }
         ensures waiting { self.new.waiting ≡ self.old.waiting }
     {
-        self.intr.take(conn, count);
+        self.intr.take(conn.number, count);
     }
 
     /// Closes the interrupt channel of a connection.
-    pub fn close_channel(&mut self, conn: u8)
-        requires { conn < 16 }
+    pub fn close_channel(&mut self, conn: Conn)
         ensures stands { (config : Configured) (acts : List DeviceAct)
             → IsDevice self.old config acts
-            → IsDevice self.new config (Channel (ChannelClosed conn) ∷ acts) }
+            → IsDevice self.new config (Channel (ChannelClosed conn.number) ∷ acts) }
         ensures waiting { self.new.waiting ≡ self.old.waiting }
     {
-        let _ = self.intr.close(conn);
+        let _ = self.intr.close(conn.number);
     }
 }

@@ -1,7 +1,7 @@
 //! Interrupt channels of the server: which are to be dialed, and what is sent on those that are
 //! open.
 
-ghost use Rattle.std.specs.Prelude.{◌≡◌, ◌≤◌, not, List, length, OnErr, Some, None, nat_lt, if◌then◌else◌};
+ghost use Rattle.std.specs.Prelude.{◌≡◌, ◌≤◌, not, List, length, MatchResult, IfOk, OnErr, Some, None, nat_lt, true, false, if◌then◌else◌};
 ghost use Rattle.sv_vxi.specs.Reading.{plain_arguments};
 ghost use Rattle.sv_links.specs.Channels.{ChannelAct, waiting as channel_bytes};
 ghost use Rattle.sv_history.specs.declared.event.Config.{Config};
@@ -16,9 +16,10 @@ ghost use Rattle.sv_history.specs.Limits.{max_output};
 ghost use Rattle.sv_server.specs.Server.State.{Represents, StandsFor};
 ghost use Rattle.sv_server.specs.Server.Inside.Acting.{Acts};
 
-use crate::connection::request::core_call;
-use crate::server::resuming::dialed;
-use crate::server::{CONNECTIONS, Server};
+use crate::conn::Conn;
+use crate::device::resuming::Cause;
+use crate::server::Server;
+use crate::server::resuming::take_up;
 use std::alloc::Allocator;
 use sv_history::{Dial, Did, Refused};
 use sv_vxi::Args;
@@ -64,7 +65,7 @@ impl<A: Allocator> Server<A> {
             return None;
         }
         let connection = self.connection(conn)?;
-        let call = core_call(connection.taken()?)?;
+        let call = connection.taken_call()?;
         dial_by(&call.args)
     }
 
@@ -73,10 +74,23 @@ impl<A: Allocator> Server<A> {
         ensures { (config : Config) (log : List Act) → Represents self.now config log
             → result ≡ not (is_channel_shut conn log) }
     {
-        if usize::from(conn) >= CONNECTIONS {
-            return false;
+        self.with_channel(conn).is_ok()
+    }
+
+    /// The connection of this number, whose interrupt channel is open; else `NoConn`.
+    fn with_channel(&self, conn: u8) -> Result<Conn, Refused>
+        ensures answer { (config : Config) (log : List Act) → Represents self.now config log
+            → MatchResult result (λ found. is_channel_shut conn log ≡ false)
+            (λ refused. (refused ≡ Refused.NoConn) × (is_channel_shut conn log ≡ true)) }
+        ensures same { IfOk result (λ found. found.number ≡ conn) }
+    {
+        let Some(number) = Conn::new(conn) else {
+            return Err(Refused::NoConn);
+        };
+        if !self.device.has_channel(number) {
+            return Err(Refused::NoConn);
         }
-        self.device.has_channel(conn)
+        Ok(number)
     }
 
     /// The bytes that wait on an interrupt channel; none where it isn't open.
@@ -86,10 +100,10 @@ impl<A: Allocator> Server<A> {
             → result.now ≡ channel_bytes conn told }
         ensures bounded { length result.now ≤ max_output }
     {
-        if usize::from(conn) >= CONNECTIONS {
-            return &[];
+        match Conn::new(conn) {
+            Some(conn) => self.device.channel_waiting(conn),
+            None => &[],
         }
-        self.device.channel_waiting(conn)
     }
 
     /// An interrupt channel was dialed.
@@ -98,17 +112,12 @@ impl<A: Allocator> Server<A> {
             → Acts config (Dialed conn ok) log result self.new }
         ensures err { OnErr result (self.new ≡ self.old) }
     {
-        if usize::from(conn) >= CONNECTIONS {
-            return Err(Refused::NoConn);
-        }
-        let connection = &mut self.connections[usize::from(conn)];
-        if !connection.is_open() {
-            return Err(Refused::NoConn);
-        }
-        if !self.device.is_dialing(conn) {
+        let (conn, _) = self.open_connection(conn)?;
+        if !self.device.is_dialing(conn.number) {
             return Err(Refused::NoDial);
         }
-        dialed(connection, &mut self.device, conn, ok);
+        let connection = &mut self.connections[conn.index()];
+        take_up(connection, &mut self.device, conn, Cause::Dialed(ok));
         Ok(Did::Done)
     }
 
@@ -118,12 +127,7 @@ impl<A: Allocator> Server<A> {
             → Acts config (Took (Intr conn) count) log result self.new }
         ensures err { OnErr result (self.new ≡ self.old) }
     {
-        if usize::from(conn) >= CONNECTIONS {
-            return Err(Refused::NoConn);
-        }
-        if !self.device.has_channel(conn) {
-            return Err(Refused::NoConn);
-        }
+        let conn = self.with_channel(conn)?;
         if self.device.channel_waiting(conn).len() < count as usize {
             return Err(Refused::NotSent);
         }
@@ -137,12 +141,7 @@ impl<A: Allocator> Server<A> {
             → Acts config (Close (Intr conn)) log result self.new }
         ensures err { OnErr result (self.new ≡ self.old) }
     {
-        if usize::from(conn) >= CONNECTIONS {
-            return Err(Refused::NoConn);
-        }
-        if !self.device.has_channel(conn) {
-            return Err(Refused::NoConn);
-        }
+        let conn = self.with_channel(conn)?;
         self.device.close_channel(conn);
         Ok(Did::Done)
     }

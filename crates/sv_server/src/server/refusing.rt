@@ -7,13 +7,12 @@ ghost use Rattle.sv_history.specs.Act.{ConnAct};
 ghost use Rattle.sv_history.specs.Refusing.{takes_memory as makes_more, refusable_call};
 ghost use Rattle.sv_history.specs.Request.{CoreRequest, request_of as request_for};
 ghost use Rattle.sv_server.specs.Connection.Representation.{IsConnection};
-ghost use Rattle.sv_server.specs.Device.Inside.Outcome.{plain_core_call};
+ghost use Rattle.sv_server.specs.Connection.Inside.Requests.{plain_core_call};
 ghost use Rattle.sv_server.specs.Server.Inside.Acting.{Refuses};
 
 use crate::connection::Connection;
 use crate::connection::reply::Answer;
-use crate::connection::request::{Request, request_of};
-use crate::device::core_call::CoreCall;
+use crate::connection::request::{CoreCall, Request, request_of};
 use crate::device::error_results::failure;
 use std::alloc::Allocator;
 use sv_history::{Refused, Role};

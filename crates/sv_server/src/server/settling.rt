@@ -19,8 +19,10 @@ ghost use Rattle.sv_server.specs.Server.State.{Represents};
 ghost use Rattle.sv_server.specs.Device.Inside.WaitingCall.{IsKept};
 ghost use Rattle.sv_server.specs.Server.Inside.Acting.{TakesStep, Steps, GoesTo, Settled, is_quiet};
 
+use crate::conn::Conn;
+use crate::device::resuming::Cause;
 use crate::server::Server;
-use crate::server::resuming::{give_up, resume};
+use crate::server::resuming::take_up;
 use std::alloc::Allocator;
 use sv_history::Event;
 use sv_links::{Entry, Wait};
@@ -71,21 +73,21 @@ impl<A: Allocator> Server<A> {
             entry.wait (core_call_in (unanswered (of entry.conn log))) (device_acts log)) ++ log) }
         ensures measure { rank self.new.device.waiting < rank self.old.device.waiting }
     {
-        let connection = &mut self.connections[usize::from(entry.conn)];
-        resume(connection, &mut self.device, entry);
+        let conn = Conn { number: entry.conn };
+        let connection = &mut self.connections[conn.index()];
+        take_up(connection, &mut self.device, conn, Cause::Able(entry.wait));
     }
 
     /// A suspended call fails with this error.
-    pub(crate) fn give_up(&mut self, conn: u8, error: ErrorCode)
-        requires { conn < 16 }
+    pub(crate) fn give_up(&mut self, conn: Conn, error: ErrorCode)
         ensures stands { (config : Config) (log : List Act) → Represents self.old config log
-            → (waits conn (wait_acts (device_acts log)) ≡ None → ⊥)
-            → Represents self.new config (acts_of conn
-            (failed error conn (core_call_in (unanswered (of conn log)))) ++ log) }
-        ensures waiting { self.new.device.waiting ≡ without conn self.old.device.waiting }
+            → (waits conn.number (wait_acts (device_acts log)) ≡ None → ⊥)
+            → Represents self.new config (acts_of conn.number
+            (failed error conn.number (core_call_in (unanswered (of conn.number log)))) ++ log) }
+        ensures waiting { self.new.device.waiting ≡ without conn.number self.old.device.waiting }
     {
-        let connection = &mut self.connections[usize::from(conn)];
-        give_up(connection, &mut self.device, conn, error);
+        let connection = &mut self.connections[conn.index()];
+        take_up(connection, &mut self.device, conn, Cause::Failed(error));
     }
 
     /// A trigger that comes at once, where one is due.
@@ -139,7 +141,7 @@ impl<A: Allocator> Server<A> {
     {
         match self.device.expired() {
             Some(entry) => {
-                self.give_up(entry.conn, late(entry.wait));
+                self.give_up(Conn { number: entry.conn }, late(entry.wait));
                 true
             }
             None => false,

@@ -1,6 +1,6 @@
 //! A connection's next call is taken and done.
 
-ghost use Rattle.std.specs.Prelude.{◌≡◌, ◌<◌, ℕ, List, Some, OnErr, true};
+ghost use Rattle.std.specs.Prelude.{◌≡◌, List, Some, OnErr, true};
 ghost use Rattle.sv_exchange.specs.Exchange.{response};
 ghost use Rattle.sv_history.specs.declared.event.Config.{Config};
 ghost use Rattle.sv_history.specs.Act.{Act, ConnAct, DeviceAct, of, device_acts, exchange_acts};
@@ -9,15 +9,17 @@ ghost use Rattle.sv_history.specs.Effect.{Effect, call_effect};
 ghost use Rattle.sv_history.specs.CoreChannel.{reads};
 ghost use Rattle.sv_server.specs.Connection.Representation.{IsConnection};
 ghost use Rattle.sv_server.specs.Device.Representation.{IsDevice};
-ghost use Rattle.sv_server.specs.Server.Inside.Acting.{Turns, Concludes};
-ghost use Rattle.sv_server.specs.Device.Inside.Outcome.{EndsAs, IsBrief};
+ghost use Rattle.sv_server.specs.Server.Inside.Acting.{Turns};
+ghost use Rattle.sv_server.specs.Server.Inside.Ending.{Concludes, EndsAs, CallEndsAs, IsBriefly};
+ghost use Rattle.sv_server.specs.Device.Inside.Outcome.{IsBrief};
 
+use crate::conn::Conn;
 use crate::connection::Connection;
 use crate::connection::reply::Answer;
 use crate::connection::request::request_of;
 use crate::device::Device;
 use crate::device::call_outcome::CallOutcome;
-use crate::server::execution::{aborts, execute};
+use crate::server::execution::{Executed, execute};
 use std::alloc::Allocator;
 use sv_history::{Refused, Role};
 use sv_vxi::{ErrorCode, Reason, VxiResult};
@@ -39,14 +41,14 @@ pub enum Turned {
 pub fn turn<A: Allocator>(
     connection: &mut Connection<A>,
     device: &mut Device<A>,
-    conn: u8,
+    conn: Conn,
     role: Role,
 ) -> Result<Turned, Refused>
-    requires within { conn < 16 }
-    requires open { connection.old.role ≡ Some role }
-    ensures acts { (config : Config) (log : List Act) → IsConnection connection.old (of conn log)
+    requires { connection.old.role ≡ Some role }
+    ensures acts { (config : Config) (log : List Act)
+        → IsConnection connection.old (of conn.number log)
         → IsDevice device.old config (device_acts log)
-        → Turns config conn log device.old.waiting result connection.new device.new }
+        → Turns config conn.number log device.old.waiting result connection.new device.new }
     ensures err { OnErr result ((connection.new ≡ connection.old) × (device.new ≡ device.old)) }
 {
     let Some(call) = connection.next_call() else {
@@ -57,17 +59,41 @@ pub fn turn<A: Allocator>(
     }
     let request = request_of(role, call);
     let xid = request.xid();
-    let aborts = aborts(device, &request);
-    let Ok(outcome) = execute(device, conn, &request) else {
+    let Ok(executed) = execute(device, conn, &request) else {
         return Err(Refused::NoMemory);
     };
     connection.take_call();
-    conclude(xid, outcome, connection, device);
-    Ok(Turned::Done { aborts })
+    conclude(xid, executed, connection, device);
+    Ok(Turned::Done {
+        aborts: executed.aborts(),
+    })
 }
 
 /// Ends the record that was taken: by its answer, or as one that is no call; or lets it wait.
-pub fn conclude<A: Allocator>(
+fn conclude<A: Allocator>(
+    xid: u32,
+    executed: Executed,
+    connection: &mut Connection<A>,
+    device: &mut Device<A>,
+)
+    requires { IsBriefly executed }
+    ensures ends { (config : Config) (acts : List ConnAct) (before : List DeviceAct)
+        (effect : Effect)
+        → IsConnection connection.old acts → is_busy acts ≡ true
+        → EndsAs executed xid device.old config before effect
+        → Concludes effect config acts before connection.new device.new }
+    ensures waiting { device.new.waiting ≡ device.old.waiting }
+{
+    match executed {
+        Executed::NoCall => connection.fault(),
+        Executed::Answered(answer) => connection.answer(xid, &answer),
+        Executed::Aborts(aborted) => connection.answer(xid, &Answer::Result(aborted.result)),
+        Executed::Call(outcome) => conclude_call(xid, outcome, connection, device),
+    }
+}
+
+/// Ends a call of the core channel by its answer, or lets it wait.
+pub fn conclude_call<A: Allocator>(
     xid: u32,
     outcome: CallOutcome,
     connection: &mut Connection<A>,
@@ -77,14 +103,11 @@ pub fn conclude<A: Allocator>(
     ensures ends { (config : Config) (acts : List ConnAct) (before : List DeviceAct)
         (effect : Effect)
         → IsConnection connection.old acts → is_busy acts ≡ true
-        → EndsAs outcome xid device.old config before effect
+        → CallEndsAs outcome xid device.old config before effect
         → Concludes effect config acts before connection.new device.new }
     ensures waiting { device.new.waiting ≡ device.old.waiting }
 {
     match outcome {
-        CallOutcome::NoCall => connection.fault(),
-        CallOutcome::Header(reply) => connection.answer(xid, &Answer::Header(reply)),
-        CallOutcome::Port(port) => connection.answer(xid, &Answer::Port(port)),
         CallOutcome::Result(told) => connection.answer(xid, &Answer::Result(told)),
         CallOutcome::Reads { most, term } => answer_response(xid, most, term, connection, device),
         CallOutcome::Suspended => {}
@@ -106,7 +129,7 @@ fn answer_response<A: Allocator>(
         acts before connection.new device.new }
     ensures waiting { device.new.waiting ≡ device.old.waiting }
 {
-    let read = device.instrument.peek(most, term);
+    let read = device.peek_response(most, term);
     let count = read.bytes.len();
     let given = VxiResult::Read {
         error: ErrorCode::NoError,
@@ -118,6 +141,5 @@ fn answer_response<A: Allocator>(
         bytes: read.bytes,
     };
     connection.answer(xid, &Answer::Result(given));
-    let raised = device.instrument.take(count);
-    device.raise(raised);
+    device.take_response(count);
 }

@@ -1,91 +1,33 @@
--- What becomes of a record that was taken, or of a call that was suspended, as the code says it.
-use Rattle.std.specs.Prelude.{◌≡◌, ◌⊎◌, ℕ, ◌≤◌, ◌<◌, List, [], ◌∷◌, ◌++◌, length, map, Bool, true, false, Option, Some, None, Result, IfOk, OnErr, ⊤}
-use Rattle.std.specs.List.{concat}
-use Rattle.sv_xdr.specs.Spelling.{Unsigned, Field, spelling}
-use Rattle.sv_rpc.specs.Reply.{reply_fields}
-use Rattle.sv_rpc.specs.declared.reply.Reply.{Reply}
-use Rattle.sv_rpc.specs.declared.reply.Reply.TheVariants.{Success}
+-- What becomes of a call that begins, or of one that was suspended, as the code says it.
+use Rattle.std.specs.Prelude.{◌≡◌, ◌⊎◌, ℕ, ◌+◌, ◌<◌, ◌≤◌, List, [], ◌∷◌, ◌++◌, map, Bool, true, false, Option, Some, None, Result, IfOk, OnErr, ⊤}
 use Rattle.sv_vxi.specs.Arguments.{Arguments, CreateLink, is_create_link}
-use Rattle.sv_vxi.specs.Reading.{plain_arguments}
-use Rattle.sv_vxi.specs.Results.{Outcome as VxiOutcome, plain_result, result_fields, data_of}
+use Rattle.sv_vxi.specs.Results.{Outcome as VxiOutcome, plain_result, data_of}
 use Rattle.sv_links.specs.declared.waiting.Entry.{Entry}
 use Rattle.sv_links.specs.declared.waiting.Wait.{Wait}
 use Rattle.sv_links.specs.Links.{holder, is_locked_out}
 use Rattle.sv_links.specs.Waiting.{Left, waits}
-use Rattle.sv_links.specs.Queue.{creates, creations, without, anew}
+use Rattle.sv_links.specs.Queue.{creates, creations, without, anew, rank, rank_of}
 use Rattle.sv_exchange.specs.Exchange.{response}
-use Rattle.sv_exchange.specs.Limits.{max_read}
+use Rattle.sv_layers.specs.Act.{Act as InstrumentAct}
 use Rattle.sv_history.specs.declared.event.Config.{Config}
-use Rattle.sv_history.specs.Act.{DeviceAct, Waited, Faulted, Replied, link_acts, wait_acts, exchange_acts}
-use Rattle.sv_history.specs.Reply.{reply_record}
-use Rattle.sv_history.specs.CallOutcome.{CallOutcome}
-use Rattle.sv_history.specs.Effect.{Effect, call_effect}
-use Rattle.sv_history.specs.CoreCall.{CoreCall, creates_link}
-use Rattle.sv_history.specs.Request.{Request, NoCall, Decided, CoreRequest, AbortRequest, PortRequest}
+use Rattle.sv_history.specs.Act.{DeviceAct, Waited, Happened, link_acts, wait_acts, instrument_acts, exchange_acts}
+use Rattle.sv_history.specs.CallOutcome.{CallOutcome, only}
+use Rattle.sv_history.specs.CoreCall.{failure}
+use Rattle.sv_history.specs.Interrupts.{is_dialing, dialed}
 use Rattle.sv_history.specs.CoreChannel.{reads, own_call}
 use Rattle.sv_history.specs.Admission.{Stop, Fails, Awaits, stop_of, admitted}
-use Rattle.sv_history.specs.Execution.{request_effect}
-use Rattle.sv_history.specs.Resuming.{continued}
+use Rattle.sv_history.specs.Resuming.{continued, next_wait}
 use Rattle.sv_history.specs.PolledStatus.{IsPolled}
 use Rattle.sv_history.specs.History.{wants_memory}
-use Rattle.sv_server.specs.declared.connection.reply.Answer.{Answer}
-use Rattle.sv_server.specs.declared.connection.reply.Answer.TheVariants as answers
 use Rattle.sv_server.specs.declared.device.call_outcome.CallOutcome.{CallOutcome as Outcome}
 use Rattle.sv_server.specs.declared.device.call_outcome.CallOutcome.TheVariants as outcomes
-use Rattle.sv_server.specs.declared.device.core_call.CoreCall.{CoreCall as TakenCall}
-use Rattle.sv_server.specs.declared.connection.request.Request.{Request as Asked}
-use Rattle.sv_server.specs.declared.connection.request.Request.TheVariants as requests
+use Rattle.sv_server.specs.declared.device.resuming.Cause.{Cause}
+use Rattle.sv_server.specs.declared.device.resuming.Cause.TheVariants as causes
 use Rattle.sv_server.specs.declared.device.admission.Stop.{Stop as StoppedBy}
 use Rattle.sv_server.specs.declared.device.admission.Stop.TheVariants as stops
 use Rattle.sv_server.specs.Device.Representation.{Device, IsDevice, HasPlace}
 
--- ---- values of the code as plain data
-
--- the reply of an answer, and the fields behind it
-abbrev pub reply_of : Answer → Reply
-reply_of (answers.Header reply) = reply
-reply_of (answers.Port port) = Success
-reply_of (answers.Result outcome) = Success
-
-abbrev pub fields_of : Answer → List Field
-fields_of (answers.Header reply) = []
-fields_of (answers.Port port) = Unsigned port ∷ []
-fields_of (answers.Result outcome) = result_fields (plain_result outcome)
-
-abbrev pub answer_text : ℕ → Answer → List ℕ
-answer_text xid answer = concat (map spelling (reply_fields xid (reply_of answer) ++ fields_of answer))
-
-abbrev pub answer_bytes : ℕ → Answer → List ℕ
-answer_bytes xid answer = reply_record xid (reply_of answer) (fields_of answer)
-
--- an answer with at most so many bytes of data
-abbrev pub HasAtMost : ℕ → Answer → Type 0
-HasAtMost most (answers.Header reply) = ⊤
-HasAtMost most (answers.Port port) = ⊤
-HasAtMost most (answers.Result outcome) = length (data_of (plain_result outcome)) ≤ most
-
--- an answer whose data have room in a reply
-abbrev pub IsShort : Answer → Type 0
-IsShort answer = HasAtMost max_read answer
-
--- a call of the core channel, what a record asks for, and what stops a call
-abbrev pub plain_core_call : TakenCall → CoreCall
-plain_core_call call = record { xid = call.xid; arguments = plain_arguments call.args }
-
-abbrev pub plain_request : Asked → Request
-plain_request requests.NoCall = NoCall
-plain_request (requests.Decided xid reply) = Decided xid reply
-plain_request (requests.Core call) = CoreRequest (plain_core_call call)
-plain_request (requests.Abort xid lid) = AbortRequest xid lid
-plain_request (requests.Port xid args) = PortRequest xid args.now
-
-abbrev pub xid_of : Request → ℕ
-xid_of NoCall = 0
-xid_of (Decided xid reply) = xid
-xid_of (CoreRequest call) = call.xid
-xid_of (AbortRequest xid lid) = xid
-xid_of (PortRequest xid args) = xid
-
+-- what stops a call, as plain data
 abbrev pub plain_stop : StoppedBy → Stop
 plain_stop (stops.Fails error) = Fails error
 plain_stop (stops.Awaits wait timeout) = Awaits wait timeout
@@ -113,26 +55,6 @@ OutcomeIs (outcomes.Result given) device config acts what = IsResult what.result
 OutcomeIs (outcomes.Reads most term) device config acts what = (what ≡ reads (response (exchange_acts acts)) most term)
     × IsDevice device config acts
 OutcomeIs outcomes.Suspended device config acts what = (what.result ≡ None) × IsDevice device config (what.adds ++ acts)
-OutcomeIs _ device config acts what = ⊥
-
--- And so does a record.
-abbrev pub EndsAs : Outcome → ℕ → Device → Config → List DeviceAct → Effect → Type 0
-EndsAs outcomes.NoCall xid device config acts effect = (effect.own ≡ Faulted ∷ []) × IsDevice device config (effect.adds ++ acts)
-EndsAs (outcomes.Header reply) xid device config acts effect = (effect.own ≡ Replied (answer_bytes xid (answers.Header reply)) ∷ [])
-    × IsDevice device config (effect.adds ++ acts)
-EndsAs (outcomes.Port port) xid device config acts effect = (effect.own ≡ Replied (answer_bytes xid (answers.Port port)) ∷ [])
-    × IsDevice device config (effect.adds ++ acts)
-EndsAs (outcomes.Result given) xid device config acts effect = (effect.own ≡ Replied (answer_bytes xid (answers.Result given)) ∷ [])
-    × IsDevice device config (effect.adds ++ acts)
-EndsAs (outcomes.Reads most term) xid device config acts effect =
-    (effect ≡ call_effect xid (reads (response (exchange_acts acts)) most term)) × IsDevice device config acts
-EndsAs outcomes.Suspended xid device config acts effect = (effect.own ≡ []) × IsDevice device config (effect.adds ++ acts)
-
--- GETPORT is answered so.
-abbrev pub IsPortReply : Outcome → ℕ → List ℕ → Type 0
-IsPortReply (outcomes.Header reply) xid bytes = bytes ≡ answer_bytes xid (answers.Header reply)
-IsPortReply (outcomes.Port port) xid bytes = bytes ≡ answer_bytes xid (answers.Port port)
-IsPortReply _ xid bytes = ⊥
 
 -- Where a call makes a link, there is a place for it, and the lock is free where it asks for it.
 abbrev pub IsGranted : Arguments → Device → List DeviceAct → Type 0
@@ -140,7 +62,7 @@ IsGranted (CreateLink client_id lock_device lock_timeout device) kept acts =
     HasPlace kept acts × (lock_device ≡ true → is_locked_out (holder (link_acts acts)) None ≡ false)
 IsGranted _ kept acts = ⊤
 
--- ---- which calls wait
+-- ---- a call that begins
 
 -- A call that waits stands behind all that wait, and waits for the lock where it makes a link.
 abbrev pub IsBehind : ℕ → Bool → List Entry → List Entry → Type 0
@@ -150,26 +72,14 @@ IsBehind c makes old new =
 abbrev pub Enters : Outcome → ℕ → Bool → List Entry → List Entry → Type 0
 Enters outcome c makes old new = (new ≡ old) ⊎ ((outcome ≡ outcomes.Suspended) × IsBehind c makes old new)
 
--- the same of what a record asks for
-abbrev pub Holds : Outcome → ℕ → Request → List Entry → List Entry → Type 0
-Holds outcome c request old new = (new ≡ old)
-    ⊎ ((outcome ≡ outcomes.Suspended) × (call : CoreCall) × (request ≡ CoreRequest call)
-    × IsBehind c (is_create_link call.arguments) old new)
-
--- and of what the definitions say
-abbrev pub HeldAs : Effect → ℕ → Option CoreCall → List Entry → List Entry → Type 0
-HeldAs effect c call old new = (new ≡ old) ⊎ ((effect.own ≡ []) × IsBehind c (creates_link call) old new)
-
--- ---- a call that begins
-
--- A call or a record comes to this, or memory is wanting and nothing changed.
-pub record Does (IsSo : Config → ℕ → List DeviceAct → Outcome → Type 0) (Wants : Config → ℕ → List DeviceAct → Type 0)
-    {E : Type 0} (result : Result Outcome E) (old new : Device) : Type 0 where
+-- A call or a record comes to this, which is as brief as this; or memory is wanting and nothing changed.
+pub record Does {O : Type 0} (IsSo : Config → ℕ → List DeviceAct → O → Type 0) (Wants : Config → ℕ → List DeviceAct → Type 0)
+    (IsShort : O → Type 0) {E : Type 0} (result : Result O E) (old new : Device) : Type 0 where
   pub does : (config : Config) (polled : ℕ) (acts : List DeviceAct) → IsDeviceAt old config polled acts
       → IfOk result (λ outcome. IsSo config polled acts outcome)
   pub lacks : (config : Config) (polled : ℕ) (acts : List DeviceAct) → IsDeviceAt old config polled acts
       → OnErr result (Wants config polled acts)
-  pub brief : IfOk result (λ outcome. IsBrief outcome)
+  pub brief : IfOk result (λ outcome. IsShort outcome)
   pub err : OnErr result (new ≡ old)
 
 -- The call begins, where at these acts it is stopped so.
@@ -179,20 +89,13 @@ Begins IsAt result c arguments old new =
     → OutcomeIs outcome new config acts (admitted config polled c arguments (stop_of c arguments acts) acts)
     × Enters outcome c (is_create_link arguments) old.waiting new.waiting)
     (λ config polled acts. IsAt acts → wants_memory (admitted config polled c arguments (stop_of c arguments acts) acts).adds ≡ true)
-    result old new
+    IsBrief result old new
 
 abbrev pub Admits : {E : Type 0} → Result Outcome E → ℕ → Arguments → Device → Device → Type 0
 Admits result c arguments old new = Begins (λ acts. ⊤) result c arguments old new
 
 abbrev pub AdmitsAt : Option Stop → {E : Type 0} → Result Outcome E → ℕ → Arguments → Device → Device → Type 0
 AdmitsAt stop result c arguments old new = Begins (λ acts. stop_of c arguments acts ≡ stop) result c arguments old new
-
--- What a record asks for is done.
-abbrev pub Executes : Request → {E : Type 0} → Result Outcome E → ℕ → Device → Device → Type 0
-Executes request result c old new =
-    Does (λ config polled acts outcome. EndsAs outcome (xid_of request) new config acts (request_effect config polled c request acts)
-    × Holds outcome c request old.waiting new.waiting)
-    (λ config polled acts. wants_memory (request_effect config polled c request acts).adds ≡ true) result old new
 
 -- ---- a call that was suspended
 
@@ -214,13 +117,34 @@ abbrev pub Resumes : Outcome → ℕ → Bool → List Entry → List Entry → 
 Resumes outcome c makes old new = (new ≡ without c old)
     ⊎ ((outcome ≡ outcomes.Suspended) × (wait : Wait) × (deadline : Option ℕ) × (new ≡ map (anew c wait deadline) old) × (makes ≡ false))
 
--- A suspended call can resume: what it waits for is there, and where it makes a link, it waits for the lock as such.
-abbrev pub MayGoOn : Entry → Option CoreCall → Device → List DeviceAct → Type 0
-MayGoOn entry call kept acts = (waits entry.conn (wait_acts acts) ≡ None → ⊥)
-    × (creates_link call ≡ true → (creations (without entry.conn kept.waiting) < creations kept.waiting)
-    × (is_locked_out (holder (link_acts acts)) None ≡ false))
+-- It is taken up again for this: what it waits for is there, its peer was called, or it fails.
+abbrev pub is_able : Cause → Bool
+is_able (causes.Able wait) = true
+is_able _ = false
 
--- It waits no more; or, where it isn't answered, it waits for something else, and makes no link.
-abbrev pub WaitsOn : Effect → ℕ → Option CoreCall → List Entry → List Entry → Type 0
-WaitsOn effect c call old new = (new ≡ without c old)
-    ⊎ ((effect.own ≡ []) × (wait : Wait) × (deadline : Option ℕ) × (new ≡ map (anew c wait deadline) old) × (creates_link call ≡ false))
+-- One that can go on comes nearer to its end.
+abbrev pub IsNearer : Cause → ℕ → List Entry → Type 0
+IsNearer (causes.Able wait) c old = rank (without c old) + rank_of wait ≤ rank old
+IsNearer _ c old = ⊤
+
+abbrev pub MayGoOn : Cause → ℕ → Arguments → Device → List DeviceAct → Type 0
+MayGoOn (causes.Able wait) c arguments kept acts = (waits c (wait_acts acts) ≡ None → ⊥) × MayMake arguments c kept acts
+MayGoOn (causes.Dialed ok) c arguments kept acts = is_dialing c (wait_acts acts) ≡ true
+MayGoOn (causes.Failed error) c arguments kept acts = ⊤
+
+abbrev pub GoesOnAs : Cause → Outcome → Device → Config → ℕ → ℕ → Arguments → List DeviceAct → Type 0
+GoesOnAs (causes.Able wait) outcome device config polled c arguments acts =
+    ResumedAs (next_wait wait arguments acts) outcome device config polled c arguments acts
+GoesOnAs (causes.Dialed ok) outcome device config polled c arguments acts =
+    OutcomeIs outcome device config (Waited (Left c) ∷ acts) (dialed c ok arguments)
+GoesOnAs (causes.Failed error) outcome device config polled c arguments acts =
+    OutcomeIs outcome device config (Waited (Left c) ∷ acts) (only (failure arguments error))
+
+-- ---- a step of the instrument
+
+-- A step of this kind is taken, or there is none and nothing changes.
+abbrev pub InstrumentSteps : (List InstrumentAct → List InstrumentAct → Type 0) → Bool → Config → List DeviceAct → Device → Device → Type 0
+InstrumentSteps IsSuch true config acts old new = (adds : List InstrumentAct)
+    × IsSuch (instrument_acts acts) (adds ++ instrument_acts acts) × IsDevice new config (map Happened adds ++ acts)
+InstrumentSteps IsSuch false config acts old new =
+    ((next : List InstrumentAct) → IsSuch (instrument_acts acts) next → ⊥) × (new ≡ old)

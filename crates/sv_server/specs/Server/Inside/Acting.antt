@@ -1,5 +1,5 @@
 -- What a private function that does an event leaves.
-use Rattle.std.specs.Prelude.{◌≡◌, ℕ, ℤ, true, Bool, false, List, ◌∷◌, ◌++◌, map, Some, None, Result, Ok, Err, Option, ⊤}
+use Rattle.std.specs.Prelude.{◌≡◌, ℕ, ℤ, true, Bool, false, List, ◌∷◌, ◌++◌, Some, None, Result, Ok, Err, Option, ⊤}
 use Rattle.sv_errors.specs.Limits.{is_channel}
 use Rattle.sv_links.specs.declared.waiting.Entry.{Entry}
 use Rattle.sv_history.specs.declared.event.Config.{Config}
@@ -14,8 +14,7 @@ use Rattle.sv_server.specs.declared.server.settling.Stepped.TheVariants.{Nothing
 use Rattle.sv_links.specs.Channels.{ChannelAct}
 use Rattle.sv_history.specs.Event.{PlainEvent, Open, Bytes, Took}
 use Rattle.sv_history.specs.Requests.{HearsOf}
-use Rattle.sv_layers.specs.Act.{Act as InstrumentAct}
-use Rattle.sv_history.specs.Act.{Act, ConnAct, DeviceAct, CallTaken, Replied, Happened, of, device_acts, instrument_acts}
+use Rattle.sv_history.specs.Act.{Act, ConnAct, CallTaken, Replied, of, device_acts}
 use Rattle.sv_history.specs.CoreCall.{CoreCall}
 use Rattle.sv_history.specs.Request.{Request, core_call, next_request}
 use Rattle.sv_history.specs.Effect.{Effect}
@@ -28,7 +27,7 @@ use Rattle.sv_history.specs.History.{refusal, turn_refusal, refuse_refusal, own_
 use Rattle.sv_server.specs.Connection.Representation.{Connection, IsConnection}
 use Rattle.sv_server.specs.Device.Representation.{Device, IsDevice}
 use Rattle.sv_server.specs.Server.State.{State, Represents}
-use Rattle.sv_server.specs.Device.Inside.Outcome.{HeldAs, WaitsOn}
+use Rattle.sv_server.specs.Server.Inside.Ending.{Concludes, HeldAs}
 
 -- This is what refuses an event.
 abbrev pub IsRefusal : Config → PlainEvent → List Act → Option Refused → Type 0
@@ -48,16 +47,6 @@ is_quiet (Open c role) = true
 is_quiet (Bytes c piece) = true
 is_quiet (Took port count) = true
 is_quiet _ = false
-
--- The call that was taken comes to this.
-abbrev pub Concludes : Effect → Config → List ConnAct → List DeviceAct → Connection → Device → Type 0
-Concludes effect config acts before connection device =
-    IsConnection connection (effect.own ++ acts) × IsDevice device config (effect.adds ++ before)
-
--- A call that waited went on so.
-abbrev pub WentOn : Effect → ℕ → Option CoreCall → Config → List ConnAct → List DeviceAct → List Entry → Connection → Device → Type 0
-WentOn effect c call config acts before old connection device =
-    Concludes effect config acts before connection device × WaitsOn effect c call old device.waiting
 
 -- A Turn of an open connection takes its next call, where there is one.
 abbrev pub TakesCall : Config → ℕ → List Act → List ℕ → Request → (Effect → Type 0) → Type 0
@@ -91,13 +80,6 @@ IsInput channel microvolts (Err refused) = Some refused ≡ input_refusal channe
 abbrev pub TakesStep : (Config → List Act → List Act → Type 0) → Bool → Config → List Act → State → State → Type 0
 TakesStep IsStep true config log old new = (next : List Act) × IsStep config log next × Represents new config next
 TakesStep IsStep false config log old new = ((next : List Act) → IsStep config log next → ⊥) × (new ≡ old)
-
--- The same of the instrument alone.
-abbrev pub InstrumentSteps : (List InstrumentAct → List InstrumentAct → Type 0) → Bool → Config → List DeviceAct → Device → Device → Type 0
-InstrumentSteps IsSuch true config acts old new = (adds : List InstrumentAct)
-    × IsSuch (instrument_acts acts) (adds ++ instrument_acts acts) × IsDevice new config (map Happened adds ++ acts)
-InstrumentSteps IsSuch false config acts old new =
-    ((next : List InstrumentAct) → IsSuch (instrument_acts acts) next → ⊥) × (new ≡ old)
 
 -- The step that is due is taken, or none is.
 abbrev pub Steps : Stepped → Config → List Act → State → Type 0

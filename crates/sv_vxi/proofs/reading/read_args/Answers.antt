@@ -1,7 +1,6 @@
 use Rattle.std.proofs.Common.{subst, sym, arith}
 use Rattle.sv_vxi.specs.Arguments.{ArgumentsAre}
-use Rattle.sv_vxi.proofs.Spelled.{one_arguments}
-use Rattle.sv_vxi.proofs.ArgumentBytes.{arguments_are}
+use Rattle.sv_vxi.proofs.ArgumentBytes.{one_arguments, arguments_are}
 use Rattle.sv_vxi.proofs.reading.read_args.Goals as goal
 
 pub returns-clause-found : goal.returns-clause-found

@@ -8,4 +8,4 @@ returns-clause-value g c = rw (← c.self.view_is) (c.open_for_write.ensures.val
 pub returns-clause-answer : goal.returns-clause-answer
 returns-clause-answer g c = λ log h.
     let s = rw (← c.self.view_is) at h in
-    c.open_for_write.ensures.answer _ (c.exchange.ensures.stands log s.layers)
+    c.open_for_write.ensures.answer _ (c.exchange.ensures.stands log s.layers.stands)

@@ -1,8 +1,9 @@
-use Rattle.std.proofs.Common.{refl}
-use Rattle.sv_instrument.proofs.Running.{ran_one}
+use Rattle.std.proofs.Common.{arith, refl}
+use Rattle.sv_instrument.proofs.Counting.{counts, runs_none}
 use Rattle.sv_instrument.proofs.instrument.Instrument.clear.Goals as goal
 
 pub returns : goal.returns
 returns g c = λ log h.
-    let s = rw (← c.self.view_is) at h in
-    ran_one _ _ log _ _ (c.purge.ensures.happens log s.layers) refl c.root-self-inside.ensures c.one.ensures.value
+    let s = runs_none (rw (← c.self.view_is) at h) in
+    let purged = counts c.purge.ensures.happens s.layers in
+    c.take_requests.ensures.ran log _ (record { layers = purged; held = refl; path = c.root-self-inside.ensures }) (omega arith)

@@ -1,13 +1,13 @@
-use Rattle.std.proofs.Common.{refl}
-use Rattle.sv_instrument.proofs.Running.{ran_one}
+use Rattle.sv_instrument.proofs.Counting.{polled}
 use Rattle.sv_instrument.proofs.instrument.Instrument.poll.Goals as goal
 
 pub returns-clause-status : goal.returns-clause-status
 returns-clause-status g c = λ log h.
     let s = rw (← c.self.view_is) at h in
-    c.poll.ensures.status log s.layers
+    c.poll.ensures.status log s.layers.stands
 
 pub returns-clause-ran : goal.returns-clause-ran
 returns-clause-ran g c = λ log h.
     let s = rw (← c.self.view_is) at h in
-    ran_one _ _ log _ _ (c.poll.ensures.happens log s.layers) s.held s.path refl
+    let did = polled s.layers (c.poll.ensures.happens log s.layers.stands) in
+    record { stands = record { layers = did.0; held = s.held; path = s.path }; raises = did.1 }

@@ -10,4 +10,4 @@ returns-clause-value g c =
 pub returns-clause-answer : goal.returns-clause-answer
 returns-clause-answer g c = λ log h.
     let s = rw (← c.self.view_is) at h in
-    c.readable.ensures.answer _ (c.exchange.ensures.stands log s.layers)
+    c.readable.ensures.answer _ (c.exchange.ensures.stands log s.layers.stands)

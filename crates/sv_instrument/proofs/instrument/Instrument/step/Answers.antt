@@ -1,13 +1,7 @@
+use Rattle.sv_instrument.proofs.FewActs.{step_countable}
 use Rattle.sv_instrument.proofs.instrument.Instrument.step.Goals as goal
 
-pub returns-in-Some-clause-steps : goal.returns-in-Some-clause-steps
-returns-in-Some-clause-steps g c = c.release.ensures.steps
-
-pub returns-in-Some-clause-idle : goal.returns-in-Some-clause-idle
-returns-in-Some-clause-idle g c = c.release.ensures.idle
-
-pub returns-in-None-clause-steps : goal.returns-in-None-clause-steps
-returns-in-None-clause-steps g c = c.next_step.ensures.steps
-
-pub returns-in-None-clause-measure : goal.returns-in-None-clause-measure
-returns-in-None-clause-measure g c = c.next_step.ensures.measure
+pub returns-then-take_step-clause-steps : goal.returns-then-take_step-clause-steps
+returns-then-take_step-clause-steps g c = λ log h.
+    let step = (rw c.if-take_step.true at c.take_step.ensures).0 log h in
+    (step.0, step.1, c.take_requests.ensures.ran log step.0 step.2 (step_countable log step.0 step.1))

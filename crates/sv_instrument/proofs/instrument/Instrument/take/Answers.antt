@@ -1,4 +1,5 @@
-use Rattle.sv_instrument.proofs.Running.{ran_one}
+use Rattle.std.proofs.Common.{arith}
+use Rattle.sv_instrument.proofs.Counting.{counts, runs_none}
 use Rattle.sv_instrument.proofs.NextStep.{take_right}
 use Rattle.sv_instrument.proofs.instrument.Instrument.take.Goals as goal
 
@@ -8,5 +9,6 @@ invariant_of-self g c =
 
 pub returns : goal.returns
 returns g c = λ log h.
-    let s = rw (← c.self.view_is) at h in
-    ran_one _ _ log _ _ (c.take.ensures.happens log s.layers) s.held s.path c.one.ensures.value
+    let s = runs_none (rw (← c.self.view_is) at h) in
+    let taken = counts c.take.ensures.happens s.layers in
+    c.take_requests.ensures.ran log _ (record { layers = taken; held = s.held; path = s.path }) (omega arith)

@@ -1,17 +1,22 @@
-use Rattle.std.proofs.Common.{sym, subst}
-use Rattle.sv_layers.specs.Inside.Kept.{Layered, StandsFor as Stands}
-use Rattle.sv_instrument.proofs.Running.{ran_one}
-use Rattle.sv_instrument.proofs.NextStep.{ran_of}
+use Rattle.std.proofs.Common.{sym, subst, arith}
+use Rattle.sv_layers.specs.Inside.Kept.{Layered}
+use Rattle.sv_instrument.specs.Inside.Acted.{Counts}
+use Rattle.sv_instrument.proofs.Counting.{counted, counts, runs_none}
+use Rattle.sv_instrument.proofs.instrument.Instrument.trigger.Goals.{in-Ok, in-Err}
 use Rattle.sv_instrument.proofs.instrument.Instrument.trigger.Goals as goal
 
-pub returns-in-Ok : goal.returns-in-Ok
-returns-in-Ok g c = λ log h.
-    let s = rw (← c.self.view_is) at h in
-    let did = c.in-Ok.ensures.happens log s.layers in
-    rw did.0 (ran_one _ _ log _ _ did.1 s.held s.path c.one.ensures.value)
-
-pub returns-in-Err : goal.returns-in-Err
-returns-in-Err g c = λ log h.
-    let s = rw (← c.self.view_is) at h in
-    let same = subst (λ (layers : Layered). Stands layers log) (sym c.in-Err.ensures.refused) s.layers in
-    rw (c.in-Err.ensures.happens log s.layers) (ran_of _ log _ _ (c.change.ensures.acts log same) s.held s.path)
+pub returns : goal.returns
+returns g c = λ log h.
+    let s = runs_none (rw (← c.self.view_is) at h) in
+    elim c.match-trigger.branch [
+      | in-Ok w ↦
+          let did = w.in-Ok.ensures.happens log s.layers.stands in
+          let begun = counted did.1 s.layers in
+          rw did.0
+          (c.take_requests.ensures.ran log _ (rw w.self-is (record { layers = begun; held = s.held; path = s.path })) (omega arith))
+      | in-Err w ↦
+          let same = subst (λ (layers : Layered). Counts log layers log) (sym w.in-Err.ensures.refused) s.layers in
+          let reported = counts w.happen.ensures.happens same in
+          rw (w.in-Err.ensures.happens log s.layers.stands)
+          (c.take_requests.ensures.ran log _ (rw w.self-is (record { layers = reported; held = s.held; path = s.path })) (omega arith))
+    ]

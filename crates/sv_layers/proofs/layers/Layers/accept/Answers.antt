@@ -1,11 +1,8 @@
 use Rattle.std.proofs.Common.{refl}
-use Rattle.sv_exchange.specs.Exchange.{Accepted}
-use Rattle.sv_layers.specs.Act.{Exchanged}
 use Rattle.sv_layers.proofs.Acted.{exchange_acted}
 use Rattle.sv_layers.proofs.layers.Layers.accept.Goals as goal
 
 pub returns-clause-happens : goal.returns-clause-happens
 returns-clause-happens g c = λ log h.
     let k = rw (← c.self.view_is) at h in
-    let acted = exchange_acted _ log k _ (Accepted c.args.bytes.now c.args.ended) (c.accept.ensures.stands _ k.joined.exchange) in
-    c.settle.ensures.happens log (Exchanged (Accepted c.args.bytes.now c.args.ended)) acted refl
+    rw (← c.self.view_is) (c.settle.ensures.happens log _ (exchange_acted k (c.accept.ensures.stands _ k.joined.exchange)) refl)

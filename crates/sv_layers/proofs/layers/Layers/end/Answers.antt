@@ -3,7 +3,7 @@ use Rattle.sv_status.specs.declared.register_name.RegisterName.TheVariants.{Oper
 use Rattle.sv_status.specs.declared.standard_event.StandardAct.{StandardAct}
 use Rattle.sv_status.specs.StandardEvent.{StandsFor as Standards}
 use Rattle.sv_scan.specs.Condition as scan
-use Rattle.sv_errors.proofs.Since.{then_same}
+use Rattle.sv_logs.proofs.Since.{then_same}
 use Rattle.sv_layers.specs.Act.{scan_acts}
 use Rattle.sv_layers.specs.Change.{act_of}
 use Rattle.sv_layers.specs.Condition.{counted, limit_summary}

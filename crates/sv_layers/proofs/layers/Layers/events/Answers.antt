@@ -1,4 +1,4 @@
-use Rattle.sv_errors.proofs.Since.{then_same}
+use Rattle.sv_logs.proofs.Since.{then_same}
 use Rattle.sv_layers.proofs.SameEvents.{same_events}
 use Rattle.sv_layers.proofs.layers.Layers.events.Goals as goal
 

@@ -10,6 +10,6 @@ pub returns-clause-happens : goal.returns-clause-happens
 returns-clause-happens g c = λ log h.
     let act = act_of c.args.change in
     let begins = c.begin.ensures.stands (seen log) h.told h.joined in
-    c.tell.ensures.happens log act h.told h.are
+    rw (← c.begin.ensures.requests, ← c.end.ensures.requests) (c.tell.ensures.happens log act h.told h.are
     (subst (λ (told : List StatusAct). Joined c.end.new.self (seen (act ∷ log)) told) (unpolled c.args.change h.told)
-    (c.end.ensures.stands log act h.told ((λ name acts. refl), (λ acts. refl)) begins))
+    (c.end.ensures.stands log act h.told ((λ name acts. refl), (λ acts. refl)) begins)))

@@ -1,7 +1,6 @@
-use Rattle.std.proofs.Common.{◌≡◌, true, false, refl}
-use Rattle.sv_errors.proofs.Since.{then_same, since_ended}
+use Rattle.std.proofs.Common.{refl}
+use Rattle.sv_logs.proofs.Since.{then_same}
 use Rattle.sv_layers.specs.Act.{Polled}
-use Rattle.sv_layers.specs.StatusByte.{Reason, Lasts}
 use Rattle.sv_layers.proofs.SameRequests.{same_status}
 use Rattle.sv_layers.proofs.layers.Layers.poll.Goals as goal
 
@@ -13,7 +12,7 @@ returns-clause-status g c = λ log h k.
 pub returns-clause-happens : goal.returns-clause-happens
 returns-clause-happens g c = λ log h.
     let j = rw (← c.self.view_is) at h.joined in
-    let happens = c.settle.ensures.happens log Polled (record {
+    rw (← c.self.view_is) (c.settle.ensures.happens log Polled (record {
       told = h.told;
       are = h.are;
       joined = record {
@@ -28,10 +27,4 @@ returns-clause-happens g c = λ log h.
         service = j.service;
         waits = j.waits;
       };
-    }) refl in record {
-      stands = happens.stands;
-      requests = (
-        λ is. absurd (let z : false ≡ true = is in cc),
-        λ raised. absurd (since_ended Reason Lasts Polled log (λ lasts. lasts) raised.0),
-      );
-    }
+    }) refl)

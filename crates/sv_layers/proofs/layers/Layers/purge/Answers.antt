@@ -5,7 +5,7 @@ use Rattle.sv_layers.proofs.layers.Layers.purge.Goals as goal
 pub returns-clause-happens : goal.returns-clause-happens
 returns-clause-happens g c = λ log h.
     let j = rw (← c.self.view_is) at h.joined in
-    c.settle.ensures.happens log Purged (record {
+    rw (← c.self.view_is) (c.settle.ensures.happens log Purged (record {
       told = h.told;
       are = h.are;
       joined = record {
@@ -20,4 +20,4 @@ returns-clause-happens g c = λ log h.
         service = j.service;
         waits = refl;
       };
-    }) refl
+    }) refl)

@@ -1,7 +1,5 @@
 use Rattle.std.proofs.Common.{refl, ap, ◌∙◌, List}
-use Rattle.std.specs.Prelude.{if◌then◌else◌}
-use Rattle.sv_exchange.specs.Exchange.{ExchangeAct, Answered, AnswersDropped, answers, fits_response}
-use Rattle.sv_layers.specs.Act.{Exchanged}
+use Rattle.sv_exchange.specs.Exchange.{ExchangeAct, answers, fits_response}
 use Rattle.sv_layers.specs.Inside.Seen.{seen}
 use Rattle.sv_layers.proofs.Acted.{exchange_acted}
 use Rattle.sv_layers.proofs.Projected.{projected}
@@ -16,6 +14,5 @@ returns-clause-fits g c = λ log h.
 pub returns-clause-happens : goal.returns-clause-happens
 returns-clause-happens g c = λ log h.
     let k = rw (← c.self.view_is) at h in
-    let act : ExchangeAct = if c.respond-fits.result then Answered c.args.answer.now else AnswersDropped in
-    let acted = exchange_acted _ log k _ act (c.respond-fits.ensures.stands (seen log).exchange k.joined.exchange).1 in
-    c.settle-raised.ensures.happens log (Exchanged act) acted refl
+    rw (← c.self.view_is)
+    (c.settle.ensures.happens log _ (exchange_acted k (c.respond-fits.ensures.stands (seen log).exchange k.joined.exchange).1) refl)

@@ -4,4 +4,5 @@ use Rattle.sv_layers.proofs.layers.Layers.settle.Goals as goal
 
 pub returns-clause-happens : goal.returns-clause-happens
 returns-clause-happens g c = λ log act b plain.
-    c.tell.ensures.happens log act b.told b.are (c.end.ensures.stands log act (own_status act b.told) (plain_leaves act plain) b.joined)
+    rw (← c.end.ensures.requests)
+    (c.tell.ensures.happens log act b.told b.are (c.end.ensures.stands log act (own_status act b.told) (plain_leaves act plain) b.joined))

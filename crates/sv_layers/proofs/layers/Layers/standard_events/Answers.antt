@@ -1,4 +1,4 @@
-use Rattle.sv_errors.proofs.Since.{then_same}
+use Rattle.sv_logs.proofs.Since.{then_same}
 use Rattle.sv_layers.proofs.SameStandard.{same_standard_events}
 use Rattle.sv_layers.proofs.layers.Layers.standard_events.Goals as goal
 

@@ -1,4 +1,4 @@
-use Rattle.sv_errors.proofs.Since.{then_same}
+use Rattle.sv_logs.proofs.Since.{then_same}
 use Rattle.sv_layers.proofs.SameRequests.{same_status}
 use Rattle.sv_layers.proofs.layers.Layers.status_byte.Goals as goal
 

@@ -1,11 +1,12 @@
-use Rattle.std.proofs.Common.{◌≡◌, ℕ, true, ◌∷◌, List, refl, subst}
+use Rattle.std.proofs.Common.{◌≡◌, ℕ, ◌+◌, min, true, ◌∷◌, List, refl, ap, ◌∙◌, subst}
 use Rattle.std.specs.Prelude.{◌↔◌}
 use Rattle.sv_status.specs.declared.status_byte.StatusAct.{StatusAct}
 use Rattle.sv_status.specs.declared.status_byte.StatusAct.TheVariants.{Update}
 use Rattle.sv_status.specs.StatusByte.{StandsFor as Statuses, IsRaised}
 use Rattle.sv_layers.specs.Inside.Seen.{seen}
-use Rattle.sv_layers.specs.Inside.Kept.{IsStatus, own_status}
-use Rattle.sv_errors.proofs.Since.{then_same}
+use Rattle.sv_layers.specs.Inside.Kept.{IsStatus, max_count, own_status}
+use Rattle.sv_logs.proofs.Since.{then_same}
+use Rattle.sv_layers.proofs.Booleans.{byte_is}
 use Rattle.sv_layers.proofs.SameRequests.{told_raised}
 use Rattle.sv_layers.proofs.layers.Layers.tell.Goals as goal
 
@@ -14,11 +15,12 @@ returns-clause-happens g c = λ log act before is h.
     let j = rw (← c.self.view_is) at h in
     let told : List StatusAct = Update c.summary-bits.result (seen (act ∷ log)).service ∷ own_status act before in
     let are : IsStatus (act ∷ log) told = (c.summary-bits.result, before, c.summary-bits.ensures _ _ h, is, refl) in
-    let status : Statuses c.update.new.self told =
-    subst (λ (n : ℕ). Statuses c.update.new.self (Update c.summary-bits.result n ∷ own_status act before)) j.service
-    (c.update.ensures.stands _ j.status) in
-    let raised = subst (λ (n : ℕ). (c.update.result ≡ true) ↔ IsRaised (Update c.summary-bits.result n ∷ own_status act before)) j.service
-    (c.update.ensures.answer _ j.status) in
+    let status : Statuses c.update-raised.new.self told =
+    subst (λ (n : ℕ). Statuses c.update-raised.new.self (Update c.summary-bits.result n ∷ own_status act before)) j.service
+    (c.update-raised.ensures.stands _ j.status) in
+    let raised =
+    subst (λ (n : ℕ). (c.update-raised.result ≡ true) ↔ IsRaised (Update c.summary-bits.result n ∷ own_status act before)) j.service
+    (c.update-raised.ensures.answer _ j.status) in
     record {
       stands = record {
         told = told;
@@ -36,5 +38,8 @@ returns-clause-happens g c = λ log act before is h.
           waits = j.waits;
         };
       };
+      raised = c.update-raised.result;
       requests = then_same raised (told_raised (act ∷ log) told are);
+      count = rw (← c.self.view_is) (c.saturating_add-self-inside.ensures
+          ∙ ap (λ (n : ℕ). min (c.self.inside.requests + n) max_count) (c.from.ensures ∙ byte_is c.update-raised.result));
     }

@@ -11,7 +11,7 @@ pub returns-in-Ok-clause-happens : goal.returns-in-Ok-clause-happens
 returns-in-Ok-clause-happens g c = λ log h.
     let j = rw (← c.self.view_is) at h.joined in (
       no_fault _ (c.in-Ok.ensures.answer (scan_acts log) (lent_scanner _ log (rw (← c.self.view_is) at h))),
-      c.settle.ensures.happens log (Scanned (Trigger c.args.source)) (record {
+      rw (← c.self.view_is) (c.settle.ensures.happens log (Scanned (Trigger c.args.source)) (record {
         told = h.told;
         are = h.are;
         joined = record {
@@ -26,7 +26,7 @@ returns-in-Ok-clause-happens g c = λ log h.
           service = j.service;
           waits = search rules;
         };
-      }) refl,
+      }) refl),
     )
 
 pub returns-in-Ok-clause-scanning : goal.returns-in-Ok-clause-scanning

@@ -8,7 +8,7 @@ use Rattle.sv_xdr.proofs.Appended.{each_last}
 use Rattle.sv_xdr.proofs.Whole.{whole_is_written}
 use Rattle.sv_vxi.specs.Results.{plain_result, result_fields}
 use Rattle.sv_rpc.specs.Reply.{reply_fields}
-use Rattle.sv_server.specs.Device.Inside.Outcome.{IsShort}
+use Rattle.sv_server.specs.Connection.Inside.Replies.{IsShort}
 use Rattle.sv_server.proofs.OnConnection.Replies.{Written, HasRoom, both_are_written}
 use Rattle.sv_server.proofs.connection.reply.write_answer.Goals as goal
 

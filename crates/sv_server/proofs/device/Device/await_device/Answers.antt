@@ -8,8 +8,8 @@ use Rattle.sv_server.proofs.device.Device.await_device.Goals as goal
 pub returns-in_err-reserve : goal.returns-in_err-reserve
 returns-in_err-reserve g c = record {
   does = λ config polled acts known. search (rules, c.from_residual.ensures);
-  lacks = λ config polled acts known. on_err c.from_residual.result _ (λ at. rw at (lock_wants c.args.conn
-      (plain_arguments c.args.args.now) acts c.args.wait c.args.timeout _ c.requires.within at c.in_err-reserve.ensures.err.1));
+  lacks = λ config polled acts known. on_err c.from_residual.result _ (λ at. rw at (lock_wants c.args.conn.number
+      (plain_arguments c.args.args.now) acts c.args.wait c.args.timeout _ c.args.conn.within at c.in_err-reserve.ensures.err.1));
   brief = search (rules, c.from_residual.ensures);
   err = search rules;
 }
@@ -24,12 +24,13 @@ returns g c = record {
         (
           refl,
           c.enter.ensures.stands config acts is (λ both.
-              let known = lock_place c.args.conn arguments acts c.args.wait c.args.timeout at (rw lid at both) in place known.0 known.1),
+              let known = lock_place c.args.conn.number arguments acts c.args.wait c.args.timeout at (rw lid at both) in
+              place known.0 known.1),
         ),
         inr (
           refl,
           rw (← c.in_ok-reserve.ensures.waiting) (c.enter.ensures.waits _
-              (λ makes. rw lid (link_lock c.args.conn arguments acts c.args.wait c.args.timeout at makes))),
+              (λ makes. rw lid (link_lock c.args.conn.number arguments acts c.args.wait c.args.timeout at makes))),
         ),
       );
   lacks = λ config polled acts known. tt;

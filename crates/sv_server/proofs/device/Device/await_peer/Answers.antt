@@ -14,7 +14,7 @@ pub returns-in_err-prepare : goal.returns-in_err-prepare
 returns-in_err-prepare g c = record {
   does = λ config polled acts known. search (rules, c.from_residual.ensures);
   lacks = λ config polled acts known. on_err c.from_residual.result _
-      (λ at. rw at (dial_wants c.args.conn (lid_of (link (plain_arguments c.args.args.now))) _ c.requires));
+      (λ at. rw at (dial_wants c.args.conn.number (lid_of (link (plain_arguments c.args.args.now))) _ c.args.conn.within));
   brief = search (rules, c.from_residual.ensures);
   err = search rules;
 }
@@ -24,22 +24,23 @@ returns g c = record {
   does = λ config polled acts known at.
       let is = rw (← c.self.view_is) at known.0 in
       let lid : c.lid_of.result ≡ lid_of (link (plain_arguments c.args.args.now)) = rw c.link.ensures at c.lid_of.ensures in
-      let (none, other) = dials c.args.conn (plain_arguments c.args.args.now) acts c.args.timeout at in
+      let (none, other) = dials c.args.conn.number (plain_arguments c.args.args.now) acts c.args.timeout at in
       let prepared = device_same _ c.prepare.new.self config acts is c.prepare.ensures.stands c.prepare.ensures.enabled
       (λ d dials. c.in_ok-prepare.ensures.others d (is.7 d dials)) in
-      let ready = c.in_ok-prepare.ensures.ready is.6.0 is.6.2 (has_channel_told c.args.conn acts is.6.0 is.6.1 ∙ none) in
-      let less = entered_other (record { conn = c.args.conn; lid = c.lid_of.result; wait = Dial; deadline = c.deadline-deadline.result }) _
+      let ready = c.in_ok-prepare.ensures.ready is.6.0 is.6.2 (has_channel_told c.args.conn.number acts is.6.0 is.6.1 ∙ none) in
+      let less = entered_other
+      (record { conn = c.args.conn.number; lid = c.lid_of.result; wait = Dial; deadline = c.deadline-deadline.result }) _
       c.enter.new.self c.enter.ensures.value refl in
       rw (at, ← lid, ← (c.deadline-deadline.ensures config acts (prepared))) (
         (
           refl,
-          device_dialing _ c.enter.new.self config acts c.args.conn c.lid_of.result c.deadline-deadline.result prepared
+          device_dialing _ c.enter.new.self config acts c.args.conn.number c.lid_of.result c.deadline-deadline.result prepared
               (c.enter.ensures.stands (wait_acts acts) is.4) (omega (arith, is.5.0, less), omega (arith, is.5.1, less)) ready,
         ),
         inr (
           refl,
           (
-            record { conn = c.args.conn; lid = c.lid_of.result; wait = Dial; deadline = c.deadline-deadline.result },
+            record { conn = c.args.conn.number; lid = c.lid_of.result; wait = Dial; deadline = c.deadline-deadline.result },
             refl,
             rw (← c.self.view_is) c.enter.ensures.value,
             λ e. absurd {0} (let z : false ≡ true = sym other ∙ e in cc),

@@ -4,7 +4,7 @@ use Rattle.sv_exchange.specs.Exchange.{TextDropped}
 use Rattle.sv_layers.specs.Act.{Exchanged, Reported}
 use Rattle.sv_server.proofs.OnDevice.Raising.{device_ran}
 use Rattle.sv_history.specs.Act.{instrument_acts}
-use Rattle.sv_server.proofs.OnServer.Calls.{unread_ends}
+use Rattle.sv_server.proofs.OnDevice.Calls.{unread_ends}
 use Rattle.sv_server.proofs.device.Device.device_read.Goals as goal
 
 pub returns-clause-ends : goal.returns-clause-ends

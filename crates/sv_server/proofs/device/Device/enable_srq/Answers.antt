@@ -22,7 +22,7 @@ returns-clause-ends g c = λ config acts old owns.
     let short : length c.args.handle.now ≤ max_handle = c.if-handle-gt-MAX_HANDLE.false in
     rw (c.if-not-enable.false, le-ltb max_handle (length c.args.handle.now) short) (
       sym c.plain-2.ensures,
-      device_enabled _ c.enable.new.self config acts c.args.lid c.args.conn c.args.handle.now is
-          (owner_is c.args.conn (owner c.args.lid (link_acts acts)) owns) (c.enable.ensures.stands short)
+      device_enabled _ c.enable.new.self config acts c.args.lid c.args.conn.number c.args.handle.now is
+          (owner_is c.args.conn.number (owner c.args.lid (link_acts acts)) owns) (c.enable.ensures.stands short)
           (ready_same c.self.inside.intr c.enable.new.self c.enable.ensures.ready),
     )

@@ -6,4 +6,4 @@ pub returns : goal.returns
 returns g c = λ config acts old.
     let is = rw (← c.self.view_is) at old in
     let (told, tells, are, owned) = is.6 in
-    c.is_open.ensures told are ∙ has_channel_told c.args.conn acts told tells
+    c.is_open.ensures told are ∙ has_channel_told c.args.conn.number acts told tells

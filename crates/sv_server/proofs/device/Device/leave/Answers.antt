@@ -9,8 +9,8 @@ use Rattle.sv_server.proofs.device.Device.leave.Goals as goal
 pub returns-clause-ends : goal.returns-clause-ends
 returns-clause-ends g c = λ config polled acts known may.
     let is = rw (← c.self.view_is) at known.0 in
-    let left = device_left _ c.leave.new.self config acts c.args.conn is
+    let left = device_left _ c.leave.new.self config acts c.args.conn.number is
     (c.leave.ensures.stands (wait_acts acts) is.4) c.leave.ensures.value in
-    c.own_call.ensures.ends config polled (Waited (Left c.args.conn) ∷ acts) (left, known.1)
-    (granted_left (plain_arguments c.args.args.now) _ c.leave.new.self config acts c.args.conn is c.leave.ensures.value
+    c.own_call.ensures.ends config polled (Waited (Left c.args.conn.number) ∷ acts) (left, known.1)
+    (granted_left (plain_arguments c.args.args.now) _ c.leave.new.self config acts c.args.conn.number is c.leave.ensures.value
     (rw (← c.self.view_is) at may))

@@ -7,5 +7,5 @@ returns-clause-ends g c = λ config acts old place.
     let is = rw (← c.self.view_is) at old in
     let (number, table) = c.in-Ok.ensures.ok (link_acts acts) is.0 in
     let left = lids_there (link_acts acts) (λ none. not_refused c.in-Ok.lid ((c.in-Ok.ensures.refused (link_acts acts) is.0).1 none)) in
-    made_ends _ c.create.new.self config acts c.args.conn c.in-Ok.lid _ is (rw (← c.self.view_is) at place) left number table
+    made_ends _ c.create.new.self config acts c.args.conn.number c.in-Ok.lid _ is (rw (← c.self.view_is) at place) left number table
     c.in-Ok.ensures.spare c.told_link.ensures.told

@@ -16,4 +16,4 @@ returns-in-CreateIntrChan g c = λ config acts is. rw c.in-CreateIntrChan.is (ap
 pub returns-in-DeviceAbort : goal.returns-in-DeviceAbort
 returns-in-DeviceAbort g c =
     let other : takes_memory (plain_arguments c.args.args.now) ≡ false = search (rules, c.in-DeviceAbort.is) in
-    λ config acts is. rw (own_device c.args.conn (plain_arguments c.args.args.now) acts other) (c.device_stop.ensures config acts is)
+    λ config acts is. rw (own_device c.args.conn.number (plain_arguments c.args.args.now) acts other) (c.device_stop.ensures config acts is)

@@ -9,7 +9,7 @@ returns-in-Some-clause-resumes g c = λ config polled acts known waits may.
     let is = rw (← c.self.view_is) at known.0 in
     rw (← (c.in-Some.ensures.answer config acts known.0), ← c.io_timeout.ensures, ← (c.deadline-deadline.ensures config acts known.0)) (
       refl,
-      device_again _ c.again.new.self config acts c.args.conn c.in-Some.wait c.deadline-deadline.result is
+      device_again _ c.again.new.self config acts c.args.conn.number c.in-Some.wait c.deadline-deadline.result is
           (c.again.ensures.stands (wait_acts acts) is.4)
           (c.again.ensures.fewer (rank_other c.in-Some.wait c.in-Some.ensures.measure)) c.in-Some.ensures.plain,
     )

@@ -8,20 +8,20 @@ use Rattle.sv_server.proofs.device.Device.stop.Goals as goal
 
 pub returns-then-names_another : goal.returns-then-names_another
 returns-then-names_another g c = λ config acts is.
-    let another : names_another c.args.conn (link (plain_arguments c.args.args.now)) acts ≡ true =
+    let another : names_another c.args.conn.number (link (plain_arguments c.args.args.now)) acts ≡ true =
     sym (rw c.link.ensures at (c.if-names_another.ensures config acts is)) in
     rw another refl
 
 pub returns-then-is_too_long : goal.returns-then-is_too_long
 returns-then-is_too_long g c = λ config acts is.
-    let another : names_another c.args.conn (link (plain_arguments c.args.args.now)) acts ≡ false =
+    let another : names_another c.args.conn.number (link (plain_arguments c.args.args.now)) acts ≡ false =
     sym (rw c.link.ensures at (c.if-names_another.ensures config acts is)) in
     let long : is_too_long (plain_arguments c.args.args.now) ≡ true = sym c.if-is_too_long.ensures in
     rw (another, long) refl
 
 pub returns-then-is_kept_out : goal.returns-then-is_kept_out
 returns-then-is_kept_out g c = λ config acts is.
-    let another : names_another c.args.conn (link (plain_arguments c.args.args.now)) acts ≡ false =
+    let another : names_another c.args.conn.number (link (plain_arguments c.args.args.now)) acts ≡ false =
     sym (rw c.link.ensures at (c.if-names_another.ensures config acts is)) in
     let short : is_too_long (plain_arguments c.args.args.now) ≡ false = sym c.if-is_too_long.ensures in
     let out : is_kept_out (plain_arguments c.args.args.now) acts ≡ true = sym (c.if-is_kept_out.ensures config acts is) in
@@ -29,7 +29,7 @@ returns-then-is_kept_out g c = λ config acts is.
 
 pub returns : goal.returns
 returns g c = λ config acts is.
-    let another : names_another c.args.conn (link (plain_arguments c.args.args.now)) acts ≡ false =
+    let another : names_another c.args.conn.number (link (plain_arguments c.args.args.now)) acts ≡ false =
     sym (rw c.link.ensures at (c.if-names_another.ensures config acts is)) in
     let short : is_too_long (plain_arguments c.args.args.now) ≡ false = sym c.if-is_too_long.ensures in
     let out : is_kept_out (plain_arguments c.args.args.now) acts ≡ false = sym (c.if-is_kept_out.ensures config acts is) in

@@ -1,5 +1,11 @@
+use Rattle.sv_server.proofs.OnServer.Going.{within_of}
 use Rattle.sv_server.proofs.server.Server.abort.Goals as goal
 
-pub returns-in-Some : goal.returns-in-Some
-returns-in-Some g c = λ config log rep does.
-    rw c.in-Some.is (c.abort_call.ensures config log rep (does c.in-Some.conn c.in-Some.is))
+pub returns-in-Some-new : goal.returns-in-Some-new
+returns-in-Some-new g c = λ config log rep does.
+    rw (c.in-Some.is, ← c.in-Some-new.ensures) (c.give_up.ensures.stands config log rep
+    (rw (← c.in-Some-new.ensures) at (does c.in-Some.number c.in-Some.is)))
+
+pub returns-in_default-new : goal.returns-in_default-new
+returns-in_default-new g c = λ config log rep does.
+    absurd {0} (within_of _ config log c.in-Some.number rep (does c.in-Some.number c.in-Some.is) c.in_default-new.ensures)

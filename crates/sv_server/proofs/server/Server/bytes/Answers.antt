@@ -1,29 +1,39 @@
-use Rattle.std.proofs.Common.{refl, sym, ◌∙◌, arith}
+use Rattle.std.proofs.Common.{refl}
 use Rattle.std.proofs.lemmas.Bool.{le-ltb, lt-ltb}
 use Rattle.sv_history.specs.Act.{Piece, of}
-use Rattle.sv_server.proofs.OnServer.Logs.{connection_of, open_is, shut_is, one_act}
-use Rattle.sv_server.proofs.OnServer.Used.{open_used, used_act}
+use Rattle.sv_history.specs.Event.{Bytes}
+use Rattle.sv_server.proofs.OnServer.Logs.{connection_of, one_act}
+use Rattle.sv_server.proofs.OnServer.Standing.{no_connection}
+use Rattle.sv_server.proofs.OnServer.Used.{unshut_used, used_act}
 use Rattle.sv_server.proofs.server.Server.bytes.Goals as goal
+
+pub returns-in_err-conn-clause-acts : goal.returns-in_err-conn-clause-acts
+returns-in_err-conn-clause-acts g c = λ config log rep.
+    no_connection config (Bytes c.args.conn c.args.piece.now) log c.from_residual.result _ _ c.from_residual.ensures
+    (c.in_err-conn.ensures.answer config log rep) (λ shut told tells. rw shut refl)
 
 pub returns-then-room-piece-clause-acts : goal.returns-then-room-piece-clause-acts
 returns-then-room-piece-clause-acts g c = λ config log rep.
-    let at = rw c.from-2.ensures at c.index_mut-connection.ensures.value in
+    let conn = c.in_ok-conn.conn in
+    let at = rw c.index.ensures at c.index_mut-connection.ensures.value in
     let state = rw (← c.self.view_is) at rep in
-    let is = connection_of _ config log c.args.conn c.index_mut-connection.result.now state (omega arith) at in
-    let opened = open_is c.index_mut-connection.result.now _ _ is (sym c.is_open.ensures.value ∙ c.if-not-is_open.false) in
+    let is = connection_of _ config log conn.number c.index_mut-connection.result.now state conn.within at in
+    let unshut = rw (← c.in_ok-conn.ensures.same) at (c.in_ok-conn.ensures.answer config log rep) in
     let room = c.room.ensures.answer _ is in
-    λ told tells. rw (shut_is c.args.conn log _ (omega arith) opened, lt-ltb _ _ (rw room at c.if-room-piece.true)) refl
+    rw (← c.in_ok-conn.ensures.same) (λ told tells. rw (unshut, lt-ltb _ _ (rw room at c.if-room-piece.true)) refl)
 
 pub returns-clause-acts : goal.returns-clause-acts
 returns-clause-acts g c = λ config log rep.
-    let at = rw c.from-2.ensures at c.index_mut-connection.ensures.value in
+    let conn = c.in_ok-conn.conn in
+    let at = rw c.index.ensures at c.index_mut-connection.ensures.value in
     let state = rw (← c.self.view_is) at rep in
-    let is = connection_of _ config log c.args.conn c.index_mut-connection.result.now state (omega arith) at in
-    let opened = open_is c.index_mut-connection.result.now _ _ is (sym c.is_open.ensures.value ∙ c.if-not-is_open.false) in
-    let room = c.room.ensures.answer _ is in (
-      λ told tells. rw (shut_is c.args.conn log _ (omega arith) opened, le-ltb _ _ (rw room at c.if-room-piece.false)) refl,
+    let is = connection_of _ config log conn.number c.index_mut-connection.result.now state conn.within at in
+    let unshut = rw (← c.in_ok-conn.ensures.same) at (c.in_ok-conn.ensures.answer config log rep) in
+    let room = c.room.ensures.answer _ is in
+    rw (← c.in_ok-conn.ensures.same) (
+      λ told tells. rw (unshut, le-ltb _ _ (rw room at c.if-room-piece.false)) refl,
       refl,
-      λ polled said. rw c.from-2.ensures (one_act _ config log c.args.conn c.index_mut-connection.result.now c.push.new.self
-          (Piece c.args.piece.now) state c.self.invariant (omega arith) at (c.push.ensures (of c.args.conn log)) (λ call known. known) _
-          (used_act c.self.inside.used c.args.conn (Piece c.args.piece.now) log state.used (open_used (of c.args.conn log) opened))),
+      λ polled said. rw c.index.ensures (one_act _ config log conn.number c.index_mut-connection.result.now c.push.new.self
+          (Piece c.args.piece.now) state c.self.invariant conn.within at (c.push.ensures (of conn.number log)) (λ call known. known) _
+          (used_act c.self.inside.used conn.number (Piece c.args.piece.now) log state.used (unshut_used conn.number log unshut))),
     )

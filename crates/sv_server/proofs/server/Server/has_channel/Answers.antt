@@ -1,14 +1,13 @@
-use Rattle.std.proofs.Common.{sym, ap, arith, not, ◌∙◌}
-use Rattle.sv_history.specs.Act.{device_acts}
-use Rattle.sv_server.proofs.OnServer.Logs.{not_not}
-use Rattle.sv_server.proofs.OnDevice.Channels.{channel_shut_is, channel_beyond}
+use Rattle.std.proofs.Common.{◌≡◌, Bool, true, false, sym, ap, ◌∙◌}
+use Rattle.std.specs.Prelude.{not, Result, Ok, Err, MatchResult, is_ok}
+use Rattle.sv_history.specs.declared.event.Refused.{Refused}
+use Rattle.sv_history.specs.declared.event.Refused.TheVariants.{NoConn}
 use Rattle.sv_server.proofs.server.Server.has_channel.Goals as goal
 
-pub returns-then-from-ge-CONNECTIONS : goal.returns-then-from-ge-CONNECTIONS
-returns-then-from-ge-CONNECTIONS g c = λ config log rep. sym (ap not (channel_beyond c.args.conn log (omega arith)))
+ok_told : {A : Type 0} (r : Result A Refused) (b : Bool)
+    → MatchResult r (λ a. b ≡ false) (λ e. (e ≡ NoConn) × (b ≡ true)) → is_ok r ≡ not b
+ok_told (Ok a) b is = sym (ap not is)
+ok_told (Err e) b is = sym (ap not is.1)
 
 pub returns : goal.returns
-returns g c = λ config log rep.
-    let state = rw (← c.self.view_is) at rep in
-    let there = c.has_channel.ensures config (device_acts log) state.device in
-    not_not c.has_channel.result ∙ sym (ap not (channel_shut_is c.args.conn log c.has_channel.result (omega arith) (sym there)))
+returns g c = λ config log rep. c.is_ok.ensures.value ∙ ok_told c.with_channel.result _ (c.with_channel.ensures.answer config log rep)

@@ -7,14 +7,16 @@ use Rattle.sv_server.proofs.server.Server.open.Goals as goal
 
 pub returns-clause-acts : goal.returns-clause-acts
 returns-clause-acts g c = λ config log rep.
-    let at = rw c.from-2.ensures at c.index_mut-connection.ensures.value in
+    let conn = c.in-Some.conn in
+    let at = rw c.index.ensures at c.index_mut-connection.ensures.value in
     let state = rw (← c.self.view_is) at rep in
-    let is = connection_of _ config log c.args.conn c.index_mut-connection.result.now state (omega arith) at in
-    let shut = open_is c.index_mut-connection.result.now _ _ is (sym c.is_open.ensures.value ∙ c.if-is_open.false) in (
-      λ told tells. rw (le-ltb 15 c.args.conn (omega arith), shut) refl,
+    let is = connection_of _ config log conn.number c.index_mut-connection.result.now state conn.within at in
+    let shut = open_is c.index_mut-connection.result.now _ _ is (sym c.is_open.ensures.value ∙ c.if-is_open.false) in
+    rw (← c.in-Some.ensures) (
+      λ told tells. rw (le-ltb 15 conn.number (omega (arith, conn.within)), shut) refl,
       refl,
-      λ polled said. rw c.from-2.ensures (one_act _ config log c.args.conn c.index_mut-connection.result.now c.open.new.self
-          (Opened c.args.role) state c.self.invariant (omega arith) at (c.open.ensures (of c.args.conn log))
+      λ polled said. rw c.index.ensures (one_act _ config log conn.number c.index_mut-connection.result.now c.open.new.self
+          (Opened c.args.role) state c.self.invariant conn.within at (c.open.ensures (of conn.number log))
           (λ call known. absurd {0} (none_taken _ _ call is (c.is_open.ensures.shut c.if-is_open.false) known)) _
-          (used_opened c.self.inside.used c.args.conn _ (Opened c.args.role) log c.max-self-inside.ensures state.used)),
+          (used_opened c.self.inside.used conn.number _ (Opened c.args.role) log c.max-self-inside.ensures state.used)),
     )

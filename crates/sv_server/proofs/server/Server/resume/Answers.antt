@@ -10,13 +10,13 @@ use Rattle.sv_server.proofs.server.Server.resume.Goals as goal
 pub returns-clause-stands : goal.returns-clause-stands
 returns-clause-stands g c = λ config polled log rep said able is_entry fewer.
     let entry = c.args.entry in
-    let at = rw c.from.ensures at c.index_mut-connection.ensures.value in
+    let at = rw c.index.ensures at c.index_mut-connection.ensures.value in
     let state = rw (← c.self.view_is) at rep in
     let is = connection_of _ config log entry.conn c.index_mut-connection.result.now state c.requires.0 at in
     let (call, known, makes) = taken_one (IsTaken log) entry.conn _ entry state.taken (rw (← c.self.view_is) at c.requires.1) in
     let may = may_go_on c.self.inside.device entry log call able is_entry (rw (← c.self.view_is) at fewer) makes in
-    let gone = c.resume.ensures.concludes config polled (of entry.conn log) (device_acts log) is (ap is_some known) (state.device, said)
+    let gone = c.take_up.ensures.concludes config polled (of entry.conn log) (device_acts log) is (ap is_some known) (state.device, said)
     (rw known may) in
-    rw (c.from.ensures, known)
-    (went_on_stands _ config log entry.conn call _ c.resume.new.connection c.resume.new.device state c.self.invariant
+    rw (c.index.ensures, known)
+    (went_on_stands _ config log entry.conn call _ c.take_up.new.connection c.take_up.new.device state c.self.invariant
     c.requires.0 known (rw known at gone))

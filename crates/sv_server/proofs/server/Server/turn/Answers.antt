@@ -1,37 +1,46 @@
-use Rattle.std.proofs.Common.{sym, ap, ◌∙◌, arith}
-use Rattle.std.specs.Prelude.{is_some}
-use Rattle.sv_server.proofs.OnServer.Logs.{connection_of, shut_is}
+use Rattle.std.proofs.Common.{ℕ, refl, subst}
+use Rattle.std.specs.Prelude.{Err}
+use Rattle.sv_server.specs.Server.Inside.Acting.{Turns}
+use Rattle.sv_history.specs.Event.{Turn}
+use Rattle.sv_server.proofs.OnServer.Logs.{connection_of}
+use Rattle.sv_server.proofs.OnServer.Standing.{no_connection}
 use Rattle.sv_server.proofs.OnServer.Turning.{turn_refused, turn_idle, turn_done}
 use Rattle.sv_server.proofs.server.Server.turn.Goals as goal
 
+pub returns-in_err-conn-clause-acts : goal.returns-in_err-conn-clause-acts
+returns-in_err-conn-clause-acts g c = λ config log rep.
+    no_connection config (Turn c.args.conn) log c.from_residual.result _ _ c.from_residual.ensures
+    (c.in_err-conn.ensures.answer config log rep) (λ shut told tells. rw shut refl)
+
 pub returns-in-Err-clause-acts : goal.returns-in-Err-clause-acts
 returns-in-Err-clause-acts g c = λ config log rep.
-    let at = rw c.from-2.ensures at c.index_mut-connection.ensures.value in
+    let conn = c.in_ok-conn.conn in
+    let at = rw c.index.ensures at c.index_mut-connection.ensures.value in
     let state = rw (← c.self.view_is) at rep in
-    let is = connection_of _ config log c.args.conn c.index_mut-connection.result.now state (omega arith) at in
-    let role = sym is.role ∙ sym c.role.ensures ∙ c.in-Some.is in
-    let shut = shut_is c.args.conn log _ (omega arith) (ap is_some role) in
-    turn_refused config c.args.conn log c.self.inside.device.waiting c.in-Err.refused c.turn.new.connection c.turn.new.device _ shut
-    (c.in-Err.ensures.acts config log is state.device)
+    let is = connection_of _ config log conn.number c.index_mut-connection.result.now state conn.within at in
+    let unshut = rw (← c.in_ok-conn.ensures.same) at (c.in_ok-conn.ensures.answer config log rep) in
+    turn_refused config c.args.conn log c.self.inside.device.waiting c.in-Err.refused c.turn.new.connection c.turn.new.device _
+    (c.in_ok-conn.ensures.answer config log rep)
+    (subst (λ (n : ℕ). Turns config n log c.self.inside.device.waiting (Err c.in-Err.refused) c.turn.new.connection c.turn.new.device)
+    c.in_ok-conn.ensures.same (c.in-Err.ensures.acts config log is state.device))
 
 pub returns-in-Ok-Idle-clause-acts : goal.returns-in-Ok-Idle-clause-acts
 returns-in-Ok-Idle-clause-acts g c = λ config log rep.
-    let at = rw c.from-2.ensures at c.index_mut-connection.ensures.value in
+    let conn = c.in_ok-conn.conn in
+    let at = rw c.index.ensures at c.index_mut-connection.ensures.value in
     let state = rw (← c.self.view_is) at rep in
-    let is = connection_of _ config log c.args.conn c.index_mut-connection.result.now state (omega arith) at in
-    let role = sym is.role ∙ sym c.role.ensures ∙ c.in-Some.is in
-    let shut = shut_is c.args.conn log _ (omega arith) (ap is_some role) in
-    rw c.from-2.ensures (turn_idle _ config log c.args.conn c.turn.new.connection c.turn.new.device state c.self.invariant
-    (omega arith) shut
-    (rw c.in-Ok-Idle.field-0-is at (c.in-Ok-Idle.ensures.acts config log is state.device)))
+    let is = connection_of _ config log conn.number c.index_mut-connection.result.now state conn.within at in
+    let unshut = rw (← c.in_ok-conn.ensures.same) at (c.in_ok-conn.ensures.answer config log rep) in
+    rw (← c.in_ok-conn.ensures.same, c.index.ensures) (turn_idle _ config log conn.number c.turn.new.connection c.turn.new.device state
+    c.self.invariant conn.within unshut (rw c.in-Ok-Idle.field-0-is at (c.in-Ok-Idle.ensures.acts config log is state.device)))
 
 pub returns-in-Ok-Done-clause-acts : goal.returns-in-Ok-Done-clause-acts
 returns-in-Ok-Done-clause-acts g c = λ config log rep.
-    let at = rw c.from-2.ensures at c.index_mut-connection.ensures.value in
+    let conn = c.in_ok-conn.conn in
+    let at = rw c.index.ensures at c.index_mut-connection.ensures.value in
     let state = rw (← c.self.view_is) at rep in
-    let is = connection_of _ config log c.args.conn c.index_mut-connection.result.now state (omega arith) at in
-    let role = sym is.role ∙ sym c.role.ensures ∙ c.in-Some.is in
-    let shut = shut_is c.args.conn log _ (omega arith) (ap is_some role) in
-    turn_done _ c.abort.new.self config log c.args.conn c.in-Ok-Done.aborts c.turn.new.connection c.turn.new.device state
-    c.self.invariant (omega arith) shut (rw c.in-Ok-Done.field-0-is at (c.in-Ok-Done.ensures.acts config log is state.device))
-    (rw c.from-2.ensures at c.abort.ensures)
+    let is = connection_of _ config log conn.number c.index_mut-connection.result.now state conn.within at in
+    let unshut = rw (← c.in_ok-conn.ensures.same) at (c.in_ok-conn.ensures.answer config log rep) in
+    rw (← c.in_ok-conn.ensures.same) (turn_done _ c.abort.new.self config log conn.number c.in-Ok-Done.aborts c.turn.new.connection
+    c.turn.new.device state c.self.invariant conn.within unshut
+    (rw c.in-Ok-Done.field-0-is at (c.in-Ok-Done.ensures.acts config log is state.device)) (rw c.index.ensures at c.abort.ensures))

@@ -7,7 +7,7 @@ use Rattle.sv_history.specs.Effect.{result_reply}
 use Rattle.sv_history.specs.Refusing.{refusable}
 use Rattle.sv_history.specs.Limits.{longest_reply}
 use Rattle.sv_server.specs.Connection.Representation.{IsConnection}
-use Rattle.sv_server.specs.Device.Inside.Outcome.{plain_core_call}
+use Rattle.sv_server.specs.Connection.Inside.Requests.{plain_core_call}
 use Rattle.sv_server.proofs.OnServer.Turned.{flipped}
 use Rattle.sv_server.proofs.OnServer.Refusals.{refusable_is, refused_not}
 use Rattle.sv_server.proofs.server.refusing.refuse.Goals as goal

@@ -1,25 +1,20 @@
-use Rattle.std.proofs.Common.{ℕ, [], ◌∷◌, subst}
+use Rattle.std.proofs.Common.{ℕ, ◌∷◌, subst}
 use Rattle.sv_rpc.specs.declared.reply.Reply.TheVariants.{Success}
 use Rattle.sv_vxi.specs.Results.{Outcome, result_fields}
 use Rattle.sv_exchange.specs.Exchange.{ResponseRead}
 use Rattle.sv_layers.specs.Act.{Exchanged}
-use Rattle.sv_instrument.specs.Representation.{Ran}
-use Rattle.sv_history.specs.Act.{Replied, instrument_acts}
+use Rattle.sv_history.specs.Act.{Replied, Happened}
 use Rattle.sv_history.specs.Reply.{reply_record}
 use Rattle.sv_server.specs.Connection.Representation.{IsConnection}
+use Rattle.sv_server.specs.Device.Representation.{IsDevice}
 use Rattle.sv_server.proofs.OnServer.Turned.{read_is}
-use Rattle.sv_server.proofs.OnDevice.Raising.{device_ran}
 use Rattle.sv_server.proofs.server.turn.answer_response.Goals as goal
 
 pub returns-clause-ends : goal.returns-clause-ends
 returns-clause-ends g c = λ config acts before is busy old.
-    let device = rw (← c.device.view_is) at old in
-    let log = instrument_acts before in
-    let given = c.peek-read.ensures.answer log device.1 in
-    let ran = subst (λ (n : ℕ). Ran c.take-raised.new.self c.take-raised.result log (Exchanged (ResponseRead n) ∷ log)) given.size
-    (c.take-raised.ensures log device.1) in (
+    let given = c.peek_response-read.ensures.answer config before old in (
       subst (λ (o : Outcome). IsConnection c.answer.new.self (Replied (reply_record c.args.xid Success (result_fields o)) ∷ acts))
-          (read_is c.peek-read.result _ c.args.most c.args.term given) (c.answer.ensures acts is busy),
-      device_ran _ c.take-raised.new.self _ config before (Exchanged (ResponseRead _) ∷ []) c.take-raised.result device ran
-          c.raise.ensures.stands,
+          (read_is c.peek_response-read.result _ c.args.most c.args.term given) (c.answer.ensures acts is busy),
+      subst (λ (n : ℕ). IsDevice c.take_response.new.self config (Happened (Exchanged (ResponseRead n)) ∷ before)) given.size
+          (c.take_response.ensures.stands config before old),
     )

@@ -1,9 +1,5 @@
-use Rattle.sv_status.proofs.Words.{meets}
-use Rattle.sv_status.proofs.StandardEvents.{summary_is}
+use Rattle.sv_status.proofs.Words.{enabled_is}
 use Rattle.sv_status.proofs.standard_event.StandardEvent.summary.Goals as goal
 
 pub returns : goal.returns
-returns c acts is =
-    let meet = meets c.self.inside.event c.self.inside.enable in
-    let same = summary_is _ acts (rw (← c.self.view_is) at is) in
-    ((λ h. same.0 (meet.0 h)), (λ h. meet.1 (same.1 h)))
+returns c acts is = let kept = rw (← c.self.view_is) at is in enabled_is _ _ _ kept.enable kept.event

@@ -1,4 +1,4 @@
-use Rattle.sv_errors.proofs.Since.{then_same}
+use Rattle.sv_logs.proofs.Since.{then_same}
 use Rattle.sv_status.proofs.StatusBytes.{polled_bit}
 use Rattle.sv_status.proofs.status_byte.StatusByte.poll.Goals as goal
 

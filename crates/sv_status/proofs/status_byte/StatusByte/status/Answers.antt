@@ -1,4 +1,4 @@
-use Rattle.sv_errors.proofs.Since.{then_same}
+use Rattle.sv_logs.proofs.Since.{then_same}
 use Rattle.sv_status.proofs.StatusBytes.{master_bit}
 use Rattle.sv_status.proofs.status_byte.StatusByte.status.Goals as goal
 

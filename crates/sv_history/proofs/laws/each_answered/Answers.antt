@@ -1,5 +1,0 @@
-use Rattle.sv_history.proofs.EachAnswered.{each_answered}
-use Rattle.sv_history.proofs.laws.each_answered.Goals as goal
-
-pub returns : goal.returns
-returns c = each_answered

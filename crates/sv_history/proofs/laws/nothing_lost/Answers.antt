@@ -1,5 +1,0 @@
-use Rattle.sv_history.proofs.NothingLost.{nothing_lost}
-use Rattle.sv_history.proofs.laws.nothing_lost.Goals as goal
-
-pub returns : goal.returns
-returns c = nothing_lost

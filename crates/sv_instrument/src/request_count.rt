@@ -1,0 +1,21 @@
+//! How many requests for service were raised.
+
+ghost use Rattle.std.specs.Prelude.{◌≡◌, List};
+ghost use Rattle.sv_layers.specs.Act.{Act};
+ghost use Rattle.sv_instrument.specs.Representation.{Ran, left_of};
+ghost use Rattle.sv_instrument.specs.Inside.Acted.{IsCountable, Runs};
+
+use crate::instrument::Instrument;
+use std::alloc::Allocator;
+
+impl<A: Allocator> Instrument<A> {
+    /// How many requests for service were raised since this was asked last. Each call that may
+    /// raise one asks at its end.
+    pub(crate) fn take_requests(&mut self) -> u8
+        ensures ran { (start log : List Act) → Runs start self.old log → IsCountable start log
+            → Ran self.new result start log }
+        ensures measure { left_of self.new ≡ left_of self.old }
+    {
+        self.layers.take_requests()
+    }
+}

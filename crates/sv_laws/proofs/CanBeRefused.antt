@@ -1,0 +1,257 @@
+-- A call that finds no memory can be refused.
+use Rattle.std.proofs.Common.{◌≡◌, ℕ, Bool, true, false, cond, eqb, List, [], ◌∷◌, ◌++◌, Option, Some, None, nat_lt, refl, sym, ap, subst, ◌∙◌, inl, inr, append-nil}
+use Rattle.std.specs.Prelude.{not, is_some, is_none, option_map, ◌&&◌, ℤ, pos, negsuc}
+use Rattle.std.proofs.lemmas.Bool.{cases_Bool}
+use Rattle.sv_logs.proofs.Each.{Each}
+use Rattle.sv_vxi.specs.declared.error_code.ErrorCode.TheVariants.{Abort, InvalidLink, ParameterError}
+use Rattle.sv_vxi.specs.declared.arguments.LockWait.{LockWait}
+use Rattle.sv_vxi.specs.Arguments.{Arguments, CreateLink, DeviceWrite, DeviceRead, DeviceReadstb, DeviceTrigger, DeviceClear, DeviceRemote, DeviceLocal, DeviceLock, DeviceDocmd, CreateIntrChan, link, lock_wait, io_timeout, is_create_link}
+use Rattle.sv_links.specs.declared.waiting.Wait.{Wait}
+use Rattle.sv_links.specs.declared.waiting.Wait.TheVariants.{Lock, Input as ForInput, Response, Dial}
+use Rattle.sv_links.specs.Links.{Made, Destroyed, Locked, Unlocked, made}
+use Rattle.sv_links.specs.Waiting.{WaitAct, Entered, Left, is_lock, is_creating, creating, connections}
+use Rattle.sv_exchange.specs.Exchange.{has_ended}
+use Rattle.sv_instrument.specs.Step.{is_answerable}
+use Rattle.sv_history.specs.declared.event.Config.{Config}
+use Rattle.sv_history.specs.declared.event.Refused.TheVariants.{NoConn, NoRoom, NotRefusable}
+use Rattle.sv_history.specs.Event.{Refuse}
+use Rattle.sv_history.specs.Act.{Act, DeviceAct, CallTaken, Replied, Linked, Waited, Channel, Happened, Ticked, On, of, device_acts, link_acts, wait_acts, instrument_acts, exchange_acts}
+use Rattle.sv_history.specs.Connection.{unanswered, next_call, is_idle, free}
+use Rattle.sv_history.specs.Limits.{longest_reply}
+use Rattle.sv_history.specs.CoreCall.{CoreCall, lid_of, is_too_long}
+use Rattle.sv_history.specs.CoreChannel.{owns, own_call}
+use Rattle.sv_history.specs.Request.{Request, NoCall, Decided, CoreRequest, AbortRequest, PortRequest, core_call_in, next_request}
+use Rattle.sv_history.specs.Effect.{Effect, acts_of}
+use Rattle.sv_history.specs.Interrupts.{is_dial, is_dialing, dialing}
+use Rattle.sv_history.specs.Admission.{Stop, Fails, Awaits, names_another, is_kept_out, lock_stop, device_wait, deadline, own_stop, stop_of, admitted}
+use Rattle.sv_history.specs.Execution.{request_effect, aborts}
+use Rattle.sv_history.specs.Refusing.{takes_memory, refusable_call, refusable}
+use Rattle.sv_history.specs.Resuming.{failed}
+use Rattle.sv_history.specs.History.{taken_acts, turn_acts, refuse_acts, is_shut, wants_memory}
+use Rattle.sv_laws.proofs.Brought.{CanBeRefused}
+use Rattle.sv_history.proofs.Projections.{device_effect}
+use Rattle.sv_laws.proofs.EveryLog.Done.{IsDone, each_done}
+use Rattle.sv_laws.proofs.NothingLost.{is_done, not_both, filter_none, left_modest}
+
+-- ---- a call that is done
+
+done_made : (c : ℕ) (arguments : Arguments) (adds acts : List DeviceAct) → is_create_link arguments ≡ false
+    → Each (IsDone c arguments) adds acts → (made (link_acts adds) ≡ 0) × (wait_acts adds ≡ [])
+done_made c arguments [] acts other h = (refl, refl)
+done_made c arguments (Linked (Made lid conn) ∷ adds) acts other h = not_both (is_create_link arguments) other h.0.2
+done_made c arguments (Linked (Destroyed lid) ∷ adds) acts other h = done_made c arguments adds acts other h.1
+done_made c arguments (Linked (Locked lid) ∷ adds) acts other h = done_made c arguments adds acts other h.1
+done_made c arguments (Linked (Unlocked lid) ∷ adds) acts other h = done_made c arguments adds acts other h.1
+done_made c arguments (Waited act ∷ adds) acts other h = absurd h.0
+done_made c arguments (Channel act ∷ adds) acts other h = done_made c arguments adds acts other h.1
+done_made c arguments (Happened act ∷ adds) acts other h = done_made c arguments adds acts other h.1
+done_made c arguments (Ticked ∷ adds) acts other h = done_made c arguments adds acts other h.1
+
+creates_not : (arguments : Arguments) → takes_memory arguments ≡ false → is_create_link arguments ≡ false
+creates_not (CreateLink client_id lock_device lock_timeout device) e = absurd cc
+creates_not _ e = refl
+
+-- ---- a call that waits
+
+-- for something else than a peer, or than the lock with no link to name
+abbrev IsModest : Wait → Option ℕ → Type 0
+IsModest wait named = (is_dial (Some wait) ≡ false) × ((is_lock (Some wait) && is_none named) ≡ false)
+
+some_stop : (a b : Stop) → Some a ≡ Some b → a ≡ b
+some_stop a b e = cc
+
+device_modest : (arguments : Arguments) (acts : List DeviceAct) (timeout : Option ℕ) (wait : Wait) (until named : Option ℕ)
+    → option_map (λ wait. Awaits wait timeout) (device_wait arguments acts) ≡ Some (Awaits wait until) → IsModest wait named
+device_modest (DeviceWrite lid io_timeout lock_timeout flags bytes) acts timeout wait until named e =
+    by (has_ended (exchange_acts acts)) wait e
+  where
+    by : (b : Bool) (wait : Wait) → option_map (λ wait. Awaits wait timeout) (cond b (Some ForInput) None) ≡ Some (Awaits wait until)
+        → IsModest wait named
+    by true Lock e = absurd cc
+    by true ForInput e = (refl, refl)
+    by true Response e = absurd cc
+    by true Dial e = absurd cc
+    by false wait e = absurd cc
+device_modest (DeviceRead lid request_size io_timeout lock_timeout flags term_char) acts timeout wait until named e =
+    by (is_answerable (instrument_acts acts)) wait e
+  where
+    by : (b : Bool) (wait : Wait) → option_map (λ wait. Awaits wait timeout) (cond b None (Some Response)) ≡ Some (Awaits wait until)
+        → IsModest wait named
+    by false Lock e = absurd cc
+    by false ForInput e = absurd cc
+    by false Response e = (refl, refl)
+    by false Dial e = absurd cc
+    by true wait e = absurd cc
+device_modest _ acts timeout wait until named e = absurd cc
+
+own_modest : (c : ℕ) (arguments : Arguments) (acts : List DeviceAct) (wait : Wait) (until named : Option ℕ) → takes_memory arguments ≡ false
+    → own_stop c arguments acts ≡ Some (Awaits wait until) → IsModest wait named
+own_modest c (CreateLink client_id lock_device lock_timeout device) acts wait until named small e = absurd cc
+own_modest c (CreateIntrChan host_addr host_port prog_num prog_vers prog_family) acts wait until named small e = absurd cc
+own_modest c arguments acts wait until named small e = device_modest arguments acts (io_timeout arguments) wait until named e
+
+-- who minds the lock names a link
+named_by : (c : ℕ) (lid : ℤ) (acts : List DeviceAct) → not (owns c (lid_of (Some lid)) acts) ≡ false → is_none (lid_of (Some lid)) ≡ false
+named_by c (pos n) acts e = refl
+named_by c (negsuc n) acts e = absurd cc
+
+minds_named : (c : ℕ) (arguments : Arguments) (acts : List DeviceAct) → is_some (lock_wait arguments) ≡ true
+    → names_another c (link arguments) acts ≡ false → is_none (lid_of (link arguments)) ≡ false
+minds_named c (DeviceWrite lid io_timeout lock_timeout flags bytes) acts h e = named_by c lid acts e
+minds_named c (DeviceRead lid request_size io_timeout lock_timeout flags term_char) acts h e = named_by c lid acts e
+minds_named c (DeviceReadstb parms) acts h e = named_by c parms.lid acts e
+minds_named c (DeviceTrigger parms) acts h e = named_by c parms.lid acts e
+minds_named c (DeviceClear parms) acts h e = named_by c parms.lid acts e
+minds_named c (DeviceRemote parms) acts h e = named_by c parms.lid acts e
+minds_named c (DeviceLocal parms) acts h e = named_by c parms.lid acts e
+minds_named c (DeviceLock lid flags lock_timeout) acts h e = named_by c lid acts e
+minds_named c (DeviceDocmd lid flags io_timeout lock_timeout cmd network_order datasize bytes) acts h e = named_by c lid acts e
+minds_named c _ acts h e = absurd cc
+
+lock_modest : (found : Option LockWait) (wait : Wait) (until named : Option ℕ) → is_none named ≡ false
+    → Some (lock_stop found) ≡ Some (Awaits wait until) → IsModest wait named
+lock_modest (Some one) wait until named some e = by one.waits wait e
+  where
+    by : (b : Bool) (wait : Wait) → Some (cond b (Awaits Lock (Some one.timeout)) (lock_stop None)) ≡ Some (Awaits wait until)
+        → IsModest wait named
+    by true Lock e = (refl, some)
+    by true ForInput e = absurd cc
+    by true Response e = absurd cc
+    by true Dial e = absurd cc
+    by false wait e = absurd cc
+lock_modest None wait until named some e = absurd cc
+
+minds : (a b : Bool) → (a && b) ≡ true → a ≡ true
+minds true b e = refl
+minds false b e = absurd cc
+
+waits_modest : (c : ℕ) (arguments : Arguments) (acts : List DeviceAct) (wait : Wait) (until : Option ℕ) → takes_memory arguments ≡ false
+    → stop_of c arguments acts ≡ Some (Awaits wait until) → IsModest wait (lid_of (link arguments))
+waits_modest c arguments acts wait until small e =
+    by (names_another c (link arguments) acts) (is_too_long arguments) (is_kept_out arguments acts) refl refl e
+  where
+    by : (another long out : Bool) → names_another c (link arguments) acts ≡ another → is_kept_out arguments acts ≡ out
+        → cond another (Some (Fails InvalidLink)) (cond long (Some (Fails ParameterError))
+        (cond out (Some (lock_stop (lock_wait arguments))) (own_stop c arguments acts))) ≡ Some (Awaits wait until)
+        → IsModest wait (lid_of (link arguments))
+    by true long out a o e = absurd cc
+    by false true out a o e = absurd cc
+    by false false true a o e = lock_modest (lock_wait arguments) wait until (lid_of (link arguments))
+        (minds_named c arguments acts (minds (is_some (lock_wait arguments)) _ o) a) e
+    by false false false a o e = own_modest c arguments acts wait until (lid_of (link arguments)) small e
+
+entered_creates : (c d : ℕ) (named : Option ℕ) (wait : Wait) (last : Option ℕ) → (is_lock (Some wait) && is_none named) ≡ false
+    → is_creating (Entered c named wait last ∷ []) d ≡ false
+entered_creates c d named wait last h = elim (cases_Bool (eqb c d)) [ inl e ↦ rw e h | inr e ↦ rw e refl ]
+
+entered_dials : (c d : ℕ) (named : Option ℕ) (wait : Wait) (last : Option ℕ) → is_dial (Some wait) ≡ false
+    → is_dialing d (Entered c named wait last ∷ []) ≡ false
+entered_dials c d named wait last h = elim (cases_Bool (eqb c d)) [ inl e ↦ rw e h | inr e ↦ rw e refl ]
+
+modest_by : (acts : List DeviceAct) (calls : List WaitAct) → made (link_acts acts) ≡ 0 → wait_acts acts ≡ calls → creating calls ≡ 0
+    → dialing calls ≡ 0 → wants_memory acts ≡ false
+modest_by acts calls no_link is none nobody =
+    let a : creating (wait_acts acts) ≡ 0 = ap creating is ∙ none in
+    let b : dialing (wait_acts acts) ≡ 0 = ap dialing is ∙ nobody in rw (no_link, a, b) refl
+
+entered_modest : (c : ℕ) (named : Option ℕ) (wait : Wait) (last : Option ℕ) → IsModest wait named
+    → wants_memory (Waited (Entered c named wait last) ∷ []) ≡ false
+entered_modest c named wait last h =
+    let none : creating (Entered c named wait last ∷ []) ≡ 0 =
+    filter_none (is_creating (Entered c named wait last ∷ [])) connections (λ d. entered_creates c d named wait last h.1) in
+    let nobody : dialing (Entered c named wait last ∷ []) ≡ 0 =
+    filter_none (λ d. is_dialing d (Entered c named wait last ∷ [])) connections (λ d. entered_dials c d named wait last h.0) in
+    modest_by (Waited (Entered c named wait last) ∷ []) (Entered c named wait last ∷ []) refl refl none nobody
+
+-- ---- a call that takes none
+
+none_made : (adds : List DeviceAct) → made (link_acts adds) ≡ 0 → wait_acts adds ≡ [] → wants_memory adds ≡ false
+none_made adds none still = modest_by adds [] none still refl refl
+
+admitted_modest : (config : Config) (polled c : ℕ) (arguments : Arguments) (stop : Option Stop) (acts : List DeviceAct)
+    → takes_memory arguments ≡ false → stop_of c arguments acts ≡ stop
+    → wants_memory (admitted config polled c arguments stop acts).adds ≡ false
+admitted_modest config polled c arguments None acts small e =
+    let none = done_made c arguments (own_call config polled c arguments acts).adds acts (creates_not arguments small)
+    (each_done config polled c arguments acts) in
+    none_made (own_call config polled c arguments acts).adds none.0 none.1
+admitted_modest config polled c arguments (Some (Fails error)) acts small e = refl
+admitted_modest config polled c arguments (Some (Awaits wait until)) acts small e =
+    entered_modest c (lid_of (link arguments)) wait (deadline config until acts) (waits_modest c arguments acts wait until small e)
+
+-- what a record that was taken adds to what all share
+taken_adds : (c : ℕ) (bytes : List ℕ) (effect : Effect) (log : List Act) → device_acts (taken_acts c bytes effect None log) ≡ effect.adds
+taken_adds c bytes effect log = device_effect c effect (On c (CallTaken bytes) ∷ []) ∙ append-nil effect.adds
+
+abort_adds : (c d : ℕ) (bytes own : List ℕ) (log : List Act)
+    → wants_memory (device_acts (taken_acts c bytes (record { own = Replied own ∷ []; adds = [] }) (Some d) log)) ≡ false
+abort_adds c d bytes own log = by (core_call_in (unanswered (of d (On c (Replied own) ∷ On c (CallTaken bytes) ∷ log))))
+  where
+    by : (call : Option CoreCall)
+        → wants_memory (device_acts (acts_of d (failed Abort d call) ++ (On c (Replied own) ∷ On c (CallTaken bytes) ∷ []))) ≡ false
+    by (Some call) = left_modest d (Waited (Left d) ∷ []) refl refl
+    by None = left_modest d (Waited (Left d) ∷ []) refl refl
+
+aborts_modest : (c : ℕ) (bytes own : List ℕ) (found : Option ℕ) (log : List Act)
+    → wants_memory (device_acts (taken_acts c bytes (record { own = Replied own ∷ []; adds = [] }) found log)) ≡ false
+aborts_modest c bytes own (Some d) log = abort_adds c d bytes own log
+aborts_modest c bytes own None log = refl
+
+is_small : (arguments : Arguments) (call : CoreCall) → cond (takes_memory arguments) (Some call) None ≡ None
+    → takes_memory arguments ≡ false
+is_small arguments call e = by (takes_memory arguments) e
+  where
+    by : (b : Bool) → cond b (Some call) None ≡ None → b ≡ false
+    by true e = absurd cc
+    by false e = refl
+
+request_modest : (config : Config) (polled c : ℕ) (bytes : List ℕ) (request : Request) (log : List Act)
+    → refusable_call (Some request) ≡ None
+    → wants_memory (device_acts (taken_acts c bytes (request_effect config polled c request (device_acts log))
+    (aborts request (device_acts log)) log)) ≡ false
+request_modest config polled c bytes NoCall log e = refl
+request_modest config polled c bytes (Decided xid reply) log e = refl
+request_modest config polled c bytes (PortRequest xid args) log e = refl
+request_modest config polled c bytes (AbortRequest xid lid) log e =
+    aborts_modest c bytes _ (aborts (AbortRequest xid lid) (device_acts log)) log
+request_modest config polled c bytes (CoreRequest call) log e =
+    subst (λ (adds : List DeviceAct). wants_memory adds ≡ false)
+    (sym (taken_adds c bytes (request_effect config polled c (CoreRequest call) (device_acts log)) log))
+    (admitted_modest config polled c call.arguments (stop_of c call.arguments (device_acts log)) (device_acts log)
+    (is_small call.arguments call e) refl)
+
+-- ---- so one that wants some can be refused
+
+turn_refusable : (config : Config) (polled c : ℕ) (found : Option (List ℕ)) (request : Option Request) (log : List Act)
+    → wants_memory (device_acts (turn_acts config polled c found request log)) ≡ true
+    → (is_none found ≡ false) × (is_none (refusable_call request) ≡ false)
+turn_refusable config polled c (Some bytes) (Some request) log h = (refl, by (refusable_call (Some request)) refl)
+  where
+    by : (call : Option CoreCall) → refusable_call (Some request) ≡ call → is_none call ≡ false
+    by (Some call) e = refl
+    by None e = not_both _ (request_modest config polled c bytes request log e) h
+turn_refusable config polled c (Some bytes) None log h = absurd cc
+turn_refusable config polled c None (Some request) log h = absurd cc
+turn_refusable config polled c None None log h = absurd cc
+
+free_by : (shut idle few none : Bool) → cond shut (Some NoConn) (cond idle None (cond few (Some NoRoom) None)) ≡ None
+    → idle ≡ false → none ≡ false
+    → cond shut (Some NoConn) (cond none (Some NotRefusable) (cond few (Some NoRoom) None)) ≡ None
+free_by true idle few none h busy some = absurd cc
+free_by false true few none h busy some = absurd cc
+free_by false false few true h busy some = absurd cc
+free_by false false few false h busy some = h
+
+refuse_modest : (c : ℕ) (found : Option (List ℕ)) (call : Option CoreCall) → wants_memory (device_acts (refuse_acts c found call)) ≡ false
+refuse_modest c (Some bytes) (Some call) = refl
+refuse_modest c (Some bytes) None = refl
+refuse_modest c None (Some call) = refl
+refuse_modest c None None = refl
+
+pub can_be_refused : CanBeRefused
+can_be_refused config history c log result was (told, hears, (open_so, polled, said, wants)) (also, hears_also, h) =
+    let can = turn_refusable config polled c (next_call (of c log)) (next_request (of c log)) log wants in
+    is_done config also (Refuse c) log result
+    (free_by (is_shut c log) (is_idle (of c log)) (nat_lt (free (of c log)) longest_reply) (is_none (refusable (of c log)))
+    open_so can.0 can.1) refl
+    (λ polled. refuse_modest c (next_call (of c log)) (refusable (of c log))) h

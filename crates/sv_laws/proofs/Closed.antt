@@ -1,0 +1,134 @@
+-- The owners of links, where a connection is closed.
+use Rattle.std.proofs.Common.{◌≡◌, ◌≢◌, ℕ, Bool, true, false, eqb, cond, List, [], ◌∷◌, ◌++◌, Option, Some, None, refl, sym, ap, ◌∙◌, inl, inr, eq-eqb}
+use Rattle.std.specs.Prelude.{map, filter, find, option_map, ◌||◌}
+use Rattle.std.specs.List.{AllByRecursion}
+use Rattle.std.proofs.lemmas.Bool.{ne_eqb, cases_Bool}
+use mathlib.Core.List.{reverse_aux, reverse_aux-eq}
+use Rattle.sv_logs.proofs.Each.{Each}
+use Rattle.sv_links.specs.declared.links.Link.{Link}
+use Rattle.sv_links.specs.Links.{LinkAct, Destroyed, live, owner, is_of, links_of, closing, is_locked, holder}
+use Rattle.sv_links.specs.Table.{IsRising}
+use Rattle.sv_links.proofs.Closing.{gone, of_conn, has, locked-gone, has-owner}
+use Rattle.sv_laws.proofs.LinksAlike.{IsForeignLink, MakesNone, owner_destroyed, owner_is_of, holder_locked}
+
+some_number : (a b : ℕ) → Some a ≡ Some b → a ≡ b
+some_number a b e = cc
+
+-- a connection's links
+abbrev links_in : ℕ → List LinkAct → List Link
+links_in c acts = filter (of_conn c) (live acts)
+
+closing_gone : (c : ℕ) (acts : List LinkAct) → closing c acts ++ acts ≡ gone (links_in c acts) acts
+closing_gone c acts = sym (reverse_aux-eq (map Destroyed (links_of c acts)) acts)
+
+-- the number of a link of its own is one of theirs
+owned_has : (c n : ℕ) (xs : List Link) → option_map (λ link. link.conn) (find (λ link. eqb link.lid n) xs) ≡ Some c
+    → has n (filter (of_conn c) xs) ≡ true
+owned_has c n [] h = absurd cc
+owned_has c n (x ∷ xs) h = elim (cases_Bool (eqb x.lid n)) [
+  | inl e ↦ let same : x.conn ≡ c = some_number x.conn c (rw e at h) in rw (eq-eqb x.conn c same, e) refl
+  | inr e ↦ elim (cases_Bool (eqb x.conn c)) [
+    | inl k ↦ rw (k, e) (owned_has c n xs (rw e at h))
+    | inr k ↦ rw k (owned_has c n xs (rw e at h))
+  ]
+]
+
+either : (a b : Bool) (found : Option ℕ) → cond b None (cond a None found) ≡ cond (a || b) None found
+either true true found = refl
+either true false found = refl
+either false true found = refl
+either false false found = refl
+
+owner_gone : (n : ℕ) (ys : List Link) (acts : List LinkAct) → owner n (gone ys acts) ≡ cond (has n ys) None (owner n acts)
+owner_gone n [] acts = refl
+owner_gone n (y ∷ ys) acts = owner_gone n ys (Destroyed y.lid ∷ acts)
+    ∙ ap (λ (found : Option ℕ). cond (has n ys) None found) (owner_destroyed n y.lid acts)
+    ∙ either (eqb y.lid n) (has n ys) (owner n acts)
+
+owner_closed : (c n : ℕ) (acts : List LinkAct) → owner n (closing c acts ++ acts) ≡ cond (has n (links_in c acts)) None (owner n acts)
+owner_closed c n acts = ap (owner n) (closing_gone c acts) ∙ owner_gone n (links_in c acts) acts
+
+-- an owner behind the closing was one in front of it, and is another connection
+pub closed_before : (c d n : ℕ) (acts : List LinkAct) → owner n (closing c acts ++ acts) ≡ Some d → (d ≢ c) × (owner n acts ≡ Some d)
+closed_before c d n acts h = elim (cases_Bool (has n (links_in c acts))) [
+  | inl e ↦ absurd (let z : None ≡ Some d = sym (owner_closed c n acts ∙ rw e refl) ∙ h in cc)
+  | inr e ↦
+      let was : owner n acts ≡ Some d = sym (owner_closed c n acts ∙ rw e refl) ∙ h in (
+        (λ (same : d ≡ c).
+            let z : true ≡ false = sym (owned_has c n (live acts) (was ∙ ap (λ (m : ℕ). Some m) same)) ∙ e in cc),
+        was,
+      )
+]
+
+-- its links lose the lock
+pub closed_frees : (c lid : ℕ) (acts : List LinkAct) → owner lid acts ≡ Some c → holder (closing c acts ++ acts) ≡ Some lid → ⊥
+closed_frees c lid acts owns h =
+    let free : is_locked lid (gone (links_in c acts) acts) ≡ false =
+    locked-gone lid (links_in c acts) acts ∙ rw (owned_has c lid (live acts) owns) refl in
+    holder_locked lid (closing c acts ++ acts) (ap (is_locked lid) (closing_gone c acts) ∙ free) h
+
+-- ---- the numbers of another connection's links
+
+all_then : (P Q : Link → Type 0) (xs : List Link) → ((x : Link) → P x → Q x) → AllByRecursion P xs → AllByRecursion Q xs
+all_then P Q [] so h = tt
+all_then P Q (x ∷ xs) so h = (so x h.0, all_then P Q xs so h.1)
+
+or_true : (a b : Bool) → b ≡ true → (a || b) ≡ true
+or_true true b e = refl
+or_true false b e = e
+
+all_has : (ys : List Link) → AllByRecursion (λ y. has y.lid ys ≡ true) ys
+all_has [] = tt
+all_has (y ∷ ys) = (
+  rw (eq-eqb y.lid y.lid refl) refl,
+  all_then (λ x. has x.lid ys ≡ true) (λ x. has x.lid (y ∷ ys) ≡ true) ys (λ x h. or_true (eqb y.lid x.lid) (has x.lid ys) h) (all_has ys),
+)
+
+all_numbers : (P : ℕ → Type 0) (ys : List Link) → AllByRecursion (λ y. P y.lid) ys → AllByRecursion P (map (λ link. link.lid) ys)
+all_numbers P [] h = tt
+all_numbers P (y ∷ ys) h = (h.0, all_numbers P ys h.1)
+
+other_owner : (c d : ℕ) (found : Option ℕ) → d ≢ c → found ≡ Some d → is_of c found ≡ false
+other_owner c d found ne h = rw h (ne_eqb d c ne)
+
+closed_others : (c d last : ℕ) (acts : List LinkAct) → d ≢ c → IsRising (live acts) last
+    → AllByRecursion (λ n. is_of c (owner n acts) ≡ false) (links_of d acts)
+closed_others c d last acts ne rising = all_numbers (λ n. is_of c (owner n acts) ≡ false) (links_in d acts)
+    (all_then (λ y. has y.lid (links_in d acts) ≡ true) (λ y. is_of c (owner y.lid acts) ≡ false) (links_in d acts)
+    (λ y h. other_owner c d (owner y.lid acts) ne
+    (owner_is_of d (owner y.lid acts) (sym (has-owner d y.lid (live acts) last rising) ∙ h))) (all_has (links_in d acts)))
+
+-- what isn't the connection's stays so
+still_other : (c n lid : ℕ) (acts : List LinkAct) → is_of c (owner n acts) ≡ false → is_of c (owner n (Destroyed lid ∷ acts)) ≡ false
+still_other c n lid acts h = elim (cases_Bool (eqb lid n)) [
+  | inl e ↦ ap (is_of c) (owner_destroyed n lid acts) ∙ rw e refl
+  | inr e ↦ ap (is_of c) (owner_destroyed n lid acts) ∙ rw e h
+]
+
+still_others : (c lid : ℕ) (acts : List LinkAct) (ns : List ℕ) → AllByRecursion (λ n. is_of c (owner n acts) ≡ false) ns
+    → AllByRecursion (λ n. is_of c (owner n (Destroyed lid ∷ acts)) ≡ false) ns
+still_others c lid acts [] h = tt
+still_others c lid acts (n ∷ ns) h = (still_other c n lid acts h.0, still_others c lid acts ns h.1)
+
+each_destroyed : (c : ℕ) (ns : List ℕ) (behind acts : List LinkAct)
+    → AllByRecursion (λ n. is_of c (owner n (behind ++ acts)) ≡ false) ns
+    → Each (λ before act. IsForeignLink c act before) behind acts
+    → Each (λ before act. IsForeignLink c act before) (reverse_aux (map Destroyed ns) behind) acts
+each_destroyed c [] behind acts h k = k
+each_destroyed c (n ∷ ns) behind acts h k =
+    each_destroyed c ns (Destroyed n ∷ behind) acts (still_others c n (behind ++ acts) ns h.1) (h.0, k)
+
+-- the closing of another connection is of others alone
+pub closed_foreign : (c d last : ℕ) (acts : List LinkAct) → d ≢ c → IsRising (live acts) last
+    → Each (λ before act. IsForeignLink c act before) (closing d acts) acts
+closed_foreign c d last acts ne rising = each_destroyed c (links_of d acts) [] acts (closed_others c d last acts ne rising) tt
+
+-- and none of it makes a link
+each_gone : (IsSuch : List LinkAct → LinkAct → Type 0) → ((before : List LinkAct) (n : ℕ) → IsSuch before (Destroyed n)) → (ns : List ℕ)
+    (behind acts : List LinkAct)
+    → Each IsSuch behind acts → Each IsSuch (reverse_aux (map Destroyed ns) behind) acts
+each_gone IsSuch so [] behind acts h = h
+each_gone IsSuch so (n ∷ ns) behind acts h = each_gone IsSuch so ns (Destroyed n ∷ behind) acts (so (behind ++ acts) n, h)
+
+pub closed_makes_none : (c : ℕ) (acts : List LinkAct) → Each (λ before act. MakesNone act) (closing c acts) acts
+closed_makes_none c acts = each_gone (λ before act. MakesNone act) (λ before n. tt) (links_of c acts) [] acts tt

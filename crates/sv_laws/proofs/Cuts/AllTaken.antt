@@ -1,0 +1,108 @@
+-- Behind a call that was answered no whole record is left, and so as many records came to their end as there are: whatever comes next is
+-- read on from the tail alone.
+use Rattle.std.proofs.Common.{◌≡◌, ℕ, ◌+◌, ◌<◌, Bool, true, false, cond, List, [], ◌∷◌, ◌++◌, length, drop, Some, None, slice_get, refl, sym, ap, ◌∙◌, append_assoc, append-nil, arith}
+use Rattle.std.specs.Prelude.{◌||◌, is_some}
+use Rattle.std.proofs.lemmas.List.{length-append, length-drop, append_cancel_right}
+use Rattle.std.proofs.lemmas.Option.{slice_get_within}
+use Rattle.sv_rpc.specs.Stream.{records_of, tail_of}
+use Rattle.sv_history.specs.declared.event.Config.{Config}
+use Rattle.sv_history.specs.Event.{PlainEvent}
+use Rattle.sv_history.specs.Act.{Act, ConnAct, Opened, Piece, CallTaken, Faulted, Replied, BytesTaken, PortClosed, of}
+use Rattle.sv_history.specs.Connection.{open_role, stream, completed, took_no_call, unanswered}
+use Rattle.sv_laws.specs.Cuts.{without_pieces}
+use Rattle.sv_laws.proofs.Cuts.ReadsOn.{resumed_at, records_more}
+use Rattle.sv_laws.proofs.Cuts.BytesBehind.{GoesOn, behind_bare, behind_stream}
+use Rattle.sv_laws.proofs.Cuts.Fed.{Fed, shows, shown_bare}
+
+-- ---- without pieces
+
+pub role_bare : (acts : List ConnAct) → open_role acts ≡ open_role (without_pieces acts)
+role_bare [] = refl
+role_bare (Opened role ∷ acts) = refl
+role_bare (PortClosed ∷ acts) = refl
+role_bare (_ ∷ acts) = role_bare acts
+
+pub call_bare : (acts : List ConnAct) → unanswered acts ≡ unanswered (without_pieces acts)
+call_bare [] = refl
+call_bare (Piece bytes ∷ acts) = call_bare acts
+call_bare (BytesTaken count ∷ acts) = call_bare acts
+call_bare (_ ∷ acts) = refl
+
+pub no_call_bare : (acts : List ConnAct) → took_no_call acts ≡ took_no_call (without_pieces acts)
+no_call_bare [] = refl
+no_call_bare (Opened role ∷ acts) = refl
+no_call_bare (PortClosed ∷ acts) = refl
+no_call_bare (Faulted ∷ acts) = refl
+no_call_bare (_ ∷ acts) = no_call_bare acts
+
+completed_bare : (acts : List ConnAct) → completed acts ≡ completed (without_pieces acts)
+completed_bare [] = refl
+completed_bare (Opened role ∷ acts) = refl
+completed_bare (PortClosed ∷ acts) = refl
+completed_bare (Faulted ∷ acts) = ap (λ (n : ℕ). n + 1) (completed_bare acts)
+completed_bare (Replied bytes ∷ acts) = ap (λ (n : ℕ). n + 1) (completed_bare acts)
+completed_bare (_ ∷ acts) = completed_bare acts
+
+-- ---- the stream goes on
+
+abbrev Longer : List ConnAct → List ConnAct → Type 0
+Longer acts rest = (more : List ℕ) × (stream (acts ++ rest) ≡ stream rest ++ more)
+
+longer_piece : (bytes : List ℕ) (acts rest : List ConnAct) → Longer acts rest → Longer (Piece bytes ∷ acts) rest
+longer_piece bytes acts rest (more, is) =
+    (more ++ bytes, ap (λ (l : List ℕ). l ++ bytes) is ∙ append_assoc (stream rest) more bytes)
+
+pieces_alone : (acts rest : List ConnAct) → without_pieces acts ≡ [] → Longer acts rest
+pieces_alone [] rest none = ([], sym (append-nil (stream rest)))
+pieces_alone (Piece bytes ∷ acts) rest none = longer_piece bytes acts rest (pieces_alone acts rest none)
+pieces_alone (_ ∷ acts) rest none = absurd cc
+
+reply_alone : (reply : List ℕ) (acts rest : List ConnAct) → without_pieces acts ≡ Replied reply ∷ [] → Longer acts rest
+reply_alone reply [] rest one = absurd cc
+reply_alone reply (Piece bytes ∷ acts) rest one = longer_piece bytes acts rest (reply_alone reply acts rest one)
+reply_alone reply (Replied bytes ∷ acts) rest one = let none : without_pieces acts ≡ [] = cc in pieces_alone acts rest none
+reply_alone reply (_ ∷ acts) rest one = absurd cc
+
+module _ (c : ℕ) (config : Config) (past : List PlainEvent) (log : List Act) (reply call : List ℕ) (rest : List ConnAct)
+    (fed : Fed c config past log reply call rest) where
+  fed_stream : GoesOn c fed.base log
+  fed_stream =
+      let shown = shows c config call fed.base fed.last fed.taking in
+      let one : without_pieces shown.0 ≡ Replied reply ∷ [] =
+      append_cancel_right (without_pieces shown.0) (Replied reply ∷ []) (CallTaken call ∷ without_pieces (of c fed.base))
+      (sym (shown_bare c call fed.base fed.last shown) ∙ fed.acts) in
+      let front = reply_alone reply shown.0 (CallTaken call ∷ of c fed.base) one in
+      let behind = behind_stream c fed.last log fed.came in (
+        front.0 ++ behind.0,
+        behind.1 ∙ ap (λ (l : List ℕ). l ++ behind.0) (ap stream shown.2 ∙ front.1)
+            ∙ append_assoc (stream (of c fed.base)) front.0 behind.0,
+      )
+
+  pub fed_bare : without_pieces (of c log) ≡ Replied reply ∷ CallTaken call ∷ without_pieces (of c fed.base)
+  fed_bare = behind_bare c fed.last log fed.came ∙ fed.acts
+
+  fed_count : completed (of c log) ≡ completed (of c fed.base) + 1
+  fed_count = completed_bare (of c log) ∙ ap completed fed_bare ∙ ap (λ (n : ℕ). n + 1) (sym (completed_bare (of c fed.base)))
+
+  fed_within : completed (of c fed.base) < length (records_of (stream (of c fed.base)))
+  fed_within = slice_get_within (records_of (stream (of c fed.base))) (completed (of c fed.base)) call
+      (by_test (took_no_call (of c fed.base) || is_some (unanswered (of c fed.base))) fed.taking.next)
+    where
+      by_test : (t : Bool) → cond t None (slice_get (records_of (stream (of c fed.base))) (completed (of c fed.base))) ≡ Some call
+          → slice_get (records_of (stream (of c fed.base))) (completed (of c fed.base)) ≡ Some call
+      by_test true is = absurd cc
+      by_test false is = is
+
+  -- where none is left, each of its records came to its end
+  pub fed_all : drop (completed (of c log)) (records_of (stream (of c log))) ≡ []
+      → length (records_of (stream (of c log))) ≡ completed (of c log)
+  fed_all none =
+      let records = records_of (stream (of c log)) in
+      let before = records_of (stream (of c fed.base)) in
+      let grown = fed_stream in
+      let more = (resumed_at (tail_of (stream (of c fed.base))) grown.0).0 in
+      let all : length records ≡ length (before ++ more) =
+      ap (λ (l : List ℕ). length (records_of l)) grown.1
+      ∙ ap (λ (l : List (List ℕ)). length l) (records_more (stream (of c fed.base)) grown.0) in
+      let left : length (drop (completed (of c log)) records) ≡ 0 = ap (λ (l : List (List ℕ)). length l) none in
+      omega (arith, all, left, length-append before more, length-drop (completed (of c log)) records, fed_count, fed_within)

@@ -1,0 +1,182 @@
+-- Two logs, in one of which a write was accepted whole, and in the other in two parts: they are the same but for that, and stay so over
+-- the same steps.
+use Rattle.std.proofs.Common.{◌≡◌, ◌≢◌, ℕ, Bool, false, List, ◌∷◌, ◌++◌, None, refl, sym, ap, subst, ◌∙◌, inl, inr}
+use Rattle.std.proofs.lemmas.Bool.{cases_eq}
+use Rattle.sv_errors.specs.declared.code.Code.TheVariants.{InputBufferOverrun}
+use Rattle.sv_exchange.specs.Exchange.{Overran}
+use Rattle.sv_layers.specs.Act.{Act as InstrumentAct, Exchanged, Reported, exchange_acts as exchanged}
+use Rattle.sv_history.specs.Act.{Act, ConnAct, DeviceAct, CallTaken, Replied, Happened, On, OnDevice, of, device_acts, instrument_acts}
+use Rattle.sv_history.specs.Connection.{unanswered}
+use Rattle.sv_history.proofs.Projections.{of_mine, of_other}
+use Rattle.sv_laws.proofs.Cuts.SameExchange.{text_cut}
+use Rattle.sv_laws.proofs.Cuts.SameStatus.{SameStatus, status_same, status_act, status_accepted, status_back}
+use Rattle.sv_laws.proofs.Cuts.SameDevice.{SameDevice, device_back, Tells, tells_happened, accepts, tells_accepted, tells_also}
+use Rattle.sv_laws.proofs.Cuts.SharedEvents.{calls_behind}
+use Rattle.sv_laws.proofs.Cuts.SharedLogs.{device_front, tells_front, IsKept}
+use Rattle.sv_laws.proofs.Cuts.NoCallTaken.{of_append}
+use Rattle.sv_laws.proofs.Cuts.BytesBehind.{CameBehind, behind_device, behind_others, behind_call}
+use Rattle.sv_laws.proofs.Cuts.Written.{wrote}
+
+-- ---- what all connections share
+
+-- the status, and what is told
+record SameTold (acts other : List DeviceAct) : Type 0 where
+  status : SameStatus (instrument_acts acts) (instrument_acts other)
+  tells : Tells acts other
+  back : Tells other acts
+
+told_none : (acts : List DeviceAct) → SameTold acts acts
+told_none acts = record { status = status_same (instrument_acts acts); tells = λ told h. h; back = λ told h. h }
+
+told_back : (acts other : List DeviceAct) → SameTold acts other → SameTold other acts
+told_back acts other v =
+    record { status = status_back (instrument_acts acts) (instrument_acts other) v.status; tells = v.back; back = v.tells }
+
+told_accepts : (bytes : List ℕ) (ended : Bool) (acts other : List DeviceAct) → SameTold acts other
+    → SameTold (accepts bytes ended ∷ acts) other
+told_accepts bytes ended acts other v = record {
+  status = status_accepted bytes ended (instrument_acts acts) (instrument_acts other) v.status;
+  tells = λ told h. v.tells told (tells_accepted bytes ended acts told h);
+  back = λ told h. tells_also bytes ended acts told (v.back told h);
+}
+
+told_happened : (act : InstrumentAct) (acts other : List DeviceAct) → SameTold acts other
+    → SameTold (Happened act ∷ acts) (Happened act ∷ other)
+told_happened act acts other v = record {
+  status = status_act act (instrument_acts acts) (instrument_acts other) v.status;
+  tells = tells_happened act acts other v.status v.tells;
+  back = tells_happened act other acts (status_back (instrument_acts acts) (instrument_acts other) v.status) v.back;
+}
+
+-- all that is shared
+pub record SameShared (acts other : List DeviceAct) : Type 0 where
+  pub device : SameDevice acts other
+  pub tells : Tells acts other
+  pub back : Tells other acts
+
+-- a write that is accepted whole, and in two parts
+pub parts_shared : (x y : List ℕ) (ended : Bool) (acts : List DeviceAct)
+    → SameShared (accepts (x ++ y) ended ∷ acts) (accepts y ended ∷ accepts x false ∷ acts)
+parts_shared x y ended acts =
+    let parts = told_accepts y ended (accepts x false ∷ acts) acts (told_accepts x false acts acts (told_none acts)) in
+    let v = told_accepts (x ++ y) ended acts (accepts y ended ∷ accepts x false ∷ acts)
+    (told_back (accepts y ended ∷ accepts x false ∷ acts) acts parts) in
+    record {
+      device = record {
+        links = refl;
+        waits = refl;
+        channels = refl;
+        instrument = record { status = v.status; texts = sym (text_cut x y ended (exchanged (instrument_acts acts))); holds = refl };
+        clock = refl;
+      };
+      tells = v.tells;
+      back = v.back;
+    }
+
+-- and where it is reported behind the first part, and behind the whole, that the message is too long
+abbrev pub reports : List DeviceAct → List DeviceAct
+reports acts = Happened (Reported InputBufferOverrun) ∷ Happened (Exchanged Overran) ∷ acts
+
+told_reports : (acts other : List DeviceAct) → SameTold acts other → SameTold (reports acts) (reports other)
+told_reports acts other v = told_happened (Reported InputBufferOverrun) (Happened (Exchanged Overran) ∷ acts)
+    (Happened (Exchanged Overran) ∷ other) (told_happened (Exchanged Overran) acts other v)
+
+pub long_shared : (x y : List ℕ) (ended : Bool) (acts : List DeviceAct)
+    → SameShared (reports (accepts (x ++ y) ended ∷ acts)) (accepts y ended ∷ reports (accepts x false ∷ acts))
+long_shared x y ended acts =
+    let whole = accepts (x ++ y) ended ∷ acts in
+    let first = accepts x false ∷ acts in
+    let both = told_accepts (x ++ y) ended acts first (told_back first acts (told_accepts x false acts acts (told_none acts))) in
+    let behind = told_reports whole first both in
+    let v = told_back (accepts y ended ∷ reports first) (reports whole)
+    (told_accepts y ended (reports first) (reports whole) (told_back (reports whole) (reports first) behind)) in
+    record {
+      device = record {
+        links = refl;
+        waits = refl;
+        channels = refl;
+        instrument = record { status = v.status; texts = sym (text_cut x y ended (exchanged (instrument_acts acts))); holds = refl };
+        clock = refl;
+      };
+      tells = v.tells;
+      back = v.back;
+    }
+
+shared_moved : (acts other a b : List DeviceAct) → a ≡ acts → b ≡ other → SameShared acts other → SameShared a b
+shared_moved acts other a b x y v =
+    subst (λ (l : List DeviceAct). SameShared l b) (sym x) (subst (λ (l : List DeviceAct). SameShared acts l) (sym y) v)
+
+-- ---- two logs
+
+-- beside the one connection, whose calls were others
+pub record Beside (c : ℕ) (log other : List Act) : Type 0 where
+  pub shared : SameShared (device_acts log) (device_acts other)
+  pub calls : (d : ℕ) → unanswered (of d log) ≡ unanswered (of d other)
+  pub others : (d : ℕ) → d ≢ c → of d log ≡ of d other
+
+beside_more : (c : ℕ) (adds log other : List Act) → Beside c log other → Beside c (adds ++ log) (adds ++ other)
+beside_more c adds log other v = record {
+  shared = record {
+    device = device_front adds log other v.shared.device;
+    tells = tells_front adds log other v.shared.device v.shared.tells;
+    back = tells_front adds other log (device_back (device_acts log) (device_acts other) v.shared.device) v.shared.back;
+  };
+  calls = calls_behind adds log other v.calls;
+  others = λ d ne. of_append d adds log ∙ ap (λ (l : List ConnAct). of d adds ++ l) (v.others d ne) ∙ sym (of_append d adds other);
+}
+
+pub beside_kept : (c : ℕ) → IsKept (Beside c)
+beside_kept c = record {
+  calls = λ log other v. record { device = v.shared.device; calls = v.calls };
+  more = beside_more c;
+}
+
+-- ---- more bytes come on the connection
+
+calls_came : (c d : ℕ) (base log : List Act) → CameBehind c base log → unanswered (of d log) ≡ unanswered (of d base)
+calls_came c d base log came = elim (cases_eq d c) [
+  | inl e ↦ subst (λ (n : ℕ). unanswered (of n log) ≡ unanswered (of n base)) (sym e) (behind_call c base log came)
+  | inr ne ↦ ap unanswered (behind_others c d base log came ne)
+]
+
+pub beside_came : (c : ℕ) (one two log other : List Act) → CameBehind c one log → CameBehind c two other → Beside c one two
+    → Beside c log other
+beside_came c one two log other came also v = record {
+  shared = shared_moved (device_acts one) (device_acts two) (device_acts log) (device_acts other) (behind_device c one log came)
+      (behind_device c two other also) v.shared;
+  calls = λ d. calls_came c d one log came ∙ v.calls d ∙ sym (calls_came c d two other also);
+  others = λ d ne. behind_others c d one log came ne ∙ v.others d ne ∙ sym (behind_others c d two other also ne);
+}
+
+-- ---- where the writes are accepted
+
+pub of_wrote : (c d : ℕ) (call reply bytes : List ℕ) (ended : Bool) (base : List Act) → d ≢ c
+    → of d (wrote c call reply bytes ended base) ≡ of d base
+of_wrote c d call reply bytes ended base ne =
+    of_other c d (Replied reply) (OnDevice (accepts bytes ended) ∷ On c (CallTaken call) ∷ base) ne
+    ∙ of_other c d (CallTaken call) base ne
+
+wrote_calls : (c d : ℕ) (call reply bytes : List ℕ) (ended : Bool) (base : List Act) → d ≡ c
+    → unanswered (of d (wrote c call reply bytes ended base)) ≡ None
+wrote_calls c d call reply bytes ended base same =
+    subst (λ (n : ℕ). unanswered (of n (wrote c call reply bytes ended base)) ≡ None) (sym same)
+    (ap unanswered (of_mine c (Replied reply) (OnDevice (accepts bytes ended) ∷ On c (CallTaken call) ∷ base)))
+
+-- the two logs' writes, over one log
+pub beside_wrote : (c : ℕ) (log other : List Act) (call reply x : List ℕ) (first : Bool) (one : List Act) (also answer y : List ℕ)
+    (last : Bool) (two : List Act) (acts both : List DeviceAct)
+    → ((d : ℕ) → of d log ≡ of d (wrote c call reply x first one)) → ((d : ℕ) → of d other ≡ of d (wrote c also answer y last two))
+    → ((d : ℕ) → d ≢ c → of d one ≡ of d two) → device_acts log ≡ acts → device_acts other ≡ both → SameShared acts both
+    → Beside c log other
+beside_wrote c log other call reply x first one also answer y last two acts both here there others p q v =
+    let apart : (d : ℕ) → d ≢ c → of d log ≡ of d other = λ d ne. here d ∙ of_wrote c d call reply x first one ne ∙ others d ne
+    ∙ sym (of_wrote c d also answer y last two ne) ∙ sym (there d) in
+    record {
+      shared = shared_moved acts both (device_acts log) (device_acts other) p q v;
+      calls = λ d. elim (cases_eq d c) [
+        | inl e ↦ ap unanswered (here d) ∙ wrote_calls c d call reply x first one e ∙ sym (wrote_calls c d also answer y last two e)
+            ∙ sym (ap unanswered (there d))
+        | inr ne ↦ ap unanswered (apart d ne)
+      ];
+      others = apart;
+    }

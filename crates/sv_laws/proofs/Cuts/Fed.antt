@@ -1,0 +1,177 @@
+-- Events that feed a connection: bytes come, or its next call is taken, and each call that is taken shows in its acts.
+use Rattle.std.proofs.Common.{◌≡◌, ℕ, ◌+◌, ◌≤◌, List, [], ◌∷◌, ◌++◌, length, Option, Some, None, refl, sym, ap, subst, ◌∙◌, inl, inr, ◌⊎◌, arith}
+use Rattle.std.specs.List.{AllByRecursion}
+use Rattle.std.proofs.lemmas.List.{length-append}
+use Rattle.sv_history.specs.declared.event.Config.{Config}
+use Rattle.sv_history.specs.Event.{PlainEvent, Bytes, Turn}
+use Rattle.sv_history.specs.Act.{Act, ConnAct, Piece, CallTaken, Replied, On, of, device_acts}
+use Rattle.sv_history.specs.Connection.{next_call}
+use Rattle.sv_history.specs.Request.{Request, next_request}
+use Rattle.sv_history.specs.PolledStatus.{IsPolled}
+use Rattle.sv_history.specs.Execution.{request_effect, aborts}
+use Rattle.sv_history.specs.Settling.{SettlesIn, IsSettled}
+use Rattle.sv_history.specs.History.{taken_acts, turn_acts, own_acts, IsLogOf}
+use Rattle.sv_laws.specs.Cuts.{IsFeeding, without_pieces}
+use Rattle.sv_laws.proofs.OneLog.{one_log}
+use Rattle.sv_history.proofs.StillSettled.{still_settled}
+use Rattle.sv_laws.proofs.EveryLog.Steps.{log_settled, stays}
+use Rattle.sv_laws.proofs.Cuts.NoCallTaken.{adds_then, settles_none, taking_none, bare_append, Follows, follows, taken_once}
+use Rattle.sv_laws.proofs.Cuts.BytesBehind.{CameBehind, behind_none, behind_piece, behind_then, behind_bare}
+
+-- ---- one event
+
+-- The connection's next call is taken in the first log, and that leads to the second.
+pub record Taking (c : ℕ) (config : Config) (call : List ℕ) (base log : List Act) : Type 0 where
+  pub request : Request
+  pub polled : ℕ
+  pub steps : ℕ
+  pub next : next_call (of c base) ≡ Some call
+  pub asks : next_request (of c base) ≡ Some request
+  pub said : IsPolled polled (device_acts base)
+  pub settles : SettlesIn steps config
+      (taken_acts c call (request_effect config polled c request (device_acts base)) (aborts request (device_acts base)) base ++ base) log
+
+abbrev Turned : ℕ → Config → List Act → List Act → Type 0
+Turned c config base log = CameBehind c base log ⊎ ((call : List ℕ) × Taking c config call base log)
+
+turned : (c : ℕ) (config : Config) (polled steps : ℕ) (call : Option (List ℕ)) (request : Option Request) (base log : List Act)
+    → IsSettled config base → IsPolled polled (device_acts base) → next_call (of c base) ≡ call → next_request (of c base) ≡ request
+    → SettlesIn steps config (turn_acts config polled c call request base ++ base) log → Turned c config base log
+turned c config polled steps (Some call) (Some request) base log settled said next asks settles = inr (
+  call,
+  record { request = request; polled = polled; steps = steps; next = next; asks = asks; said = said; settles = settles },
+)
+turned c config polled steps (Some call) None base log settled said next asks settles =
+    inl (behind_none c base log (stays steps config base log settled settles))
+turned c config polled steps None request base log settled said next asks settles =
+    inl (behind_none c base log (stays steps config base log settled settles))
+
+fed_event : (c : ℕ) (config : Config) (event : PlainEvent) (past : List PlainEvent) (log : List Act) → IsFeeding c event
+    → (is_log : IsLogOf config (event ∷ past) log) → Turned c config is_log.0 log
+fed_event c config (Bytes d piece) past log same (base, polled, told, is_event, was, hears, free, said, settles) =
+    let settled = log_settled config past base was in
+    let is : log ≡ On d (Piece piece) ∷ base =
+    stays settles.0 config (On d (Piece piece) ∷ base) log (still_settled d (Piece piece) config base settled) settles.1 in
+    inl (behind_piece c piece base base log (is ∙ ap (λ (e : ℕ). On e (Piece piece) ∷ base) same) (behind_none c base base refl))
+fed_event c config (Turn d) past log same (base, polled, told, is_event, was, hears, free, said, settles) =
+    turned c config polled settles.0 (next_call (of c base)) (next_request (of c base)) base log (log_settled config past base was) said
+    refl refl
+    (subst (λ (e : ℕ). SettlesIn settles.0 config (own_acts config polled (Turn e) base ++ base) log) same settles.1)
+fed_event c config _ past log same is_log = absurd same
+
+-- what shows of a call
+pub shows : (c : ℕ) (config : Config) (call : List ℕ) (base log : List Act) → Taking c config call base log → Follows c call base log
+shows c config call base log taking = follows c call base log (adds_then (On c (CallTaken call) ∷ base) _ log
+    (taking_none config taking.polled c call taking.request _ base) (settles_none taking.steps config _ log taking.settles))
+
+pub shown_bare : (c : ℕ) (call : List ℕ) (base log : List Act) (shown : Follows c call base log)
+    → without_pieces (of c log) ≡ without_pieces shown.0 ++ CallTaken call ∷ without_pieces (of c base)
+shown_bare c call base log shown = ap without_pieces shown.2 ∙ bare_append shown.0 (CallTaken call ∷ of c base)
+
+-- ---- events without a call
+
+-- how many acts there are without pieces
+abbrev count : ℕ → List Act → ℕ
+count c log = length (without_pieces (of c log))
+
+counted : (c : ℕ) (call : List ℕ) (base log : List Act) → Follows c call base log → count c base + 1 ≤ count c log
+counted c call base log shown =
+    let size : count c log ≡ length (without_pieces shown.0 ++ CallTaken call ∷ without_pieces (of c base)) =
+    ap (λ (l : List ConnAct). length l) (shown_bare c call base log shown) in
+    omega (arith, size, length-append (without_pieces shown.0) (CallTaken call ∷ without_pieces (of c base)))
+
+no_fewer : (c : ℕ) (config : Config) (past events : List PlainEvent) (before log : List Act) → AllByRecursion (IsFeeding c) events
+    → IsLogOf config past before → IsLogOf config (events ++ past) log → count c before ≤ count c log
+no_fewer c config past [] before log feeding was is_log =
+    let same : count c before ≡ count c log = ap (count c) (one_log config past before log was is_log) in omega (arith, same)
+no_fewer c config past (event ∷ events) before log feeding was is_log =
+    let least = no_fewer c config past events before is_log.0 feeding.1 was is_log.4 in
+    elim (fed_event c config event (events ++ past) log feeding.0 is_log) [
+      | inl came ↦
+          let same : count c log ≡ count c is_log.0 = ap (λ (l : List ConnAct). length l) (behind_bare c is_log.0 log came) in
+          omega (arith, least, same)
+      | inr taken ↦
+          let more = counted c taken.0 is_log.0 log (shows c config taken.0 is_log.0 log taken.1) in omega (arith, least, more)
+    ]
+
+-- where no act but pieces was added, only bytes came
+pub only_bytes : (c : ℕ) (config : Config) (past events : List PlainEvent) (before log : List Act) → AllByRecursion (IsFeeding c) events
+    → IsLogOf config past before → IsLogOf config (events ++ past) log → without_pieces (of c log) ≡ without_pieces (of c before)
+    → CameBehind c before log
+only_bytes c config past [] before log feeding was is_log same = behind_none c before log (one_log config past log before is_log was)
+only_bytes c config past (event ∷ events) before log feeding was is_log same =
+    elim (fed_event c config event (events ++ past) log feeding.0 is_log) [
+      | inl came ↦ behind_then c before is_log.0 log
+          (only_bytes c config past events before is_log.0 feeding.1 was is_log.4 (sym (behind_bare c is_log.0 log came) ∙ same)) came
+      | inr taken ↦
+          let more = counted c taken.0 is_log.0 log (shows c config taken.0 is_log.0 log taken.1) in
+          let least = no_fewer c config past events before is_log.0 feeding.1 was is_log.4 in
+          let size : count c log ≡ count c before = ap (λ (l : List ConnAct). length l) same in
+          absurd (omega (arith, more, least, size))
+    ]
+
+-- ---- events with a call
+
+-- Of the events some come first; then this call is taken, and answered so; and then bytes come.
+pub record Fed (c : ℕ) (config : Config) (past : List PlainEvent) (log : List Act) (reply call : List ℕ)
+    (rest : List ConnAct) : Type 0 where
+  pub earlier : List PlainEvent
+  pub base : List Act
+  pub last : List Act
+  pub feeding : AllByRecursion (IsFeeding c) earlier
+  pub was : IsLogOf config (earlier ++ past) base
+  pub taking : Taking c config call base last
+  pub acts : without_pieces (of c last) ≡ Replied reply ∷ CallTaken call ∷ without_pieces (of c base)
+  pub same : without_pieces (of c base) ≡ rest
+  pub came : CameBehind c last log
+
+fed_more : (c : ℕ) (config : Config) (past : List PlainEvent) (mid log : List Act) (reply call : List ℕ) (rest : List ConnAct)
+    → CameBehind c mid log → Fed c config past mid reply call rest → Fed c config past log reply call rest
+fed_more c config past mid log reply call rest came fed = record {
+  earlier = fed.earlier;
+  base = fed.base;
+  last = fed.last;
+  feeding = fed.feeding;
+  was = fed.was;
+  taking = fed.taking;
+  acts = fed.acts;
+  same = fed.same;
+  came = behind_then c fed.last mid log fed.came came;
+}
+
+-- the newest event takes the call
+fed_last : (c : ℕ) (config : Config) (past earlier : List PlainEvent) (base log : List Act) (reply call bytes : List ℕ)
+    (rest : List ConnAct) → AllByRecursion (IsFeeding c) earlier → IsLogOf config (earlier ++ past) base
+    → without_pieces (of c log) ≡ Replied reply ∷ CallTaken call ∷ rest → Taking c config bytes base log
+    → Fed c config past log reply call rest
+fed_last c config past earlier base log reply call bytes rest feeding was same taking =
+    let shown = shows c config bytes base log taking in
+    let once = taken_once (without_pieces shown.0) bytes reply call (without_pieces (of c base)) rest shown.1
+    (sym (shown_bare c bytes base log shown) ∙ same) in
+    record {
+      earlier = earlier;
+      base = base;
+      last = log;
+      feeding = feeding;
+      was = was;
+      taking = subst (λ (l : List ℕ). Taking c config l base log) once.1 taking;
+      acts = same ∙ ap (λ (l : List ConnAct). Replied reply ∷ CallTaken call ∷ l) (sym once.2);
+      same = once.2;
+      came = behind_none c log log refl;
+    }
+
+pub fed : (c : ℕ) (config : Config) (past events : List PlainEvent) (before log : List Act) (reply call : List ℕ) (rest : List ConnAct)
+    → AllByRecursion (IsFeeding c) events → IsLogOf config past before → IsLogOf config (events ++ past) log
+    → length (without_pieces (of c before)) ≤ length rest → without_pieces (of c log) ≡ Replied reply ∷ CallTaken call ∷ rest
+    → Fed c config past log reply call rest
+fed c config past [] before log reply call rest feeding was is_log most same =
+    let size : count c before ≡ length (Replied reply ∷ CallTaken call ∷ rest) =
+    ap (count c) (one_log config past before log was is_log) ∙ ap (λ (l : List ConnAct). length l) same in
+    absurd (omega (arith, size, most))
+fed c config past (event ∷ events) before log reply call rest feeding was is_log most same =
+    elim (fed_event c config event (events ++ past) log feeding.0 is_log) [
+      | inl came ↦ fed_more c config past is_log.0 log reply call rest came
+          (fed c config past events before is_log.0 reply call rest feeding.1 was is_log.4 most
+          (sym (behind_bare c is_log.0 log came) ∙ same))
+      | inr taken ↦ fed_last c config past events is_log.0 log reply call taken.0 rest feeding.1 is_log.4 same taken.1
+    ]

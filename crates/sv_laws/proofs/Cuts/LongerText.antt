@@ -1,0 +1,104 @@
+-- More program text makes no message shorter, and bytes without a new line end none.
+use Rattle.std.proofs.Common.{◌≡◌, ◌≢◌, ℕ, zero, suc, ◌+◌, ◌<◌, ◌≤◌, Bool, true, false, cond, List, [], ◌∷◌, ◌++◌, length, map, refl, sym, ap, subst, ◌∙◌, append-nil, arith, lt-ltb}
+use Rattle.std.specs.Prelude.{slice_index_or, nat_lt, ◌==◌}
+use Rattle.std.specs.List.{AllByRecursion}
+use Rattle.std.proofs.lemmas.Bool.{ltb-true, ne_eqb}
+use Rattle.sv_text.specs.Cut.{onto}
+use Rattle.sv_exchange.specs.Exchange.{ExchangeAct, Accepted, Symbol, Byte, End, end_mark, text, messages, finished, message, has_ended, is_long}
+use Rattle.sv_exchange.specs.Limits.{max_message}
+use Rattle.sv_laws.proofs.Cuts.SameExchange.{text_cut}
+
+-- ---- messages
+
+-- how long a part is
+abbrev size_at : List (List ℕ) → ℕ → ℕ
+size_at parts k = length (slice_index_or parts k [])
+
+-- No part is longer than that at the same place.
+abbrev Within : List (List ℕ) → List (List ℕ) → Type 0
+Within parts others = (k : ℕ) → size_at parts k ≤ size_at others k
+
+within_line : (parts others : List (List ℕ)) → Within parts others → Within ([] ∷ parts) ([] ∷ others)
+within_line parts others within zero = omega arith
+within_line parts others within (suc k) = within k
+
+within_byte : (b : ℕ) (parts others : List (List ℕ)) → Within parts others → Within (onto b parts) (onto b others)
+within_byte b [] [] within k = omega arith
+within_byte b [] (other ∷ others) within zero = omega arith
+within_byte b [] (other ∷ others) within (suc k) = omega arith
+within_byte b (part ∷ parts) [] within zero = let le = within 0 in omega (arith, le)
+within_byte b (part ∷ parts) [] within (suc k) = within (suc k)
+within_byte b (part ∷ parts) (other ∷ others) within zero = let le = within 0 in omega (arith, le)
+within_byte b (part ∷ parts) (other ∷ others) within (suc k) = within (suc k)
+
+none_longer : (old new : List Symbol) → Within (messages old) (messages (old ++ new))
+none_longer [] new zero = omega arith
+none_longer [] new (suc k) = omega arith
+none_longer (End ∷ old) new k = within_line (messages old) (messages (old ++ new)) (none_longer old new) k
+none_longer (Byte b ∷ old) new k = at (b == 10) (none_longer old new) k
+  where
+    at : (t : Bool) → Within (messages old) (messages (old ++ new))
+        → Within (cond t ([] ∷ messages old) (onto b (messages old))) (cond t ([] ∷ messages (old ++ new)) (onto b (messages (old ++ new))))
+    at true within = within_line (messages old) (messages (old ++ new)) within
+    at false within = within_byte b (messages old) (messages (old ++ new)) within
+
+-- ---- bytes without a new line
+
+abbrev NoLine : List ℕ → Type 0
+NoLine bytes = AllByRecursion (λ b. b ≢ 10) bytes
+
+onto_many : (b : ℕ) (parts : List (List ℕ)) → 0 < length parts → (length (onto b parts) ≡ length parts)
+onto_many b [] some = absurd (omega (arith, some))
+onto_many b (part ∷ parts) some = refl
+
+onto_some : (b : ℕ) (parts : List (List ℕ)) → 0 < length (onto b parts)
+onto_some b [] = omega arith
+onto_some b (part ∷ parts) = omega arith
+
+messages_some : (symbols : List Symbol) → 0 < length (messages symbols)
+messages_some [] = omega arith
+messages_some (End ∷ symbols) = omega arith
+messages_some (Byte b ∷ symbols) = at (b == 10)
+  where
+    at : (t : Bool) → 0 < length (cond t ([] ∷ messages symbols) (onto b (messages symbols)))
+    at true = omega arith
+    at false = onto_some b (messages symbols)
+
+one_message : (bytes : List ℕ) → NoLine bytes → length (messages (map Byte bytes)) ≡ 1
+one_message [] none = refl
+one_message (b ∷ bytes) none = rw (ne_eqb b 10 none.0)
+    (onto_many b (messages (map Byte bytes)) (messages_some (map Byte bytes)) ∙ one_message bytes none.1)
+
+as_many : (bytes : List ℕ) (old : List Symbol) → NoLine bytes → length (messages (old ++ map Byte bytes)) ≡ length (messages old)
+as_many bytes [] none = one_message bytes none
+as_many bytes (End ∷ old) none = ap (λ (n : ℕ). suc n) (as_many bytes old none)
+as_many bytes (Byte b ∷ old) none = at (b == 10) (as_many bytes old none)
+  where
+    at : (t : Bool) → length (messages (old ++ map Byte bytes)) ≡ length (messages old)
+        → length (cond t ([] ∷ messages (old ++ map Byte bytes)) (onto b (messages (old ++ map Byte bytes))))
+        ≡ length (cond t ([] ∷ messages old) (onto b (messages old)))
+    at true same = ap (λ (n : ℕ). suc n) same
+    at false same = onto_many b (messages (old ++ map Byte bytes)) (messages_some (old ++ map Byte bytes)) ∙ same
+        ∙ sym (onto_many b (messages old) (messages_some old))
+
+-- ---- what is accepted
+
+pub ends_none : (bytes : List ℕ) (acts : List ExchangeAct) → NoLine bytes → has_ended (Accepted bytes false ∷ acts) ≡ has_ended acts
+ends_none bytes acts none =
+    ap (λ (l : List Symbol). nat_lt (finished acts + 1) (length (messages (text acts ++ l)))) (append-nil (map Byte bytes))
+    ∙ ap (λ (n : ℕ). nat_lt (finished acts + 1) n) (as_many bytes (text acts) none)
+
+longer : (x y : List ℕ) (ended : Bool) (acts : List ExchangeAct)
+    → length (message (Accepted x false ∷ acts)) ≤ length (message (Accepted (x ++ y) ended ∷ acts))
+longer x y ended acts =
+    subst (λ (l : List Symbol). length (message (Accepted x false ∷ acts)) ≤ size_at (messages l) (finished acts)) (text_cut x y ended acts)
+    (none_longer (text (Accepted x false ∷ acts)) (map Byte y ++ end_mark ended) (finished acts))
+
+-- where the first part is too long, the whole is
+pub long_too : (x y : List ℕ) (ended : Bool) (acts : List ExchangeAct) → is_long (Accepted x false ∷ acts) ≡ true
+    → is_long (Accepted (x ++ y) ended ∷ acts) ≡ true
+long_too x y ended acts long =
+    let more : max_message < length (message (Accepted x false ∷ acts)) =
+    ltb-true max_message (length (message (Accepted x false ∷ acts))) long in
+    let least = longer x y ended acts in
+    lt-ltb max_message (length (message (Accepted (x ++ y) ended ∷ acts))) (omega (arith, more, least))

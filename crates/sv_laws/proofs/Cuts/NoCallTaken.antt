@@ -1,0 +1,185 @@
+-- What follows a call in its event takes no call: neither what the call does, nor the steps that are due then.
+use Rattle.std.proofs.Common.{◌≡◌, ℕ, zero, suc, List, [], ◌∷◌, ◌++◌, Option, Some, None, refl, sym, ap, ◌∙◌, inl, inr, append_assoc}
+use Rattle.std.specs.Prelude.{map, not, ⊤, ◌==◌}
+use Rattle.std.specs.List.{AllByRecursion}
+use Rattle.std.proofs.lemmas.Bool.{cases_Bool}
+use Rattle.std.proofs.lemmas.List.Elements.{filter-append}
+use Rattle.sv_vxi.specs.declared.error_code.ErrorCode.{ErrorCode}
+use Rattle.sv_vxi.specs.declared.error_code.ErrorCode.TheVariants.{Abort}
+use Rattle.sv_vxi.specs.Arguments.{Arguments}
+use Rattle.sv_vxi.specs.Results.{Outcome}
+use Rattle.sv_history.specs.declared.event.Config.{Config}
+use Rattle.sv_history.specs.Act.{Act, ConnAct, DeviceAct, Opened, Piece, CallTaken, Faulted, Replied, BytesTaken, PortClosed, Happened, On, OnDevice, of, device_acts}
+use Rattle.sv_history.specs.Connection.{unanswered}
+use Rattle.sv_history.specs.CallOutcome.{CallOutcome, only}
+use Rattle.sv_history.specs.CoreCall.{CoreCall, failure}
+use Rattle.sv_history.specs.Request.{Request, NoCall, Decided, CoreRequest, AbortRequest, PortRequest, core_call_in}
+use Rattle.sv_history.specs.Effect.{Effect, acts_of, replies}
+use Rattle.sv_history.specs.Admission.{stop_of, admitted}
+use Rattle.sv_history.specs.Execution.{request_effect}
+use Rattle.sv_history.specs.Resuming.{effect_of, leaving, continued, next_wait, resumed, failed, late}
+use Rattle.sv_history.specs.Settling.{IsNext, SettlesIn}
+use Rattle.sv_history.specs.History.{abort_acts, taken_acts}
+use Rattle.sv_laws.specs.Cuts.{is_piece, without_pieces}
+use Rattle.sv_history.proofs.Projections.{of_mine}
+
+-- ---- acts that take no call
+
+abbrev pub IsOther : ConnAct → Type 0
+IsOther (CallTaken call) = ⊥
+IsOther _ = ⊤
+
+abbrev pub IsNoCall : Act → Type 0
+IsNoCall (On c act) = IsOther act
+IsNoCall (OnDevice act) = ⊤
+
+none_join : (a b : List Act) → AllByRecursion IsNoCall a → AllByRecursion IsNoCall b → AllByRecursion IsNoCall (a ++ b)
+none_join [] b h k = k
+none_join (act ∷ a) b h k = (h.0, none_join a b h.1 k)
+
+none_shared : (adds : List DeviceAct) → AllByRecursion IsNoCall (map OnDevice adds)
+none_shared [] = tt
+none_shared (act ∷ adds) = (tt, none_shared adds)
+
+none_own : (c : ℕ) (own : List ConnAct) → AllByRecursion IsOther own → AllByRecursion IsNoCall (map (On c) own)
+none_own c [] h = tt
+none_own c (act ∷ own) h = (h.0, none_own c own h.1)
+
+none_effect : (c : ℕ) (effect : Effect) → AllByRecursion IsOther effect.own → AllByRecursion IsNoCall (acts_of c effect)
+none_effect c effect h = none_join (map (On c) effect.own) (map OnDevice effect.adds) (none_own c effect.own h) (none_shared effect.adds)
+
+none_replies : (xid : ℕ) (result : Option Outcome) → AllByRecursion IsOther (replies xid result)
+none_replies xid (Some result) = (tt, tt)
+none_replies xid None = tt
+
+none_ended : (c : ℕ) (does : Arguments → CallOutcome) (call : Option CoreCall) → AllByRecursion IsOther (effect_of c does call).own
+none_ended c does (Some call) = none_replies call.xid (does call.arguments).result
+none_ended c does None = tt
+
+none_failed : (error : ErrorCode) (d : ℕ) (log : List Act)
+    → AllByRecursion IsNoCall (acts_of d (failed error d (core_call_in (unanswered (of d log)))))
+none_failed error d log =
+    let call = core_call_in (unanswered (of d log)) in
+    none_effect d (failed error d call) (none_ended d (λ arguments. leaving d (only (failure arguments error))) call)
+
+none_aborted : (d : Option ℕ) (log : List Act) → AllByRecursion IsNoCall (abort_acts d log)
+none_aborted None log = tt
+none_aborted (Some d) log = none_failed Abort d log
+
+-- ---- steps
+
+-- Acts that take no call make one log of another.
+abbrev pub AddsNoCall : List Act → List Act → Type 0
+AddsNoCall log new = (adds : List Act) × (new ≡ adds ++ log) × AllByRecursion IsNoCall adds
+
+pub adds_then : (log mid new : List Act) → AddsNoCall log mid → AddsNoCall mid new → AddsNoCall log new
+adds_then log mid new one other = (
+  other.0 ++ one.0,
+  other.1 ∙ ap (λ (l : List Act). other.0 ++ l) one.1 ∙ sym (append_assoc other.0 one.0 log),
+  none_join other.0 one.0 other.2 one.2,
+)
+
+next_none : (config : Config) (log new : List Act) → IsNext config log new → AddsNoCall log new
+next_none config log new (inl fires) = (map OnDevice (map Happened fires.0), fires.2, none_shared (map Happened fires.0))
+next_none config log new (inr (none, inl (c, wait, polled, oldest, for, said, is))) =
+    let call = core_call_in (unanswered (of c log)) in
+    let acts = device_acts log in
+    let effect = resumed config polled c wait call acts in (
+      acts_of c effect,
+      is,
+      none_effect c effect (none_ended c (λ arguments. continued config polled c arguments (next_wait wait arguments acts) acts) call),
+    )
+next_none config log new (inr (none, inr (still, inl step))) =
+    (map OnDevice (map Happened step.0), step.2, none_shared (map Happened step.0))
+next_none config log new (inr (none, inr (still, inr (idle, (c, wait, oldest, for, is))))) =
+    (acts_of c (failed (late wait) c (core_call_in (unanswered (of c log)))), is, none_failed (late wait) c log)
+
+pub settles_none : (n : ℕ) (config : Config) (log new : List Act) → SettlesIn n config log new → AddsNoCall log new
+settles_none zero config log new (none, same) = ([], same, tt)
+settles_none (suc n) config log new (middle, next, more) =
+    adds_then log middle new (next_none config log middle next) (settles_none n config middle new more)
+
+-- ---- what a call does
+
+none_request : (config : Config) (polled c : ℕ) (request : Request) (acts : List DeviceAct)
+    → AllByRecursion IsOther (request_effect config polled c request acts).own
+none_request config polled c NoCall acts = (tt, tt)
+none_request config polled c (Decided xid reply) acts = (tt, tt)
+none_request config polled c (CoreRequest call) acts =
+    none_replies call.xid (admitted config polled c call.arguments (stop_of c call.arguments acts) acts).result
+none_request config polled c (AbortRequest xid lid) acts = (tt, tt)
+none_request config polled c (PortRequest xid args) acts = (tt, tt)
+
+pub taking_none : (config : Config) (polled c : ℕ) (bytes : List ℕ) (request : Request) (found : Option ℕ) (log : List Act)
+    → AddsNoCall (On c (CallTaken bytes) ∷ log)
+    (taken_acts c bytes (request_effect config polled c request (device_acts log)) found log ++ log)
+taking_none config polled c bytes request found log =
+    let effect = request_effect config polled c request (device_acts log) in
+    let acts = acts_of c effect ++ On c (CallTaken bytes) ∷ [] in
+    let ends = abort_acts found (acts ++ log) in (
+      ends ++ acts_of c effect,
+      simp append_assoc,
+      none_join ends (acts_of c effect) (none_aborted found (acts ++ log))
+          (none_effect c effect (none_request config polled c request (device_acts log))),
+    )
+
+-- ---- the acts of a connection
+
+pub of_append : (c : ℕ) (adds log : List Act) → of c (adds ++ log) ≡ of c adds ++ of c log
+of_append c [] log = refl
+of_append c (OnDevice act ∷ adds) log = of_append c adds log
+of_append c (On d act ∷ adds) log = elim (cases_Bool (d == c)) [
+  | inl e ↦ rw e (ap (λ (l : List ConnAct). act ∷ l) (of_append c adds log))
+  | inr e ↦ rw e (of_append c adds log)
+]
+
+none_of : (c : ℕ) (adds : List Act) → AllByRecursion IsNoCall adds → AllByRecursion IsOther (of c adds)
+none_of c [] h = tt
+none_of c (OnDevice act ∷ adds) h = none_of c adds h.1
+none_of c (On d act ∷ adds) h = elim (cases_Bool (d == c)) [
+  | inl e ↦ rw e (h.0, none_of c adds h.1)
+  | inr e ↦ rw e (none_of c adds h.1)
+]
+
+none_bare : (acts : List ConnAct) → AllByRecursion IsOther acts → AllByRecursion IsOther (without_pieces acts)
+none_bare [] h = tt
+none_bare (Piece bytes ∷ acts) h = none_bare acts h.1
+none_bare (CallTaken call ∷ acts) h = absurd h.0
+none_bare (_ ∷ acts) h = (tt, none_bare acts h.1)
+
+pub bare_append : (a b : List ConnAct) → without_pieces (a ++ b) ≡ without_pieces a ++ without_pieces b
+bare_append a b = filter-append (λ act. not (is_piece act)) a b
+
+-- Behind a call that is taken, a connection's acts without pieces.
+abbrev pub Follows : ℕ → List ℕ → List Act → List Act → Type 0
+Follows c bytes base log = (acts : List ConnAct) × AllByRecursion IsOther (without_pieces acts)
+    × (of c log ≡ acts ++ CallTaken bytes ∷ of c base)
+
+pub follows : (c : ℕ) (bytes : List ℕ) (base log : List Act) → AddsNoCall (On c (CallTaken bytes) ∷ base) log → Follows c bytes base log
+follows c bytes base log (adds, is, none) = (
+  of c adds,
+  none_bare (of c adds) (none_of c adds none),
+  ap (of c) is ∙ of_append c adds (On c (CallTaken bytes) ∷ base)
+      ∙ ap (λ (l : List ConnAct). of c adds ++ l) (of_mine c (CallTaken bytes) base),
+)
+
+-- such acts, and the newest two of a connection, of which one takes a call
+pub taken_once : (acts : List ConnAct) (bytes reply call : List ℕ) (base rest : List ConnAct) → AllByRecursion IsOther acts
+    → acts ++ CallTaken bytes ∷ base ≡ Replied reply ∷ CallTaken call ∷ rest
+    → (acts ≡ Replied reply ∷ []) × (bytes ≡ call) × (base ≡ rest)
+taken_once [] bytes reply call base rest none same = absurd cc
+taken_once (act ∷ []) bytes reply call base rest none same =
+    let first : act ≡ Replied reply = cc in
+    (ap (λ (a : ConnAct). a ∷ []) first, cc, cc)
+taken_once (act ∷ CallTaken other ∷ acts) bytes reply call base rest none same = absurd none.1.0
+taken_once (act ∷ Opened role ∷ acts) bytes reply call base rest none same = absurd cc
+taken_once (act ∷ Piece piece ∷ acts) bytes reply call base rest none same = absurd cc
+taken_once (act ∷ Faulted ∷ acts) bytes reply call base rest none same = absurd cc
+taken_once (act ∷ Replied other ∷ acts) bytes reply call base rest none same = absurd cc
+taken_once (act ∷ BytesTaken count ∷ acts) bytes reply call base rest none same = absurd cc
+taken_once (act ∷ PortClosed ∷ acts) bytes reply call base rest none same = absurd cc
+
+-- a connection's acts without pieces, behind others
+pub bare_of : (c : ℕ) (adds log : List Act)
+    → without_pieces (of c (adds ++ log)) ≡ without_pieces (of c adds) ++ without_pieces (of c log)
+bare_of c adds log = ap without_pieces (of_append c adds log) ∙ bare_append (of c adds) (of c log)

@@ -1,0 +1,97 @@
+-- An event adds the same acts to two logs that are the same but for where program text was accepted.
+use Rattle.std.proofs.Common.{◌≡◌, ℕ, List, [], ◌∷◌, ◌++◌, Option, Some, None, refl, ap, ◌∙◌}
+use Rattle.std.specs.Prelude.{map, Bool, true, false, ◌==◌, if◌then◌else◌}
+use Rattle.sv_vxi.specs.declared.error_code.ErrorCode.TheVariants.{Abort}
+use Rattle.sv_links.specs.Links.{LinkAct, closing}
+use Rattle.sv_links.specs.Waiting.{Left}
+use Rattle.sv_links.specs.Channels.{ChannelClosed}
+use Rattle.sv_scan.specs.declared.acts.ScanAct.{ScanAct}
+use Rattle.sv_scan.specs.Counted.{kept, trigger_fault}
+use Rattle.sv_scan.specs.Scan.{state}
+use Rattle.sv_errors.specs.declared.source.Source.TheVariants.{External as ByInput}
+use Rattle.sv_instrument.specs.Stimulus.{or_nothing, where_scanning}
+use Rattle.sv_history.specs.declared.event.Port.TheVariants.{Conn, Intr}
+use Rattle.sv_history.specs.declared.event.Config.{Config}
+use Rattle.sv_history.specs.Event.{PlainEvent, Open, Bytes, Turn, Refuse, Took, Close, Dialed, Input, External, Tick}
+use Rattle.sv_history.specs.Act.{Act, ConnAct, Opened, Piece, CallTaken, Faulted, Replied, BytesTaken, PortClosed, Linked, Waited, Channel, Happened, Ticked, On, OnDevice, of, device_acts}
+use Rattle.sv_history.specs.Connection.{unanswered, next_call}
+use Rattle.sv_history.specs.Request.{Request, core_call_in, next_request}
+use Rattle.sv_history.specs.Refusing.{refusable_call}
+use Rattle.sv_history.specs.Effect.{Effect, acts_of}
+use Rattle.sv_history.specs.Execution.{request_effect, aborts}
+use Rattle.sv_history.specs.Resuming.{failed, connected}
+use Rattle.sv_history.specs.History.{abort_acts, taken_acts, turn_acts, refuse_acts, own_acts}
+use Rattle.sv_laws.proofs.Cuts.SharedSteps.{SameCalls, request_alike, aborts_alike}
+
+-- Each connection's next call is the same too, and what it asks for.
+pub record SameNext (log other : List Act) : Type 0 where
+  pub now : SameCalls log other
+  pub calls : (d : ℕ) → next_call (of d log) ≡ next_call (of d other)
+  pub requests : (d : ℕ) → next_request (of d log) ≡ next_request (of d other)
+
+-- the call that another one's call ends
+ended_shared : (found : Option ℕ) (log other : List Act) → ((d : ℕ) → unanswered (of d log) ≡ unanswered (of d other))
+    → abort_acts found log ≡ abort_acts found other
+ended_shared None log other same = refl
+ended_shared (Some d) log other same = ap (λ (o : Option (List ℕ)). acts_of d (failed Abort d (core_call_in o))) (same d)
+
+-- the same acts in front leave the same calls without an answer
+pub calls_behind : (adds log other : List Act) → ((d : ℕ) → unanswered (of d log) ≡ unanswered (of d other))
+    → (d : ℕ) → unanswered (of d (adds ++ log)) ≡ unanswered (of d (adds ++ other))
+calls_behind [] log other same d = same d
+calls_behind (OnDevice act ∷ adds) log other same d = calls_behind adds log other same d
+calls_behind (On c act ∷ adds) log other same d =
+    on_one act (c == d) (of d (adds ++ log)) (of d (adds ++ other)) (calls_behind adds log other same d)
+  where
+    on_one : (act : ConnAct) (b : Bool) (mine also : List ConnAct) → unanswered mine ≡ unanswered also
+        → unanswered (if b then act ∷ mine else mine) ≡ unanswered (if b then act ∷ also else also)
+    on_one act false mine also same = same
+    on_one (Opened role) true mine also same = refl
+    on_one PortClosed true mine also same = refl
+    on_one (CallTaken call) true mine also same = refl
+    on_one Faulted true mine also same = refl
+    on_one (Replied bytes) true mine also same = refl
+    on_one (Piece bytes) true mine also same = same
+    on_one (BytesTaken count) true mine also same = same
+
+turn_shared : (config : Config) (polled c : ℕ) (call : Option (List ℕ)) (request : Option Request) (log other : List Act)
+    → SameNext log other → turn_acts config polled c call request log ≡ turn_acts config polled c call request other
+turn_shared config polled c (Some bytes) (Some request) log other v =
+    let effect = request_effect config polled c request (device_acts log) in
+    let found = aborts request (device_acts log) in
+    let acts = acts_of c effect ++ On c (CallTaken bytes) ∷ [] in
+    ap (λ (l : List Act). l ++ acts) (ended_shared found (acts ++ log) (acts ++ other) (calls_behind acts log other v.now.calls))
+    ∙ ap (λ (e : Effect). taken_acts c bytes e found other)
+    (request_alike config polled c request (device_acts log) (device_acts other) v.now.device)
+    ∙ ap (λ (o : Option ℕ). taken_acts c bytes (request_effect config polled c request (device_acts other)) o other)
+    (aborts_alike request (device_acts log) (device_acts other) v.now.device)
+turn_shared config polled c (Some bytes) None log other v = refl
+turn_shared config polled c None request log other v = refl
+
+abbrev shuts_by : ℕ → List LinkAct → List Act
+shuts_by c links = map OnDevice (Channel (ChannelClosed c) ∷ map Linked (closing c links) ++ Waited (Left c) ∷ []) ++ On c PortClosed ∷ []
+
+pub own_shared : (config : Config) (polled : ℕ) (event : PlainEvent) (log other : List Act) → SameNext log other
+    → own_acts config polled event log ≡ own_acts config polled event other
+own_shared config polled (Open c role) log other v = refl
+own_shared config polled (Bytes c piece) log other v = refl
+own_shared config polled (Turn c) log other v =
+    turn_shared config polled c (next_call (of c log)) (next_request (of c log)) log other v
+    ∙ ap (λ (o : Option (List ℕ)). turn_acts config polled c o (next_request (of c log)) other) (v.calls c)
+    ∙ ap (λ (q : Option Request). turn_acts config polled c (next_call (of c other)) q other) (v.requests c)
+own_shared config polled (Refuse c) log other v =
+    ap (λ (o : Option (List ℕ)). refuse_acts c o (refusable_call (next_request (of c log)))) (v.calls c)
+    ∙ ap (λ (q : Option Request). refuse_acts c (next_call (of c other)) (refusable_call q)) (v.requests c)
+own_shared config polled (Took (Conn c) count) log other v = refl
+own_shared config polled (Took (Intr c) count) log other v = refl
+own_shared config polled (Close (Conn c)) log other v = ap (λ (l : List LinkAct). shuts_by c l) v.now.device.links
+own_shared config polled (Close (Intr c)) log other v = refl
+own_shared config polled (Dialed c ok) log other v =
+    ap (λ (o : Option (List ℕ)). acts_of c (connected c ok (core_call_in o))) (v.now.calls c)
+own_shared config polled (Input channel microvolts) log other v = refl
+own_shared config polled External log other v =
+    ap (λ (l : List ScanAct). map OnDevice (map Happened (or_nothing (trigger_fault (kept l) ByInput))))
+    v.now.device.instrument.status.scanned
+own_shared config polled Tick log other v =
+    ap (λ (l : List ScanAct). map OnDevice (map Happened (where_scanning (state (kept l)))) ++ OnDevice Ticked ∷ [])
+    v.now.device.instrument.status.scanned

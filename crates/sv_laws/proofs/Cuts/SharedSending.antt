@@ -1,0 +1,111 @@
+-- What the same events add to a port, behind two histories whose logs are the same but for where text was accepted.
+use Rattle.std.proofs.Common.{◌≡◌, ℕ, List, ◌++◌, sym, ap, subst, ◌∙◌}
+use Rattle.std.specs.Prelude.{◌↔◌}
+use Rattle.std.proofs.lemmas.List.{append_cancel_left}
+use Rattle.sv_links.specs.Channels.{ChannelAct}
+use Rattle.sv_history.specs.declared.event.Config.{Config}
+use Rattle.sv_history.specs.declared.event.Port.{Port}
+use Rattle.sv_history.specs.declared.event.Port.TheVariants.{Conn, Intr}
+use Rattle.sv_history.specs.Event.{PlainEvent}
+use Rattle.sv_history.specs.Act.{Act, ConnAct, of, device_acts}
+use Rattle.sv_history.specs.Requests.{HearsOf}
+use Rattle.sv_history.specs.History.{IsLogOf}
+use Rattle.sv_laws.specs.Adding.{all_replies, Adds}
+use Rattle.sv_laws.proofs.OneLog.{one_log}
+use Rattle.sv_laws.proofs.Cuts.SameDevice.{device_back}
+use Rattle.sv_laws.proofs.Cuts.SameAhead.{SameAhead}
+use Rattle.sv_laws.proofs.Cuts.SharedLogs.{SameLogs, logs_moved, events_same}
+
+ahead_back : (first second : List ℕ) (acts others : List ConnAct) → SameAhead first second acts others
+    → SameAhead second first others acts
+ahead_back first second acts others v = record {
+  role = sym v.role;
+  call = sym v.call;
+  no_call = sym v.no_call;
+  ahead = λ more. sym (v.ahead more);
+  sent = v.sent;
+  one = v.two;
+  two = v.one;
+}
+
+pub logs_back : (first second : ℕ → List ℕ) (log other : List Act) → SameLogs first second log other → SameLogs second first other log
+logs_back first second log other v = record {
+  device = device_back (device_acts log) (device_acts other) v.device;
+  tells = v.back;
+  back = v.tells;
+  each = λ d. ahead_back (first d) (second d) (of d log) (of d other) (v.each d);
+}
+
+-- a history, its log, and what that tells
+hears_in : (config : Config) (history : List PlainEvent) (found log : List Act) (told : List ChannelAct) → IsLogOf config history found
+    → IsLogOf config history log → HearsOf (device_acts found) told → HearsOf (device_acts log) told
+hears_in config history found log told x y hears =
+    subst (λ (l : List Act). HearsOf (device_acts l) told) (one_log config history found log x y) hears
+
+-- The two histories, with their logs, and what their connections sent so far.
+pub record Begun (config : Config) (first second : ℕ → List ℕ) (one two : List PlainEvent) : Type 0 where
+  pub a : List Act
+  pub b : List Act
+  pub was : IsLogOf config one a
+  pub also : IsLogOf config two b
+  pub one_sent : (d : ℕ) → all_replies (of d a) ≡ first d
+  pub two_sent : (d : ℕ) → all_replies (of d b) ≡ second d
+  pub same : SameLogs first second a b
+
+begun_back : (config : Config) (first second : ℕ → List ℕ) (one two : List PlainEvent) → Begun config first second one two
+    → Begun config second first two one
+begun_back config first second one two h = record {
+  a = h.b;
+  b = h.a;
+  was = h.also;
+  also = h.was;
+  one_sent = h.two_sent;
+  two_sent = h.one_sent;
+  same = logs_back first second h.a h.b h.same;
+}
+
+behind_same : (config : Config) (first second : ℕ → List ℕ) (one two events : List PlainEvent) (log also : List Act)
+    → Begun config first second one two → IsLogOf config (events ++ one) log → IsLogOf config (events ++ two) also
+    → SameLogs first second log also
+behind_same config first second one two events log also h x y =
+    events_same config first second one two events
+    (λ a b p q. logs_moved first second h.a h.b a b (one_log config one a h.a p h.was) (one_log config two b h.b q h.also) h.same)
+    log also x y
+
+adds_to : (port : Port) (config : Config) (first second : ℕ → List ℕ) (one two events : List PlainEvent) (log also : List Act)
+    (bytes : List ℕ) → Begun config first second one two → IsLogOf config (events ++ one) log → IsLogOf config (events ++ two) also
+    → Adds port config one events bytes → Adds port config two events bytes
+adds_to (Conn d) config first second one two events log also bytes h x y
+    (before, (found, told, is_found, hears, so), (later, heard, is_later, hearing, then_so)) =
+    let v = behind_same config first second one two events log also h x y in
+    let here : before ≡ first d =
+    so ∙ ap (λ (l : List Act). all_replies (of d l)) (one_log config one found h.a is_found h.was) ∙ h.one_sent d in
+    let all : before ++ bytes ≡ first d ++ (v.each d).sent =
+    then_so ∙ ap (λ (l : List Act). all_replies (of d l)) (one_log config (events ++ one) later log is_later x) ∙ (v.each d).one in
+    let same : bytes ≡ (v.each d).sent =
+    append_cancel_left (first d) bytes (v.each d).sent (ap (λ (l : List ℕ). l ++ bytes) (sym here) ∙ all) in (
+      second d,
+      (h.b, told, h.also, h.same.tells told (hears_in config one found h.a told is_found h.was hears), sym (h.two_sent d)),
+      (
+        also,
+        heard,
+        y,
+        v.tells heard (hears_in config (events ++ one) later log heard is_later x hearing),
+        ap (λ (l : List ℕ). second d ++ l) same ∙ sym (v.each d).two,
+      ),
+    )
+adds_to (Intr d) config first second one two events log also bytes h x y
+    (before, (found, told, is_found, hears, so), (later, heard, is_later, hearing, then_so)) =
+    let v = behind_same config first second one two events log also h x y in (
+      before,
+      (h.b, told, h.also, h.same.tells told (hears_in config one found h.a told is_found h.was hears), so),
+      (also, heard, y, v.tells heard (hears_in config (events ++ one) later log heard is_later x hearing), then_so),
+    )
+
+pub adds_same : (port : Port) (config : Config) (first second : ℕ → List ℕ) (one two events : List PlainEvent) (log also : List Act)
+    (bytes : List ℕ) → Begun config first second one two → IsLogOf config (events ++ one) log → IsLogOf config (events ++ two) also
+    → Adds port config one events bytes ↔ Adds port config two events bytes
+adds_same port config first second one two events log also bytes h x y = (
+  adds_to port config first second one two events log also bytes h x y,
+  adds_to port config second first two one events also log bytes (begun_back config first second one two h) y x,
+)

@@ -1,0 +1,204 @@
+-- A step that is due adds the same acts to two logs that are the same but for where program text was accepted.
+use Rattle.std.proofs.Common.{◌≡◌, ℕ, ◌+◌, Bool, not, List, [], ◌∷◌, ◌++◌, Option, Some, None, refl, sym, ap, subst, ◌∙◌, inl, inr}
+use Rattle.std.specs.Prelude.{map, option_map, pos, negsuc}
+use Rattle.std.proofs.lemmas.List.{append_cancel_right}
+use Rattle.sv_errors.specs.declared.source.Source.TheVariants.{Immediate}
+use Rattle.sv_vxi.specs.Arguments.{Arguments, link, io_timeout}
+use Rattle.sv_links.specs.declared.waiting.Wait.{Wait}
+use Rattle.sv_links.specs.declared.waiting.Wait.TheVariants.{Lock, Input, Response, Dial}
+use Rattle.sv_links.specs.Links.{LinkAct, owner, holder}
+use Rattle.sv_links.specs.Waiting.{WaitAct, Entered, Again, Left, waits, IsAble, IsExpired, IsOldest}
+use Rattle.sv_scan.specs.declared.acts.ScanAct.{ScanAct}
+use Rattle.sv_scan.specs.declared.acts.ScanAct.TheVariants.{Trigger}
+use Rattle.sv_scan.specs.Counted.{kept, trigger_fault}
+use Rattle.sv_exchange.specs.Exchange.{has_ended}
+use Rattle.sv_layers.specs.Act.{Act as InstrumentAct, Scanned}
+use Rattle.sv_instrument.specs.Stimulus.{IsFired}
+use Rattle.sv_instrument.specs.Step.{IsStep, is_answerable}
+use Rattle.sv_history.specs.declared.event.Config.{Config}
+use Rattle.sv_history.specs.Act.{Act, DeviceAct, Waited, Happened, OnDevice, of, device_acts, link_acts, wait_acts, instrument_acts, exchange_acts, ticks}
+use Rattle.sv_history.specs.Connection.{unanswered}
+use Rattle.sv_history.specs.CallOutcome.{CallOutcome, suspended}
+use Rattle.sv_history.specs.CoreCall.{CoreCall, lid_of}
+use Rattle.sv_history.specs.Request.{Request, NoCall, Decided, CoreRequest, AbortRequest, PortRequest, core_call_in}
+use Rattle.sv_history.specs.Effect.{Effect, acts_of, call_effect}
+use Rattle.sv_history.specs.Admission.{Stop, Fails, Awaits, deadline, admitted, stop_of}
+use Rattle.sv_history.specs.AbortChannel.{owner_of, where_waiting}
+use Rattle.sv_history.specs.Execution.{request_effect, aborts}
+use Rattle.sv_history.specs.Resuming.{leaving, next_wait, continued, resumed, failed, late}
+use Rattle.sv_history.specs.Settling.{First, InstrumentDoes, CanResume, Resumes, TimesOut, IsNext}
+use Rattle.sv_laws.proofs.Cuts.SameInstrument.{SameInstrument, instrument_step}
+use Rattle.sv_laws.proofs.Cuts.SameDevice.{SameDevice, device_act, device_back, ended_alike, answerable_alike, polled_alike, wait_alike, call_alike, stop_alike}
+
+-- ---- calls
+
+deadline_alike : (config : Config) (timeout : Option ℕ) (acts other : List DeviceAct) → SameDevice acts other
+    → deadline config timeout acts ≡ deadline config timeout other
+deadline_alike config timeout acts other v =
+    ap (λ (n : ℕ). option_map (λ milliseconds. config.clock + n + milliseconds) timeout) v.clock
+
+admitted_alike : (config : Config) (polled c : ℕ) (arguments : Arguments) (stop : Option Stop) (acts other : List DeviceAct)
+    → SameDevice acts other → admitted config polled c arguments stop acts ≡ admitted config polled c arguments stop other
+admitted_alike config polled c arguments None acts other v = call_alike config polled c arguments acts other v
+admitted_alike config polled c arguments (Some (Fails error)) acts other v = refl
+admitted_alike config polled c arguments (Some (Awaits wait timeout)) acts other v =
+    ap (λ (d : Option ℕ). suspended (Entered c (lid_of (link arguments)) wait d)) (deadline_alike config timeout acts other v)
+
+pub request_alike : (config : Config) (polled c : ℕ) (request : Request) (acts other : List DeviceAct) → SameDevice acts other
+    → request_effect config polled c request acts ≡ request_effect config polled c request other
+request_alike config polled c (CoreRequest call) acts other v =
+    ap (λ (o : Option Stop). call_effect call.xid (admitted config polled c call.arguments o acts))
+    (stop_alike c call.arguments acts other v)
+    ∙ ap (λ (o : CallOutcome). call_effect call.xid o)
+    (admitted_alike config polled c call.arguments (stop_of c call.arguments other) acts other v)
+request_alike config polled c (AbortRequest xid (pos n)) acts other v = rw v.links refl
+request_alike config polled c (AbortRequest xid (negsuc n)) acts other v = refl
+request_alike config polled c NoCall acts other v = refl
+request_alike config polled c (Decided xid reply) acts other v = refl
+request_alike config polled c (PortRequest xid args) acts other v = refl
+
+where_alike : (found : Option ℕ) (n : ℕ) (acts other : List DeviceAct) → SameDevice acts other
+    → where_waiting found (Some n) acts ≡ where_waiting found (Some n) other
+where_alike None n acts other v = refl
+where_alike (Some d) n acts other v = rw v.waits refl
+
+pub aborts_alike : (request : Request) (acts other : List DeviceAct) → SameDevice acts other → aborts request acts ≡ aborts request other
+aborts_alike (AbortRequest xid (pos n)) acts other v =
+    where_alike (owner_of (Some n) acts) n acts other v
+    ∙ ap (λ (l : List LinkAct). where_waiting (owner n l) (Some n) other) v.links
+aborts_alike (AbortRequest xid (negsuc n)) acts other v = refl
+aborts_alike _ acts other v = refl
+
+next_wait_alike : (wait : Wait) (arguments : Arguments) (acts other : List DeviceAct) → SameDevice acts other
+    → next_wait wait arguments acts ≡ next_wait wait arguments other
+next_wait_alike Lock arguments acts other v = wait_alike arguments acts other v
+next_wait_alike Input arguments acts other v = refl
+next_wait_alike Response arguments acts other v = refl
+next_wait_alike Dial arguments acts other v = refl
+
+continued_alike : (config : Config) (polled c : ℕ) (arguments : Arguments) (next : Option Wait) (acts other : List DeviceAct)
+    → SameDevice acts other → continued config polled c arguments next acts ≡ continued config polled c arguments next other
+continued_alike config polled c arguments (Some wait) acts other v =
+    ap (λ (d : Option ℕ). suspended (Again c wait d)) (deadline_alike config (io_timeout arguments) acts other v)
+continued_alike config polled c arguments None acts other v =
+    ap (λ (o : CallOutcome). leaving c o) (call_alike config polled c arguments (Waited (Left c) ∷ acts) (Waited (Left c) ∷ other)
+    (device_act (Waited (Left c)) acts other v))
+
+pub resumed_alike : (config : Config) (polled c : ℕ) (wait : Wait) (call : Option CoreCall) (acts other : List DeviceAct)
+    → SameDevice acts other → resumed config polled c wait call acts ≡ resumed config polled c wait call other
+resumed_alike config polled c wait None acts other v = refl
+resumed_alike config polled c wait (Some call) acts other v =
+    ap (λ (next : Option Wait). call_effect call.xid (continued config polled c call.arguments next acts))
+    (next_wait_alike wait call.arguments acts other v)
+    ∙ ap (λ (o : CallOutcome). call_effect call.xid o)
+    (continued_alike config polled c call.arguments (next_wait wait call.arguments other) acts other v)
+
+-- ---- one step
+
+-- The devices are the same, and so is each connection's call without an answer.
+pub record SameCalls (log other : List Act) : Type 0 where
+  pub device : SameDevice (device_acts log) (device_acts other)
+  pub calls : (d : ℕ) → unanswered (of d log) ≡ unanswered (of d other)
+
+pub calls_back : (log other : List Act) → SameCalls log other → SameCalls other log
+calls_back log other v =
+    record { device = device_back (device_acts log) (device_acts other) v.device; calls = λ d. sym (v.calls d) }
+
+-- What the one log becomes by some acts, the other becomes by the same.
+abbrev pub Shared : List Act → List Act → (List Act → Type 0) → (List Act → Type 0) → Type 0
+Shared log other Here There = (new : List Act) → Here new → (adds : List Act) × (new ≡ adds ++ log) × There (adds ++ other)
+
+first_shared : (log other : List Act) (A B C D : List Act → Type 0) → Shared log other A C → Shared other log C A → Shared log other B D
+    → Shared log other (First A B) (First C D)
+first_shared log other A B C D to from on new (inl a) = let so = to new a in (so.0, so.1, inl so.2)
+first_shared log other A B C D to from on new (inr b) =
+    let so = on new b.1 in (so.0, so.1, inr ((λ one c. let back = from one c in b.0 (back.0 ++ log) back.2), so.2))
+
+does_shared : (IsSuch : List InstrumentAct → List InstrumentAct → Type 0) (log other : List Act)
+    → ((new : List InstrumentAct) → IsSuch (instrument_acts (device_acts log)) new → (adds : List InstrumentAct)
+    × (new ≡ adds ++ instrument_acts (device_acts log))
+    × IsSuch (instrument_acts (device_acts other)) (adds ++ instrument_acts (device_acts other)))
+    → Shared log other (InstrumentDoes IsSuch log) (InstrumentDoes IsSuch other)
+does_shared IsSuch log other moves new (adds, such, is) =
+    let there = instrument_acts (device_acts other) in
+    let so = moves (adds ++ instrument_acts (device_acts log)) such in
+    let same : adds ≡ so.0 = append_cancel_right adds so.0 (instrument_acts (device_acts log)) so.1 in (
+      map OnDevice (map Happened adds),
+      is,
+      (adds, subst (λ (l : List InstrumentAct). IsSuch there (l ++ there)) (sym same) so.2, refl),
+    )
+
+fires_shared : (log other : List InstrumentAct) → SameInstrument log other → (new : List InstrumentAct) → IsFired log new
+    → (adds : List InstrumentAct) × (new ≡ adds ++ log) × IsFired other (adds ++ other)
+fires_shared log other v new (none, is) = (
+  Scanned (Trigger Immediate) ∷ [],
+  is,
+  (ap (λ (l : List ScanAct). trigger_fault (kept l) Immediate) (sym v.status.scanned) ∙ none, refl),
+)
+
+able_alike : (acts other : List DeviceAct) (found : Option ℕ) → SameDevice acts other → IsOldest (wait_acts acts) (CanResume acts) found
+    → IsOldest (wait_acts other) (CanResume other) found
+able_alike acts other found v h =
+    subst (λ (l : List LinkAct). IsOldest (wait_acts other) (IsAble (holder l) (not (has_ended (exchange_acts other)))
+    (is_answerable (instrument_acts other)) (wait_acts other)) found) v.links
+    (subst (λ (b : Bool). IsOldest (wait_acts other) (IsAble (holder (link_acts acts)) (not b) (is_answerable (instrument_acts other))
+    (wait_acts other)) found) (ended_alike acts other v)
+    (subst (λ (b : Bool). IsOldest (wait_acts other) (IsAble (holder (link_acts acts)) (not (has_ended (exchange_acts acts))) b
+    (wait_acts other)) found) (answerable_alike acts other v)
+    (subst (λ (l : List WaitAct). IsOldest l (IsAble (holder (link_acts acts)) (not (has_ended (exchange_acts acts)))
+    (is_answerable (instrument_acts acts)) l) found) v.waits h)))
+
+resumes_shared : (config : Config) (log other : List Act) → SameCalls log other
+    → Shared log other (Resumes config log) (Resumes config other)
+resumes_shared config log other v new (c, wait, polled, oldest, for, said, is) =
+    let call = core_call_in (unanswered (of c log)) in
+    let effect = resumed config polled c wait call (device_acts log) in
+    let same : effect ≡ resumed config polled c wait (core_call_in (unanswered (of c other))) (device_acts other) =
+    resumed_alike config polled c wait call (device_acts log) (device_acts other) v.device
+    ∙ ap (λ (o : Option (List ℕ)). resumed config polled c wait (core_call_in o) (device_acts other)) (v.calls c) in (
+      acts_of c effect,
+      is,
+      (
+        c,
+        wait,
+        polled,
+        able_alike (device_acts log) (device_acts other) (Some c) v.device oldest,
+        subst (λ (l : List WaitAct). waits c l ≡ Some wait) v.device.waits for,
+        polled_alike polled (device_acts log) (device_acts other) v.device said,
+        ap (λ (e : Effect). acts_of c e ++ other) same,
+      ),
+    )
+
+times_shared : (config : Config) (log other : List Act) → SameCalls log other
+    → Shared log other (TimesOut config log) (TimesOut config other)
+times_shared config log other v new (c, wait, oldest, for, is) =
+    let acts = acts_of c (failed (late wait) c (core_call_in (unanswered (of c log)))) in (
+      acts,
+      is,
+      (
+        c,
+        wait,
+        subst (λ (n : ℕ). IsOldest (wait_acts (device_acts other)) (IsExpired (config.clock + n) (wait_acts (device_acts other)))
+            (Some c)) v.device.clock
+            (subst (λ (l : List WaitAct). IsOldest l (IsExpired (config.clock + ticks (device_acts log)) l) (Some c)) v.device.waits
+            oldest),
+        subst (λ (l : List WaitAct). waits c l ≡ Some wait) v.device.waits for,
+        ap (λ (o : Option (List ℕ)). acts_of c (failed (late wait) c (core_call_in o)) ++ other) (v.calls c),
+      ),
+    )
+
+pub next_shared : (config : Config) (log other : List Act) → SameCalls log other
+    → Shared log other (IsNext config log) (IsNext config other)
+next_shared config log other v =
+    let back = calls_back log other v in
+    let here = instrument_acts (device_acts log) in
+    let there = instrument_acts (device_acts other) in
+    let times = TimesOut config other in
+    let steps = First (InstrumentDoes IsStep other) times in
+    let resumes = First (Resumes config other) steps in
+    first_shared log other _ _ _ resumes (does_shared IsFired log other (fires_shared here there v.device.instrument))
+    (does_shared IsFired other log (fires_shared there here back.device.instrument))
+    (first_shared log other _ _ _ steps (resumes_shared config log other v) (resumes_shared config other log back)
+    (first_shared log other _ _ _ times (does_shared IsStep log other (λ new step. instrument_step here there new v.device.instrument step))
+    (does_shared IsStep other log (λ new step. instrument_step there here new back.device.instrument step))
+    (times_shared config log other v)))

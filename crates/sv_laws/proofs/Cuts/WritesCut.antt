@@ -1,0 +1,287 @@
+-- A write, and the same bytes in two writes: what comes behind them adds the same, and so do they to each port but the connection.
+use Rattle.std.proofs.Common.{◌≡◌, ◌≢◌, ℕ, zero, suc, Bool, true, false, Some, List, [], ◌∷◌, ◌++◌, length, refl, sym, ap, subst, ◌∙◌, inl, inr, append-nil, arith}
+use Rattle.std.specs.Prelude.{◌↔◌, pos}
+use Rattle.std.specs.Int.{bit_at}
+use Rattle.std.specs.List.{AllByRecursion}
+use Rattle.std.proofs.lemmas.Bool.{cases_eq}
+use Rattle.sv_vxi.specs.declared.error_code.ErrorCode.TheVariants.{NoError}
+use Rattle.sv_vxi.specs.Arguments.{DeviceWrite}
+use Rattle.sv_vxi.specs.Results.{Size}
+use Rattle.sv_links.specs.Channels.{ChannelAct}
+use Rattle.sv_history.specs.declared.event.Config.{Config}
+use Rattle.sv_history.specs.declared.event.Port.{Port}
+use Rattle.sv_history.specs.declared.event.Port.TheVariants.{Conn, Intr}
+use Rattle.sv_history.specs.Event.{PlainEvent}
+use Rattle.sv_history.specs.Act.{Act, ConnAct, DeviceAct, CallTaken, Replied, of, device_acts, wait_acts}
+use Rattle.sv_history.specs.Connection.{open_role, unanswered, completed, took_no_call, stream}
+use Rattle.sv_history.specs.Request.{core_call}
+use Rattle.sv_history.specs.Effect.{result_reply}
+use Rattle.sv_history.specs.PolledStatus.{IsPolled}
+use Rattle.sv_history.specs.Requests.{HearsOf}
+use Rattle.sv_history.specs.Settling.{IsNext, SettlesIn}
+use Rattle.sv_history.specs.History.{IsLogOf}
+use Rattle.sv_laws.specs.Adding.{all_replies, all_sent, Adds}
+use Rattle.sv_laws.specs.Cuts.{without_pieces, AllRest, AreCut, WritesCut}
+use Rattle.sv_laws.proofs.OneLog.{one_log}
+use Rattle.sv_history.proofs.OneStep.{next_once}
+use Rattle.sv_laws.proofs.EveryLog.EachEvent.{fit_log, idle_free}
+use Rattle.sv_laws.proofs.EveryLog.Steps.{log_settled}
+use Rattle.sv_laws.proofs.Cuts.ReadsOn.{same_behind}
+use Rattle.sv_laws.proofs.Cuts.SameDevice.{Tells, accepts}
+use Rattle.sv_laws.proofs.Cuts.SameAhead.{SameAhead}
+use Rattle.sv_laws.proofs.Cuts.SharedLogs.{settles_so}
+use Rattle.sv_laws.proofs.Cuts.SharedSending.{Begun, adds_same}
+use Rattle.sv_laws.proofs.Cuts.BytesBehind.{CameBehind, behind_device, behind_others}
+use Rattle.sv_laws.proofs.Cuts.Fed.{Fed, fed, only_bytes}
+use Rattle.sv_laws.proofs.Cuts.Suspended.{rested}
+use Rattle.sv_laws.proofs.Cuts.Written.{wrote, Wrote, written}
+use Rattle.sv_laws.proofs.Cuts.FirstPart.{Resting, reported, BecomesLong, first_part, whole_long}
+use Rattle.sv_laws.proofs.Cuts.Beside.{Beside, reports, parts_shared, long_shared, beside_kept, beside_came, of_wrote, beside_wrote}
+use Rattle.sv_laws.proofs.Cuts.AllTaken.{role_bare, call_bare, no_call_bare, fed_all}
+
+-- ---- the logs where the last write is accepted
+
+-- what is settled behind a step that is due
+settles_behind : (n : ℕ) (config : Config) (log mid new : List Act) → IsNext config log mid → SettlesIn n config log new
+    → (m : ℕ) × SettlesIn m config mid new
+settles_behind zero config log mid new next settles = absurd (settles.0 mid next)
+settles_behind (suc n) config log mid new next (middle, also, more) =
+    (n, subst (λ (l : List Act). SettlesIn n config l new) (next_once config log middle mid also next) more)
+
+-- A write of both parts, from the first log to the second; and writes of the one and then of the other, with bytes that come between them.
+record Parts (c : ℕ) (x y : List ℕ) (ended : Bool) (config : Config) (before whole last : List Act) : Type 0 where
+  single : List Act
+  first : List Act
+  mid : List Act
+  second : List Act
+  at_single : CameBehind c before single
+  at_first : CameBehind c before first
+  at_second : CameBehind c mid second
+  rests_single : Resting config single
+  rests_first : Resting config first
+  both : Wrote c (x ++ y) ended config single whole
+  one : Wrote c x false config first mid
+  other : Wrote c y ended config second last
+
+-- the logs of other connections in front of both
+others_before : (c : ℕ) (x y : List ℕ) (ended : Bool) (config : Config) (before whole last : List Act)
+    (h : Parts c x y ended config before whole last) → ((d : ℕ) → d ≢ c → of d h.mid ≡ of d h.first) → (d : ℕ) → d ≢ c
+    → of d h.single ≡ of d h.second
+others_before c x y ended config before whole last h same d ne =
+    behind_others c d before h.single h.at_single ne ∙ sym (behind_others c d before h.first h.at_first ne) ∙ sym (same d ne)
+    ∙ sym (behind_others c d h.mid h.second h.at_second ne)
+
+-- settled, they are beside one another
+beside_settled : (c : ℕ) (x y : List ℕ) (ended : Bool) (config : Config) (before whole last : List Act)
+    (h : Parts c x y ended config before whole last) → AllByRecursion (λ b. b ≢ 10) x → Beside c whole last
+beside_settled c x y ended config before whole last h line =
+    elim (first_part config c h.one.call h.one.reply x h.first h.mid h.one.steps h.rests_first line h.one.free h.one.settles) [
+      | inl same ↦ short same
+      | inr long ↦ overlong long.0 long.1
+    ]
+  where
+    single_at : device_acts h.single ≡ device_acts before
+    single_at = behind_device c before h.single h.at_single
+
+    first_at : device_acts h.first ≡ device_acts before
+    first_at = behind_device c before h.first h.at_first
+
+    second_at : device_acts h.second ≡ device_acts h.mid
+    second_at = behind_device c h.mid h.second h.at_second
+
+    short : h.mid ≡ wrote c h.one.call h.one.reply x false h.first → Beside c whole last
+    short same =
+        let start = wrote c h.both.call h.both.reply (x ++ y) ended h.single in
+        let also = wrote c h.other.call h.other.reply y ended h.second in
+        let v = beside_wrote c start also h.both.call h.both.reply (x ++ y) ended h.single h.other.call h.other.reply y ended h.second
+        (accepts (x ++ y) ended ∷ device_acts before) (accepts y ended ∷ accepts x false ∷ device_acts before) (λ d. refl) (λ d. refl)
+        (others_before c x y ended config before whole last h
+        (λ d ne. ap (of d) same ∙ of_wrote c d h.one.call h.one.reply x false h.first ne))
+        (ap (λ (l : List DeviceAct). accepts (x ++ y) ended ∷ l) single_at)
+        (ap (λ (l : List DeviceAct). accepts y ended ∷ l) (second_at ∙ ap device_acts same)
+        ∙ ap (λ (l : List DeviceAct). accepts y ended ∷ accepts x false ∷ l) first_at)
+        (parts_shared x y ended (device_acts before)) in
+        settles_so (Beside c) (beside_kept c) h.both.steps h.other.steps config start also whole last v h.both.settles h.other.settles
+
+    overlong : h.mid ≡ reported (wrote c h.one.call h.one.reply x false h.first) → BecomesLong x (device_acts h.first)
+        → Beside c whole last
+    overlong same long =
+        let start = wrote c h.both.call h.both.reply (x ++ y) ended h.single in
+        let also = wrote c h.other.call h.other.reply y ended h.second in
+        let here = subst (λ (l : List DeviceAct). BecomesLong x l) (first_at ∙ sym single_at) long in
+        let next = whole_long config c h.both.call h.both.reply x y ended h.single h.rests_single here in
+        let rest = settles_behind h.both.steps config start (reported start) whole next h.both.settles in
+        let v = beside_wrote c (reported start) also h.both.call h.both.reply (x ++ y) ended h.single h.other.call h.other.reply y ended
+        h.second (reports (accepts (x ++ y) ended ∷ device_acts before)) (accepts y ended ∷ reports (accepts x false ∷ device_acts before))
+        (λ d. refl) (λ d. refl)
+        (others_before c x y ended config before whole last h
+        (λ d ne. ap (of d) same ∙ of_wrote c d h.one.call h.one.reply x false h.first ne))
+        (ap (λ (l : List DeviceAct). reports (accepts (x ++ y) ended ∷ l)) single_at)
+        (ap (λ (l : List DeviceAct). accepts y ended ∷ l) (second_at ∙ ap device_acts same)
+        ∙ ap (λ (l : List DeviceAct). accepts y ended ∷ reports (accepts x false ∷ l)) first_at)
+        (long_shared x y ended (device_acts before)) in
+        settles_so (Beside c) (beside_kept c) rest.0 h.other.steps config (reported start) also whole last v rest.1 h.other.settles
+
+-- ---- what each port was sent
+
+ahead_same : (acts others : List ConnAct) → acts ≡ others → SameAhead (all_replies acts) (all_replies others) acts others
+ahead_same acts others same = subst (λ (l : List ConnAct). SameAhead (all_replies acts) (all_replies l) acts l) same (record {
+  role = refl;
+  call = refl;
+  no_call = refl;
+  ahead = λ more. refl;
+  sent = [];
+  one = sym (append-nil (all_replies acts));
+  two = sym (append-nil (all_replies acts));
+})
+
+sent_beside : (c : ℕ) (port : Port) (log other : List Act) → port ≢ Conn c → Beside c log other → (told : List ChannelAct)
+    → all_sent port told log ≡ all_sent port told other
+sent_beside c (Conn d) log other ne v told = ap all_replies (v.others d (λ e. ne (ap Conn e)))
+sent_beside c (Intr d) log other ne v told = refl
+
+adds_other : (port : Port) (config : Config) (past one two : List PlainEvent) (log other : List Act) (bytes : List ℕ)
+    → IsLogOf config (one ++ past) log → IsLogOf config (two ++ past) other → Tells (device_acts log) (device_acts other)
+    → ((told : List ChannelAct) → all_sent port told log ≡ all_sent port told other) → Adds port config past one bytes
+    → Adds port config past two bytes
+adds_other port config past one two log other bytes was also tells same (before, sends, (found, told, is_log, hears, so)) =
+    let here : found ≡ log = one_log config (one ++ past) found log is_log was in (
+      before,
+      sends,
+      (
+        other,
+        told,
+        also,
+        tells told (subst (λ (l : List Act). HearsOf (device_acts l) told) here hears),
+        so ∙ ap (λ (l : List Act). all_sent port told l) here ∙ same told,
+      ),
+    )
+
+-- ---- the writes of the events
+
+wrote_by : (c lid : ℕ) (config : Config) (past : List PlainEvent) (log : List Act) (bytes : List ℕ) (ended : Bool)
+    (xid io_timeout lock_timeout flags : ℕ) (call : List ℕ) (rest : List ConnAct)
+    → core_call call ≡ Some (record { xid = xid; arguments = DeviceWrite (pos lid) io_timeout lock_timeout flags bytes })
+    → (bit_at flags 3 ≡ 1) ↔ (ended ≡ true) → (f : Fed c config past log (result_reply xid (Size NoError (length bytes))) call rest)
+    → Wrote c bytes ended config f.base f.last
+wrote_by c lid config past log bytes ended xid io_timeout lock_timeout flags call rest is flag f =
+    written c lid bytes ended config f.base f.last call xid io_timeout lock_timeout flags is flag
+    (log_settled config (f.earlier ++ past) f.base f.was)
+    (idle_free c f.base call (fit_log config (f.earlier ++ past) f.base f.was) f.taking.next) f.acts f.taking
+
+resting : (config : Config) (history : List PlainEvent) (before base : List Act) (polled : ℕ) → IsLogOf config history base
+    → device_acts base ≡ device_acts before → AllRest (wait_acts (device_acts before)) → IsPolled polled (device_acts base)
+    → Resting config base
+resting config history before base polled was same none said = record {
+  rests = rested config base (log_settled config history base was);
+  none = subst (λ (l : List DeviceAct). AllRest (wait_acts l)) (sym same) none;
+  polled = polled;
+  said = said;
+}
+
+module _ (c lid : ℕ) (x y : List ℕ) (ended : Bool) (config : Config) (past one two : List PlainEvent)
+    (h : AreCut c lid x y ended config past one two) where
+  abbrev rest : List ConnAct
+  rest = without_pieces (of c h.before)
+
+  fed_both : Fed c config past h.whole (result_reply h.writes_both.0 (Size NoError (length (x ++ y)))) h.writes_both.4 rest
+  fed_both = fed c config past one h.before h.whole _ _ rest h.one_feeds.feeding h.one_feeds.was h.one_feeds.is_log (omega arith)
+      h.writes_both.7
+
+  fed_other : Fed c config past h.cut (result_reply h.writes_second.0 (Size NoError (length y))) h.writes_second.4 h.middle
+  fed_other =
+      let size = ap (λ (l : List ConnAct). length l) h.writes_first.7 in
+      fed c config past two h.before h.cut _ _ h.middle h.two_feeds.feeding h.two_feeds.was h.two_feeds.is_log (omega (arith, size))
+      h.writes_second.7
+
+  fed_one : Fed c config past fed_other.base (result_reply h.writes_first.0 (Size NoError (length x))) h.writes_first.4 rest
+  fed_one = fed c config past fed_other.earlier h.before fed_other.base _ _ rest fed_other.feeding h.two_feeds.was fed_other.was
+      (omega arith) (fed_other.same ∙ h.writes_first.7)
+
+  parts : Parts c x y ended config h.before fed_both.last fed_other.last
+  parts =
+      let both = wrote_by c lid config past h.whole (x ++ y) ended _ _ _ _ h.writes_both.4 rest h.writes_both.5 h.writes_both.6 fed_both in
+      let first = wrote_by c lid config past fed_other.base x false _ _ _ _ h.writes_first.4 rest h.writes_first.5 h.writes_first.6
+      fed_one in
+      let at_single = only_bytes c config past fed_both.earlier h.before fed_both.base fed_both.feeding h.one_feeds.was fed_both.was
+      fed_both.same in
+      let at_first = only_bytes c config past fed_one.earlier h.before fed_one.base fed_one.feeding h.two_feeds.was fed_one.was
+      fed_one.same in
+      record {
+        single = fed_both.base;
+        first = fed_one.base;
+        mid = fed_one.last;
+        second = fed_other.base;
+        at_single = at_single;
+        at_first = at_first;
+        at_second = fed_one.came;
+        rests_single = resting config (fed_both.earlier ++ past) h.before fed_both.base both.polled fed_both.was
+            (behind_device c h.before fed_both.base at_single) h.rest both.said;
+        rests_first = resting config (fed_one.earlier ++ past) h.before fed_one.base first.polled fed_one.was
+            (behind_device c h.before fed_one.base at_first) h.rest first.said;
+        both = both;
+        one = first;
+        other = wrote_by c lid config past h.cut y ended _ _ _ _ h.writes_second.4 h.middle h.writes_second.5 h.writes_second.6 fed_other;
+      }
+
+  beside : Beside c h.whole h.cut
+  beside = beside_came c fed_both.last fed_other.last h.whole h.cut fed_both.came fed_other.came
+      (beside_settled c x y ended config h.before fed_both.last fed_other.last parts h.no_line)
+
+  own_ahead : SameAhead (all_replies (of c h.whole)) (all_replies (of c h.cut)) (of c h.whole) (of c h.cut)
+  own_ahead =
+      let acts = of c h.whole in
+      let others = of c h.cut in
+      let one_bare = h.writes_both.7 in
+      let two_bare = h.writes_second.7
+      ∙ ap (λ (l : List ConnAct).
+      Replied (result_reply h.writes_second.0 (Size NoError (length y))) ∷ CallTaken h.writes_second.4 ∷ l) h.writes_first.7 in
+      record {
+        role = role_bare acts ∙ ap open_role one_bare ∙ sym (role_bare others ∙ ap open_role two_bare);
+        call = call_bare acts ∙ ap unanswered one_bare ∙ sym (call_bare others ∙ ap unanswered two_bare);
+        no_call = no_call_bare acts ∙ ap took_no_call one_bare ∙ sym (no_call_bare others ∙ ap took_no_call two_bare);
+        ahead = same_behind (stream acts) (stream others) (completed acts) (completed others)
+            (fed_all c config past h.whole _ _ rest fed_both h.one_feeds.none_left)
+            (fed_all c config past h.cut _ _ h.middle fed_other h.two_feeds.none_left) h.same_tail;
+        sent = [];
+        one = sym (append-nil (all_replies acts));
+        two = sym (append-nil (all_replies others));
+      }
+
+  each_ahead : (d : ℕ) → SameAhead (all_replies (of d h.whole)) (all_replies (of d h.cut)) (of d h.whole) (of d h.cut)
+  each_ahead d = elim (cases_eq d c) [
+    | inl e ↦ subst (λ (n : ℕ). SameAhead (all_replies (of n h.whole)) (all_replies (of n h.cut)) (of n h.whole) (of n h.cut)) (sym e)
+        own_ahead
+    | inr ne ↦ ahead_same (of d h.whole) (of d h.cut) (beside.others d ne)
+  ]
+
+  begun : Begun config (λ d. all_replies (of d h.whole)) (λ d. all_replies (of d h.cut)) (one ++ past) (two ++ past)
+  begun = record {
+    a = h.whole;
+    b = h.cut;
+    was = h.one_feeds.is_log;
+    also = h.two_feeds.is_log;
+    one_sent = λ d. refl;
+    two_sent = λ d. refl;
+    same = record {
+      device = beside.shared.device;
+      tells = beside.shared.tells;
+      back = beside.shared.back;
+      each = each_ahead;
+    };
+  }
+
+  sent_but : (port : Port) (bytes : List ℕ) → port ≢ Conn c → Adds port config past one bytes ↔ Adds port config past two bytes
+  sent_but port bytes ne = (
+    adds_other port config past one two h.whole h.cut bytes h.one_feeds.is_log h.two_feeds.is_log beside.shared.tells
+        (sent_beside c port h.whole h.cut ne beside),
+    adds_other port config past two one h.cut h.whole bytes h.two_feeds.is_log h.one_feeds.is_log beside.shared.back
+        (λ told. sym (sent_beside c port h.whole h.cut ne beside told)),
+  )
+
+pub writes_cut : WritesCut
+writes_cut c lid x y ended config past one two events log other h is_log also port bytes = (
+  adds_same port config (λ d. all_replies (of d h.whole)) (λ d. all_replies (of d h.cut)) (one ++ past) (two ++ past) events log other bytes
+      (begun c lid x y ended config past one two h) is_log also,
+  sent_but c lid x y ended config past one two h port bytes,
+)

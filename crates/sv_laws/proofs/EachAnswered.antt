@@ -1,0 +1,54 @@
+-- Each call that is taken on a connection is answered once, or waits: in every log.
+use Rattle.std.proofs.Common.{◌≡◌, ℕ, ◌+◌, Bool, true, false, List, [], ◌∷◌, Option, Some, None, refl, ap, ◌∙◌, arith}
+use Rattle.std.specs.Prelude.{is_some}
+use Rattle.sv_links.specs.declared.waiting.Wait.{Wait}
+use Rattle.sv_links.specs.Waiting.{waits}
+use Rattle.sv_history.specs.declared.event.Config.{Config}
+use Rattle.sv_history.specs.Event.{PlainEvent}
+use Rattle.sv_history.specs.Act.{Act, ConnAct, Opened, Piece, CallTaken, Faulted, Replied, BytesTaken, PortClosed, of, device_acts, wait_acts}
+use Rattle.sv_history.specs.CoreCall.{CoreCall}
+use Rattle.sv_history.specs.Request.{core_call_in}
+use Rattle.sv_history.specs.History.{IsLogOf}
+use Rattle.sv_laws.proofs.EveryLog.BusyWaits.{busy_waits}
+use Rattle.sv_laws.proofs.EveryLog.EachEvent.{fit_log}
+use Rattle.sv_history.specs.Connection.{is_busy, completed, unanswered}
+use Rattle.sv_laws.specs.Laws.{taken, one_if, IsPaid, EachAnswered}
+use Rattle.sv_laws.proofs.EveryLog.Taken.{free_call}
+use Rattle.sv_laws.proofs.EveryLog.EachAct.{AllCame, all_came}
+
+paid_ends : (taken done : ℕ) (busy : Bool) → busy ≡ true → taken ≡ done + one_if busy → taken ≡ done + 1 + 0
+paid_ends n m true e h = omega (arith, h)
+paid_ends n m false e h = absurd cc
+
+paid_begins : (taken done : ℕ) (busy : Bool) → busy ≡ false → taken ≡ done + one_if busy → taken + 1 ≡ done + 1
+paid_begins n m false e h = omega (arith, h)
+paid_begins n m true e h = absurd cc
+
+all_paid : (acts : List ConnAct) → AllCame acts → taken acts ≡ completed acts + one_if (is_busy acts)
+all_paid [] all = refl
+all_paid (Opened role ∷ acts) all = refl
+all_paid (PortClosed ∷ acts) all = refl
+all_paid (Piece bytes ∷ acts) all = all_paid acts all.1
+all_paid (BytesTaken count ∷ acts) all = all_paid acts all.1
+all_paid (CallTaken call ∷ acts) all =
+    paid_begins (taken acts) (completed acts) (is_busy acts) (ap is_some (free_call acts call all.0.1)) (all_paid acts all.1)
+all_paid (Faulted ∷ acts) all = paid_ends (taken acts) (completed acts) (is_busy acts) (ap is_some all.0.1) (all_paid acts all.1)
+all_paid (Replied reply ∷ acts) all = paid_ends (taken acts) (completed acts) (is_busy acts) (ap is_some all.0.1) (all_paid acts all.1)
+
+-- a call has no answer exactly if it waits
+waits_or_not : (config : Config) (history : List PlainEvent) (log : List Act) (c : ℕ) → IsLogOf config history log
+    → (found : Option Wait) → waits c (wait_acts (device_acts log)) ≡ found → is_busy (of c log) ≡ is_some found
+waits_or_not config history log c was None none = ap is_some (busy_waits config history log was c none)
+waits_or_not config history log c was (Some wait) is =
+    let held = (fit_log config history log was).held c wait is in
+    some_call (unanswered (of c log)) held.1.0 held.1.1
+  where
+    some_call : (found : Option (List ℕ)) (call : CoreCall) → core_call_in found ≡ Some call → is_some found ≡ true
+    some_call (Some bytes) call e = refl
+    some_call None call e = absurd cc
+
+pub each_answered : EachAnswered
+each_answered config history log c was =
+    all_paid (of c log) (all_came config history log c was)
+    ∙ ap (λ (b : Bool). completed (of c log) + one_if b)
+    (waits_or_not config history log c was (waits c (wait_acts (device_acts log))) refl)

@@ -1,0 +1,321 @@
+-- In every log a call that has no answer waits.
+use Rattle.std.proofs.Common.{◌≡◌, ◌≢◌, ℕ, ◌<◌, Bool, true, false, List, [], ◌∷◌, ◌++◌, length, nat_lt, Option, Some, None, refl, sym, ap, subst, ◌∙◌, inl, inr, append_assoc, eq-eqb}
+use Rattle.std.specs.Prelude.{map, is_some, pos, negsuc}
+use Rattle.std.proofs.lemmas.Bool.{cases_eq, cases_Bool}
+use Rattle.sv_vxi.specs.declared.error_code.ErrorCode.{ErrorCode}
+use Rattle.sv_vxi.specs.declared.error_code.ErrorCode.TheVariants.{Abort}
+use Rattle.sv_vxi.specs.Arguments.{Arguments, DeviceAbort, CreateLink, DeviceWrite, DeviceRead, DeviceReadstb, DeviceTrigger, DeviceClear, DeviceRemote, DeviceLocal, DeviceLock, DeviceUnlock, DeviceEnableSrq, DeviceDocmd, DestroyLink, CreateIntrChan, DestroyIntrChan, link, io_timeout, max_handle}
+use Rattle.sv_vxi.specs.Results.{Outcome}
+use Rattle.sv_links.specs.declared.request.Peer.{Peer}
+use Rattle.sv_links.specs.declared.waiting.Wait.{Wait}
+use Rattle.sv_links.specs.Links.{owner, is_of, holder, is_this, is_locked_out, lids_left, closing}
+use Rattle.sv_links.specs.Waiting.{WaitAct, Entered, Again, Left, waits}
+use Rattle.sv_links.specs.Channels.{ChannelAct, ChannelClosed, ChannelTaken}
+use Rattle.sv_laws.proofs.CallsAlike.{conn_of, call_foreign}
+use Rattle.sv_exchange.specs.Exchange.{has_ended, response, is_something}
+use Rattle.sv_exchange.specs.Limits.{max_message}
+use Rattle.sv_scan.specs.declared.acts.ScanAct.TheVariants.{Input as InputTo}
+use Rattle.sv_layers.specs.Act.{Act as InstrumentAct, Scanned}
+use Rattle.sv_instrument.specs.Step.{is_answerable}
+use Rattle.sv_instrument.specs.Stimulus.{external_acts, tick_acts}
+use Rattle.sv_history.specs.declared.event.Config.{Config}
+use Rattle.sv_history.specs.declared.event.Port.TheVariants.{Conn, Intr}
+use Rattle.sv_history.specs.Event.{PlainEvent, Open, Bytes, Turn, Refuse, Took, Close, Dialed, Input, External, Tick}
+use Rattle.sv_history.specs.Act.{Act, ConnAct, DeviceAct, Opened, Piece, CallTaken, Replied, BytesTaken, PortClosed, Waited, Channel, Happened, Ticked, On, OnDevice, of, device_acts, link_acts, wait_acts, instrument_acts, exchange_acts}
+use Rattle.sv_history.specs.Connection.{unanswered, next_call}
+use Rattle.sv_history.specs.CallOutcome.{CallOutcome, only}
+use Rattle.sv_history.specs.CoreCall.{CoreCall, lid_of, failure}
+use Rattle.sv_history.specs.CoreChannel.{own_call}
+use Rattle.sv_history.specs.Effect.{Effect, acts_of, replies, call_effect}
+use Rattle.sv_history.specs.Request.{Request, NoCall, Decided, CoreRequest, AbortRequest, PortRequest, core_call_in, next_request}
+use Rattle.sv_history.specs.Interrupts.{has_channel, peer_by, dialed, dialed_to}
+use Rattle.sv_history.specs.Admission.{Stop, Fails, Awaits, stop_of, admitted, deadline}
+use Rattle.sv_history.specs.Execution.{request_effect, aborts}
+use Rattle.sv_history.specs.Refusing.{refusable, refused_reply}
+use Rattle.sv_history.specs.Resuming.{effect_of, leaving, next_wait, continued, failed, late}
+use Rattle.sv_history.specs.Settling.{IsNext}
+use Rattle.sv_history.specs.History.{abort_acts, turn_acts, refuse_acts, own_acts, refusal, IsLogOf}
+use Rattle.sv_history.proofs.Projections.{of_mine, of_other, of_shared, of_effect, others_effect, device_shared, device_effect, wait_acts-links, wait_acts-happened}
+use Rattle.sv_laws.proofs.EveryLog.Done.{each_done}
+use Rattle.sv_laws.proofs.EveryLog.Taken.{within}
+use Rattle.sv_laws.proofs.EveryLog.Fit.{Fit}
+use Rattle.sv_laws.proofs.EveryLog.EachEvent.{each_log, done_waits, turn_parts, fit_request, close_adds, device_closed, of_closed, fit_event, fit_step, fit_none}
+
+-- If no call of a connection waits, none is without an answer.
+abbrev HasWait : ℕ → List Act → Type 0
+HasWait c log = waits c (wait_acts (device_acts log)) ≡ None → unanswered (of c log) ≡ None
+
+abbrev AllWait : List Act → Type 0
+AllWait log = (c : ℕ) → HasWait c log
+
+-- ---- a call that is done has a result
+
+own_told : (config : Config) (polled c : ℕ) (arguments : Arguments) (acts : List DeviceAct)
+    → is_some (own_call config polled c arguments acts).result ≡ true
+own_told config polled c (CreateLink client_id lock_device lock_timeout device) acts = elim (cases_Bool (lids_left (link_acts acts))) [
+  | inl e ↦ rw e refl
+  | inr e ↦ rw e refl
+]
+own_told config polled c (DeviceWrite lid io_timeout lock_timeout flags bytes) acts =
+    elim (cases_Bool (nat_lt max_message (length bytes))) [
+      | inl e ↦ rw e refl
+      | inr e ↦ elim (cases_Bool (has_ended (exchange_acts acts))) [ inl k ↦ rw (e, k) refl | inr k ↦ rw (e, k) refl ]
+    ]
+own_told config polled c (DeviceRead lid request_size io_timeout lock_timeout flags term_char) acts =
+    elim (cases_Bool (is_answerable (instrument_acts acts))) [
+      | inl k ↦ elim (cases_Bool (is_something (response (exchange_acts acts)))) [ inl e ↦ rw (k, e) refl | inr e ↦ rw (k, e) refl ]
+      | inr k ↦ elim (cases_Bool (is_something (response (exchange_acts acts)))) [ inl e ↦ rw (k, e) refl | inr e ↦ rw (k, e) refl ]
+    ]
+own_told config polled c (DeviceLock (pos n) flags lock_timeout) acts =
+    elim (cases_Bool (is_locked_out (holder (link_acts acts)) (Some n))) [ inl e ↦ rw e refl | inr e ↦ rw e refl ]
+own_told config polled c (DeviceUnlock (pos n)) acts =
+    elim (cases_Bool (is_this n (holder (link_acts acts)))) [ inl e ↦ rw e refl | inr e ↦ rw e refl ]
+own_told config polled c (DeviceEnableSrq (pos n) true handle) acts = elim (cases_Bool (is_of c (owner n (link_acts acts)))) [
+  | inl e ↦ elim (cases_Bool (nat_lt max_handle (length handle))) [ inl k ↦ rw (e, k) refl | inr k ↦ rw (e, k) refl ]
+  | inr e ↦ rw e refl
+]
+own_told config polled c (DeviceEnableSrq (pos n) false handle) acts =
+    elim (cases_Bool (is_of c (owner n (link_acts acts)))) [ inl e ↦ rw e refl | inr e ↦ rw e refl ]
+own_told config polled c DestroyIntrChan acts = elim (cases_Bool (has_channel c acts)) [ inl e ↦ rw e refl | inr e ↦ rw e refl ]
+own_told config polled c (DestroyLink (pos n)) acts = refl
+own_told config polled c (DestroyLink (negsuc n)) acts = refl
+own_told config polled c (DeviceLock (negsuc n) flags lock_timeout) acts = refl
+own_told config polled c (DeviceUnlock (negsuc n)) acts = refl
+own_told config polled c (DeviceEnableSrq (negsuc n) enable handle) acts = refl
+own_told config polled c (DeviceReadstb parms) acts = refl
+own_told config polled c (DeviceTrigger parms) acts = refl
+own_told config polled c (DeviceClear parms) acts = refl
+own_told config polled c (DeviceRemote parms) acts = refl
+own_told config polled c (DeviceLocal parms) acts = refl
+own_told config polled c (DeviceAbort lid) acts = refl
+own_told config polled c (DeviceDocmd lid flags io_timeout lock_timeout cmd network_order datasize bytes) acts = refl
+own_told config polled c (CreateIntrChan host_addr host_port prog_num prog_vers prog_family) acts = refl
+
+replies_free : (xid : ℕ) (result : Option Outcome) (acts : List ConnAct) → is_some result ≡ true
+    → unanswered (replies xid result ++ acts) ≡ None
+replies_free xid (Some result) acts told = refl
+replies_free xid None acts told = absurd cc
+
+-- ---- acts of one connection, and of what all share
+
+wait_other : (c d : ℕ) (act : WaitAct) (acts : List WaitAct) → conn_of act ≡ c → d ≢ c → waits d (act ∷ acts) ≡ waits d acts
+wait_other c d act acts is ne =
+    (call_foreign d act acts acts (λ e. ne (sym e ∙ is)) (record { wait = refl; until = refl; named = refl })).wait
+
+-- An effect leaves what calls of others wait for.
+abbrev LeavesOthers : ℕ → List DeviceAct → List DeviceAct → Type 0
+LeavesOthers c adds acts = (d : ℕ) → d ≢ c → waits d (wait_acts (adds ++ acts)) ≡ waits d (wait_acts acts)
+
+all_effect : (c : ℕ) (effect : Effect) (log : List Act) → ((d : ℕ) → d ≢ c → HasWait d log) → LeavesOthers c effect.adds (device_acts log)
+    → (waits c (wait_acts (effect.adds ++ device_acts log)) ≡ None → unanswered (effect.own ++ of c log) ≡ None)
+    → AllWait (acts_of c effect ++ log)
+all_effect c effect log all others mine d none =
+    let here : waits d (wait_acts (effect.adds ++ device_acts log)) ≡ None =
+    ap (λ (l : List DeviceAct). waits d (wait_acts l)) (sym (device_effect c effect log)) ∙ none in
+    elim (cases_eq d c) [
+      | inl e ↦ subst (λ (n : ℕ). unanswered (of n (acts_of c effect ++ log)) ≡ None) (sym e)
+          (ap unanswered (of_effect c effect log)
+          ∙ mine (ap (λ (n : ℕ). waits n (wait_acts (effect.adds ++ device_acts log))) (sym e) ∙ here))
+      | inr ne ↦ ap unanswered (others_effect c d effect log ne) ∙ all d ne (sym (others d ne) ∙ here)
+    ]
+
+all_shared : (adds : List DeviceAct) (log : List Act) → AllWait log → wait_acts (adds ++ device_acts log) ≡ wait_acts (device_acts log)
+    → AllWait (map OnDevice adds ++ log)
+all_shared adds log all same d none = ap unanswered (of_shared d adds log)
+    ∙ all d (ap (waits d) (sym same ∙ ap wait_acts (sym (device_shared adds log))) ∙ none)
+
+all_happened : (adds : List InstrumentAct) (log : List Act) → AllWait log → AllWait (map OnDevice (map Happened adds) ++ log)
+all_happened adds log all = all_shared (map Happened adds) log all (wait_acts-happened adds (device_acts log))
+
+-- ---- a suspended call ends, or waits anew
+
+-- it ends with a result
+all_left : (c xid : ℕ) (outcome : CallOutcome) (log : List Act) → AllWait log → is_some outcome.result ≡ true
+    → wait_acts (outcome.adds ++ Waited (Left c) ∷ device_acts log) ≡ Left c ∷ wait_acts (device_acts log)
+    → AllWait (acts_of c (call_effect xid (leaving c outcome)) ++ log)
+all_left c xid outcome log all told left =
+    let acts = device_acts log in
+    let moved : wait_acts ((outcome.adds ++ Waited (Left c) ∷ []) ++ acts) ≡ Left c ∷ wait_acts acts =
+    ap wait_acts (append_assoc outcome.adds (Waited (Left c) ∷ []) acts) ∙ left in
+    all_effect c (call_effect xid (leaving c outcome)) log (λ d ne. all d)
+    (λ d ne. ap (waits d) moved ∙ wait_other c d (Left c) (wait_acts acts) refl ne)
+    (λ none. replies_free xid outcome.result (of c log) told)
+
+-- one that isn't of the core channel doesn't wait
+all_ended : (c : ℕ) (does : Arguments → CallOutcome) (log : List Act) → Fit log → AllWait log
+    → ((call : CoreCall) → AllWait (acts_of c (call_effect call.xid (does call.arguments)) ++ log))
+    → AllWait (acts_of c (effect_of c does (core_call_in (unanswered (of c log)))) ++ log)
+all_ended c does log fit all ends = by (core_call_in (unanswered (of c log))) refl
+  where
+    free_by : (found : Option Wait) → waits c (wait_acts (device_acts log)) ≡ found → core_call_in (unanswered (of c log)) ≡ None
+        → unanswered (of c log) ≡ None
+    free_by None is none = all c is
+    free_by (Some wait) is none =
+        let known = (fit.held c wait is).1 in
+        absurd (let z : None ≡ Some known.0 = sym none ∙ known.1 in cc)
+
+    by : (call : Option CoreCall) → core_call_in (unanswered (of c log)) ≡ call → AllWait (acts_of c (effect_of c does call) ++ log)
+    by (Some call) e = ends call
+    by None e = all_effect c (effect_of c does None) log (λ d ne. all d)
+        (λ d ne. wait_other c d (Left c) (wait_acts (device_acts log)) refl ne)
+        (λ none. free_by (waits c (wait_acts (device_acts log))) refl e)
+
+all_failed : (error : ErrorCode) (c : ℕ) (log : List Act) → Fit log → AllWait log
+    → AllWait (acts_of c (failed error c (core_call_in (unanswered (of c log)))) ++ log)
+all_failed error c log fit all = all_ended c (λ arguments. leaving c (only (failure arguments error))) log fit all
+    (λ call. all_left c call.xid (only (failure call.arguments error)) log all refl refl)
+
+all_dialed : (c : ℕ) (ok : Bool) (log : List Act) → Fit log → AllWait log
+    → AllWait (acts_of c (effect_of c (λ arguments. leaving c (dialed c ok arguments)) (core_call_in (unanswered (of c log)))) ++ log)
+all_dialed c ok log fit all = all_ended c (λ arguments. leaving c (dialed c ok arguments)) log fit all
+    (λ call. by ok call (peer_by call.arguments))
+  where
+    by : (ok : Bool) (call : CoreCall) (peer : Option Peer)
+        → AllWait (acts_of c (call_effect call.xid (leaving c (dialed_to c ok call.arguments peer))) ++ log)
+    by true call (Some peer) = all_left c call.xid (dialed_to c true call.arguments (Some peer)) log all refl refl
+    by false call (Some peer) = all_left c call.xid (dialed_to c false call.arguments (Some peer)) log all refl refl
+    by ok call None = all_left c call.xid (dialed_to c ok call.arguments None) log all refl refl
+
+again_waits : (c : ℕ) (wait before : Wait) (last : Option ℕ) (acts : List WaitAct) → waits c acts ≡ Some before
+    → waits c (Again c wait last ∷ acts) ≡ Some wait
+again_waits c wait before last acts is = rw (eq-eqb c c refl, is) refl
+
+entered_waits : (c : ℕ) (named : Option ℕ) (wait : Wait) (last : Option ℕ) (acts : List WaitAct)
+    → waits c (Entered c named wait last ∷ acts) ≡ Some wait
+entered_waits c named wait last acts = rw (eq-eqb c c refl) refl
+
+not_waits : {A : Type 0} (found : Option Wait) (wait : Wait) → found ≡ Some wait → found ≡ None → A
+not_waits {A} found wait some none = absurd (let z : None ≡ Some wait = sym none ∙ some in cc)
+
+all_continued : (config : Config) (polled c : ℕ) (wait : Wait) (call : CoreCall) (next : Option Wait) (log : List Act) → AllWait log
+    → waits c (wait_acts (device_acts log)) ≡ Some wait
+    → AllWait (acts_of c (call_effect call.xid (continued config polled c call.arguments next (device_acts log))) ++ log)
+all_continued config polled c wait call (Some next) log all for =
+    let acts = device_acts log in
+    let last = deadline config (io_timeout call.arguments) acts in
+    all_effect c (call_effect call.xid (continued config polled c call.arguments (Some next) acts)) log (λ d ne. all d)
+    (λ d ne. wait_other c d (Again c next last) (wait_acts acts) refl ne)
+    (λ none. not_waits _ next (again_waits c next wait last (wait_acts acts) for) none)
+all_continued config polled c wait call None log all for =
+    let before = Waited (Left c) ∷ device_acts log in
+    let outcome = own_call config polled c call.arguments before in
+    all_left c call.xid outcome log all (own_told config polled c call.arguments before)
+    (done_waits c call.arguments outcome.adds before (each_done config polled c call.arguments before))
+
+all_step : (config : Config) (log new : List Act) → Fit log → AllWait log → IsNext config log new → AllWait new
+all_step config log new fit all (inl fires) = subst AllWait (sym fires.2) (all_happened fires.0 log all)
+all_step config log new fit all (inr (none, inl (c, wait, polled, oldest, for, said, is))) =
+    subst AllWait (sym is) (all_ended c (λ arguments. continued config polled c arguments (next_wait wait arguments (device_acts log))
+    (device_acts log)) log fit all
+    (λ call. all_continued config polled c wait call (next_wait wait call.arguments (device_acts log)) log all for))
+all_step config log new fit all (inr (none, inr (still, inl step))) = subst AllWait (sym step.2) (all_happened step.0 log all)
+all_step config log new fit all (inr (none, inr (still, inr (idle, (c, wait, oldest, for, is))))) =
+    subst AllWait (sym is) (all_failed (late wait) c log fit all)
+
+-- ---- an event's own acts
+
+-- a record that was taken: its call has an answer, or waits
+all_admitted : (config : Config) (polled c : ℕ) (call : CoreCall) (stop : Option Stop) (log : List Act)
+    → ((d : ℕ) → d ≢ c → HasWait d log)
+    → AllWait (acts_of c (call_effect call.xid (admitted config polled c call.arguments stop (device_acts log))) ++ log)
+all_admitted config polled c call None log all =
+    let acts = device_acts log in
+    let outcome = own_call config polled c call.arguments acts in
+    all_effect c (call_effect call.xid outcome) log all
+    (λ d ne. ap (waits d) (done_waits c call.arguments outcome.adds acts (each_done config polled c call.arguments acts)))
+    (λ none. replies_free call.xid outcome.result (of c log) (own_told config polled c call.arguments acts))
+all_admitted config polled c call (Some (Fails error)) log all =
+    all_effect c (call_effect call.xid (only (failure call.arguments error))) log all (λ d ne. refl) (λ none. refl)
+all_admitted config polled c call (Some (Awaits wait until)) log all =
+    let acts = device_acts log in
+    let last = deadline config until acts in
+    all_effect c (call_effect call.xid (admitted config polled c call.arguments (Some (Awaits wait until)) acts)) log all
+    (λ d ne. wait_other c d (Entered c (lid_of (link call.arguments)) wait last) (wait_acts acts) refl ne)
+    (λ none. not_waits _ wait (entered_waits c (lid_of (link call.arguments)) wait last (wait_acts acts)) none)
+
+all_request : (config : Config) (polled c : ℕ) (request : Request) (log : List Act) → ((d : ℕ) → d ≢ c → HasWait d log)
+    → AllWait (acts_of c (request_effect config polled c request (device_acts log)) ++ log)
+all_request config polled c NoCall log all =
+    all_effect c (request_effect config polled c NoCall (device_acts log)) log all (λ d ne. refl) (λ none. refl)
+all_request config polled c (Decided xid reply) log all =
+    all_effect c (request_effect config polled c (Decided xid reply) (device_acts log)) log all (λ d ne. refl) (λ none. refl)
+all_request config polled c (CoreRequest call) log all =
+    all_admitted config polled c call (stop_of c call.arguments (device_acts log)) log all
+all_request config polled c (AbortRequest xid lid) log all =
+    all_effect c (request_effect config polled c (AbortRequest xid lid) (device_acts log)) log all (λ d ne. refl) (λ none. refl)
+all_request config polled c (PortRequest xid args) log all =
+    all_effect c (request_effect config polled c (PortRequest xid args) (device_acts log)) log all (λ d ne. refl) (λ none. refl)
+
+all_abort : (aborts : Option ℕ) (log : List Act) → Fit log → AllWait log → AllWait (abort_acts aborts log ++ log)
+all_abort (Some d) log fit all = all_failed Abort d log fit all
+all_abort None log fit all = all
+
+all_turn : (config : Config) (polled c : ℕ) (found : Option (List ℕ)) (request : Option Request) (log : List Act) → Fit log → AllWait log
+    → c < 16 → next_call (of c log) ≡ found → next_request (of c log) ≡ request
+    → AllWait (turn_acts config polled c found request log ++ log)
+all_turn config polled c (Some bytes) (Some request) log fit all lt next asks =
+    let effect = request_effect config polled c request (device_acts log) in
+    let taken = On c (CallTaken bytes) ∷ log in
+    subst AllWait (sym (turn_parts c bytes effect (aborts request (device_acts log)) log))
+    (all_abort (aborts request (device_acts log)) (acts_of c effect ++ taken)
+    (fit_request config polled c bytes request log fit lt next asks)
+    (all_request config polled c request taken (λ d ne none. ap unanswered (of_other c d (CallTaken bytes) log ne) ∙ all d none)))
+all_turn config polled c (Some bytes) None log fit all lt next asks = all
+all_turn config polled c None (Some request) log fit all lt next asks = all
+all_turn config polled c None None log fit all lt next asks = all
+
+all_refuse : (c : ℕ) (found : Option (List ℕ)) (call : Option CoreCall) (log : List Act) → AllWait log
+    → AllWait (refuse_acts c found call ++ log)
+all_refuse c (Some bytes) (Some call) log all =
+    all_effect c (record { own = Replied (refused_reply call) ∷ CallTaken bytes ∷ []; adds = [] }) log (λ d ne. all d) (λ d ne. refl)
+    (λ none. refl)
+all_refuse c (Some bytes) None log all = all
+all_refuse c None (Some call) log all = all
+all_refuse c None None log all = all
+
+all_close : (c : ℕ) (log : List Act) → AllWait log → AllWait (map OnDevice (close_adds c (device_acts log)) ++ On c PortClosed ∷ log)
+all_close c log all d none =
+    let acts = device_acts log in
+    let links = closing c (link_acts acts) in
+    let calls : wait_acts (device_acts (map OnDevice (close_adds c acts) ++ On c PortClosed ∷ log)) ≡ Left c ∷ wait_acts acts =
+    ap wait_acts (device_closed c log) ∙ wait_acts-links links (Waited (Left c) ∷ acts) in
+    elim (cases_eq d c) [
+      | inl e ↦ subst (λ (n : ℕ). unanswered (of n (map OnDevice (close_adds c acts) ++ On c PortClosed ∷ log)) ≡ None) (sym e)
+          (ap unanswered (of_shared c (close_adds c acts) (On c PortClosed ∷ log) ∙ of_mine c PortClosed log))
+      | inr ne ↦ ap unanswered (of_closed c d log ne)
+          ∙ all d (sym (ap (waits d) calls ∙ wait_other c d (Left c) (wait_acts acts) refl ne) ∙ none)
+    ]
+
+all_event : (config : Config) (event : PlainEvent) (polled : ℕ) (told : List ChannelAct) (log : List Act)
+    → refusal config told event log ≡ None → Fit log → AllWait log → AllWait (own_acts config polled event log ++ log)
+all_event config (Open c role) polled told log free fit all =
+    all_effect c (record { own = Opened role ∷ []; adds = [] }) log (λ d ne. all d) (λ d ne. refl) (λ none. refl)
+all_event config (Bytes c piece) polled told log free fit all =
+    all_effect c (record { own = Piece piece ∷ []; adds = [] }) log (λ d ne. all d) (λ d ne. refl) (all c)
+all_event config (Turn c) polled told log free fit all =
+    all_turn config polled c (next_call (of c log)) (next_request (of c log)) log fit all (within c log _ free) refl refl
+all_event config (Refuse c) polled told log free fit all = all_refuse c (next_call (of c log)) (refusable (of c log)) log all
+all_event config (Took (Conn c) count) polled told log free fit all =
+    all_effect c (record { own = BytesTaken count ∷ []; adds = [] }) log (λ d ne. all d) (λ d ne. refl) (all c)
+all_event config (Took (Intr c) count) polled told log free fit all = all_shared (Channel (ChannelTaken c count) ∷ []) log all refl
+all_event config (Close (Conn c)) polled told log free fit all =
+    subst AllWait (sym (append_assoc (map OnDevice (close_adds c (device_acts log))) (On c PortClosed ∷ []) log)) (all_close c log all)
+all_event config (Close (Intr c)) polled told log free fit all = all_shared (Channel (ChannelClosed c) ∷ []) log all refl
+all_event config (Dialed c ok) polled told log free fit all = all_dialed c ok log fit all
+all_event config (Input channel microvolts) polled told log free fit all = all_happened (Scanned (InputTo channel microvolts) ∷ []) log all
+all_event config External polled told log free fit all = all_happened (external_acts (instrument_acts (device_acts log))) log all
+all_event config Tick polled told log free fit all =
+    let adds = tick_acts (instrument_acts (device_acts log)) in
+    subst AllWait (sym (append_assoc (map OnDevice (map Happened adds)) (OnDevice Ticked ∷ []) log))
+    (all_happened adds (OnDevice Ticked ∷ log) (all_shared (Ticked ∷ []) log all refl))
+
+-- in every log of a history
+pub busy_waits : (config : Config) (history : List PlainEvent) (log : List Act) → IsLogOf config history log → (c : ℕ)
+    → waits c (wait_acts (device_acts log)) ≡ None → unanswered (of c log) ≡ None
+busy_waits config history log was =
+    (each_log config (λ now. Fit now × AllWait now) (fit_none, (λ c none. refl))
+    (λ event polled told now is free so. (
+      fit_event config event polled told now free so.0,
+      all_event config event polled told now free so.0 so.1,
+    ))
+    (λ now new so next. (fit_step config now new so.0 next, all_step config now new so.0 so.1 next)) history log was).1

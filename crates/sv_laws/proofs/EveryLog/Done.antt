@@ -1,0 +1,135 @@
+-- What a call of the core channel adds to what all connections share, act by act.
+use Rattle.std.proofs.Common.{◌≡◌, ℕ, ◌+◌, Bool, true, false, cond, List, length, nat_lt, Option, Some, None, refl, sym, ap, ◌∙◌, inl, inr}
+use Rattle.std.specs.Prelude.{ℤ, pos, negsuc, not, ◌&&◌, ⊤}
+use Rattle.std.proofs.lemmas.Bool.{cases_Bool}
+use Rattle.sv_logs.proofs.Each.{Each}
+use Rattle.sv_vxi.specs.declared.error_code.ErrorCode.TheVariants.{InvalidLink, NotAccessible, OutOfResources}
+use Rattle.sv_vxi.specs.Arguments.{Arguments, DeviceAbort, CreateLink, DeviceWrite, DeviceRead, DeviceReadstb, DeviceTrigger, DeviceClear, DeviceRemote, DeviceLocal, DeviceLock, DeviceUnlock, DeviceEnableSrq, DeviceDocmd, DestroyLink, CreateIntrChan, DestroyIntrChan, link, max_handle, is_create_link}
+use Rattle.sv_links.specs.declared.waiting.Wait.{Wait}
+use Rattle.sv_links.specs.declared.waiting.Wait.TheVariants.{Lock}
+use Rattle.sv_links.specs.Links.{Made, made, owner, is_of, holder, is_this, is_locked_out, lids_left}
+use Rattle.sv_links.specs.Channels.{SrqEnabled}
+use Rattle.sv_laws.proofs.LinksAlike.{owner_is_of}
+use Rattle.sv_exchange.specs.Exchange.{has_ended, response, is_something}
+use Rattle.sv_exchange.specs.Limits.{max_message}
+use Rattle.sv_instrument.specs.Step.{is_answerable}
+use Rattle.sv_history.specs.declared.event.Config.{Config}
+use Rattle.sv_history.specs.Act.{DeviceAct, Linked, Waited, Channel, Happened, Ticked, link_acts, instrument_acts, exchange_acts}
+use Rattle.sv_history.specs.CoreCall.{lid_of}
+use Rattle.sv_history.specs.CoreChannel.{own_call}
+use Rattle.sv_history.specs.Interrupts.{has_channel}
+use Rattle.sv_history.specs.Admission.{Stop, Fails, Awaits, names_another, stop_of}
+
+-- An act that a call of a connection, with these arguments, adds where it is done: only a create_link makes a link, and its number is the
+-- next; a link that begins to ask is the connection's; and no call begins or ends to wait.
+abbrev pub IsDone : ℕ → Arguments → List DeviceAct → DeviceAct → Type 0
+IsDone c arguments acts (Linked (Made lid conn)) = (lid ≡ made (link_acts acts) + 1) × (conn ≡ c) × (is_create_link arguments ≡ true)
+IsDone c arguments acts (Linked act) = ⊤
+IsDone c arguments acts (Waited act) = ⊥
+IsDone c arguments acts (Channel (SrqEnabled lid conn handle)) = (conn ≡ c) × (owner lid (link_acts acts) ≡ Some conn)
+IsDone c arguments acts (Channel act) = ⊤
+IsDone c arguments acts (Happened act) = ⊤
+IsDone c arguments acts Ticked = ⊤
+
+abbrev AreDone : Config → ℕ → ℕ → Arguments → List DeviceAct → Type 0
+AreDone config polled c arguments acts = Each (IsDone c arguments) (own_call config polled c arguments acts).adds acts
+
+pub each_done : (config : Config) (polled c : ℕ) (arguments : Arguments) (acts : List DeviceAct) → AreDone config polled c arguments acts
+each_done config polled c (CreateLink client_id true lock_timeout device) acts = elim (cases_Bool (lids_left (link_acts acts))) [
+  | inl e ↦ rw e (tt, ((refl, refl, refl), tt))
+  | inr e ↦ rw e tt
+]
+each_done config polled c (CreateLink client_id false lock_timeout device) acts = elim (cases_Bool (lids_left (link_acts acts))) [
+  | inl e ↦ rw e ((refl, refl, refl), tt)
+  | inr e ↦ rw e tt
+]
+each_done config polled c (DeviceWrite lid io_timeout lock_timeout flags bytes) acts =
+    elim (cases_Bool (nat_lt max_message (length bytes))) [
+      | inl e ↦ rw e tt
+      | inr e ↦ elim (cases_Bool (has_ended (exchange_acts acts))) [ inl k ↦ rw (e, k) tt | inr k ↦ rw (e, k) (tt, tt) ]
+    ]
+each_done config polled c (DeviceRead lid request_size io_timeout lock_timeout flags term_char) acts =
+    elim (cases_Bool (is_answerable (instrument_acts acts))) [
+      | inl k ↦ elim (cases_Bool (is_something (response (exchange_acts acts)))) [
+        | inl e ↦ rw (k, e) (tt, tt)
+        | inr e ↦ rw (k, e) (tt, (tt, tt))
+      ]
+      | inr k ↦ elim (cases_Bool (is_something (response (exchange_acts acts)))) [
+        | inl e ↦ rw (k, e) (tt, tt)
+        | inr e ↦ rw (k, e) tt
+      ]
+    ]
+each_done config polled c (DeviceReadstb parms) acts = (tt, tt)
+each_done config polled c (DeviceTrigger parms) acts = (tt, tt)
+each_done config polled c (DeviceClear parms) acts = (tt, tt)
+each_done config polled c (DeviceLock (pos n) flags lock_timeout) acts =
+    elim (cases_Bool (is_locked_out (holder (link_acts acts)) (Some n))) [ inl e ↦ rw e tt | inr e ↦ rw e (tt, tt) ]
+each_done config polled c (DeviceUnlock (pos n)) acts =
+    elim (cases_Bool (is_this n (holder (link_acts acts)))) [ inl e ↦ rw e (tt, tt) | inr e ↦ rw e tt ]
+each_done config polled c (DeviceEnableSrq (pos n) true handle) acts = elim (cases_Bool (is_of c (owner n (link_acts acts)))) [
+  | inl e ↦ elim (cases_Bool (nat_lt max_handle (length handle))) [
+    | inl k ↦ rw (e, k) tt
+    | inr k ↦ rw (e, k) ((refl, owner_is_of c (owner n (link_acts acts)) e), tt)
+  ]
+  | inr e ↦ rw e tt
+]
+each_done config polled c (DeviceEnableSrq (pos n) false handle) acts =
+    elim (cases_Bool (is_of c (owner n (link_acts acts)))) [ inl e ↦ rw e (tt, tt) | inr e ↦ rw e tt ]
+each_done config polled c (DestroyLink (pos n)) acts = (tt, tt)
+each_done config polled c DestroyIntrChan acts =
+    elim (cases_Bool (has_channel c acts)) [ inl e ↦ rw e (tt, tt) | inr e ↦ rw e tt ]
+each_done config polled c (DeviceLock (negsuc n) flags lock_timeout) acts = tt
+each_done config polled c (DeviceUnlock (negsuc n)) acts = tt
+each_done config polled c (DeviceEnableSrq (negsuc n) enable handle) acts = tt
+each_done config polled c (DestroyLink (negsuc n)) acts = tt
+each_done config polled c (DeviceRemote parms) acts = tt
+each_done config polled c (DeviceLocal parms) acts = tt
+each_done config polled c (DeviceAbort lid) acts = tt
+each_done config polled c (DeviceDocmd lid flags io_timeout lock_timeout cmd network_order datasize bytes) acts = tt
+each_done config polled c (CreateIntrChan host_addr host_port prog_num prog_vers prog_family) acts = tt
+
+-- ---- a call that has to wait
+
+not_false : (b : Bool) → not b ≡ false → b ≡ true
+not_false true e = refl
+not_false false e = absurd cc
+
+some_number : (a b : ℕ) → Some a ≡ Some b → a ≡ b
+some_number a b e = cc
+
+-- a link that is named and isn't another's is the connection's
+pub named_own : (c : ℕ) (named : Option ℤ) (acts : List DeviceAct) (n : ℕ) → names_another c named acts ≡ false → lid_of named ≡ Some n
+    → owner n (link_acts acts) ≡ Some c
+named_own c (Some (pos m)) acts n e is =
+    ap (λ (k : ℕ). owner k (link_acts acts)) (sym (some_number m n is))
+    ∙ owner_is_of c (owner m (link_acts acts)) (not_false (is_of c (owner m (link_acts acts))) e)
+named_own c (Some (negsuc m)) acts n e is = absurd cc
+named_own c None acts n e is = absurd cc
+
+another_fails : (another : Bool) (rest : Option Stop) (wait : Wait) (until : Option ℕ)
+    → cond another (Some (Fails InvalidLink)) rest ≡ Some (Awaits wait until) → another ≡ false
+another_fails true rest wait until e = absurd cc
+another_fails false rest wait until e = refl
+
+-- the link that it names is the connection's
+pub waits_own : (c : ℕ) (arguments : Arguments) (acts : List DeviceAct) (wait : Wait) (until : Option ℕ) (n : ℕ)
+    → stop_of c arguments acts ≡ Some (Awaits wait until) → lid_of (link arguments) ≡ Some n → owner n (link_acts acts) ≡ Some c
+waits_own c arguments acts wait until n e is =
+    named_own c (link arguments) acts n (another_fails (names_another c (link arguments) acts) _ wait until e) is
+
+link_waits : (named more asks locked : Bool) (timeout : ℕ) (wait : Wait) (until : Option ℕ)
+    → cond (not named) (Some (Fails NotAccessible)) (cond (not more) (Some (Fails OutOfResources))
+    (cond (asks && locked) (Some (Awaits Lock (Some timeout))) None)) ≡ Some (Awaits wait until) → wait ≡ Lock
+link_waits false more asks locked timeout wait until e = absurd cc
+link_waits true false asks locked timeout wait until e = absurd cc
+link_waits true true true true timeout wait until e = cc
+link_waits true true true false timeout wait until e = absurd cc
+link_waits true true false locked timeout wait until e = absurd cc
+
+-- a create_link waits for the lock, and names no link
+pub creating_waits : (c : ℕ) (arguments : Arguments) (acts : List DeviceAct) (wait : Wait) (until : Option ℕ)
+    → stop_of c arguments acts ≡ Some (Awaits wait until) → is_create_link arguments ≡ true
+    → (wait ≡ Lock) × (lid_of (link arguments) ≡ None)
+creating_waits c (CreateLink client_id lock_device lock_timeout device) acts wait until e is =
+    (link_waits _ _ lock_device _ lock_timeout wait until e, refl)
+creating_waits c _ acts wait until e is = absurd cc

@@ -1,0 +1,149 @@
+-- Of the calls that wait on sixteen connections, one whose deadline has come came first, or there is none; and a call that leaves makes
+-- those
+-- that wait fewer.
+use Rattle.std.proofs.Common.{◌≡◌, ℕ, zero, suc, ◌+◌, ◌<◌, ◌≤◌, Bool, true, false, cond, eqb, ltb, List, ◌∷◌, Option, Some, None, refl, sym, ap, subst, ◌∙◌, inl, inr, ◌⊎◌, eq-eqb, arith}
+use Rattle.std.specs.Prelude.{is_some, ◌&&◌}
+use Rattle.std.proofs.lemmas.Bool.{cases_Bool, cases_eq, ne_eqb, leb-true, le-leb, ltb-true, ltb-false}
+use Rattle.sv_links.specs.declared.waiting.Wait.{Wait}
+use Rattle.sv_links.specs.Waiting.{WaitAct, Left, waits, deadline, arrival, IsExpired, IsOldest}
+use Rattle.sv_links.specs.Queue.{is_past}
+use Rattle.sv_history.specs.Act.{DeviceAct, wait_acts}
+use Rattle.sv_laws.proofs.EveryLog.Fit.{AllSuit}
+use Rattle.sv_laws.proofs.EveryLog.Known.{waits_within}
+
+-- ---- the one that came first
+
+abbrev is_due : ℕ → List WaitAct → ℕ → Bool
+is_due clock acts d = is_some (waits d acts) && is_past clock (deadline d acts)
+
+due_by : (clock d : ℕ) (acts : List WaitAct) (wait : Option Wait) (last : Option ℕ) → waits d acts ≡ wait → deadline d acts ≡ last
+    → (is_some wait && is_past clock last) ≡ true → IsExpired clock acts d
+due_by clock d acts (Some wait) (Some last) for until e = (wait, last, for, until, leb-true last clock e)
+due_by clock d acts (Some wait) None for until e = absurd cc
+due_by clock d acts None last for until e = absurd cc
+
+due_expired : (clock d : ℕ) (acts : List WaitAct) → is_due clock acts d ≡ true → IsExpired clock acts d
+due_expired clock d acts e = due_by clock d acts (waits d acts) (deadline d acts) refl refl e
+
+expired_due : (clock d : ℕ) (acts : List WaitAct) → IsExpired clock acts d → is_due clock acts d ≡ true
+expired_due clock d acts (wait, last, for, until, le) = rw (for, until) (le-leb last clock le)
+
+-- of the numbers below n
+abbrev pub Least : List WaitAct → (ℕ → Bool) → ℕ → Option ℕ → Type 0
+Least acts test n None = (d : ℕ) → d < n → test d ≡ false
+Least acts test n (Some c) = (test c ≡ true) × ((d : ℕ) → d < n → test d ≡ true → arrival c acts ≤ arrival d acts)
+
+below_suc : (d n : ℕ) → d < suc n → (d ≡ n) ⊎ (d < n)
+below_suc d n lt = elim (cases_eq d n) [ inl e ↦ inl e | inr ne ↦ inr (omega (arith, lt, ne)) ]
+
+same_arrival : (acts : List WaitAct) (c d : ℕ) → d ≡ c → arrival c acts ≤ arrival d acts
+same_arrival acts c d e = subst (λ (n : ℕ). arrival c acts ≤ arrival n acts) (sym e) (omega arith)
+
+pub not_both : {A : Type 0} (b : Bool) → b ≡ true → b ≡ false → A
+not_both {A} b e k = absurd (let z : true ≡ false = sym e ∙ k in cc)
+
+least_more : (acts : List WaitAct) (test : ℕ → Bool) (n : ℕ) (found : Option ℕ) → Least acts test n found
+    → (next : Option ℕ) × Least acts test (suc n) next
+least_more acts test n None h = elim (cases_Bool (test n)) [
+  | inl e ↦ (
+    Some n,
+    (
+      e,
+      (λ d lt is. elim (below_suc d n lt) [
+        | inl same ↦ same_arrival acts n d same
+        | inr less ↦ not_both (test d) is (h d less)
+      ]),
+    ),
+  )
+  | inr e ↦ (None, (λ d lt. elim (below_suc d n lt) [ inl same ↦ ap test same ∙ e | inr less ↦ h d less ]))
+]
+least_more acts test n (Some c) h = elim (cases_Bool (test n)) [
+  | inl e ↦ elim (cases_Bool (ltb (arrival n acts) (arrival c acts))) [
+    | inl k ↦
+        let first = ltb-true (arrival n acts) (arrival c acts) k in (
+          Some n,
+          (
+            e,
+            (λ d lt is. elim (below_suc d n lt) [
+              | inl same ↦ same_arrival acts n d same
+              | inr less ↦ let le = h.1 d less is in omega (arith, le, first)
+            ]),
+          ),
+        )
+    | inr k ↦
+        let first : arrival c acts ≤ arrival n acts = ltb-false (arrival n acts) (arrival c acts) k in (
+          Some c,
+          (
+            h.0,
+            (λ d lt is. elim (below_suc d n lt) [
+              | inl same ↦ subst (λ (m : ℕ). arrival c acts ≤ arrival m acts) (sym same) first
+              | inr less ↦ h.1 d less is
+            ]),
+          ),
+        )
+  ]
+  | inr e ↦ (
+    Some c,
+    (
+      h.0,
+      (λ d lt is. elim (below_suc d n lt) [
+        | inl same ↦ not_both (test d) is (ap test same ∙ e)
+        | inr less ↦ h.1 d less is
+      ]),
+    ),
+  )
+]
+
+pub least : (acts : List WaitAct) (test : ℕ → Bool) (n : ℕ) → (found : Option ℕ) × Least acts test n found
+least acts test zero = (None, (λ d lt. absurd (omega (arith, lt))))
+least acts test (suc n) = let before = least acts test n in least_more acts test n before.0 before.1
+
+oldest_by : (clock : ℕ) (acts : List WaitAct) → ((d : ℕ) (wait : Wait) → waits d acts ≡ Some wait → d < 16) → (found : Option ℕ)
+    → Least acts (is_due clock acts) 16 found → IsOldest acts (IsExpired clock acts) found
+oldest_by clock acts within None h = λ d such.
+    not_both (is_due clock acts d) (expired_due clock d acts such) (h d (within d such.0 such.2))
+oldest_by clock acts within (Some c) h =
+    (due_expired clock c acts h.0, (λ d such. h.1 d (within d such.0 such.2) (expired_due clock d acts such)))
+
+pub oldest_due : (clock : ℕ) (acts : List DeviceAct) → AllSuit acts
+    → (found : Option ℕ) × IsOldest (wait_acts acts) (IsExpired clock (wait_acts acts)) found
+oldest_due clock acts all =
+    let first = least (wait_acts acts) (is_due clock (wait_acts acts)) 16 in
+    (first.0, oldest_by clock (wait_acts acts) (waits_within acts all) first.0 first.1)
+
+-- ---- how many wait, of the numbers below n
+
+abbrev pub count : List WaitAct → ℕ → ℕ
+count acts zero = 0
+count acts (suc n) = cond (is_some (waits n acts)) (count acts n + 1) (count acts n)
+
+count_more : (b : Bool) (m n : ℕ) → m ≤ n → m ≤ cond b (n + 1) n
+count_more true m n le = omega (arith, le)
+count_more false m n le = le
+
+count_both : (b : Bool) (m n : ℕ) → m ≤ n → cond b (m + 1) m ≤ cond b (n + 1) n
+count_both true m n le = omega (arith, le)
+count_both false m n le = le
+
+count_less : (b : Bool) (m n : ℕ) → m < n → cond b (m + 1) m < cond b (n + 1) n
+count_less true m n lt = omega (arith, lt)
+count_less false m n lt = lt
+
+left_no_more : (d n : ℕ) (acts : List WaitAct) → count (Left d ∷ acts) n ≤ count acts n
+left_no_more d zero acts = omega arith
+left_no_more d (suc n) acts = elim (cases_Bool (eqb d n)) [
+  | inl e ↦ rw e (count_more (is_some (waits n acts)) (count (Left d ∷ acts) n) (count acts n) (left_no_more d n acts))
+  | inr e ↦ rw e (count_both (is_some (waits n acts)) (count (Left d ∷ acts) n) (count acts n) (left_no_more d n acts))
+]
+
+pub left_fewer : (d n : ℕ) (acts : List WaitAct) (wait : Wait) → d < n → waits d acts ≡ Some wait
+    → count (Left d ∷ acts) n < count acts n
+left_fewer d zero acts wait lt for = absurd (omega (arith, lt))
+left_fewer d (suc n) acts wait lt for = elim (cases_eq d n) [
+  | inl same ↦
+      let there : is_some (waits n acts) ≡ true = ap is_some (ap (λ (m : ℕ). waits m acts) (sym same) ∙ for) in
+      let le = left_no_more d n acts in
+      rw (eq-eqb d n same, there) (omega (arith, le))
+  | inr ne ↦ rw (ne_eqb d n ne) (count_less (is_some (waits n acts)) (count (Left d ∷ acts) n) (count acts n)
+      (left_fewer d n acts wait (omega (arith, lt, ne)) for))
+]

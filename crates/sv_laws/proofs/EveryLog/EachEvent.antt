@@ -1,0 +1,417 @@
+-- What holds of nothing and is kept by each event's own acts, and by each step, holds of the log of every history.
+use Rattle.std.proofs.Common.{◌≡◌, ◌≢◌, ℕ, zero, suc, ◌<◌, Bool, true, false, cond, List, [], ◌∷◌, ◌++◌, nat_lt, Option, Some, None, refl, sym, ap, subst, ◌∙◌, inl, inr, eq-eqb, append_assoc}
+use Rattle.std.specs.Prelude.{map, is_some}
+use Rattle.std.proofs.lemmas.Bool.{cases_eq}
+use Rattle.sv_logs.proofs.Each.{Each, each_join}
+use Rattle.sv_vxi.specs.declared.error_code.ErrorCode.{ErrorCode}
+use Rattle.sv_vxi.specs.declared.error_code.ErrorCode.TheVariants.{Abort}
+use Rattle.sv_vxi.specs.Arguments.{Arguments, CreateLink, link, is_create_link}
+use Rattle.sv_vxi.specs.Results.{Outcome}
+use Rattle.sv_links.specs.declared.request.Peer.{Peer}
+use Rattle.sv_links.specs.declared.waiting.Wait.{Wait}
+use Rattle.sv_links.specs.declared.waiting.Wait.TheVariants.{Lock, Input as ForInput, Response, Dial}
+use Rattle.sv_links.specs.Links.{LinkAct, Made, Destroyed, Locked, Unlocked, owner, closing}
+use Rattle.sv_links.specs.Waiting.{WaitAct, Entered, Left, waits, link as named_link}
+use Rattle.sv_links.specs.Channels.{ChannelAct, SrqEnabled, ChannelClosed, ChannelTaken}
+use Rattle.sv_laws.proofs.LinksAlike.{MakesNone}
+use Rattle.sv_laws.proofs.CallsAlike.{call_foreign}
+use Rattle.sv_laws.proofs.Closed.{closed_before, closed_makes_none}
+use Rattle.sv_layers.specs.Act.{Act as InstrumentAct}
+use Rattle.sv_instrument.specs.Stimulus.{IsFired, external_acts, tick_acts}
+use Rattle.sv_instrument.specs.Step.{IsStep}
+use Rattle.sv_history.specs.declared.event.Config.{Config}
+use Rattle.sv_history.specs.declared.event.Port.TheVariants.{Conn, Intr}
+use Rattle.sv_history.specs.declared.event.Refused.TheVariants.{NoConn, ConnInUse}
+use Rattle.sv_history.specs.declared.event.Role.{Role}
+use Rattle.sv_history.specs.declared.event.Role.TheVariants.{Core}
+use Rattle.sv_history.specs.Event.{PlainEvent, Open, Bytes, Turn, Refuse, Took, Close, Dialed, Input, External, Tick, IsEvent}
+use Rattle.sv_history.specs.Act.{Act, ConnAct, DeviceAct, Opened, Piece, CallTaken, Replied, BytesTaken, PortClosed, Linked, Waited, Channel, Happened, Ticked, On, OnDevice, of, device_acts, link_acts, wait_acts, instrument_acts}
+use Rattle.sv_history.specs.Connection.{open_role, unanswered, next_call}
+use Rattle.sv_history.specs.CoreCall.{CoreCall, lid_of}
+use Rattle.sv_history.specs.CoreChannel.{own_call}
+use Rattle.sv_history.specs.Effect.{Effect, acts_of, replies, call_effect}
+use Rattle.sv_history.specs.Request.{Request, NoCall, Decided, CoreRequest, AbortRequest, PortRequest, core_call_in, next_request}
+use Rattle.sv_history.specs.Interrupts.{dialed_to, peer_by}
+use Rattle.sv_history.specs.Admission.{Stop, Fails, Awaits, stop_of, admitted}
+use Rattle.sv_history.specs.Execution.{request_effect, aborts}
+use Rattle.sv_history.specs.Resuming.{leaving, next_wait, continued, resumed, failed, connected, late}
+use Rattle.sv_history.specs.Refusing.{refusable}
+use Rattle.sv_history.specs.Settling.{IsNext, SettlesIn, InstrumentDoes}
+use Rattle.sv_history.specs.History.{abort_acts, taken_acts, turn_acts, refuse_acts, own_acts, refusal, IsLogOf}
+use Rattle.sv_history.proofs.Projections.{of_mine, of_other, of_shared, device_shared, link_acts-links, wait_acts-links, link_acts-happened, wait_acts-happened}
+use Rattle.sv_laws.proofs.EveryLog.Done.{IsDone, each_done, waits_own, creating_waits}
+use Rattle.sv_laws.proofs.EveryLog.Taken.{free_call, core_taken, within}
+use Rattle.sv_laws.proofs.EveryLog.Fit.{AllSuit, IsHeld, Fit, IsBy, IsCore, held_none, held_same, fit_effect, fit_free, fit_on, fit_on_free, fit_shared}
+
+-- ---- the principle
+
+pub each_settled : (config : Config) (IsSo : List Act → Type 0) → ((log new : List Act) → IsSo log → IsNext config log new → IsSo new)
+    → (n : ℕ) (log new : List Act) → IsSo log → SettlesIn n config log new → IsSo new
+each_settled config IsSo step zero log new so (none, same) = subst IsSo (sym same) so
+each_settled config IsSo step (suc n) log new so (middle, next, more) =
+    each_settled config IsSo step n middle new (step log middle so next) more
+
+pub each_log : (config : Config) (IsSo : List Act → Type 0) → IsSo []
+    → ((event : PlainEvent) (polled : ℕ) (told : List ChannelAct) (log : List Act) → IsEvent event → refusal config told event log ≡ None
+    → IsSo log → IsSo (own_acts config polled event log ++ log))
+    → ((log new : List Act) → IsSo log → IsNext config log new → IsSo new)
+    → (history : List PlainEvent) (log : List Act) → IsLogOf config history log → IsSo log
+each_log config IsSo empty acts step [] log (given, none) = subst IsSo (sym none) empty
+each_log config IsSo empty acts step (event ∷ history) log (before, polled, told, is_event, was, hears, free, said, settles) =
+    each_settled config IsSo step settles.0 (own_acts config polled event before ++ before) log
+    (acts event polled told before is_event free (each_log config IsSo empty acts step history before was)) settles.1
+
+-- ---- a call that is done, or waits no more
+
+left_none : (c : ℕ) (acts : List WaitAct) → waits c (Left c ∷ acts) ≡ None
+left_none c acts = rw (eq-eqb c c refl) refl
+
+done_by : (c : ℕ) (May : Type 0) (arguments : Arguments) (adds acts : List DeviceAct) → May → Each (IsDone c arguments) adds acts
+    → Each (IsBy c May) adds acts
+done_by c May arguments [] acts may h = tt
+done_by c May arguments (act ∷ adds) acts may h = (one act (adds ++ acts) h.0, done_by c May arguments adds acts may h.1)
+  where
+    one : (act : DeviceAct) (acts : List DeviceAct) → IsDone c arguments acts act → IsBy c May acts act
+    one (Linked (Made lid conn)) acts h = (h.0, h.1, may)
+    one (Linked (Destroyed lid)) acts h = tt
+    one (Linked (Locked lid)) acts h = tt
+    one (Linked (Unlocked lid)) acts h = tt
+    one (Waited act) acts h = absurd h
+    one (Channel (SrqEnabled lid conn handle)) acts h = h.1
+    one (Channel _) acts h = tt
+    one (Happened act) acts h = tt
+    one Ticked acts h = tt
+
+pub done_waits : (c : ℕ) (arguments : Arguments) (adds acts : List DeviceAct) → Each (IsDone c arguments) adds acts
+    → wait_acts (adds ++ acts) ≡ wait_acts acts
+done_waits c arguments [] acts h = refl
+done_waits c arguments (Linked act ∷ adds) acts h = done_waits c arguments adds acts h.1
+done_waits c arguments (Waited act ∷ adds) acts h = absurd h.0
+done_waits c arguments (Channel act ∷ adds) acts h = done_waits c arguments adds acts h.1
+done_waits c arguments (Happened act ∷ adds) acts h = done_waits c arguments adds acts h.1
+done_waits c arguments (Ticked ∷ adds) acts h = done_waits c arguments adds acts h.1
+
+replies_role : (xid : ℕ) (result : Option Outcome) (own : List ConnAct) → open_role (replies xid result ++ own) ≡ open_role own
+replies_role xid (Some result) own = refl
+replies_role xid None own = refl
+
+-- it ends with an error, or with what is left to do once a peer was called
+pub fit_failed : (error : ErrorCode) (c : ℕ) (call : Option CoreCall) (log : List Act) → Fit log
+    → Fit (acts_of c (failed error c call) ++ log)
+fit_failed error c (Some call) log fit = fit_free c (failed error c (Some call)) log fit (refl, tt) refl
+    (left_none c (wait_acts (device_acts log)))
+fit_failed error c None log fit = fit_free c (failed error c None) log fit (refl, tt) refl
+    (left_none c (wait_acts (device_acts log)))
+
+fit_dialed : (c : ℕ) (ok : Bool) (call : CoreCall) (peer : Option Peer) (log : List Act) → Fit log
+    → Fit (acts_of c (call_effect call.xid (leaving c (dialed_to c ok call.arguments peer))) ++ log)
+fit_dialed c true call (Some peer) log fit =
+    fit_free c (call_effect call.xid (leaving c (dialed_to c true call.arguments (Some peer)))) log fit (tt, (refl, tt)) refl
+    (left_none c (wait_acts (device_acts log)))
+fit_dialed c false call (Some peer) log fit =
+    fit_free c (call_effect call.xid (leaving c (dialed_to c false call.arguments (Some peer)))) log fit (refl, tt) refl
+    (left_none c (wait_acts (device_acts log)))
+fit_dialed c ok call None log fit =
+    fit_free c (call_effect call.xid (leaving c (dialed_to c ok call.arguments None))) log fit (refl, tt) refl
+    (left_none c (wait_acts (device_acts log)))
+
+fit_connected : (c : ℕ) (ok : Bool) (call : Option CoreCall) (log : List Act) → Fit log → Fit (acts_of c (connected c ok call) ++ log)
+fit_connected c ok (Some call) log fit = fit_dialed c ok call (peer_by call.arguments) log fit
+fit_connected c ok None log fit = fit_free c (connected c ok None) log fit (refl, tt) refl
+    (left_none c (wait_acts (device_acts log)))
+
+-- ---- a call that resumes
+
+some_wait : (a b : Wait) → Some a ≡ Some b → a ≡ b
+some_wait a b e = cc
+
+-- a create_link doesn't wait anew
+pub no_next : (wait : Wait) (arguments : Arguments) (acts : List DeviceAct) (next : Wait) → is_create_link arguments ≡ true
+    → next_wait wait arguments acts ≡ Some next → ⊥
+no_next Lock (CreateLink client_id lock_device lock_timeout device) acts next is e = cc
+no_next Lock _ acts next is e = cc
+no_next ForInput arguments acts next is e = cc
+no_next Response arguments acts next is e = cc
+no_next Dial arguments acts next is e = cc
+
+fit_continued : (config : Config) (polled c : ℕ) (wait : Wait) (call : CoreCall) (next : Option Wait) (log : List Act) → Fit log
+    → waits c (wait_acts (device_acts log)) ≡ Some wait → core_call_in (unanswered (of c log)) ≡ Some call
+    → next_wait wait call.arguments (device_acts log) ≡ next
+    → Fit (acts_of c (call_effect call.xid (continued config polled c call.arguments next (device_acts log))) ++ log)
+fit_continued config polled c wait call (Some next) log fit for known e =
+    let acts = device_acts log in
+    fit_effect c (call_effect call.xid (continued config polled c call.arguments (Some next) acts)) log fit (refl, tt) refl
+    (λ other is. (
+      (fit.held c wait for).0,
+      (
+        call,
+        known,
+        (λ makes. absurd (no_next wait call.arguments acts next makes e)),
+      ),
+    ))
+fit_continued config polled c wait call None log fit for known e =
+    let before = Waited (Left c) ∷ device_acts log in
+    let what = own_call config polled c call.arguments before in
+    let done = each_done config polled c call.arguments before in
+    fit_free c (call_effect call.xid (leaving c what)) log fit
+    (each_join (IsBy c (IsCore c log)) what.adds (Waited (Left c) ∷ []) (device_acts log)
+    (done_by c (IsCore c log) call.arguments what.adds before (fit.held c wait for).0 done) (refl, tt))
+    (replies_role call.xid what.result (of c log))
+    (ap (λ (l : List DeviceAct). waits c (wait_acts l)) (append_assoc what.adds (Waited (Left c) ∷ []) (device_acts log))
+    ∙ ap (waits c) (done_waits c call.arguments what.adds before done) ∙ left_none c (wait_acts (device_acts log)))
+
+fit_resumed : (config : Config) (polled c : ℕ) (wait : Wait) (log : List Act) → Fit log → waits c (wait_acts (device_acts log)) ≡ Some wait
+    → Fit (acts_of c (resumed config polled c wait (core_call_in (unanswered (of c log))) (device_acts log)) ++ log)
+fit_resumed config polled c wait log fit for =
+    let held = fit.held c wait for in
+    subst (λ (call : Option CoreCall). Fit (acts_of c (resumed config polled c wait call (device_acts log)) ++ log)) (sym held.1.1)
+    (fit_continued config polled c wait held.1.0 (next_wait wait held.1.0.arguments (device_acts log)) log fit for held.1.1 refl)
+
+-- ---- what happens to the instrument
+
+suits_happened : (adds : List InstrumentAct) (acts : List DeviceAct) → AllSuit acts → AllSuit (map Happened adds ++ acts)
+suits_happened [] acts all = all
+suits_happened (act ∷ adds) acts all = (tt, suits_happened adds acts all)
+
+fit_happened : (adds : List InstrumentAct) (log : List Act) → Fit log → Fit (map OnDevice (map Happened adds) ++ log)
+fit_happened adds log fit = fit_shared (map Happened adds) log fit (suits_happened adds (device_acts log) fit.suits)
+    (link_acts-happened adds (device_acts log)) (wait_acts-happened adds (device_acts log))
+
+fit_does : (IsSuch : List InstrumentAct → List InstrumentAct → Type 0) (log new : List Act) → Fit log → InstrumentDoes IsSuch log new
+    → Fit new
+fit_does IsSuch log new fit (adds, such, is) = subst Fit (sym is) (fit_happened adds log fit)
+
+-- ---- a step
+
+pub fit_step : (config : Config) (log new : List Act) → Fit log → IsNext config log new → Fit new
+fit_step config log new fit (inl fires) = fit_does IsFired log new fit fires
+fit_step config log new fit (inr (none, inl (c, wait, polled, oldest, for, said, is))) =
+    subst Fit (sym is) (fit_resumed config polled c wait log fit for)
+fit_step config log new fit (inr (none, inr (still, inl step))) = fit_does IsStep log new fit step
+fit_step config log new fit (inr (none, inr (still, inr (idle, (c, wait, oldest, for, is))))) =
+    subst Fit (sym is) (fit_failed (late wait) c (core_call_in (unanswered (of c log))) log fit)
+
+-- ---- an event's own acts
+
+-- no call of a connection waits that has none without an answer
+waits_free : (c : ℕ) (log : List Act) (found : Option Wait) → Fit log → unanswered (of c log) ≡ None
+    → waits c (wait_acts (device_acts log)) ≡ found → waits c (wait_acts (device_acts log)) ≡ None
+waits_free c log None fit free is = is
+waits_free c log (Some wait) fit free is =
+    let known = (fit.held c wait is).1 in
+    absurd (let z : None ≡ Some known.0 = sym (ap core_call_in free) ∙ known.1 in cc)
+
+pub idle_free : (c : ℕ) (log : List Act) (bytes : List ℕ) → Fit log → next_call (of c log) ≡ Some bytes
+    → waits c (wait_acts (device_acts log)) ≡ None
+idle_free c log bytes fit next = waits_free c log _ fit (free_call (of c log) bytes next) refl
+
+fit_taken : (c : ℕ) (bytes : List ℕ) (log : List Act) → Fit log → waits c (wait_acts (device_acts log)) ≡ None
+    → Fit (On c (CallTaken bytes) ∷ log)
+fit_taken c bytes log fit none = fit_on_free c (CallTaken bytes) log fit refl none
+
+entered_waits : (c : ℕ) (named : Option ℕ) (wait : Wait) (last : Option ℕ) (acts : List WaitAct)
+    → (waits c (Entered c named wait last ∷ acts) ≡ Some wait) × (named_link c (Entered c named wait last ∷ acts) ≡ named)
+entered_waits c named wait last acts = rw (eq-eqb c c refl) (refl, refl)
+
+fit_admitted : (config : Config) (polled c : ℕ) (bytes : List ℕ) (call : CoreCall) (stop : Option Stop) (log : List Act)
+    → let taken = On c (CallTaken bytes) ∷ log in
+    Fit taken → c < 16 → waits c (wait_acts (device_acts log)) ≡ None → IsCore c taken
+    → core_call_in (unanswered (of c taken)) ≡ Some call → stop_of c call.arguments (device_acts log) ≡ stop
+    → Fit (acts_of c (call_effect call.xid (admitted config polled c call.arguments stop (device_acts log))) ++ taken)
+fit_admitted config polled c bytes call None log fit lt none core known e =
+    let taken = On c (CallTaken bytes) ∷ log in
+    let what = own_call config polled c call.arguments (device_acts log) in
+    let done = each_done config polled c call.arguments (device_acts log) in
+    fit_free c (call_effect call.xid what) taken fit
+    (done_by c (IsCore c taken) call.arguments what.adds (device_acts log) core done)
+    (replies_role call.xid what.result (of c taken))
+    (ap (waits c) (done_waits c call.arguments what.adds (device_acts log) done) ∙ none)
+fit_admitted config polled c bytes call (Some (Fails error)) log fit lt none core known e =
+    let taken = On c (CallTaken bytes) ∷ log in
+    fit_free c (call_effect call.xid (admitted config polled c call.arguments (Some (Fails error)) (device_acts log))) taken fit tt refl
+    none
+fit_admitted config polled c bytes call (Some (Awaits wait until)) log fit lt none core known e =
+    let taken = On c (CallTaken bytes) ∷ log in
+    fit_effect c (call_effect call.xid (admitted config polled c call.arguments (Some (Awaits wait until)) (device_acts log))) taken fit
+    ((refl, lt, (λ n is. waits_own c call.arguments (device_acts log) wait until n e is)), tt) refl
+    (λ other is.
+    let now = entered_waits c (lid_of (link call.arguments)) wait _ (wait_acts (device_acts log)) in
+    let same : wait ≡ other = some_wait wait other (sym now.0 ∙ is) in (
+      core,
+      (
+        call,
+        known,
+        (λ makes.
+            let waits = creating_waits c call.arguments (device_acts log) wait until e makes in
+            (sym same ∙ waits.0, now.1 ∙ waits.1)),
+      ),
+    ))
+
+pub fit_request : (config : Config) (polled c : ℕ) (bytes : List ℕ) (request : Request) (log : List Act) → Fit log → c < 16
+    → next_call (of c log) ≡ Some bytes → next_request (of c log) ≡ Some request
+    → Fit (acts_of c (request_effect config polled c request (device_acts log)) ++ On c (CallTaken bytes) ∷ log)
+fit_request config polled c bytes request log fit lt next asks =
+    let none = idle_free c log bytes fit next in
+    by request (fit_taken c bytes log fit none) none asks
+  where
+    by : (request : Request) → Fit (On c (CallTaken bytes) ∷ log) → waits c (wait_acts (device_acts log)) ≡ None
+        → next_request (of c log) ≡ Some request
+        → Fit (acts_of c (request_effect config polled c request (device_acts log)) ++ On c (CallTaken bytes) ∷ log)
+    by (CoreRequest call) taken none asks =
+        let known = core_taken (of c log) bytes call next asks in
+        let own = of_mine c (CallTaken bytes) log in
+        fit_admitted config polled c bytes call (stop_of c call.arguments (device_acts log)) log taken lt none
+        (ap open_role own ∙ known.0) (ap (λ (l : List ConnAct). core_call_in (unanswered l)) own ∙ known.1) refl
+    by NoCall taken none asks = fit_free c (request_effect config polled c NoCall (device_acts log)) (On c (CallTaken bytes) ∷ log)
+        taken tt refl none
+    by (Decided xid reply) taken none asks =
+        fit_free c (request_effect config polled c (Decided xid reply) (device_acts log)) (On c (CallTaken bytes) ∷ log) taken tt refl
+        none
+    by (AbortRequest xid lid) taken none asks =
+        fit_free c (request_effect config polled c (AbortRequest xid lid) (device_acts log)) (On c (CallTaken bytes) ∷ log) taken tt refl
+        none
+    by (PortRequest xid args) taken none asks =
+        fit_free c (request_effect config polled c (PortRequest xid args) (device_acts log)) (On c (CallTaken bytes) ∷ log) taken tt refl
+        none
+
+fit_abort : (aborts : Option ℕ) (log : List Act) → Fit log → Fit (abort_acts aborts log ++ log)
+fit_abort (Some d) log fit = fit_failed Abort d (core_call_in (unanswered (of d log))) log fit
+fit_abort None log fit = fit
+
+-- the acts of a Turn in their order
+pub turn_parts : (c : ℕ) (bytes : List ℕ) (effect : Effect) (aborts : Option ℕ) (log : List Act)
+    → let taken = acts_of c effect ++ On c (CallTaken bytes) ∷ log in
+    taken_acts c bytes effect aborts log ++ log ≡ abort_acts aborts taken ++ taken
+turn_parts c bytes effect aborts log =
+    let acts = acts_of c effect ++ On c (CallTaken bytes) ∷ [] in
+    let same : acts ++ log ≡ acts_of c effect ++ On c (CallTaken bytes) ∷ log =
+    append_assoc (acts_of c effect) (On c (CallTaken bytes) ∷ []) log in
+    append_assoc (abort_acts aborts (acts ++ log)) acts log ∙ ap (λ (l : List Act). abort_acts aborts l ++ l) same
+
+fit_turn : (config : Config) (polled c : ℕ) (found : Option (List ℕ)) (request : Option Request) (log : List Act) → Fit log → c < 16
+    → next_call (of c log) ≡ found → next_request (of c log) ≡ request → Fit (turn_acts config polled c found request log ++ log)
+fit_turn config polled c (Some bytes) (Some request) log fit lt next asks =
+    subst Fit (sym (turn_parts c bytes (request_effect config polled c request (device_acts log)) (aborts request (device_acts log)) log))
+    (fit_abort (aborts request (device_acts log)) _ (fit_request config polled c bytes request log fit lt next asks))
+fit_turn config polled c (Some bytes) None log fit lt next asks = fit
+fit_turn config polled c None (Some request) log fit lt next asks = fit
+fit_turn config polled c None None log fit lt next asks = fit
+
+fit_refuse : (c : ℕ) (found : Option (List ℕ)) (call : Option CoreCall) (log : List Act) → Fit log → next_call (of c log) ≡ found
+    → Fit (refuse_acts c found call ++ log)
+fit_refuse c (Some bytes) (Some call) log fit next =
+    let none = idle_free c log bytes fit next in
+    fit_on_free c (Replied _) (On c (CallTaken bytes) ∷ log) (fit_taken c bytes log fit none) refl
+    none
+fit_refuse c (Some bytes) None log fit next = fit
+fit_refuse c None (Some call) log fit next = fit
+fit_refuse c None None log fit next = fit
+
+-- a connection opens
+shut_before : (far : Bool) (role : Option Role)
+    → cond far (Some NoConn) (cond (is_some role) (Some ConnInUse) None) ≡ None → role ≡ None
+shut_before true role e = absurd cc
+shut_before false (Some role) e = absurd cc
+shut_before false None e = refl
+
+fit_open : (c : ℕ) (role : Role) (log : List Act) → Fit log → open_role (of c log) ≡ None → Fit (On c (Opened role) ∷ log)
+fit_open c role log fit shut = record {
+  suits = fit.suits;
+  core = λ n d is. elim (cases_eq d c) [
+    | inl e ↦
+        let was : open_role (of c log) ≡ Some Core = fit.core n c (is ∙ ap (λ (m : ℕ). Some m) e) in
+        absurd (let z : None ≡ Some Core = sym shut ∙ was in cc)
+    | inr ne ↦ rw (of_other c d (Opened role) log ne) (fit.core n d is)
+  ];
+  held = λ d. elim (cases_eq d c) [
+    | inl e ↦ λ wait is.
+        let was = (fit.held d wait is).0 in
+        absurd (let z : None ≡ Some Core = sym (ap (λ (m : ℕ). open_role (of m log)) e ∙ shut) ∙ was in cc)
+    | inr ne ↦ rw (of_other c d (Opened role) log ne) (fit.held d)
+  ];
+}
+
+-- a connection closes
+suits_links : (links : List LinkAct) (acts : List DeviceAct) (before : List LinkAct) → Each (λ before act. MakesNone act) links before
+    → AllSuit acts → AllSuit (map Linked links ++ acts)
+suits_links [] acts before h all = all
+suits_links (Made lid conn ∷ links) acts before h all = absurd h.0
+suits_links (Destroyed lid ∷ links) acts before h all = (tt, suits_links links acts before h.1 all)
+suits_links (Locked lid ∷ links) acts before h all = (tt, suits_links links acts before h.1 all)
+suits_links (Unlocked lid ∷ links) acts before h all = (tt, suits_links links acts before h.1 all)
+
+abbrev pub close_adds : ℕ → List DeviceAct → List DeviceAct
+close_adds c acts = Channel (ChannelClosed c) ∷ (map Linked (closing c (link_acts acts)) ++ Waited (Left c) ∷ [])
+
+pub device_closed : (c : ℕ) (log : List Act)
+    → device_acts (map OnDevice (close_adds c (device_acts log)) ++ On c PortClosed ∷ log)
+    ≡ Channel (ChannelClosed c) ∷ (map Linked (closing c (link_acts (device_acts log))) ++ Waited (Left c) ∷ device_acts log)
+device_closed c log = device_shared (close_adds c (device_acts log)) (On c PortClosed ∷ log)
+    ∙ ap (λ (l : List DeviceAct). Channel (ChannelClosed c) ∷ l)
+    (append_assoc (map Linked (closing c (link_acts (device_acts log)))) (Waited (Left c) ∷ []) (device_acts log))
+
+pub of_closed : (c d : ℕ) (log : List Act) → d ≢ c
+    → of d (map OnDevice (close_adds c (device_acts log)) ++ On c PortClosed ∷ log) ≡ of d log
+of_closed c d log ne = of_shared d (close_adds c (device_acts log)) (On c PortClosed ∷ log) ∙ of_other c d PortClosed log ne
+
+fit_close : (c : ℕ) (log : List Act) → Fit log → Fit (map OnDevice (close_adds c (device_acts log)) ++ On c PortClosed ∷ log)
+fit_close c log fit =
+    let acts = device_acts log in
+    let new = map OnDevice (close_adds c acts) ++ On c PortClosed ∷ log in
+    let links = map Linked (closing c (link_acts acts)) in
+    let calls : wait_acts (device_acts new) ≡ Left c ∷ wait_acts acts =
+    ap wait_acts (device_closed c log) ∙ wait_acts-links (closing c (link_acts acts)) (Waited (Left c) ∷ acts) in
+    let left : link_acts (device_acts new) ≡ closing c (link_acts acts) ++ link_acts acts =
+    ap link_acts (device_closed c log) ∙ link_acts-links (closing c (link_acts acts)) (Waited (Left c) ∷ acts) in
+    record {
+      suits = subst AllSuit (sym (device_closed c log)) (
+        tt,
+        suits_links (closing c (link_acts acts)) (Waited (Left c) ∷ acts)
+            (link_acts acts) (closed_makes_none c (link_acts acts)) (tt, fit.suits),
+      );
+      core = λ n d is.
+          let was = closed_before c d n (link_acts acts) (subst (λ (l : List LinkAct). owner n l ≡ Some d) left is) in
+          ap open_role (of_closed c d log was.0) ∙ fit.core n d was.1;
+      held = λ d. subst (λ (l : List WaitAct). IsHeld d (of d new) l) (sym calls) (elim (cases_eq d c) [
+        | inl e ↦ subst (λ (n : ℕ). IsHeld n (of n new) (Left c ∷ wait_acts acts)) (sym e)
+            (held_none c (of c new) (Left c ∷ wait_acts acts) (left_none c (wait_acts acts)))
+        | inr ne ↦ held_same d (of d log) (of d new) (wait_acts acts) (Left c ∷ wait_acts acts) (of_closed c d log ne)
+            (call_foreign d (Left c) (wait_acts acts) (wait_acts acts) (λ e. ne (sym e))
+            (record { wait = refl; until = refl; named = refl })) (fit.held d)
+      ]);
+    }
+
+pub fit_event : (config : Config) (event : PlainEvent) (polled : ℕ) (told : List ChannelAct) (log : List Act)
+    → refusal config told event log ≡ None → Fit log → Fit (own_acts config polled event log ++ log)
+fit_event config (Open c role) polled told log free fit =
+    fit_open c role log fit (shut_before (nat_lt 15 c) (open_role (of c log)) free)
+fit_event config (Bytes c piece) polled told log free fit = fit_on c (Piece piece) log fit refl (fit.held c)
+fit_event config (Turn c) polled told log free fit =
+    fit_turn config polled c (next_call (of c log)) (next_request (of c log)) log fit (within c log _ free) refl refl
+fit_event config (Refuse c) polled told log free fit = fit_refuse c (next_call (of c log)) (refusable (of c log)) log fit refl
+fit_event config (Took (Conn c) count) polled told log free fit = fit_on c (BytesTaken count) log fit refl (fit.held c)
+fit_event config (Took (Intr c) count) polled told log free fit =
+    fit_shared (Channel (ChannelTaken c count) ∷ []) log fit (tt, fit.suits) refl refl
+fit_event config (Close (Conn c)) polled told log free fit =
+    subst Fit (sym (append_assoc (map OnDevice (close_adds c (device_acts log))) (On c PortClosed ∷ []) log)) (fit_close c log fit)
+fit_event config (Close (Intr c)) polled told log free fit =
+    fit_shared (Channel (ChannelClosed c) ∷ []) log fit (tt, fit.suits) refl refl
+fit_event config (Dialed c ok) polled told log free fit = fit_connected c ok (core_call_in (unanswered (of c log))) log fit
+fit_event config (Input channel microvolts) polled told log free fit = fit_happened (_ ∷ []) log fit
+fit_event config External polled told log free fit = fit_happened (external_acts (instrument_acts (device_acts log))) log fit
+fit_event config Tick polled told log free fit =
+    subst Fit (sym (append_assoc (map OnDevice (map Happened (tick_acts (instrument_acts (device_acts log))))) (OnDevice Ticked ∷ []) log))
+    (fit_happened (tick_acts (instrument_acts (device_acts log))) (OnDevice Ticked ∷ log)
+    (fit_shared (Ticked ∷ []) log fit (tt, fit.suits) refl refl))
+
+pub fit_none : Fit []
+fit_none = record {
+  suits = tt;
+  core = λ n c is. absurd (let z : None ≡ Some c = is in cc);
+  held = λ c wait is. absurd (let z : None ≡ Some wait = is in cc);
+}
+
+-- in every log of a history
+pub fit_log : (config : Config) (history : List PlainEvent) (log : List Act) → IsLogOf config history log → Fit log
+fit_log config =
+    each_log config Fit fit_none (λ event polled told log is free. fit_event config event polled told log free) (fit_step config)

@@ -1,0 +1,204 @@
+-- What holds in every log of a history of each act and of each call that waits; and acts that keep it.
+use Rattle.std.proofs.Common.{◌≡◌, ◌≢◌, ℕ, ◌+◌, ◌<◌, true, List, [], ◌∷◌, ◌++◌, Option, Some, None, refl, sym, ap, subst, ◌∙◌, inl, inr, ◌⊎◌}
+use Rattle.std.specs.Prelude.{map, ⊤}
+use Rattle.std.proofs.lemmas.Bool.{cases_eq}
+use Rattle.sv_logs.proofs.Each.{Each}
+use Rattle.sv_vxi.specs.Arguments.{is_create_link}
+use Rattle.sv_links.specs.declared.waiting.Wait.{Wait}
+use Rattle.sv_links.specs.declared.waiting.Wait.TheVariants.{Lock}
+use Rattle.sv_links.specs.Links.{Made, Destroyed, Locked, Unlocked, made, owner}
+use Rattle.sv_links.specs.Waiting.{WaitAct, Entered, Again, Left, waits, link}
+use Rattle.sv_links.specs.Channels.{SrqEnabled}
+use Rattle.sv_laws.proofs.LinksAlike.{owner_before, owner_of_made}
+use Rattle.sv_laws.proofs.CallsAlike.{SameCall, conn_of, call_foreign}
+use Rattle.sv_history.specs.declared.event.Role.TheVariants.{Core}
+use Rattle.sv_history.specs.Act.{Act, ConnAct, DeviceAct, Linked, Waited, Channel, Happened, Ticked, On, OnDevice, of, device_acts, link_acts, wait_acts}
+use Rattle.sv_history.specs.Connection.{open_role, unanswered}
+use Rattle.sv_history.specs.CoreCall.{CoreCall}
+use Rattle.sv_history.specs.Request.{core_call_in}
+use Rattle.sv_history.specs.Effect.{Effect, acts_of}
+use Rattle.sv_history.proofs.Projections.{of_mine, of_other, of_shared, device_shared, of_effect, others_effect, device_effect}
+
+-- An act suits those before it: a link that is made has the next number; a call that begins to wait is of one of sixteen connections, and
+-- the link that it names is that connection's; so is a link that begins to ask for service requests.
+abbrev pub Suits : List DeviceAct → DeviceAct → Type 0
+Suits acts (Linked (Made lid conn)) = lid ≡ made (link_acts acts) + 1
+Suits acts (Waited (Entered conn named wait last)) = (conn < 16) × ((n : ℕ) → named ≡ Some n → owner n (link_acts acts) ≡ Some conn)
+Suits acts (Channel (SrqEnabled lid conn handle)) = owner lid (link_acts acts) ≡ Some conn
+Suits acts _ = ⊤
+
+abbrev pub AllSuit : List DeviceAct → Type 0
+AllSuit [] = ⊤
+AllSuit (act ∷ acts) = Suits acts act × AllSuit acts
+
+-- If the call of a connection waits, the connection is open as a core channel, and has a call without an answer; if that is a create_link
+-- it
+-- waits for the lock, and names no link.
+abbrev pub IsCall : Wait → Option ℕ → List ConnAct → Type 0
+IsCall wait named acts = (call : CoreCall) × (core_call_in (unanswered acts) ≡ Some call)
+    × (is_create_link call.arguments ≡ true → (wait ≡ Lock) × (named ≡ None))
+
+abbrev pub IsHeld : ℕ → List ConnAct → List WaitAct → Type 0
+IsHeld c own acts = (wait : Wait) → waits c acts ≡ Some wait → (open_role own ≡ Some Core) × IsCall wait (link c acts) own
+
+pub record Fit (log : List Act) : Type 0 where
+  pub suits : AllSuit (device_acts log)
+  pub core : (n c : ℕ) → owner n (link_acts (device_acts log)) ≡ Some c → open_role (of c log) ≡ Some Core
+  pub held : (c : ℕ) → IsHeld c (of c log) (wait_acts (device_acts log))
+
+pub suit_more : (adds acts : List DeviceAct) → Each Suits adds acts → AllSuit acts → AllSuit (adds ++ acts)
+suit_more [] acts h all = all
+suit_more (act ∷ adds) acts h all = (h.0, suit_more adds acts h.1 all)
+
+-- no call waits, so nothing is asked of it
+pub held_none : (c : ℕ) (own : List ConnAct) (acts : List WaitAct) → waits c acts ≡ None → IsHeld c own acts
+held_none c own acts none = λ wait is. absurd (let z : None ≡ Some wait = sym none ∙ is in cc)
+
+-- ---- acts of one connection
+
+-- An act that suits, of this connection where it makes a link, for which this has to hold, or where a call of its begins or ends to wait.
+abbrev pub IsBy : ℕ → Type 0 → List DeviceAct → DeviceAct → Type 0
+IsBy c May acts (Linked (Made lid conn)) = (lid ≡ made (link_acts acts) + 1) × (conn ≡ c) × May
+IsBy c May acts (Waited (Entered conn named wait last)) =
+    (conn ≡ c) × (conn < 16) × ((n : ℕ) → named ≡ Some n → owner n (link_acts acts) ≡ Some conn)
+IsBy c May acts (Waited act) = conn_of act ≡ c
+IsBy c May acts (Channel (SrqEnabled lid conn handle)) = owner lid (link_acts acts) ≡ Some conn
+IsBy c May acts _ = ⊤
+
+by_suits : (c : ℕ) (May : Type 0) (adds acts : List DeviceAct) → Each (IsBy c May) adds acts → Each Suits adds acts
+by_suits c May [] acts h = tt
+by_suits c May (act ∷ adds) acts h = (one act (adds ++ acts) h.0, by_suits c May adds acts h.1)
+  where
+    one : (act : DeviceAct) (acts : List DeviceAct) → IsBy c May acts act → Suits acts act
+    one (Linked (Made lid conn)) acts h = h.0
+    one (Linked _) acts h = tt
+    one (Waited (Entered conn named wait last)) acts h = (h.1, h.2)
+    one (Waited _) acts h = tt
+    one (Channel (SrqEnabled lid conn handle)) acts h = h
+    one (Channel _) acts h = tt
+    one (Happened act) acts h = tt
+    one Ticked acts h = tt
+
+same_none : (c : ℕ) (acts : List WaitAct) → SameCall c acts acts
+same_none c acts = record { wait = refl; until = refl; named = refl }
+
+-- the calls of others are as before
+pub by_others : (c d : ℕ) (May : Type 0) (adds acts : List DeviceAct) → d ≢ c → Each (IsBy c May) adds acts
+    → SameCall d (wait_acts (adds ++ acts)) (wait_acts acts)
+by_others c d May [] acts ne h = same_none d (wait_acts acts)
+by_others c d May (Linked act ∷ adds) acts ne h = by_others c d May adds acts ne h.1
+by_others c d May (Waited (Entered conn named wait last) ∷ adds) acts ne h =
+    call_foreign d (Entered conn named wait last) (wait_acts (adds ++ acts)) (wait_acts acts) (λ e. ne (sym e ∙ h.0.0))
+    (by_others c d May adds acts ne h.1)
+by_others c d May (Waited (Again conn wait last) ∷ adds) acts ne h =
+    call_foreign d (Again conn wait last) (wait_acts (adds ++ acts)) (wait_acts acts) (λ e. ne (sym e ∙ h.0))
+    (by_others c d May adds acts ne h.1)
+by_others c d May (Waited (Left conn) ∷ adds) acts ne h =
+    call_foreign d (Left conn) (wait_acts (adds ++ acts)) (wait_acts acts) (λ e. ne (sym e ∙ h.0)) (by_others c d May adds acts ne h.1)
+by_others c d May (Channel act ∷ adds) acts ne h = by_others c d May adds acts ne h.1
+by_others c d May (Happened act ∷ adds) acts ne h = by_others c d May adds acts ne h.1
+by_others c d May (Ticked ∷ adds) acts ne h = by_others c d May adds acts ne h.1
+
+-- an owner was one before, or is this connection
+by_owner : (c n d : ℕ) (May : Type 0) (adds acts : List DeviceAct) → Each (IsBy c May) adds acts
+    → owner n (link_acts (adds ++ acts)) ≡ Some d → (owner n (link_acts acts) ≡ Some d) ⊎ ((d ≡ c) × May)
+by_owner c n d May [] acts h is = inl is
+by_owner c n d May (Linked (Made lid conn) ∷ adds) acts h is = elim (owner_of_made n d lid conn (link_acts (adds ++ acts)) is) [
+  | inl was ↦ by_owner c n d May adds acts h.1 was
+  | inr same ↦ inr (same ∙ h.0.1, h.0.2)
+]
+by_owner c n d May (Linked (Destroyed lid) ∷ adds) acts h is =
+    by_owner c n d May adds acts h.1 (owner_before n d lid (link_acts (adds ++ acts)) is).1
+by_owner c n d May (Linked (Locked lid) ∷ adds) acts h is = by_owner c n d May adds acts h.1 is
+by_owner c n d May (Linked (Unlocked lid) ∷ adds) acts h is = by_owner c n d May adds acts h.1 is
+by_owner c n d May (Waited act ∷ adds) acts h is = by_owner c n d May adds acts h.1 is
+by_owner c n d May (Channel act ∷ adds) acts h is = by_owner c n d May adds acts h.1 is
+by_owner c n d May (Happened act ∷ adds) acts h is = by_owner c n d May adds acts h.1 is
+by_owner c n d May (Ticked ∷ adds) acts h is = by_owner c n d May adds acts h.1 is
+
+-- a call that waits as before
+pub held_same : (c : ℕ) (own now : List ConnAct) (acts after : List WaitAct) → now ≡ own → SameCall c after acts → IsHeld c own acts
+    → IsHeld c now after
+held_same c own now acts after same call held = λ wait is.
+    let was = held wait (sym call.wait ∙ is) in (
+      ap open_role same ∙ was.0,
+      (
+        was.1.0,
+        ap (λ (l : List ConnAct). core_call_in (unanswered l)) same ∙ was.1.1,
+        (λ makes. ((was.1.2 makes).0, call.named ∙ (was.1.2 makes).1)),
+      ),
+    )
+
+-- ---- what an effect leaves
+
+abbrev pub IsCore : ℕ → List Act → Type 0
+IsCore c log = open_role (of c log) ≡ Some Core
+
+pub fit_effect : (c : ℕ) (effect : Effect) (log : List Act) → Fit log → Each (IsBy c (IsCore c log)) effect.adds (device_acts log)
+    → open_role (effect.own ++ of c log) ≡ open_role (of c log)
+    → IsHeld c (effect.own ++ of c log) (wait_acts (effect.adds ++ device_acts log)) → Fit (acts_of c effect ++ log)
+fit_effect c effect log fit by role held =
+    let new = acts_of c effect ++ log in
+    let acts = device_effect c effect log in
+    record {
+      suits = subst AllSuit (sym acts)
+          (suit_more effect.adds (device_acts log) (by_suits c (IsCore c log) effect.adds (device_acts log) by) fit.suits);
+      core = λ n d is. elim (by_owner c n d (IsCore c log) effect.adds (device_acts log) by
+          (subst (λ (l : List DeviceAct). owner n (link_acts l) ≡ Some d) acts is)) [
+            | inl was ↦ roles d (fit.core n d was)
+            | inr may ↦ roles d (ap (λ (e : ℕ). open_role (of e log)) may.0 ∙ may.1)
+          ];
+      held = λ d. subst (λ (l : List DeviceAct). IsHeld d (of d (acts_of c effect ++ log)) (wait_acts l)) (sym acts) (elim (cases_eq d c) [
+        | inl e ↦ subst (λ (n : ℕ). IsHeld n (of n (acts_of c effect ++ log)) (wait_acts (effect.adds ++ device_acts log))) (sym e)
+            (subst (λ (l : List ConnAct). IsHeld c l (wait_acts (effect.adds ++ device_acts log))) (sym (of_effect c effect log)) held)
+        | inr ne ↦ held_same d (of d log) (of d (acts_of c effect ++ log)) (wait_acts (device_acts log))
+            (wait_acts (effect.adds ++ device_acts log)) (others_effect c d effect log ne)
+            (by_others c d (IsCore c log) effect.adds (device_acts log) ne by) (fit.held d)
+      ]);
+    }
+  where
+    roles : (d : ℕ) → open_role (of d log) ≡ Some Core → open_role (of d (acts_of c effect ++ log)) ≡ Some Core
+    roles d is = elim (cases_eq d c) [
+      | inl e ↦ subst (λ (n : ℕ). open_role (of n (acts_of c effect ++ log)) ≡ Some Core) (sym e)
+          (ap open_role (of_effect c effect log) ∙ role ∙ ap (λ (n : ℕ). open_role (of n log)) (sym e) ∙ is)
+      | inr ne ↦ ap open_role (others_effect c d effect log ne) ∙ is
+    ]
+
+-- an act of one connection that leaves what it is open for, and its call
+pub fit_on : (c : ℕ) (act : ConnAct) (log : List Act) → Fit log → open_role (act ∷ of c log) ≡ open_role (of c log)
+    → IsHeld c (act ∷ of c log) (wait_acts (device_acts log)) → Fit (On c act ∷ log)
+fit_on c act log fit role held = record {
+  suits = fit.suits;
+  core = λ n d is. elim (cases_eq d c) [
+    | inl e ↦ subst (λ (m : ℕ). open_role (of m (On c act ∷ log)) ≡ Some Core) (sym e)
+        (ap open_role (of_mine c act log) ∙ role ∙ ap (λ (m : ℕ). open_role (of m log)) (sym e) ∙ fit.core n d is)
+    | inr ne ↦ ap open_role (of_other c d act log ne) ∙ fit.core n d is
+  ];
+  held = λ d. elim (cases_eq d c) [
+    | inl e ↦ subst (λ (m : ℕ). IsHeld m (of m (On c act ∷ log)) (wait_acts (device_acts log))) (sym e)
+        (subst (λ (l : List ConnAct). IsHeld c l (wait_acts (device_acts log))) (sym (of_mine c act log)) held)
+    | inr ne ↦ subst (λ (l : List ConnAct). IsHeld d l (wait_acts (device_acts log))) (sym (of_other c d act log ne)) (fit.held d)
+  ];
+}
+
+-- where its call doesn't wait behind them
+pub fit_free : (c : ℕ) (effect : Effect) (log : List Act) → Fit log → Each (IsBy c (IsCore c log)) effect.adds (device_acts log)
+    → open_role (effect.own ++ of c log) ≡ open_role (of c log) → waits c (wait_acts (effect.adds ++ device_acts log)) ≡ None
+    → Fit (acts_of c effect ++ log)
+fit_free c effect log fit by role none = fit_effect c effect log fit by role
+    (held_none c (effect.own ++ of c log) (wait_acts (effect.adds ++ device_acts log)) none)
+
+pub fit_on_free : (c : ℕ) (act : ConnAct) (log : List Act) → Fit log → open_role (act ∷ of c log) ≡ open_role (of c log)
+    → waits c (wait_acts (device_acts log)) ≡ None → Fit (On c act ∷ log)
+fit_on_free c act log fit role none =
+    fit_on c act log fit role (held_none c (act ∷ of c log) (wait_acts (device_acts log)) none)
+
+-- acts of what all share, that are neither of links nor of calls that wait
+pub fit_shared : (adds : List DeviceAct) (log : List Act) → Fit log → AllSuit (adds ++ device_acts log)
+    → link_acts (adds ++ device_acts log) ≡ link_acts (device_acts log) → wait_acts (adds ++ device_acts log) ≡ wait_acts (device_acts log)
+    → Fit (map OnDevice adds ++ log)
+fit_shared adds log fit suits links calls = record {
+  suits = rw (device_shared adds log) suits;
+  core = λ n c is. rw (of_shared c adds log) (fit.core n c (rw (device_shared adds log, links) at is));
+  held = λ c. rw (device_shared adds log, calls, of_shared c adds log) (fit.held c);
+}

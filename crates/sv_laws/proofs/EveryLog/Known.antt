@@ -1,0 +1,195 @@
+-- What follows for links, for calls that wait, and for links that ask for service requests, where each act suits those before it.
+use Rattle.std.proofs.Common.{◌≡◌, ◌≢◌, ℕ, ◌+◌, ◌<◌, ◌≤◌, Bool, true, false, eqb, List, [], ◌∷◌, Option, Some, None, refl, sym, ap, subst, ◌∙◌, inl, inr, eq-eqb, arith}
+use Rattle.std.specs.Prelude.{option_map, find}
+use Rattle.std.proofs.lemmas.Bool.{cases_Bool, cases_eq, eqb-true, ne_eqb}
+use Rattle.sv_links.specs.declared.links.Link.{Link}
+use Rattle.sv_links.specs.declared.enabled.Enabled.{Enabled}
+use Rattle.sv_links.specs.declared.waiting.Wait.{Wait}
+use Rattle.sv_links.specs.declared.waiting.Wait.TheVariants.{Lock, Input as ForInput, Response, Dial}
+use Rattle.sv_links.specs.Links.{LinkAct, Made, Destroyed, Locked, Unlocked, made, live, owner, is_of, holder}
+use Rattle.sv_links.specs.Table.{IsRising}
+use Rattle.sv_links.specs.Waiting.{Entered, Again, Left, waits, link, is_there}
+use Rattle.sv_links.specs.Channels.{ChannelAct, SrqEnabled, SrqDisabled, ChannelOpened, ChannelClosed, Requested, ChannelTaken, asked}
+use Rattle.sv_links.proofs.Tables.{rising-push, rising-filter, other_than}
+use Rattle.sv_laws.proofs.LinksAlike.{owner_made, owner_made_other, owner_destroyed_other, owner_before, is_of_owner}
+use Rattle.sv_laws.proofs.ChannelsAlike.{AsksElsewhere}
+use Rattle.sv_history.specs.Act.{DeviceAct, Linked, Waited, Channel, Happened, Ticked, link_acts, wait_acts}
+use Rattle.sv_history.specs.Requests.{HearsOf}
+use Rattle.sv_history.specs.Settling.{CanResume}
+use Rattle.sv_laws.specs.Isolation.{OthersRest}
+use Rattle.sv_laws.proofs.EveryLog.Fit.{AllSuit}
+
+some_number : (a b : ℕ) → Some a ≡ Some b → a ≡ b
+some_number a b e = cc
+
+-- ---- numbers of links rise
+
+pub rises : (acts : List DeviceAct) → AllSuit acts → IsRising (live (link_acts acts)) (made (link_acts acts))
+rises [] all = tt
+rises (Linked (Made lid conn) ∷ acts) all =
+    rw all.0 (rising-push (live (link_acts acts)) (made (link_acts acts)) conn (rises acts all.1))
+rises (Linked (Destroyed lid) ∷ acts) all =
+    rising-filter (other_than lid) (live (link_acts acts)) (made (link_acts acts)) (rises acts all.1)
+rises (Linked (Locked lid) ∷ acts) all = rises acts all.1
+rises (Linked (Unlocked lid) ∷ acts) all = rises acts all.1
+rises (Waited act ∷ acts) all = rises acts all.1
+rises (Channel act ∷ acts) all = rises acts all.1
+rises (Happened act ∷ acts) all = rises acts all.1
+rises (Ticked ∷ acts) all = rises acts all.1
+
+rising_owner : (n c last : ℕ) (xs : List Link) → IsRising xs last
+    → option_map (λ link. link.conn) (find (λ link. eqb link.lid n) xs) ≡ Some c
+    → n ≤ last
+rising_owner n c last [] rising h = absurd cc
+rising_owner n c last (x ∷ xs) rising h = elim (cases_Bool (eqb x.lid n)) [
+  | inl e ↦ let same : x.lid ≡ n = eqb-true x.lid n e in omega (arith, same, rising.0)
+  | inr e ↦ rising_owner n c last xs rising.2 (rw e at h)
+]
+
+-- a live link's number is at most as high as links were made
+pub owner_within : (n c : ℕ) (acts : List DeviceAct) → AllSuit acts → owner n (link_acts acts) ≡ Some c → n ≤ made (link_acts acts)
+owner_within n c acts all h = rising_owner n c (made (link_acts acts)) (live (link_acts acts)) (rises acts all) h
+
+-- ---- the link that a waiting call names
+
+-- It is none to come, and if it lives it is this connection's.
+abbrev pub IsNamed : ℕ → ℕ → List LinkAct → Type 0
+IsNamed d n acts = (n ≤ made acts) × ((e : ℕ) → owner n acts ≡ Some e → e ≡ d)
+
+named_made : (d n lid conn : ℕ) (acts : List LinkAct) → lid ≡ made acts + 1 → IsNamed d n acts → IsNamed d n (Made lid conn ∷ acts)
+named_made d n lid conn acts next h =
+    let le = h.0 in
+    let ne : lid ≢ n = λ e. absurd (omega (arith, e, next, le)) in
+    (omega (arith, le), (λ e is. h.1 e (sym (owner_made_other n lid conn acts ne) ∙ is)))
+
+pub wait_link : (acts : List DeviceAct) → AllSuit acts → (d n : ℕ) → link d (wait_acts acts) ≡ Some n → IsNamed d n (link_acts acts)
+wait_link [] all d n h = absurd cc
+wait_link (Linked (Made lid conn) ∷ acts) all d n h = named_made d n lid conn (link_acts acts) all.0 (wait_link acts all.1 d n h)
+wait_link (Linked (Destroyed lid) ∷ acts) all d n h =
+    let was = wait_link acts all.1 d n h in
+    (was.0, (λ e is. was.1 e (owner_before n e lid (link_acts acts) is).1))
+wait_link (Linked (Locked lid) ∷ acts) all d n h = wait_link acts all.1 d n h
+wait_link (Linked (Unlocked lid) ∷ acts) all d n h = wait_link acts all.1 d n h
+wait_link (Waited (Entered conn named wait last) ∷ acts) all d n h = elim (cases_Bool (eqb conn d)) [
+  | inl e ↦
+      let owns : owner n (link_acts acts) ≡ Some conn = all.0.1 n (rw e at h) in (
+        owner_within n conn acts all.1 owns,
+        (λ other is. some_number other conn (sym is ∙ owns) ∙ eqb-true conn d e),
+      )
+  | inr e ↦ wait_link acts all.1 d n (rw e at h)
+]
+wait_link (Waited (Again conn wait last) ∷ acts) all d n h = wait_link acts all.1 d n h
+wait_link (Waited (Left conn) ∷ acts) all d n h = wait_link acts all.1 d n h
+wait_link (Channel act ∷ acts) all d n h = wait_link acts all.1 d n h
+wait_link (Happened act ∷ acts) all d n h = wait_link acts all.1 d n h
+wait_link (Ticked ∷ acts) all d n h = wait_link acts all.1 d n h
+
+-- ---- a call that waits is of one of sixteen connections
+
+mapped : (wait now : Wait) (found : Option Wait) → option_map (λ before. wait) found ≡ Some now → (was : Wait) × (found ≡ Some was)
+mapped wait now None e = absurd cc
+mapped wait now (Some was) e = (was, refl)
+
+pub waits_within : (acts : List DeviceAct) → AllSuit acts → (d : ℕ) (wait : Wait) → waits d (wait_acts acts) ≡ Some wait → d < 16
+waits_within [] all d wait h = absurd cc
+waits_within (Waited (Entered conn named for last) ∷ acts) all d wait h = elim (cases_Bool (eqb conn d)) [
+  | inl e ↦ let lt = all.0.0 in omega (arith, eqb-true conn d e, lt)
+  | inr e ↦ waits_within acts all.1 d wait (rw e at h)
+]
+waits_within (Waited (Again conn for last) ∷ acts) all d wait h = elim (cases_Bool (eqb conn d)) [
+  | inl e ↦
+      let was = mapped for wait (waits d (wait_acts acts)) (rw e at h) in
+      waits_within acts all.1 d was.0 was.1
+  | inr e ↦ waits_within acts all.1 d wait (rw e at h)
+]
+waits_within (Waited (Left conn) ∷ acts) all d wait h = elim (cases_Bool (eqb conn d)) [
+  | inl e ↦ absurd (let z : None ≡ Some wait = rw e at h in cc)
+  | inr e ↦ waits_within acts all.1 d wait (rw e at h)
+]
+waits_within (Linked act ∷ acts) all d wait h = waits_within acts all.1 d wait h
+waits_within (Channel act ∷ acts) all d wait h = waits_within acts all.1 d wait h
+waits_within (Happened act ∷ acts) all d wait h = waits_within acts all.1 d wait h
+waits_within (Ticked ∷ acts) all d wait h = waits_within acts all.1 d wait h
+
+-- ---- a link that asks for service requests lives, on the connection that it is of
+
+-- Those of these lists are owned.
+abbrev AskOwned : List DeviceAct → List ChannelAct → Type 0
+AskOwned acts told = (lid : ℕ) (one : Enabled) → asked lid told ≡ Some one → owner lid (link_acts acts) ≡ Some one.conn
+
+some_enabled : (a b : Enabled) → Some a ≡ Some b → a ≡ b
+some_enabled a b e = cc
+
+enabled_owned : (acts : List DeviceAct) (before : List ChannelAct) (other conn : ℕ) (handle : List ℕ)
+    → owner other (link_acts acts) ≡ Some conn → AskOwned acts before → AskOwned acts (SrqEnabled other conn handle ∷ before)
+enabled_owned acts before other conn handle owns owned lid one h = elim (cases_Bool (eqb other lid)) [
+  | inl e ↦
+      let this : Enabled = record { lid = lid; conn = conn; handle = handle } in
+      ap (λ (n : ℕ). owner n (link_acts acts)) (sym (eqb-true other lid e)) ∙ owns
+      ∙ ap (λ (x : Enabled). Some x.conn) (some_enabled this one (rw e at h))
+  | inr e ↦ owned lid one (rw e at h)
+]
+
+disabled_owned : (acts : List DeviceAct) (before : List ChannelAct) (other : ℕ)
+    → ((lid : ℕ) (one : Enabled) → other ≢ lid → asked lid before ≡ Some one → owner lid (link_acts acts) ≡ Some one.conn)
+    → AskOwned acts (SrqDisabled other ∷ before)
+disabled_owned acts before other owned lid one h = elim (cases_eq other lid) [
+  | inl e ↦ absurd (let z : None ≡ Some one = rw (eq-eqb other lid e) at h in cc)
+  | inr ne ↦ owned lid one ne (rw (ne_eqb other lid ne) at h)
+]
+
+pub asks_own : (acts : List DeviceAct) (told : List ChannelAct) → AllSuit acts → HearsOf acts told → AskOwned acts told
+asks_own [] told all hears = λ lid one h. absurd (let z : None ≡ Some one = rw hears at h in cc)
+asks_own (Channel (SrqEnabled other conn handle) ∷ acts) told all (before, hears, is) = subst (AskOwned acts) (sym is)
+    (enabled_owned acts before other conn handle all.0 (asks_own acts before all.1 hears))
+asks_own (Channel (SrqDisabled other) ∷ acts) told all (before, hears, is) = subst (AskOwned acts) (sym is)
+    (disabled_owned acts before other (λ lid one ne h. asks_own acts before all.1 hears lid one h))
+asks_own (Channel (ChannelOpened conn what) ∷ acts) told all (before, hears, is) =
+    subst (AskOwned acts) (sym is) (asks_own acts before all.1 hears)
+asks_own (Channel (ChannelClosed conn) ∷ acts) told all (before, hears, is) =
+    subst (AskOwned acts) (sym is) (asks_own acts before all.1 hears)
+asks_own (Channel Requested ∷ acts) told all (before, hears, is) = subst (AskOwned acts) (sym is) (asks_own acts before all.1 hears)
+asks_own (Channel (ChannelTaken conn count) ∷ acts) told all (before, hears, is) =
+    subst (AskOwned acts) (sym is) (asks_own acts before all.1 hears)
+asks_own (Linked (Made lid conn) ∷ acts) told all (before, hears, is) = subst (AskOwned (Linked (Made lid conn) ∷ acts)) (sym is)
+    (λ n one h. owner_made n one.conn lid conn (link_acts acts) (asks_own acts before all.1 hears n one h))
+asks_own (Linked (Destroyed lid) ∷ acts) told all (before, hears, is) = subst (AskOwned (Linked (Destroyed lid) ∷ acts)) (sym is)
+    (disabled_owned (Linked (Destroyed lid) ∷ acts) before lid
+    (λ n one ne h. owner_destroyed_other n lid (link_acts acts) ne ∙ asks_own acts before all.1 hears n one h))
+asks_own (Linked (Locked lid) ∷ acts) told all (before, hears, is) =
+    subst (AskOwned acts) (sym is) (asks_own acts before all.1 hears)
+asks_own (Linked (Unlocked lid) ∷ acts) told all (before, hears, is) =
+    subst (AskOwned acts) (sym is) (asks_own acts before all.1 hears)
+asks_own (Happened act ∷ acts) told all (before, true, hears, so, is) =
+    subst (AskOwned acts) (sym is) (asks_own acts before all.1 hears)
+asks_own (Happened act ∷ acts) told all (before, false, hears, so, is) =
+    subst (AskOwned acts) (sym is) (asks_own acts before all.1 hears)
+asks_own (Waited act ∷ acts) told all hears = asks_own acts told all.1 hears
+asks_own (Ticked ∷ acts) told all hears = asks_own acts told all.1 hears
+
+-- so one of a number that isn't a connection's is of another
+pub asks_elsewhere : (c lid : ℕ) (acts : List DeviceAct) (told : List ChannelAct) → AllSuit acts → HearsOf acts told
+    → is_of c (owner lid (link_acts acts)) ≡ false → AsksElsewhere c lid told
+asks_elsewhere c lid acts told all hears none one h same =
+    let owns : owner lid (link_acts acts) ≡ Some c = asks_own acts told all hears lid one h ∙ ap (λ (n : ℕ). Some n) same in
+    let z : true ≡ false = sym (is_of_owner c lid (link_acts acts) owns) ∙ none in cc
+
+-- ---- under a lock no call of another connection can resume
+
+not_there : (lid : ℕ) (named : Option ℕ) (wait : Option Wait) (writes reads : Bool) → wait ≢ Some ForInput → wait ≢ Some Response
+    → ((n : ℕ) → named ≡ Some n → n ≢ lid) → is_there (Some lid) writes reads named wait ≡ true → ⊥
+not_there lid None (Some Lock) writes reads input response other h = absurd cc
+not_there lid (Some n) (Some Lock) writes reads input response other h =
+    let z : false ≡ true = rw (ne_eqb n lid (other n refl)) at h in cc
+not_there lid named (Some ForInput) writes reads input response other h = input refl
+not_there lid named (Some Response) writes reads input response other h = response refl
+not_there lid named (Some Dial) writes reads input response other h = absurd cc
+not_there lid named None writes reads input response other h = absurd cc
+
+pub not_able : (c lid : ℕ) (acts : List DeviceAct) → AllSuit acts → holder (link_acts acts) ≡ Some lid → owner lid (link_acts acts) ≡ Some c
+    → OthersRest c (wait_acts acts)
+    → (d : ℕ) → d ≢ c → CanResume acts d → ⊥
+not_able c lid acts all held owns rest d ne able =
+    not_there lid (link d (wait_acts acts)) (waits d (wait_acts acts)) _ _ (rest d ne).0 (rest d ne).1
+    (λ n named same. ne (sym ((wait_link acts all d n named).1 c (ap (λ (m : ℕ). owner m (link_acts acts)) same ∙ owns))))
+    (rw held at able)

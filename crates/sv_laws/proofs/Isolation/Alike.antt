@@ -1,0 +1,402 @@
+-- Two logs that are alike for a connection whose link holds the lock, over acts of others and over the same acts.
+use Rattle.std.proofs.Common.{◌≡◌, ◌≢◌, ℕ, ◌+◌, Bool, true, false, eqb, List, [], ◌∷◌, ◌++◌, Option, Some, refl, sym, ap, subst, ◌∙◌, inl, inr}
+use Rattle.std.specs.Prelude.{⊤, ◌↔◌, ◌==◌, if◌then◌else◌}
+use Rattle.std.proofs.lemmas.Bool.{cases_Bool, ne_eqb}
+use Rattle.sv_logs.proofs.Each.{Each}
+use Rattle.sv_links.specs.declared.waiting.Wait.{Wait}
+use Rattle.sv_links.specs.declared.waiting.Wait.TheVariants.{Input as ForInput, Response}
+use Rattle.sv_links.specs.Links.{LinkAct, Made, Destroyed, Locked, Unlocked, owner, is_of, holder}
+use Rattle.sv_links.specs.Waiting.{WaitAct, Entered, Again, Left}
+use Rattle.sv_links.specs.Channels.{ChannelAct, SrqEnabled, SrqDisabled, ChannelOpened, ChannelClosed, Requested, ChannelTaken, peer}
+use Rattle.sv_laws.proofs.LinksAlike.{OwnsAlike, IsForeignLink, MakesNone, links_foreign, links_same, holder_same, owner_kept, is_of_owner, owner_is_of}
+use Rattle.sv_laws.proofs.CallsAlike.{SameCall, conn_of, call_foreign, call_sym, call_same}
+use Rattle.sv_laws.proofs.ChannelsAlike.{SameChannel, IsForeignChannel, channel_foreign, channel_same, channel_sym}
+use Rattle.sv_layers.specs.Act.{Act as InstrumentAct}
+use Rattle.sv_layers.specs.StatusByte.{IsRaised}
+use Rattle.sv_history.specs.Act.{Act, ConnAct, DeviceAct, Linked, Waited, Channel, Happened, Ticked, On, OnDevice, of, device_acts, link_acts, wait_acts, channel_acts, instrument_acts, ticks}
+use Rattle.sv_history.specs.Requests.{HearsOf, link_told, request_told}
+use Rattle.sv_laws.specs.Isolation.{OthersRest}
+use Rattle.sv_history.proofs.Projections.{of_other}
+use Rattle.sv_history.proofs.Telling.{peer_more}
+use Rattle.sv_laws.proofs.EveryLog.Fit.{AllSuit}
+use Rattle.sv_laws.proofs.EveryLog.Known.{asks_elsewhere}
+
+-- ---- what all connections share
+
+-- What acts of the connection rest on is the same in both; its link holds the lock in both, and no other connection waits for the device.
+pub record View (c lid : ℕ) (acts other : List DeviceAct) : Type 0 where
+  pub instrument : instrument_acts acts ≡ instrument_acts other
+  pub clock : ticks acts ≡ ticks other
+  pub owns : OwnsAlike c (link_acts acts) (link_acts other)
+  pub call : SameCall c (wait_acts acts) (wait_acts other)
+  pub opened : peer c (channel_acts acts) ≡ peer c (channel_acts other)
+  pub held : holder (link_acts acts) ≡ Some lid
+  pub also : holder (link_acts other) ≡ Some lid
+  pub mine : owner lid (link_acts acts) ≡ Some c
+  pub rests : OthersRest c (wait_acts acts)
+  pub rest : OthersRest c (wait_acts other)
+
+pub mine_also : (c lid : ℕ) (acts other : List DeviceAct) → View c lid acts other → owner lid (link_acts other) ≡ Some c
+mine_also c lid acts other view = owner_is_of c (owner lid (link_acts other))
+    (sym (view.owns lid) ∙ is_of_owner c lid (link_acts acts) view.mine)
+
+-- an act of another connection: on its own links, of its own call, which doesn't wait for the device, or of its own channel
+abbrev pub IsForeign : ℕ → List DeviceAct → DeviceAct → Type 0
+IsForeign c acts (Linked act) = IsForeignLink c act (link_acts acts)
+IsForeign c acts (Waited (Entered conn named wait last)) = (conn ≢ c) × (wait ≢ ForInput) × (wait ≢ Response)
+IsForeign c acts (Waited (Again conn wait last)) = ⊥
+IsForeign c acts (Waited (Left conn)) = conn ≢ c
+IsForeign c acts (Channel (SrqEnabled lid conn handle)) = (conn ≢ c) × (is_of c (owner lid (link_acts acts)) ≡ false)
+IsForeign c acts (Channel (SrqDisabled lid)) = is_of c (owner lid (link_acts acts)) ≡ false
+IsForeign c acts (Channel (ChannelOpened conn what)) = conn ≢ c
+IsForeign c acts (Channel (ChannelClosed conn)) = conn ≢ c
+IsForeign c acts (Channel Requested) = ⊥
+IsForeign c acts (Channel (ChannelTaken conn count)) = conn ≢ c
+IsForeign c acts (Happened act) = ⊥
+IsForeign c acts Ticked = ⊥
+
+-- an act of this connection, or of none, that makes no link
+abbrev pub IsOwn : ℕ → DeviceAct → Type 0
+IsOwn c (Linked act) = MakesNone act
+IsOwn c (Waited act) = conn_of act ≡ c
+IsOwn c (Channel act) = ⊤
+IsOwn c (Happened act) = ⊤
+IsOwn c Ticked = ⊤
+
+-- ---- no other connection waits for the device
+
+some_wait : (a b : Wait) → Some a ≡ Some b → a ≡ b
+some_wait a b e = cc
+
+rest_entered : (c conn : ℕ) (named : Option ℕ) (wait : Wait) (last : Option ℕ) (acts : List WaitAct) → wait ≢ ForInput → wait ≢ Response
+    → OthersRest c acts → OthersRest c (Entered conn named wait last ∷ acts)
+rest_entered c conn named wait last acts input response rest d ne = elim (cases_Bool (eqb conn d)) [
+  | inl e ↦ rw e ((λ is. input (some_wait wait ForInput is)), (λ is. response (some_wait wait Response is)))
+  | inr e ↦ rw e (rest d ne)
+]
+
+rest_left : (c conn : ℕ) (acts : List WaitAct) → OthersRest c acts → OthersRest c (Left conn ∷ acts)
+rest_left c conn acts rest d ne = elim (cases_Bool (eqb conn d)) [
+  | inl e ↦ rw e ((λ is. absurd cc), (λ is. absurd cc))
+  | inr e ↦ rw e (rest d ne)
+]
+
+rest_own : (c : ℕ) (act : WaitAct) (acts : List WaitAct) → conn_of act ≡ c → OthersRest c acts → OthersRest c (act ∷ acts)
+rest_own c (Entered conn named wait last) acts same rest d ne = rw (ne_eqb conn d (λ e. ne (sym e ∙ same))) (rest d ne)
+rest_own c (Again conn wait last) acts same rest d ne = rw (ne_eqb conn d (λ e. ne (sym e ∙ same))) (rest d ne)
+rest_own c (Left conn) acts same rest d ne = rw (ne_eqb conn d (λ e. ne (sym e ∙ same))) (rest d ne)
+
+-- ---- over acts
+
+peer_foreign : (c : ℕ) (acts : List DeviceAct) (act : ChannelAct) (more : List ChannelAct) → IsForeign c acts (Channel act)
+    → peer c (act ∷ more) ≡ peer c more
+peer_foreign c acts (SrqEnabled lid conn handle) more h = refl
+peer_foreign c acts (SrqDisabled lid) more h = refl
+peer_foreign c acts (ChannelOpened conn what) more h = rw (ne_eqb conn c h) refl
+peer_foreign c acts (ChannelClosed conn) more h = rw (ne_eqb conn c h) refl
+peer_foreign c acts Requested more h = absurd h
+peer_foreign c acts (ChannelTaken conn count) more h = refl
+
+foreign_waits : (c lid : ℕ) (act : WaitAct) (acts other : List DeviceAct) → View c lid acts other → conn_of act ≢ c
+    → OthersRest c (act ∷ wait_acts acts) → View c lid (Waited act ∷ acts) other
+foreign_waits c lid act acts other view ne rests = record {
+  instrument = view.instrument;
+  clock = view.clock;
+  owns = view.owns;
+  call = call_foreign c act (wait_acts acts) (wait_acts other) ne view.call;
+  opened = view.opened;
+  held = view.held;
+  also = view.also;
+  mine = view.mine;
+  rests = rests;
+  rest = view.rest;
+}
+
+pub view_foreign : (c lid : ℕ) (act : DeviceAct) (acts other : List DeviceAct) → IsForeign c acts act
+    → holder (link_acts (act ∷ acts)) ≡ Some lid → View c lid acts other → View c lid (act ∷ acts) other
+view_foreign c lid (Linked act) acts other h now view = record {
+  instrument = view.instrument;
+  clock = view.clock;
+  owns = links_foreign c act (link_acts acts) (link_acts other) h view.owns;
+  call = view.call;
+  opened = view.opened;
+  held = now;
+  also = view.also;
+  mine = owner_kept c lid act (link_acts acts) now view.mine;
+  rests = view.rests;
+  rest = view.rest;
+}
+view_foreign c lid (Waited (Entered conn named wait last)) acts other h now view =
+    foreign_waits c lid (Entered conn named wait last) acts other view h.0
+    (rest_entered c conn named wait last (wait_acts acts) h.1 h.2 view.rests)
+view_foreign c lid (Waited (Again conn wait last)) acts other h now view = absurd h
+view_foreign c lid (Waited (Left conn)) acts other h now view =
+    foreign_waits c lid (Left conn) acts other view h (rest_left c conn (wait_acts acts) view.rests)
+view_foreign c lid (Channel act) acts other h now view = record {
+  instrument = view.instrument;
+  clock = view.clock;
+  owns = view.owns;
+  call = view.call;
+  opened = peer_foreign c acts act (channel_acts acts) h ∙ view.opened;
+  held = view.held;
+  also = view.also;
+  mine = view.mine;
+  rests = view.rests;
+  rest = view.rest;
+}
+view_foreign c lid (Happened act) acts other h now view = absurd h
+view_foreign c lid Ticked acts other h now view = absurd h
+
+-- in the other log, the call of another connection ends to wait
+pub view_left : (c lid d : ℕ) (acts other : List DeviceAct) → d ≢ c → View c lid acts other → View c lid acts (Waited (Left d) ∷ other)
+view_left c lid d acts other ne view = record {
+  instrument = view.instrument;
+  clock = view.clock;
+  owns = view.owns;
+  call = call_sym c (Left d ∷ wait_acts other) (wait_acts acts)
+      (call_foreign c (Left d) (wait_acts other) (wait_acts acts) ne (call_sym c (wait_acts acts) (wait_acts other) view.call));
+  opened = view.opened;
+  held = view.held;
+  also = view.also;
+  mine = view.mine;
+  rests = view.rests;
+  rest = rest_left c d (wait_acts other) view.rest;
+}
+
+-- the same act
+pub view_same : (c lid : ℕ) (act : DeviceAct) (acts other : List DeviceAct) → IsOwn c act → holder (link_acts (act ∷ acts)) ≡ Some lid
+    → View c lid acts other → View c lid (act ∷ acts) (act ∷ other)
+view_same c lid (Linked act) acts other h now view = record {
+  instrument = view.instrument;
+  clock = view.clock;
+  owns = links_same c act (link_acts acts) (link_acts other) h view.owns;
+  call = view.call;
+  opened = view.opened;
+  held = now;
+  also = holder_same lid act (link_acts acts) (link_acts other) view.also now;
+  mine = owner_kept c lid act (link_acts acts) now view.mine;
+  rests = view.rests;
+  rest = view.rest;
+}
+view_same c lid (Waited act) acts other h now view = record {
+  instrument = view.instrument;
+  clock = view.clock;
+  owns = view.owns;
+  call = call_same c act (wait_acts acts) (wait_acts other) view.call;
+  opened = view.opened;
+  held = view.held;
+  also = view.also;
+  mine = view.mine;
+  rests = rest_own c act (wait_acts acts) h view.rests;
+  rest = rest_own c act (wait_acts other) h view.rest;
+}
+view_same c lid (Channel act) acts other h now view = record {
+  instrument = view.instrument;
+  clock = view.clock;
+  owns = view.owns;
+  call = view.call;
+  opened = peer_more c act (channel_acts acts) (channel_acts other) view.opened;
+  held = view.held;
+  also = view.also;
+  mine = view.mine;
+  rests = view.rests;
+  rest = view.rest;
+}
+view_same c lid (Happened act) acts other h now view = record {
+  instrument = ap (λ (l : List InstrumentAct). act ∷ l) view.instrument;
+  clock = view.clock;
+  owns = view.owns;
+  call = view.call;
+  opened = view.opened;
+  held = view.held;
+  also = view.also;
+  mine = view.mine;
+  rests = view.rests;
+  rest = view.rest;
+}
+view_same c lid Ticked acts other h now view = record {
+  instrument = view.instrument;
+  clock = ap (λ (n : ℕ). n + 1) view.clock;
+  owns = view.owns;
+  call = view.call;
+  opened = view.opened;
+  held = view.held;
+  also = view.also;
+  mine = view.mine;
+  rests = view.rests;
+  rest = view.rest;
+}
+
+-- ---- what is told to interrupt channels
+
+-- What the one log tells is the same for this connection's channel as what the other tells.
+abbrev pub TellsAs : ℕ → List DeviceAct → List DeviceAct → Type 0
+TellsAs c acts other = (told : List ChannelAct) → HearsOf acts told
+    → (also : List ChannelAct) × HearsOf other also × SameChannel c told also
+
+foreign_told : (c : ℕ) (acts : List DeviceAct) (told : List ChannelAct) (act : ChannelAct) → AllSuit acts → HearsOf acts told
+    → IsForeign c acts (Channel act) → IsForeignChannel c act told
+foreign_told c acts told (SrqEnabled lid conn handle) all hears h = (h.0, asks_elsewhere c lid acts told all hears h.1)
+foreign_told c acts told (SrqDisabled lid) all hears h = asks_elsewhere c lid acts told all hears h
+foreign_told c acts told (ChannelOpened conn what) all hears h = h
+foreign_told c acts told (ChannelClosed conn) all hears h = h
+foreign_told c acts told Requested all hears h = absurd h
+foreign_told c acts told (ChannelTaken conn count) all hears h = h
+
+foreign_link : (c : ℕ) (acts : List DeviceAct) (told also : List ChannelAct) (act : LinkAct) → AllSuit acts → HearsOf acts told
+    → IsForeignLink c act (link_acts acts) → SameChannel c told also → SameChannel c (link_told act told) also
+foreign_link c acts told also (Made lid conn) all hears h same = same
+foreign_link c acts told also (Destroyed lid) all hears h same =
+    channel_foreign c (SrqDisabled lid) told also (asks_elsewhere c lid acts told all hears h) same
+foreign_link c acts told also (Locked lid) all hears h same = same
+foreign_link c acts told also (Unlocked lid) all hears h same = same
+
+pub tells_foreign : (c : ℕ) (act : DeviceAct) (acts other : List DeviceAct) → AllSuit acts → IsForeign c acts act → TellsAs c acts other
+    → TellsAs c (act ∷ acts) other
+tells_foreign c (Linked act) acts other all h tells = λ told (before, hears, is).
+    let so = tells before hears in
+    (so.0, so.1, subst (λ (l : List ChannelAct). SameChannel c l so.0) (sym is) (foreign_link c acts before so.0 act all hears h so.2))
+tells_foreign c (Waited act) acts other all h tells = tells
+tells_foreign c (Channel act) acts other all h tells = λ told (before, hears, is).
+    let so = tells before hears in (
+      so.0,
+      so.1,
+      subst (λ (l : List ChannelAct). SameChannel c l so.0) (sym is)
+          (channel_foreign c act before so.0 (foreign_told c acts before act all hears h) so.2),
+    )
+tells_foreign c (Happened act) acts other all h tells = absurd h
+tells_foreign c Ticked acts other all h tells = absurd h
+
+-- and what the other tells is the same as what this one tells
+pub tells_back : (c : ℕ) (act : DeviceAct) (acts other : List DeviceAct) → AllSuit acts → IsForeign c acts act → TellsAs c other acts
+    → TellsAs c other (act ∷ acts)
+tells_back c (Linked act) acts other all h tells = λ told hears.
+    let so = tells told hears in (
+      link_told act so.0,
+      (so.0, so.1, refl),
+      channel_sym c (link_told act so.0) told (foreign_link c acts so.0 told act all so.1 h (channel_sym c told so.0 so.2)),
+    )
+tells_back c (Waited act) acts other all h tells = tells
+tells_back c (Channel act) acts other all h tells = λ told hears.
+    let so = tells told hears in (
+      act ∷ so.0,
+      (so.0, so.1, refl),
+      channel_sym c (act ∷ so.0) told
+          (channel_foreign c act so.0 told (foreign_told c acts so.0 act all so.1 h) (channel_sym c told so.0 so.2)),
+    )
+tells_back c (Happened act) acts other all h tells = absurd h
+tells_back c Ticked acts other all h tells = absurd h
+
+same_link : (c : ℕ) (told also : List ChannelAct) (act : LinkAct) → SameChannel c told also
+    → SameChannel c (link_told act told) (link_told act also)
+same_link c told also (Made lid conn) same = same
+same_link c told also (Destroyed lid) same = channel_same c (SrqDisabled lid) told also same
+same_link c told also (Locked lid) same = same
+same_link c told also (Unlocked lid) same = same
+
+same_request : (c : ℕ) (told also : List ChannelAct) (raised : Bool) → SameChannel c told also
+    → SameChannel c (request_told raised told) (request_told raised also)
+same_request c told also true same = channel_same c Requested told also same
+same_request c told also false same = same
+
+pub tells_same : (c : ℕ) (act : DeviceAct) (acts other : List DeviceAct) → instrument_acts acts ≡ instrument_acts other
+    → TellsAs c acts other
+    → TellsAs c (act ∷ acts) (act ∷ other)
+tells_same c (Linked act) acts other instrument tells = λ told (before, hears, is).
+    let so = tells before hears in (
+      link_told act so.0,
+      (so.0, so.1, refl),
+      subst (λ (l : List ChannelAct). SameChannel c l (link_told act so.0)) (sym is) (same_link c before so.0 act so.2),
+    )
+tells_same c (Waited act) acts other instrument tells = tells
+tells_same c (Channel act) acts other instrument tells = λ told (before, hears, is).
+    let so = tells before hears in (
+      act ∷ so.0,
+      (so.0, so.1, refl),
+      subst (λ (l : List ChannelAct). SameChannel c l (act ∷ so.0)) (sym is) (channel_same c act before so.0 so.2),
+    )
+tells_same c (Happened act) acts other instrument tells = λ told (before, raised, hears, raises, is).
+    let so = tells before hears in (
+      request_told raised so.0,
+      (so.0, raised, so.1, subst (λ (l : List InstrumentAct). (raised ≡ true) ↔ IsRaised (act ∷ l)) instrument raises, refl),
+      subst (λ (l : List ChannelAct). SameChannel c l (request_told raised so.0)) (sym is) (same_request c before so.0 raised so.2),
+    )
+tells_same c Ticked acts other instrument tells = tells
+
+-- ---- logs
+
+pub record Pair (c lid : ℕ) (log other : List Act) : Type 0 where
+  pub own : of c log ≡ of c other
+  pub view : View c lid (device_acts log) (device_acts other)
+  pub tells : TellsAs c (device_acts log) (device_acts other)
+  pub back : TellsAs c (device_acts other) (device_acts log)
+
+abbrev pub IsForeignAct : ℕ → List Act → Act → Type 0
+IsForeignAct c log (On d act) = d ≢ c
+IsForeignAct c log (OnDevice act) = IsForeign c (device_acts log) act
+
+abbrev pub IsOwnAct : ℕ → List Act → Act → Type 0
+IsOwnAct c log (On d act) = ⊤
+IsOwnAct c log (OnDevice act) = IsOwn c act
+
+-- the link holds the lock behind an act
+abbrev pub Locks : ℕ → List Act → Act → Type 0
+Locks lid log act = holder (link_acts (device_acts (act ∷ log))) ≡ Some lid
+
+-- acts of others, in the one log
+pub pair_foreign : (c lid : ℕ) (new log other : List Act) → Each (IsForeignAct c) new log → Each (Locks lid) new log
+    → AllSuit (device_acts (new ++ log)) → Pair c lid log other → Pair c lid (new ++ log) other
+pair_foreign c lid [] log other h locks all pair = pair
+pair_foreign c lid (On d act ∷ new) log other h locks all pair =
+    let so = pair_foreign c lid new log other h.1 locks.1 all pair in
+    record { own = of_other d c act (new ++ log) (λ e. h.0 (sym e)) ∙ so.own; view = so.view; tells = so.tells; back = so.back }
+pair_foreign c lid (OnDevice act ∷ new) log other h locks all pair =
+    let so = pair_foreign c lid new log other h.1 locks.1 all.1 pair in
+    record {
+      own = so.own;
+      view = view_foreign c lid act (device_acts (new ++ log)) (device_acts other) h.0 locks.0 so.view;
+      tells = tells_foreign c act (device_acts (new ++ log)) (device_acts other) all.1 h.0 so.tells;
+      back = tells_back c act (device_acts (new ++ log)) (device_acts other) all.1 h.0 so.back;
+    }
+
+same_own : (c d : ℕ) (act : ConnAct) (mine : List ConnAct) (also : List ConnAct) → mine ≡ also
+    → (if d == c then act ∷ mine else mine) ≡ (if d == c then act ∷ also else also)
+same_own c d act mine also same = ap (λ (l : List ConnAct). if d == c then act ∷ l else l) same
+
+-- the same acts, in both
+pub pair_same : (c lid : ℕ) (new log other : List Act) → Each (IsOwnAct c) new log → Each (Locks lid) new log → Pair c lid log other
+    → Pair c lid (new ++ log) (new ++ other)
+pair_same c lid [] log other h locks pair = pair
+pair_same c lid (On d act ∷ new) log other h locks pair =
+    let so = pair_same c lid new log other h.1 locks.1 pair in
+    record { own = same_own c d act (of c (new ++ log)) (of c (new ++ other)) so.own; view = so.view; tells = so.tells; back = so.back }
+pair_same c lid (OnDevice act ∷ new) log other h locks pair =
+    let so = pair_same c lid new log other h.1 locks.1 pair in
+    record {
+      own = so.own;
+      view = view_same c lid act (device_acts (new ++ log)) (device_acts (new ++ other)) h.0 locks.0 so.view;
+      tells = tells_same c act (device_acts (new ++ log)) (device_acts (new ++ other)) so.view.instrument so.tells;
+      back = tells_same c act (device_acts (new ++ other)) (device_acts (new ++ log)) (sym so.view.instrument) so.back;
+    }
+
+-- an act of another connection's call that ends
+abbrev pub IsLeaving : ℕ → List Act → Act → Type 0
+IsLeaving c log (On d act) = d ≢ c
+IsLeaving c log (OnDevice (Waited (Left d))) = d ≢ c
+IsLeaving c log (OnDevice _) = ⊥
+
+-- such acts, in the other log
+pub pair_left : (c lid : ℕ) (new log other : List Act) → Each (IsLeaving c) new other → Pair c lid log other → Pair c lid log (new ++ other)
+pair_left c lid [] log other h pair = pair
+pair_left c lid (On d act ∷ new) log other h pair =
+    let so = pair_left c lid new log other h.1 pair in
+    record { own = so.own ∙ sym (of_other d c act (new ++ other) (λ e. h.0 (sym e))); view = so.view; tells = so.tells; back = so.back }
+pair_left c lid (OnDevice (Waited (Left d)) ∷ new) log other h pair =
+    let so = pair_left c lid new log other h.1 pair in
+    record {
+      own = so.own;
+      view = view_left c lid d (device_acts log) (device_acts (new ++ other)) h.0 so.view;
+      tells = so.tells;
+      back = so.back;
+    }
+pair_left c lid (OnDevice _ ∷ new) log other h pair = absurd h.0

@@ -1,0 +1,228 @@
+-- While a link holds the lock, the events without those of other connections are possible too, and add the same bytes to its connection and
+-- to its interrupt channel.
+use Rattle.std.proofs.Common.{◌≡◌, ℕ, true, false, List, [], ◌∷◌, ◌++◌, Some, None, refl, sym, ap, subst, ◌∙◌, inl, inr, append_assoc}
+use Rattle.std.specs.List.{concat}
+use Rattle.std.proofs.lemmas.Bool.{cases_Bool}
+use Rattle.sv_links.specs.Links.{holder}
+use Rattle.sv_links.specs.Channels.{ChannelAct}
+use Rattle.sv_laws.proofs.ChannelsAlike.{SameChannel, channel_sym}
+use Rattle.sv_history.specs.declared.event.Config.{Config}
+use Rattle.sv_history.specs.declared.event.Port.{Port}
+use Rattle.sv_history.specs.declared.event.Port.TheVariants.{Conn, Intr}
+use Rattle.sv_history.specs.Event.{PlainEvent, IsEvent, port_number}
+use Rattle.sv_history.specs.Act.{Act, device_acts, link_acts}
+use Rattle.sv_history.specs.Requests.{HearsOf}
+use Rattle.sv_history.specs.PolledStatus.{IsPolled}
+use Rattle.sv_history.specs.Settling.{SettlesIn}
+use Rattle.sv_history.specs.History.{IsLogOf, own_acts, refusal}
+use Rattle.sv_laws.specs.Adding.{all_replies, all_sent, Adds}
+use Rattle.sv_laws.specs.Isolation.{is_foreign, own_events, IsMild, EachIs, HoldsFrom, IsLocked, Isolation}
+use Rattle.sv_laws.proofs.OneLog.{one_log}
+use Rattle.sv_laws.proofs.EveryLog.Fit.{Fit}
+use Rattle.sv_laws.proofs.EveryLog.EachEvent.{fit_log, fit_event}
+use Rattle.sv_laws.proofs.Isolation.Alike.{Pair, pair_foreign, pair_same}
+use Rattle.sv_laws.proofs.Isolation.OthersEvents.{foreign_event}
+use Rattle.sv_laws.proofs.Isolation.OwnEvents.{refusal_same, own_event}
+use Rattle.sv_laws.proofs.Isolation.Draining.{polled_to}
+use Rattle.sv_laws.proofs.EveryLog.Steps.{settles_extends, log_settled, stays}
+use Rattle.sv_laws.proofs.Isolation.SettlesAlike.{HoldsUp, holds_further, settles_alike}
+
+-- ---- the link holds the lock
+
+holds_from : (lid : ℕ) (before whole : List Act) → HoldsFrom lid before whole → HoldsUp lid before whole
+holds_from lid before whole holds later [] is = tt
+holds_from lid before whole holds later (act ∷ acts) is = (
+  holds later (act ∷ acts) is,
+  holds_from lid before whole holds (later ++ act ∷ []) acts (is ∙ sym (append_assoc later (act ∷ []) (acts ++ before))),
+)
+
+-- ---- where it begins, both logs are one
+
+same_channel : (c : ℕ) (told : List ChannelAct) → SameChannel c told told
+same_channel c told = record { opened = refl; took = refl; links = refl; sent = refl; all = refl }
+
+starts : (c lid : ℕ) (config : Config) (past events : List PlainEvent) (locked : IsLocked c lid config past events) (later : List Act)
+    → locked.log ≡ later ++ locked.before → Pair c lid locked.before locked.before
+starts c lid config past events locked later is =
+    let held : holder (link_acts (device_acts locked.before)) ≡ Some lid = locked.holds later [] is in
+    record {
+      own = refl;
+      view = record {
+        instrument = refl;
+        clock = refl;
+        owns = λ n. refl;
+        call = record { wait = refl; until = refl; named = refl };
+        opened = refl;
+        held = held;
+        also = held;
+        mine = locked.owns;
+        rests = locked.rest;
+        rest = locked.rest;
+      };
+      tells = λ told hears. (told, hears, same_channel c told);
+      back = λ told hears. (told, hears, same_channel c told);
+    }
+
+-- ---- event by event
+
+pub record Alone (c lid : ℕ) (config : Config) (past events : List PlainEvent) (log whole : List Act) : Type 0 where
+  pub other : List Act
+  pub is_log : IsLogOf config (own_events c events ++ past) other
+  pub pair : Pair c lid log other
+  pub holds : HoldsUp lid log whole
+
+own_without : (c : ℕ) (event : PlainEvent) (events : List PlainEvent) → is_foreign c event ≡ true
+    → own_events c (event ∷ events) ≡ own_events c events
+own_without c event events e = rw e refl
+
+own_with : (c : ℕ) (event : PlainEvent) (events : List PlainEvent) → is_foreign c event ≡ false
+    → own_events c (event ∷ events) ≡ event ∷ own_events c events
+own_with c event events e = rw e refl
+
+-- an event of another connection is left out
+left_out : (c lid : ℕ) (config : Config) (past events : List PlainEvent) (event : PlainEvent) (polled n : ℕ)
+    (whole later before log : List Act) → is_foreign c event ≡ true → IsMild c event before → Fit before
+    → Fit (own_acts config polled event before ++ before) → SettlesIn n config (own_acts config polled event before ++ before) log
+    → whole ≡ later ++ log → Alone c lid config past events before whole → Alone c lid config past (event ∷ events) log whole
+left_out c lid config past events event polled n whole later before log foreign mild fit next settles is alone =
+    let acts = own_acts config polled event before in
+    let rest = settles_extends n config (acts ++ before) log settles in
+    let reach : whole ≡ (later ++ rest.0) ++ (acts ++ before) =
+    is ∙ ap (λ (l : List Act). later ++ l) rest.1 ∙ sym (append_assoc later rest.0 (acts ++ before)) in
+    let pair = pair_foreign c lid acts before alone.other
+    (foreign_event config polled c lid event before fit alone.pair.view.held alone.pair.view.mine foreign mild)
+    (alone.holds (later ++ rest.0) acts reach) next.suits alone.pair in
+    let further = holds_further lid before whole acts alone.holds in
+    let also = fit_log config (own_events c events ++ past) alone.other alone.is_log in
+    let ends = settles_alike n config c lid whole later (acts ++ before) alone.other log further is settles next also pair in
+    let same = stays ends.steps.0 config alone.other ends.last
+    (log_settled config (own_events c events ++ past) alone.other alone.is_log) ends.steps.1 in
+    record {
+      other = alone.other;
+      is_log = subst (λ (l : List PlainEvent). IsLogOf config (l ++ past) alone.other) (sym (own_without c event events foreign))
+          alone.is_log;
+      pair = subst (λ (l : List Act). Pair c lid log l) same ends.pair;
+      holds = subst (λ (l : List Act). HoldsUp lid l whole) (sym rest.1) (holds_further lid (acts ++ before) whole rest.0 further);
+    }
+
+-- one of the connection, or of none, is in both
+in_both : (c lid : ℕ) (config : Config) (past events : List PlainEvent) (event : PlainEvent) (polled n : ℕ) (told : List ChannelAct)
+    (whole later before log : List Act) → is_foreign c event ≡ false → IsMild c event before → IsEvent event → Fit before
+    → HearsOf (device_acts before) told → refusal config told event before ≡ None → IsPolled polled (device_acts before)
+    → SettlesIn n config (own_acts config polled event before ++ before) log → whole ≡ later ++ log
+    → Alone c lid config past events before whole → Alone c lid config past (event ∷ events) log whole
+in_both c lid config past events event polled n told whole later before log own mild is_event fit hears free said settles is alone =
+    let acts = own_acts config polled event before in
+    let other = alone.other in
+    let rest = settles_extends n config (acts ++ before) log settles in
+    let reach : whole ≡ (later ++ rest.0) ++ (acts ++ before) =
+    is ∙ ap (λ (l : List Act). later ++ l) rest.1 ∙ sym (append_assoc later rest.0 (acts ++ before)) in
+    let locks = alone.holds (later ++ rest.0) acts reach in
+    let also = fit_log config (own_events c events ++ past) other alone.is_log in
+    let tells = alone.pair.tells told hears in
+    let none : refusal config tells.0 event other ≡ None =
+    sym (refusal_same config c lid told tells.0 before other event alone.pair tells.2 own) ∙ free in
+    let ours = own_event config polled c lid before other event fit alone.pair own mild locks in
+    let pair = pair_same c lid acts before other ours.1 locks alone.pair in
+    let further = holds_further lid before whole acts alone.holds in
+    let next = fit_event config event polled told before free fit in
+    let behind : Fit (acts ++ other) =
+    subst (λ (l : List Act). Fit (l ++ other)) (sym ours.0) (fit_event config event polled tells.0 other none also) in
+    let ends = settles_alike n config c lid whole later (acts ++ before) (acts ++ other) log further is settles next behind pair in
+    record {
+      other = ends.last;
+      is_log = subst (λ (l : List PlainEvent). IsLogOf config (l ++ past) ends.last) (sym (own_with c event events own)) (
+        other,
+        polled,
+        tells.0,
+        is_event,
+        alone.is_log,
+        tells.1,
+        none,
+        polled_to polled (device_acts before) (device_acts other) alone.pair.view.instrument said,
+        (ends.steps.0, subst (λ (l : List Act). SettlesIn ends.steps.0 config (l ++ other) ends.last) ours.0 ends.steps.1),
+      );
+      pair = ends.pair;
+      holds = subst (λ (l : List Act). HoldsUp lid l whole) (sym rest.1) (holds_further lid (acts ++ before) whole rest.0 further);
+    }
+
+alone_from : (c lid : ℕ) (config : Config) (past all events : List PlainEvent) (locked : IsLocked c lid config past all)
+    (later log : List Act) → locked.log ≡ later ++ log → EachIs (IsMild c) config past events → IsLogOf config (events ++ past) log
+    → Alone c lid config past events log locked.log
+alone_from c lid config past all [] locked later log is mild is_log =
+    let same : log ≡ locked.before = one_log config past log locked.before is_log locked.was in
+    subst (λ (l : List Act). Alone c lid config past [] l locked.log) (sym same) (record {
+      other = locked.before;
+      is_log = locked.was;
+      pair = starts c lid config past all locked later (is ∙ ap (λ (l : List Act). later ++ l) same);
+      holds = holds_from lid locked.before locked.log locked.holds;
+    })
+alone_from c lid config past all (event ∷ events) locked later log is mild
+    (before, polled, told, is_event, was, hears, free, said, (n, settles)) =
+    let acts = own_acts config polled event before in
+    let rest = settles_extends n config (acts ++ before) log settles in
+    let reach : locked.log ≡ ((later ++ rest.0) ++ acts) ++ before =
+    is ∙ ap (λ (l : List Act). later ++ l) rest.1 ∙ sym (append_assoc later rest.0 (acts ++ before))
+    ∙ sym (append_assoc (later ++ rest.0) acts before) in
+    let alone = alone_from c lid config past all events locked ((later ++ rest.0) ++ acts) before reach mild.0 was in
+    let fit = fit_log config (events ++ past) before was in
+    let so = mild.1 before was in
+    elim (cases_Bool (is_foreign c event)) [
+      | inl e ↦ left_out c lid config past events event polled n locked.log later before log e so fit
+          (fit_event config event polled told before free fit) settles is alone
+      | inr e ↦ in_both c lid config past events event polled n told locked.log later before log e so is_event fit hears free said
+          settles is alone
+    ]
+
+-- ---- what is added
+
+sent_same : (c lid : ℕ) (port : Port) (log other : List Act) (told also : List ChannelAct) → port_number port ≡ c → Pair c lid log other
+    → SameChannel c told also → all_sent port told log ≡ all_sent port also other
+sent_same c lid (Conn d) log other told also e pair same = rw e (ap all_replies pair.own)
+sent_same c lid (Intr d) log other told also e pair same = rw e (ap concat same.all)
+
+adds_alone : (c lid : ℕ) (config : Config) (past events : List PlainEvent) (locked : IsLocked c lid config past events)
+    → Alone c lid config past events locked.log locked.log → (port : Port) (bytes : List ℕ) → port_number port ≡ c
+    → Adds port config past events bytes → Adds port config past (own_events c events) bytes
+adds_alone c lid config past events locked alone port bytes mine (before, first, (log, told, is_log, hears, sent)) =
+    let same : log ≡ locked.log = one_log config (events ++ past) log locked.log is_log locked.is_log in
+    let tells = alone.pair.tells told (subst (λ (l : List Act). HearsOf (device_acts l) told) same hears) in (
+      before,
+      first,
+      (
+        alone.other,
+        tells.0,
+        alone.is_log,
+        tells.1,
+        sent ∙ ap (λ (l : List Act). all_sent port told l) same
+            ∙ sent_same c lid port locked.log alone.other told tells.0 mine alone.pair tells.2,
+      ),
+    )
+
+adds_all : (c lid : ℕ) (config : Config) (past events : List PlainEvent) (locked : IsLocked c lid config past events)
+    → Alone c lid config past events locked.log locked.log → (port : Port) (bytes : List ℕ) → port_number port ≡ c
+    → Adds port config past (own_events c events) bytes → Adds port config past events bytes
+adds_all c lid config past events locked alone port bytes mine (before, first, (log, told, is_log, hears, sent)) =
+    let same : log ≡ alone.other = one_log config (own_events c events ++ past) log alone.other is_log alone.is_log in
+    let tells = alone.pair.back told (subst (λ (l : List Act). HearsOf (device_acts l) told) same hears) in (
+      before,
+      first,
+      (
+        locked.log,
+        tells.0,
+        locked.is_log,
+        tells.1,
+        sent ∙ ap (λ (l : List Act). all_sent port told l) same
+            ∙ sym (sent_same c lid port locked.log alone.other tells.0 told mine alone.pair (channel_sym c told tells.0 tells.2)),
+      ),
+    )
+
+pub isolation : Isolation
+isolation c lid config past events locked =
+    let alone = alone_from c lid config past events events locked [] locked.log refl locked.mild locked.is_log in (
+      (alone.other, alone.is_log),
+      (λ port bytes mine. (
+        adds_alone c lid config past events locked alone port bytes mine,
+        adds_all c lid config past events locked alone port bytes mine,
+      )),
+    )

@@ -1,0 +1,21 @@
+mod ChannelsAlike
+mod LinksAlike
+mod CallsAlike
+mod Closed
+mod ReadOn
+mod Stillness
+pub mod OneLog
+mod EveryLog
+mod Isolation
+mod Cuts
+pub mod NoneLate
+pub mod EachAnswered
+pub mod RepliesMatch
+pub mod TurnAnswered
+pub mod Brought
+pub mod OnlyCalls
+pub mod ShutIsClear
+pub mod NothingLost
+pub mod OnlyRequests
+pub mod CanBeRefused
+pub mod TicksTaken

@@ -1,0 +1,85 @@
+-- No call waits past its deadline, and none waits for what is there.
+use Rattle.std.proofs.Common.{◌≡◌, ℕ, ◌+◌, ◌<◌, Bool, true, List, Option, Some, None, refl, inl, inr}
+use Rattle.std.specs.Prelude.{not}
+use Rattle.sv_links.specs.declared.waiting.Wait.{Wait}
+use Rattle.sv_links.specs.Links.{holder}
+use Rattle.sv_links.specs.Waiting.{waits, link, is_there, IsExpired, IsOldest}
+use Rattle.sv_exchange.specs.Exchange.{has_ended}
+use Rattle.sv_instrument.specs.Stimulus.{IsFired}
+use Rattle.sv_instrument.specs.Step.{IsStep, is_answerable}
+use Rattle.sv_history.specs.declared.event.Config.{Config}
+use Rattle.sv_history.specs.Act.{Act, DeviceAct, device_acts, link_acts, wait_acts, instrument_acts, exchange_acts, ticks}
+use Rattle.sv_history.specs.Settling.{InstrumentDoes, CanResume, Resumes, TimesOut, IsSettled}
+use Rattle.sv_laws.specs.Laws.{NoneLate}
+use Rattle.sv_history.proofs.AlwaysTold.{some_polled}
+use Rattle.sv_laws.proofs.EveryLog.Fit.{AllSuit}
+use Rattle.sv_laws.proofs.EveryLog.Known.{waits_within}
+use Rattle.sv_laws.proofs.EveryLog.Due.{Least, least, not_both, oldest_due}
+use Rattle.sv_laws.proofs.EveryLog.EachEvent.{fit_log}
+use Rattle.sv_laws.proofs.EveryLog.Steps.{log_settled}
+
+-- ---- where no step is due, none of any kind is
+
+no_fire : (config : Config) (log : List Act) → IsSettled config log → (new : List Act) → InstrumentDoes IsFired log new → ⊥
+no_fire config log none new one = none new (inl one)
+
+no_resume : (config : Config) (log : List Act) → IsSettled config log → (new : List Act) → Resumes config log new → ⊥
+no_resume config log none new one = none new (inr (no_fire config log none, inl one))
+
+no_step : (config : Config) (log : List Act) → IsSettled config log → (new : List Act) → InstrumentDoes IsStep log new → ⊥
+no_step config log none new one = none new (inr (no_fire config log none, inr (no_resume config log none, inl one)))
+
+no_time : (config : Config) (log : List Act) → IsSettled config log → (new : List Act) → TimesOut config log new → ⊥
+no_time config log none new one =
+    none new (inr (no_fire config log none, inr (no_resume config log none, inr (no_step config log none, one))))
+
+-- ---- the oldest of those that can go on
+
+abbrev goes : List DeviceAct → ℕ → Bool
+goes acts d = is_there (holder (link_acts acts)) (not (has_ended (exchange_acts acts))) (is_answerable (instrument_acts acts))
+    (link d (wait_acts acts)) (waits d (wait_acts acts))
+
+there_waits : (h : Option ℕ) (w r : Bool) (named : Option ℕ) (found : Option Wait) → is_there h w r named found ≡ true
+    → (wait : Wait) × (found ≡ Some wait)
+there_waits h w r named (Some wait) e = (wait, refl)
+there_waits h w r named None e = absurd cc
+
+going_waits : (acts : List DeviceAct) (d : ℕ) → CanResume acts d → (wait : Wait) × (waits d (wait_acts acts) ≡ Some wait)
+going_waits acts d such = there_waits (holder (link_acts acts)) (not (has_ended (exchange_acts acts)))
+    (is_answerable (instrument_acts acts)) (link d (wait_acts acts)) (waits d (wait_acts acts)) such
+
+going_below : (acts : List DeviceAct) → AllSuit acts → (d : ℕ) → CanResume acts d → d < 16
+going_below acts all d such = let for = going_waits acts d such in waits_within acts all d for.0 for.1
+
+going_by : (acts : List DeviceAct) → AllSuit acts → (found : Option ℕ) → Least (wait_acts acts) (goes acts) 16 found
+    → IsOldest (wait_acts acts) (CanResume acts) found
+going_by acts all None h = λ d such. not_both (goes acts d) such (h d (going_below acts all d such))
+going_by acts all (Some c) h = (h.0, λ d such. h.1 d (going_below acts all d such) such)
+
+oldest_going : (acts : List DeviceAct) → AllSuit acts → (found : Option ℕ) × IsOldest (wait_acts acts) (CanResume acts) found
+oldest_going acts all =
+    let first = least (wait_acts acts) (goes acts) 16 in (first.0, going_by acts all first.0 first.1)
+
+-- ---- so none is late, and none waits for what is there
+
+none_expired : (config : Config) (log : List Act) → IsSettled config log → (found : Option ℕ)
+    → IsOldest (wait_acts (device_acts log)) (IsExpired (config.clock + ticks (device_acts log)) (wait_acts (device_acts log))) found
+    → (c : ℕ) → IsExpired (config.clock + ticks (device_acts log)) (wait_acts (device_acts log)) c → ⊥
+none_expired config log none None oldest c h = oldest c h
+none_expired config log none (Some d) oldest c h = no_time config log none _ (d, oldest.0.0, oldest, oldest.0.2, refl)
+
+none_going : (config : Config) (log : List Act) → IsSettled config log → (found : Option ℕ)
+    → IsOldest (wait_acts (device_acts log)) (CanResume (device_acts log)) found → (c : ℕ) → CanResume (device_acts log) c → ⊥
+none_going config log none None oldest c h = oldest c h
+none_going config log none (Some d) oldest c h =
+    let for = going_waits (device_acts log) d oldest.0 in
+    let polled = some_polled (device_acts log) in
+    no_resume config log none _ (d, for.0, polled.0, oldest, for.1, polled.1, refl)
+
+pub none_late : NoneLate
+none_late config history log c was =
+    let none = log_settled config history log was in
+    let all = (fit_log config history log was).suits in
+    let due = oldest_due (config.clock + ticks (device_acts log)) (device_acts log) all in
+    let going = oldest_going (device_acts log) all in
+    (none_expired config log none due.0 due.1 c, none_going config log none going.0 going.1 c)

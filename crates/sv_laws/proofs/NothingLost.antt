@@ -1,0 +1,228 @@
+-- An event that suits what the server answers when it is asked is never refused.
+use Rattle.std.proofs.Common.{◌≡◌, ℕ, ◌<◌, Bool, true, false, cond, eqb, List, [], ◌∷◌, ◌++◌, length, filter, Option, Some, None, refl, sym, ap, subst, ◌∙◌, inl, inr, arith, le-ltb, append-nil}
+use Rattle.std.specs.Prelude.{map, not, is_some, ◌||◌, Result, Ok, Err}
+use Rattle.std.proofs.lemmas.Bool.{cases_Bool}
+use Rattle.sv_logs.proofs.Each.{Each}
+use Rattle.sv_links.specs.declared.request.Peer.{Peer}
+use Rattle.sv_links.specs.Links.{LinkAct, Made, Destroyed, Locked, Unlocked, closing, made}
+use Rattle.sv_links.specs.Waiting.{Left, waits, is_creating, creating, connections}
+use Rattle.sv_links.specs.Channels.{ChannelAct, ChannelClosed, is_channel_open, waiting as channel_waiting}
+use Rattle.sv_laws.proofs.LinksAlike.{MakesNone}
+use Rattle.sv_laws.proofs.Closed.{closed_makes_none}
+use Rattle.sv_layers.specs.Act.{Act as InstrumentAct}
+use Rattle.sv_instrument.specs.Stimulus.{external_acts}
+use Rattle.sv_history.specs.declared.event.Config.{Config}
+use Rattle.sv_history.specs.declared.event.Dial.{Dial}
+use Rattle.sv_history.specs.declared.event.Role.{Role}
+use Rattle.sv_history.specs.declared.event.Port.TheVariants.{Conn, Intr}
+use Rattle.sv_history.specs.declared.event.Did.{Did}
+use Rattle.sv_history.specs.declared.event.Did.TheVariants.{Done}
+use Rattle.sv_history.specs.declared.event.Refused.{Refused}
+use Rattle.sv_history.specs.declared.event.Refused.TheVariants.{NoMemory, ConnInUse, NoConn, NoRoom, NotSent, NoDial, NotRefusable, BadChannel, BadInput, TimeOver}
+use Rattle.sv_history.specs.Event.{PlainEvent, Open, Bytes, Turn, Refuse, Took, Close, Dialed, Input, External, Tick}
+use Rattle.sv_history.specs.Act.{Act, ConnAct, DeviceAct, Linked, Waited, Channel, Happened, Ticked, PortClosed, On, OnDevice, of, device_acts, link_acts, wait_acts, instrument_acts}
+use Rattle.sv_history.specs.Connection.{is_open, open_role, unanswered, room, waiting}
+use Rattle.sv_history.specs.CoreCall.{CoreCall}
+use Rattle.sv_history.specs.Request.{core_call_in}
+use Rattle.sv_history.specs.Effect.{acts_of}
+use Rattle.sv_history.specs.Interrupts.{has_channel, is_dialing, dialing, dial_in, dialed_to, peer_by}
+use Rattle.sv_history.specs.Resuming.{connected}
+use Rattle.sv_history.specs.History.{is_shut, refusal, own_acts, did, wants_memory, AnswersBy, IsLogOf}
+use Rattle.sv_laws.specs.Laws.{NothingLost}
+use Rattle.sv_history.proofs.Projections.{device_effect, device_shared, link_acts-links, wait_acts-links}
+use Rattle.sv_history.proofs.Telling.{tells_once, has_channel_told}
+use Rattle.sv_laws.proofs.ShutIsClear.{clear_free, shut_is_clear}
+
+-- ---- what isn't refused, and wants no memory, is done
+
+pub some_none : {A : Type 0} (a : Option Refused) (refused : Refused) → a ≡ None → a ≡ Some refused → A
+some_none {A} a refused none some = absurd (let z : None ≡ Some refused = sym none ∙ some in cc)
+
+pub not_both : {A : Type 0} (b : Bool) → b ≡ false → b ≡ true → A
+not_both {A} b off on = absurd (let z : false ≡ true = sym off ∙ on in cc)
+
+pub is_done : (config : Config) (told : List ChannelAct) (event : PlainEvent) (log : List Act) (result : Result Did Refused)
+    → refusal config told event log ≡ None → did event log ≡ Done
+    → ((polled : ℕ) → wants_memory (device_acts (own_acts config polled event log)) ≡ false)
+    → AnswersBy config told event log result → result ≡ Ok Done
+is_done config told event log (Ok what) free does modest h = ap Ok (h.1 ∙ does)
+is_done config told event log (Err NoMemory) free does modest h = not_both _ (modest h.1) h.3
+is_done config told event log (Err ConnInUse) free does modest h = some_none _ ConnInUse free h
+is_done config told event log (Err NoConn) free does modest h = some_none _ NoConn free h
+is_done config told event log (Err NoRoom) free does modest h = some_none _ NoRoom free h
+is_done config told event log (Err NotSent) free does modest h = some_none _ NotSent free h
+is_done config told event log (Err NoDial) free does modest h = some_none _ NoDial free h
+is_done config told event log (Err NotRefusable) free does modest h = some_none _ NotRefusable free h
+is_done config told event log (Err BadChannel) free does modest h = some_none _ BadChannel free h
+is_done config told event log (Err BadInput) free does modest h = some_none _ BadInput free h
+is_done config told event log (Err TimeOver) free does modest h = some_none _ TimeOver free h
+
+-- ---- which want none
+
+waits_none : (c d : ℕ) → waits d (Left c ∷ []) ≡ None
+waits_none c d = elim (cases_Bool (eqb c d)) [ inl e ↦ rw e refl | inr e ↦ rw e refl ]
+
+pub filter_none : (p : ℕ → Bool) (xs : List ℕ) → ((x : ℕ) → p x ≡ false) → length (filter p xs) ≡ 0
+filter_none p [] h = refl
+filter_none p (x ∷ xs) h = rw (h x) (filter_none p xs h)
+
+pub left_modest : (c : ℕ) (acts : List DeviceAct) → made (link_acts acts) ≡ 0 → wait_acts acts ≡ Left c ∷ [] → wants_memory acts ≡ false
+left_modest c acts no_link is =
+    let none : creating (wait_acts acts) ≡ 0 =
+    rw is (filter_none (is_creating (Left c ∷ [])) connections (λ d. rw (waits_none c d) refl)) in
+    let nobody : dialing (wait_acts acts) ≡ 0 =
+    rw is (filter_none (λ d. is_dialing d (Left c ∷ [])) connections (λ d. rw (waits_none c d) refl)) in
+    rw (no_link, none, nobody) refl
+
+made_none : (links before : List LinkAct) → Each (λ before act. MakesNone act) links before → made links ≡ 0
+made_none [] before h = refl
+made_none (Made lid conn ∷ links) before h = absurd h.0
+made_none (Destroyed lid ∷ links) before h = made_none links before h.1
+made_none (Locked lid ∷ links) before h = made_none links before h.1
+made_none (Unlocked lid ∷ links) before h = made_none links before h.1
+
+close_modest : (c : ℕ) (log : List Act)
+    → wants_memory (device_acts (map OnDevice
+    (Channel (ChannelClosed c) ∷ map Linked (closing c (link_acts (device_acts log))) ++ Waited (Left c) ∷ [])
+    ++ On c PortClosed ∷ [])) ≡ false
+close_modest c log =
+    let links = closing c (link_acts (device_acts log)) in
+    let adds = Channel (ChannelClosed c) ∷ map Linked links ++ Waited (Left c) ∷ [] in
+    let is : device_acts (map OnDevice adds ++ On c PortClosed ∷ []) ≡ adds = device_shared adds (On c PortClosed ∷ []) ∙ append-nil adds in
+    rw is (left_modest c adds
+    (ap made (link_acts-links links (Waited (Left c) ∷ []) ∙ append-nil links)
+    ∙ made_none links (link_acts (device_acts log)) (closed_makes_none c (link_acts (device_acts log))))
+    (wait_acts-links links (Waited (Left c) ∷ [])))
+
+dialed_modest : (c : ℕ) (ok : Bool) (call : Option CoreCall) → wants_memory (device_acts (acts_of c (connected c ok call))) ≡ false
+dialed_modest c ok call =
+    let effect = connected c ok call in
+    let is : device_acts (acts_of c effect) ≡ effect.adds =
+    ap device_acts (sym (append-nil (acts_of c effect))) ∙ device_effect c effect [] ∙ append-nil effect.adds in
+    rw is (by call)
+  where
+    at_peer : (ok : Bool) (call : CoreCall) (found : Option Peer)
+        → wants_memory ((dialed_to c ok call.arguments found).adds ++ Waited (Left c) ∷ []) ≡ false
+    at_peer true call (Some one) = left_modest c ((dialed_to c true call.arguments (Some one)).adds ++ Waited (Left c) ∷ []) refl refl
+    at_peer false call (Some one) = left_modest c ((dialed_to c false call.arguments (Some one)).adds ++ Waited (Left c) ∷ []) refl refl
+    at_peer ok call None = left_modest c ((dialed_to c ok call.arguments None).adds ++ Waited (Left c) ∷ []) refl refl
+
+    by : (call : Option CoreCall) → wants_memory (connected c ok call).adds ≡ false
+    by (Some call) = at_peer ok call (peer_by call.arguments)
+    by None = left_modest c (Waited (Left c) ∷ []) refl refl
+
+happened_none : (adds : List InstrumentAct) → (link_acts (map Happened adds) ≡ []) × (wait_acts (map Happened adds) ≡ [])
+happened_none [] = (refl, refl)
+happened_none (act ∷ adds) = happened_none adds
+
+none_wanted : (acts : List DeviceAct) → link_acts acts ≡ [] → wait_acts acts ≡ [] → wants_memory acts ≡ false
+none_wanted acts none still =
+    let a : made (link_acts acts) ≡ 0 = ap made none in
+    let b : creating (wait_acts acts) ≡ 0 = ap creating still in
+    let c : dialing (wait_acts acts) ≡ 0 = ap dialing still in rw (a, b, c) refl
+
+pub happened_modest : (adds : List InstrumentAct) → wants_memory (device_acts (map OnDevice (map Happened adds))) ≡ false
+happened_modest adds =
+    let is : device_acts (map OnDevice (map Happened adds)) ≡ map Happened adds =
+    ap device_acts (sym (append-nil (map OnDevice (map Happened adds)))) ∙ device_shared (map Happened adds) []
+    ∙ append-nil (map Happened adds) in
+    subst (λ (acts : List DeviceAct). wants_memory acts ≡ false) (sym is)
+    (none_wanted (map Happened adds) (happened_none adds).0 (happened_none adds).1)
+
+happened_ticked : (adds : List InstrumentAct)
+    → (link_acts (map Happened adds ++ Ticked ∷ []) ≡ []) × (wait_acts (map Happened adds ++ Ticked ∷ []) ≡ [])
+happened_ticked [] = (refl, refl)
+happened_ticked (act ∷ adds) = happened_ticked adds
+
+pub happened_wants : (adds : List InstrumentAct)
+    → wants_memory (device_acts (map OnDevice (map Happened adds) ++ OnDevice Ticked ∷ [])) ≡ false
+happened_wants adds = subst (λ (acts : List DeviceAct). wants_memory acts ≡ false)
+    (sym (device_shared (map Happened adds) (OnDevice Ticked ∷ [])))
+    (none_wanted (map Happened adds ++ Ticked ∷ []) (happened_ticked adds).0 (happened_ticked adds).1)
+
+-- ---- which are of an open one
+
+not_shut : (c : ℕ) (log : List Act) → c < 16 → is_open (of c log) ≡ true → is_shut c log ≡ false
+not_shut c log lt opened = ap (λ (b : Bool). b || not (is_open (of c log))) (le-ltb 15 c (omega (arith, lt))) ∙ ap not opened
+
+open_room : (acts : List ConnAct) → 0 < room acts → is_open acts ≡ true
+open_room acts lt = elim (cases_Bool (is_open acts)) [
+  | inl e ↦ e
+  | inr e ↦ absurd (let no : room acts ≡ 0 = rw e refl in omega (arith, lt, no))
+]
+
+open_waiting : (acts : List ConnAct) → 0 < length (waiting acts) → is_open acts ≡ true
+open_waiting acts lt = elim (cases_Bool (is_open acts)) [
+  | inl e ↦ e
+  | inr e ↦ absurd (let no : length (waiting acts) ≡ 0 = rw e refl in omega (arith, lt, no))
+]
+
+channel_there : (c : ℕ) (told : List ChannelAct) → 0 < length (channel_waiting c told) → is_channel_open c told ≡ true
+channel_there c told lt = elim (cases_Bool (is_channel_open c told)) [
+  | inl e ↦ e
+  | inr e ↦ absurd (let no : length (channel_waiting c told) ≡ 0 = rw e refl in omega (arith, lt, no))
+]
+
+some_role : (found : Option Role) → (found ≡ None → ⊥) → is_some found ≡ true
+some_role (Some role) h = refl
+some_role None h = absurd (h refl)
+
+dials : (is : Bool) (found : Option Dial) (dial : Dial) → cond is found None ≡ Some dial → (is ≡ true) × (found ≡ Some dial)
+dials true found dial e = (refl, e)
+dials false found dial e = absurd cc
+
+open_dialing : (config : Config) (history : List PlainEvent) (log : List Act) (c : ℕ) (dial : Dial) → IsLogOf config history log
+    → dial_in (core_call_in (unanswered (of c log))) ≡ Some dial → is_open (of c log) ≡ true
+open_dialing config history log c dial was some = some_role (open_role (of c log)) (λ shut.
+    let none = clear_free (of c log) (shut_is_clear config history log c was shut) in
+    let z : None ≡ Some dial = sym (ap (λ (call : Option (List ℕ)). dial_in (core_call_in call)) none) ∙ some in cc)
+
+-- ---- so each is done
+
+not_none : (b : Bool) → not b ≡ false → b ≡ true
+not_none true e = refl
+not_none false e = absurd cc
+
+either_false : (a b : Bool) → (a || b) ≡ false → (a ≡ false) × (b ≡ false)
+either_false true b e = absurd cc
+either_false false b e = (refl, e)
+
+pub nothing_lost : NothingLost
+nothing_lost config history (Open c role) told log result was tells suits (also, hears, h) =
+    let free : refusal config also (Open c role) log ≡ None =
+    rw (le-ltb 15 c (let lt = suits.0 in omega (arith, lt)), suits.1) refl in
+    is_done config also (Open c role) log result free refl (λ polled. refl) h
+nothing_lost config history (Bytes c piece) told log result was tells suits (also, hears, h) =
+    let free : refusal config also (Bytes c piece) log ≡ None =
+    rw (not_shut c log suits.0 (open_room (of c log) suits.1), le-ltb (room (of c log)) (length piece) suits.2) refl in
+    is_done config also (Bytes c piece) log result free refl (λ polled. refl) h
+nothing_lost config history (Took (Conn c) n) told log result was tells suits (also, hears, h) =
+    let free : refusal config also (Took (Conn c) n) log ≡ None =
+    rw (not_shut c log suits.0 (open_waiting (of c log) suits.1), le-ltb (length (waiting (of c log))) n suits.2) refl in
+    is_done config also (Took (Conn c) n) log result free refl (λ polled. refl) h
+nothing_lost config history (Took (Intr c) n) told log result was tells suits (also, hears, h) =
+    let same = tells_once (device_acts log) also told hears tells in
+    let there : has_channel c (device_acts log) ≡ true =
+    sym (has_channel_told c (device_acts log) told tells) ∙ channel_there c told suits.1 in
+    let free : refusal config told (Took (Intr c) n) log ≡ None =
+    rw (le-ltb 15 c (let lt = suits.0 in omega (arith, lt)), there, le-ltb (length (channel_waiting c told)) n suits.2) refl in
+    is_done config told (Took (Intr c) n) log result free refl (λ polled. refl)
+    (subst (λ (l : List ChannelAct). AnswersBy config l (Took (Intr c) n) log result) same h)
+nothing_lost config history (Close (Conn c)) told log result was tells suits (also, hears, h) =
+    let free : refusal config also (Close (Conn c)) log ≡ None = rw suits refl in
+    is_done config also (Close (Conn c)) log result free refl (λ polled. close_modest c log) h
+nothing_lost config history (Close (Intr c)) told log result was tells suits (also, hears, h) =
+    let free : refusal config also (Close (Intr c)) log ≡ None = rw suits refl in
+    is_done config also (Close (Intr c)) log result free refl (λ polled. refl) h
+nothing_lost config history (Dialed c ok) told log result was tells suits (also, hears, h) =
+    let both = dials (is_dialing c (wait_acts (device_acts log))) _ suits.1 suits.2 in
+    let free : refusal config also (Dialed c ok) log ≡ None =
+    rw (not_shut c log suits.0 (open_dialing config history log c suits.1 was both.1), both.0) refl in
+    is_done config also (Dialed c ok) log result free refl (λ polled. dialed_modest c ok (core_call_in (unanswered (of c log)))) h
+nothing_lost config history (Turn c) told log result was tells suits answers = absurd suits
+nothing_lost config history (Refuse c) told log result was tells suits answers = absurd suits
+nothing_lost config history (Input channel microvolts) told log result was tells suits (also, hears, h) =
+    is_done config also (Input channel microvolts) log result suits refl (λ polled. refl) h
+nothing_lost config history External told log result was tells suits (also, hears, h) =
+    is_done config also External log result refl refl (λ polled. happened_modest (external_acts (instrument_acts (device_acts log)))) h
+nothing_lost config history Tick told log result was tells suits answers = absurd suits

@@ -1,0 +1,30 @@
+-- A history has one log.
+use Rattle.std.proofs.Common.{◌≡◌, ℕ, zero, suc, List, [], ◌∷◌, ◌++◌, sym, ◌∙◌, subst}
+use Rattle.sv_layers.specs.StatusByte.{PolledBit}
+use Rattle.sv_layers.proofs.PolledByte.{one_word}
+use Rattle.sv_history.specs.declared.event.Config.{Config}
+use Rattle.sv_history.specs.Act.{Act, device_acts, instrument_acts}
+use Rattle.sv_history.specs.PolledStatus.{IsPolled}
+use Rattle.sv_history.specs.Settling.{SettlesIn, Settles}
+use Rattle.sv_history.specs.History.{own_acts}
+use Rattle.sv_laws.specs.Laws.{OneLog}
+use Rattle.sv_history.proofs.OneStep.{next_once}
+
+-- the steps that are due lead to one log
+one_end : (n m : ℕ) (config : Config) (log a b : List Act) → SettlesIn n config log a → SettlesIn m config log b → a ≡ b
+one_end zero zero config log a b x y = x.1 ∙ sym y.1
+one_end zero (suc m) config log a b x y = absurd (x.0 y.0 y.1)
+one_end (suc n) zero config log a b x y = absurd (y.0 x.0 x.1)
+one_end (suc n) (suc m) config log a b x y =
+    let same = next_once config log x.0 y.0 x.1 y.1 in one_end n m config y.0 a b (rw same at x.2) y.2
+
+-- a history has at most one log
+pub one_log : OneLog
+one_log config [] a b x y = x.1 ∙ sym y.1
+one_log config (event ∷ history) a b x y =
+    let before = one_log config history x.0 y.0 x.4 y.4 in
+    let said = subst (λ (log : List Act). IsPolled y.1 (device_acts log)) (sym before) y.7 in
+    let polled = one_word (λ k. PolledBit k (instrument_acts (device_acts x.0))) y.1 x.1 said x.7 in
+    let there = subst (λ (log : List Act). Settles config (own_acts config y.1 event log ++ log) b) (sym before) y.8 in
+    let settled = subst (λ (word : ℕ). Settles config (own_acts config word event x.0 ++ x.0) b) polled there in
+    one_end x.8.0 settled.0 config (own_acts config x.1 event x.0 ++ x.0) a b x.8.1 settled.1

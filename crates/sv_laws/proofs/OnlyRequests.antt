@@ -1,0 +1,428 @@
+-- An event tells to each interrupt channel its own act, and behind it a channel is closed, or calls are added to it.
+use Rattle.std.proofs.Common.{◌≡◌, ℕ, Bool, true, false, eqb, cond, List, [], ◌∷◌, ◌++◌, length, nat_lt, Option, Some, None, refl, sym, ap, subst, ◌∙◌, inl, inr, append_assoc, append-nil, add-zero, ◌+◌}
+use Rattle.std.specs.Prelude.{map, pos, negsuc, ⊤}
+use Rattle.std.specs.List.{fold}
+use Rattle.std.proofs.lemmas.Bool.{cases_Bool}
+use Rattle.sv_vxi.specs.declared.error_code.ErrorCode.TheVariants.{Abort}
+use Rattle.sv_vxi.specs.Arguments.{Arguments, DeviceAbort, CreateLink, DeviceWrite, DeviceRead, DeviceReadstb, DeviceTrigger, DeviceClear, DeviceRemote, DeviceLocal, DeviceLock, DeviceUnlock, DeviceEnableSrq, DeviceDocmd, DestroyLink, CreateIntrChan, DestroyIntrChan, max_handle}
+use Rattle.sv_links.specs.declared.request.Peer.{Peer}
+use Rattle.sv_links.specs.declared.waiting.Wait.{Wait}
+use Rattle.sv_links.specs.Links.{LinkAct, Made, Destroyed, Locked, Unlocked, closing, owner, is_of, holder, is_locked_out, is_this, lids_left}
+use Rattle.sv_links.specs.Waiting.{Left}
+use Rattle.sv_links.specs.Channels.{ChannelAct, SrqEnabled, SrqDisabled, ChannelOpened, ChannelClosed, Requested, ChannelTaken, peer, taken, may_call, called, calls, handles_of, enabled}
+use Rattle.sv_exchange.specs.Exchange.{has_ended, response, is_something}
+use Rattle.sv_exchange.specs.Limits.{max_message}
+use Rattle.sv_scan.specs.declared.acts.ScanAct.TheVariants.{Input as InputTo}
+use Rattle.sv_layers.specs.Act.{Act as InstrumentAct, Scanned}
+use Rattle.sv_instrument.specs.Step.{is_answerable}
+use Rattle.sv_instrument.specs.Stimulus.{external_acts, tick_acts, trigger_acts}
+use Rattle.sv_history.specs.declared.event.Config.{Config}
+use Rattle.sv_history.specs.declared.event.Port.TheVariants.{Conn, Intr}
+use Rattle.sv_history.specs.Event.{PlainEvent, Open, Bytes, Turn, Refuse, Took, Close, Dialed, Input, External, Tick}
+use Rattle.sv_history.specs.Act.{Act, DeviceAct, CallTaken, PortClosed, Linked, Waited, Channel, Happened, Ticked, On, OnDevice, of, device_acts, link_acts, instrument_acts, exchange_acts, ticks}
+use Rattle.sv_history.specs.Connection.{unanswered, next_call}
+use Rattle.sv_history.specs.CallOutcome.{CallOutcome, only}
+use Rattle.sv_history.specs.CoreCall.{CoreCall, failure}
+use Rattle.sv_history.specs.CoreChannel.{own_call}
+use Rattle.sv_history.specs.Effect.{Effect, acts_of}
+use Rattle.sv_history.specs.Request.{Request, NoCall, Decided, CoreRequest, AbortRequest, PortRequest, core_call_in, next_request}
+use Rattle.sv_history.specs.Requests.{HearsOf, link_told, request_told}
+use Rattle.sv_history.specs.Admission.{Stop, Fails, Awaits, stop_of, admitted}
+use Rattle.sv_history.specs.Execution.{request_effect, aborts}
+use Rattle.sv_history.specs.Interrupts.{has_channel, peer_by, dialed_to}
+use Rattle.sv_history.specs.Resuming.{effect_of, leaving, next_wait, continued, connected, late}
+use Rattle.sv_history.specs.Refusing.{refusable}
+use Rattle.sv_history.specs.Settling.{IsNext, SettlesIn}
+use Rattle.sv_history.specs.History.{abort_acts, turn_acts, refuse_acts, own_acts}
+use Rattle.sv_laws.proofs.Brought.{opened_to, peer_in, tells, OnlyAdds, OnlyRequests, is_tick}
+use Rattle.sv_scan.specs.Condition.{bit}
+use Rattle.sv_history.proofs.Projections.{device_effect, device_shared}
+use Rattle.sv_history.proofs.Telling.{tells_once}
+use Rattle.sv_laws.proofs.OneLog.{one_log}
+use Rattle.sv_laws.proofs.EveryLog.EachEvent.{each_settled, turn_parts}
+
+-- ---- acts that open no channel, and of which no peer takes bytes
+
+abbrev ArePlain : List DeviceAct → Type 0
+ArePlain [] = ⊤
+ArePlain (Channel (ChannelOpened conn what) ∷ acts) = ⊥
+ArePlain (Channel (ChannelTaken conn count) ∷ acts) = ⊥
+ArePlain (Ticked ∷ acts) = ⊥
+ArePlain (act ∷ acts) = ArePlain acts
+
+plain_join : (one other : List DeviceAct) → ArePlain one → ArePlain other → ArePlain (one ++ other)
+plain_join [] other h k = k
+plain_join (Channel (ChannelOpened conn what) ∷ one) other h k = absurd h
+plain_join (Channel (ChannelTaken conn count) ∷ one) other h k = absurd h
+plain_join (Channel (SrqEnabled lid conn handle) ∷ one) other h k = plain_join one other h k
+plain_join (Channel (SrqDisabled lid) ∷ one) other h k = plain_join one other h k
+plain_join (Channel (ChannelClosed conn) ∷ one) other h k = plain_join one other h k
+plain_join (Channel Requested ∷ one) other h k = plain_join one other h k
+plain_join (Linked act ∷ one) other h k = plain_join one other h k
+plain_join (Waited act ∷ one) other h k = plain_join one other h k
+plain_join (Happened act ∷ one) other h k = plain_join one other h k
+plain_join (Ticked ∷ one) other h k = absurd h
+
+plain_happened : (adds : List InstrumentAct) → ArePlain (map Happened adds)
+plain_happened [] = tt
+plain_happened (act ∷ adds) = plain_happened adds
+
+plain_links : (links : List LinkAct) → ArePlain (map Linked links)
+plain_links [] = tt
+plain_links (act ∷ links) = plain_links links
+
+-- ---- what they tell
+
+fold_adds : (p : Option Peer) (t : ℕ) (cs handles : List (List ℕ)) → (more : List (List ℕ)) × (fold (called p t) cs handles ≡ cs ++ more)
+fold_adds p t cs [] = ([], sym (append-nil cs))
+fold_adds p t cs (handle ∷ handles) =
+    let one = one_adds p handle in
+    let rest = fold_adds p t (called p t cs handle) handles in
+    (one.0 ++ rest.0, rest.1 ∙ ap (λ (l : List (List ℕ)). l ++ rest.0) one.1 ∙ append_assoc cs one.0 rest.0)
+  where
+    by_test : (may : Bool) (call : List ℕ) → (more : List (List ℕ)) × (cond may (cs ++ call ∷ []) cs ≡ cs ++ more)
+    by_test true call = (call ∷ [], refl)
+    by_test false call = ([], sym (append-nil cs))
+
+    one_adds : (p : Option Peer) (handle : List ℕ) → (more : List (List ℕ)) × (called p t cs handle ≡ cs ++ more)
+    one_adds (Some what) handle = by_test (may_call t cs) _
+    one_adds None handle = ([], sym (append-nil cs))
+
+adds_none : (c : ℕ) (told : List ChannelAct) → OnlyAdds c told told
+adds_none c told = λ opened. (opened, refl, [], sym (append-nil (calls c told)))
+
+adds_then : (c : ℕ) (a b d : List ChannelAct) → OnlyAdds c a b → OnlyAdds c b d → OnlyAdds c a d
+adds_then c a b d x y = λ opened.
+    let last = y opened in
+    let first = x last.0 in (
+      first.0,
+      last.1 ∙ first.1,
+      first.2 ++ last.2,
+      last.3 ∙ ap (λ (l : List (List ℕ)). l ++ last.2) first.3 ∙ append_assoc (calls c a) first.2 last.2,
+    )
+
+adds_linked : (c : ℕ) (act : LinkAct) (told : List ChannelAct) → OnlyAdds c told (link_told act told)
+adds_linked c (Destroyed lid) told = λ opened. (opened, refl, [], sym (append-nil (calls c told)))
+adds_linked c (Made lid conn) told = adds_none c told
+adds_linked c (Locked lid) told = adds_none c told
+adds_linked c (Unlocked lid) told = adds_none c told
+
+adds_requested : (c : ℕ) (raised : Bool) (told : List ChannelAct) → OnlyAdds c told (request_told raised told)
+adds_requested c true told = λ opened.
+    let more = fold_adds (peer c told) (taken c told) (calls c told) (handles_of c (enabled told)) in (opened, refl, more.0, more.1)
+adds_requested c false told = adds_none c told
+
+adds_closed : (c conn : ℕ) (told : List ChannelAct) → OnlyAdds c told (ChannelClosed conn ∷ told)
+adds_closed c conn told = elim (cases_Bool (eqb conn c)) [
+  | inl e ↦ λ opened. absurd (let z : false ≡ true = rw e at opened in cc)
+  | inr e ↦ rw e (adds_none c told)
+]
+
+pub plain_tells : (c : ℕ) (adds acts : List DeviceAct) (told later : List ChannelAct) → ArePlain adds → HearsOf acts told
+    → HearsOf (adds ++ acts) later → OnlyAdds c told later
+plain_tells c [] acts told later h x y = subst (OnlyAdds c told) (tells_once acts told later x y) (adds_none c told)
+plain_tells c (Channel (ChannelOpened conn what) ∷ adds) acts told later h x y = absurd h
+plain_tells c (Channel (ChannelTaken conn count) ∷ adds) acts told later h x y = absurd h
+plain_tells c (Channel (SrqEnabled lid conn handle) ∷ adds) acts told later h x (before, y, is) =
+    subst (OnlyAdds c told) (sym is) (plain_tells c adds acts told before h x y)
+plain_tells c (Channel (SrqDisabled lid) ∷ adds) acts told later h x (before, y, is) =
+    subst (OnlyAdds c told) (sym is) (plain_tells c adds acts told before h x y)
+plain_tells c (Channel (ChannelClosed conn) ∷ adds) acts told later h x (before, y, is) =
+    subst (OnlyAdds c told) (sym is) (adds_then c told before (ChannelClosed conn ∷ before) (plain_tells c adds acts told before h x y)
+    (adds_closed c conn before))
+plain_tells c (Channel Requested ∷ adds) acts told later h x (before, y, is) =
+    subst (OnlyAdds c told) (sym is) (adds_then c told before (Requested ∷ before) (plain_tells c adds acts told before h x y)
+    (adds_requested c true before))
+plain_tells c (Linked act ∷ adds) acts told later h x (before, y, is) =
+    subst (OnlyAdds c told) (sym is) (adds_then c told before (link_told act before) (plain_tells c adds acts told before h x y)
+    (adds_linked c act before))
+plain_tells c (Happened act ∷ adds) acts told later h x (before, raised, y, so, is) =
+    subst (OnlyAdds c told) (sym is) (adds_then c told before (request_told raised before) (plain_tells c adds acts told before h x y)
+    (adds_requested c raised before))
+plain_tells c (Waited act ∷ adds) acts told later h x y = plain_tells c adds acts told later h x y
+plain_tells c (Ticked ∷ adds) acts told later h x y = absurd h
+
+plain_ticks : (adds acts : List DeviceAct) → ArePlain adds → ticks (adds ++ acts) ≡ ticks acts
+plain_ticks [] acts h = refl
+plain_ticks (Channel (ChannelOpened conn what) ∷ adds) acts h = absurd h
+plain_ticks (Channel (ChannelTaken conn count) ∷ adds) acts h = absurd h
+plain_ticks (Channel (SrqEnabled lid conn handle) ∷ adds) acts h = plain_ticks adds acts h
+plain_ticks (Channel (SrqDisabled lid) ∷ adds) acts h = plain_ticks adds acts h
+plain_ticks (Channel (ChannelClosed conn) ∷ adds) acts h = plain_ticks adds acts h
+plain_ticks (Channel Requested ∷ adds) acts h = plain_ticks adds acts h
+plain_ticks (Linked act ∷ adds) acts h = plain_ticks adds acts h
+plain_ticks (Waited act ∷ adds) acts h = plain_ticks adds acts h
+plain_ticks (Happened act ∷ adds) acts h = plain_ticks adds acts h
+plain_ticks (Ticked ∷ adds) acts h = absurd h
+
+-- ---- calls of the core channel
+
+plain_own : (config : Config) (polled c : ℕ) (arguments : Arguments) (acts : List DeviceAct)
+    → ArePlain (own_call config polled c arguments acts).adds
+plain_own config polled c (CreateLink client_id true lock_timeout device) acts = elim (cases_Bool (lids_left (link_acts acts))) [
+  | inl e ↦ rw e tt
+  | inr e ↦ rw e tt
+]
+plain_own config polled c (CreateLink client_id false lock_timeout device) acts = elim (cases_Bool (lids_left (link_acts acts))) [
+  | inl e ↦ rw e tt
+  | inr e ↦ rw e tt
+]
+plain_own config polled c (DeviceWrite lid io_timeout lock_timeout flags bytes) acts =
+    elim (cases_Bool (nat_lt max_message (length bytes))) [
+      | inl e ↦ rw e tt
+      | inr e ↦ elim (cases_Bool (has_ended (exchange_acts acts))) [ inl k ↦ rw (e, k) tt | inr k ↦ rw (e, k) tt ]
+    ]
+plain_own config polled c (DeviceRead lid request_size io_timeout lock_timeout flags term_char) acts =
+    elim (cases_Bool (is_answerable (instrument_acts acts))) [
+      | inl k ↦ elim (cases_Bool (is_something (response (exchange_acts acts)))) [ inl e ↦ rw (k, e) tt | inr e ↦ rw (k, e) tt ]
+      | inr k ↦ elim (cases_Bool (is_something (response (exchange_acts acts)))) [ inl e ↦ rw (k, e) tt | inr e ↦ rw (k, e) tt ]
+    ]
+plain_own config polled c (DeviceReadstb parms) acts = tt
+plain_own config polled c (DeviceTrigger parms) acts = plain_happened (trigger_acts (instrument_acts acts))
+plain_own config polled c (DeviceClear parms) acts = tt
+plain_own config polled c (DeviceLock (pos n) flags lock_timeout) acts =
+    elim (cases_Bool (is_locked_out (holder (link_acts acts)) (Some n))) [ inl e ↦ rw e tt | inr e ↦ rw e tt ]
+plain_own config polled c (DeviceUnlock (pos n)) acts =
+    elim (cases_Bool (is_this n (holder (link_acts acts)))) [ inl e ↦ rw e tt | inr e ↦ rw e tt ]
+plain_own config polled c (DeviceEnableSrq (pos n) true handle) acts = elim (cases_Bool (is_of c (owner n (link_acts acts)))) [
+  | inl e ↦ elim (cases_Bool (nat_lt max_handle (length handle))) [ inl k ↦ rw (e, k) tt | inr k ↦ rw (e, k) tt ]
+  | inr e ↦ rw e tt
+]
+plain_own config polled c (DeviceEnableSrq (pos n) false handle) acts =
+    elim (cases_Bool (is_of c (owner n (link_acts acts)))) [ inl e ↦ rw e tt | inr e ↦ rw e tt ]
+plain_own config polled c (DestroyLink (pos n)) acts = tt
+plain_own config polled c DestroyIntrChan acts = elim (cases_Bool (has_channel c acts)) [ inl e ↦ rw e tt | inr e ↦ rw e tt ]
+plain_own config polled c (DeviceLock (negsuc n) flags lock_timeout) acts = tt
+plain_own config polled c (DeviceUnlock (negsuc n)) acts = tt
+plain_own config polled c (DeviceEnableSrq (negsuc n) enable handle) acts = tt
+plain_own config polled c (DestroyLink (negsuc n)) acts = tt
+plain_own config polled c (DeviceRemote parms) acts = tt
+plain_own config polled c (DeviceLocal parms) acts = tt
+plain_own config polled c (DeviceAbort lid) acts = tt
+plain_own config polled c (DeviceDocmd lid flags io_timeout lock_timeout cmd network_order datasize bytes) acts = tt
+plain_own config polled c (CreateIntrChan host_addr host_port prog_num prog_vers prog_family) acts = tt
+
+plain_admitted : (config : Config) (polled c : ℕ) (arguments : Arguments) (stop : Option Stop) (acts : List DeviceAct)
+    → ArePlain (admitted config polled c arguments stop acts).adds
+plain_admitted config polled c arguments None acts = plain_own config polled c arguments acts
+plain_admitted config polled c arguments (Some (Fails error)) acts = tt
+plain_admitted config polled c arguments (Some (Awaits wait timeout)) acts = tt
+
+plain_request : (config : Config) (polled c : ℕ) (request : Request) (acts : List DeviceAct)
+    → ArePlain (request_effect config polled c request acts).adds
+plain_request config polled c NoCall acts = tt
+plain_request config polled c (Decided xid reply) acts = tt
+plain_request config polled c (CoreRequest call) acts = plain_admitted config polled c call.arguments (stop_of c call.arguments acts) acts
+plain_request config polled c (AbortRequest xid lid) acts = tt
+plain_request config polled c (PortRequest xid args) acts = tt
+
+plain_continued : (config : Config) (polled c : ℕ) (arguments : Arguments) (next : Option Wait) (acts : List DeviceAct)
+    → ArePlain (continued config polled c arguments next acts).adds
+plain_continued config polled c arguments (Some wait) acts = tt
+plain_continued config polled c arguments None acts =
+    plain_join (own_call config polled c arguments (Waited (Left c) ∷ acts)).adds (Waited (Left c) ∷ [])
+    (plain_own config polled c arguments (Waited (Left c) ∷ acts)) tt
+
+plain_ended : (c : ℕ) (does : Arguments → CallOutcome) (call : Option CoreCall) → ((arguments : Arguments) → ArePlain (does arguments).adds)
+    → ArePlain (effect_of c does call).adds
+plain_ended c does (Some call) h = h call.arguments
+plain_ended c does None h = tt
+
+-- ---- acts behind these
+
+abbrev Behind : List DeviceAct → List Act → Type 0
+Behind base log = (adds : List DeviceAct) × ArePlain adds × (device_acts log ≡ adds ++ base)
+
+behind_effect : (base : List DeviceAct) (c : ℕ) (effect : Effect) (log : List Act) → ArePlain effect.adds → Behind base log
+    → Behind base (acts_of c effect ++ log)
+behind_effect base c effect log h (adds, k, is) = (
+  effect.adds ++ adds,
+  plain_join effect.adds adds h k,
+  device_effect c effect log ∙ ap (λ (l : List DeviceAct). effect.adds ++ l) is ∙ sym (append_assoc effect.adds adds base),
+)
+
+behind_shared : (base more : List DeviceAct) (log : List Act) → ArePlain more → Behind base log → Behind base (map OnDevice more ++ log)
+behind_shared base more log h (adds, k, is) = (
+  more ++ adds,
+  plain_join more adds h k,
+  device_shared more log ∙ ap (λ (l : List DeviceAct). more ++ l) is ∙ sym (append_assoc more adds base),
+)
+
+behind_ended : (base : List DeviceAct) (c : ℕ) (does : Arguments → CallOutcome) (call : Option CoreCall) (log : List Act)
+    → ((arguments : Arguments) → ArePlain (does arguments).adds) → Behind base log → Behind base (acts_of c (effect_of c does call) ++ log)
+behind_ended base c does call log h = behind_effect base c (effect_of c does call) log (plain_ended c does call h)
+
+behind_step : (base : List DeviceAct) (config : Config) (log new : List Act) → Behind base log → IsNext config log new → Behind base new
+behind_step base config log new all (inl fires) =
+    subst (Behind base) (sym fires.2) (behind_shared base (map Happened fires.0) log (plain_happened fires.0) all)
+behind_step base config log new all (inr (none, inl (c, wait, polled, oldest, for, said, is))) =
+    subst (Behind base) (sym is) (behind_ended base c (λ arguments. continued config polled c arguments
+    (next_wait wait arguments (device_acts log)) (device_acts log)) (core_call_in (unanswered (of c log))) log
+    (λ arguments. plain_continued config polled c arguments (next_wait wait arguments (device_acts log)) (device_acts log)) all)
+behind_step base config log new all (inr (none, inr (still, inl step))) =
+    subst (Behind base) (sym step.2) (behind_shared base (map Happened step.0) log (plain_happened step.0) all)
+behind_step base config log new all (inr (none, inr (still, inr (idle, (c, wait, oldest, for, is))))) =
+    subst (Behind base) (sym is) (behind_ended base c (λ arguments. leaving c (only (failure arguments (late wait))))
+    (core_call_in (unanswered (of c log))) log (λ arguments. tt) all)
+
+-- ---- an event's own acts
+
+behind_none : (log : List Act) → Behind (device_acts log) log
+behind_none log = ([], tt, refl)
+
+behind_abort : (base : List DeviceAct) (aborts : Option ℕ) (log : List Act) → Behind base log → Behind base (abort_acts aborts log ++ log)
+behind_abort base (Some d) log = behind_ended base d (λ arguments. leaving d (only (failure arguments Abort)))
+    (core_call_in (unanswered (of d log))) log (λ arguments. tt)
+behind_abort base None log = λ all. all
+
+behind_turn : (config : Config) (polled c : ℕ) (found : Option (List ℕ)) (request : Option Request) (log : List Act)
+    → Behind (device_acts log) (turn_acts config polled c found request log ++ log)
+behind_turn config polled c (Some bytes) (Some request) log =
+    let effect = request_effect config polled c request (device_acts log) in
+    subst (Behind (device_acts log)) (sym (turn_parts c bytes effect (aborts request (device_acts log)) log))
+    (behind_abort (device_acts log) (aborts request (device_acts log)) (acts_of c effect ++ On c (CallTaken bytes) ∷ log)
+    (behind_effect (device_acts log) c effect (On c (CallTaken bytes) ∷ log) (plain_request config polled c request (device_acts log))
+    ([], tt, refl)))
+behind_turn config polled c (Some bytes) None log = behind_none log
+behind_turn config polled c None (Some request) log = behind_none log
+behind_turn config polled c None None log = behind_none log
+
+behind_refuse : (c : ℕ) (found : Option (List ℕ)) (call : Option CoreCall) (log : List Act)
+    → Behind (device_acts log) (refuse_acts c found call ++ log)
+behind_refuse c (Some bytes) (Some call) log = ([], tt, refl)
+behind_refuse c (Some bytes) None log = behind_none log
+behind_refuse c None (Some call) log = behind_none log
+behind_refuse c None None log = behind_none log
+
+no_tick : (log : List Act) → ticks (device_acts log) ≡ ticks (device_acts log) + 0
+no_tick log = sym (add-zero (ticks (device_acts log)))
+
+-- what is told to channels of a list of acts that an event begins with
+abbrev Begins : PlainEvent → List Act → List Act → Type 0
+Begins event log new = (base : List DeviceAct) × Behind base new
+    × ((told : List ChannelAct) → HearsOf (device_acts log) told → HearsOf base (tells event log ++ told))
+    × (ticks base ≡ ticks (device_acts log) + bit 0 (is_tick event))
+
+begins_dialed : (c : ℕ) (ok : Bool) (call : Option CoreCall) (log : List Act) → core_call_in (unanswered (of c log)) ≡ call
+    → (base : List DeviceAct) × Behind base (acts_of c (connected c ok call) ++ log)
+    × ((told : List ChannelAct) → HearsOf (device_acts log) told → HearsOf base ((cond ok (opened_to c (peer_in call)) []) ++ told))
+    × (ticks base ≡ ticks (device_acts log) + 0)
+begins_dialed c ok None log e =
+    (device_acts log, behind_effect (device_acts log) c (connected c ok None) log tt (behind_none log), by ok, no_tick log)
+  where
+    by : (ok : Bool) (told : List ChannelAct) → HearsOf (device_acts log) told → HearsOf (device_acts log) (cond ok [] [] ++ told)
+    by true told x = x
+    by false told x = x
+begins_dialed c ok (Some call) log e = by ok (peer_by call.arguments)
+  where
+    by : (ok : Bool) (found : Option Peer)
+        → (base : List DeviceAct)
+        × Behind base (acts_of c (effect_of c (λ arguments. leaving c (dialed_to c ok arguments found)) (Some call)) ++ log)
+        × ((told : List ChannelAct) → HearsOf (device_acts log) told → HearsOf base ((cond ok (opened_to c found) []) ++ told))
+        × (ticks base ≡ ticks (device_acts log) + 0)
+    by true (Some one) = (
+      Channel (ChannelOpened c one) ∷ Waited (Left c) ∷ device_acts log,
+      ([], tt, device_effect c (effect_of c (λ arguments. leaving c (dialed_to c true arguments (Some one))) (Some call)) log),
+      (λ told x. (told, x, refl)),
+      no_tick log,
+    )
+    by false (Some one) = (
+      device_acts log,
+      behind_effect (device_acts log) c (effect_of c (λ arguments. leaving c (dialed_to c false arguments (Some one))) (Some call)) log tt
+          (behind_none log),
+      (λ told x. x),
+      no_tick log,
+    )
+    by true None = (
+      device_acts log,
+      behind_effect (device_acts log) c (effect_of c (λ arguments. leaving c (dialed_to c true arguments None)) (Some call)) log tt
+          (behind_none log),
+      (λ told x. x),
+      no_tick log,
+    )
+    by false None = (
+      device_acts log,
+      behind_effect (device_acts log) c (effect_of c (λ arguments. leaving c (dialed_to c false arguments None)) (Some call)) log tt
+          (behind_none log),
+      (λ told x. x),
+      no_tick log,
+    )
+
+begins : (config : Config) (event : PlainEvent) (polled : ℕ) (log : List Act) → Begins event log (own_acts config polled event log ++ log)
+begins config (Open c role) polled log = (device_acts log, ([], tt, refl), (λ told x. x), no_tick log)
+begins config (Bytes c piece) polled log = (device_acts log, ([], tt, refl), (λ told x. x), no_tick log)
+begins config (Turn c) polled log =
+    (device_acts log, (behind_turn config polled c (next_call (of c log)) (next_request (of c log)) log), (λ told x. x), no_tick log)
+begins config (Refuse c) polled log =
+    (device_acts log, (behind_refuse c (next_call (of c log)) (refusable (of c log)) log), (λ told x. x), no_tick log)
+begins config (Took (Conn c) count) polled log = (device_acts log, ([], tt, refl), (λ told x. x), no_tick log)
+begins config (Took (Intr c) count) polled log =
+    (Channel (ChannelTaken c count) ∷ device_acts log, ([], tt, refl), (λ told x. (told, x, refl)), no_tick log)
+begins config (Close (Conn c)) polled log =
+    let adds = Channel (ChannelClosed c) ∷ (map Linked (closing c (link_acts (device_acts log))) ++ Waited (Left c) ∷ []) in (
+      device_acts log,
+      (subst (Behind (device_acts log)) (sym (append_assoc (map OnDevice adds) (On c PortClosed ∷ []) log))
+          (behind_shared (device_acts log) adds (On c PortClosed ∷ log)
+          (plain_join (map Linked (closing c (link_acts (device_acts log)))) (Waited (Left c) ∷ [])
+          (plain_links (closing c (link_acts (device_acts log)))) tt) ([], tt, refl))),
+      (λ told x. x),
+      no_tick log,
+    )
+begins config (Close (Intr c)) polled log = (
+  device_acts log,
+  (behind_shared (device_acts log) (Channel (ChannelClosed c) ∷ []) log tt (behind_none log)),
+  (λ told x. x),
+  no_tick log,
+)
+begins config (Dialed c true) polled log = begins_dialed c true (core_call_in (unanswered (of c log))) log refl
+begins config (Dialed c false) polled log = begins_dialed c false (core_call_in (unanswered (of c log))) log refl
+begins config (Input channel microvolts) polled log = (
+  device_acts log,
+  (behind_shared (device_acts log) (Happened (Scanned (InputTo channel microvolts)) ∷ []) log tt (behind_none log)),
+  (λ told x. x),
+  no_tick log,
+)
+begins config External polled log = (
+  device_acts log,
+  (behind_shared (device_acts log)
+      (map Happened (external_acts (instrument_acts (device_acts log)))) log
+      (plain_happened (external_acts (instrument_acts (device_acts log)))) (behind_none log)),
+  (λ told x. x),
+  no_tick log,
+)
+begins config Tick polled log =
+    let adds = map Happened (tick_acts (instrument_acts (device_acts log))) in (
+      Ticked ∷ device_acts log,
+      subst (Behind (Ticked ∷ device_acts log)) (sym (append_assoc (map OnDevice adds) (OnDevice Ticked ∷ []) log))
+          (behind_shared (Ticked ∷ device_acts log) adds (OnDevice Ticked ∷ log)
+          (plain_happened (tick_acts (instrument_acts (device_acts log)))) ([], tt, refl)),
+      (λ told x. x),
+      refl,
+    )
+
+from_log : (config : Config) (event : PlainEvent) (polled : ℕ) (before log : List Act) (told later : List ChannelAct) (c : ℕ)
+    → HearsOf (device_acts before) told → (n : ℕ) → SettlesIn n config (own_acts config polled event before ++ before) log
+    → HearsOf (device_acts log) later → OnlyAdds c (tells event before ++ told) later
+from_log config event polled before log told later c x n settles y =
+    let start = begins config event polled before in
+    let end = each_settled config (Behind start.0) (behind_step start.0 config) n (own_acts config polled event before ++ before) log
+    start.1 settles in
+    plain_tells c end.0 start.0 (tells event before ++ told) later end.1 (start.2 told x)
+    (subst (λ (acts : List DeviceAct). HearsOf acts later) end.2 y)
+
+pub only_requests : OnlyRequests
+only_requests config event history before log told later c was x is y =
+    let same = one_log config history is.0 before is.4 was in
+    let settles = subst (λ (l : List Act). SettlesIn is.8.0 config (own_acts config is.1 event l ++ l) log) same is.8.1 in
+    from_log config event is.1 before log told later c x is.8.0 settles y
+
+-- ---- and how many milliseconds passed
+
+pub ticks_event : (config : Config) (event : PlainEvent) (polled : ℕ) (before log : List Act) (n : ℕ)
+    → SettlesIn n config (own_acts config polled event before ++ before) log
+    → ticks (device_acts log) ≡ ticks (device_acts before) + bit 0 (is_tick event)
+ticks_event config event polled before log n settles =
+    let start = begins config event polled before in
+    let end = each_settled config (Behind start.0) (behind_step start.0 config) n (own_acts config polled event before ++ before) log
+    start.1 settles in
+    ap ticks end.2 ∙ plain_ticks end.0 start.0 end.1 ∙ start.3

@@ -1,0 +1,132 @@
+-- Each reply answers the call that had no answer until then, and has its xid.
+use Rattle.std.proofs.Common.{◌≡◌, ℕ, zero, suc, ◌≤◌, Bool, true, false, cond, List, [], ◌∷◌, ◌++◌, length, map, flat_map, take, drop, Option, Some, None, refl, sym, ap, subst, ◌∙◌, arith}
+use Rattle.std.specs.Prelude.{Result, Ok, Err, slice_get, ◌||◌}
+use Rattle.std.specs.List.{concat}
+use Rattle.std.specs.Int.{w32, to_be_bytes}
+use Rattle.sv_xdr.specs.Spelling.{Field, Unsigned, Begins}
+use Rattle.sv_xdr.proofs.Fields.{IsBytes}
+use Rattle.sv_xdr.proofs.Spelled.{one_spelling}
+use Rattle.sv_rpc.specs.declared.reply.Reply.{Reply}
+use Rattle.sv_rpc.specs.declared.reply.Reply.TheVariants.{Success, Mismatch, ProgUnavail, ProgMismatch, ProcUnavail, GarbageArgs}
+use Rattle.sv_rpc.specs.declared.call.CallFault.{CallFault}
+use Rattle.sv_rpc.specs.declared.call.CallFault.TheVariants.{BadHeader, Version}
+use Rattle.sv_rpc.specs.Call.{PlainCall, CallIs, call_at}
+use Rattle.sv_rpc.specs.Record.{header_of, fragment, Sent, bytes_of, record_of}
+use Rattle.sv_rpc.specs.Stream.{records_of}
+use Rattle.sv_rpc.proofs.Calls.{call_is}
+use Rattle.sv_rpc.proofs.EveryStream.{every_stream}
+use Rattle.sv_laws.proofs.ReadOn.{no_bytes, bytes_join, bytes_front, bytes_back}
+use Rattle.sv_history.specs.Act.{ConnAct, Opened, Piece, CallTaken, Faulted, Replied, BytesTaken, PortClosed}
+use Rattle.sv_history.specs.Connection.{stream, unanswered, completed, took_no_call, is_busy, next_call}
+use Rattle.sv_history.specs.Reply.{reply_record}
+use Rattle.sv_laws.specs.Laws.{HasXidOf, RepliesMatch}
+use Rattle.sv_laws.proofs.EveryLog.EachAct.{xid_of, IsReplyTo, AllCame, all_came}
+
+-- ---- a call consists of bytes
+
+stream_bytes : (acts : List ConnAct) → AllCame acts → IsBytes (stream acts)
+stream_bytes [] all = no_bytes
+stream_bytes (Opened role ∷ acts) all = no_bytes
+stream_bytes (PortClosed ∷ acts) all = no_bytes
+stream_bytes (Piece bytes ∷ acts) all = bytes_join (stream acts) bytes (stream_bytes acts all.1) all.0.1
+stream_bytes (CallTaken call ∷ acts) all = stream_bytes acts all.1
+stream_bytes (Faulted ∷ acts) all = stream_bytes acts all.1
+stream_bytes (Replied reply ∷ acts) all = stream_bytes acts all.1
+stream_bytes (BytesTaken count ∷ acts) all = stream_bytes acts all.1
+
+text_bytes : (last : Bool) (text : List ℕ) → IsBytes (fragment last text) → IsBytes text
+text_bytes last text fits = bytes_back (header_of last (length text)) text fits
+
+front_bytes : (front : List (List ℕ)) → IsBytes (flat_map (fragment false) front) → IsBytes (concat front)
+front_bytes [] fits = no_bytes
+front_bytes (text ∷ front) fits =
+    let first = bytes_front (fragment false text) (flat_map (fragment false) front) fits in
+    let others = bytes_back (fragment false text) (flat_map (fragment false) front) fits in
+    bytes_join text (concat front) (text_bytes false text first) (front_bytes front others)
+
+record_bytes : (sent : Sent) → IsBytes (bytes_of sent) → IsBytes (record_of sent)
+record_bytes sent fits =
+    let first = bytes_front (flat_map (fragment false) sent.front) (fragment true sent.final) fits in
+    let others = bytes_back (flat_map (fragment false) sent.front) (fragment true sent.final) fits in
+    bytes_join (concat sent.front) sent.final (front_bytes sent.front first) (text_bytes true sent.final others)
+
+some_bytes : (a b : List ℕ) → Some a ≡ Some b → a ≡ b
+some_bytes a b e = cc
+
+taken_bytes : (sent : List Sent) (n : ℕ) (call : List ℕ) → IsBytes (flat_map bytes_of sent)
+    → slice_get (map record_of sent) n ≡ Some call → IsBytes call
+taken_bytes (one ∷ sent) zero call fits e =
+    subst IsBytes (some_bytes (record_of one) call e) (record_bytes one (bytes_front (bytes_of one) (flat_map bytes_of sent) fits))
+taken_bytes (one ∷ sent) (suc n) call fits e = taken_bytes sent n call (bytes_back (bytes_of one) (flat_map bytes_of sent) fits) e
+taken_bytes [] n call fits e = absurd cc
+
+next_by : (b : Bool) (found : Option (List ℕ)) (call : List ℕ) → cond b None found ≡ Some call → found ≡ Some call
+next_by true found call e = absurd cc
+next_by false found call e = e
+
+next_bytes : (acts : List ConnAct) (call : List ℕ) → AllCame acts → next_call acts ≡ Some call → IsBytes call
+next_bytes acts call all next =
+    let s = every_stream (stream acts) (stream_bytes acts all) in
+    let fits : IsBytes (flat_map bytes_of s.sent ++ s.rest) = subst IsBytes s.whole (stream_bytes acts all) in
+    let found = next_by (took_no_call acts || is_busy acts) (slice_get (records_of (stream acts)) (completed acts)) call next in
+    taken_bytes s.sent (completed acts) call (bytes_front (flat_map bytes_of s.sent) s.rest fits)
+    (ap (λ (l : List (List ℕ)). slice_get l (completed acts)) s.records_are ∙ found)
+
+call_bytes : (acts : List ConnAct) (call : List ℕ) → AllCame acts → unanswered acts ≡ Some call → IsBytes call
+call_bytes [] call all busy = absurd cc
+call_bytes (Opened role ∷ acts) call all busy = absurd cc
+call_bytes (PortClosed ∷ acts) call all busy = absurd cc
+call_bytes (Faulted ∷ acts) call all busy = absurd cc
+call_bytes (Replied reply ∷ acts) call all busy = absurd cc
+call_bytes (CallTaken taken ∷ acts) call all busy =
+    subst IsBytes (some_bytes taken call busy) (next_bytes acts taken all.1 all.0.1)
+call_bytes (Piece bytes ∷ acts) call all busy = call_bytes acts call all.1 busy
+call_bytes (BytesTaken count ∷ acts) call all busy = call_bytes acts call all.1 busy
+
+-- ---- it begins with its xid, and so does its reply
+
+xid_begins : (bytes : List ℕ) (found : Result PlainCall CallFault) (xid : ℕ) → CallIs bytes found → xid_of found ≡ Some xid
+    → (after : List ℕ) × Begins bytes (Unsigned xid) after
+xid_begins bytes (Ok call) xid h e =
+    (h.4.0, subst (λ (n : ℕ). Begins bytes (Unsigned n) h.4.0) (let same : call.xid ≡ xid = cc in same) h.4.1)
+xid_begins bytes (Err (Version found)) xid h e =
+    (h.3.0, subst (λ (n : ℕ). Begins bytes (Unsigned n) h.3.0) (let same : found ≡ xid = cc in same) h.3.1)
+xid_begins bytes (Err BadHeader) xid h e = absurd cc
+
+word_front : (xid : ℕ) (after : List ℕ)
+    → (4 ≤ length (to_be_bytes w32 xid ++ after)) × (take 4 (to_be_bytes w32 xid ++ after) ≡ to_be_bytes w32 xid)
+word_front xid after = (omega arith, refl)
+
+call_xid : (call : List ℕ) (xid : ℕ) → IsBytes call → xid_of (call_at call) ≡ Some xid
+    → (4 ≤ length call) × (take 4 call ≡ to_be_bytes w32 xid)
+call_xid call xid fits e =
+    let begins = xid_begins call (call_at call) xid (call_is call fits) e in
+    let front : call ≡ to_be_bytes w32 xid ++ begins.0 =
+    begins.1.2 ∙ ap (λ (l : List ℕ). l ++ begins.0) (one_spelling (Unsigned xid) begins.1.0 begins.1.1) in
+    subst (λ (l : List ℕ). (4 ≤ length l) × (take 4 l ≡ to_be_bytes w32 xid)) (sym front) (word_front xid begins.0)
+
+reply_xid : (xid : ℕ) (answer : Reply) (fields : List Field) → take 4 (drop 4 (reply_record xid answer fields)) ≡ to_be_bytes w32 xid
+reply_xid xid Success fields = refl
+reply_xid xid Mismatch fields = refl
+reply_xid xid ProgUnavail fields = refl
+reply_xid xid (ProgMismatch low high) fields = refl
+reply_xid xid ProcUnavail fields = refl
+reply_xid xid GarbageArgs fields = refl
+
+pub has_xid : (call reply : List ℕ) → IsBytes call → IsReplyTo call reply → HasXidOf call reply
+has_xid call reply fits (xid, answer, fields, is, same) =
+    let begins = call_xid call xid fits is in (
+      begins.0,
+      ap (λ (l : List ℕ). take 4 (drop 4 l)) same ∙ reply_xid xid answer fields ∙ sym begins.1,
+    )
+
+-- ---- at each place
+
+came_before : (newer older : List ConnAct) → AllCame (newer ++ older) → AllCame older
+came_before [] older all = all
+came_before (act ∷ newer) older all = came_before newer older all.1
+
+pub replies_match : RepliesMatch
+replies_match config history log c newer older reply was is =
+    let all = came_before newer (Replied reply ∷ older) (subst AllCame is (all_came config history log c was)) in
+    (all.0.0, all.0.1, has_xid all.0.0 reply (call_bytes older all.0.0 all.1 all.0.1) all.0.2)

@@ -1,0 +1,38 @@
+-- Nothing happens on a connection that isn't open.
+use Rattle.std.proofs.Common.{◌≡◌, ℕ, true, false, List, [], ◌∷◌, Some, None, refl, sym, ap, ◌∙◌}
+use Rattle.std.specs.Prelude.{is_some}
+use Rattle.sv_history.specs.Act.{ConnAct, Opened, Piece, CallTaken, Faulted, Replied, BytesTaken, PortClosed, of}
+use Rattle.sv_history.specs.Connection.{open_role, is_open, unanswered}
+use Rattle.sv_laws.proofs.Brought.{IsClear, ShutIsClear}
+use Rattle.sv_laws.proofs.EveryLog.EachAct.{AllCame, all_came}
+
+-- a call waits for its answer on open ones alone
+pub clear_free : (acts : List ConnAct) → IsClear acts → unanswered acts ≡ None
+clear_free [] h = refl
+clear_free (PortClosed ∷ acts) h = refl
+clear_free (Opened role ∷ acts) h = absurd h
+clear_free (Piece bytes ∷ acts) h = absurd h
+clear_free (CallTaken call ∷ acts) h = absurd h
+clear_free (Faulted ∷ acts) h = absurd h
+clear_free (Replied bytes ∷ acts) h = absurd h
+clear_free (BytesTaken count ∷ acts) h = absurd h
+
+-- so acts that came on an open one, or for a call, came on none that is shut
+not_open : {A : Type 0} (acts : List ConnAct) → open_role acts ≡ None → is_open acts ≡ true → A
+not_open {A} acts shut opened = absurd (let z : false ≡ true = sym (ap is_some shut) ∙ opened in cc)
+
+not_called : {A : Type 0} (acts : List ConnAct) (call : List ℕ) → IsClear acts → unanswered acts ≡ Some call → A
+not_called {A} acts call clear busy = absurd (let z : None ≡ Some call = sym (clear_free acts clear) ∙ busy in cc)
+
+all_clear : (acts : List ConnAct) → AllCame acts → open_role acts ≡ None → IsClear acts
+all_clear [] all shut = tt
+all_clear (PortClosed ∷ acts) all shut = tt
+all_clear (Opened role ∷ acts) all shut = absurd cc
+all_clear (Piece bytes ∷ acts) all shut = not_open acts shut all.0.0
+all_clear (CallTaken call ∷ acts) all shut = not_open acts shut all.0.0
+all_clear (BytesTaken count ∷ acts) all shut = not_open acts shut all.0
+all_clear (Faulted ∷ acts) all shut = not_called acts all.0.0 (all_clear acts all.1 shut) all.0.1
+all_clear (Replied reply ∷ acts) all shut = not_called acts all.0.0 (all_clear acts all.1 shut) all.0.1
+
+pub shut_is_clear : ShutIsClear
+shut_is_clear config history log c was = all_clear (of c log) (all_came config history log c was)

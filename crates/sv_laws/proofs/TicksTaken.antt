@@ -1,0 +1,49 @@
+-- A millisecond is counted while the clock isn't at its end, by how many were.
+use Rattle.std.proofs.Common.{◌≡◌, ℕ, ◌+◌, Bool, true, false, cond, eqb, List, [], ◌∷◌, length, filter, Some, refl, sym, ap, ◌∙◌, arith, eq-eqb}
+use Rattle.std.specs.Prelude.{Result, Ok, Err}
+use Rattle.std.proofs.lemmas.Bool.{ne_eqb}
+use Rattle.sv_scan.specs.Condition.{bit}
+use Rattle.sv_links.specs.Channels.{ChannelAct}
+use Rattle.sv_instrument.specs.Stimulus.{tick_acts}
+use Rattle.sv_history.specs.declared.event.Config.{Config}
+use Rattle.sv_history.specs.declared.event.Did.{Did}
+use Rattle.sv_history.specs.declared.event.Refused.{Refused}
+use Rattle.sv_history.specs.declared.event.Refused.TheVariants.{TimeOver}
+use Rattle.sv_history.specs.Event.{PlainEvent, Tick}
+use Rattle.sv_history.specs.Act.{Act, device_acts, instrument_acts, ticks}
+use Rattle.sv_history.specs.History.{refusal, last_clock, history_after, IsLogOf, AnswersBy}
+use Rattle.sv_laws.proofs.Brought.{is_tick, TicksTaken}
+use Rattle.sv_laws.proofs.OnlyRequests.{ticks_event}
+use Rattle.sv_laws.proofs.NothingLost.{is_done, some_none, happened_wants}
+
+counted : (b : Bool) (event : PlainEvent) (events : List PlainEvent)
+    → length (cond b (event ∷ events) events) ≡ length events + bit 0 b
+counted true event events = omega arith
+counted false event events = omega arith
+
+pub ticks_count : (config : Config) (history : List PlainEvent) (log : List Act) → IsLogOf config history log
+    → ticks (device_acts log) ≡ length (filter is_tick history)
+ticks_count config [] log (given, none) = ap (λ (l : List Act). ticks (device_acts l)) none
+ticks_count config (event ∷ history) log is =
+    ticks_event config event is.1 is.0 log is.8.0 is.8.1
+    ∙ ap (λ (n : ℕ). n + bit 0 (is_tick event)) (ticks_count config history is.0 is.4)
+    ∙ sym (counted (is_tick event) event (filter is_tick history))
+
+over : (config : Config) (told : List ChannelAct) (log : List Act) (history : List PlainEvent) (result : Result Did Refused)
+    → refusal config told Tick log ≡ Some TimeOver → AnswersBy config told Tick log result → history_after Tick result history ≡ history
+over config told log history (Ok what) full h = some_none _ TimeOver h.0 full
+over config told log history (Err refused) full h = refl
+
+pub ticks_taken : TicksTaken
+ticks_taken config history log result was (told, hears, h) =
+    let count = ticks_count config history log was in (
+      (λ lt.
+          let ne : eqb (config.clock + ticks (device_acts log)) last_clock ≡ false =
+          ne_eqb (config.clock + ticks (device_acts log)) last_clock (λ e. absurd (omega (arith, lt, count, e))) in
+          is_done config told Tick log result (rw ne refl) refl
+          (λ polled. happened_wants (tick_acts (instrument_acts (device_acts log)))) h),
+      (λ full.
+          let same : eqb (config.clock + ticks (device_acts log)) last_clock ≡ true =
+          eq-eqb (config.clock + ticks (device_acts log)) last_clock (ap (λ (n : ℕ). config.clock + n) count ∙ full) in
+          over config told log history result (rw same refl) h),
+    )

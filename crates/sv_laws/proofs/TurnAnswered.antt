@@ -1,0 +1,156 @@
+-- A call that a Turn takes is answered; or it is no call; or it waits, for what isn't there.
+use Rattle.std.proofs.Common.{◌≡◌, ℕ, true, List, ◌∷◌, ◌++◌, Option, Some, None, refl, sym, ap, subst, ◌∙◌, inl, inr, ◌⊎◌}
+use Rattle.std.specs.Prelude.{map, is_some, Err}
+use Rattle.std.proofs.lemmas.Bool.{cases_eq}
+use Rattle.sv_rpc.specs.declared.call.CallFault.TheVariants.{BadHeader}
+use Rattle.sv_rpc.specs.Call.{call_at}
+use Rattle.sv_vxi.specs.declared.error_code.ErrorCode.TheVariants.{Abort}
+use Rattle.sv_vxi.specs.Arguments.{Arguments}
+use Rattle.sv_vxi.specs.Results.{Outcome}
+use Rattle.sv_links.specs.declared.waiting.Wait.{Wait}
+use Rattle.sv_links.specs.Waiting.{waits}
+use Rattle.sv_history.specs.declared.event.Config.{Config}
+use Rattle.sv_history.specs.declared.event.Role.{Role}
+use Rattle.sv_history.specs.Event.{PlainEvent, Turn}
+use Rattle.sv_history.specs.Act.{Act, ConnAct, DeviceAct, CallTaken, Faulted, Replied, Happened, On, OnDevice, of, device_acts, wait_acts}
+use Rattle.sv_history.specs.Connection.{open_role, is_open, unanswered, next_call}
+use Rattle.sv_history.specs.CallOutcome.{CallOutcome, only}
+use Rattle.sv_history.specs.CoreCall.{CoreCall, failure}
+use Rattle.sv_history.specs.Effect.{acts_of, replies, result_reply}
+use Rattle.sv_history.specs.Request.{Request, NoCall, Decided, CoreRequest, AbortRequest, PortRequest, core_call_in, request_of, asked, next_request}
+use Rattle.sv_history.specs.Execution.{request_effect, aborts}
+use Rattle.sv_history.specs.Resuming.{effect_of, leaving, next_wait, continued, late}
+use Rattle.sv_history.specs.Settling.{IsNext}
+use Rattle.sv_history.specs.History.{abort_acts, turn_acts, own_acts, IsLogOf}
+use Rattle.sv_laws.specs.Laws.{TurnAnswered}
+use Rattle.sv_history.proofs.Projections.{of_mine, of_shared, of_effect, others_effect}
+use Rattle.sv_laws.proofs.OneLog.{one_log}
+use Rattle.sv_laws.proofs.NoneLate.{none_late}
+use Rattle.sv_laws.proofs.EveryLog.EachEvent.{each_settled, turn_parts}
+use Rattle.sv_laws.proofs.EveryLog.EachAct.{xid_of, xid_in, none_bad, xid_next, open_unless}
+use Rattle.sv_laws.proofs.EveryLog.BusyWaits.{busy_waits}
+
+-- ---- the connection of the call
+
+-- The call is answered, or is no call, or has no answer yet.
+abbrev Stands : List ℕ → List ConnAct → List ConnAct → Type 0
+Stands call before acts = ((reply : List ℕ) × (acts ≡ Replied reply ∷ CallTaken call ∷ before))
+    ⊎ ((acts ≡ Faulted ∷ CallTaken call ∷ before) × (call_at call ≡ Err BadHeader)) ⊎ (acts ≡ CallTaken call ∷ before)
+
+-- what is recorded of a suspended call leaves that so
+stands_replies : (xid : ℕ) (result : Option Outcome) (call : List ℕ) (before acts : List ConnAct) → acts ≡ CallTaken call ∷ before
+    → Stands call before (replies xid result ++ acts)
+stands_replies xid (Some result) call before acts is =
+    inl (result_reply xid result, ap (λ (l : List ConnAct). Replied (result_reply xid result) ∷ l) is)
+stands_replies xid None call before acts is = inr (inr is)
+
+stands_ended : (c : ℕ) (does : Arguments → CallOutcome) (call : List ℕ) (before acts : List ConnAct) → Stands call before acts
+    → Stands call before ((effect_of c does (core_call_in (unanswered acts))).own ++ acts)
+stands_ended c does call before acts (inl (reply, is)) =
+    subst (λ (l : List ConnAct). Stands call before ((effect_of c does (core_call_in (unanswered l))).own ++ l)) (sym is)
+    (inl (reply, refl))
+stands_ended c does call before acts (inr (inl (is, none))) =
+    subst (λ (l : List ConnAct). Stands call before ((effect_of c does (core_call_in (unanswered l))).own ++ l)) (sym is)
+    (inr (inl (refl, none)))
+stands_ended c does call before acts (inr (inr is)) = by (core_call_in (unanswered acts))
+  where
+    by : (found : Option CoreCall) → Stands call before ((effect_of c does found).own ++ acts)
+    by (Some found) = stands_replies found.xid (does found.arguments).result call before acts is
+    by None = inr (inr is)
+
+-- ---- in a log
+
+abbrev StandsIn : ℕ → List ℕ → List ConnAct → List Act → Type 0
+StandsIn c call before log = Stands call before (of c log)
+
+in_shared : (c : ℕ) (call : List ℕ) (before : List ConnAct) (adds : List DeviceAct) (log : List Act) → StandsIn c call before log
+    → StandsIn c call before (map OnDevice adds ++ log)
+in_shared c call before adds log h = subst (Stands call before) (sym (of_shared c adds log)) h
+
+in_ended : (c : ℕ) (call : List ℕ) (before : List ConnAct) (d : ℕ) (does : Arguments → CallOutcome) (log : List Act)
+    → StandsIn c call before log → StandsIn c call before (acts_of d (effect_of d does (core_call_in (unanswered (of d log)))) ++ log)
+in_ended c call before d does log h =
+    let effect = effect_of d does (core_call_in (unanswered (of d log))) in
+    elim (cases_eq c d) [
+      | inl e ↦ subst (λ (n : ℕ). Stands call before (of n (acts_of d effect ++ log))) (sym e)
+          (subst (Stands call before) (sym (of_effect d effect log))
+          (stands_ended d does call before (of d log) (subst (λ (n : ℕ). Stands call before (of n log)) e h)))
+      | inr ne ↦ subst (Stands call before) (sym (others_effect d c effect log ne)) h
+    ]
+
+in_step : (c : ℕ) (call : List ℕ) (before : List ConnAct) (config : Config) (log new : List Act) → StandsIn c call before log
+    → IsNext config log new → StandsIn c call before new
+in_step c call before config log new h (inl fires) =
+    subst (StandsIn c call before) (sym fires.2) (in_shared c call before (map Happened fires.0) log h)
+in_step c call before config log new h (inr (none, inl (d, wait, polled, oldest, for, said, is))) =
+    subst (StandsIn c call before) (sym is) (in_ended c call before d (λ arguments. continued config polled d arguments
+    (next_wait wait arguments (device_acts log)) (device_acts log)) log h)
+in_step c call before config log new h (inr (none, inr (still, inl step))) =
+    subst (StandsIn c call before) (sym step.2) (in_shared c call before (map Happened step.0) log h)
+in_step c call before config log new h (inr (none, inr (still, inr (idle, (d, wait, oldest, for, is))))) =
+    subst (StandsIn c call before) (sym is) (in_ended c call before d (λ arguments. leaving d (only (failure arguments (late wait)))) log h)
+
+-- ---- the Turn
+
+in_abort : (c : ℕ) (call : List ℕ) (before : List ConnAct) (aborts : Option ℕ) (log : List Act) → StandsIn c call before log
+    → StandsIn c call before (abort_acts aborts log ++ log)
+in_abort c call before (Some d) log h = in_ended c call before d (λ arguments. leaving d (only (failure arguments Abort))) log h
+in_abort c call before None log h = h
+
+-- what its request comes to
+stands_request : (config : Config) (polled c : ℕ) (call : List ℕ) (before : List ConnAct) (request : Request) (acts : List DeviceAct)
+    → xid_of (call_at call) ≡ xid_in request
+    → Stands call before ((request_effect config polled c request acts).own ++ CallTaken call ∷ before)
+stands_request config polled c call before NoCall acts is = inr (inl (refl, none_bad (call_at call) is))
+stands_request config polled c call before (Decided xid reply) acts is = inl (_, refl)
+stands_request config polled c call before (CoreRequest asked) acts is =
+    stands_replies asked.xid _ call before (CallTaken call ∷ before) refl
+stands_request config polled c call before (AbortRequest xid lid) acts is = inl (_, refl)
+stands_request config polled c call before (PortRequest xid args) acts is = inl (_, refl)
+
+in_turn : (config : Config) (polled c : ℕ) (call : List ℕ) (request : Request) (log : List Act) → next_call (of c log) ≡ Some call
+    → next_request (of c log) ≡ Some request → StandsIn c call (of c log) (turn_acts config polled c (Some call) (Some request) log ++ log)
+in_turn config polled c call request log next asks =
+    let effect = request_effect config polled c request (device_acts log) in
+    let own : of c (acts_of c effect ++ On c (CallTaken call) ∷ log) ≡ effect.own ++ CallTaken call ∷ of c log =
+    of_effect c effect (On c (CallTaken call) ∷ log) ∙ ap (λ (l : List ConnAct). effect.own ++ l) (of_mine c (CallTaken call) log) in
+    subst (StandsIn c call (of c log)) (sym (turn_parts c call effect (aborts request (device_acts log)) log))
+    (in_abort c call (of c log) (aborts request (device_acts log)) _ (subst (Stands call (of c log)) (sym own)
+    (stands_request config polled c call (of c log) request (device_acts log) (xid_next (of c log) call request next asks))))
+
+asks_some : (acts : List ConnAct) (call : List ℕ) → is_open acts ≡ true → next_call acts ≡ Some call
+    → (request : Request) × (next_request acts ≡ Some request)
+asks_some acts call opened next = by (open_role acts) (next_call acts) opened next
+  where
+    by : (role : Option Role) (found : Option (List ℕ)) → is_some role ≡ true → found ≡ Some call
+        → (request : Request) × (asked role found ≡ Some request)
+    by (Some role) (Some bytes) o e = (request_of role (call_at bytes), refl)
+    by (Some role) None o e = absurd cc
+    by None found o e = absurd cc
+
+-- one that has no answer waits
+waits_on : (config : Config) (history : List PlainEvent) (log : List Act) (c : ℕ) (call : List ℕ) → IsLogOf config history log
+    → unanswered (of c log) ≡ Some call → (wait : Wait) × (waits c (wait_acts (device_acts log)) ≡ Some wait)
+waits_on config history log c call was busy = by (waits c (wait_acts (device_acts log))) refl
+  where
+    by : (found : Option Wait) → waits c (wait_acts (device_acts log)) ≡ found → (wait : Wait) × (found ≡ Some wait)
+    by (Some wait) e = (wait, refl)
+    by None e = absurd (let z : None ≡ Some call = sym (busy_waits config history log was c e) ∙ busy in cc)
+
+pub turn_answered : TurnAnswered
+turn_answered config history before log c call was now next =
+    let same = one_log config history now.0 before now.4 was in
+    let first : next_call (of c now.0) ≡ Some call = ap (λ (l : List Act). next_call (of c l)) same ∙ next in
+    let request = asks_some (of c now.0) call (open_unless c now.0 _ now.6) first in
+    let asks : asked (open_role (of c now.0)) (Some call) ≡ Some request.0 = ap (asked (open_role (of c now.0))) (sym first) ∙ request.1 in
+    let begins : StandsIn c call (of c now.0) (own_acts config now.1 (Turn c) now.0 ++ now.0) =
+    rw (first, asks) (in_turn config now.1 c call request.0 now.0 first request.1) in
+    let ends = each_settled config (StandsIn c call (of c now.0)) (in_step c call (of c now.0) config) now.8.0
+    (own_acts config now.1 (Turn c) now.0 ++ now.0) log begins now.8.1 in
+    elim (subst (λ (l : List Act). Stands call (of c l) (of c log)) same ends) [
+      | inl answered ↦ inl answered
+      | inr (inl faulted) ↦ inr (inl faulted)
+      | inr (inr is) ↦
+          let wait = waits_on config (Turn c ∷ history) log c call now (ap unanswered is) in
+          inr (inr (is, wait.0, wait.1, (none_late config (Turn c ∷ history) log c now).1))
+    ]

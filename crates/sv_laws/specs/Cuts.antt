@@ -1,0 +1,103 @@
+-- Cuts: where writes, the bytes that come, and the records in them are cut changes nothing that is sent on any port (VXI-11 revision 1.0,
+-- section B.6, device_write; RFC 5531, section 11: record marking).
+use Rattle.std.specs.Prelude.{◌≡◌, ◌≢◌, ◌↔◌, not, ℕ, pos, Bool, true, false, List, [], ◌∷◌, ◌++◌, length, drop, filter, map, Some}
+use Rattle.std.specs.Int.{bit_at}
+use Rattle.std.specs.List.{AllByRecursion}
+use Rattle.sv_rpc.specs.Stream.{reading, records_of, tail_of}
+use Rattle.sv_vxi.specs.declared.error_code.ErrorCode.TheVariants.{NoError}
+use Rattle.sv_vxi.specs.Arguments.{DeviceWrite}
+use Rattle.sv_vxi.specs.Results.{Size}
+use Rattle.sv_links.specs.declared.waiting.Wait.TheVariants.{Input as ForInput, Response as ForResponse}
+use Rattle.sv_links.specs.Waiting.{WaitAct, waits}
+use Rattle.sv_history.specs.declared.event.Config.{Config}
+use Rattle.sv_history.specs.declared.event.Port.{Port}
+use Rattle.sv_history.specs.declared.event.Port.TheVariants.{Conn}
+use Rattle.sv_history.specs.Event.{PlainEvent, Bytes, Turn}
+use Rattle.sv_history.specs.Act.{Act, ConnAct, Piece, CallTaken, Replied, of, device_acts, wait_acts}
+use Rattle.sv_history.specs.Connection.{stream, completed}
+use Rattle.sv_history.specs.Effect.{result_reply}
+use Rattle.sv_history.specs.Request.{core_call}
+use Rattle.sv_history.specs.History.{IsLogOf}
+use Rattle.sv_laws.specs.Adding.{Sends, Adds}
+
+-- ---- writes
+
+-- Bytes come on this connection, or its next call is taken.
+abbrev pub IsFeeding : ℕ → PlainEvent → Type 0
+IsFeeding c (Bytes d piece) = d ≡ c
+IsFeeding c (Turn d) = d ≡ c
+IsFeeding c _ = ⊥
+
+-- a connection's acts beside the bytes that came
+abbrev pub is_piece : ConnAct → Bool
+is_piece (Piece bytes) = true
+is_piece _ = false
+
+abbrev pub without_pieces : List ConnAct → List ConnAct
+without_pieces = filter (λ act. not (is_piece act))
+
+-- The newest acts are a write of these bytes on a link, with the END flag or without it: it was taken, and answered without error and with
+-- all its bytes.
+abbrev pub IsWritten : ℕ → List ℕ → Bool → List ConnAct → List ConnAct → Type 0
+IsWritten lid bytes ended before acts = (xid io_timeout lock_timeout flags : ℕ) × (call : List ℕ)
+    × (core_call call ≡ Some (record { xid = xid; arguments = DeviceWrite (pos lid) io_timeout lock_timeout flags bytes }))
+    × ((bit_at flags 3 ≡ 1) ↔ (ended ≡ true))
+    × (acts ≡ Replied (result_reply xid (Size NoError (length bytes))) ∷ CallTaken call ∷ before)
+
+-- Behind a history such events of a connection lead from its log to another, and leave no whole record.
+pub record Feeds (c : ℕ) (config : Config) (past events : List PlainEvent) (before log : List Act) : Type 0 where
+  pub feeding : AllByRecursion (IsFeeding c) events
+  pub was : IsLogOf config past before
+  pub is_log : IsLogOf config (events ++ past) log
+  pub none_left : drop (completed (of c log)) (records_of (stream (of c log))) ≡ []
+
+-- No read or write waits for input or output.
+abbrev pub AllRest : List WaitAct → Type 0
+AllRest acts = (c : ℕ) → (waits c acts ≢ Some ForInput) × (waits c acts ≢ Some ForResponse)
+
+-- Behind a history the one events are a write of x and y, and the other events a write of x without the END flag, and then one of y; both
+-- leave the same unfinished record.
+pub record AreCut (c lid : ℕ) (x y : List ℕ) (ended : Bool) (config : Config) (past one two : List PlainEvent) : Type 0 where
+  pub before : List Act
+  pub whole : List Act
+  pub cut : List Act
+  pub middle : List ConnAct
+  pub no_line : AllByRecursion (λ b. b ≢ 10) x
+  pub rest : AllRest (wait_acts (device_acts before))
+  pub one_feeds : Feeds c config past one before whole
+  pub two_feeds : Feeds c config past two before cut
+  pub same_tail : tail_of (stream (of c whole)) ≡ tail_of (stream (of c cut))
+  pub writes_both : IsWritten lid (x ++ y) ended (without_pieces (of c before)) (without_pieces (of c whole))
+  pub writes_first : IsWritten lid x false (without_pieces (of c before)) middle
+  pub writes_second : IsWritten lid y ended middle (without_pieces (of c cut))
+
+-- Then what comes behind them adds the same bytes to each port, if both are histories; and they themselves do to each port but the
+-- connection.
+abbrev pub WritesCut : Type 0
+WritesCut = (c lid : ℕ) (x y : List ℕ) (ended : Bool) (config : Config) (past one two events : List PlainEvent) (log other : List Act)
+    → AreCut c lid x y ended config past one two → IsLogOf config (events ++ (one ++ past)) log
+    → IsLogOf config (events ++ (two ++ past)) other → (port : Port) (bytes : List ℕ)
+    → (Adds port config (one ++ past) events bytes ↔ Adds port config (two ++ past) events bytes)
+    × (port ≢ Conn c → Adds port config past one bytes ↔ Adds port config past two bytes)
+
+-- ---- pieces and fragments
+
+-- all bytes of pieces, the newest in front
+abbrev pub joined : List (List ℕ) → List ℕ
+joined [] = []
+joined (piece ∷ pieces) = joined pieces ++ piece
+
+-- Two histories differ only in how bytes that come next to one another on a connection are cut into pieces, and their records into
+-- fragments: of the stream up to there the same is read, whole records and an unfinished one.
+pub data Recut (config : Config) : List PlainEvent → List PlainEvent → Type 0 where
+  Nothing : Recut config [] []
+  Same : {past other : List PlainEvent} (event : PlainEvent) → Recut config past other → Recut config (event ∷ past) (event ∷ other)
+  Pieces : {past other : List PlainEvent} (c : ℕ) (pieces others : List (List ℕ)) (log : List Act) → IsLogOf config past log
+      → reading (stream (of c log) ++ joined pieces) ≡ reading (stream (of c log) ++ joined others) → Recut config past other
+      → Recut config (map (Bytes c) pieces ++ past) (map (Bytes c) others ++ other)
+
+-- Then both send the same bytes on each port.
+abbrev pub RecordsCut : Type 0
+RecordsCut = (config : Config) (history other : List PlainEvent) (log also : List Act) → Recut config history other
+    → IsLogOf config history log → IsLogOf config other also → (port : Port) (bytes : List ℕ)
+    → Sends port config history bytes ↔ Sends port config other bytes

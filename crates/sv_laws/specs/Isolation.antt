@@ -1,0 +1,83 @@
+-- Isolation: while a link holds the lock, what other connections do changes nothing that is sent on its connection and on its interrupt
+-- channel (VXI-11 revision 1.0, section B.4.4: device locking).
+use Rattle.std.specs.Prelude.{◌≡◌, ◌≢◌, ◌↔◌, ◌==◌, not, ℕ, Bool, false, ⊤, List, [], ◌∷◌, ◌++◌, filter, Option, Some, None}
+use Rattle.sv_vxi.specs.Arguments.{is_create_link}
+use Rattle.sv_links.specs.declared.waiting.Wait.TheVariants.{Input as ForInput, Response as ForResponse}
+use Rattle.sv_links.specs.Links.{owner, holder}
+use Rattle.sv_links.specs.Waiting.{WaitAct, waits}
+use Rattle.sv_history.specs.declared.event.Config.{Config}
+use Rattle.sv_history.specs.declared.event.Port.{Port}
+use Rattle.sv_history.specs.Event.{PlainEvent, Open, Bytes, Turn, Refuse, Took, Close, Dialed, Input, External, Tick, port_number}
+use Rattle.sv_history.specs.Act.{Act, of, device_acts, link_acts, wait_acts}
+use Rattle.sv_history.specs.CoreCall.{lid_of}
+use Rattle.sv_history.specs.Request.{Request, CoreRequest, AbortRequest, next_request}
+use Rattle.sv_history.specs.AbortChannel.{owner_of}
+use Rattle.sv_history.specs.History.{IsLogOf}
+use Rattle.sv_laws.specs.Adding.{Adds}
+
+-- whether an event is of another connection than this, or of the interrupt channel of another
+abbrev pub is_foreign : ℕ → PlainEvent → Bool
+is_foreign c (Open d role) = not (d == c)
+is_foreign c (Bytes d piece) = not (d == c)
+is_foreign c (Turn d) = not (d == c)
+is_foreign c (Refuse d) = not (d == c)
+is_foreign c (Took port count) = not (port_number port == c)
+is_foreign c (Close port) = not (port_number port == c)
+is_foreign c (Dialed d ok) = not (d == c)
+is_foreign c (Input channel microvolts) = false
+is_foreign c External = false
+is_foreign c Tick = false
+
+-- the events without those
+abbrev pub own_events : ℕ → List PlainEvent → List PlainEvent
+own_events c = filter (λ event. not (is_foreign c event))
+
+-- the link that a request names where it is a device_abort, and whether it is a create_link
+abbrev pub aborted_link : Option Request → Option ℕ
+aborted_link (Some (AbortRequest xid lid)) = lid_of (Some lid)
+aborted_link _ = None
+
+abbrev pub makes_link : Option Request → Bool
+makes_link (Some (CoreRequest call)) = is_create_link call.arguments
+makes_link _ = false
+
+-- The event takes no device_abort that names a link of this connection, and neither takes nor refuses a create_link on it.
+abbrev pub IsMild : ℕ → PlainEvent → List Act → Type 0
+IsMild c (Turn d) log = (owner_of (aborted_link (next_request (of d log))) (device_acts log) ≢ Some c)
+    × (d ≡ c → makes_link (next_request (of d log)) ≡ false)
+IsMild c (Refuse d) log = d ≡ c → makes_link (next_request (of d log)) ≡ false
+IsMild c _ log = ⊤
+
+-- Behind a history each of these events is such, in the log of what is in front of it.
+abbrev pub EachIs : (PlainEvent → List Act → Type 0) → Config → List PlainEvent → List PlainEvent → Type 0
+EachIs IsSuch config past [] = ⊤
+EachIs IsSuch config past (event ∷ events) =
+    EachIs IsSuch config past events × ((log : List Act) → IsLogOf config (events ++ past) log → IsSuch event log)
+
+-- The link holds the lock at each place from the end of one log to that of another.
+abbrev pub HoldsFrom : ℕ → List Act → List Act → Type 0
+HoldsFrom lid before log = (later since : List Act) → log ≡ later ++ (since ++ before)
+    → holder (link_acts (device_acts (since ++ before))) ≡ Some lid
+
+-- No read or write of another connection waits for input or output.
+abbrev pub OthersRest : ℕ → List WaitAct → Type 0
+OthersRest c acts = (d : ℕ) → d ≢ c → (waits d acts ≢ Some ForInput) × (waits d acts ≢ Some ForResponse)
+
+-- Behind a history these events come, through which a link of this connection holds the lock.
+pub record IsLocked (c lid : ℕ) (config : Config) (past events : List PlainEvent) : Type 0 where
+  pub before : List Act
+  pub log : List Act
+  pub was : IsLogOf config past before
+  pub is_log : IsLogOf config (events ++ past) log
+  pub owns : owner lid (link_acts (device_acts before)) ≡ Some c
+  pub holds : HoldsFrom lid before log
+  pub rest : OthersRest c (wait_acts (device_acts before))
+  pub mild : EachIs (IsMild c) config past events
+
+-- Then the events without those of other connections make a history too, and both add the same bytes to the connection and to its interrupt
+-- channel.
+abbrev pub Isolation : Type 0
+Isolation = (c lid : ℕ) (config : Config) (past events : List PlainEvent) → IsLocked c lid config past events
+    → ((log : List Act) × IsLogOf config (own_events c events ++ past) log)
+    × ((port : Port) (bytes : List ℕ) → port_number port ≡ c
+    → Adds port config past events bytes ↔ Adds port config past (own_events c events) bytes)

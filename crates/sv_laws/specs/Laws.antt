@@ -1,0 +1,92 @@
+-- Laws of the whole, over the definitions alone.
+use Rattle.std.specs.Prelude.{◌≡◌, ◌⊎◌, ℕ, ◌+◌, ◌<◌, ◌≤◌, Bool, true, false, List, [], ◌∷◌, ◌++◌, length, take, drop, replicate, Some, None, is_some, Result, Ok, Err, ⊤}
+use Rattle.sv_rpc.specs.declared.call.CallFault.TheVariants.{BadHeader}
+use Rattle.sv_rpc.specs.Call.{call_at}
+use Rattle.sv_links.specs.declared.waiting.Wait.{Wait}
+use Rattle.sv_links.specs.Channels.{ChannelAct}
+use Rattle.sv_links.specs.Waiting.{waits, IsExpired}
+use Rattle.sv_history.specs.declared.event.Config.{Config}
+use Rattle.sv_history.specs.declared.event.Dial.{Dial}
+use Rattle.sv_history.specs.declared.event.Did.{Did}
+use Rattle.sv_history.specs.declared.event.Did.TheVariants.{Done}
+use Rattle.sv_history.specs.declared.event.Refused.{Refused}
+use Rattle.sv_history.specs.Event.{PlainEvent, Open, Bytes, Turn, Took, Close, Dialed, Tick, Input, External, port_number}
+use Rattle.sv_history.specs.Act.{Act, ConnAct, Opened, CallTaken, Faulted, Replied, PortClosed, Ticked, OnDevice, of, device_acts, wait_acts, ticks}
+use Rattle.sv_history.specs.Connection.{is_open, unanswered, completed, next_call, room, waiting_on}
+use Rattle.sv_history.specs.Interrupts.{dial_of}
+use Rattle.sv_history.specs.Requests.{HearsOf}
+use Rattle.sv_history.specs.Settling.{CanResume}
+use Rattle.sv_history.specs.Still.{IsStill}
+use Rattle.sv_history.specs.History.{is_port_shut, input_refusal, last_clock, IsLogOf, Answers}
+
+-- A history has at most one log.
+abbrev pub OneLog : Type 0
+OneLog = (config : Config) (history : List PlainEvent) (a b : List Act) → IsLogOf config history a → IsLogOf config history b → a ≡ b
+
+-- While nothing waits for time, milliseconds only count: that they passed is all that the log gains, unless the clock comes to its end.
+abbrev pub TimeOnlyCounts : Type 0
+TimeOnlyCounts = (config : Config) (history : List PlainEvent) (log : List Act) (most : ℕ) → IsLogOf config history log
+    → IsStill most config (device_acts log) → config.clock + ticks (device_acts log) + most ≤ last_clock
+    → IsLogOf config (replicate most Tick ++ history) (replicate most (OnDevice Ticked) ++ log)
+
+-- Between two events no call waits past its deadline, and none waits for what is there (VXI-11 revision 1.0, section B.4.4).
+abbrev pub NoneLate : Type 0
+NoneLate = (config : Config) (history : List PlainEvent) (log : List Act) (c : ℕ) → IsLogOf config history log
+    → (IsExpired (config.clock + ticks (device_acts log)) (wait_acts (device_acts log)) c → ⊥) × (CanResume (device_acts log) c → ⊥)
+
+-- An event that suits what the server answers when it is asked.
+abbrev pub Suits : PlainEvent → List ChannelAct → List Act → Type 0
+Suits (Open c role) told log = (c < 16) × (is_open (of c log) ≡ false)
+Suits (Bytes c piece) told log = (c < 16) × (0 < room (of c log)) × (length piece ≤ room (of c log))
+Suits (Took port n) told log = (port_number port < 16) × (0 < length (waiting_on told port log)) × (n ≤ length (waiting_on told port log))
+Suits (Close port) told log = is_port_shut port log ≡ false
+Suits (Dialed c ok) told log = (c < 16) × (dial : Dial) × (dial_of c log ≡ Some dial)
+Suits (Input channel microvolts) told log = input_refusal channel microvolts ≡ None
+Suits External told log = ⊤
+Suits _ told log = ⊥
+
+-- It is never refused: who brings as many bytes as there is room for, and takes as many as wait, loses none.
+abbrev pub NothingLost : Type 0
+NothingLost = (config : Config) (history : List PlainEvent) (event : PlainEvent) (told : List ChannelAct) (log : List Act)
+    (result : Result Did Refused) → IsLogOf config history log → HearsOf (device_acts log) told → Suits event told log
+    → Answers config event log result → result ≡ Ok Done
+
+-- how many calls were taken on a connection since it opened
+abbrev pub taken : List ConnAct → ℕ
+taken [] = 0
+taken (Opened role ∷ acts) = 0
+taken (PortClosed ∷ acts) = 0
+taken (CallTaken call ∷ acts) = taken acts + 1
+taken (_ ∷ acts) = taken acts
+
+abbrev pub one_if : Bool → ℕ
+one_if true = 1
+one_if false = 0
+
+-- as many as were answered (or were no calls), and the one that waits
+abbrev pub IsPaid : ℕ → List Act → Type 0
+IsPaid c log = taken (of c log) ≡ completed (of c log) + one_if (is_some (waits c (wait_acts (device_acts log))))
+
+-- Each call that is taken is answered once, or waits for its answer.
+abbrev pub EachAnswered : Type 0
+EachAnswered = (config : Config) (history : List PlainEvent) (log : List Act) (c : ℕ) → IsLogOf config history log → IsPaid c log
+
+-- A reply has a call's xid: behind its record mark it begins with the four bytes with which the call begins (RFC 5531, sections 9 and 11).
+abbrev pub HasXidOf : List ℕ → List ℕ → Type 0
+HasXidOf call reply = (4 ≤ length call) × (take 4 (drop 4 reply) ≡ take 4 call)
+
+-- Each reply answers the call that had no answer until then, and has its xid.
+abbrev pub RepliesMatch : Type 0
+RepliesMatch = (config : Config) (history : List PlainEvent) (log : List Act) (c : ℕ) (newer older : List ConnAct) (reply : List ℕ)
+    → IsLogOf config history log → of c log ≡ newer ++ Replied reply ∷ older
+    → (call : List ℕ) × (unanswered older ≡ Some call) × HasXidOf call reply
+
+-- A call that a Turn takes is answered; or it is no call, which faults its connection; or it waits, for what isn't there (VXI-11 revision
+-- 1.0, section B.4.4).
+abbrev pub TurnAnswered : Type 0
+TurnAnswered = (config : Config) (history : List PlainEvent) (before log : List Act) (c : ℕ) (call : List ℕ) → IsLogOf config history before
+    → IsLogOf config (Turn c ∷ history) log → next_call (of c before) ≡ Some call
+    → ((reply : List ℕ) × (of c log ≡ Replied reply ∷ CallTaken call ∷ of c before))
+    ⊎ ((of c log ≡ Faulted ∷ CallTaken call ∷ of c before) × (call_at call ≡ Err BadHeader))
+    ⊎ ((of c log ≡ CallTaken call ∷ of c before) × (wait : Wait) × (waits c (wait_acts (device_acts log)) ≡ Some wait)
+    × (CanResume (device_acts log) c → ⊥))

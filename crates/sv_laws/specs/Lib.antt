@@ -1,0 +1,4 @@
+pub mod Adding
+pub mod Isolation
+pub mod Cuts
+pub mod Laws

@@ -1,0 +1,2 @@
+pub mod Since
+pub mod Each

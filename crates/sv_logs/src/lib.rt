@@ -1,0 +1,4 @@
+//! Searches of logs. A log is a list of acts, the newest first; a place of it is one of its rests.
+//!
+//! There is no code here: `specs/` defines the searches, and `proofs/` has their laws.
+#![tactic(auto)]

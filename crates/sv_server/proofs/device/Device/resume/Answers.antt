@@ -1,0 +1,5 @@
+use Rattle.sv_server.proofs.device.Device.resume.Goals as goal
+
+pub returns-in-Lock-clause-resumes : goal.returns-in-Lock-clause-resumes
+returns-in-Lock-clause-resumes g c = λ config polled acts known waits may.
+    rw c.in-Lock.is (c.pass_lock.ensures.resumes config polled acts known waits may)

@@ -1,0 +1,18 @@
+use Rattle.std.proofs.Common.{sym, subst}
+use Rattle.sv_history.specs.Effect.{Effect}
+use Rattle.sv_server.specs.Server.Inside.Ending.{Concludes}
+use Rattle.sv_server.proofs.server.turn.conclude_call.Goals as goal
+
+pub returns-in-Result-clause-ends : goal.returns-in-Result-clause-ends
+returns-in-Result-clause-ends g c = λ config acts before effect is busy ends.
+    let known = rw c.in-Result.is at ends in (rw known.0 (c.answer.ensures acts is busy), known.1)
+
+pub returns-in-Reads-clause-ends : goal.returns-in-Reads-clause-ends
+returns-in-Reads-clause-ends g c = λ config acts before effect is busy ends.
+    let known = rw c.in-Reads.is at ends in
+    subst (λ (e : Effect). Concludes e config acts before c.answer_response.new.connection c.answer_response.new.device) (sym known.0)
+    (c.answer_response.ensures.ends config acts before is busy known.1)
+
+pub returns-in-Suspended-clause-ends : goal.returns-in-Suspended-clause-ends
+returns-in-Suspended-clause-ends g c = λ config acts before effect is busy ends.
+    let known = rw c.in-Suspended.is at ends in (rw known.0 is, known.1)

@@ -1,0 +1,39 @@
+-- What a call is answered, as the code says it.
+use Rattle.std.specs.Prelude.{ℕ, ◌≤◌, List, [], ◌∷◌, ◌++◌, length, map, ⊤}
+use Rattle.std.specs.List.{concat}
+use Rattle.sv_xdr.specs.Spelling.{Unsigned, Field, spelling}
+use Rattle.sv_rpc.specs.Reply.{reply_fields}
+use Rattle.sv_rpc.specs.declared.reply.Reply.{Reply}
+use Rattle.sv_rpc.specs.declared.reply.Reply.TheVariants.{Success}
+use Rattle.sv_vxi.specs.Results.{plain_result, result_fields, data_of}
+use Rattle.sv_exchange.specs.Limits.{max_read}
+use Rattle.sv_history.specs.Reply.{reply_record}
+use Rattle.sv_server.specs.declared.connection.reply.Answer.{Answer}
+use Rattle.sv_server.specs.declared.connection.reply.Answer.TheVariants as answers
+
+-- the reply of an answer, and the fields behind it
+abbrev pub reply_of : Answer → Reply
+reply_of (answers.Header reply) = reply
+reply_of (answers.Port port) = Success
+reply_of (answers.Result outcome) = Success
+
+abbrev pub fields_of : Answer → List Field
+fields_of (answers.Header reply) = []
+fields_of (answers.Port port) = Unsigned port ∷ []
+fields_of (answers.Result outcome) = result_fields (plain_result outcome)
+
+abbrev pub answer_text : ℕ → Answer → List ℕ
+answer_text xid answer = concat (map spelling (reply_fields xid (reply_of answer) ++ fields_of answer))
+
+abbrev pub answer_bytes : ℕ → Answer → List ℕ
+answer_bytes xid answer = reply_record xid (reply_of answer) (fields_of answer)
+
+-- an answer with at most so many bytes of data
+abbrev pub HasAtMost : ℕ → Answer → Type 0
+HasAtMost most (answers.Header reply) = ⊤
+HasAtMost most (answers.Port port) = ⊤
+HasAtMost most (answers.Result outcome) = length (data_of (plain_result outcome)) ≤ most
+
+-- an answer whose data have room in a reply
+abbrev pub IsShort : Answer → Type 0
+IsShort answer = HasAtMost max_read answer

@@ -1,0 +1,114 @@
+-- What becomes of a record that was taken, or of a call that was suspended, on its connection and of the device.
+use Rattle.std.specs.Prelude.{◌≡◌, ◌⊎◌, ℕ, ◌<◌, List, [], ◌∷◌, ◌++◌, map, true, false, Option, None, Result, ⊤}
+use Rattle.sv_vxi.specs.Arguments.{is_create_link}
+use Rattle.sv_vxi.specs.Results.{plain_result, data_of}
+use Rattle.sv_links.specs.declared.waiting.Entry.{Entry}
+use Rattle.sv_links.specs.declared.waiting.Wait.{Wait}
+use Rattle.sv_links.specs.Links.{holder, is_locked_out}
+use Rattle.sv_links.specs.Waiting.{waits}
+use Rattle.sv_links.specs.Queue.{creations, without, anew}
+use Rattle.sv_exchange.specs.Exchange.{response}
+use Rattle.sv_history.specs.declared.event.Config.{Config}
+use Rattle.sv_history.specs.Act.{ConnAct, DeviceAct, Faulted, Replied, link_acts, wait_acts, exchange_acts}
+use Rattle.sv_history.specs.Effect.{Effect, call_effect}
+use Rattle.sv_history.specs.CoreCall.{CoreCall, creates_link}
+use Rattle.sv_history.specs.Request.{Request, CoreRequest}
+use Rattle.sv_history.specs.CoreChannel.{reads}
+use Rattle.sv_history.specs.Execution.{request_effect, aborts}
+use Rattle.sv_history.specs.Interrupts.{is_dialing}
+use Rattle.sv_history.specs.Resuming.{resumed, failed, connected}
+use Rattle.sv_history.specs.History.{wants_memory}
+use Rattle.sv_server.specs.declared.connection.reply.Answer.TheVariants.{Result as Told}
+use Rattle.sv_server.specs.declared.device.call_outcome.CallOutcome.{CallOutcome as Outcome}
+use Rattle.sv_server.specs.declared.device.call_outcome.CallOutcome.TheVariants as outcomes
+use Rattle.sv_server.specs.declared.device.resuming.Cause.{Cause}
+use Rattle.sv_server.specs.declared.device.resuming.Cause.TheVariants as causes
+use Rattle.sv_server.specs.declared.server.execution.Executed.{Executed}
+use Rattle.sv_server.specs.declared.server.execution.Executed.TheVariants as executions
+use Rattle.sv_server.specs.Connection.Representation.{Connection, IsConnection}
+use Rattle.sv_server.specs.Connection.Inside.Requests.{xid_of}
+use Rattle.sv_server.specs.Connection.Inside.Replies.{answer_bytes, IsShort}
+use Rattle.sv_server.specs.Device.Representation.{Device, IsDevice}
+use Rattle.sv_server.specs.Device.Inside.Outcome.{IsBrief, IsBehind, Does}
+
+-- ---- how it ends
+
+-- A call ends so. What it reads of the response is still to be read.
+abbrev pub CallEndsAs : Outcome → ℕ → Device → Config → List DeviceAct → Effect → Type 0
+CallEndsAs (outcomes.Result given) xid device config acts effect = (effect.own ≡ Replied (answer_bytes xid (Told given)) ∷ [])
+    × IsDevice device config (effect.adds ++ acts)
+CallEndsAs (outcomes.Reads most term) xid device config acts effect =
+    (effect ≡ call_effect xid (reads (response (exchange_acts acts)) most term)) × IsDevice device config acts
+CallEndsAs outcomes.Suspended xid device config acts effect = (effect.own ≡ []) × IsDevice device config (effect.adds ++ acts)
+
+-- And so does a record.
+abbrev pub EndsAs : Executed → ℕ → Device → Config → List DeviceAct → Effect → Type 0
+EndsAs executions.NoCall xid device config acts effect = (effect.own ≡ Faulted ∷ []) × IsDevice device config (effect.adds ++ acts)
+EndsAs (executions.Answered answer) xid device config acts effect = (effect.own ≡ Replied (answer_bytes xid answer) ∷ [])
+    × IsDevice device config (effect.adds ++ acts)
+EndsAs (executions.Aborts aborted) xid device config acts effect =
+    (effect.own ≡ Replied (answer_bytes xid (Told aborted.result)) ∷ []) × IsDevice device config (effect.adds ++ acts)
+EndsAs (executions.Call outcome) xid device config acts effect = CallEndsAs outcome xid device config acts effect
+
+-- What it is answered has room in a reply.
+abbrev pub IsBriefly : Executed → Type 0
+IsBriefly executions.NoCall = ⊤
+IsBriefly (executions.Answered answer) = IsShort answer
+IsBriefly (executions.Aborts aborted) = data_of (plain_result aborted.result) ≡ []
+IsBriefly (executions.Call outcome) = IsBrief outcome
+
+-- the connection whose suspended call it ends beside
+abbrev pub aborted_by : Executed → Option ℕ
+aborted_by (executions.Aborts aborted) = aborted.conn
+aborted_by _ = None
+
+-- The call that was taken comes to this.
+abbrev pub Concludes : Effect → Config → List ConnAct → List DeviceAct → Connection → Device → Type 0
+Concludes effect config acts before connection device =
+    IsConnection connection (effect.own ++ acts) × IsDevice device config (effect.adds ++ before)
+
+-- ---- a record that was taken
+
+-- Where it waits, it is a call, which stands behind all that wait.
+abbrev pub Holds : Executed → ℕ → Request → List Entry → List Entry → Type 0
+Holds executed c request old new = (new ≡ old)
+    ⊎ ((executed ≡ executions.Call outcomes.Suspended) × (call : CoreCall) × (request ≡ CoreRequest call)
+    × IsBehind c (is_create_link call.arguments) old new)
+
+-- the same of what the definitions say
+abbrev pub HeldAs : Effect → ℕ → Option CoreCall → List Entry → List Entry → Type 0
+HeldAs effect c call old new = (new ≡ old) ⊎ ((effect.own ≡ []) × IsBehind c (creates_link call) old new)
+
+-- What a record asks for is done.
+abbrev pub Executes : Request → {E : Type 0} → Result Executed E → ℕ → Device → Device → Type 0
+Executes request result c old new =
+    Does (λ config polled acts executed. EndsAs executed (xid_of request) new config acts (request_effect config polled c request acts)
+    × Holds executed c request old.waiting new.waiting × (aborted_by executed ≡ aborts request acts))
+    (λ config polled acts. wants_memory (request_effect config polled c request acts).adds ≡ true) IsBriefly result old new
+
+-- ---- a call that was suspended
+
+-- It can be taken up again for this: where it can resume, what it waits for is there, and where it makes a link, it waits for the lock as
+-- such.
+abbrev pub MayTakeUp : Cause → ℕ → Option CoreCall → Device → List DeviceAct → Type 0
+MayTakeUp (causes.Able wait) c call kept acts = (waits c (wait_acts acts) ≡ None → ⊥)
+    × (creates_link call ≡ true → (creations (without c kept.waiting) < creations kept.waiting)
+    × (is_locked_out (holder (link_acts acts)) None ≡ false))
+MayTakeUp (causes.Dialed ok) c call kept acts = is_dialing c (wait_acts acts) ≡ true
+MayTakeUp (causes.Failed error) c call kept acts = ⊤
+
+-- What comes of it.
+abbrev pub taken_up : Cause → Config → ℕ → ℕ → Option CoreCall → List DeviceAct → Effect
+taken_up (causes.Able wait) config polled c call acts = resumed config polled c wait call acts
+taken_up (causes.Dialed ok) config polled c call acts = connected c ok call
+taken_up (causes.Failed error) config polled c call acts = failed error c call
+
+-- It waits no more; or, where it isn't answered, it waits for something else, and makes no link.
+abbrev pub WaitsOn : Effect → ℕ → Option CoreCall → List Entry → List Entry → Type 0
+WaitsOn effect c call old new = (new ≡ without c old)
+    ⊎ ((effect.own ≡ []) × (wait : Wait) × (deadline : Option ℕ) × (new ≡ map (anew c wait deadline) old) × (creates_link call ≡ false))
+
+-- It went on so.
+abbrev pub WentOn : Effect → ℕ → Option CoreCall → Config → List ConnAct → List DeviceAct → List Entry → Connection → Device → Type 0
+WentOn effect c call config acts before old connection device =
+    Concludes effect config acts before connection device × WaitsOn effect c call old device.waiting

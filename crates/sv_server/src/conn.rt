@@ -1,0 +1,35 @@
+//! The number of a connection. It is made once, where an event or a question names a number; what
+//! then takes it asks for no range.
+
+ghost use Rattle.std.specs.Prelude.{◌≡◌, ◌≤◌, ◌<◌, MatchOption};
+
+/// How many connections there may be.
+pub const CONNECTIONS: usize = 16;
+
+/// The number of a connection that there may be.
+#[derive(Clone, Copy)]
+pub struct Conn {
+    /// The number, below 16.
+    pub number: u8,
+    ghost within: { number < 16 },
+}
+
+impl Conn {
+    /// The connection of a number; none of one above 15.
+    pub fn new(number: u8) -> Option<Conn>
+        ensures { MatchOption result (16 ≤ number) (λ conn. conn.number ≡ number) }
+    {
+        if usize::from(number) < CONNECTIONS {
+            Some(Conn { number })
+        } else {
+            None
+        }
+    }
+
+    /// Its place among all connections.
+    pub fn index(self) -> usize
+        ensures { result ≡ self.number }
+    {
+        usize::from(self.number)
+    }
+}

@@ -1,0 +1,40 @@
+//! What the arguments of a call say (VXI-11 revision 1.0, section B.6).
+
+ghost use Rattle.std.specs.Prelude.{◌≡◌};
+ghost use Rattle.sv_vxi.specs.Reading.{plain_arguments};
+ghost use Rattle.sv_history.specs.CoreCall.{lid_of as lid_for, is_too_long as too_long};
+ghost use Rattle.sv_history.specs.CoreChannel.{term_of as term_for};
+
+use sv_exchange::MAX_MESSAGE;
+use sv_vxi::{Args, Flags};
+
+/// The number of the link that is named; none has a negative one.
+pub fn lid_of(named: Option<i32>) -> Option<u32>
+    ensures { result ≡ lid_for named }
+{
+    match named {
+        Some(lid) => u32::try_from(lid).ok(),
+        None => None,
+    }
+}
+
+/// Whether a write brings more than may be.
+pub fn is_too_long(args: &Args<'_>) -> bool
+    ensures { result ≡ too_long (plain_arguments args.now) }
+{
+    if let Args::DeviceWrite { bytes, .. } = *args {
+        return bytes.len() > MAX_MESSAGE;
+    }
+    false
+}
+
+/// The termination character, where the flag for it is set: the low eight bits.
+pub fn term_of(flags: Flags, term_char: u32) -> Option<u8>
+    ensures { result ≡ term_for flags.0 term_char }
+{
+    if flags.has_term_char() {
+        Some((term_char % 256) as u8)
+    } else {
+        None
+    }
+}

@@ -1,0 +1,128 @@
+//! A call that was suspended goes on, or is given up.
+
+ghost use Rattle.std.specs.Prelude.{◌≡◌, ◌+◌, ◌<◌, ◌≤◌, ℕ, List, None, true, false, ◌∷◌};
+ghost use Rattle.sv_vxi.specs.Arguments.{is_create_link as makes_link};
+ghost use Rattle.sv_vxi.specs.Reading.{plain_arguments};
+ghost use Rattle.sv_links.specs.Waiting.{Left, waits};
+ghost use Rattle.sv_links.specs.Queue.{without, rank, rank_of};
+ghost use Rattle.sv_history.specs.declared.event.Config.{Config};
+ghost use Rattle.sv_history.specs.Act.{DeviceAct, Waited, wait_acts};
+ghost use Rattle.sv_history.specs.CallOutcome.{only};
+ghost use Rattle.sv_history.specs.CoreCall.{failure as failed};
+ghost use Rattle.sv_history.specs.Admission.{device_wait};
+ghost use Rattle.sv_history.specs.Resuming.{next_wait};
+ghost use Rattle.sv_server.specs.Device.Representation.{IsDevice};
+ghost use Rattle.sv_server.specs.Device.Inside.Outcome.{IsDeviceAt, MayMake, MayGoOn, GoesOnAs, OutcomeIs, ResumedAs, Resumes, IsBrief, IsNearer, is_able};
+
+use crate::conn::Conn;
+use crate::device::Device;
+use crate::device::call_outcome::CallOutcome;
+use crate::device::error_results::failure;
+use std::alloc::Allocator;
+use sv_links::Wait;
+use sv_vxi::{Args, ErrorCode};
+
+/// Why a suspended call is taken up again.
+#[derive(Clone, Copy)]
+pub enum Cause {
+    /// What it waits for is there.
+    Able(Wait),
+    /// Its peer was called: its interrupt channel is open, or can't be.
+    Dialed(bool),
+    /// It fails with this error.
+    Failed(ErrorCode),
+}
+
+impl<A: Allocator> Device<A> {
+    /// A suspended call is done, or waits anew.
+    pub fn take_up(&mut self, conn: Conn, cause: Cause, args: &Args<'_>) -> CallOutcome
+        requires { IsNearer cause conn.number self.old.waiting }
+        ensures ends { (config : Config) (polled : ℕ) (acts : List DeviceAct)
+            → IsDeviceAt self.old config polled acts
+            → MayGoOn cause conn.number (plain_arguments args.now) self.old acts
+            → GoesOnAs cause result self.new config polled conn.number (plain_arguments args.now)
+            acts }
+        ensures short { IsBrief result }
+        ensures waiting { Resumes result conn.number (makes_link (plain_arguments args.now))
+            self.old.waiting self.new.waiting }
+        ensures left { is_able cause ≡ false
+            → self.new.waiting ≡ without conn.number self.old.waiting }
+        ensures measure { is_able cause ≡ true → rank self.new.waiting < rank self.old.waiting }
+    {
+        match cause {
+            Cause::Able(wait) => self.resume(conn, wait, args),
+            Cause::Dialed(ok) => self.end_dial(conn, ok, args),
+            Cause::Failed(error) => self.give_up(conn, error, args),
+        }
+    }
+
+    /// A call that waited for this is done; or, where it waited for the lock and the device isn't
+    /// there for it, it waits anew, with its place kept, from now on.
+    fn resume(&mut self, conn: Conn, wait: Wait, args: &Args<'_>) -> CallOutcome
+        requires { rank (without conn.number self.old.waiting) + rank_of wait
+            ≤ rank self.old.waiting }
+        ensures resumes { (config : Config) (polled : ℕ) (acts : List DeviceAct)
+            → IsDeviceAt self.old config polled acts
+            → (waits conn.number (wait_acts acts) ≡ None → ⊥)
+            → MayMake (plain_arguments args.now) conn.number self.old acts
+            → ResumedAs (next_wait wait (plain_arguments args.now) acts) result self.new config
+            polled conn.number (plain_arguments args.now) acts }
+        ensures short { IsBrief result }
+        ensures waiting { Resumes result conn.number (makes_link (plain_arguments args.now))
+            self.old.waiting self.new.waiting }
+        ensures measure { rank self.new.waiting < rank self.old.waiting }
+    {
+        match wait {
+            Wait::Lock => self.pass_lock(conn, args),
+            Wait::Input | Wait::Response | Wait::Dial => self.leave(conn, args),
+        }
+    }
+
+    /// A call that waited for the lock.
+    fn pass_lock(&mut self, conn: Conn, args: &Args<'_>) -> CallOutcome
+        requires { rank (without conn.number self.old.waiting) + 2 ≤ rank self.old.waiting }
+        ensures resumes { (config : Config) (polled : ℕ) (acts : List DeviceAct)
+            → IsDeviceAt self.old config polled acts
+            → (waits conn.number (wait_acts acts) ≡ None → ⊥)
+            → MayMake (plain_arguments args.now) conn.number self.old acts
+            → ResumedAs (device_wait (plain_arguments args.now) acts) result self.new config polled
+            conn.number (plain_arguments args.now) acts }
+        ensures short { IsBrief result }
+        ensures waiting { Resumes result conn.number (makes_link (plain_arguments args.now))
+            self.old.waiting self.new.waiting }
+        ensures measure { rank self.new.waiting < rank self.old.waiting }
+    {
+        if let Some(wait) = self.device_wait(args) {
+            let deadline = self.deadline(args.io_timeout());
+            self.waiting.again(conn.number, wait, deadline);
+            return CallOutcome::Suspended;
+        }
+        self.leave(conn, args)
+    }
+
+    /// A call ends to wait, and is done.
+    fn leave(&mut self, conn: Conn, args: &Args<'_>) -> CallOutcome
+        ensures ends { (config : Config) (polled : ℕ) (acts : List DeviceAct)
+            → IsDeviceAt self.old config polled acts
+            → MayMake (plain_arguments args.now) conn.number self.old acts
+            → ResumedAs None result self.new config polled conn.number
+            (plain_arguments args.now) acts }
+        ensures short { IsBrief result }
+        ensures waiting { self.new.waiting ≡ without conn.number self.old.waiting }
+    {
+        self.waiting.leave(conn.number);
+        self.own_call(conn, args)
+    }
+
+    /// A call fails with this error: it waits no more.
+    fn give_up(&mut self, conn: Conn, error: ErrorCode, args: &Args<'_>) -> CallOutcome
+        ensures ends { (config : Config) (acts : List DeviceAct) → IsDevice self.old config acts
+            → OutcomeIs result self.new config (Waited (Left conn.number) ∷ acts)
+            (only (failed (plain_arguments args.now) error)) }
+        ensures short { IsBrief result }
+        ensures waiting { self.new.waiting ≡ without conn.number self.old.waiting }
+    {
+        self.end_wait(conn);
+        CallOutcome::Result(failure(args, error))
+    }
+}

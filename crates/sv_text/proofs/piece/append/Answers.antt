@@ -1,5 +1,0 @@
-use Rattle.std.proofs.Common.{rules}
-use Rattle.sv_text.proofs.piece.append.Goals as goal
-
-pub returns-clause-items : goal.returns-clause-items
-returns-clause-items g c = search rules
