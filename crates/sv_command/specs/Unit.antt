@@ -1,23 +1,15 @@
 -- What a program message unit asks for, and its faults in their order (SCPI-1999, volume 1, chapters 6 and 7; volume 2, 21.8).
 use Rattle.std.specs.Prelude.{◌≡◌, ◌⊎◌, ℕ, ◌==◌, List, Option, Some, None, Result, Err, nat_lt, if◌then◌else◌}
 use Rattle.sv_errors.specs.declared.code.Code.{Code}
-use Rattle.sv_errors.specs.declared.code.Code.TheVariants.{ParameterNotAllowed, MissingParameter, UndefinedHeader}
+use Rattle.sv_errors.specs.declared.code.Code.TheVariants.{ParameterNotAllowed, UndefinedHeader}
 use Rattle.sv_lexer.specs.Token.{kind_of}
 use Rattle.sv_lexer.specs.Unit.{unit_fault, header}
 use Rattle.sv_lexer.specs.Parameters.{parameters_fault, parameter, count}
-use Rattle.sv_header.specs.declared.arity.Arity.{Arity}
-use Rattle.sv_header.specs.declared.arity.Arity.TheVariants.{Nothing, One, Optional}
 use Rattle.sv_header.specs.declared.command.CommandId.{CommandId}
-use Rattle.sv_header.specs.Arity.{arity_of}
+use Rattle.sv_header.specs.Arity.{most_parameters}
 use Rattle.sv_header.specs.Resolve.{Resolves, kept}
 use Rattle.sv_command.specs.declared.order.Order.{Order}
 use Rattle.sv_command.specs.Order.{Parameter, order_of}
-
--- too many parameters, or too few
-abbrev pub count_fault : Arity → ℕ → Option Code
-count_fault Nothing given = if nat_lt 0 given then Some ParameterNotAllowed else None
-count_fault One given = if nat_lt 1 given then Some ParameterNotAllowed else if given == 0 then Some MissingParameter else None
-count_fault Optional given = if nat_lt 1 given then Some ParameterNotAllowed else None
 
 -- the first parameter, where there is one
 abbrev pub first_parameter : List ℕ → Option Parameter
@@ -27,10 +19,11 @@ abbrev pub unless : Option Code → Result Order Code → Result Order Code
 unless (Some code) outcome = Err code
 unless None outcome = outcome
 
--- what a command asks for in a unit: the spelling of its parameters is looked at, then how many there are, then their values
+-- what a command asks for in a unit: the spelling of its parameters is looked at, then whether there are too many, then their values
 abbrev pub asked : CommandId → List ℕ → Result Order Code
 asked command unit =
-    unless (parameters_fault unit) (unless (count_fault (arity_of command) (count unit)) (order_of command (first_parameter unit)))
+    unless (parameters_fault unit)
+    (if nat_lt (most_parameters command) (count unit) then Err ParameterNotAllowed else order_of command (first_parameter unit))
 
 -- The header names a command, or none does.
 abbrev pub IsNamed : List (List ℕ) → List ℕ → Result Order Code → List (List ℕ) → Type 0

@@ -10,5 +10,5 @@ mod order;
 mod reading;
 mod values;
 
-pub use order::{Order, Question};
+pub use order::Order;
 pub use reading::read_unit;

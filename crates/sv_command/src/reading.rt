@@ -2,13 +2,13 @@
 
 ghost use Rattle.std.specs.Prelude.{◌≡◌, ℕ, List};
 ghost use Rattle.sv_lexer.specs.Unit.{IsLexed};
-ghost use Rattle.sv_command.specs.Unit.{IsReadAs, IsNamed, asked as asked_by, count_fault};
+ghost use Rattle.sv_command.specs.Unit.{IsReadAs, IsNamed, asked as asked_by};
 
 use crate::filling::order;
 use crate::order::Order;
 use std::alloc::Allocator;
 use sv_errors::Code;
-use sv_header::{Arity, CommandId, Path, Table};
+use sv_header::{CommandId, Path, Table};
 use sv_lexer::Unit;
 
 /// Reads a unit behind a path, as what it asks for. It is given as it was lexed, or the fault that
@@ -53,41 +53,12 @@ fn asked(command: CommandId, unit: &Unit<'_>) -> Result<Order, Code>
     ensures { result ≡ asked_by command unit.now }
 {
     match unit.parameters() {
-        Ok(parameters) => match refused_count(command.arity(), parameters.count()) {
-            Some(code) => Err(code),
-            None => order(command, parameters.get(0)),
-        },
+        Ok(parameters) => {
+            if parameters.count() > command.most_parameters() {
+                return Err(Code::ParameterNotAllowed);
+            }
+            order(command, parameters.get(0))
+        }
         Err(code) => Err(code),
-    }
-}
-
-/// What is wrong with how many parameters there are.
-fn refused_count(arity: Arity, given: usize) -> Option<Code>
-    ensures { result ≡ count_fault arity given }
-{
-    match arity {
-        Arity::Nothing => {
-            if given > 0 {
-                Some(Code::ParameterNotAllowed)
-            } else {
-                None
-            }
-        }
-        Arity::One => {
-            if given > 1 {
-                Some(Code::ParameterNotAllowed)
-            } else if given == 0 {
-                Some(Code::MissingParameter)
-            } else {
-                None
-            }
-        }
-        Arity::Optional => {
-            if given > 1 {
-                Some(Code::ParameterNotAllowed)
-            } else {
-                None
-            }
-        }
     }
 }

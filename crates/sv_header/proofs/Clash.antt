@@ -4,7 +4,7 @@ use Rattle.std.specs.List.{list_all}
 use Rattle.std.specs.Char.{to_ascii_lowercase}
 use Rattle.std.proofs.lemmas.Bool.{and_parts, or_left, or_right, cases_lt}
 use Rattle.std.proofs.lemmas.List.{get_or_default}
-use Rattle.sv_header.specs.Pattern.{Part, Row, Same, IsForm, Fits, is_common, has_sign}
+use Rattle.sv_header.specs.Pattern.{Part, Row, Same, IsForm, Fits}
 use Rattle.sv_header.specs.Table.{table}
 use Rattle.sv_header.specs.Resolve.{FitsRow}
 use Rattle.sv_header.specs.Laws.{OneCommand, OnePattern}
@@ -103,16 +103,16 @@ agree-same a false false f g = refl
 -- whether a header may fit both rows
 rows_clash : Row → Row → Bool
 rows_clash r s =
-    elim (agree (is_common r.form) (is_common s.form)) [
-      | true ↦ elim (agree (has_sign r.form) (has_sign s.form)) [ true ↦ clash r.parts s.parts | false ↦ false ]
+    elim (agree r.common s.common) [
+      | true ↦ elim (agree r.query s.query) [ true ↦ clash r.parts s.parts | false ↦ false ]
       | false ↦ false
     ]
 
 rows-clash : (path : List (List ℕ)) (header : List ℕ) (r s : Row) → FitsRow path header r → FitsRow path header s → rows_clash r s ≡ true
 unfolding rows_clash
 rows-clash path header r s f g =
-    where_both _ _ (agree-same _ (is_common r.form) (is_common s.form) f.0 g.0)
-    (where_both _ _ (agree-same _ (has_sign r.form) (has_sign s.form) f.1 g.1) (both-fit r.parts _ s.parts f.2 g.2))
+    where_both _ _ (agree-same _ r.common s.common f.0 g.0)
+    (where_both _ _ (agree-same _ r.query s.query f.1 g.1) (both-fit r.parts _ s.parts f.2 g.2))
 
 -- whether no row clashes with one behind it
 apart : List Row → Bool

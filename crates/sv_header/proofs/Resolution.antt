@@ -8,11 +8,11 @@ use Rattle.sv_text.specs.Header.{lead, is_query}
 use Rattle.sv_header.specs.declared.command.CommandId.{CommandId}
 use Rattle.sv_header.specs.declared.branch.Branch.{Branch}
 use Rattle.sv_header.specs.declared.sent.Sent.{Sent}
-use Rattle.sv_header.specs.Pattern.{Row, is_common}
+use Rattle.sv_header.specs.Pattern.{Row}
 use Rattle.sv_header.specs.Plain.{part, left_of}
-use Rattle.sv_header.specs.Table.{table, common_commands}
+use Rattle.sv_header.specs.Table.{table, common_commands, other_commands}
 use Rattle.sv_header.specs.Resolve.{Resolves, full, leads_common}
-use Rattle.sv_header.specs.Inside.Tree.{ending_rows, below, rows_of, tree_rows, other_commands, rows_with}
+use Rattle.sv_header.specs.Inside.Tree.{ending_rows, below, rows_of, tree_rows, rows_with}
 use Rattle.sv_header.specs.Inside.Walk.{LeadsBelow, Leads, IsFound}
 use Rattle.sv_header.proofs.Rows.{SomeNames, some-left, some-right, some-cases, some-from_contains, contains-from_some, some-there, some-absent, some-below, some-ending_rows, ending_rows-cases}
 
@@ -78,7 +78,7 @@ leads-from_names (suc fuel) c q d (branch ∷ behind) left command h =
     ]
 
 -- no row of common commands is named by a header of another form, and none of the others by one of theirs
-not-common : (q : Bool) (left : List (List ℕ)) (command : CommandId) (rows : List Row) → list_all (λ row. is_common row.form) rows ≡ true
+not-common : (q : Bool) (left : List (List ℕ)) (command : CommandId) (rows : List Row) → list_all (λ row. row.common) rows ≡ true
     → SomeNames false q left command rows → ⊥
 not-common q left command [] all h = h
 not-common q left command (row ∷ rows) all (inl h) =
@@ -87,7 +87,7 @@ not-common q left command (row ∷ rows) all (inl h) =
 not-common q left command (row ∷ rows) all (inr h) = not-common q left command rows (and_parts _ _ all).1 h
 
 only-common : (q : Bool) (left : List (List ℕ)) (command : CommandId) (rows : List Row)
-    → list_all (λ row. not (is_common row.form)) rows ≡ true → SomeNames true q left command rows → ⊥
+    → list_all (λ row. not row.common) rows ≡ true → SomeNames true q left command rows → ⊥
 only-common q left command [] all h = h
 only-common q left command (row ∷ rows) all (inl h) =
     let e : not true ≡ true = ap not h.1 ∙ (and_parts _ _ all).0 in
@@ -98,10 +98,10 @@ only-common q left command (row ∷ rows) all (inr h) = only-common q left comma
 table-parts : table ≡ common_commands ++ other_commands
 table-parts = refl
 
-common-common : list_all (λ row. is_common row.form) common_commands ≡ true
+common-common : list_all (λ row. row.common) common_commands ≡ true
 common-common = refl
 
-others-other : list_all (λ row. not (is_common row.form)) other_commands ≡ true
+others-other : list_all (λ row. not row.common) other_commands ≡ true
 others-other = refl
 
 -- so what names a command by the table does by the part of its form

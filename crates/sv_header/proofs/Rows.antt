@@ -3,14 +3,14 @@ use Rattle.std.proofs.Common.{◌≡◌, ℕ, zero, suc, ◌<◌, Bool, true, fa
 use Rattle.std.specs.List.{Contains}
 use Rattle.sv_header.specs.declared.command.CommandId.{CommandId}
 use Rattle.sv_header.specs.declared.branch.Branch.{Branch}
-use Rattle.sv_header.specs.Pattern.{Part, Row, Fits, is_common, has_sign}
-use Rattle.sv_header.specs.Inside.Tree.{command_of, form_of, ending_row, ending_rows, below}
+use Rattle.sv_header.specs.Pattern.{Part, Row, Fits}
+use Rattle.sv_header.specs.Inside.Tree.{command_of, ending_row, ending_rows, below}
 use Rattle.sv_header.specs.Inside.Walk.{Takes, Ends}
 
 -- Mnemonics name a command by a row: it is the row's, and they fit it.
 abbrev pub Names : Bool → Bool → List (List ℕ) → CommandId → Row → Type 0
 Names common query left command row =
-    (row.command ≡ command) × (common ≡ is_common row.form) × (query ≡ has_sign row.form) × Fits left row.parts
+    (row.command ≡ command) × (common ≡ row.common) × (query ≡ row.query) × Fits left row.parts
 
 -- They name it by one of some rows.
 abbrev pub SomeNames : Bool → Bool → List (List ℕ) → CommandId → List Row → Type 0
@@ -93,35 +93,22 @@ some-below c q left part command (row ∷ rows) (inr h) =
       | inr absent ↦ inr (absent.0, inr absent.1)
     ]
 
--- a form is that of what it is made for
-common-form : (c q : Bool) → is_common (form_of c q) ≡ c
-common-form true true = refl
-common-form true false = refl
-common-form false true = refl
-common-form false false = refl
-
-sign-form : (c q : Bool) → has_sign (form_of c q) ≡ q
-sign-form true true = refl
-sign-form true false = refl
-sign-form false true = refl
-sign-form false false = refl
-
 -- the row that ends at a node
 some-ending_row : (c q : Bool) (left : List (List ℕ)) (command : CommandId) (ending : Option CommandId) → Ends left ending command
-    → SomeNames c q left command (ending_row (form_of c q) ending)
+    → SomeNames c q left command (ending_row c q ending)
 some-ending_row c q left command None h = let e : None ≡ Some command = h.1 in absurd cc
 some-ending_row c q left command (Some own) h =
     let e : Some own ≡ Some command = h.1 in
     let same : own ≡ command = cc in
-    inl (same, sym (common-form c q), sym (sign-form c q), h.0)
+    inl (same, refl, refl, h.0)
 
 ends-ending_row : (c q d s : Bool) (left : List (List ℕ)) (command : CommandId) (ending : Option CommandId)
-    → SomeNames c q left command (ending_row (form_of d s) ending) → (c ≡ d) × (q ≡ s) × Ends left ending command
+    → SomeNames c q left command (ending_row d s ending) → (c ≡ d) × (q ≡ s) × Ends left ending command
 ends-ending_row c q d s left command None h = absurd h
 ends-ending_row c q d s left command (Some own) (inl h) =
     let same : own ≡ command = h.0 in
     let found : Some own ≡ Some command = cc in
-    (h.1 ∙ common-form d s, h.2 ∙ sign-form d s, (h.3, found))
+    (h.1, h.2, (h.3, found))
 ends-ending_row c q d s left command (Some own) (inr h) = absurd h
 
 -- the rows that end at a node, and others
@@ -129,17 +116,17 @@ pub some-ending_rows : (c q : Bool) (branch : Branch) (rows : List Row) (left : 
     → Ends left (command_of q branch) command → SomeNames c q left command (ending_rows c branch ++ rows)
 some-ending_rows c false branch rows left command h =
     some-left c false left command (ending_rows c branch) rows
-    (some-left c false left command (ending_row (form_of c false) branch.plain) (ending_row (form_of c true) branch.query)
+    (some-left c false left command (ending_row c false branch.plain) (ending_row c true branch.query)
     (some-ending_row c false left command branch.plain h))
 some-ending_rows c true branch rows left command h =
     some-left c true left command (ending_rows c branch) rows
-    (some-right c true left command (ending_row (form_of c false) branch.plain) (ending_row (form_of c true) branch.query)
+    (some-right c true left command (ending_row c false branch.plain) (ending_row c true branch.query)
     (some-ending_row c true left command branch.query h))
 
 ends-ending_rows : (c q d : Bool) (branch : Branch) (left : List (List ℕ)) (command : CommandId)
     → SomeNames c q left command (ending_rows d branch) → (c ≡ d) × Ends left (command_of q branch) command
 ends-ending_rows c q d branch left command h =
-    elim (some-cases c q left command (ending_row (form_of d false) branch.plain) (ending_row (form_of d true) branch.query) h) [
+    elim (some-cases c q left command (ending_row d false branch.plain) (ending_row d true branch.query) h) [
       | inl plain ↦
           let found = ends-ending_row c q d false left command branch.plain plain in
           (found.0, subst (λ sign. Ends left (command_of sign branch) command) (sym found.1) found.2)

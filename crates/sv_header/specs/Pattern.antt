@@ -4,22 +4,16 @@ use Prim.Native.String.{String}
 use Rattle.std.specs.Char.{to_ascii_lowercase}
 use Rattle.sv_header.specs.declared.command.CommandId.{CommandId}
 
--- what leads a pattern's headers, and whether the query sign ends them: common commands, without it and with it, and others
-pub data Form : Type 0 where
-  CommonCommand : Form
-  CommonQuery : Form
-  Command : Form
-  Query : Form
-
 -- a node of a pattern: the short and the long form of its mnemonic, and whether it may be absent
 pub record Part : Type 0 where
   pub short : List ℕ
   pub long : List ℕ
   pub optional : Bool
 
--- a row of the table: a command and its pattern
+-- a row of the table: whether its headers are common commands, whether the query sign ends them, their nodes, and the command
 pub record Row : Type 0 where
-  pub form : Form
+  pub common : Bool
+  pub query : Bool
   pub parts : List Part
   pub command : CommandId
 
@@ -31,8 +25,8 @@ node short more = record { short = codes short; long = codes short ++ codes more
 abbrev pub maybe : String → String → Part
 maybe short more = record { short = codes short; long = codes short ++ codes more; optional = true }
 
-abbrev pub row : Form → List Part → CommandId → Row
-row form parts command = record { form = form; parts = parts; command = command }
+abbrev pub row : Bool → Bool → List Part → CommandId → Row
+row common query parts command = record { common = common; query = query; parts = parts; command = command }
 
 -- The same letters, in any case.
 abbrev pub Same : List ℕ → List ℕ → Type 0
@@ -51,15 +45,3 @@ IsThere (sent ∷ others) part Others = IsForm sent part × Others others
 abbrev pub Fits : List (List ℕ) → List Part → Type 0
 Fits sent [] = sent ≡ []
 Fits sent (part ∷ parts) = IsThere sent part (λ others. Fits others parts) ⊎ ((part.optional ≡ true) × Fits sent parts)
-
--- whether a form is that of common commands
-abbrev pub is_common : Form → Bool
-is_common CommonCommand = true
-is_common CommonQuery = true
-is_common _ = false
-
--- whether it has the query sign
-abbrev pub has_sign : Form → Bool
-has_sign CommonQuery = true
-has_sign Query = true
-has_sign _ = false

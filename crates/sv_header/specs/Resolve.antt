@@ -5,7 +5,7 @@ use Rattle.sv_text.specs.Header.{lead, mnemonics, is_query}
 use Rattle.sv_text.specs.declared.header.Lead.{Lead}
 use Rattle.sv_text.specs.declared.header.Lead.TheVariants.{Common, Root, Onward}
 use Rattle.sv_header.specs.declared.command.CommandId.{CommandId}
-use Rattle.sv_header.specs.Pattern.{Row, Fits, is_common, has_sign}
+use Rattle.sv_header.specs.Pattern.{Row, Fits}
 use Rattle.sv_header.specs.Table.{table}
 
 -- what stands in front of a header: the path, unless it starts at the root or is a common command
@@ -24,8 +24,7 @@ leads_common _ = false
 -- A header behind a path fits a row: both are common commands or neither is, both have the query sign or neither has, and the mnemonics
 -- fit.
 abbrev pub FitsRow : List (List ℕ) → List ℕ → Row → Type 0
-FitsRow path header row = (leads_common (lead header) ≡ is_common row.form) × (is_query header ≡ has_sign row.form)
-    × Fits (full path header) row.parts
+FitsRow path header row = (leads_common (lead header) ≡ row.common) × (is_query header ≡ row.query) × Fits (full path header) row.parts
 
 -- A header behind a path names a command: it fits that command's row.
 abbrev pub Resolves : List (List ℕ) → List ℕ → CommandId → Type 0

@@ -1,108 +1,103 @@
--- The table of commands: each with its pattern.
-use Rattle.std.specs.Prelude.{List, [], ◌∷◌, ◌++◌}
-use Rattle.sv_header.specs.declared.command.CommandId.TheVariants.{ClearStatus, StandardEventEnable, StandardEventEnableQuery, StandardEventQuery, IdentificationQuery, OperationComplete, OperationCompleteQuery, Reset, ServiceRequestEnable, ServiceRequestEnableQuery, StatusByteQuery, Trigger, SelfTestQuery, WaitToContinue, SystemErrorQuery, SystemErrorCountQuery, SystemVersionQuery, StatusPreset, OperationEventQuery, OperationConditionQuery, OperationEnable, OperationEnableQuery, OperationPositiveTransition, OperationPositiveTransitionQuery, OperationNegativeTransition, OperationNegativeTransitionQuery, QuestionableEventQuery, QuestionableConditionQuery, QuestionableEnable, QuestionableEnableQuery, QuestionablePositiveTransition, QuestionablePositiveTransitionQuery, QuestionableNegativeTransition, QuestionableNegativeTransitionQuery, LimitEventQuery, LimitConditionQuery, LimitEnable, LimitEnableQuery, LimitPositiveTransition, LimitPositiveTransitionQuery, LimitNegativeTransition, LimitNegativeTransitionQuery, RouteScan, RouteScanQuery, RouteMonitor, RouteMonitorQuery, VoltageRange, VoltageRangeQuery, UpperLimit, UpperLimitQuery, LowerLimit, LowerLimitQuery, LimitState, LimitStateQuery, TriggerSource, TriggerSourceQuery, TriggerCount, TriggerCountQuery, Initiate, Abort, FetchQuery, ReadQuery, ConfigureVoltage, MeasureVoltageQuery}
-use Rattle.sv_header.specs.Pattern.{Row, row, node, maybe, CommonCommand, CommonQuery, Command, Query}
+-- The table of commands: each with its pattern, and what it does, asks for or sets.
+use Rattle.std.specs.Prelude.{true, false, List, [], ◌∷◌, ◌++◌}
+use Prim.Native.String.{String}
+use Rattle.sv_status.specs.declared.register_name.RegisterName.{RegisterName}
+use Rattle.sv_status.specs.declared.register_name.RegisterName.TheVariants.{Operation, Questionable, Limit}
+use Rattle.sv_header.specs.declared.command.CommandId.{CommandId}
+use Rattle.sv_header.specs.declared.command.CommandId.TheVariants.{Do, Ask, Set, Configure, Measure}
+use Rattle.sv_header.specs.declared.command.Action.TheVariants.{ClearStatus, TellComplete, WaitAndTell, Reset, Trigger, Wait, Preset, Initiate, Abort, Read}
+use Rattle.sv_header.specs.declared.command.Question.TheVariants.{StandardEvents, Identification, StatusByte, SelfTest, Error, ErrorCount, Version, Events, Condition, Readings, Value}
+use Rattle.sv_header.specs.declared.command.SettingName.{SettingName}
+use Rattle.sv_header.specs.declared.command.SettingName.TheVariants.{StandardEnable, ServiceEnable, Enable, Rise, Fall, ScanList, Monitor, Range, UpperLimit, LowerLimit, Limits, Source, Count}
+use Rattle.sv_header.specs.Pattern.{Part, Row, row, node, maybe}
+
+-- a common command, which is one mnemonic, and a common query; another command by its nodes, and another query
+abbrev common : String → CommandId → Row
+common name id = row true false (node name "" ∷ []) id
+
+abbrev common_query : String → CommandId → Row
+common_query name id = row true true (node name "" ∷ []) id
+
+abbrev command : List Part → CommandId → Row
+command nodes id = row false false nodes id
+
+abbrev query : List Part → CommandId → Row
+query nodes id = row false true nodes id
+
+-- a setting and the query of its value
+abbrev setting : List Part → SettingName → List Row
+setting nodes name = command nodes (Set name) ∷ query nodes (Ask (Value name)) ∷ []
 
 -- common commands (IEEE 488.2, chapter 10)
 abbrev pub common_commands : List Row
 common_commands =
-    row CommonCommand (node "CLS" "" ∷ []) ClearStatus
-    ∷ row CommonCommand (node "ESE" "" ∷ []) StandardEventEnable
-    ∷ row CommonQuery (node "ESE" "" ∷ []) StandardEventEnableQuery
-    ∷ row CommonQuery (node "ESR" "" ∷ []) StandardEventQuery
-    ∷ row CommonQuery (node "IDN" "" ∷ []) IdentificationQuery
-    ∷ row CommonCommand (node "OPC" "" ∷ []) OperationComplete
-    ∷ row CommonQuery (node "OPC" "" ∷ []) OperationCompleteQuery
-    ∷ row CommonCommand (node "RST" "" ∷ []) Reset
-    ∷ row CommonCommand (node "SRE" "" ∷ []) ServiceRequestEnable
-    ∷ row CommonQuery (node "SRE" "" ∷ []) ServiceRequestEnableQuery
-    ∷ row CommonQuery (node "STB" "" ∷ []) StatusByteQuery
-    ∷ row CommonCommand (node "TRG" "" ∷ []) Trigger
-    ∷ row CommonQuery (node "TST" "" ∷ []) SelfTestQuery
-    ∷ row CommonCommand (node "WAI" "" ∷ []) WaitToContinue
+    common "CLS" (Do ClearStatus)
+    ∷ common "ESE" (Set StandardEnable)
+    ∷ common_query "ESE" (Ask (Value StandardEnable))
+    ∷ common_query "ESR" (Ask StandardEvents)
+    ∷ common_query "IDN" (Ask Identification)
+    ∷ common "OPC" (Do TellComplete)
+    ∷ common_query "OPC" (Do WaitAndTell)
+    ∷ common "RST" (Do Reset)
+    ∷ common "SRE" (Set ServiceEnable)
+    ∷ common_query "SRE" (Ask (Value ServiceEnable))
+    ∷ common_query "STB" (Ask StatusByte)
+    ∷ common "TRG" (Do Trigger)
+    ∷ common_query "TST" (Ask SelfTest)
+    ∷ common "WAI" (Do Wait)
     ∷ []
 
--- the queries of the system, and the preset of the status registers (SCPI-1999, volume 2)
+-- the queries of the system (SCPI-1999, volume 2)
 abbrev pub system_commands : List Row
 system_commands =
-    row Query (node "SYST" "EM" ∷ node "ERR" "OR" ∷ maybe "NEXT" "" ∷ []) SystemErrorQuery
-    ∷ row Query (node "SYST" "EM" ∷ node "ERR" "OR" ∷ node "COUN" "T" ∷ []) SystemErrorCountQuery
-    ∷ row Query (node "SYST" "EM" ∷ node "VERS" "ION" ∷ []) SystemVersionQuery
-    ∷ row Command (node "STAT" "US" ∷ node "PRES" "ET" ∷ []) StatusPreset
+    query (node "SYST" "EM" ∷ node "ERR" "OR" ∷ maybe "NEXT" "" ∷ []) (Ask Error)
+    ∷ query (node "SYST" "EM" ∷ node "ERR" "OR" ∷ node "COUN" "T" ∷ []) (Ask ErrorCount)
+    ∷ query (node "SYST" "EM" ∷ node "VERS" "ION" ∷ []) (Ask Version)
     ∷ []
 
--- the operation register
-abbrev pub operation_commands : List Row
-operation_commands =
-    row Query (node "STAT" "US" ∷ node "OPER" "ATION" ∷ maybe "EVEN" "T" ∷ []) OperationEventQuery
-    ∷ row Query (node "STAT" "US" ∷ node "OPER" "ATION" ∷ node "COND" "ITION" ∷ []) OperationConditionQuery
-    ∷ row Command (node "STAT" "US" ∷ node "OPER" "ATION" ∷ node "ENAB" "LE" ∷ []) OperationEnable
-    ∷ row Query (node "STAT" "US" ∷ node "OPER" "ATION" ∷ node "ENAB" "LE" ∷ []) OperationEnableQuery
-    ∷ row Command (node "STAT" "US" ∷ node "OPER" "ATION" ∷ node "PTR" "ANSITION" ∷ []) OperationPositiveTransition
-    ∷ row Query (node "STAT" "US" ∷ node "OPER" "ATION" ∷ node "PTR" "ANSITION" ∷ []) OperationPositiveTransitionQuery
-    ∷ row Command (node "STAT" "US" ∷ node "OPER" "ATION" ∷ node "NTR" "ANSITION" ∷ []) OperationNegativeTransition
-    ∷ row Query (node "STAT" "US" ∷ node "OPER" "ATION" ∷ node "NTR" "ANSITION" ∷ []) OperationNegativeTransitionQuery
-    ∷ []
+-- a status register, whose nodes stand behind these
+abbrev register : List Part → RegisterName → List Row
+register place name =
+    query (place ++ maybe "EVEN" "T" ∷ []) (Ask (Events name))
+    ∷ query (place ++ node "COND" "ITION" ∷ []) (Ask (Condition name))
+    ∷ (setting (place ++ node "ENAB" "LE" ∷ []) (Enable name)
+    ++ (setting (place ++ node "PTR" "ANSITION" ∷ []) (Rise name)
+    ++ setting (place ++ node "NTR" "ANSITION" ∷ []) (Fall name)))
 
--- the questionable register
-abbrev pub questionable_commands : List Row
-questionable_commands =
-    row Query (node "STAT" "US" ∷ node "QUES" "TIONABLE" ∷ maybe "EVEN" "T" ∷ []) QuestionableEventQuery
-    ∷ row Query (node "STAT" "US" ∷ node "QUES" "TIONABLE" ∷ node "COND" "ITION" ∷ []) QuestionableConditionQuery
-    ∷ row Command (node "STAT" "US" ∷ node "QUES" "TIONABLE" ∷ node "ENAB" "LE" ∷ []) QuestionableEnable
-    ∷ row Query (node "STAT" "US" ∷ node "QUES" "TIONABLE" ∷ node "ENAB" "LE" ∷ []) QuestionableEnableQuery
-    ∷ row Command (node "STAT" "US" ∷ node "QUES" "TIONABLE" ∷ node "PTR" "ANSITION" ∷ []) QuestionablePositiveTransition
-    ∷ row Query (node "STAT" "US" ∷ node "QUES" "TIONABLE" ∷ node "PTR" "ANSITION" ∷ []) QuestionablePositiveTransitionQuery
-    ∷ row Command (node "STAT" "US" ∷ node "QUES" "TIONABLE" ∷ node "NTR" "ANSITION" ∷ []) QuestionableNegativeTransition
-    ∷ row Query (node "STAT" "US" ∷ node "QUES" "TIONABLE" ∷ node "NTR" "ANSITION" ∷ []) QuestionableNegativeTransitionQuery
-    ∷ []
-
--- the register of limits
-abbrev pub limit_commands : List Row
-limit_commands =
-    row Query (node "STAT" "US" ∷ node "QUES" "TIONABLE" ∷ node "LIM" "IT" ∷ maybe "EVEN" "T" ∷ []) LimitEventQuery
-    ∷ row Query (node "STAT" "US" ∷ node "QUES" "TIONABLE" ∷ node "LIM" "IT" ∷ node "COND" "ITION" ∷ []) LimitConditionQuery
-    ∷ row Command (node "STAT" "US" ∷ node "QUES" "TIONABLE" ∷ node "LIM" "IT" ∷ node "ENAB" "LE" ∷ []) LimitEnable
-    ∷ row Query (node "STAT" "US" ∷ node "QUES" "TIONABLE" ∷ node "LIM" "IT" ∷ node "ENAB" "LE" ∷ []) LimitEnableQuery
-    ∷ row Command (node "STAT" "US" ∷ node "QUES" "TIONABLE" ∷ node "LIM" "IT" ∷ node "PTR" "ANSITION" ∷ []) LimitPositiveTransition
-    ∷ row Query (node "STAT" "US" ∷ node "QUES" "TIONABLE" ∷ node "LIM" "IT" ∷ node "PTR" "ANSITION" ∷ []) LimitPositiveTransitionQuery
-    ∷ row Command (node "STAT" "US" ∷ node "QUES" "TIONABLE" ∷ node "LIM" "IT" ∷ node "NTR" "ANSITION" ∷ []) LimitNegativeTransition
-    ∷ row Query (node "STAT" "US" ∷ node "QUES" "TIONABLE" ∷ node "LIM" "IT" ∷ node "NTR" "ANSITION" ∷ []) LimitNegativeTransitionQuery
-    ∷ []
+-- the status registers, and their preset
+abbrev pub status_commands : List Row
+status_commands =
+    command (node "STAT" "US" ∷ node "PRES" "ET" ∷ []) (Do Preset)
+    ∷ (register (node "STAT" "US" ∷ node "OPER" "ATION" ∷ []) Operation
+    ++ (register (node "STAT" "US" ∷ node "QUES" "TIONABLE" ∷ []) Questionable
+    ++ register (node "STAT" "US" ∷ node "QUES" "TIONABLE" ∷ node "LIM" "IT" ∷ []) Limit))
 
 -- what is measured, and how
 abbrev pub setting_commands : List Row
 setting_commands =
-    row Command (node "ROUT" "E" ∷ node "SCAN" "" ∷ []) RouteScan
-    ∷ row Query (node "ROUT" "E" ∷ node "SCAN" "" ∷ []) RouteScanQuery
-    ∷ row Command (node "ROUT" "E" ∷ node "MON" "ITOR" ∷ []) RouteMonitor
-    ∷ row Query (node "ROUT" "E" ∷ node "MON" "ITOR" ∷ []) RouteMonitorQuery
-    ∷ row Command (maybe "SENS" "E" ∷ node "VOLT" "AGE" ∷ maybe "DC" "" ∷ node "RANG" "E" ∷ maybe "UPP" "ER" ∷ []) VoltageRange
-    ∷ row Query (maybe "SENS" "E" ∷ node "VOLT" "AGE" ∷ maybe "DC" "" ∷ node "RANG" "E" ∷ maybe "UPP" "ER" ∷ []) VoltageRangeQuery
-    ∷ row Command (node "CALC" "ULATE" ∷ node "LIM" "IT" ∷ node "UPP" "ER" ∷ []) UpperLimit
-    ∷ row Query (node "CALC" "ULATE" ∷ node "LIM" "IT" ∷ node "UPP" "ER" ∷ []) UpperLimitQuery
-    ∷ row Command (node "CALC" "ULATE" ∷ node "LIM" "IT" ∷ node "LOW" "ER" ∷ []) LowerLimit
-    ∷ row Query (node "CALC" "ULATE" ∷ node "LIM" "IT" ∷ node "LOW" "ER" ∷ []) LowerLimitQuery
-    ∷ row Command (node "CALC" "ULATE" ∷ node "LIM" "IT" ∷ node "STAT" "E" ∷ []) LimitState
-    ∷ row Query (node "CALC" "ULATE" ∷ node "LIM" "IT" ∷ node "STAT" "E" ∷ []) LimitStateQuery
-    ∷ row Command (node "TRIG" "GER" ∷ node "SOUR" "CE" ∷ []) TriggerSource
-    ∷ row Query (node "TRIG" "GER" ∷ node "SOUR" "CE" ∷ []) TriggerSourceQuery
-    ∷ row Command (node "TRIG" "GER" ∷ node "COUN" "T" ∷ []) TriggerCount
-    ∷ row Query (node "TRIG" "GER" ∷ node "COUN" "T" ∷ []) TriggerCountQuery
-    ∷ []
+    setting (node "ROUT" "E" ∷ node "SCAN" "" ∷ []) ScanList
+    ++ (setting (node "ROUT" "E" ∷ node "MON" "ITOR" ∷ []) Monitor
+    ++ (setting (maybe "SENS" "E" ∷ node "VOLT" "AGE" ∷ maybe "DC" "" ∷ node "RANG" "E" ∷ maybe "UPP" "ER" ∷ []) Range
+    ++ (setting (node "CALC" "ULATE" ∷ node "LIM" "IT" ∷ node "UPP" "ER" ∷ []) UpperLimit
+    ++ (setting (node "CALC" "ULATE" ∷ node "LIM" "IT" ∷ node "LOW" "ER" ∷ []) LowerLimit
+    ++ (setting (node "CALC" "ULATE" ∷ node "LIM" "IT" ∷ node "STAT" "E" ∷ []) Limits
+    ++ (setting (node "TRIG" "GER" ∷ node "SOUR" "CE" ∷ []) Source
+    ++ setting (node "TRIG" "GER" ∷ node "COUN" "T" ∷ []) Count))))))
 
 -- measuring
 abbrev pub measuring_commands : List Row
 measuring_commands =
-    row Command (node "INIT" "IATE" ∷ maybe "IMM" "EDIATE" ∷ []) Initiate
-    ∷ row Command (node "ABOR" "T" ∷ []) Abort
-    ∷ row Query (node "FETC" "H" ∷ []) FetchQuery
-    ∷ row Query (node "READ" "" ∷ []) ReadQuery
-    ∷ row Command (node "CONF" "IGURE" ∷ node "VOLT" "AGE" ∷ maybe "DC" "" ∷ []) ConfigureVoltage
-    ∷ row Query (node "MEAS" "URE" ∷ node "VOLT" "AGE" ∷ maybe "DC" "" ∷ []) MeasureVoltageQuery
+    command (node "INIT" "IATE" ∷ maybe "IMM" "EDIATE" ∷ []) (Do Initiate)
+    ∷ command (node "ABOR" "T" ∷ []) (Do Abort)
+    ∷ query (node "FETC" "H" ∷ []) (Ask Readings)
+    ∷ query (node "READ" "" ∷ []) (Do Read)
+    ∷ command (node "CONF" "IGURE" ∷ node "VOLT" "AGE" ∷ maybe "DC" "" ∷ []) Configure
+    ∷ query (node "MEAS" "URE" ∷ node "VOLT" "AGE" ∷ maybe "DC" "" ∷ []) Measure
     ∷ []
 
 -- all of them
+abbrev pub other_commands : List Row
+other_commands = system_commands ++ (status_commands ++ (setting_commands ++ measuring_commands))
+
 abbrev pub table : List Row
-table = common_commands ++ system_commands ++ operation_commands ++ questionable_commands ++ limit_commands ++ setting_commands
-    ++ measuring_commands
+table = common_commands ++ other_commands

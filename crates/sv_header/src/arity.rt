@@ -1,48 +1,19 @@
 //! How many parameters a command takes.
 
 ghost use Rattle.std.specs.Prelude.{◌≡◌};
-ghost use Rattle.sv_header.specs.Arity.{arity_of};
+ghost use Rattle.sv_header.specs.Arity.{most_parameters as most_of};
 
 use crate::command::CommandId;
 
-/// How many parameters a command takes.
-#[derive(Clone, Copy, Debug, PartialEq, Eq)]
-pub enum Arity {
-    /// None.
-    Nothing,
-    /// Exactly one.
-    One,
-    /// None or one.
-    Optional,
-}
-
 impl CommandId {
-    /// How many parameters the command takes (IEEE 488.2, chapter 10; SCPI-1999, volume 2).
-    pub fn arity(self) -> Arity
-        ensures { result ≡ arity_of self }
+    /// How many parameters the command takes at most (IEEE 488.2, chapter 10; SCPI-1999, volume 2):
+    /// one where it has a value or a list of channels, else none.
+    pub fn most_parameters(self) -> usize
+        ensures { result ≡ most_of self }
     {
         match self {
-            CommandId::StandardEventEnable
-            | CommandId::ServiceRequestEnable
-            | CommandId::OperationEnable
-            | CommandId::OperationPositiveTransition
-            | CommandId::OperationNegativeTransition
-            | CommandId::QuestionableEnable
-            | CommandId::QuestionablePositiveTransition
-            | CommandId::QuestionableNegativeTransition
-            | CommandId::LimitEnable
-            | CommandId::LimitPositiveTransition
-            | CommandId::LimitNegativeTransition
-            | CommandId::RouteScan
-            | CommandId::RouteMonitor
-            | CommandId::VoltageRange
-            | CommandId::UpperLimit
-            | CommandId::LowerLimit
-            | CommandId::LimitState
-            | CommandId::TriggerSource
-            | CommandId::TriggerCount => Arity::One,
-            CommandId::ConfigureVoltage | CommandId::MeasureVoltageQuery => Arity::Optional,
-            _ => Arity::Nothing,
+            CommandId::Do(_) | CommandId::Ask(_) => 0,
+            CommandId::Set(_) | CommandId::Configure | CommandId::Measure => 1,
         }
     }
 }

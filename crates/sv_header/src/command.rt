@@ -1,135 +1,103 @@
-//! The commands.
+//! What a header names.
 
-/// The commands that a header can name, one for each pattern of the table: a header with the query
-/// sign and the same header without it are two.
+use sv_status::RegisterName;
+
+/// What a header names. A header with the query sign and the same one without it name different
+/// commands.
 #[derive(Clone, Copy, Debug, PartialEq, Eq)]
 pub enum CommandId {
-    /// `*CLS`.
+    /// A command without a parameter, or a query that isn't answered at once.
+    Do(Action),
+    /// A query that is answered at once.
+    Ask(Question),
+    /// A setting, whose value is the parameter.
+    Set(SettingName),
+    /// `CONFigure:VOLTage[:DC]`: a measurement is configured, with the channels that are given, if
+    /// any.
+    Configure,
+    /// `MEASure:VOLTage[:DC]?`: as [`CommandId::Configure`], and then it is made and answered.
+    Measure,
+}
+
+/// What is done without a parameter.
+#[derive(Clone, Copy, Debug, PartialEq, Eq)]
+pub enum Action {
+    /// `*CLS`: clear events and the error queue (IEEE 488.2, 10.3).
     ClearStatus,
-    /// `*ESE`.
-    StandardEventEnable,
-    /// `*ESE?`.
-    StandardEventEnableQuery,
-    /// `*ESR?`.
-    StandardEventQuery,
-    /// `*IDN?`.
-    IdentificationQuery,
-    /// `*OPC`.
-    OperationComplete,
-    /// `*OPC?`.
-    OperationCompleteQuery,
-    /// `*RST`.
+    /// `*RST`: abort, and every setting takes its default (IEEE 488.2, 10.32).
     Reset,
-    /// `*SRE`.
-    ServiceRequestEnable,
-    /// `*SRE?`.
-    ServiceRequestEnableQuery,
-    /// `*STB?`.
-    StatusByteQuery,
-    /// `*TRG`.
+    /// `*OPC`: tell the end of the measurement in the standard events (IEEE 488.2, 10.18).
+    TellComplete,
+    /// `*WAI`: wait for the end of the measurement (IEEE 488.2, 10.39).
+    Wait,
+    /// `*OPC?`: wait for the end of the measurement, and answer a one (IEEE 488.2, 10.19).
+    WaitAndTell,
+    /// `*TRG`: a trigger from the controller (IEEE 488.2, 10.37).
     Trigger,
-    /// `*TST?`.
-    SelfTestQuery,
-    /// `*WAI`.
-    WaitToContinue,
-    /// `SYSTem:ERRor[:NEXT]?`.
-    SystemErrorQuery,
-    /// `SYSTem:ERRor:COUNt?`.
-    SystemErrorCountQuery,
-    /// `SYSTem:VERSion?`.
-    SystemVersionQuery,
-    /// `STATus:PRESet`.
-    StatusPreset,
-    /// `STATus:OPERation[:EVENt]?`.
-    OperationEventQuery,
-    /// `STATus:OPERation:CONDition?`.
-    OperationConditionQuery,
-    /// `STATus:OPERation:ENABle`.
-    OperationEnable,
-    /// `STATus:OPERation:ENABle?`.
-    OperationEnableQuery,
-    /// `STATus:OPERation:PTRansition`.
-    OperationPositiveTransition,
-    /// `STATus:OPERation:PTRansition?`.
-    OperationPositiveTransitionQuery,
-    /// `STATus:OPERation:NTRansition`.
-    OperationNegativeTransition,
-    /// `STATus:OPERation:NTRansition?`.
-    OperationNegativeTransitionQuery,
-    /// `STATus:QUEStionable[:EVENt]?`.
-    QuestionableEventQuery,
-    /// `STATus:QUEStionable:CONDition?`.
-    QuestionableConditionQuery,
-    /// `STATus:QUEStionable:ENABle`.
-    QuestionableEnable,
-    /// `STATus:QUEStionable:ENABle?`.
-    QuestionableEnableQuery,
-    /// `STATus:QUEStionable:PTRansition`.
-    QuestionablePositiveTransition,
-    /// `STATus:QUEStionable:PTRansition?`.
-    QuestionablePositiveTransitionQuery,
-    /// `STATus:QUEStionable:NTRansition`.
-    QuestionableNegativeTransition,
-    /// `STATus:QUEStionable:NTRansition?`.
-    QuestionableNegativeTransitionQuery,
-    /// `STATus:QUEStionable:LIMit[:EVENt]?`.
-    LimitEventQuery,
-    /// `STATus:QUEStionable:LIMit:CONDition?`.
-    LimitConditionQuery,
-    /// `STATus:QUEStionable:LIMit:ENABle`.
-    LimitEnable,
-    /// `STATus:QUEStionable:LIMit:ENABle?`.
-    LimitEnableQuery,
-    /// `STATus:QUEStionable:LIMit:PTRansition`.
-    LimitPositiveTransition,
-    /// `STATus:QUEStionable:LIMit:PTRansition?`.
-    LimitPositiveTransitionQuery,
-    /// `STATus:QUEStionable:LIMit:NTRansition`.
-    LimitNegativeTransition,
-    /// `STATus:QUEStionable:LIMit:NTRansition?`.
-    LimitNegativeTransitionQuery,
-    /// `ROUTe:SCAN`.
-    RouteScan,
-    /// `ROUTe:SCAN?`.
-    RouteScanQuery,
-    /// `ROUTe:MONitor`.
-    RouteMonitor,
-    /// `ROUTe:MONitor?`.
-    RouteMonitorQuery,
-    /// `[SENSe:]VOLTage[:DC]:RANGe[:UPPer]`.
-    VoltageRange,
-    /// `[SENSe:]VOLTage[:DC]:RANGe[:UPPer]?`.
-    VoltageRangeQuery,
-    /// `CALCulate:LIMit:UPPer`.
-    UpperLimit,
-    /// `CALCulate:LIMit:UPPer?`.
-    UpperLimitQuery,
-    /// `CALCulate:LIMit:LOWer`.
-    LowerLimit,
-    /// `CALCulate:LIMit:LOWer?`.
-    LowerLimitQuery,
-    /// `CALCulate:LIMit:STATe`.
-    LimitState,
-    /// `CALCulate:LIMit:STATe?`.
-    LimitStateQuery,
-    /// `TRIGger:SOURce`.
-    TriggerSource,
-    /// `TRIGger:SOURce?`.
-    TriggerSourceQuery,
-    /// `TRIGger:COUNt`.
-    TriggerCount,
-    /// `TRIGger:COUNt?`.
-    TriggerCountQuery,
-    /// `INITiate[:IMMediate]`.
+    /// `STATus:PRESet`: preset the registers' filters and enables.
+    Preset,
+    /// `INITiate[:IMMediate]`: begin a measurement.
     Initiate,
-    /// `ABORt`.
+    /// `ABORt`: end the measurement.
     Abort,
-    /// `FETCh?`.
-    FetchQuery,
-    /// `READ?`.
-    ReadQuery,
-    /// `CONFigure:VOLTage[:DC]`.
-    ConfigureVoltage,
-    /// `MEASure:VOLTage[:DC]?`.
-    MeasureVoltageQuery,
+    /// `READ?`: abort, begin a measurement, and answer its readings.
+    Read,
+}
+
+/// What a query asks for that is answered at once.
+#[derive(Clone, Copy, Debug, PartialEq, Eq)]
+pub enum Question {
+    /// `*IDN?`: who the instrument is.
+    Identification,
+    /// `*TST?`: how the self-test ended.
+    SelfTest,
+    /// `SYSTem:VERSion?`: the version of SCPI.
+    Version,
+    /// `*ESR?`: the standard events, which are cleared thereby.
+    StandardEvents,
+    /// `*STB?`: the status byte, with the master summary in bit 6.
+    StatusByte,
+    /// `SYSTem:ERRor[:NEXT]?`: the oldest entry of the error queue, which is taken thereby.
+    Error,
+    /// `SYSTem:ERRor:COUNt?`: how many entries the error queue has.
+    ErrorCount,
+    /// `STATus:..[:EVENt]?`: the events of a register, which are cleared thereby.
+    Events(RegisterName),
+    /// `STATus:..:CONDition?`: the condition of a register.
+    Condition(RegisterName),
+    /// `FETCh?`: the readings of the last measurement.
+    Readings,
+    /// The header of a setting with the query sign: its value.
+    Value(SettingName),
+}
+
+/// What has a value that a command sets and its query tells.
+#[derive(Clone, Copy, Debug, PartialEq, Eq)]
+pub enum SettingName {
+    /// `*ESE`: which standard events are enabled.
+    StandardEnable,
+    /// `*SRE`: which bits of the status byte ask for service.
+    ServiceEnable,
+    /// `STATus:..:ENABle`: which events of a register are enabled.
+    Enable(RegisterName),
+    /// `STATus:..:PTRansition`: which bits of a register count where they rise.
+    Rise(RegisterName),
+    /// `STATus:..:NTRansition`: which bits of a register count where they fall.
+    Fall(RegisterName),
+    /// `ROUTe:SCAN`: the channels that a scan reads.
+    ScanList,
+    /// `ROUTe:MONitor`: the channel whose live input is compared with the limits.
+    Monitor,
+    /// `[SENSe:]VOLTage[:DC]:RANGe[:UPPer]`: the range.
+    Range,
+    /// `CALCulate:LIMit:UPPer`: the upper limit.
+    UpperLimit,
+    /// `CALCulate:LIMit:LOWer`: the lower limit.
+    LowerLimit,
+    /// `CALCulate:LIMit:STATe`: whether the limits count.
+    Limits,
+    /// `TRIGger:SOURce`: where triggers come from.
+    Source,
+    /// `TRIGger:COUNt`: how many scans a measurement has.
+    Count,
 }

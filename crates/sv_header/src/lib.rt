@@ -17,7 +17,6 @@ mod sent;
 mod table;
 mod walk;
 
-pub use arity::Arity;
-pub use command::CommandId;
+pub use command::{Action, CommandId, Question, SettingName};
 pub use path::Path;
 pub use resolving::Table;

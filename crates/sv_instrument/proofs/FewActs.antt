@@ -9,15 +9,17 @@ use Rattle.sv_scan.specs.Scan.{readings}
 use Rattle.sv_exchange.specs.Exchange.{Answered, AnswersDropped, Due, NothingDue, OverrunDue, InterruptDue, UnitDue, FinishDue, due, answers, fits_response}
 use Rattle.sv_command.specs.declared.order.Order.{Order}
 use Rattle.sv_command.specs.declared.order.Order.TheVariants as order
-use Rattle.sv_command.specs.declared.order.Question.{Question}
-use Rattle.sv_command.specs.declared.order.Question.TheVariants as question
+use Rattle.sv_header.specs.declared.command.Action.{Action}
+use Rattle.sv_header.specs.declared.command.Action.TheVariants as action
+use Rattle.sv_header.specs.declared.command.Question.{Question}
+use Rattle.sv_header.specs.declared.command.Question.TheVariants as question
 use Rattle.sv_layers.specs.declared.change.Awaited.{Awaited}
 use Rattle.sv_layers.specs.declared.change.Awaited.TheVariants.{Nothing, One, Readings}
 use Rattle.sv_layers.specs.Act.{Act, Exchanged, Held, Reported, Scanned, exchange_acts}
 use Rattle.sv_layers.specs.Condition.{counted}
 use Rattle.sv_instrument.specs.HeldUnit.{held}
 use Rattle.sv_instrument.specs.QueryResponse.{readings_text}
-use Rattle.sv_instrument.specs.CommandEffect.{Performs, Replies, answered, configured, done, taken, unless}
+use Rattle.sv_instrument.specs.CommandEffect.{Performs, Replies, acted, answered, configured, done, taken, unless}
 use Rattle.sv_instrument.specs.Step.{Does, IsStep, Starts, StepOf, interrupted, released}
 use Rattle.sv_instrument.specs.Inside.Acted.{IsCountable}
 
@@ -52,13 +54,17 @@ configured_few : (list : Option (List ℕ)) (log : List Act) → IsWithin 5 log 
 configured_few None log = omega arith
 configured_few (Some channels) log = omega arith
 
+acted_few : (done_so : Action) (log : List Act) → IsWithin 9 log (acted done_so log)
+acted_few action.Trigger log = unless_few _ (done (Scanned (scan.Trigger Bus) ∷ log)) log (omega arith)
+acted_few action.Initiate log = unless_few _ (done (Scanned scan.Init ∷ log)) log (omega arith)
+acted_few action.Read log = unless_few _ (Held Readings ∷ Scanned scan.Init ∷ Scanned scan.Abort ∷ log) log (omega arith)
+acted_few _ log = omega arith
+
 performs_few : (ordered : Order) (log new : List Act) → Performs ordered log new → IsWithin 9 log new
-performs_few order.Trigger log new is = rw is (unless_few _ (done (Scanned (scan.Trigger Bus) ∷ log)) log (omega arith))
 performs_few (order.Set given) log new is = rw is (unless_few _ (done (Scanned (scan.Configure given) ∷ log)) log (omega arith))
-performs_few order.Initiate log new is = rw is (unless_few _ (done (Scanned scan.Init ∷ log)) log (omega arith))
-performs_few order.Read log new is = rw is (unless_few _ (Held Readings ∷ Scanned scan.Init ∷ Scanned scan.Abort ∷ log) log (omega arith))
 performs_few (order.Configure list) log new is = let few = configured_few list log in rw is (omega arith)
 performs_few (order.Measure list) log new is = let few = configured_few list log in rw is (omega arith)
+performs_few (order.Do given) log new is = rw is (acted_few given log)
 performs_few (order.Ask asked) log new does = replies_few _ asked log new does
 performs_few _ log new is = rw is (omega arith)
 

@@ -9,10 +9,12 @@ use Rattle.sv_scan.specs.declared.setting.Setting.TheVariants as setting
 use Rattle.sv_scan.specs.Counted.{setting_fault, init_fault, trigger_fault, read_fault}
 use Rattle.sv_scan.specs.Scan.{is_complete}
 use Rattle.sv_exchange.specs.Exchange.{UnitDone, Answered, AnswersDropped, answers, fits_response}
+use Rattle.sv_header.specs.declared.command.Action.{Action}
+use Rattle.sv_header.specs.declared.command.Action.TheVariants as action
+use Rattle.sv_header.specs.declared.command.Question.{Question}
+use Rattle.sv_header.specs.declared.command.Question.TheVariants as question
 use Rattle.sv_command.specs.declared.order.Order.{Order}
 use Rattle.sv_command.specs.declared.order.Order.TheVariants as order
-use Rattle.sv_command.specs.declared.order.Question.{Question}
-use Rattle.sv_command.specs.declared.order.Question.TheVariants as question
 use Rattle.sv_layers.specs.declared.change.Awaited.TheVariants as awaited
 use Rattle.sv_layers.specs.Act.{Act, Exchanged, Scanned, Held, Reported, EntryTaken, Cleared, Preset, OpcAsked, StandardRead, StandardEnabled, EventRead, Enabled, RiseSet, FallSet, ServiceEnabled, exchange_acts}
 use Rattle.sv_layers.specs.Condition.{counted}
@@ -59,25 +61,28 @@ abbrev pub Replies : Option Code → Question → List Act → List Act → Type
 Replies (Some code) asked log new = new ≡ done (Reported code ∷ log)
 Replies None asked log new = (text : List ℕ) × Says asked log text × (new ≡ answered text (done (taken asked log)))
 
+-- what is done without a value
+abbrev pub acted : Action → List Act → List Act
+acted action.ClearStatus log = done (Cleared ∷ log)
+acted action.Reset log = done (Scanned scan.Reset ∷ log)
+acted action.TellComplete log = done (OpcAsked ∷ log)
+acted action.Wait log = Held awaited.Nothing ∷ log
+acted action.WaitAndTell log = Held awaited.One ∷ log
+acted action.Trigger log = unless (trigger_fault (counted log) Bus) (done (Scanned (scan.Trigger Bus) ∷ log)) log
+acted action.Preset log = done (Preset ∷ log)
+acted action.Initiate log = unless (init_fault (counted log)) (done (Scanned scan.Init ∷ log)) log
+acted action.Abort log = done (Scanned scan.Abort ∷ log)
+acted action.Read log = unless (read_fault (counted log)) (Held awaited.Readings ∷ Scanned scan.Init ∷ Scanned scan.Abort ∷ log) log
+
 -- What an order makes of a log.
 abbrev pub Performs : Order → List Act → List Act → Type 0
-Performs order.ClearStatus log new = new ≡ done (Cleared ∷ log)
-Performs order.Reset log new = new ≡ done (Scanned scan.Reset ∷ log)
-Performs order.TellComplete log new = new ≡ done (OpcAsked ∷ log)
-Performs order.Wait log new = new ≡ Held awaited.Nothing ∷ log
-Performs order.WaitAndTell log new = new ≡ Held awaited.One ∷ log
-Performs order.Trigger log new = new ≡ unless (trigger_fault (counted log) Bus) (done (Scanned (scan.Trigger Bus) ∷ log)) log
-Performs order.Preset log new = new ≡ done (Preset ∷ log)
+Performs (order.Do action) log new = new ≡ acted action log
+Performs (order.Ask asked) log new = Replies (question_fault asked log) asked log new
 Performs (order.EnableStandard mask) log new = new ≡ done (StandardEnabled mask ∷ log)
 Performs (order.EnableService mask) log new = new ≡ done (ServiceEnabled mask ∷ log)
 Performs (order.Enable name mask) log new = new ≡ done (Enabled name mask ∷ log)
 Performs (order.SetRise name mask) log new = new ≡ done (RiseSet name mask ∷ log)
 Performs (order.SetFall name mask) log new = new ≡ done (FallSet name mask ∷ log)
 Performs (order.Set given) log new = new ≡ unless (setting_fault (counted log) given) (done (Scanned (scan.Configure given) ∷ log)) log
-Performs order.Initiate log new = new ≡ unless (init_fault (counted log)) (done (Scanned scan.Init ∷ log)) log
-Performs order.Abort log new = new ≡ done (Scanned scan.Abort ∷ log)
 Performs (order.Configure list) log new = new ≡ done (configured list log)
-Performs order.Read log new = new ≡ unless (read_fault (counted log))
-    (Held awaited.Readings ∷ Scanned scan.Init ∷ Scanned scan.Abort ∷ log) log
 Performs (order.Measure list) log new = new ≡ Held awaited.Readings ∷ Scanned scan.Init ∷ configured list log
-Performs (order.Ask asked) log new = Replies (question_fault asked log) asked log new

@@ -12,8 +12,10 @@ use Rattle.sv_scan.specs.declared.setting.Reading.{Reading}
 use Rattle.sv_scan.specs.declared.setting.Reading.TheVariants.{Value, Over, Under}
 use Rattle.sv_scan.specs.Setting.{scan_list, monitor, range, upper, lower, limits, source, count}
 use Rattle.sv_scan.specs.Scan.{readings}
-use Rattle.sv_command.specs.declared.order.Question.{Question}
-use Rattle.sv_command.specs.declared.order.Question.TheVariants as question
+use Rattle.sv_header.specs.declared.command.Question.{Question}
+use Rattle.sv_header.specs.declared.command.Question.TheVariants as question
+use Rattle.sv_header.specs.declared.command.SettingName.{SettingName}
+use Rattle.sv_header.specs.declared.command.SettingName.TheVariants as name
 use Rattle.sv_layers.specs.Act.{Act, queue_acts}
 use Rattle.sv_layers.specs.Condition.{condition, counted}
 use Rattle.sv_layers.specs.Event.{EventStands}
@@ -42,27 +44,31 @@ readings_text given = join_by reading_text (codes ",") given
 abbrev pub oldest_text : Option Code → List ℕ
 oldest_text oldest = error_text (unwrap_or oldest NoError)
 
+-- the value of a setting
+abbrev pub value_text : SettingName → List Act → List ℕ
+value_text name.StandardEnable log = decimal (standard_enable log)
+value_text name.ServiceEnable log = decimal (service log)
+value_text (name.Enable register) log = decimal (enable register log)
+value_text (name.Rise register) log = decimal (rise register log)
+value_text (name.Fall register) log = decimal (fall register log)
+value_text name.ScanList log = channels_text (scan_list (counted log))
+value_text name.Monitor log = channels_text (monitor (counted log) ∷ [])
+value_text name.Range log = voltage_text (range (counted log))
+value_text name.UpperLimit log = voltage_text (upper (counted log))
+value_text name.LowerLimit log = voltage_text (lower (counted log))
+value_text name.Limits log = switch_text (limits (counted log))
+value_text name.Source log = source_text (source (counted log))
+value_text name.Count log = decimal (count (counted log))
+
 abbrev pub Says : Question → List Act → List ℕ → Type 0
 Says question.Identification log text = text ≡ codes "SCANVOLT,SV32,0,1.0"
 Says question.SelfTest log text = text ≡ codes "0"
 Says question.Version log text = text ≡ codes "1999.0"
 Says question.StandardEvents log text = IsWord (λ k. Stands k log) text
-Says question.StandardEnable log text = text ≡ decimal (standard_enable log)
-Says question.ServiceEnable log text = text ≡ decimal (service log)
 Says question.StatusByte log text = IsWord (λ k. MasterBit k log) text
 Says question.Error log text = text ≡ oldest_text (oldest (queue_acts log))
 Says question.ErrorCount log text = text ≡ decimal (length (entries (queue_acts log)))
 Says (question.Events name) log text = IsWord (λ k. EventStands name k log) text
 Says (question.Condition name) log text = text ≡ decimal (condition name log)
-Says (question.Enable name) log text = text ≡ decimal (enable name log)
-Says (question.Rise name) log text = text ≡ decimal (rise name log)
-Says (question.Fall name) log text = text ≡ decimal (fall name log)
-Says question.ScanList log text = text ≡ channels_text (scan_list (counted log))
-Says question.Monitor log text = text ≡ channels_text (monitor (counted log) ∷ [])
-Says question.Range log text = text ≡ voltage_text (range (counted log))
-Says question.UpperLimit log text = text ≡ voltage_text (upper (counted log))
-Says question.LowerLimit log text = text ≡ voltage_text (lower (counted log))
-Says question.Limits log text = text ≡ switch_text (limits (counted log))
-Says question.Source log text = text ≡ source_text (source (counted log))
-Says question.Count log text = text ≡ decimal (count (counted log))
 Says question.Readings log text = text ≡ readings_text (readings (counted log))
+Says (question.Value name) log text = text ≡ value_text name log

@@ -1,10 +1,10 @@
 //! Performing an order.
 
-ghost use Rattle.std.specs.Prelude.{◌≤◌, List, vec_capacity};
+ghost use Rattle.std.specs.Prelude.{◌≡◌, ◌≤◌, List, vec_capacity};
 ghost use Rattle.sv_exchange.specs.Contents.{IsUnitDue, next_of};
 ghost use Rattle.sv_exchange.specs.Limits.{max_response};
 ghost use Rattle.sv_layers.specs.Act.{Act};
-ghost use Rattle.sv_instrument.specs.CommandEffect.{Performs};
+ghost use Rattle.sv_instrument.specs.CommandEffect.{Performs, acted};
 ghost use Rattle.sv_instrument.specs.Inside.Acted.{Counts, Behaves, Advances};
 
 use crate::queries::ask;
@@ -12,6 +12,7 @@ use crate::scanning::{configure, initiate, measure, read, set, trigger};
 use crate::unit_effects::{carry_out, end, hold};
 use std::alloc::Allocator;
 use sv_command::Order;
+use sv_header::Action;
 use sv_layers::{Awaited, Change, Layers};
 use sv_scan::ScanAct;
 
@@ -30,29 +31,42 @@ pub(crate) fn perform<A: Allocator>(
     ensures capacity { max_response ≤ vec_capacity answer.new }
 {
     let change = match order {
-        Order::ClearStatus => Change::ClearStatus,
-        Order::Reset => Change::Scan(ScanAct::Reset),
-        Order::TellComplete => Change::AskComplete,
-        Order::Wait => return hold(layers, Awaited::Nothing),
-        Order::WaitAndTell => return hold(layers, Awaited::One),
-        Order::Trigger => return trigger(layers),
-        Order::Preset => Change::Preset,
+        Order::Do(action) => return act(layers, action),
+        Order::Ask(question) => return ask(layers, answer, question),
         Order::EnableStandard(mask) => Change::EnableStandard(mask),
         Order::EnableService(mask) => Change::EnableService(mask),
         Order::Enable(name, mask) => Change::Enable(name, mask),
         Order::SetRise(name, mask) => Change::SetRise(name, mask),
         Order::SetFall(name, mask) => Change::SetFall(name, mask),
         Order::Set(setting) => return set(layers, setting),
-        Order::Initiate => return initiate(layers),
-        Order::Abort => Change::Scan(ScanAct::Abort),
         Order::Configure(list) => {
             configure(layers, list);
             end(layers);
             return None;
         }
-        Order::Read => return read(layers),
         Order::Measure(list) => return measure(layers, list),
-        Order::Ask(question) => return ask(layers, answer, question),
+    };
+    carry_out(layers, change)
+}
+
+/// Does what needs no value. It tells what the unit will answer, if it is held.
+fn act<A: Allocator>(layers: &mut Layers<A>, action: Action) -> Option<Awaited>
+    requires { IsUnitDue (next_of layers.old.exchange) }
+    ensures behaves { (start log : List Act) → Counts start layers.old log
+        → Behaves (λ new. new ≡ acted action log) start layers.new result log }
+    ensures advances { Advances layers.old layers.new result }
+{
+    let change = match action {
+        Action::ClearStatus => Change::ClearStatus,
+        Action::Reset => Change::Scan(ScanAct::Reset),
+        Action::TellComplete => Change::AskComplete,
+        Action::Wait => return hold(layers, Awaited::Nothing),
+        Action::WaitAndTell => return hold(layers, Awaited::One),
+        Action::Trigger => return trigger(layers),
+        Action::Preset => Change::Preset,
+        Action::Initiate => return initiate(layers),
+        Action::Abort => Change::Scan(ScanAct::Abort),
+        Action::Read => return read(layers),
     };
     carry_out(layers, change)
 }

@@ -1,20 +1,20 @@
 //! Answering a query.
 
-ghost use Rattle.std.specs.Prelude.{◌≡◌, ◌≤◌, List, vec_capacity, None};
+ghost use Rattle.std.specs.Prelude.{◌≡◌, ◌≤◌, List, [], vec_capacity, None};
 ghost use Rattle.sv_exchange.specs.Contents.{IsUnitDue, next_of};
 ghost use Rattle.sv_exchange.specs.Limits.{max_response};
 ghost use Rattle.sv_layers.specs.Act.{Act};
 ghost use Rattle.sv_layers.specs.Inside.Kept.{StandsFor as Stands};
 ghost use Rattle.sv_instrument.specs.CommandEffect.{question_fault, taken, Replies};
 ghost use Rattle.sv_instrument.specs.Inside.Acted.{Counts, Behaves, Advances};
-ghost use Rattle.sv_instrument.specs.QueryResponse.{Says};
+ghost use Rattle.sv_instrument.specs.QueryResponse.{Says, value_text};
 
 use crate::readings::put_readings;
 use crate::unit_effects::{carry_out, reply};
 use std::alloc::Allocator;
 use sv_bytes::append;
-use sv_command::Question;
 use sv_errors::Code;
+use sv_header::{Question, SettingName};
 use sv_layers::{Awaited, Change, Layers};
 use sv_value::printing::{put_channels, put_error, put_source, put_switch, put_voltage, put_whole};
 
@@ -75,31 +75,45 @@ pub(crate) fn put_answer<A: Allocator>(out: &mut Vec<u8, A>, layers: &Layers<A>,
     ensures capacity { max_response ≤ vec_capacity out.new }
 {
     out.clear();
-    let scanner = layers.scanner();
     let word = match question {
         Question::Identification => return append(out, b"SCANVOLT,SV32,0,1.0"),
         Question::SelfTest => return append(out, b"0"),
         Question::Version => return append(out, b"1999.0"),
         Question::StandardEvents => u16::from(layers.standard_events()),
-        Question::StandardEnable => u16::from(layers.standard_enable()),
-        Question::ServiceEnable => u16::from(layers.service()),
         Question::StatusByte => u16::from(layers.status_byte()),
         Question::Error => return put_error(out, layers.errors().oldest().unwrap_or(Code::NoError)),
         Question::ErrorCount => u16::from(layers.errors().count()),
         Question::Events(name) => layers.events(name),
         Question::Condition(name) => layers.condition(name),
-        Question::Enable(name) => layers.enabled(name),
-        Question::Rise(name) => layers.rise(name),
-        Question::Fall(name) => layers.fall(name),
-        Question::ScanList => return put_channels(out, scanner.list()),
-        Question::Monitor => return put_channels(out, &[scanner.monitor()]),
-        Question::Range => return put_voltage(out, scanner.range()),
-        Question::UpperLimit => return put_voltage(out, scanner.upper()),
-        Question::LowerLimit => return put_voltage(out, scanner.lower()),
-        Question::Limits => return put_switch(out, scanner.limits()),
-        Question::Source => return put_source(out, scanner.source()),
-        Question::Count => u16::from(scanner.count()),
-        Question::Readings => return put_readings(out, scanner.readings_so_far()),
+        Question::Readings => return put_readings(out, layers.scanner().readings_so_far()),
+        Question::Value(name) => return put_value(out, layers, name),
+    };
+    put_whole(out, u32::from(word));
+}
+
+/// Puts the value of a setting where nothing is.
+fn put_value<A: Allocator>(out: &mut Vec<u8, A>, layers: &Layers<A>, name: SettingName)
+    requires empty { out.old.items ≡ [] }
+    requires room { max_response ≤ vec_capacity out.old }
+    ensures text { (log : List Act) → Stands layers.now log
+        → out.new.items ≡ value_text name log }
+    ensures capacity { max_response ≤ vec_capacity out.new }
+{
+    let scanner = layers.scanner();
+    let word = match name {
+        SettingName::StandardEnable => u16::from(layers.standard_enable()),
+        SettingName::ServiceEnable => u16::from(layers.service()),
+        SettingName::Enable(register) => layers.enabled(register),
+        SettingName::Rise(register) => layers.rise(register),
+        SettingName::Fall(register) => layers.fall(register),
+        SettingName::ScanList => return put_channels(out, scanner.list()),
+        SettingName::Monitor => return put_channels(out, &[scanner.monitor()]),
+        SettingName::Range => return put_voltage(out, scanner.range()),
+        SettingName::UpperLimit => return put_voltage(out, scanner.upper()),
+        SettingName::LowerLimit => return put_voltage(out, scanner.lower()),
+        SettingName::Limits => return put_switch(out, scanner.limits()),
+        SettingName::Source => return put_source(out, scanner.source()),
+        SettingName::Count => u16::from(scanner.count()),
     };
     put_whole(out, u32::from(word));
 }

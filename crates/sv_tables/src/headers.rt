@@ -1,4 +1,4 @@
-//! The headers of a message, and how many parameters their commands take.
+//! The headers of a message, and how many parameters their commands take at most.
 
 use crate::line::{Fault, put};
 use sv_header::{Path, Table};
@@ -18,10 +18,10 @@ pub(crate) fn put_commands(out: &mut String, table: &Table, text: &str) -> Resul
     Ok(())
 }
 
-/// Tells how many parameters the command takes that a header names.
+/// Tells how many parameters the command takes at most that a header names.
 pub(crate) fn put_arity(out: &mut String, table: &Table, text: &str) -> Result<(), Fault> {
     match table.resolve(&Path::root(), text.as_bytes()) {
-        Ok(command) => put(out, command.arity()),
+        Ok(command) => put(out, command.most_parameters()),
         Err(code) => put(out, code),
     }
 }

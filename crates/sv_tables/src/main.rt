@@ -13,7 +13,7 @@
 //! | `unit TEXT` | the header and the parameters of a unit, each with its place and its kind |
 //! | `headers TEXT` | the commands that the headers of a message name, with `;` between two |
 //! | `orders MESSAGE` | what each unit of a message asks for, behind those in front of it |
-//! | `arity HEADER` | how many parameters the command takes that a header names |
+//! | `arity HEADER` | how many parameters the command takes at most that a header names |
 //! | `voltage UNIT`, `boolean UNIT`, `keyword UNIT`, `channels UNIT` | a unit's first parameter |
 //! | `whole LOW HIGH UNIT` | the same, as a whole number |
 //! | `print MICROVOLTS` | a voltage as it is printed |

@@ -2,9 +2,9 @@
 use Rattle.std.specs.Prelude.{◌≡◌, ℕ, zero, suc, ◌≤◌, Bool, true, false, length, List, [], ◌∷◌, ◌++◌, map, take, drop, Option, Some, None}
 use Rattle.sv_header.specs.declared.command.CommandId.{CommandId}
 use Rattle.sv_header.specs.declared.branch.Branch.{Branch}
-use Rattle.sv_header.specs.Pattern.{Part, Row, row, Form, CommonCommand, CommonQuery, Command, Query}
+use Rattle.sv_header.specs.Pattern.{Part, Row, row}
 use Rattle.sv_header.specs.Plain.{part}
-use Rattle.sv_header.specs.Table.{common_commands, system_commands, operation_commands, questionable_commands, limit_commands, setting_commands, measuring_commands}
+use Rattle.sv_header.specs.Table.{common_commands, other_commands}
 
 -- the command of the headers that end at a node, with the query sign or without it
 abbrev pub command_of : Bool → Branch → Option CommandId
@@ -17,20 +17,13 @@ IsParted [] branch children siblings = ⊥
 IsParted (first ∷ behind) branch children siblings =
     (branch ≡ first) × (children ≡ take first.below behind) × (siblings ≡ drop first.below behind)
 
--- the form of common commands or of others, with the query sign or without it
-abbrev pub form_of : Bool → Bool → Form
-form_of true false = CommonCommand
-form_of true true = CommonQuery
-form_of false false = Command
-form_of false true = Query
-
--- the row that ends at a node, where that has a command
-abbrev pub ending_row : Form → Option CommandId → List Row
-ending_row form None = []
-ending_row form (Some command) = row form [] command ∷ []
+-- the row that ends at a node, with the query sign or without it, where that has a command
+abbrev pub ending_row : Bool → Bool → Option CommandId → List Row
+ending_row common query None = []
+ending_row common query (Some command) = row common query [] command ∷ []
 
 abbrev pub ending_rows : Bool → Branch → List Row
-ending_rows common branch = ending_row (form_of common false) branch.plain ++ ending_row (form_of common true) branch.query
+ending_rows common branch = ending_row common false branch.plain ++ ending_row common true branch.query
 
 -- a row with a node in front
 abbrev pub below : Part → Row → Row
@@ -46,11 +39,6 @@ rows_of (suc fuel) common (branch ∷ behind) =
 
 abbrev pub tree_rows : Bool → List Branch → List Row
 tree_rows common branches = rows_of (length branches) common branches
-
--- the table but for common commands
-abbrev pub other_commands : List Row
-other_commands = system_commands
-    ++ (operation_commands ++ (questionable_commands ++ (limit_commands ++ (setting_commands ++ measuring_commands))))
 
 -- the rows of common commands, or the others
 abbrev pub rows_with : Bool → List Row

@@ -14,16 +14,20 @@ use Rattle.sv_scan.specs.Scan.{readings}
 use Rattle.sv_exchange.specs.Exchange.{Overran, UnitDone, TextDropped, Answered, AnswersDropped, Finished, Interrupted, text, units, message, units_done, current, answers, fits_response, due, Due, NothingDue, OverrunDue, InterruptDue, UnitDue, FinishDue}
 use Rattle.sv_command.specs.declared.order.Order.{Order}
 use Rattle.sv_command.specs.declared.order.Order.TheVariants as order
-use Rattle.sv_command.specs.declared.order.Question.{Question}
-use Rattle.sv_command.specs.declared.order.Question.TheVariants as question
+use Rattle.sv_header.specs.declared.command.Action.{Action}
+use Rattle.sv_header.specs.declared.command.Action.TheVariants as action
+use Rattle.sv_header.specs.declared.command.Question.{Question}
+use Rattle.sv_header.specs.declared.command.Question.TheVariants as question
+use Rattle.sv_header.specs.declared.command.SettingName.{SettingName}
+use Rattle.sv_header.specs.declared.command.SettingName.TheVariants as name
 use Rattle.sv_layers.specs.declared.change.Awaited.{Awaited}
 use Rattle.sv_layers.specs.declared.change.Awaited.TheVariants as awaited
 use Rattle.sv_layers.specs.Act.{Act, Exchanged, Purged, Scanned, Held, Reported, EntryTaken, Cleared, Preset, OpcAsked, StandardRead, StandardEnabled, EventRead, Enabled, RiseSet, FallSet, ServiceEnabled, exchange_acts}
 use Rattle.sv_layers.specs.Condition.{counted}
 use Rattle.sv_instrument.specs.HeldUnit.{held}
 use Rattle.sv_instrument.specs.Path.{Leaves, one_if_held, units_begun, IsPath}
-use Rattle.sv_instrument.specs.QueryResponse.{IsWord, readings_text, oldest_text, Says}
-use Rattle.sv_instrument.specs.CommandEffect.{answered, unless, configured, taken, question_fault, Replies, Performs}
+use Rattle.sv_instrument.specs.QueryResponse.{IsWord, readings_text, oldest_text, value_text, Says}
+use Rattle.sv_instrument.specs.CommandEffect.{answered, unless, configured, taken, question_fault, Replies, acted, Performs}
 use Rattle.sv_instrument.specs.Step.{released, Does, Starts, StepOf, IsStep}
 use Rattle.sv_laws.proofs.Cuts.SameExchange.{text_act, answers_same, message_same, next_unit_same, due_same}
 use Rattle.sv_laws.proofs.Cuts.SameStatus.{SameStatus, status_act, status_back, condition_same, idle_same, master_same}
@@ -108,31 +112,34 @@ word_same P Q bytes same h = record {
   bits = λ k. ((λ b. (same k).0 ((h.bits k).0 b)), (λ q. (h.bits k).1 ((same k).1 q)));
 }
 
+value_same : (what : SettingName) (log other : List Act) → SameStatus log other → value_text what log ≡ value_text what other
+value_same name.StandardEnable log other v = ap decimal v.standards
+value_same name.ServiceEnable log other v = ap decimal v.serves
+value_same (name.Enable register) log other v = ap decimal (v.enables register)
+value_same (name.Rise register) log other v = ap decimal (v.rises register)
+value_same (name.Fall register) log other v = ap decimal (v.falls register)
+value_same name.ScanList log other v = rw v.scanned refl
+value_same name.Monitor log other v = rw v.scanned refl
+value_same name.Range log other v = rw v.scanned refl
+value_same name.UpperLimit log other v = rw v.scanned refl
+value_same name.LowerLimit log other v = rw v.scanned refl
+value_same name.Limits log other v = rw v.scanned refl
+value_same name.Source log other v = rw v.scanned refl
+value_same name.Count log other v = rw v.scanned refl
+
 says_same : (asked : Question) (log other : List Act) → SameStatus log other → (bytes : List ℕ) → Says asked log bytes
     → Says asked other bytes
 says_same question.Identification log other v bytes h = h
 says_same question.SelfTest log other v bytes h = h
 says_same question.Version log other v bytes h = h
 says_same question.StandardEvents log other v bytes h = word_same _ _ bytes v.stands h
-says_same question.StandardEnable log other v bytes h = h ∙ ap decimal v.standards
-says_same question.ServiceEnable log other v bytes h = h ∙ ap decimal v.serves
 says_same question.StatusByte log other v bytes h = word_same _ _ bytes (λ k. master_same k log other v) h
 says_same question.Error log other v bytes h = h ∙ ap (λ (l : List QueueAct). oldest_text (oldest l)) v.queued
 says_same question.ErrorCount log other v bytes h = h ∙ ap (λ (l : List QueueAct). decimal (length (entries l))) v.queued
 says_same (question.Events name) log other v bytes h = word_same _ _ bytes (v.events name) h
 says_same (question.Condition name) log other v bytes h = h ∙ ap decimal (condition_same name log other v.scanned v.limits)
-says_same (question.Enable name) log other v bytes h = h ∙ ap decimal (v.enables name)
-says_same (question.Rise name) log other v bytes h = h ∙ ap decimal (v.rises name)
-says_same (question.Fall name) log other v bytes h = h ∙ ap decimal (v.falls name)
-says_same question.ScanList log other v bytes h = rw v.scanned at h
-says_same question.Monitor log other v bytes h = rw v.scanned at h
-says_same question.Range log other v bytes h = rw v.scanned at h
-says_same question.UpperLimit log other v bytes h = rw v.scanned at h
-says_same question.LowerLimit log other v bytes h = rw v.scanned at h
-says_same question.Limits log other v bytes h = rw v.scanned at h
-says_same question.Source log other v bytes h = rw v.scanned at h
-says_same question.Count log other v bytes h = rw v.scanned at h
 says_same question.Readings log other v bytes h = rw v.scanned at h
+says_same (question.Value what) log other v bytes h = h ∙ value_same what log other v
 
 question_fault_same : (asked : Question) (log other : List Act) → SameStatus log other
     → question_fault asked log ≡ question_fault asked other
@@ -187,36 +194,40 @@ configures_alike front list log other new is = (
 counted_same : (log other : List Act) → SameInstrument log other → counted log ≡ counted other
 counted_same log other v = ap (λ (l : List ScanAct). kept l) v.status.scanned
 
-performs_alike : (what : Order) (log other new : List Act) → SameInstrument log other → Performs what log new
-    → AddsAlike log other new (Performs what other)
-performs_alike order.ClearStatus log other new v is = (Exchanged UnitDone ∷ Cleared ∷ [], is, refl)
-performs_alike order.Reset log other new v is = (Exchanged UnitDone ∷ Scanned scan.Reset ∷ [], is, refl)
-performs_alike order.TellComplete log other new v is = (Exchanged UnitDone ∷ OpcAsked ∷ [], is, refl)
-performs_alike order.Wait log other new v is = (Held awaited.Nothing ∷ [], is, refl)
-performs_alike order.WaitAndTell log other new v is = (Held awaited.One ∷ [], is, refl)
-performs_alike order.Trigger log other new v is = unless_alike _ _ (Exchanged UnitDone ∷ Scanned (scan.Trigger Bus) ∷ []) log other new
+acts_alike : (what : Action) (log other new : List Act) → SameInstrument log other → new ≡ acted what log
+    → AddsAlike log other new (λ there. there ≡ acted what other)
+acts_alike action.ClearStatus log other new v is = (Exchanged UnitDone ∷ Cleared ∷ [], is, refl)
+acts_alike action.Reset log other new v is = (Exchanged UnitDone ∷ Scanned scan.Reset ∷ [], is, refl)
+acts_alike action.TellComplete log other new v is = (Exchanged UnitDone ∷ OpcAsked ∷ [], is, refl)
+acts_alike action.Wait log other new v is = (Held awaited.Nothing ∷ [], is, refl)
+acts_alike action.WaitAndTell log other new v is = (Held awaited.One ∷ [], is, refl)
+acts_alike action.Trigger log other new v is = unless_alike _ _ (Exchanged UnitDone ∷ Scanned (scan.Trigger Bus) ∷ []) log other new
     (ap (λ (l : List ScanAct). trigger_fault l Bus) (counted_same log other v)) is
-performs_alike order.Preset log other new v is = (Exchanged UnitDone ∷ Preset ∷ [], is, refl)
-performs_alike (order.EnableStandard mask) log other new v is = (Exchanged UnitDone ∷ StandardEnabled mask ∷ [], is, refl)
-performs_alike (order.EnableService mask) log other new v is = (Exchanged UnitDone ∷ ServiceEnabled mask ∷ [], is, refl)
-performs_alike (order.Enable name mask) log other new v is = (Exchanged UnitDone ∷ Enabled name mask ∷ [], is, refl)
-performs_alike (order.SetRise name mask) log other new v is = (Exchanged UnitDone ∷ RiseSet name mask ∷ [], is, refl)
-performs_alike (order.SetFall name mask) log other new v is = (Exchanged UnitDone ∷ FallSet name mask ∷ [], is, refl)
-performs_alike (order.Set given) log other new v is =
-    unless_alike _ _ (Exchanged UnitDone ∷ Scanned (scan.Configure given) ∷ []) log other new
-    (ap (λ (l : List ScanAct). setting_fault l given) (counted_same log other v)) is
-performs_alike order.Initiate log other new v is = unless_alike _ _ (Exchanged UnitDone ∷ Scanned scan.Init ∷ []) log other new
+acts_alike action.Preset log other new v is = (Exchanged UnitDone ∷ Preset ∷ [], is, refl)
+acts_alike action.Initiate log other new v is = unless_alike _ _ (Exchanged UnitDone ∷ Scanned scan.Init ∷ []) log other new
     (ap init_fault (counted_same log other v)) is
-performs_alike order.Abort log other new v is = (Exchanged UnitDone ∷ Scanned scan.Abort ∷ [], is, refl)
-performs_alike (order.Configure list) log other new v is = configures_alike (Exchanged UnitDone ∷ []) list log other new is
-performs_alike order.Read log other new v is =
+acts_alike action.Abort log other new v is = (Exchanged UnitDone ∷ Scanned scan.Abort ∷ [], is, refl)
+acts_alike action.Read log other new v is =
     unless_alike _ _ (Held awaited.Readings ∷ Scanned scan.Init ∷ Scanned scan.Abort ∷ []) log other new
     (ap read_fault (counted_same log other v)) is
-performs_alike (order.Measure list) log other new v is =
-    configures_alike (Held awaited.Readings ∷ Scanned scan.Init ∷ []) list log other new is
+
+performs_alike : (what : Order) (log other new : List Act) → SameInstrument log other → Performs what log new
+    → AddsAlike log other new (Performs what other)
+performs_alike (order.Do what) log other new v is = acts_alike what log other new v is
 performs_alike (order.Ask asked) log other new v is =
     subst (λ (f : Option Code). AddsAlike log other new (Replies f asked other)) (question_fault_same asked log other v.status)
     (replies_alike (question_fault asked log) asked log other new v is)
+performs_alike (order.EnableStandard mask) log other new v is = (Exchanged UnitDone ∷ StandardEnabled mask ∷ [], is, refl)
+performs_alike (order.EnableService mask) log other new v is = (Exchanged UnitDone ∷ ServiceEnabled mask ∷ [], is, refl)
+performs_alike (order.Enable register mask) log other new v is = (Exchanged UnitDone ∷ Enabled register mask ∷ [], is, refl)
+performs_alike (order.SetRise register mask) log other new v is = (Exchanged UnitDone ∷ RiseSet register mask ∷ [], is, refl)
+performs_alike (order.SetFall register mask) log other new v is = (Exchanged UnitDone ∷ FallSet register mask ∷ [], is, refl)
+performs_alike (order.Set given) log other new v is =
+    unless_alike _ _ (Exchanged UnitDone ∷ Scanned (scan.Configure given) ∷ []) log other new
+    (ap (λ (l : List ScanAct). setting_fault l given) (counted_same log other v)) is
+performs_alike (order.Configure list) log other new v is = configures_alike (Exchanged UnitDone ∷ []) list log other new is
+performs_alike (order.Measure list) log other new v is =
+    configures_alike (Held awaited.Readings ∷ Scanned scan.Init ∷ []) list log other new is
 
 -- ---- a unit
 

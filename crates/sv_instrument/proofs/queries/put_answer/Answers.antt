@@ -1,12 +1,12 @@
-use Rattle.std.proofs.Common.{◌∙◌, ℕ, ◌∷◌, [], ap, rules, arith}
+use Rattle.std.proofs.Common.{◌∙◌, ap, rules, arith}
 use Rattle.std.specs.Prelude.{Option, unwrap_or}
 use Rattle.sv_errors.specs.declared.code.Code.{Code}
 use Rattle.sv_errors.specs.declared.code.Code.TheVariants.{NoError}
 use Rattle.sv_layers.specs.Act.{queue_acts, scan_acts}
-use Rattle.sv_value.specs.Printing.{channels_text, error_text, switch_text, source_text}
+use Rattle.sv_value.specs.Printing.{error_text}
 use Rattle.sv_instrument.specs.QueryResponse.{readings_text}
 use Rattle.sv_instrument.proofs.Words.{word_printed, number_printed, alone}
-use Rattle.sv_instrument.proofs.queries.put_answer.Goals.{in-StandardEvents, in-StandardEnable, in-ServiceEnable, in-StatusByte, in-ErrorCount, in-Events, in-Condition, in-Enable, in-Rise, in-Fall, in-Count}
+use Rattle.sv_instrument.proofs.queries.put_answer.Goals.{in-StandardEvents, in-StatusByte, in-ErrorCount, in-Events, in-Condition}
 use Rattle.sv_instrument.proofs.queries.put_answer.Goals as goal
 
 pub returns-in-Identification-clause-capacity : goal.returns-in-Identification-clause-capacity
@@ -20,29 +20,6 @@ returns-in-Version-clause-capacity g c = omega (arith, c.append-in-Version.ensur
 
 pub returns-in-Error-clause-capacity : goal.returns-in-Error-clause-capacity
 returns-in-Error-clause-capacity g c = omega (arith, c.put_error.ensures.capacity, c.clear.ensures.capacity, c.requires)
-
-pub returns-in-ScanList-clause-capacity : goal.returns-in-ScanList-clause-capacity
-returns-in-ScanList-clause-capacity g c = omega (arith, c.put_channels.ensures.capacity, c.clear.ensures.capacity, c.requires)
-
-pub returns-in-Monitor-clause-capacity : goal.returns-in-Monitor-clause-capacity
-returns-in-Monitor-clause-capacity g c = omega (arith, c.put_channels-in-Monitor.ensures.capacity, c.clear.ensures.capacity, c.requires)
-
-pub returns-in-Range-clause-capacity : goal.returns-in-Range-clause-capacity
-returns-in-Range-clause-capacity g c = omega (arith, c.put_voltage.ensures.capacity, c.clear.ensures.capacity, c.requires)
-
-pub returns-in-UpperLimit-clause-capacity : goal.returns-in-UpperLimit-clause-capacity
-returns-in-UpperLimit-clause-capacity g c =
-    omega (arith, c.put_voltage-in-UpperLimit.ensures.capacity, c.clear.ensures.capacity, c.requires)
-
-pub returns-in-LowerLimit-clause-capacity : goal.returns-in-LowerLimit-clause-capacity
-returns-in-LowerLimit-clause-capacity g c =
-    omega (arith, c.put_voltage-in-LowerLimit.ensures.capacity, c.clear.ensures.capacity, c.requires)
-
-pub returns-in-Limits-clause-capacity : goal.returns-in-Limits-clause-capacity
-returns-in-Limits-clause-capacity g c = omega (arith, c.put_switch.ensures.capacity, c.clear.ensures.capacity, c.requires)
-
-pub returns-in-Source-clause-capacity : goal.returns-in-Source-clause-capacity
-returns-in-Source-clause-capacity g c = omega (arith, c.put_source.ensures.capacity, c.clear.ensures.capacity, c.requires)
 
 pub returns-in-Readings-clause-capacity : goal.returns-in-Readings-clause-capacity
 returns-in-Readings-clause-capacity g c = omega (arith, c.put_readings.ensures.capacity, c.clear.ensures.capacity, c.requires)
@@ -69,30 +46,10 @@ returns-in-Error-clause-says g c = λ log h free.
     rw c.in-Error.is (alone c.clear.ensures.items c.put_error.ensures.text
     ∙ ap error_text code)
 
-pub returns-in-ScanList-clause-says : goal.returns-in-ScanList-clause-says
-returns-in-ScanList-clause-says g c = λ log h free.
-    rw c.in-ScanList.is (alone c.clear.ensures.items c.put_channels.ensures.text
-    ∙ ap channels_text (c.list.ensures.answer (scan_acts log) (c.scanner-scanner.ensures.stands log h)))
-
-pub returns-in-Monitor-clause-says : goal.returns-in-Monitor-clause-says
-returns-in-Monitor-clause-says g c = λ log h free.
-    rw c.in-Monitor.is (alone c.clear.ensures.items c.put_channels-in-Monitor.ensures.text
-    ∙ ap (λ (k : ℕ). channels_text (k ∷ [])) (c.monitor.ensures.answer (scan_acts log) (c.scanner-scanner.ensures.stands log h)))
-
-pub returns-in-Limits-clause-says : goal.returns-in-Limits-clause-says
-returns-in-Limits-clause-says g c = λ log h free.
-    rw c.in-Limits.is (alone c.clear.ensures.items c.put_switch.ensures.text
-    ∙ ap switch_text (c.limits.ensures (scan_acts log) (c.scanner-scanner.ensures.stands log h)))
-
-pub returns-in-Source-clause-says : goal.returns-in-Source-clause-says
-returns-in-Source-clause-says g c = λ log h free.
-    rw c.in-Source.is (alone c.clear.ensures.items c.put_source.ensures.text
-    ∙ ap source_text (c.source.ensures (scan_acts log) (c.scanner-scanner.ensures.stands log h)))
-
 pub returns-in-Readings-clause-says : goal.returns-in-Readings-clause-says
 returns-in-Readings-clause-says g c = λ log h free.
     rw c.in-Readings.is (alone c.clear.ensures.items c.put_readings.ensures.text
-    ∙ ap readings_text (c.readings_so_far.ensures.answer (scan_acts log) (c.scanner-scanner.ensures.stands log h)))
+    ∙ ap readings_text (c.readings_so_far.ensures.answer (scan_acts log) (c.scanner.ensures.stands log h)))
 
 pub returns-clause-says : goal.returns-clause-says
 returns-clause-says g c = λ log h free.
@@ -102,12 +59,6 @@ returns-clause-says g c = λ log h free.
       | in-StandardEvents w ↦
           let same = c.from.ensures ∙ w.word-is ∙ w.from-word.ensures in
           rw w.in-StandardEvents.is (word_printed _ _ _ _ _ (search rules) empty same text (w.standard_events.ensures log h))
-      | in-StandardEnable w ↦
-          let same = c.from.ensures ∙ w.word-is ∙ w.from-word-in-StandardEnable.ensures ∙ w.standard_enable.ensures log h in
-          rw w.in-StandardEnable.is (number_printed _ _ _ _ empty same text)
-      | in-ServiceEnable w ↦
-          let same = c.from.ensures ∙ w.word-is ∙ w.from-word-in-ServiceEnable.ensures ∙ w.service.ensures log h in
-          rw w.in-ServiceEnable.is (number_printed _ _ _ _ empty same text)
       | in-StatusByte w ↦
           let same = c.from.ensures ∙ w.word-is ∙ w.from-word-in-StatusByte.ensures in
           rw w.in-StatusByte.is (word_printed _ _ _ _ _ (search rules) empty same text (w.status_byte.ensures log h))
@@ -121,17 +72,16 @@ returns-clause-says g c = λ log h free.
       | in-Condition w ↦
           let same = c.from.ensures ∙ w.word-is ∙ w.condition-word.ensures log h in
           rw w.in-Condition.is (number_printed _ _ _ _ empty same text)
-      | in-Enable w ↦
-          let same = c.from.ensures ∙ w.word-is ∙ w.enabled-word.ensures log h in
-          rw w.in-Enable.is (number_printed _ _ _ _ empty same text)
-      | in-Rise w ↦
-          let same = c.from.ensures ∙ w.word-is ∙ w.rise-word.ensures log h in
-          rw w.in-Rise.is (number_printed _ _ _ _ empty same text)
-      | in-Fall w ↦
-          let same = c.from.ensures ∙ w.word-is ∙ w.fall-word.ensures log h in
-          rw w.in-Fall.is (number_printed _ _ _ _ empty same text)
-      | in-Count w ↦
-          let same = c.from.ensures ∙ w.word-is ∙ w.from-word-in-Count.ensures
-          ∙ w.count-in-Count.ensures.answer (scan_acts log) (c.scanner-scanner.ensures.stands log h) in
-          rw w.in-Count.is (number_printed _ _ _ _ empty same text)
     ]
+
+pub put_value-requires-clause-empty : goal.put_value-requires-clause-empty
+put_value-requires-clause-empty g c = c.clear.ensures.items
+
+pub put_value-requires-clause-room : goal.put_value-requires-clause-room
+put_value-requires-clause-room g c = omega (arith, c.clear.ensures.capacity, c.requires)
+
+pub returns-in-Value-clause-capacity : goal.returns-in-Value-clause-capacity
+returns-in-Value-clause-capacity g c = c.put_value.ensures.capacity
+
+pub returns-in-Value-clause-says : goal.returns-in-Value-clause-says
+returns-in-Value-clause-says g c = λ log h free. rw c.in-Value.is (c.put_value.ensures.text log h)

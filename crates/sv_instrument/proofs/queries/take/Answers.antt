@@ -1,8 +1,8 @@
 use Rattle.std.proofs.Common.{◌≡◌, List, refl}
 use Rattle.sv_layers.specs.Act.{Act}
 use Rattle.sv_status.specs.declared.register_name.RegisterName.{RegisterName}
-use Rattle.sv_command.specs.declared.order.Question.{Question}
-use Rattle.sv_command.specs.declared.order.Question.TheVariants.{StandardEvents, Error, Events}
+use Rattle.sv_header.specs.declared.command.Question.{Question}
+use Rattle.sv_header.specs.declared.command.Question.TheVariants.{StandardEvents, Error, Events}
 use Rattle.sv_instrument.specs.CommandEffect.{taken}
 use Rattle.sv_instrument.proofs.Counting.{counts}
 use Rattle.sv_instrument.proofs.queries.take.Goals as goal
