@@ -26,7 +26,7 @@ next_wait Lock (OnLink lid call) acts = device_wait call acts
 next_wait _ arguments acts = None
 
 abbrev pub continued : Config → ℕ → ℕ → Arguments → Option (Wait × ℕ) → List DeviceAct → CallOutcome
-continued config polled c arguments (Some (wait, timeout)) acts = suspended (Again c wait (deadline config (Some timeout) acts))
+continued config polled c arguments (Some wait) acts = suspended (Again c wait.0 (deadline config (Some wait.1) acts))
 continued config polled c arguments None acts = leaving c (own_call config polled c arguments (Waited (Left c) ∷ acts))
 
 -- What becomes of the call of a connection, if its record is one.
