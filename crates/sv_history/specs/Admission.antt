@@ -1,12 +1,12 @@
 -- What stands in front of a call of the core channel (VXI-11 revision 1.0, sections B.4.4 and B.6): its link, the lock, and what it waits
 -- for.
-use Rattle.std.specs.Prelude.{ℕ, ◌+◌, not, ℤ, Bool, false, List, length, Option, Some, None, option_map, is_some, codes, nat_lt, ◌&&◌, if◌then◌else◌}
+use Rattle.std.specs.Prelude.{ℕ, ◌+◌, not, Bool, List, length, Option, Some, None, option_map, is_some, codes, nat_lt, ◌&&◌, if◌then◌else◌}
 use Rattle.std.specs.Str.{bytes_eq}
 use Rattle.sv_vxi.specs.declared.error_code.ErrorCode.{ErrorCode}
 use Rattle.sv_vxi.specs.declared.error_code.ErrorCode.TheVariants.{InvalidLink, ParameterError, NotAccessible, OutOfResources}
 use Rattle.sv_vxi.specs.declared.error_code.ErrorCode.TheVariants.{Locked as DeviceLocked}
 use Rattle.sv_vxi.specs.declared.arguments.LockWait.{LockWait}
-use Rattle.sv_vxi.specs.Arguments.{Arguments, CreateLink, DeviceWrite, DeviceRead, CreateIntrChan, link, lock_wait, io_timeout}
+use Rattle.sv_vxi.specs.Arguments.{LinkCall, DeviceWrite, DeviceRead, Arguments, CreateLink, OnLink, CreateIntrChan, DestroyIntrChan, link, lock_wait}
 use Rattle.sv_links.specs.declared.waiting.Wait.{Wait}
 use Rattle.sv_links.specs.declared.waiting.Wait.TheVariants.{Lock, Input, Response, Dial}
 use Rattle.sv_links.specs.Links.{live, lids_left, holder, is_locked_out}
@@ -26,26 +26,25 @@ pub data Stop : Type 0 where
   Fails : (error : ErrorCode) → Stop
   Awaits : (wait : Wait) (timeout : Option ℕ) → Stop
 
--- whether a call names a link that isn't one of its connection
-abbrev pub names_another : ℕ → Option ℤ → List DeviceAct → Bool
-names_another c (Some lid) acts = not (owns c (lid_of (Some lid)) acts)
-names_another c None acts = false
-
 -- where another link holds the lock, a call that minds it waits for it or fails
-abbrev pub is_kept_out : Arguments → List DeviceAct → Bool
-is_kept_out arguments acts = is_some (lock_wait arguments) && is_locked_out (holder (link_acts acts)) (lid_of (link arguments))
+abbrev pub lock_stop : LockWait → Stop
+lock_stop wait = if wait.waits then Awaits Lock (Some wait.timeout) else Fails DeviceLocked
 
-abbrev pub lock_stop : Option LockWait → Stop
-lock_stop (Some wait) = if wait.waits then Awaits Lock (Some wait.timeout) else Fails DeviceLocked
-lock_stop None = Fails DeviceLocked
-
--- what a call waits for that isn't kept out: a write until no ended message waits to be finished, a read until there is something to
--- answer
-abbrev pub device_wait : Arguments → List DeviceAct → Option Wait
-device_wait (DeviceWrite lid io_timeout lock_timeout flags bytes) acts = if has_ended (exchange_acts acts) then Some Input else None
-device_wait (DeviceRead lid request_size io_timeout lock_timeout flags term_char) acts =
-    if is_answerable (instrument_acts acts) then None else Some Response
+-- what a call waits for that isn't kept out, and how long, in milliseconds: a write until no ended message waits to be finished, a read
+-- until there is something to answer
+abbrev pub device_wait : LinkCall → List DeviceAct → Option (Wait × ℕ)
+device_wait (DeviceWrite io_timeout lock_timeout flags bytes) acts = if has_ended (exchange_acts acts) then Some (Input, io_timeout) else None
+device_wait (DeviceRead request_size io_timeout lock_timeout flags term_char) acts =
+    if is_answerable (instrument_acts acts) then None else Some (Response, io_timeout)
 device_wait _ acts = None
+
+-- What stops a call on a link: the link is looked at first, then how much a write brings, then the lock, and then what it waits for.
+abbrev pub call_stop : ℕ → Option ℕ → LinkCall → List DeviceAct → Option Stop
+call_stop c lid call acts =
+    if not (owns c lid acts) then Some (Fails InvalidLink)
+    else (if is_too_long call then Some (Fails ParameterError)
+    else (if is_some (lock_wait call) && is_locked_out (holder (link_acts acts)) lid then option_map lock_stop (lock_wait call)
+    else option_map (λ wait. Awaits wait.0 (Some wait.1)) (device_wait call acts)))
 
 -- whether a link more may be made, with those for which create_links wait, and while there are numbers
 abbrev pub may_make_more : List DeviceAct → Bool
@@ -63,22 +62,13 @@ abbrev pub channel_stop : Option ErrorCode → Stop
 channel_stop (Some error) = Fails error
 channel_stop None = Awaits Dial None
 
-abbrev pub device_stop : Arguments → List DeviceAct → Option Stop
-device_stop arguments acts = option_map (λ wait. Awaits wait (io_timeout arguments)) (device_wait arguments acts)
-
 -- what stops a call by what it is
-abbrev pub own_stop : ℕ → Arguments → List DeviceAct → Option Stop
-own_stop c (CreateLink client_id lock_device lock_timeout device) acts = link_stop lock_device lock_timeout device acts
-own_stop c (CreateIntrChan host_addr host_port prog_num prog_vers prog_family) acts =
-    Some (channel_stop (channel_fault (has_channel c acts) host_addr host_port prog_family))
-own_stop c arguments acts = device_stop arguments acts
-
--- What stops a call: the link that it names is looked at first, then how much a write brings, then the lock.
 abbrev pub stop_of : ℕ → Arguments → List DeviceAct → Option Stop
-stop_of c arguments acts =
-    if names_another c (link arguments) acts then Some (Fails InvalidLink)
-    else (if is_too_long arguments then Some (Fails ParameterError)
-    else (if is_kept_out arguments acts then Some (lock_stop (lock_wait arguments)) else own_stop c arguments acts))
+stop_of c (CreateLink client_id lock_device lock_timeout device) acts = link_stop lock_device lock_timeout device acts
+stop_of c (OnLink lid call) acts = call_stop c (lid_of (Some lid)) call acts
+stop_of c (CreateIntrChan host_addr host_port prog_num prog_vers prog_family) acts =
+    Some (channel_stop (channel_fault (has_channel c acts) host_addr host_port prog_family))
+stop_of c DestroyIntrChan acts = None
 
 -- so many milliseconds from now
 abbrev pub deadline : Config → Option ℕ → List DeviceAct → Option ℕ

@@ -1,7 +1,8 @@
 -- The calls of the core channel (VXI-11 revision 1.0, section B.6), as their arguments say them.
 use Rattle.std.specs.Prelude.{ℕ, ℤ, pos, negsuc, Bool, false, [], length, Option, Some, None, nat_lt}
 use Rattle.sv_vxi.specs.declared.error_code.ErrorCode.{ErrorCode}
-use Rattle.sv_vxi.specs.Arguments.{Arguments, is_create_link, CreateLink, DeviceWrite, DeviceRead, DeviceReadstb, DeviceDocmd}
+use Rattle.sv_vxi.specs.declared.arguments.GenericCall.TheVariants.{Readstb}
+use Rattle.sv_vxi.specs.Arguments.{LinkCall, DeviceWrite, DeviceRead, Generic, DeviceDocmd, Arguments, CreateLink, OnLink, is_create_link}
 use Rattle.sv_vxi.specs.Results.{Outcome, Link, Size, Read, Status, Plain, Data}
 use Rattle.sv_exchange.specs.Limits.{max_message}
 
@@ -21,8 +22,8 @@ lid_of (Some (pos lid)) = Some lid
 lid_of _ = None
 
 -- whether a write brings more than 4,096 bytes
-abbrev pub is_too_long : Arguments → Bool
-is_too_long (DeviceWrite lid io_timeout lock_timeout flags bytes) = nat_lt max_message (length bytes)
+abbrev pub is_too_long : LinkCall → Bool
+is_too_long (DeviceWrite io_timeout lock_timeout flags bytes) = nat_lt max_message (length bytes)
 is_too_long _ = false
 
 -- the result of a read that gives nothing
@@ -32,8 +33,8 @@ no_bytes error = Read error (record { request_count = false; character = false; 
 -- the result of a call that fails, in the shape of that call's; its other fields are 0 or empty
 abbrev pub failure : Arguments → ErrorCode → Outcome
 failure (CreateLink client_id lock_device lock_timeout device) error = Link error (pos 0) 0 0
-failure (DeviceWrite lid io_timeout lock_timeout flags bytes) error = Size error 0
-failure (DeviceRead lid request_size io_timeout lock_timeout flags term_char) error = no_bytes error
-failure (DeviceReadstb parms) error = Status error 0
-failure (DeviceDocmd lid flags io_timeout lock_timeout cmd network_order datasize bytes) error = Data error []
+failure (OnLink lid (DeviceWrite io_timeout lock_timeout flags bytes)) error = Size error 0
+failure (OnLink lid (DeviceRead request_size io_timeout lock_timeout flags term_char)) error = no_bytes error
+failure (OnLink lid (Generic Readstb flags lock_timeout io_timeout)) error = Status error 0
+failure (OnLink lid (DeviceDocmd flags io_timeout lock_timeout cmd network_order datasize bytes)) error = Data error []
 failure _ error = Plain error

@@ -1,11 +1,12 @@
 -- What each call of the core channel does, once it needn't wait (VXI-11 revision 1.0, section B.6). What it waits for stands in front
 -- (Admission); a write or a read for which that isn't there finds nothing in time.
-use Rattle.std.specs.Prelude.{ℕ, ◌+◌, ◌%◌, ◌==◌, not, pos, Bool, false, List, [], ◌∷◌, ◌++◌, length, map, take, Option, Some, None, nat_lt, if◌then◌else◌}
+use Rattle.std.specs.Prelude.{ℕ, ◌+◌, ◌%◌, ◌==◌, not, pos, negsuc, Bool, false, List, [], ◌∷◌, ◌++◌, length, map, take, Option, Some, None, nat_lt, if◌then◌else◌}
 use Rattle.std.specs.Int.{bit_at}
 use Rattle.sv_errors.specs.declared.code.Code.TheVariants.{QueryUnterminated}
 use Rattle.sv_vxi.specs.declared.error_code.ErrorCode.TheVariants.{NoError, InvalidLink, ParameterError, NotSupported, OutOfResources, NoLock, IoTimeout}
 use Rattle.sv_vxi.specs.declared.error_code.ErrorCode.TheVariants.{Locked as DeviceLocked}
-use Rattle.sv_vxi.specs.Arguments.{Arguments, CreateLink, DeviceWrite, DeviceRead, DeviceReadstb, DeviceTrigger, DeviceClear, DeviceRemote, DeviceLocal, DeviceLock, DeviceUnlock, DeviceEnableSrq, DestroyLink, DestroyIntrChan}
+use Rattle.sv_vxi.specs.declared.arguments.GenericCall.TheVariants.{Readstb, Trigger, Clear}
+use Rattle.sv_vxi.specs.Arguments.{LinkCall, DeviceWrite, DeviceRead, Generic, DeviceLock, DeviceUnlock, DeviceEnableSrq, DestroyLink, Arguments, CreateLink, OnLink, DestroyIntrChan}
 use Rattle.sv_vxi.specs.Results.{Outcome, Link, Size, Read, Status, Plain}
 use Rattle.sv_links.specs.Links.{Made, Destroyed, Locked, Unlocked, owner, is_of, made, lids_left, holder, is_locked_out, is_this}
 use Rattle.sv_exchange.specs.Exchange.{Accepted, TextDropped, ResponseRead, has_ended, response, is_something}
@@ -17,8 +18,8 @@ use Rattle.sv_instrument.specs.Step.{is_answerable}
 use Rattle.sv_instrument.specs.Stimulus.{trigger_acts}
 use Rattle.sv_history.specs.Act.{DeviceAct, Linked, Happened, link_acts, instrument_acts, exchange_acts}
 use Rattle.sv_history.specs.CallOutcome.{CallOutcome, answered, only}
-use Rattle.sv_history.specs.CoreCall.{lid_of, no_bytes, failure}
-use Rattle.sv_history.specs.Interrupts.{device_enable_srq, destroy_channel}
+use Rattle.sv_history.specs.CoreCall.{no_bytes, failure}
+use Rattle.sv_history.specs.Interrupts.{enable_srq, destroy_channel}
 
 -- whether a link is one of this connection: it lives, and this one made it
 abbrev pub owns : ℕ → Option ℕ → List DeviceAct → Bool
@@ -33,22 +34,15 @@ make_link config c lock_device acts =
     answered ((if lock_device then Linked (Locked lid) ∷ [] else []) ++ Linked (Made lid c) ∷ [])
     (Link NoError (pos lid) config.abort max_message))
 
--- a link is destroyed
-abbrev pub destroy_link : Option ℕ → CallOutcome
-destroy_link (Some lid) = answered (Linked (Destroyed lid) ∷ []) (Plain NoError)
-destroy_link None = only (Plain InvalidLink)
-
 -- a link gets the lock, also where it has it, unless another has it
-abbrev pub device_lock : Option ℕ → List DeviceAct → CallOutcome
-device_lock (Some lid) acts = if is_locked_out (holder (link_acts acts)) (Some lid) then only (Plain DeviceLocked)
+abbrev pub device_lock : ℕ → List DeviceAct → CallOutcome
+device_lock lid acts = if is_locked_out (holder (link_acts acts)) (Some lid) then only (Plain DeviceLocked)
     else answered (Linked (Locked lid) ∷ []) (Plain NoError)
-device_lock None acts = only (Plain InvalidLink)
 
 -- the lock is free, where this link had it
-abbrev pub device_unlock : Option ℕ → List DeviceAct → CallOutcome
-device_unlock (Some lid) acts = if is_this lid (holder (link_acts acts)) then answered (Linked (Unlocked lid) ∷ []) (Plain NoError)
-    else only (Plain NoLock)
-device_unlock None acts = only (Plain InvalidLink)
+abbrev pub device_unlock : ℕ → List DeviceAct → CallOutcome
+device_unlock lid acts =
+    if is_this lid (holder (link_acts acts)) then answered (Linked (Unlocked lid) ∷ []) (Plain NoError) else only (Plain NoLock)
 
 -- the bytes of a write are accepted where no message waits to be executed
 abbrev pub device_write : ℕ → List ℕ → List DeviceAct → CallOutcome
@@ -78,22 +72,28 @@ device_read most term acts =
     else (if not (is_answerable (instrument_acts acts)) then only (no_bytes IoTimeout)
     else answered (Happened (Reported QueryUnterminated) ∷ Happened (Exchanged TextDropped) ∷ []) (no_bytes IoTimeout))
 
--- A call by what it is, once it needn't wait, where a poll of the status byte would give this. device_docmd isn't supported; nor, here, are
--- device_abort, which is none of this channel, and create_intr_chan, which waits until its peer was called (Interrupts).
+-- A call on a link by what it is, once it needn't wait, where a poll of the status byte would give this; device_remote and device_local do
+-- nothing. device_docmd isn't supported; nor, here, is device_abort, which is none of this channel.
+abbrev pub link_call : ℕ → ℕ → ℕ → LinkCall → List DeviceAct → CallOutcome
+link_call polled c lid (DeviceWrite io_timeout lock_timeout flags bytes) acts = device_write flags bytes acts
+link_call polled c lid (DeviceRead request_size io_timeout lock_timeout flags term_char) acts =
+    device_read request_size (term_of flags term_char) acts
+link_call polled c lid (Generic Readstb flags lock_timeout io_timeout) acts = answered (Happened Polled ∷ []) (Status NoError polled)
+link_call polled c lid (Generic Trigger flags lock_timeout io_timeout) acts =
+    answered (map Happened (trigger_acts (instrument_acts acts))) (Plain NoError)
+link_call polled c lid (Generic Clear flags lock_timeout io_timeout) acts = answered (Happened Purged ∷ []) (Plain NoError)
+link_call polled c lid (Generic _ flags lock_timeout io_timeout) acts = only (Plain NoError)
+link_call polled c lid (DeviceLock flags lock_timeout) acts = device_lock lid acts
+link_call polled c lid DeviceUnlock acts = device_unlock lid acts
+link_call polled c lid (DeviceEnableSrq enable handle) acts =
+    if owns c (Some lid) acts then enable_srq c enable lid handle else only (Plain InvalidLink)
+link_call polled c lid DestroyLink acts = answered (Linked (Destroyed lid) ∷ []) (Plain NoError)
+link_call polled c lid call acts = only (failure (OnLink (pos lid) call) NotSupported)
+
+-- And any call. A negative number is no link's; create_intr_chan waits until its peer was called (Interrupts), and isn't supported here.
 abbrev pub own_call : Config → ℕ → ℕ → Arguments → List DeviceAct → CallOutcome
 own_call config polled c (CreateLink client_id lock_device lock_timeout device) acts = make_link config c lock_device acts
-own_call config polled c (DeviceWrite lid io_timeout lock_timeout flags bytes) acts = device_write flags bytes acts
-own_call config polled c (DeviceRead lid request_size io_timeout lock_timeout flags term_char) acts =
-    device_read request_size (term_of flags term_char) acts
-own_call config polled c (DeviceReadstb parms) acts = answered (Happened Polled ∷ []) (Status NoError polled)
-own_call config polled c (DeviceTrigger parms) acts = answered (map Happened (trigger_acts (instrument_acts acts))) (Plain NoError)
-own_call config polled c (DeviceClear parms) acts = answered (Happened Purged ∷ []) (Plain NoError)
-own_call config polled c (DeviceRemote parms) acts = only (Plain NoError)
-own_call config polled c (DeviceLocal parms) acts = only (Plain NoError)
-own_call config polled c (DeviceLock lid flags lock_timeout) acts = device_lock (lid_of (Some lid)) acts
-own_call config polled c (DeviceUnlock lid) acts = device_unlock (lid_of (Some lid)) acts
-own_call config polled c (DeviceEnableSrq lid enable handle) acts =
-    device_enable_srq c (owns c (lid_of (Some lid)) acts) enable (lid_of (Some lid)) handle
-own_call config polled c (DestroyLink lid) acts = destroy_link (lid_of (Some lid))
+own_call config polled c (OnLink (pos lid) call) acts = link_call polled c lid call acts
+own_call config polled c (OnLink (negsuc n) call) acts = only (failure (OnLink (negsuc n) call) InvalidLink)
 own_call config polled c DestroyIntrChan acts = destroy_channel c acts
 own_call config polled c arguments acts = only (failure arguments NotSupported)

@@ -1,7 +1,7 @@
 -- Calls for interrupt channels (VXI-11 revision 1.0, section B.6: device_enable_srq, create_intr_chan, destroy_intr_chan).
 use Rattle.std.specs.Prelude.{ℕ, ◌/◌, ◌==◌, not, ◌&&◌, Bool, true, false, List, [], ◌∷◌, length, filter, Option, Some, None, nat_lt, if◌then◌else◌}
 use Rattle.sv_vxi.specs.declared.error_code.ErrorCode.{ErrorCode}
-use Rattle.sv_vxi.specs.declared.error_code.ErrorCode.TheVariants.{NoError, InvalidLink, ParameterError, NotEstablished, NotSupported, InvalidAddress, AlreadyEstablished}
+use Rattle.sv_vxi.specs.declared.error_code.ErrorCode.TheVariants.{NoError, ParameterError, NotEstablished, NotSupported, InvalidAddress, AlreadyEstablished}
 use Rattle.sv_vxi.specs.Arguments.{Arguments, CreateIntrChan, max_handle}
 use Rattle.sv_vxi.specs.Results.{Plain}
 use Rattle.sv_links.specs.declared.request.Peer.{Peer}
@@ -25,11 +25,6 @@ abbrev pub enable_srq : ℕ → Bool → ℕ → List ℕ → CallOutcome
 enable_srq c true lid handle = if nat_lt max_handle (length handle) then only (Plain ParameterError)
     else answered (Channel (SrqEnabled lid c handle) ∷ []) (Plain NoError)
 enable_srq c false lid handle = answered (Channel (SrqDisabled lid) ∷ []) (Plain NoError)
-
--- one of the connection
-abbrev pub device_enable_srq : ℕ → Bool → Bool → Option ℕ → List ℕ → CallOutcome
-device_enable_srq c owned enable (Some lid) handle = if owned then enable_srq c enable lid handle else only (Plain InvalidLink)
-device_enable_srq c owned enable None handle = only (Plain InvalidLink)
 
 -- why no channel can be opened: one is open, it isn't over TCP (0), or the address isn't in 127.0.0.0/8, or the port none of 1 to 65535
 abbrev pub is_peer : ℕ → ℕ → Bool

@@ -3,7 +3,7 @@ use Rattle.std.specs.Prelude.{ℕ, Bool, List, [], ◌∷◌, ◌++◌, Option, 
 use Rattle.sv_vxi.specs.declared.error_code.ErrorCode.{ErrorCode}
 use Rattle.sv_vxi.specs.declared.error_code.ErrorCode.TheVariants.{IoTimeout}
 use Rattle.sv_vxi.specs.declared.error_code.ErrorCode.TheVariants.{Locked as DeviceLocked}
-use Rattle.sv_vxi.specs.Arguments.{Arguments, io_timeout}
+use Rattle.sv_vxi.specs.Arguments.{Arguments, OnLink}
 use Rattle.sv_links.specs.declared.waiting.Wait.{Wait}
 use Rattle.sv_links.specs.declared.waiting.Wait.TheVariants.{Lock, Input, Response, Dial}
 use Rattle.sv_links.specs.Waiting.{Again, Left}
@@ -20,13 +20,13 @@ use Rattle.sv_history.specs.Admission.{device_wait, deadline}
 abbrev pub leaving : ℕ → CallOutcome → CallOutcome
 leaving c outcome = record outcome { adds = outcome.adds ++ Waited (Left c) ∷ [] }
 
--- what a call waits for next that waited for the lock; one that waited for something else is done
-abbrev pub next_wait : Wait → Arguments → List DeviceAct → Option Wait
-next_wait Lock arguments acts = device_wait arguments acts
+-- what a call waits for next that waited for the lock, and how long; one that waited for something else is done
+abbrev pub next_wait : Wait → Arguments → List DeviceAct → Option (Wait × ℕ)
+next_wait Lock (OnLink lid call) acts = device_wait call acts
 next_wait _ arguments acts = None
 
-abbrev pub continued : Config → ℕ → ℕ → Arguments → Option Wait → List DeviceAct → CallOutcome
-continued config polled c arguments (Some wait) acts = suspended (Again c wait (deadline config (io_timeout arguments) acts))
+abbrev pub continued : Config → ℕ → ℕ → Arguments → Option (Wait × ℕ) → List DeviceAct → CallOutcome
+continued config polled c arguments (Some wait) acts = suspended (Again c wait.0 (deadline config (Some wait.1) acts))
 continued config polled c arguments None acts = leaving c (own_call config polled c arguments (Waited (Left c) ∷ acts))
 
 -- What becomes of the call of a connection, if its record is one.

@@ -4,8 +4,9 @@ use Rattle.std.specs.Prelude.{not, is_some, is_none, option_map, ◌&&◌, ℤ, 
 use Rattle.std.proofs.lemmas.Bool.{cases_Bool}
 use Rattle.sv_logs.proofs.Each.{Each}
 use Rattle.sv_vxi.specs.declared.error_code.ErrorCode.TheVariants.{Abort, InvalidLink, ParameterError}
+use Rattle.sv_vxi.specs.declared.error_code.ErrorCode.TheVariants.{Locked as DeviceLocked}
 use Rattle.sv_vxi.specs.declared.arguments.LockWait.{LockWait}
-use Rattle.sv_vxi.specs.Arguments.{Arguments, CreateLink, DeviceWrite, DeviceRead, DeviceReadstb, DeviceTrigger, DeviceClear, DeviceRemote, DeviceLocal, DeviceLock, DeviceDocmd, CreateIntrChan, link, lock_wait, io_timeout, is_create_link}
+use Rattle.sv_vxi.specs.Arguments.{LinkCall, DeviceAbort, DeviceWrite, DeviceRead, Generic, DeviceLock, DeviceUnlock, DeviceEnableSrq, DeviceDocmd, DestroyLink, Arguments, CreateLink, OnLink, CreateIntrChan, DestroyIntrChan, link, lock_wait, is_create_link}
 use Rattle.sv_links.specs.declared.waiting.Wait.{Wait}
 use Rattle.sv_links.specs.declared.waiting.Wait.TheVariants.{Lock, Input as ForInput, Response, Dial}
 use Rattle.sv_links.specs.Links.{Made, Destroyed, Locked, Unlocked, made}
@@ -23,7 +24,7 @@ use Rattle.sv_history.specs.CoreChannel.{owns, own_call}
 use Rattle.sv_history.specs.Request.{Request, NoCall, Decided, CoreRequest, AbortRequest, PortRequest, core_call_in, next_request}
 use Rattle.sv_history.specs.Effect.{Effect, acts_of}
 use Rattle.sv_history.specs.Interrupts.{is_dial, is_dialing, dialing}
-use Rattle.sv_history.specs.Admission.{Stop, Fails, Awaits, names_another, is_kept_out, lock_stop, device_wait, deadline, own_stop, stop_of, admitted}
+use Rattle.sv_history.specs.Admission.{Stop, Fails, Awaits, lock_stop, device_wait, call_stop, deadline, stop_of, admitted}
 use Rattle.sv_history.specs.Execution.{request_effect, aborts}
 use Rattle.sv_history.specs.Refusing.{takes_memory, refusable_call, refusable}
 use Rattle.sv_history.specs.Resuming.{failed}
@@ -60,59 +61,41 @@ IsModest wait named = (is_dial (Some wait) ≡ false) × ((is_lock (Some wait) &
 some_stop : (a b : Stop) → Some a ≡ Some b → a ≡ b
 some_stop a b e = cc
 
-device_modest : (arguments : Arguments) (acts : List DeviceAct) (timeout : Option ℕ) (wait : Wait) (until named : Option ℕ)
-    → option_map (λ wait. Awaits wait timeout) (device_wait arguments acts) ≡ Some (Awaits wait until) → IsModest wait named
-device_modest (DeviceWrite lid io_timeout lock_timeout flags bytes) acts timeout wait until named e =
-    by (has_ended (exchange_acts acts)) wait e
+device_modest : (call : LinkCall) (acts : List DeviceAct) (wait : Wait) (until named : Option ℕ)
+    → option_map (λ (wait : Wait × ℕ). Awaits wait.0 (Some wait.1)) (device_wait call acts) ≡ Some (Awaits wait until) → IsModest wait named
+device_modest (DeviceWrite io_timeout lock_timeout flags bytes) acts wait until named e = by (has_ended (exchange_acts acts)) wait e
   where
-    by : (b : Bool) (wait : Wait) → option_map (λ wait. Awaits wait timeout) (cond b (Some ForInput) None) ≡ Some (Awaits wait until)
+    by : (b : Bool) (wait : Wait)
+        → option_map (λ (wait : Wait × ℕ). Awaits wait.0 (Some wait.1)) (cond b (Some (ForInput, io_timeout)) None) ≡ Some (Awaits wait until)
         → IsModest wait named
     by true Lock e = absurd cc
     by true ForInput e = (refl, refl)
     by true Response e = absurd cc
     by true Dial e = absurd cc
     by false wait e = absurd cc
-device_modest (DeviceRead lid request_size io_timeout lock_timeout flags term_char) acts timeout wait until named e =
+device_modest (DeviceRead request_size io_timeout lock_timeout flags term_char) acts wait until named e =
     by (is_answerable (instrument_acts acts)) wait e
   where
-    by : (b : Bool) (wait : Wait) → option_map (λ wait. Awaits wait timeout) (cond b None (Some Response)) ≡ Some (Awaits wait until)
+    by : (b : Bool) (wait : Wait)
+        → option_map (λ (wait : Wait × ℕ). Awaits wait.0 (Some wait.1)) (cond b None (Some (Response, io_timeout))) ≡ Some (Awaits wait until)
         → IsModest wait named
     by false Lock e = absurd cc
     by false ForInput e = absurd cc
     by false Response e = (refl, refl)
     by false Dial e = absurd cc
     by true wait e = absurd cc
-device_modest _ acts timeout wait until named e = absurd cc
+device_modest _ acts wait until named e = absurd cc
 
-own_modest : (c : ℕ) (arguments : Arguments) (acts : List DeviceAct) (wait : Wait) (until named : Option ℕ) → takes_memory arguments ≡ false
-    → own_stop c arguments acts ≡ Some (Awaits wait until) → IsModest wait named
-own_modest c (CreateLink client_id lock_device lock_timeout device) acts wait until named small e = absurd cc
-own_modest c (CreateIntrChan host_addr host_port prog_num prog_vers prog_family) acts wait until named small e = absurd cc
-own_modest c arguments acts wait until named small e = device_modest arguments acts (io_timeout arguments) wait until named e
-
--- who minds the lock names a link
-named_by : (c : ℕ) (lid : ℤ) (acts : List DeviceAct) → not (owns c (lid_of (Some lid)) acts) ≡ false → is_none (lid_of (Some lid)) ≡ false
-named_by c (pos n) acts e = refl
-named_by c (negsuc n) acts e = absurd cc
-
-minds_named : (c : ℕ) (arguments : Arguments) (acts : List DeviceAct) → is_some (lock_wait arguments) ≡ true
-    → names_another c (link arguments) acts ≡ false → is_none (lid_of (link arguments)) ≡ false
-minds_named c (DeviceWrite lid io_timeout lock_timeout flags bytes) acts h e = named_by c lid acts e
-minds_named c (DeviceRead lid request_size io_timeout lock_timeout flags term_char) acts h e = named_by c lid acts e
-minds_named c (DeviceReadstb parms) acts h e = named_by c parms.lid acts e
-minds_named c (DeviceTrigger parms) acts h e = named_by c parms.lid acts e
-minds_named c (DeviceClear parms) acts h e = named_by c parms.lid acts e
-minds_named c (DeviceRemote parms) acts h e = named_by c parms.lid acts e
-minds_named c (DeviceLocal parms) acts h e = named_by c parms.lid acts e
-minds_named c (DeviceLock lid flags lock_timeout) acts h e = named_by c lid acts e
-minds_named c (DeviceDocmd lid flags io_timeout lock_timeout cmd network_order datasize bytes) acts h e = named_by c lid acts e
-minds_named c _ acts h e = absurd cc
+-- a link of the connection has a number
+own_named : (c : ℕ) (named : Option ℕ) (acts : List DeviceAct) → owns c named acts ≡ true → is_none named ≡ false
+own_named c (Some n) acts e = refl
+own_named c None acts e = absurd cc
 
 lock_modest : (found : Option LockWait) (wait : Wait) (until named : Option ℕ) → is_none named ≡ false
-    → Some (lock_stop found) ≡ Some (Awaits wait until) → IsModest wait named
+    → option_map lock_stop found ≡ Some (Awaits wait until) → IsModest wait named
 lock_modest (Some one) wait until named some e = by one.waits wait e
   where
-    by : (b : Bool) (wait : Wait) → Some (cond b (Awaits Lock (Some one.timeout)) (lock_stop None)) ≡ Some (Awaits wait until)
+    by : (b : Bool) (wait : Wait) → Some (cond b (Awaits Lock (Some one.timeout)) (Fails DeviceLocked)) ≡ Some (Awaits wait until)
         → IsModest wait named
     by true Lock e = (refl, some)
     by true ForInput e = absurd cc
@@ -121,24 +104,25 @@ lock_modest (Some one) wait until named some e = by one.waits wait e
     by false wait e = absurd cc
 lock_modest None wait until named some e = absurd cc
 
-minds : (a b : Bool) → (a && b) ≡ true → a ≡ true
-minds true b e = refl
-minds false b e = absurd cc
+call_modest : (c : ℕ) (named : Option ℕ) (call : LinkCall) (acts : List DeviceAct) (wait : Wait) (until : Option ℕ)
+    → call_stop c named call acts ≡ Some (Awaits wait until) → IsModest wait named
+call_modest c named call acts wait until e = by (owns c named acts) (is_too_long call) _ refl e
+  where
+    by : (own long out : Bool) → owns c named acts ≡ own
+        → cond (not own) (Some (Fails InvalidLink)) (cond long (Some (Fails ParameterError))
+        (cond out (option_map lock_stop (lock_wait call)) (option_map (λ (wait : Wait × ℕ). Awaits wait.0 (Some wait.1)) (device_wait call acts))))
+        ≡ Some (Awaits wait until) → IsModest wait named
+    by false long out o e = absurd cc
+    by true true out o e = absurd cc
+    by true false true o e = lock_modest (lock_wait call) wait until named (own_named c named acts o) e
+    by true false false o e = device_modest call acts wait until named e
 
 waits_modest : (c : ℕ) (arguments : Arguments) (acts : List DeviceAct) (wait : Wait) (until : Option ℕ) → takes_memory arguments ≡ false
     → stop_of c arguments acts ≡ Some (Awaits wait until) → IsModest wait (lid_of (link arguments))
-waits_modest c arguments acts wait until small e =
-    by (names_another c (link arguments) acts) (is_too_long arguments) (is_kept_out arguments acts) refl refl e
-  where
-    by : (another long out : Bool) → names_another c (link arguments) acts ≡ another → is_kept_out arguments acts ≡ out
-        → cond another (Some (Fails InvalidLink)) (cond long (Some (Fails ParameterError))
-        (cond out (Some (lock_stop (lock_wait arguments))) (own_stop c arguments acts))) ≡ Some (Awaits wait until)
-        → IsModest wait (lid_of (link arguments))
-    by true long out a o e = absurd cc
-    by false true out a o e = absurd cc
-    by false false true a o e = lock_modest (lock_wait arguments) wait until (lid_of (link arguments))
-        (minds_named c arguments acts (minds (is_some (lock_wait arguments)) _ o) a) e
-    by false false false a o e = own_modest c arguments acts wait until (lid_of (link arguments)) small e
+waits_modest c (OnLink lid call) acts wait until small e = call_modest c (lid_of (Some lid)) call acts wait until e
+waits_modest c (CreateLink client_id lock_device lock_timeout device) acts wait until small e = absurd cc
+waits_modest c (CreateIntrChan host_addr host_port prog_num prog_vers prog_family) acts wait until small e = absurd cc
+waits_modest c DestroyIntrChan acts wait until small e = absurd cc
 
 entered_creates : (c d : ℕ) (named : Option ℕ) (wait : Wait) (last : Option ℕ) → (is_lock (Some wait) && is_none named) ≡ false
     → is_creating (Entered c named wait last ∷ []) d ≡ false

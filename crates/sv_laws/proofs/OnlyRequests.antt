@@ -4,7 +4,8 @@ use Rattle.std.specs.Prelude.{map, pos, negsuc, ⊤}
 use Rattle.std.specs.List.{fold}
 use Rattle.std.proofs.lemmas.Bool.{cases_Bool}
 use Rattle.sv_vxi.specs.declared.error_code.ErrorCode.TheVariants.{Abort}
-use Rattle.sv_vxi.specs.Arguments.{Arguments, DeviceAbort, CreateLink, DeviceWrite, DeviceRead, DeviceReadstb, DeviceTrigger, DeviceClear, DeviceRemote, DeviceLocal, DeviceLock, DeviceUnlock, DeviceEnableSrq, DeviceDocmd, DestroyLink, CreateIntrChan, DestroyIntrChan, max_handle}
+use Rattle.sv_vxi.specs.declared.arguments.GenericCall.TheVariants.{Readstb, Trigger, Clear, Remote, Local}
+use Rattle.sv_vxi.specs.Arguments.{LinkCall, DeviceAbort, DeviceWrite, DeviceRead, Generic, DeviceLock, DeviceUnlock, DeviceEnableSrq, DeviceDocmd, DestroyLink, Arguments, CreateLink, OnLink, CreateIntrChan, DestroyIntrChan, max_handle}
 use Rattle.sv_links.specs.declared.request.Peer.{Peer}
 use Rattle.sv_links.specs.declared.waiting.Wait.{Wait}
 use Rattle.sv_links.specs.Links.{LinkAct, Made, Destroyed, Locked, Unlocked, closing, owner, is_of, holder, is_locked_out, is_this, lids_left}
@@ -167,39 +168,36 @@ plain_own config polled c (CreateLink client_id false lock_timeout device) acts 
   | inl e ↦ rw e tt
   | inr e ↦ rw e tt
 ]
-plain_own config polled c (DeviceWrite lid io_timeout lock_timeout flags bytes) acts =
+plain_own config polled c (OnLink (pos n) (DeviceWrite io_timeout lock_timeout flags bytes)) acts =
     elim (cases_Bool (nat_lt max_message (length bytes))) [
       | inl e ↦ rw e tt
       | inr e ↦ elim (cases_Bool (has_ended (exchange_acts acts))) [ inl k ↦ rw (e, k) tt | inr k ↦ rw (e, k) tt ]
     ]
-plain_own config polled c (DeviceRead lid request_size io_timeout lock_timeout flags term_char) acts =
+plain_own config polled c (OnLink (pos n) (DeviceRead request_size io_timeout lock_timeout flags term_char)) acts =
     elim (cases_Bool (is_answerable (instrument_acts acts))) [
       | inl k ↦ elim (cases_Bool (is_something (response (exchange_acts acts)))) [ inl e ↦ rw (k, e) tt | inr e ↦ rw (k, e) tt ]
       | inr k ↦ elim (cases_Bool (is_something (response (exchange_acts acts)))) [ inl e ↦ rw (k, e) tt | inr e ↦ rw (k, e) tt ]
     ]
-plain_own config polled c (DeviceReadstb parms) acts = tt
-plain_own config polled c (DeviceTrigger parms) acts = plain_happened (trigger_acts (instrument_acts acts))
-plain_own config polled c (DeviceClear parms) acts = tt
-plain_own config polled c (DeviceLock (pos n) flags lock_timeout) acts =
+plain_own config polled c (OnLink (pos n) (Generic Readstb flags lock_timeout io_timeout)) acts = tt
+plain_own config polled c (OnLink (pos n) (Generic Trigger flags lock_timeout io_timeout)) acts = plain_happened (trigger_acts (instrument_acts acts))
+plain_own config polled c (OnLink (pos n) (Generic Clear flags lock_timeout io_timeout)) acts = tt
+plain_own config polled c (OnLink (pos n) (DeviceLock flags lock_timeout)) acts =
     elim (cases_Bool (is_locked_out (holder (link_acts acts)) (Some n))) [ inl e ↦ rw e tt | inr e ↦ rw e tt ]
-plain_own config polled c (DeviceUnlock (pos n)) acts =
+plain_own config polled c (OnLink (pos n) DeviceUnlock) acts =
     elim (cases_Bool (is_this n (holder (link_acts acts)))) [ inl e ↦ rw e tt | inr e ↦ rw e tt ]
-plain_own config polled c (DeviceEnableSrq (pos n) true handle) acts = elim (cases_Bool (is_of c (owner n (link_acts acts)))) [
+plain_own config polled c (OnLink (pos n) (DeviceEnableSrq true handle)) acts = elim (cases_Bool (is_of c (owner n (link_acts acts)))) [
   | inl e ↦ elim (cases_Bool (nat_lt max_handle (length handle))) [ inl k ↦ rw (e, k) tt | inr k ↦ rw (e, k) tt ]
   | inr e ↦ rw e tt
 ]
-plain_own config polled c (DeviceEnableSrq (pos n) false handle) acts =
+plain_own config polled c (OnLink (pos n) (DeviceEnableSrq false handle)) acts =
     elim (cases_Bool (is_of c (owner n (link_acts acts)))) [ inl e ↦ rw e tt | inr e ↦ rw e tt ]
-plain_own config polled c (DestroyLink (pos n)) acts = tt
+plain_own config polled c (OnLink (pos n) DestroyLink) acts = tt
 plain_own config polled c DestroyIntrChan acts = elim (cases_Bool (has_channel c acts)) [ inl e ↦ rw e tt | inr e ↦ rw e tt ]
-plain_own config polled c (DeviceLock (negsuc n) flags lock_timeout) acts = tt
-plain_own config polled c (DeviceUnlock (negsuc n)) acts = tt
-plain_own config polled c (DeviceEnableSrq (negsuc n) enable handle) acts = tt
-plain_own config polled c (DestroyLink (negsuc n)) acts = tt
-plain_own config polled c (DeviceRemote parms) acts = tt
-plain_own config polled c (DeviceLocal parms) acts = tt
-plain_own config polled c (DeviceAbort lid) acts = tt
-plain_own config polled c (DeviceDocmd lid flags io_timeout lock_timeout cmd network_order datasize bytes) acts = tt
+plain_own config polled c (OnLink (negsuc n) call) acts = tt
+plain_own config polled c (OnLink (pos n) (Generic Remote flags lock_timeout io_timeout)) acts = tt
+plain_own config polled c (OnLink (pos n) (Generic Local flags lock_timeout io_timeout)) acts = tt
+plain_own config polled c (OnLink (pos n) DeviceAbort) acts = tt
+plain_own config polled c (OnLink (pos n) (DeviceDocmd flags io_timeout lock_timeout cmd network_order datasize bytes)) acts = tt
 plain_own config polled c (CreateIntrChan host_addr host_port prog_num prog_vers prog_family) acts = tt
 
 plain_admitted : (config : Config) (polled c : ℕ) (arguments : Arguments) (stop : Option Stop) (acts : List DeviceAct)
@@ -216,7 +214,7 @@ plain_request config polled c (CoreRequest call) acts = plain_admitted config po
 plain_request config polled c (AbortRequest xid lid) acts = tt
 plain_request config polled c (PortRequest xid args) acts = tt
 
-plain_continued : (config : Config) (polled c : ℕ) (arguments : Arguments) (next : Option Wait) (acts : List DeviceAct)
+plain_continued : (config : Config) (polled c : ℕ) (arguments : Arguments) (next : Option (Wait × ℕ)) (acts : List DeviceAct)
     → ArePlain (continued config polled c arguments next acts).adds
 plain_continued config polled c arguments (Some wait) acts = tt
 plain_continued config polled c arguments None acts =

@@ -5,7 +5,7 @@ use Rattle.std.specs.Int.{bit_at}
 use Rattle.std.specs.List.{AllByRecursion}
 use Rattle.sv_rpc.specs.Stream.{reading, records_of, tail_of}
 use Rattle.sv_vxi.specs.declared.error_code.ErrorCode.TheVariants.{NoError}
-use Rattle.sv_vxi.specs.Arguments.{DeviceWrite}
+use Rattle.sv_vxi.specs.Arguments.{DeviceWrite, OnLink}
 use Rattle.sv_vxi.specs.Results.{Size}
 use Rattle.sv_links.specs.declared.waiting.Wait.TheVariants.{Input as ForInput, Response as ForResponse}
 use Rattle.sv_links.specs.Waiting.{WaitAct, waits}
@@ -40,7 +40,7 @@ without_pieces = filter (λ act. not (is_piece act))
 -- all its bytes.
 abbrev pub IsWritten : ℕ → List ℕ → Bool → List ConnAct → List ConnAct → Type 0
 IsWritten lid bytes ended before acts = (xid io_timeout lock_timeout flags : ℕ) × (call : List ℕ)
-    × (core_call call ≡ Some (record { xid = xid; arguments = DeviceWrite (pos lid) io_timeout lock_timeout flags bytes }))
+    × (core_call call ≡ Some (record { xid = xid; arguments = OnLink (pos lid) (DeviceWrite io_timeout lock_timeout flags bytes) }))
     × ((bit_at flags 3 ≡ 1) ↔ (ended ≡ true))
     × (acts ≡ Replied (result_reply xid (Size NoError (length bytes))) ∷ CallTaken call ∷ before)
 

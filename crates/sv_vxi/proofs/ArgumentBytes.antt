@@ -1,76 +1,75 @@
 -- What is read as the arguments of a call is what the bytes are as such.
-use Rattle.std.proofs.Common.{◌≡◌, ℕ, ◌++◌, Bool, true, false, ◌||◌, ◌==◌, List, [], ◌∷◌, Result, Ok, Err, refl, sym, ap, ◌∙◌, subst, eqb-true}
+use Rattle.std.proofs.Common.{◌≡◌, ℕ, ℤ, ◌++◌, Bool, true, false, ◌||◌, ◌==◌, List, [], ◌∷◌, Result, Ok, Err, refl, sym, ap, ◌∙◌, subst, eqb-true}
 use Rattle.std.specs.List.{AllByRecursion}
 use Rattle.sv_xdr.specs.declared.garbage.Garbage.{Garbage}
 use Rattle.sv_xdr.specs.Spelling.{BeginsAll}
 use Rattle.sv_xdr.proofs.Fields.{IsBytes}
-use Rattle.sv_vxi.specs.Arguments.{GenericParms, Arguments, DeviceAbort, CreateLink, DeviceWrite, DeviceRead, DeviceReadstb, DeviceTrigger, DeviceClear, DeviceRemote, DeviceLocal, DeviceLock, DeviceUnlock, DeviceEnableSrq, DeviceDocmd, DestroyLink, CreateIntrChan, DestroyIntrChan, procedure_of, generic_fields, argument_fields, InBounds, BeginsWith, core_calls, abort_calls, is_one_of, ArgumentsAre}
+use Rattle.sv_vxi.specs.declared.arguments.GenericCall.{GenericCall}
+use Rattle.sv_vxi.specs.declared.arguments.GenericCall.TheVariants.{Readstb, Trigger, Clear, Remote, Local}
+use Rattle.sv_vxi.specs.Arguments.{LinkCall, DeviceAbort, DeviceWrite, DeviceRead, Generic, DeviceLock, DeviceUnlock, DeviceEnableSrq, DeviceDocmd, DestroyLink, Arguments, CreateLink, OnLink, CreateIntrChan, DestroyIntrChan, procedure_of, call_fields, argument_fields, InBounds, BeginsWith, core_calls, abort_calls, is_one_of, ArgumentsAre}
 use Rattle.sv_vxi.specs.Limits.{max_handle}
-use Rattle.sv_vxi.specs.Reading.{Kind, signed, unsigned, boolean, opaque, any, Makes, read, read_generic, arguments_at}
-use Rattle.sv_vxi.proofs.Spelled.{Values, fields, make, Bounded, text_bound, read_begins, read_takes}
+use Rattle.sv_vxi.specs.Reading.{Kind, signed, unsigned, boolean, opaque, any, Makes, read, read_on_link, arguments_at}
+use Rattle.sv_vxi.proofs.Spelled.{Values, fields, make, Bounded, text_bound, read_begins, read_takes, on_link_begins, on_link_takes}
 
 -- a value, and those behind it
 infixr 10 ◌&◌
 abbrev ◌&◌ : {A B : Type 0} → A → B → A × B
 a & b = (a, b)
 
--- the fields of the calls
-abbrev link : List Kind
-link = signed ∷ []
-
+-- the fields of the calls, of those on a link behind the link
 abbrev generic : List Kind
-generic = signed ∷ unsigned ∷ unsigned ∷ unsigned ∷ []
+generic = unsigned ∷ unsigned ∷ unsigned ∷ []
 
 abbrev create_link : List Kind
 create_link = signed ∷ boolean ∷ unsigned ∷ any ∷ []
 
 abbrev device_write : List Kind
-device_write = signed ∷ unsigned ∷ unsigned ∷ unsigned ∷ any ∷ []
+device_write = unsigned ∷ unsigned ∷ unsigned ∷ any ∷ []
 
 abbrev device_read : List Kind
-device_read = signed ∷ unsigned ∷ unsigned ∷ unsigned ∷ unsigned ∷ unsigned ∷ []
+device_read = unsigned ∷ unsigned ∷ unsigned ∷ unsigned ∷ unsigned ∷ []
 
 abbrev device_lock : List Kind
-device_lock = signed ∷ unsigned ∷ unsigned ∷ []
+device_lock = unsigned ∷ unsigned ∷ []
 
 abbrev enable_srq : List Kind
-enable_srq = signed ∷ boolean ∷ opaque max_handle ∷ []
+enable_srq = boolean ∷ opaque max_handle ∷ []
 
 abbrev device_docmd : List Kind
-device_docmd = signed ∷ unsigned ∷ unsigned ∷ unsigned ∷ signed ∷ boolean ∷ signed ∷ any ∷ []
+device_docmd = unsigned ∷ unsigned ∷ unsigned ∷ signed ∷ boolean ∷ signed ∷ any ∷ []
 
 abbrev create_intr_chan : List Kind
 create_intr_chan = unsigned ∷ unsigned ∷ unsigned ∷ unsigned ∷ unsigned ∷ []
 
-generic_begins : (makes : GenericParms → Arguments) (p : GenericParms) (bytes after : List ℕ) → BeginsAll bytes (generic_fields p) after
-    → read_generic makes bytes ≡ Ok (makes p)
-generic_begins makes p bytes after h = read_begins generic
-    (λ lid flags lock_timeout io_timeout. makes (record { lid = lid; flags = flags; lock_timeout = lock_timeout; io_timeout = io_timeout }))
-    (p.lid & p.flags & p.lock_timeout & p.io_timeout & tt) bytes after tt h
+generic_begins : (call : GenericCall) (lid : ℤ) (flags lock_timeout io_timeout : ℕ) (bytes after : List ℕ)
+    → BeginsAll bytes (argument_fields (OnLink lid (Generic call flags lock_timeout io_timeout))) after
+    → read_on_link generic (Generic call) bytes ≡ Ok (OnLink lid (Generic call flags lock_timeout io_timeout))
+generic_begins call lid flags lock_timeout io_timeout bytes after h =
+    on_link_begins generic (Generic call) lid (flags & lock_timeout & io_timeout & tt) bytes after tt h
 
 -- arguments that are spelled are read
 pub arguments_begin : (a : Arguments) (bytes after : List ℕ) → BeginsWith bytes a after → arguments_at (procedure_of a) bytes ≡ Ok a
-arguments_begin (DeviceAbort lid) bytes after (bounds, h) = read_begins link DeviceAbort (lid & tt) bytes after tt h
+arguments_begin (OnLink lid DeviceAbort) bytes after (bounds, h) = on_link_begins [] DeviceAbort lid tt bytes after tt h
 arguments_begin (CreateLink client_id lock_device lock_timeout device) bytes after (bounds, h) =
     read_begins create_link CreateLink (client_id & lock_device & lock_timeout & device & tt) bytes after (text_bound _ h.2.2.2.1, tt) h
-arguments_begin (DeviceWrite lid io_timeout lock_timeout flags text) bytes after (bounds, h) =
-    read_begins device_write DeviceWrite (lid & io_timeout & lock_timeout & flags & text & tt) bytes after (text_bound _ h.2.2.2.2.1, tt) h
-arguments_begin (DeviceRead lid request_size io_timeout lock_timeout flags term_char) bytes after (bounds, h) =
-    read_begins device_read DeviceRead (lid & request_size & io_timeout & lock_timeout & flags & term_char & tt) bytes after tt h
-arguments_begin (DeviceReadstb p) bytes after (bounds, h) = generic_begins DeviceReadstb p bytes after h
-arguments_begin (DeviceTrigger p) bytes after (bounds, h) = generic_begins DeviceTrigger p bytes after h
-arguments_begin (DeviceClear p) bytes after (bounds, h) = generic_begins DeviceClear p bytes after h
-arguments_begin (DeviceRemote p) bytes after (bounds, h) = generic_begins DeviceRemote p bytes after h
-arguments_begin (DeviceLocal p) bytes after (bounds, h) = generic_begins DeviceLocal p bytes after h
-arguments_begin (DeviceLock lid flags lock_timeout) bytes after (bounds, h) =
-    read_begins device_lock DeviceLock (lid & flags & lock_timeout & tt) bytes after tt h
-arguments_begin (DeviceUnlock lid) bytes after (bounds, h) = read_begins link DeviceUnlock (lid & tt) bytes after tt h
-arguments_begin (DeviceEnableSrq lid enable handle) bytes after (bounds, h) =
-    read_begins enable_srq DeviceEnableSrq (lid & enable & handle & tt) bytes after (bounds, tt) h
-arguments_begin (DeviceDocmd lid flags io_timeout lock_timeout cmd network_order datasize text) bytes after (bounds, h) =
-    read_begins device_docmd DeviceDocmd (lid & flags & io_timeout & lock_timeout & cmd & network_order & datasize & text & tt) bytes after
+arguments_begin (OnLink lid (DeviceWrite io_timeout lock_timeout flags text)) bytes after (bounds, h) =
+    on_link_begins device_write DeviceWrite lid (io_timeout & lock_timeout & flags & text & tt) bytes after (text_bound _ h.2.2.2.2.1, tt) h
+arguments_begin (OnLink lid (DeviceRead request_size io_timeout lock_timeout flags term_char)) bytes after (bounds, h) =
+    on_link_begins device_read DeviceRead lid (request_size & io_timeout & lock_timeout & flags & term_char & tt) bytes after tt h
+arguments_begin (OnLink lid (Generic Readstb flags lock io)) bytes after (bounds, h) = generic_begins Readstb lid flags lock io bytes after h
+arguments_begin (OnLink lid (Generic Trigger flags lock io)) bytes after (bounds, h) = generic_begins Trigger lid flags lock io bytes after h
+arguments_begin (OnLink lid (Generic Clear flags lock io)) bytes after (bounds, h) = generic_begins Clear lid flags lock io bytes after h
+arguments_begin (OnLink lid (Generic Remote flags lock io)) bytes after (bounds, h) = generic_begins Remote lid flags lock io bytes after h
+arguments_begin (OnLink lid (Generic Local flags lock io)) bytes after (bounds, h) = generic_begins Local lid flags lock io bytes after h
+arguments_begin (OnLink lid (DeviceLock flags lock_timeout)) bytes after (bounds, h) =
+    on_link_begins device_lock DeviceLock lid (flags & lock_timeout & tt) bytes after tt h
+arguments_begin (OnLink lid DeviceUnlock) bytes after (bounds, h) = on_link_begins [] DeviceUnlock lid tt bytes after tt h
+arguments_begin (OnLink lid (DeviceEnableSrq enable handle)) bytes after (bounds, h) =
+    on_link_begins enable_srq DeviceEnableSrq lid (enable & handle & tt) bytes after (bounds, tt) h
+arguments_begin (OnLink lid (DeviceDocmd flags io_timeout lock_timeout cmd network_order datasize text)) bytes after (bounds, h) =
+    on_link_begins device_docmd DeviceDocmd lid (flags & io_timeout & lock_timeout & cmd & network_order & datasize & text & tt) bytes after
     (text_bound _ h.2.2.2.2.2.2.2.1, tt) h
-arguments_begin (DestroyLink lid) bytes after (bounds, h) = read_begins link DestroyLink (lid & tt) bytes after tt h
+arguments_begin (OnLink lid DestroyLink) bytes after (bounds, h) = on_link_begins [] DestroyLink lid tt bytes after tt h
 arguments_begin (CreateIntrChan host_addr host_port prog_num prog_vers prog_family) bytes after (bounds, h) =
     read_begins create_intr_chan CreateIntrChan (host_addr & host_port & prog_num & prog_vers & prog_family & tt) bytes after tt h
 arguments_begin DestroyIntrChan bytes after h = refl
@@ -92,22 +91,30 @@ abbrev Takes : ℕ → (List ℕ → Result Arguments Garbage) → Type 0
 Takes proc at = (bytes : List ℕ) (a : Arguments) → IsBytes bytes → at bytes ≡ Ok a → ArgumentsAre proc bytes (Ok a)
 
 -- What is made of these fields are arguments of this call, and spelled by them.
-abbrev Spells : ℕ → (kinds : List Kind) → Makes kinds → Type 0
+abbrev Spells : ℕ → (kinds : List Kind) → Makes kinds Arguments → Type 0
 Spells proc kinds makes = (values : Values kinds) → Bounded kinds values → (procedure_of (make kinds makes values) ≡ proc)
     × InBounds (make kinds makes values) × (argument_fields (make kinds makes values) ≡ fields kinds values)
 
-takes : (proc : ℕ) (kinds : List Kind) (makes : Makes kinds) → Spells proc kinds makes → Takes proc (read kinds makes)
+takes : (proc : ℕ) (kinds : List Kind) (makes : Makes kinds Arguments) → Spells proc kinds makes → Takes proc (read kinds makes)
 takes proc kinds makes spells bytes a fits e =
     let r = read_takes kinds makes bytes a fits e in
     let s = spells r.0 r.2 in
     subst (λ (b : Arguments). ArgumentsAre proc bytes (Ok b)) (sym r.1)
     (s.0, r.3, (s.1, rw s.2 r.4))
 
-generic_takes : (proc : ℕ) (makes : GenericParms → Arguments) → ((parms : GenericParms) → (procedure_of (makes parms) ≡ proc)
-    × InBounds (makes parms) × (argument_fields (makes parms) ≡ generic_fields parms)) → Takes proc (read_generic makes)
-generic_takes proc makes is = takes proc generic
-    (λ lid flags lock_timeout io_timeout. makes (record { lid = lid; flags = flags; lock_timeout = lock_timeout; io_timeout = io_timeout }))
-    (λ values _. is (record { lid = values.0; flags = values.1.0; lock_timeout = values.1.1.0; io_timeout = values.1.1.1.0 }))
+-- likewise behind a link
+abbrev SpellsCall : ℕ → (kinds : List Kind) → Makes kinds LinkCall → Type 0
+SpellsCall proc kinds makes = (lid : ℤ) (values : Values kinds) → Bounded kinds values
+    → (procedure_of (OnLink lid (make kinds makes values)) ≡ proc) × InBounds (OnLink lid (make kinds makes values))
+    × (call_fields (make kinds makes values) ≡ fields kinds values)
+
+call_takes : (proc : ℕ) (kinds : List Kind) (makes : Makes kinds LinkCall) → SpellsCall proc kinds makes
+    → Takes proc (read_on_link kinds makes)
+call_takes proc kinds makes spells bytes a fits e =
+    let r = on_link_takes kinds makes bytes a fits e in
+    let s = spells r.0 r.1 r.3 in
+    subst (λ (b : Arguments). ArgumentsAre proc bytes (Ok b)) (sym r.2)
+    (s.0, r.4, (s.1, rw s.2 r.5))
 
 either : {P : Type 0} (b c : Bool) → (b || c) ≡ true → (b ≡ true → P) → (c ≡ true → P) → P
 either true c e f g = f refl
@@ -123,21 +130,21 @@ of_each P (call ∷ calls) proc all one = either (proc == call) (is_one_of calls
 each_takes : AllByRecursion (λ proc. Takes proc (arguments_at proc)) (core_calls ++ abort_calls)
 each_takes =
     takes 10 create_link CreateLink (λ _ _. (refl, tt, refl))
-    & takes 11 device_write DeviceWrite (λ _ _. (refl, tt, refl))
-    & takes 12 device_read DeviceRead (λ _ _. (refl, tt, refl))
-    & generic_takes 13 DeviceReadstb (λ _. (refl, tt, refl))
-    & generic_takes 14 DeviceTrigger (λ _. (refl, tt, refl))
-    & generic_takes 15 DeviceClear (λ _. (refl, tt, refl))
-    & generic_takes 16 DeviceRemote (λ _. (refl, tt, refl))
-    & generic_takes 17 DeviceLocal (λ _. (refl, tt, refl))
-    & takes 18 device_lock DeviceLock (λ _ _. (refl, tt, refl))
-    & takes 19 link DeviceUnlock (λ _ _. (refl, tt, refl))
-    & takes 20 enable_srq DeviceEnableSrq (λ _ b. (refl, b.0, refl))
-    & takes 22 device_docmd DeviceDocmd (λ _ _. (refl, tt, refl))
-    & takes 23 link DestroyLink (λ _ _. (refl, tt, refl))
+    & call_takes 11 device_write DeviceWrite (λ _ _ _. (refl, tt, refl))
+    & call_takes 12 device_read DeviceRead (λ _ _ _. (refl, tt, refl))
+    & call_takes 13 generic (Generic Readstb) (λ _ _ _. (refl, tt, refl))
+    & call_takes 14 generic (Generic Trigger) (λ _ _ _. (refl, tt, refl))
+    & call_takes 15 generic (Generic Clear) (λ _ _ _. (refl, tt, refl))
+    & call_takes 16 generic (Generic Remote) (λ _ _ _. (refl, tt, refl))
+    & call_takes 17 generic (Generic Local) (λ _ _ _. (refl, tt, refl))
+    & call_takes 18 device_lock DeviceLock (λ _ _ _. (refl, tt, refl))
+    & call_takes 19 [] DeviceUnlock (λ _ _ _. (refl, tt, refl))
+    & call_takes 20 enable_srq DeviceEnableSrq (λ _ _ b. (refl, b.0, refl))
+    & call_takes 22 device_docmd DeviceDocmd (λ _ _ _. (refl, tt, refl))
+    & call_takes 23 [] DestroyLink (λ _ _ _. (refl, tt, refl))
     & takes 25 create_intr_chan CreateIntrChan (λ _ _. (refl, tt, refl))
     & takes 26 [] DestroyIntrChan (λ _ _. (refl, tt, refl))
-    & takes 1 link DeviceAbort (λ _ _. (refl, tt, refl))
+    & call_takes 1 [] DeviceAbort (λ _ _ _. (refl, tt, refl))
     & tt
 
 -- an outcome is what the bytes are, if what is read is spelled

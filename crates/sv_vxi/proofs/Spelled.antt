@@ -7,8 +7,9 @@ use Rattle.sv_xdr.specs.Garbage.{◌>>=◌}
 use Rattle.sv_xdr.specs.Spelling.{Field, Unsigned, Signed, Boolean, Opaque, Begins, BeginsAll}
 use Rattle.sv_xdr.specs.Reader.{unsigned_at, signed_at, boolean_at, opaque_at}
 use Rattle.sv_xdr.proofs.Fields.{IsBytes, bytes_after, unsigned_begins, signed_begins, boolean_begins, opaque_again, word_fits, unsigned_takes, signed_takes, boolean_takes, opaque_at-takes}
-use Rattle.sv_vxi.specs.Arguments.{Arguments}
-use Rattle.sv_vxi.specs.Reading.{Kind, signed, unsigned, boolean, opaque, Makes, read}
+use Rattle.std.specs.Result.{result_map_both}
+use Rattle.sv_vxi.specs.Arguments.{LinkCall, Arguments, OnLink}
+use Rattle.sv_vxi.specs.Reading.{Kind, signed, unsigned, boolean, opaque, Makes, read, read_on_link}
 
 -- the values of these fields, how they are spelled, and what is made of them
 abbrev pub Values : List Kind → Type 0
@@ -25,7 +26,7 @@ fields (unsigned ∷ kinds) values = Unsigned values.0 ∷ fields kinds values.1
 fields (boolean ∷ kinds) values = Boolean values.0 ∷ fields kinds values.1
 fields (opaque most ∷ kinds) values = Opaque values.0 ∷ fields kinds values.1
 
-abbrev pub make : (kinds : List Kind) → Makes kinds → Values kinds → Arguments
+abbrev pub make : {A : Type 0} → (kinds : List Kind) → Makes kinds A → Values kinds → A
 make [] makes values = makes
 make (signed ∷ kinds) makes values = make kinds (makes values.0) values.1
 make (unsigned ∷ kinds) makes values = make kinds (makes values.0) values.1
@@ -45,7 +46,7 @@ pub text_bound : {bytes after : List ℕ} (text : List ℕ) → Begins bytes (Op
 text_bound {bytes} {after} text b = omega (arith, word_fits b.1.0 (length text) b.1.2)
 
 -- fields that are spelled are read
-pub read_begins : (kinds : List Kind) (makes : Makes kinds) (values : Values kinds) (bytes after : List ℕ) → Bounded kinds values
+pub read_begins : {A : Type 0} (kinds : List Kind) (makes : Makes kinds A) (values : Values kinds) (bytes after : List ℕ) → Bounded kinds values
     → BeginsAll bytes (fields kinds values) after → read kinds makes bytes ≡ Ok (make kinds makes values)
 read_begins [] makes values bytes after bounds h = refl
 read_begins (signed ∷ kinds) makes values bytes after bounds h =
@@ -58,17 +59,17 @@ read_begins (opaque most ∷ kinds) makes values bytes after bounds h =
     rw (opaque_again most _ _ _ h.1 bounds.0) (read_begins kinds (makes values.0) values.1 h.0 after bounds.1 h.2)
 
 -- the value of a step that did not fail
-bind_ok : {A : Type 0} (r : Result A XdrFault) (f : A → Result Arguments Garbage) (a : Arguments) → (r >>= f) ≡ Ok a
-    → (x : A) × (r ≡ Ok x) × (f x ≡ Ok a)
-bind_ok (Ok x) f a e = (x, refl, e)
-bind_ok (Err fault) f a e = absurd cc
+bind_ok : {A B : Type 0} (r : Result A XdrFault) (f : A → Result B Garbage) (b : B) → (r >>= f) ≡ Ok b
+    → (x : A) × (r ≡ Ok x) × (f x ≡ Ok b)
+bind_ok (Ok x) f b e = (x, refl, e)
+bind_ok (Err fault) f b e = absurd cc
 
 -- Fields that are read are spelled.
-abbrev Read : (kinds : List Kind) → Makes kinds → List ℕ → Arguments → Type 0
+abbrev Read : {A : Type 0} → (kinds : List Kind) → Makes kinds A → List ℕ → A → Type 0
 Read kinds makes bytes a = (values : Values kinds) × (a ≡ make kinds makes values) × Bounded kinds values × (after : List ℕ)
     × BeginsAll bytes (fields kinds values) after
 
-pub read_takes : (kinds : List Kind) (makes : Makes kinds) (bytes : List ℕ) (a : Arguments) → IsBytes bytes
+pub read_takes : {A : Type 0} (kinds : List Kind) (makes : Makes kinds A) (bytes : List ℕ) (a : A) → IsBytes bytes
     → read kinds makes bytes ≡ Ok a → Read kinds makes bytes a
 read_takes [] makes bytes a fits e = (tt, cc, tt, bytes, refl)
 read_takes (signed ∷ kinds) makes bytes a fits e =
@@ -91,3 +92,27 @@ read_takes (opaque most ∷ kinds) makes bytes a fits e =
     let b = opaque_at-takes most bytes s.0.0 s.0.1 fits s.1 in
     let r = read_takes kinds (makes s.0.0) s.0.1 a (bytes_after (Opaque s.0.0) bytes s.0.1 fits b.0) s.2 in
     ((s.0.0, r.0), r.1, (b.1, r.2), r.3, (s.0.1, b.0, r.4))
+
+-- ---- behind a link
+
+pub on_link_begins : (kinds : List Kind) (makes : Makes kinds LinkCall) (lid : ℤ) (values : Values kinds) (bytes after : List ℕ)
+    → Bounded kinds values → BeginsAll bytes (Signed lid ∷ fields kinds values) after
+    → read_on_link kinds makes bytes ≡ Ok (OnLink lid (make kinds makes values))
+on_link_begins kinds makes lid values bytes after bounds h =
+    rw (signed_begins _ _ _ h.1, read_begins kinds makes values h.0 after bounds h.2) refl
+
+-- what was made of a value
+map_ok : (lid : ℤ) (r : Result LinkCall Garbage) (a : Arguments) → result_map_both (OnLink lid) (λ garbage. garbage) r ≡ Ok a
+    → (call : LinkCall) × (r ≡ Ok call) × (a ≡ OnLink lid call)
+map_ok lid (Ok call) a e = (call, refl, cc)
+map_ok lid (Err garbage) a e = absurd cc
+
+pub on_link_takes : (kinds : List Kind) (makes : Makes kinds LinkCall) (bytes : List ℕ) (a : Arguments) → IsBytes bytes
+    → read_on_link kinds makes bytes ≡ Ok a → (lid : ℤ) × (values : Values kinds) × (a ≡ OnLink lid (make kinds makes values))
+    × Bounded kinds values × (after : List ℕ) × BeginsAll bytes (Signed lid ∷ fields kinds values) after
+on_link_takes kinds makes bytes a fits e =
+    let s = bind_ok (signed_at bytes) (λ x. result_map_both (OnLink x.0) (λ garbage. garbage) (read kinds makes x.1)) a e in
+    let b = signed_takes bytes s.0.1 s.0.0 fits s.1 in
+    let m = map_ok s.0.0 (read kinds makes s.0.1) a s.2 in
+    let r = read_takes kinds makes s.0.1 m.0 (bytes_after (Signed s.0.0) bytes s.0.1 fits b) m.1 in
+    (s.0.0, r.0, m.2 ∙ ap (λ (call : LinkCall). OnLink s.0.0 call) r.1, r.2, r.3, (s.0.1, b, r.4))

@@ -2,53 +2,49 @@
 use Rattle.std.specs.Prelude.{◌≡◌, ◌==◌, ℕ, ◌≤◌, ℤ, Bool, true, false, List, [], ◌∷◌, length, Option, Some, None, Result, Ok, Err}
 use Rattle.std.specs.Int.{bit_at}
 use Rattle.std.specs.List.{list_any}
+use Rattle.sv_vxi.specs.declared.arguments.GenericCall.{GenericCall}
+use Rattle.sv_vxi.specs.declared.arguments.GenericCall.TheVariants.{Readstb, Trigger, Clear, Remote, Local}
 use Rattle.sv_vxi.specs.declared.arguments.LockWait.{LockWait}
 use Rattle.sv_xdr.specs.declared.garbage.Garbage.{Garbage}
 use Rattle.sv_xdr.specs.Spelling.{Field, Unsigned, Signed, Boolean, Opaque, BeginsAll}
 pub use Rattle.sv_vxi.specs.Limits.{max_handle}
 
--- what five calls have in common: Device_GenericParms; timeouts are in milliseconds
-pub record GenericParms : Type 0 where
-  pub lid : ℤ
-  pub flags : ℕ
-  pub lock_timeout : ℕ
-  pub io_timeout : ℕ
+-- the arguments of a call on a link behind the link, without where they lie in memory; timeouts are in milliseconds. Five calls have
+-- Device_GenericParms.
+pub data LinkCall : Type 0 where
+  DeviceAbort : LinkCall
+  DeviceWrite : (io_timeout lock_timeout flags : ℕ) (bytes : List ℕ) → LinkCall
+  DeviceRead : (request_size io_timeout lock_timeout flags term_char : ℕ) → LinkCall
+  Generic : (call : GenericCall) (flags lock_timeout io_timeout : ℕ) → LinkCall
+  DeviceLock : (flags lock_timeout : ℕ) → LinkCall
+  DeviceUnlock : LinkCall
+  DeviceEnableSrq : (enable : Bool) (handle : List ℕ) → LinkCall
+  DeviceDocmd : (flags io_timeout lock_timeout : ℕ) (cmd : ℤ) (network_order : Bool) (datasize : ℤ) (bytes : List ℕ) → LinkCall
+  DestroyLink : LinkCall
 
--- the arguments of each call, without where they lie in memory
+-- the arguments of each call
 pub data Arguments : Type 0 where
-  DeviceAbort : (lid : ℤ) → Arguments
   CreateLink : (client_id : ℤ) (lock_device : Bool) (lock_timeout : ℕ) (device : List ℕ) → Arguments
-  DeviceWrite : (lid : ℤ) (io_timeout lock_timeout flags : ℕ) (bytes : List ℕ) → Arguments
-  DeviceRead : (lid : ℤ) (request_size io_timeout lock_timeout flags term_char : ℕ) → Arguments
-  DeviceReadstb : (parms : GenericParms) → Arguments
-  DeviceTrigger : (parms : GenericParms) → Arguments
-  DeviceClear : (parms : GenericParms) → Arguments
-  DeviceRemote : (parms : GenericParms) → Arguments
-  DeviceLocal : (parms : GenericParms) → Arguments
-  DeviceLock : (lid : ℤ) (flags lock_timeout : ℕ) → Arguments
-  DeviceUnlock : (lid : ℤ) → Arguments
-  DeviceEnableSrq : (lid : ℤ) (enable : Bool) (handle : List ℕ) → Arguments
-  DeviceDocmd : (lid : ℤ) (flags io_timeout lock_timeout : ℕ) (cmd : ℤ) (network_order : Bool) (datasize : ℤ) (bytes : List ℕ) → Arguments
-  DestroyLink : (lid : ℤ) → Arguments
+  OnLink : (lid : ℤ) (call : LinkCall) → Arguments
   CreateIntrChan : (host_addr host_port prog_num prog_vers prog_family : ℕ) → Arguments
   DestroyIntrChan : Arguments
 
 -- the number of the call that takes them
 abbrev pub procedure_of : Arguments → ℕ
-procedure_of (DeviceAbort lid) = 1
+procedure_of (OnLink lid DeviceAbort) = 1
 procedure_of (CreateLink client_id lock_device lock_timeout device) = 10
-procedure_of (DeviceWrite lid io_timeout lock_timeout flags bytes) = 11
-procedure_of (DeviceRead lid request_size io_timeout lock_timeout flags term_char) = 12
-procedure_of (DeviceReadstb parms) = 13
-procedure_of (DeviceTrigger parms) = 14
-procedure_of (DeviceClear parms) = 15
-procedure_of (DeviceRemote parms) = 16
-procedure_of (DeviceLocal parms) = 17
-procedure_of (DeviceLock lid flags lock_timeout) = 18
-procedure_of (DeviceUnlock lid) = 19
-procedure_of (DeviceEnableSrq lid enable handle) = 20
-procedure_of (DeviceDocmd lid flags io_timeout lock_timeout cmd network_order datasize bytes) = 22
-procedure_of (DestroyLink lid) = 23
+procedure_of (OnLink lid (DeviceWrite io_timeout lock_timeout flags bytes)) = 11
+procedure_of (OnLink lid (DeviceRead request_size io_timeout lock_timeout flags term_char)) = 12
+procedure_of (OnLink lid (Generic Readstb flags lock_timeout io_timeout)) = 13
+procedure_of (OnLink lid (Generic Trigger flags lock_timeout io_timeout)) = 14
+procedure_of (OnLink lid (Generic Clear flags lock_timeout io_timeout)) = 15
+procedure_of (OnLink lid (Generic Remote flags lock_timeout io_timeout)) = 16
+procedure_of (OnLink lid (Generic Local flags lock_timeout io_timeout)) = 17
+procedure_of (OnLink lid (DeviceLock flags lock_timeout)) = 18
+procedure_of (OnLink lid DeviceUnlock) = 19
+procedure_of (OnLink lid (DeviceEnableSrq enable handle)) = 20
+procedure_of (OnLink lid (DeviceDocmd flags io_timeout lock_timeout cmd network_order datasize bytes)) = 22
+procedure_of (OnLink lid DestroyLink) = 23
 procedure_of (CreateIntrChan host_addr host_port prog_num prog_vers prog_family) = 25
 procedure_of DestroyIntrChan = 26
 
@@ -62,42 +58,31 @@ abort_calls = 1 ∷ []
 abbrev pub is_one_of : List ℕ → ℕ → Bool
 is_one_of calls proc = list_any (λ call. proc == call) calls
 
--- what the calls of one shape share: of those that name a link and say how long to wait, and of those that name a link alone
-abbrev pub generic_fields : GenericParms → List Field
-generic_fields parms =
-    Signed parms.lid ∷ Unsigned parms.flags ∷ Unsigned parms.lock_timeout ∷ Unsigned parms.io_timeout ∷ []
+-- their fields, in order; those of a call on a link stand behind the link
+abbrev pub call_fields : LinkCall → List Field
+call_fields (DeviceWrite io_timeout lock_timeout flags bytes) =
+    Unsigned io_timeout ∷ Unsigned lock_timeout ∷ Unsigned flags ∷ Opaque bytes ∷ []
+call_fields (DeviceRead request_size io_timeout lock_timeout flags term_char) =
+    Unsigned request_size ∷ Unsigned io_timeout ∷ Unsigned lock_timeout ∷ Unsigned flags ∷ Unsigned term_char ∷ []
+call_fields (Generic call flags lock_timeout io_timeout) = Unsigned flags ∷ Unsigned lock_timeout ∷ Unsigned io_timeout ∷ []
+call_fields (DeviceLock flags lock_timeout) = Unsigned flags ∷ Unsigned lock_timeout ∷ []
+call_fields (DeviceEnableSrq enable handle) = Boolean enable ∷ Opaque handle ∷ []
+call_fields (DeviceDocmd flags io_timeout lock_timeout cmd network_order datasize bytes) =
+    Unsigned flags ∷ Unsigned io_timeout ∷ Unsigned lock_timeout ∷ Signed cmd ∷ Boolean network_order ∷ Signed datasize
+    ∷ Opaque bytes ∷ []
+call_fields _ = []
 
-abbrev pub link_fields : ℤ → List Field
-link_fields lid = Signed lid ∷ []
-
--- their fields, in order
 abbrev pub argument_fields : Arguments → List Field
-argument_fields (DeviceAbort lid) = link_fields lid
 argument_fields (CreateLink client_id lock_device lock_timeout device) =
     Signed client_id ∷ Boolean lock_device ∷ Unsigned lock_timeout ∷ Opaque device ∷ []
-argument_fields (DeviceWrite lid io_timeout lock_timeout flags bytes) =
-    Signed lid ∷ Unsigned io_timeout ∷ Unsigned lock_timeout ∷ Unsigned flags ∷ Opaque bytes ∷ []
-argument_fields (DeviceRead lid request_size io_timeout lock_timeout flags term_char) =
-    Signed lid ∷ Unsigned request_size ∷ Unsigned io_timeout ∷ Unsigned lock_timeout ∷ Unsigned flags ∷ Unsigned term_char ∷ []
-argument_fields (DeviceReadstb parms) = generic_fields parms
-argument_fields (DeviceTrigger parms) = generic_fields parms
-argument_fields (DeviceClear parms) = generic_fields parms
-argument_fields (DeviceRemote parms) = generic_fields parms
-argument_fields (DeviceLocal parms) = generic_fields parms
-argument_fields (DeviceLock lid flags lock_timeout) = Signed lid ∷ Unsigned flags ∷ Unsigned lock_timeout ∷ []
-argument_fields (DeviceUnlock lid) = link_fields lid
-argument_fields (DeviceEnableSrq lid enable handle) = Signed lid ∷ Boolean enable ∷ Opaque handle ∷ []
-argument_fields (DeviceDocmd lid flags io_timeout lock_timeout cmd network_order datasize bytes) =
-    Signed lid ∷ Unsigned flags ∷ Unsigned io_timeout ∷ Unsigned lock_timeout ∷ Signed cmd ∷ Boolean network_order ∷ Signed datasize
-    ∷ Opaque bytes ∷ []
-argument_fields (DestroyLink lid) = link_fields lid
+argument_fields (OnLink lid call) = Signed lid ∷ call_fields call
 argument_fields (CreateIntrChan host_addr host_port prog_num prog_vers prog_family) =
     Unsigned host_addr ∷ Unsigned host_port ∷ Unsigned prog_num ∷ Unsigned prog_vers ∷ Unsigned prog_family ∷ []
 argument_fields DestroyIntrChan = []
 
 -- no field is longer than it may be
 abbrev pub InBounds : Arguments → Type 0
-InBounds (DeviceEnableSrq lid enable handle) = length handle ≤ max_handle
+InBounds (OnLink lid (DeviceEnableSrq enable handle)) = length handle ≤ max_handle
 InBounds _ = Unit {0}
 
 -- The bytes begin with a spelling of the arguments, and these bytes are behind it.
@@ -112,45 +97,21 @@ ArgumentsAre proc bytes (Err garbage) = (arguments : Arguments) (after : List �
 
 -- the link that a call names; `None` if it names none
 abbrev pub link : Arguments → Option ℤ
-link (DeviceAbort lid) = Some lid
-link (CreateLink client_id lock_device lock_timeout device) = None
-link (DeviceWrite lid io_timeout lock_timeout flags bytes) = Some lid
-link (DeviceRead lid request_size io_timeout lock_timeout flags term_char) = Some lid
-link (DeviceReadstb parms) = Some parms.lid
-link (DeviceTrigger parms) = Some parms.lid
-link (DeviceClear parms) = Some parms.lid
-link (DeviceRemote parms) = Some parms.lid
-link (DeviceLocal parms) = Some parms.lid
-link (DeviceLock lid flags lock_timeout) = Some lid
-link (DeviceUnlock lid) = Some lid
-link (DeviceEnableSrq lid enable handle) = Some lid
-link (DeviceDocmd lid flags io_timeout lock_timeout cmd network_order datasize bytes) = Some lid
-link (DestroyLink lid) = Some lid
-link (CreateIntrChan host_addr host_port prog_num prog_vers prog_family) = None
-link DestroyIntrChan = None
+link (OnLink lid call) = Some lid
+link _ = None
 
 -- what flags and a timeout in milliseconds say of the lock: bit 0 is waitlock
 abbrev pub flagged : ℕ → ℕ → Option LockWait
 flagged flags timeout = Some (record { waits = bit_at flags 0 == 1; timeout = timeout })
 
 -- what a call does while another link holds the lock (section B.4.4); `None` for calls that are executed all the same
-abbrev pub lock_wait : Arguments → Option LockWait
-lock_wait (DeviceWrite lid io_timeout lock_timeout flags bytes) = flagged flags lock_timeout
-lock_wait (DeviceRead lid request_size io_timeout lock_timeout flags term_char) = flagged flags lock_timeout
-lock_wait (DeviceReadstb parms) = flagged parms.flags parms.lock_timeout
-lock_wait (DeviceTrigger parms) = flagged parms.flags parms.lock_timeout
-lock_wait (DeviceClear parms) = flagged parms.flags parms.lock_timeout
-lock_wait (DeviceRemote parms) = flagged parms.flags parms.lock_timeout
-lock_wait (DeviceLocal parms) = flagged parms.flags parms.lock_timeout
-lock_wait (DeviceLock lid flags lock_timeout) = flagged flags lock_timeout
-lock_wait (DeviceDocmd lid flags io_timeout lock_timeout cmd network_order datasize bytes) = flagged flags lock_timeout
+abbrev pub lock_wait : LinkCall → Option LockWait
+lock_wait (DeviceWrite io_timeout lock_timeout flags bytes) = flagged flags lock_timeout
+lock_wait (DeviceRead request_size io_timeout lock_timeout flags term_char) = flagged flags lock_timeout
+lock_wait (Generic call flags lock_timeout io_timeout) = flagged flags lock_timeout
+lock_wait (DeviceLock flags lock_timeout) = flagged flags lock_timeout
+lock_wait (DeviceDocmd flags io_timeout lock_timeout cmd network_order datasize bytes) = flagged flags lock_timeout
 lock_wait _ = None
-
--- how long a write or a read waits for the device, in milliseconds; `None` for the other calls, which don't wait for it
-abbrev pub io_timeout : Arguments → Option ℕ
-io_timeout (DeviceWrite lid timeout lock_timeout flags bytes) = Some timeout
-io_timeout (DeviceRead lid request_size timeout lock_timeout flags term_char) = Some timeout
-io_timeout _ = None
 
 -- whether it is create_link
 abbrev pub is_create_link : Arguments → Bool

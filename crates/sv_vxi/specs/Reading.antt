@@ -1,13 +1,16 @@
 -- Reading the arguments of a call from left to right.
 use Rattle.std.specs.Prelude.{ℕ, ℤ, Bool, List, [], ◌∷◌, Result, Ok, Err, ◌==◌, if◌then◌else◌}
+use Rattle.std.specs.Result.{result_map_both}
 use Rattle.sv_xdr.specs.declared.garbage.Garbage.{Garbage}
 use Rattle.sv_xdr.specs.Garbage.{◌>>=◌}
 use Rattle.sv_xdr.specs.Reader.{unsigned_at, signed_at, boolean_at, opaque_at}
-use Rattle.sv_vxi.specs.declared.arguments.GenericParms.{GenericParms as Parms}
 use Rattle.sv_vxi.specs.declared.arguments.Args.{Args}
 use Rattle.sv_vxi.specs.declared.arguments.Args.TheVariants as args
+use Rattle.sv_vxi.specs.declared.arguments.GenericCall.TheVariants.{Readstb, Trigger, Clear, Remote, Local}
+use Rattle.sv_vxi.specs.declared.arguments.LinkCall.{LinkCall as Called}
+use Rattle.sv_vxi.specs.declared.arguments.LinkCall.TheVariants as calls
 use Rattle.sv_vxi.specs.Limits.{max_handle}
-use Rattle.sv_vxi.specs.Arguments.{GenericParms, Arguments, DeviceAbort, CreateLink, DeviceWrite, DeviceRead, DeviceReadstb, DeviceTrigger, DeviceClear, DeviceRemote, DeviceLocal, DeviceLock, DeviceUnlock, DeviceEnableSrq, DeviceDocmd, DestroyLink, CreateIntrChan, DestroyIntrChan}
+use Rattle.sv_vxi.specs.Arguments.{LinkCall, DeviceAbort, DeviceWrite, DeviceRead, Generic, DeviceLock, DeviceUnlock, DeviceEnableSrq, DeviceDocmd, DestroyLink, Arguments, CreateLink, OnLink, CreateIntrChan, DestroyIntrChan}
 
 -- what a field is; opaque data have this many bytes at most
 pub data Kind : Type 0 where
@@ -18,84 +21,66 @@ pub data Kind : Type 0 where
 abbrev pub any : Kind
 any = opaque 4294967295
 
--- what makes arguments of the values of these fields
-abbrev pub Makes : List Kind → Type 0
-Makes [] = Arguments
-Makes (signed ∷ kinds) = ℤ → Makes kinds
-Makes (unsigned ∷ kinds) = ℕ → Makes kinds
-Makes (boolean ∷ kinds) = Bool → Makes kinds
-Makes (opaque most ∷ kinds) = List ℕ → Makes kinds
+-- what makes such a thing of the values of these fields
+abbrev pub Makes : List Kind → Type 0 → Type 0
+Makes [] A = A
+Makes (signed ∷ kinds) A = ℤ → Makes kinds A
+Makes (unsigned ∷ kinds) A = ℕ → Makes kinds A
+Makes (boolean ∷ kinds) A = Bool → Makes kinds A
+Makes (opaque most ∷ kinds) A = List ℕ → Makes kinds A
 
 -- These fields are read, one behind the other; bytes behind the last one are ignored.
-abbrev pub read : (kinds : List Kind) → Makes kinds → List ℕ → Result Arguments Garbage
-read [] arguments bytes = Ok arguments
+abbrev pub read : {A : Type 0} → (kinds : List Kind) → Makes kinds A → List ℕ → Result A Garbage
+read [] value bytes = Ok value
 read (signed ∷ kinds) makes bytes = signed_at bytes >>= λ x. read kinds (makes x.0) x.1
 read (unsigned ∷ kinds) makes bytes = unsigned_at bytes >>= λ x. read kinds (makes x.0) x.1
 read (boolean ∷ kinds) makes bytes = boolean_at bytes >>= λ x. read kinds (makes x.0) x.1
 read (opaque most ∷ kinds) makes bytes = opaque_at most bytes >>= λ x. read kinds (makes x.0) x.1
 
--- a link alone, and what five calls have in common
-abbrev pub read_link : (ℤ → Arguments) → List ℕ → Result Arguments Garbage
-read_link makes = read (signed ∷ []) makes
-
-abbrev pub read_generic : (GenericParms → Arguments) → List ℕ → Result Arguments Garbage
-read_generic makes = read (signed ∷ unsigned ∷ unsigned ∷ unsigned ∷ []) (λ lid flags lock_timeout io_timeout.
-    makes (record { lid = lid; flags = flags; lock_timeout = lock_timeout; io_timeout = io_timeout }))
+-- a link, and behind it the fields of a call on it
+abbrev pub read_on_link : (kinds : List Kind) → Makes kinds LinkCall → List ℕ → Result Arguments Garbage
+read_on_link kinds makes bytes = signed_at bytes >>= λ x. result_map_both (OnLink x.0) (λ garbage. garbage) (read kinds makes x.1)
 
 -- the arguments of each call
 abbrev pub arguments_at : ℕ → List ℕ → Result Arguments Garbage
 arguments_at proc =
-    if proc == 1 then read_link DeviceAbort
+    if proc == 1 then read_on_link [] DeviceAbort
     else (if proc == 10 then read (signed ∷ boolean ∷ unsigned ∷ any ∷ []) CreateLink
-    else (if proc == 11 then read (signed ∷ unsigned ∷ unsigned ∷ unsigned ∷ any ∷ []) DeviceWrite
-    else (if proc == 12 then read (signed ∷ unsigned ∷ unsigned ∷ unsigned ∷ unsigned ∷ unsigned ∷ []) DeviceRead
-    else (if proc == 13 then read_generic DeviceReadstb
-    else (if proc == 14 then read_generic DeviceTrigger
-    else (if proc == 15 then read_generic DeviceClear
-    else (if proc == 16 then read_generic DeviceRemote
-    else (if proc == 17 then read_generic DeviceLocal
-    else (if proc == 18 then read (signed ∷ unsigned ∷ unsigned ∷ []) DeviceLock
-    else (if proc == 19 then read_link DeviceUnlock
-    else (if proc == 20 then read (signed ∷ boolean ∷ opaque max_handle ∷ []) DeviceEnableSrq
-    else (if proc == 22 then read (signed ∷ unsigned ∷ unsigned ∷ unsigned ∷ signed ∷ boolean ∷ signed ∷ any ∷ []) DeviceDocmd
-    else (if proc == 23 then read_link DestroyLink
+    else (if proc == 11 then read_on_link (unsigned ∷ unsigned ∷ unsigned ∷ any ∷ []) DeviceWrite
+    else (if proc == 12 then read_on_link (unsigned ∷ unsigned ∷ unsigned ∷ unsigned ∷ unsigned ∷ []) DeviceRead
+    else (if proc == 13 then read_on_link (unsigned ∷ unsigned ∷ unsigned ∷ []) (Generic Readstb)
+    else (if proc == 14 then read_on_link (unsigned ∷ unsigned ∷ unsigned ∷ []) (Generic Trigger)
+    else (if proc == 15 then read_on_link (unsigned ∷ unsigned ∷ unsigned ∷ []) (Generic Clear)
+    else (if proc == 16 then read_on_link (unsigned ∷ unsigned ∷ unsigned ∷ []) (Generic Remote)
+    else (if proc == 17 then read_on_link (unsigned ∷ unsigned ∷ unsigned ∷ []) (Generic Local)
+    else (if proc == 18 then read_on_link (unsigned ∷ unsigned ∷ []) DeviceLock
+    else (if proc == 19 then read_on_link [] DeviceUnlock
+    else (if proc == 20 then read_on_link (boolean ∷ opaque max_handle ∷ []) DeviceEnableSrq
+    else (if proc == 22 then read_on_link (unsigned ∷ unsigned ∷ unsigned ∷ signed ∷ boolean ∷ signed ∷ any ∷ []) DeviceDocmd
+    else (if proc == 23 then read_on_link [] DestroyLink
     else (if proc == 25 then read (unsigned ∷ unsigned ∷ unsigned ∷ unsigned ∷ unsigned ∷ []) CreateIntrChan
     else read [] DestroyIntrChan))))))))))))))
 
--- parameters and arguments as plain data
-abbrev pub plain_parms : Parms → GenericParms
-plain_parms parms = record {
-  lid = parms.lid;
-  flags = parms.flags.0;
-  lock_timeout = parms.lock_timeout;
-  io_timeout = parms.io_timeout;
-}
+-- arguments as plain data
+abbrev pub plain_call : Called → LinkCall
+plain_call calls.DeviceAbort = DeviceAbort
+plain_call (calls.DeviceWrite io_timeout lock_timeout flags bytes) = DeviceWrite io_timeout lock_timeout flags.0 bytes.now
+plain_call (calls.DeviceRead request_size io_timeout lock_timeout flags term_char) =
+    DeviceRead request_size io_timeout lock_timeout flags.0 term_char
+plain_call (calls.Generic call flags lock_timeout io_timeout) = Generic call flags.0 lock_timeout io_timeout
+plain_call (calls.DeviceLock flags lock_timeout) = DeviceLock flags.0 lock_timeout
+plain_call calls.DeviceUnlock = DeviceUnlock
+plain_call (calls.DeviceEnableSrq enable handle) = DeviceEnableSrq enable handle.now
+plain_call (calls.DeviceDocmd flags io_timeout lock_timeout cmd network_order datasize bytes) =
+    DeviceDocmd flags.0 io_timeout lock_timeout cmd network_order datasize bytes.now
+plain_call calls.DestroyLink = DestroyLink
 
 abbrev pub plain_arguments : Args → Arguments
-plain_arguments (args.DeviceAbort lid) = DeviceAbort lid
 plain_arguments (args.CreateLink client_id lock_device lock_timeout device) = CreateLink client_id lock_device lock_timeout device.now
-plain_arguments (args.DeviceWrite lid io_timeout lock_timeout flags bytes) = DeviceWrite lid io_timeout lock_timeout flags.0 bytes.now
-plain_arguments (args.DeviceRead lid request_size io_timeout lock_timeout flags term_char) =
-    DeviceRead lid request_size io_timeout lock_timeout flags.0 term_char
-plain_arguments (args.DeviceReadstb parms) = DeviceReadstb (plain_parms parms)
-plain_arguments (args.DeviceTrigger parms) = DeviceTrigger (plain_parms parms)
-plain_arguments (args.DeviceClear parms) = DeviceClear (plain_parms parms)
-plain_arguments (args.DeviceRemote parms) = DeviceRemote (plain_parms parms)
-plain_arguments (args.DeviceLocal parms) = DeviceLocal (plain_parms parms)
-plain_arguments (args.DeviceLock lid flags lock_timeout) = DeviceLock lid flags.0 lock_timeout
-plain_arguments (args.DeviceUnlock lid) = DeviceUnlock lid
-plain_arguments (args.DeviceEnableSrq lid enable handle) = DeviceEnableSrq lid enable handle.now
-plain_arguments (args.DeviceDocmd lid flags io_timeout lock_timeout cmd network_order datasize bytes) =
-    DeviceDocmd lid flags.0 io_timeout lock_timeout cmd network_order datasize bytes.now
-plain_arguments (args.DestroyLink lid) = DestroyLink lid
+plain_arguments (args.OnLink lid call) = OnLink lid (plain_call call)
 plain_arguments (args.CreateIntrChan host_addr host_port prog_num prog_vers prog_family) =
     CreateIntrChan host_addr host_port prog_num prog_vers prog_family
 plain_arguments args.DestroyIntrChan = DestroyIntrChan
 
--- what is made of a value that is read
-abbrev pub made : {A B : Type 0} → (A → B) → Result A Garbage → Result B Garbage
-made makes (Ok value) = Ok (makes value)
-made makes (Err garbage) = Err garbage
-
 abbrev pub plain_reading : Result Args Garbage → Result Arguments Garbage
-plain_reading result = made plain_arguments result
+plain_reading = result_map_both plain_arguments (λ garbage. garbage)

@@ -13,7 +13,7 @@ mod reading;
 mod reason;
 mod results;
 
-pub use arguments::{Args, GenericParms, LockWait};
+pub use arguments::{Args, GenericCall, LinkCall, LockWait};
 pub use error_code::ErrorCode;
 pub use flags::Flags;
 pub use reading::read_args;

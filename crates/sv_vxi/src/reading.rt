@@ -1,12 +1,11 @@
 //! Reading the arguments of calls (VXI-11 revision 1.0, sections B.5 and B.6).
 
-ghost use Rattle.std.specs.Prelude.{◌≡◌, ◌++◌, ℤ, Result, true};
+ghost use Rattle.std.specs.Prelude.{◌≡◌, ◌++◌, [], ◌∷◌, Result, true};
 ghost use Rattle.sv_xdr.specs.declared.garbage.Garbage.{Garbage};
-ghost use Rattle.sv_vxi.specs.Arguments.{Arguments, ArgumentsAre, core_calls, abort_calls, is_one_of};
-ghost use Rattle.sv_vxi.specs.Arguments.{GenericParms as Parms};
-ghost use Rattle.sv_vxi.specs.Reading.{arguments_at, read_generic, read_link, made, plain_parms, plain_reading};
+ghost use Rattle.sv_vxi.specs.Arguments.{Arguments, Generic, ArgumentsAre, core_calls, abort_calls, is_one_of};
+ghost use Rattle.sv_vxi.specs.Reading.{arguments_at, read_on_link, unsigned, plain_call, plain_reading};
 
-use crate::arguments::{Args, GenericParms};
+use crate::arguments::{Args, GenericCall, LinkCall};
 use crate::flags::Flags;
 use crate::procedure::{
     CREATE_INTR_CHAN, CREATE_LINK, DESTROY_LINK, DEVICE_ABORT, DEVICE_CLEAR, DEVICE_DOCMD,
@@ -38,20 +37,20 @@ fn args_of(proc: u32, bytes: &[u8]) -> Result<Args<'_>, Garbage>
     ensures { plain_reading result ≡ arguments_at proc bytes.now }
 {
     match proc {
-        DEVICE_ABORT => Ok(Args::DeviceAbort { lid: link(bytes)? }),
+        DEVICE_ABORT => alone(bytes, LinkCall::DeviceAbort),
         CREATE_LINK => create_link(bytes),
         DEVICE_WRITE => device_write(bytes),
         DEVICE_READ => device_read(bytes),
-        DEVICE_READSTB => Ok(Args::DeviceReadstb(generic(bytes)?)),
-        DEVICE_TRIGGER => Ok(Args::DeviceTrigger(generic(bytes)?)),
-        DEVICE_CLEAR => Ok(Args::DeviceClear(generic(bytes)?)),
-        DEVICE_REMOTE => Ok(Args::DeviceRemote(generic(bytes)?)),
-        DEVICE_LOCAL => Ok(Args::DeviceLocal(generic(bytes)?)),
+        DEVICE_READSTB => generic(bytes, GenericCall::Readstb),
+        DEVICE_TRIGGER => generic(bytes, GenericCall::Trigger),
+        DEVICE_CLEAR => generic(bytes, GenericCall::Clear),
+        DEVICE_REMOTE => generic(bytes, GenericCall::Remote),
+        DEVICE_LOCAL => generic(bytes, GenericCall::Local),
         DEVICE_LOCK => device_lock(bytes),
-        DEVICE_UNLOCK => Ok(Args::DeviceUnlock { lid: link(bytes)? }),
+        DEVICE_UNLOCK => alone(bytes, LinkCall::DeviceUnlock),
         DEVICE_ENABLE_SRQ => device_enable_srq(bytes),
         DEVICE_DOCMD => device_docmd(bytes),
-        DESTROY_LINK => Ok(Args::DestroyLink { lid: link(bytes)? }),
+        DESTROY_LINK => alone(bytes, LinkCall::DestroyLink),
         CREATE_INTR_CHAN => create_intr_chan(bytes),
         _ => Ok(Args::DestroyIntrChan),
     }
@@ -73,12 +72,14 @@ fn device_write(bytes: &[u8]) -> Result<Args<'_>, Garbage>
     ensures { plain_reading result ≡ arguments_at 11 bytes.now }
 {
     let mut reader = Reader::new(bytes);
-    Ok(Args::DeviceWrite {
+    Ok(Args::OnLink {
         lid: reader.i32()?,
-        io_timeout: reader.u32()?,
-        lock_timeout: reader.u32()?,
-        flags: Flags(reader.u32()?),
-        bytes: reader.opaque(u32::MAX)?,
+        call: LinkCall::DeviceWrite {
+            io_timeout: reader.u32()?,
+            lock_timeout: reader.u32()?,
+            flags: Flags(reader.u32()?),
+            bytes: reader.opaque(u32::MAX)?,
+        },
     })
 }
 
@@ -86,27 +87,32 @@ fn device_read(bytes: &[u8]) -> Result<Args<'_>, Garbage>
     ensures { plain_reading result ≡ arguments_at 12 bytes.now }
 {
     let mut reader = Reader::new(bytes);
-    Ok(Args::DeviceRead {
+    Ok(Args::OnLink {
         lid: reader.i32()?,
-        request_size: reader.u32()?,
-        io_timeout: reader.u32()?,
-        lock_timeout: reader.u32()?,
-        flags: Flags(reader.u32()?),
-        term_char: reader.u32()?,
+        call: LinkCall::DeviceRead {
+            request_size: reader.u32()?,
+            io_timeout: reader.u32()?,
+            lock_timeout: reader.u32()?,
+            flags: Flags(reader.u32()?),
+            term_char: reader.u32()?,
+        },
     })
 }
 
-/// Reads what five calls have in common.
-fn generic(bytes: &[u8]) -> Result<GenericParms, Garbage>
-    ensures { (makes : Parms → Arguments)
-        → made (λ parms. makes (plain_parms parms)) result ≡ read_generic makes bytes.now }
+/// Reads Device_GenericParms, for one of the five calls that have it.
+fn generic(bytes: &[u8], call: GenericCall) -> Result<Args<'_>, Garbage>
+    ensures { plain_reading result
+        ≡ read_on_link (unsigned ∷ unsigned ∷ unsigned ∷ []) (Generic call) bytes.now }
 {
     let mut reader = Reader::new(bytes);
-    Ok(GenericParms {
+    Ok(Args::OnLink {
         lid: reader.i32()?,
-        flags: Flags(reader.u32()?),
-        lock_timeout: reader.u32()?,
-        io_timeout: reader.u32()?,
+        call: LinkCall::Generic {
+            call,
+            flags: Flags(reader.u32()?),
+            lock_timeout: reader.u32()?,
+            io_timeout: reader.u32()?,
+        },
     })
 }
 
@@ -114,10 +120,12 @@ fn device_lock(bytes: &[u8]) -> Result<Args<'_>, Garbage>
     ensures { plain_reading result ≡ arguments_at 18 bytes.now }
 {
     let mut reader = Reader::new(bytes);
-    Ok(Args::DeviceLock {
+    Ok(Args::OnLink {
         lid: reader.i32()?,
-        flags: Flags(reader.u32()?),
-        lock_timeout: reader.u32()?,
+        call: LinkCall::DeviceLock {
+            flags: Flags(reader.u32()?),
+            lock_timeout: reader.u32()?,
+        },
     })
 }
 
@@ -125,10 +133,12 @@ fn device_enable_srq(bytes: &[u8]) -> Result<Args<'_>, Garbage>
     ensures { plain_reading result ≡ arguments_at 20 bytes.now }
 {
     let mut reader = Reader::new(bytes);
-    Ok(Args::DeviceEnableSrq {
+    Ok(Args::OnLink {
         lid: reader.i32()?,
-        enable: reader.boolean()?,
-        handle: reader.opaque(MAX_HANDLE)?,
+        call: LinkCall::DeviceEnableSrq {
+            enable: reader.boolean()?,
+            handle: reader.opaque(MAX_HANDLE)?,
+        },
     })
 }
 
@@ -136,15 +146,17 @@ fn device_docmd(bytes: &[u8]) -> Result<Args<'_>, Garbage>
     ensures { plain_reading result ≡ arguments_at 22 bytes.now }
 {
     let mut reader = Reader::new(bytes);
-    Ok(Args::DeviceDocmd {
+    Ok(Args::OnLink {
         lid: reader.i32()?,
-        flags: Flags(reader.u32()?),
-        io_timeout: reader.u32()?,
-        lock_timeout: reader.u32()?,
-        cmd: reader.i32()?,
-        network_order: reader.boolean()?,
-        datasize: reader.i32()?,
-        bytes: reader.opaque(u32::MAX)?,
+        call: LinkCall::DeviceDocmd {
+            flags: Flags(reader.u32()?),
+            io_timeout: reader.u32()?,
+            lock_timeout: reader.u32()?,
+            cmd: reader.i32()?,
+            network_order: reader.boolean()?,
+            datasize: reader.i32()?,
+            bytes: reader.opaque(u32::MAX)?,
+        },
     })
 }
 
@@ -162,8 +174,11 @@ fn create_intr_chan(bytes: &[u8]) -> Result<Args<'_>, Garbage>
 }
 
 /// Reads the link of a call that names nothing else.
-fn link(bytes: &[u8]) -> Result<i32, Garbage>
-    ensures { (makes : ℤ → Arguments) → made makes result ≡ read_link makes bytes.now }
+fn alone<'a>(bytes: &[u8], call: LinkCall<'a>) -> Result<Args<'a>, Garbage>
+    ensures { plain_reading result ≡ read_on_link [] (plain_call call.entry) bytes.now }
 {
-    Ok(Reader::new(bytes).i32()?)
+    Ok(Args::OnLink {
+        lid: Reader::new(bytes).i32()?,
+        call,
+    })
 }

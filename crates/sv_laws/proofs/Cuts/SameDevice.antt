@@ -1,7 +1,8 @@
 -- What all connections share is the same in two logs but for where program text was accepted: a call comes to the same in both.
 use Rattle.std.proofs.Common.{◌≡◌, ℕ, ◌+◌, Bool, true, false, List, [], ◌∷◌, ◌++◌, Option, Some, None, refl, sym, ap, subst, ◌∙◌}
 use Rattle.std.specs.Prelude.{◌↔◌, not, ◌&&◌, ◌||◌, ℤ, pos, negsuc}
-use Rattle.sv_vxi.specs.Arguments.{Arguments, CreateLink, CreateIntrChan, DeviceWrite, DeviceRead, DeviceTrigger, DeviceLock, DeviceUnlock, DeviceEnableSrq, DestroyIntrChan, link}
+use Rattle.sv_vxi.specs.declared.arguments.GenericCall.TheVariants.{Readstb, Trigger, Clear, Remote, Local}
+use Rattle.sv_vxi.specs.Arguments.{LinkCall, DeviceAbort, DeviceWrite, DeviceRead, Generic, DeviceLock, DeviceUnlock, DeviceEnableSrq, DeviceDocmd, DestroyLink, Arguments, CreateLink, OnLink, CreateIntrChan, DestroyIntrChan}
 use Rattle.sv_links.specs.Links.{LinkAct}
 use Rattle.sv_links.specs.Waiting.{WaitAct}
 use Rattle.sv_links.specs.Channels.{ChannelAct}
@@ -15,8 +16,9 @@ use Rattle.sv_history.specs.declared.event.Config.{Config}
 use Rattle.sv_history.specs.Act.{DeviceAct, Linked, Waited, Channel, Happened, Ticked, link_acts, wait_acts, channel_acts, instrument_acts, ticks}
 use Rattle.sv_history.specs.PolledStatus.{IsPolled}
 use Rattle.sv_history.specs.Requests.{HearsOf, request_told}
-use Rattle.sv_history.specs.CoreChannel.{own_call}
-use Rattle.sv_history.specs.Admission.{device_wait, names_another, own_stop, stop_of}
+use Rattle.sv_history.specs.CoreCall.{lid_of}
+use Rattle.sv_history.specs.CoreChannel.{owns, link_call, own_call}
+use Rattle.sv_history.specs.Admission.{device_wait, stop_of}
 use Rattle.sv_laws.proofs.Cuts.SameExchange.{ended_same, response_same}
 use Rattle.sv_laws.proofs.Cuts.SameStatus.{SameStatus, raised_same, never_raised, polled_same}
 use Rattle.sv_laws.proofs.Cuts.SameInstrument.{SameInstrument, instrument_act, instrument_back}
@@ -145,47 +147,40 @@ polled_alike polled acts other v said = λ k.
     let same = polled_same k (instrument_acts acts) (instrument_acts other) v.instrument.status in
     ((λ b. same.0 ((said k).0 b)), (λ p. (said k).1 (same.1 p)))
 
-pub wait_alike : (arguments : Arguments) (acts other : List DeviceAct) → SameDevice acts other
-    → device_wait arguments acts ≡ device_wait arguments other
-wait_alike (DeviceWrite lid io_timeout lock_timeout flags bytes) acts other v = rw (ended_alike acts other v) refl
-wait_alike (DeviceRead lid request_size io_timeout lock_timeout flags term_char) acts other v = rw (answerable_alike acts other v) refl
+pub wait_alike : (call : LinkCall) (acts other : List DeviceAct) → SameDevice acts other → device_wait call acts ≡ device_wait call other
+wait_alike (DeviceWrite io_timeout lock_timeout flags bytes) acts other v = rw (ended_alike acts other v) refl
+wait_alike (DeviceRead request_size io_timeout lock_timeout flags term_char) acts other v = rw (answerable_alike acts other v) refl
 wait_alike _ acts other v = refl
+
+link_alike : (polled c n : ℕ) (call : LinkCall) (acts other : List DeviceAct) → SameDevice acts other
+    → link_call polled c n call acts ≡ link_call polled c n call other
+link_alike polled c n (DeviceWrite io_timeout lock_timeout flags bytes) acts other v = rw (ended_alike acts other v) refl
+link_alike polled c n (DeviceRead request_size io_timeout lock_timeout flags term_char) acts other v =
+    rw (answerable_alike acts other v, response_alike acts other v) refl
+link_alike polled c n (Generic Trigger flags lock_timeout io_timeout) acts other v = rw v.instrument.status.scanned refl
+link_alike polled c n (DeviceLock flags lock_timeout) acts other v = rw v.links refl
+link_alike polled c n DeviceUnlock acts other v = rw v.links refl
+link_alike polled c n (DeviceEnableSrq enable handle) acts other v = rw v.links refl
+link_alike polled c n _ acts other v = refl
 
 pub call_alike : (config : Config) (polled c : ℕ) (arguments : Arguments) (acts other : List DeviceAct) → SameDevice acts other
     → own_call config polled c arguments acts ≡ own_call config polled c arguments other
 call_alike config polled c (CreateLink client_id lock_device lock_timeout device) acts other v = rw v.links refl
-call_alike config polled c (DeviceWrite lid io_timeout lock_timeout flags bytes) acts other v = rw (ended_alike acts other v) refl
-call_alike config polled c (DeviceRead lid request_size io_timeout lock_timeout flags term_char) acts other v =
-    rw (answerable_alike acts other v, response_alike acts other v) refl
-call_alike config polled c (DeviceTrigger parms) acts other v = rw v.instrument.status.scanned refl
-call_alike config polled c (DeviceLock (pos n) flags lock_timeout) acts other v = rw v.links refl
-call_alike config polled c (DeviceLock (negsuc n) flags lock_timeout) acts other v = refl
-call_alike config polled c (DeviceUnlock (pos n)) acts other v = rw v.links refl
-call_alike config polled c (DeviceUnlock (negsuc n)) acts other v = refl
-call_alike config polled c (DeviceEnableSrq (pos n) enable handle) acts other v = rw v.links refl
-call_alike config polled c (DeviceEnableSrq (negsuc n) enable handle) acts other v = refl
+call_alike config polled c (OnLink (pos n) call) acts other v = link_alike polled c n call acts other v
 call_alike config polled c DestroyIntrChan acts other v = rw v.channels refl
 call_alike config polled c _ acts other v = refl
 
-own_stop_alike : (c : ℕ) (arguments : Arguments) (acts other : List DeviceAct) → SameDevice acts other
-    → own_stop c arguments acts ≡ own_stop c arguments other
-own_stop_alike c (CreateLink client_id lock_device lock_timeout device) acts other v = rw (v.links, v.waits) refl
-own_stop_alike c (CreateIntrChan host_addr host_port prog_num prog_vers prog_family) acts other v = rw v.channels refl
-own_stop_alike c (DeviceWrite lid io_timeout lock_timeout flags bytes) acts other v = rw (ended_alike acts other v) refl
-own_stop_alike c (DeviceRead lid request_size io_timeout lock_timeout flags term_char) acts other v =
-    rw (answerable_alike acts other v) refl
-own_stop_alike c _ acts other v = refl
-
-names_alike : (c : ℕ) (named : Option ℤ) (acts other : List DeviceAct) → SameDevice acts other
-    → names_another c named acts ≡ names_another c named other
-names_alike c None acts other v = refl
-names_alike c (Some (pos n)) acts other v = rw v.links refl
-names_alike c (Some (negsuc n)) acts other v = refl
+owns_alike : (c : ℕ) (named : Option ℕ) (acts other : List DeviceAct) → SameDevice acts other → owns c named acts ≡ owns c named other
+owns_alike c None acts other v = refl
+owns_alike c (Some n) acts other v = rw v.links refl
 
 pub stop_alike : (c : ℕ) (arguments : Arguments) (acts other : List DeviceAct) → SameDevice acts other
     → stop_of c arguments acts ≡ stop_of c arguments other
-stop_alike c arguments acts other v =
-    rw (own_stop_alike c arguments acts other v, names_alike c (link arguments) acts other v, v.links) refl
+stop_alike c (CreateLink client_id lock_device lock_timeout device) acts other v = rw (v.links, v.waits) refl
+stop_alike c (OnLink lid call) acts other v =
+    rw (wait_alike call acts other v, owns_alike c (lid_of (Some lid)) acts other v, v.links) refl
+stop_alike c (CreateIntrChan host_addr host_port prog_num prog_vers prog_family) acts other v = rw v.channels refl
+stop_alike c DestroyIntrChan acts other v = refl
 
 pub device_back : (acts other : List DeviceAct) → SameDevice acts other → SameDevice other acts
 device_back acts other v = record {

@@ -3,7 +3,7 @@ use Rattle.std.proofs.Common.{◌≡◌, ℕ, ◌+◌, Bool, not, List, [], ◌�
 use Rattle.std.specs.Prelude.{map, option_map, pos, negsuc}
 use Rattle.std.proofs.lemmas.List.{append_cancel_right}
 use Rattle.sv_errors.specs.declared.source.Source.TheVariants.{Immediate}
-use Rattle.sv_vxi.specs.Arguments.{Arguments, link, io_timeout}
+use Rattle.sv_vxi.specs.Arguments.{Arguments, CreateLink, OnLink, CreateIntrChan, DestroyIntrChan, link}
 use Rattle.sv_links.specs.declared.waiting.Wait.{Wait}
 use Rattle.sv_links.specs.declared.waiting.Wait.TheVariants.{Lock, Input, Response, Dial}
 use Rattle.sv_links.specs.Links.{LinkAct, owner, holder}
@@ -71,15 +71,16 @@ aborts_alike _ acts other v = refl
 
 next_wait_alike : (wait : Wait) (arguments : Arguments) (acts other : List DeviceAct) → SameDevice acts other
     → next_wait wait arguments acts ≡ next_wait wait arguments other
-next_wait_alike Lock arguments acts other v = wait_alike arguments acts other v
+next_wait_alike Lock (OnLink lid call) acts other v = wait_alike call acts other v
+next_wait_alike Lock _ acts other v = refl
 next_wait_alike Input arguments acts other v = refl
 next_wait_alike Response arguments acts other v = refl
 next_wait_alike Dial arguments acts other v = refl
 
-continued_alike : (config : Config) (polled c : ℕ) (arguments : Arguments) (next : Option Wait) (acts other : List DeviceAct)
+continued_alike : (config : Config) (polled c : ℕ) (arguments : Arguments) (next : Option (Wait × ℕ)) (acts other : List DeviceAct)
     → SameDevice acts other → continued config polled c arguments next acts ≡ continued config polled c arguments next other
 continued_alike config polled c arguments (Some wait) acts other v =
-    ap (λ (d : Option ℕ). suspended (Again c wait d)) (deadline_alike config (io_timeout arguments) acts other v)
+    ap (λ (d : Option ℕ). suspended (Again c wait.0 d)) (deadline_alike config (Some wait.1) acts other v)
 continued_alike config polled c arguments None acts other v =
     ap (λ (o : CallOutcome). leaving c o) (call_alike config polled c arguments (Waited (Left c) ∷ acts) (Waited (Left c) ∷ other)
     (device_act (Waited (Left c)) acts other v))
@@ -88,7 +89,7 @@ pub resumed_alike : (config : Config) (polled c : ℕ) (wait : Wait) (call : Opt
     → SameDevice acts other → resumed config polled c wait call acts ≡ resumed config polled c wait call other
 resumed_alike config polled c wait None acts other v = refl
 resumed_alike config polled c wait (Some call) acts other v =
-    ap (λ (next : Option Wait). call_effect call.xid (continued config polled c call.arguments next acts))
+    ap (λ (next : Option (Wait × ℕ)). call_effect call.xid (continued config polled c call.arguments next acts))
     (next_wait_alike wait call.arguments acts other v)
     ∙ ap (λ (o : CallOutcome). call_effect call.xid o)
     (continued_alike config polled c call.arguments (next_wait wait call.arguments other) acts other v)

@@ -12,7 +12,7 @@ use Rattle.sv_vxi.specs.declared.error_code.ErrorCode.{ErrorCode}
 use Rattle.sv_vxi.specs.declared.error_code.ErrorCode.TheVariants.{NoError, InvalidLink, ParameterError, IoTimeout}
 use Rattle.sv_vxi.specs.declared.error_code.ErrorCode.TheVariants.{Locked as DeviceLocked}
 use Rattle.sv_vxi.specs.ErrorCode.{error_number}
-use Rattle.sv_vxi.specs.Arguments.{DeviceWrite}
+use Rattle.sv_vxi.specs.Arguments.{DeviceWrite, OnLink}
 use Rattle.sv_vxi.specs.Results.{Size}
 use Rattle.sv_links.specs.declared.waiting.Wait.{Wait}
 use Rattle.sv_links.specs.declared.waiting.Wait.TheVariants.{Lock, Input as ForInput}
@@ -96,8 +96,8 @@ accepts_write : (flags : ℕ) (bytes : List ℕ) (acts : List DeviceAct) → nat
 accepts_write flags bytes acts short free = rw (short, free) refl
 
 pub write_case : (config : Config) (polled c lid io_timeout lock_timeout flags : ℕ) (bytes : List ℕ) (acts : List DeviceAct)
-    → WriteCase c lid flags bytes acts (admitted config polled c (DeviceWrite (pos lid) io_timeout lock_timeout flags bytes)
-    (stop_of c (DeviceWrite (pos lid) io_timeout lock_timeout flags bytes) acts) acts)
+    → WriteCase c lid flags bytes acts (admitted config polled c (OnLink (pos lid) (DeviceWrite io_timeout lock_timeout flags bytes))
+    (stop_of c (OnLink (pos lid) (DeviceWrite io_timeout lock_timeout flags bytes)) acts) acts)
 write_case config polled c lid io_timeout lock_timeout flags bytes acts = elim (cases_Bool (is_of c (owner lid (link_acts acts)))) [
   | inr e ↦ rw e (inl (InvalidLink, some_error InvalidLink 3 refl, refl))
   | inl e ↦ elim (cases_Bool (nat_lt max_message (length bytes))) [

@@ -5,7 +5,7 @@ use Rattle.std.specs.Int.{bit_at}
 use Rattle.std.specs.List.{AllByRecursion}
 use Rattle.std.proofs.lemmas.Bool.{cases_eq}
 use Rattle.sv_vxi.specs.declared.error_code.ErrorCode.TheVariants.{NoError}
-use Rattle.sv_vxi.specs.Arguments.{DeviceWrite}
+use Rattle.sv_vxi.specs.Arguments.{DeviceWrite, OnLink}
 use Rattle.sv_vxi.specs.Results.{Size}
 use Rattle.sv_links.specs.Channels.{ChannelAct}
 use Rattle.sv_history.specs.declared.event.Config.{Config}
@@ -161,7 +161,7 @@ adds_other port config past one two log other bytes was also tells same (before,
 
 wrote_by : (c lid : ℕ) (config : Config) (past : List PlainEvent) (log : List Act) (bytes : List ℕ) (ended : Bool)
     (xid io_timeout lock_timeout flags : ℕ) (call : List ℕ) (rest : List ConnAct)
-    → core_call call ≡ Some (record { xid = xid; arguments = DeviceWrite (pos lid) io_timeout lock_timeout flags bytes })
+    → core_call call ≡ Some (record { xid = xid; arguments = OnLink (pos lid) (DeviceWrite io_timeout lock_timeout flags bytes) })
     → (bit_at flags 3 ≡ 1) ↔ (ended ≡ true) → (f : Fed c config past log (result_reply xid (Size NoError (length bytes))) call rest)
     → Wrote c bytes ended config f.base f.last
 wrote_by c lid config past log bytes ended xid io_timeout lock_timeout flags call rest is flag f =

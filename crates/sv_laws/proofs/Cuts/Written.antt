@@ -7,7 +7,7 @@ use Rattle.std.proofs.lemmas.List.{length-append}
 use Rattle.sv_rpc.specs.declared.reply.Reply.TheVariants.{ProgUnavail}
 use Rattle.sv_vxi.specs.declared.error_code.ErrorCode.TheVariants.{NoError}
 use Rattle.sv_vxi.specs.ErrorCode.{error_number}
-use Rattle.sv_vxi.specs.Arguments.{Arguments, DeviceWrite}
+use Rattle.sv_vxi.specs.Arguments.{Arguments, DeviceWrite, OnLink}
 use Rattle.sv_vxi.specs.Results.{Size}
 use Rattle.sv_links.specs.declared.waiting.Wait.{Wait}
 use Rattle.sv_links.specs.Waiting.{Left, waits}
@@ -76,13 +76,13 @@ flag_is flags false so = ne_eqb (bit_at flags 3) 1 (λ e. let z : false ≡ true
 
 module _ (c lid : ℕ) (bytes : List ℕ) (ended : Bool) (config : Config) (base log : List Act) (call : List ℕ)
     (xid io_timeout lock_timeout flags : ℕ)
-    (is : core_call call ≡ Some (record { xid = xid; arguments = DeviceWrite (pos lid) io_timeout lock_timeout flags bytes }))
+    (is : core_call call ≡ Some (record { xid = xid; arguments = OnLink (pos lid) (DeviceWrite io_timeout lock_timeout flags bytes) }))
     (flag : (bit_at flags 3 ≡ 1) ↔ (ended ≡ true)) (settled : IsSettled config base)
     (none : waits c (wait_acts (device_acts base)) ≡ None)
     (acts : without_pieces (of c log)
     ≡ Replied (result_reply xid (Size NoError (length bytes))) ∷ CallTaken call ∷ without_pieces (of c base)) where
   abbrev arguments : Arguments
-  arguments = DeviceWrite (pos lid) io_timeout lock_timeout flags bytes
+  arguments = OnLink (pos lid) (DeviceWrite io_timeout lock_timeout flags bytes)
 
   abbrev reply : List ℕ
   reply = result_reply xid (Size NoError (length bytes))

@@ -4,7 +4,8 @@ use Rattle.std.specs.Prelude.{map, is_some, pos, negsuc}
 use Rattle.std.proofs.lemmas.Bool.{cases_eq, cases_Bool}
 use Rattle.sv_vxi.specs.declared.error_code.ErrorCode.{ErrorCode}
 use Rattle.sv_vxi.specs.declared.error_code.ErrorCode.TheVariants.{Abort}
-use Rattle.sv_vxi.specs.Arguments.{Arguments, DeviceAbort, CreateLink, DeviceWrite, DeviceRead, DeviceReadstb, DeviceTrigger, DeviceClear, DeviceRemote, DeviceLocal, DeviceLock, DeviceUnlock, DeviceEnableSrq, DeviceDocmd, DestroyLink, CreateIntrChan, DestroyIntrChan, link, io_timeout, max_handle}
+use Rattle.sv_vxi.specs.declared.arguments.GenericCall.TheVariants.{Readstb, Trigger, Clear, Remote, Local}
+use Rattle.sv_vxi.specs.Arguments.{LinkCall, DeviceAbort, DeviceWrite, DeviceRead, Generic, DeviceLock, DeviceUnlock, DeviceEnableSrq, DeviceDocmd, DestroyLink, Arguments, CreateLink, OnLink, CreateIntrChan, DestroyIntrChan, link, max_handle}
 use Rattle.sv_vxi.specs.Results.{Outcome}
 use Rattle.sv_links.specs.declared.request.Peer.{Peer}
 use Rattle.sv_links.specs.declared.waiting.Wait.{Wait}
@@ -56,39 +57,36 @@ own_told config polled c (CreateLink client_id lock_device lock_timeout device) 
   | inl e ↦ rw e refl
   | inr e ↦ rw e refl
 ]
-own_told config polled c (DeviceWrite lid io_timeout lock_timeout flags bytes) acts =
+own_told config polled c (OnLink (pos n) (DeviceWrite io_timeout lock_timeout flags bytes)) acts =
     elim (cases_Bool (nat_lt max_message (length bytes))) [
       | inl e ↦ rw e refl
       | inr e ↦ elim (cases_Bool (has_ended (exchange_acts acts))) [ inl k ↦ rw (e, k) refl | inr k ↦ rw (e, k) refl ]
     ]
-own_told config polled c (DeviceRead lid request_size io_timeout lock_timeout flags term_char) acts =
+own_told config polled c (OnLink (pos n) (DeviceRead request_size io_timeout lock_timeout flags term_char)) acts =
     elim (cases_Bool (is_answerable (instrument_acts acts))) [
       | inl k ↦ elim (cases_Bool (is_something (response (exchange_acts acts)))) [ inl e ↦ rw (k, e) refl | inr e ↦ rw (k, e) refl ]
       | inr k ↦ elim (cases_Bool (is_something (response (exchange_acts acts)))) [ inl e ↦ rw (k, e) refl | inr e ↦ rw (k, e) refl ]
     ]
-own_told config polled c (DeviceLock (pos n) flags lock_timeout) acts =
+own_told config polled c (OnLink (pos n) (DeviceLock flags lock_timeout)) acts =
     elim (cases_Bool (is_locked_out (holder (link_acts acts)) (Some n))) [ inl e ↦ rw e refl | inr e ↦ rw e refl ]
-own_told config polled c (DeviceUnlock (pos n)) acts =
+own_told config polled c (OnLink (pos n) DeviceUnlock) acts =
     elim (cases_Bool (is_this n (holder (link_acts acts)))) [ inl e ↦ rw e refl | inr e ↦ rw e refl ]
-own_told config polled c (DeviceEnableSrq (pos n) true handle) acts = elim (cases_Bool (is_of c (owner n (link_acts acts)))) [
+own_told config polled c (OnLink (pos n) (DeviceEnableSrq true handle)) acts = elim (cases_Bool (is_of c (owner n (link_acts acts)))) [
   | inl e ↦ elim (cases_Bool (nat_lt max_handle (length handle))) [ inl k ↦ rw (e, k) refl | inr k ↦ rw (e, k) refl ]
   | inr e ↦ rw e refl
 ]
-own_told config polled c (DeviceEnableSrq (pos n) false handle) acts =
+own_told config polled c (OnLink (pos n) (DeviceEnableSrq false handle)) acts =
     elim (cases_Bool (is_of c (owner n (link_acts acts)))) [ inl e ↦ rw e refl | inr e ↦ rw e refl ]
 own_told config polled c DestroyIntrChan acts = elim (cases_Bool (has_channel c acts)) [ inl e ↦ rw e refl | inr e ↦ rw e refl ]
-own_told config polled c (DestroyLink (pos n)) acts = refl
-own_told config polled c (DestroyLink (negsuc n)) acts = refl
-own_told config polled c (DeviceLock (negsuc n) flags lock_timeout) acts = refl
-own_told config polled c (DeviceUnlock (negsuc n)) acts = refl
-own_told config polled c (DeviceEnableSrq (negsuc n) enable handle) acts = refl
-own_told config polled c (DeviceReadstb parms) acts = refl
-own_told config polled c (DeviceTrigger parms) acts = refl
-own_told config polled c (DeviceClear parms) acts = refl
-own_told config polled c (DeviceRemote parms) acts = refl
-own_told config polled c (DeviceLocal parms) acts = refl
-own_told config polled c (DeviceAbort lid) acts = refl
-own_told config polled c (DeviceDocmd lid flags io_timeout lock_timeout cmd network_order datasize bytes) acts = refl
+own_told config polled c (OnLink (pos n) DestroyLink) acts = refl
+own_told config polled c (OnLink (negsuc n) call) acts = refl
+own_told config polled c (OnLink (pos n) (Generic Readstb flags lock_timeout io_timeout)) acts = refl
+own_told config polled c (OnLink (pos n) (Generic Trigger flags lock_timeout io_timeout)) acts = refl
+own_told config polled c (OnLink (pos n) (Generic Clear flags lock_timeout io_timeout)) acts = refl
+own_told config polled c (OnLink (pos n) (Generic Remote flags lock_timeout io_timeout)) acts = refl
+own_told config polled c (OnLink (pos n) (Generic Local flags lock_timeout io_timeout)) acts = refl
+own_told config polled c (OnLink (pos n) DeviceAbort) acts = refl
+own_told config polled c (OnLink (pos n) (DeviceDocmd flags io_timeout lock_timeout cmd network_order datasize bytes)) acts = refl
 own_told config polled c (CreateIntrChan host_addr host_port prog_num prog_vers prog_family) acts = refl
 
 replies_free : (xid : ℕ) (result : Option Outcome) (acts : List ConnAct) → is_some result ≡ true
@@ -187,15 +185,15 @@ entered_waits c named wait last acts = rw (eq-eqb c c refl) refl
 not_waits : {A : Type 0} (found : Option Wait) (wait : Wait) → found ≡ Some wait → found ≡ None → A
 not_waits {A} found wait some none = absurd (let z : None ≡ Some wait = sym none ∙ some in cc)
 
-all_continued : (config : Config) (polled c : ℕ) (wait : Wait) (call : CoreCall) (next : Option Wait) (log : List Act) → AllWait log
+all_continued : (config : Config) (polled c : ℕ) (wait : Wait) (call : CoreCall) (next : Option (Wait × ℕ)) (log : List Act) → AllWait log
     → waits c (wait_acts (device_acts log)) ≡ Some wait
     → AllWait (acts_of c (call_effect call.xid (continued config polled c call.arguments next (device_acts log))) ++ log)
 all_continued config polled c wait call (Some next) log all for =
     let acts = device_acts log in
-    let last = deadline config (io_timeout call.arguments) acts in
+    let last = deadline config (Some next.1) acts in
     all_effect c (call_effect call.xid (continued config polled c call.arguments (Some next) acts)) log (λ d ne. all d)
-    (λ d ne. wait_other c d (Again c next last) (wait_acts acts) refl ne)
-    (λ none. not_waits _ next (again_waits c next wait last (wait_acts acts) for) none)
+    (λ d ne. wait_other c d (Again c next.0 last) (wait_acts acts) refl ne)
+    (λ none. not_waits _ next.0 (again_waits c next.0 wait last (wait_acts acts) for) none)
 all_continued config polled c wait call None log all for =
     let before = Waited (Left c) ∷ device_acts log in
     let outcome = own_call config polled c call.arguments before in

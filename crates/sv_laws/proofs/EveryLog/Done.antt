@@ -1,10 +1,11 @@
 -- What a call of the core channel adds to what all connections share, act by act.
 use Rattle.std.proofs.Common.{◌≡◌, ℕ, ◌+◌, Bool, true, false, cond, List, length, nat_lt, Option, Some, None, refl, sym, ap, ◌∙◌, inl, inr}
-use Rattle.std.specs.Prelude.{ℤ, pos, negsuc, not, ◌&&◌, ⊤}
+use Rattle.std.specs.Prelude.{pos, negsuc, not, ◌&&◌, ⊤}
 use Rattle.std.proofs.lemmas.Bool.{cases_Bool}
 use Rattle.sv_logs.proofs.Each.{Each}
 use Rattle.sv_vxi.specs.declared.error_code.ErrorCode.TheVariants.{InvalidLink, NotAccessible, OutOfResources}
-use Rattle.sv_vxi.specs.Arguments.{Arguments, DeviceAbort, CreateLink, DeviceWrite, DeviceRead, DeviceReadstb, DeviceTrigger, DeviceClear, DeviceRemote, DeviceLocal, DeviceLock, DeviceUnlock, DeviceEnableSrq, DeviceDocmd, DestroyLink, CreateIntrChan, DestroyIntrChan, link, max_handle, is_create_link}
+use Rattle.sv_vxi.specs.declared.arguments.GenericCall.TheVariants.{Readstb, Trigger, Clear, Remote, Local}
+use Rattle.sv_vxi.specs.Arguments.{LinkCall, DeviceAbort, DeviceWrite, DeviceRead, Generic, DeviceLock, DeviceUnlock, DeviceEnableSrq, DeviceDocmd, DestroyLink, Arguments, CreateLink, OnLink, CreateIntrChan, DestroyIntrChan, link, max_handle, is_create_link}
 use Rattle.sv_links.specs.declared.waiting.Wait.{Wait}
 use Rattle.sv_links.specs.declared.waiting.Wait.TheVariants.{Lock}
 use Rattle.sv_links.specs.Links.{Made, made, owner, is_of, holder, is_this, is_locked_out, lids_left}
@@ -16,9 +17,9 @@ use Rattle.sv_instrument.specs.Step.{is_answerable}
 use Rattle.sv_history.specs.declared.event.Config.{Config}
 use Rattle.sv_history.specs.Act.{DeviceAct, Linked, Waited, Channel, Happened, Ticked, link_acts, instrument_acts, exchange_acts}
 use Rattle.sv_history.specs.CoreCall.{lid_of}
-use Rattle.sv_history.specs.CoreChannel.{own_call}
+use Rattle.sv_history.specs.CoreChannel.{owns, own_call}
 use Rattle.sv_history.specs.Interrupts.{has_channel}
-use Rattle.sv_history.specs.Admission.{Stop, Fails, Awaits, names_another, stop_of}
+use Rattle.sv_history.specs.Admission.{Stop, Fails, Awaits, stop_of}
 
 -- An act that a call of a connection, with these arguments, adds where it is done: only a create_link makes a link, and its number is the
 -- next; a link that begins to ask is the connection's; and no call begins or ends to wait.
@@ -43,12 +44,12 @@ each_done config polled c (CreateLink client_id false lock_timeout device) acts 
   | inl e ↦ rw e ((refl, refl, refl), tt)
   | inr e ↦ rw e tt
 ]
-each_done config polled c (DeviceWrite lid io_timeout lock_timeout flags bytes) acts =
+each_done config polled c (OnLink (pos n) (DeviceWrite io_timeout lock_timeout flags bytes)) acts =
     elim (cases_Bool (nat_lt max_message (length bytes))) [
       | inl e ↦ rw e tt
       | inr e ↦ elim (cases_Bool (has_ended (exchange_acts acts))) [ inl k ↦ rw (e, k) tt | inr k ↦ rw (e, k) (tt, tt) ]
     ]
-each_done config polled c (DeviceRead lid request_size io_timeout lock_timeout flags term_char) acts =
+each_done config polled c (OnLink (pos n) (DeviceRead request_size io_timeout lock_timeout flags term_char)) acts =
     elim (cases_Bool (is_answerable (instrument_acts acts))) [
       | inl k ↦ elim (cases_Bool (is_something (response (exchange_acts acts)))) [
         | inl e ↦ rw (k, e) (tt, tt)
@@ -59,63 +60,55 @@ each_done config polled c (DeviceRead lid request_size io_timeout lock_timeout f
         | inr e ↦ rw (k, e) tt
       ]
     ]
-each_done config polled c (DeviceReadstb parms) acts = (tt, tt)
-each_done config polled c (DeviceTrigger parms) acts = (tt, tt)
-each_done config polled c (DeviceClear parms) acts = (tt, tt)
-each_done config polled c (DeviceLock (pos n) flags lock_timeout) acts =
+each_done config polled c (OnLink (pos n) (Generic Readstb flags lock_timeout io_timeout)) acts = (tt, tt)
+each_done config polled c (OnLink (pos n) (Generic Trigger flags lock_timeout io_timeout)) acts = (tt, tt)
+each_done config polled c (OnLink (pos n) (Generic Clear flags lock_timeout io_timeout)) acts = (tt, tt)
+each_done config polled c (OnLink (pos n) (DeviceLock flags lock_timeout)) acts =
     elim (cases_Bool (is_locked_out (holder (link_acts acts)) (Some n))) [ inl e ↦ rw e tt | inr e ↦ rw e (tt, tt) ]
-each_done config polled c (DeviceUnlock (pos n)) acts =
+each_done config polled c (OnLink (pos n) DeviceUnlock) acts =
     elim (cases_Bool (is_this n (holder (link_acts acts)))) [ inl e ↦ rw e (tt, tt) | inr e ↦ rw e tt ]
-each_done config polled c (DeviceEnableSrq (pos n) true handle) acts = elim (cases_Bool (is_of c (owner n (link_acts acts)))) [
+each_done config polled c (OnLink (pos n) (DeviceEnableSrq true handle)) acts = elim (cases_Bool (is_of c (owner n (link_acts acts)))) [
   | inl e ↦ elim (cases_Bool (nat_lt max_handle (length handle))) [
     | inl k ↦ rw (e, k) tt
     | inr k ↦ rw (e, k) ((refl, owner_is_of c (owner n (link_acts acts)) e), tt)
   ]
   | inr e ↦ rw e tt
 ]
-each_done config polled c (DeviceEnableSrq (pos n) false handle) acts =
+each_done config polled c (OnLink (pos n) (DeviceEnableSrq false handle)) acts =
     elim (cases_Bool (is_of c (owner n (link_acts acts)))) [ inl e ↦ rw e (tt, tt) | inr e ↦ rw e tt ]
-each_done config polled c (DestroyLink (pos n)) acts = (tt, tt)
+each_done config polled c (OnLink (pos n) DestroyLink) acts = (tt, tt)
 each_done config polled c DestroyIntrChan acts =
     elim (cases_Bool (has_channel c acts)) [ inl e ↦ rw e (tt, tt) | inr e ↦ rw e tt ]
-each_done config polled c (DeviceLock (negsuc n) flags lock_timeout) acts = tt
-each_done config polled c (DeviceUnlock (negsuc n)) acts = tt
-each_done config polled c (DeviceEnableSrq (negsuc n) enable handle) acts = tt
-each_done config polled c (DestroyLink (negsuc n)) acts = tt
-each_done config polled c (DeviceRemote parms) acts = tt
-each_done config polled c (DeviceLocal parms) acts = tt
-each_done config polled c (DeviceAbort lid) acts = tt
-each_done config polled c (DeviceDocmd lid flags io_timeout lock_timeout cmd network_order datasize bytes) acts = tt
+each_done config polled c (OnLink (negsuc n) call) acts = tt
+each_done config polled c (OnLink (pos n) (Generic Remote flags lock_timeout io_timeout)) acts = tt
+each_done config polled c (OnLink (pos n) (Generic Local flags lock_timeout io_timeout)) acts = tt
+each_done config polled c (OnLink (pos n) DeviceAbort) acts = tt
+each_done config polled c (OnLink (pos n) (DeviceDocmd flags io_timeout lock_timeout cmd network_order datasize bytes)) acts = tt
 each_done config polled c (CreateIntrChan host_addr host_port prog_num prog_vers prog_family) acts = tt
 
 -- ---- a call that has to wait
 
-not_false : (b : Bool) → not b ≡ false → b ≡ true
-not_false true e = refl
-not_false false e = absurd cc
-
 some_number : (a b : ℕ) → Some a ≡ Some b → a ≡ b
 some_number a b e = cc
 
--- a link that is named and isn't another's is the connection's
-pub named_own : (c : ℕ) (named : Option ℤ) (acts : List DeviceAct) (n : ℕ) → names_another c named acts ≡ false → lid_of named ≡ Some n
+-- a link that is one of the connection is its own
+pub named_own : (c : ℕ) (named : Option ℕ) (acts : List DeviceAct) (n : ℕ) → owns c named acts ≡ true → named ≡ Some n
     → owner n (link_acts acts) ≡ Some c
-named_own c (Some (pos m)) acts n e is =
-    ap (λ (k : ℕ). owner k (link_acts acts)) (sym (some_number m n is))
-    ∙ owner_is_of c (owner m (link_acts acts)) (not_false (is_of c (owner m (link_acts acts))) e)
-named_own c (Some (negsuc m)) acts n e is = absurd cc
+named_own c (Some m) acts n e is =
+    ap (λ (k : ℕ). owner k (link_acts acts)) (sym (some_number m n is)) ∙ owner_is_of c (owner m (link_acts acts)) e
 named_own c None acts n e is = absurd cc
 
-another_fails : (another : Bool) (rest : Option Stop) (wait : Wait) (until : Option ℕ)
-    → cond another (Some (Fails InvalidLink)) rest ≡ Some (Awaits wait until) → another ≡ false
-another_fails true rest wait until e = absurd cc
-another_fails false rest wait until e = refl
+another_fails : (own : Bool) (rest : Option Stop) (wait : Wait) (until : Option ℕ)
+    → cond (not own) (Some (Fails InvalidLink)) rest ≡ Some (Awaits wait until) → own ≡ true
+another_fails false rest wait until e = absurd cc
+another_fails true rest wait until e = refl
 
 -- the link that it names is the connection's
 pub waits_own : (c : ℕ) (arguments : Arguments) (acts : List DeviceAct) (wait : Wait) (until : Option ℕ) (n : ℕ)
     → stop_of c arguments acts ≡ Some (Awaits wait until) → lid_of (link arguments) ≡ Some n → owner n (link_acts acts) ≡ Some c
-waits_own c arguments acts wait until n e is =
-    named_own c (link arguments) acts n (another_fails (names_another c (link arguments) acts) _ wait until e) is
+waits_own c (OnLink lid call) acts wait until n e is =
+    named_own c (lid_of (Some lid)) acts n (another_fails (owns c (lid_of (Some lid)) acts) _ wait until e) is
+waits_own c _ acts wait until n e is = absurd cc
 
 link_waits : (named more asks locked : Bool) (timeout : ℕ) (wait : Wait) (until : Option ℕ)
     → cond (not named) (Some (Fails NotAccessible)) (cond (not more) (Some (Fails OutOfResources))

@@ -126,7 +126,7 @@ some_wait : (a b : Wait) → Some a ≡ Some b → a ≡ b
 some_wait a b e = cc
 
 -- a create_link doesn't wait anew
-pub no_next : (wait : Wait) (arguments : Arguments) (acts : List DeviceAct) (next : Wait) → is_create_link arguments ≡ true
+pub no_next : (wait : Wait) (arguments : Arguments) (acts : List DeviceAct) (next : Wait × ℕ) → is_create_link arguments ≡ true
     → next_wait wait arguments acts ≡ Some next → ⊥
 no_next Lock (CreateLink client_id lock_device lock_timeout device) acts next is e = cc
 no_next Lock _ acts next is e = cc
@@ -134,7 +134,7 @@ no_next ForInput arguments acts next is e = cc
 no_next Response arguments acts next is e = cc
 no_next Dial arguments acts next is e = cc
 
-fit_continued : (config : Config) (polled c : ℕ) (wait : Wait) (call : CoreCall) (next : Option Wait) (log : List Act) → Fit log
+fit_continued : (config : Config) (polled c : ℕ) (wait : Wait) (call : CoreCall) (next : Option (Wait × ℕ)) (log : List Act) → Fit log
     → waits c (wait_acts (device_acts log)) ≡ Some wait → core_call_in (unanswered (of c log)) ≡ Some call
     → next_wait wait call.arguments (device_acts log) ≡ next
     → Fit (acts_of c (call_effect call.xid (continued config polled c call.arguments next (device_acts log))) ++ log)

@@ -3,7 +3,8 @@ use Rattle.std.proofs.Common.{◌≡◌, ℕ, Bool, true, false, cond, List, [],
 use Rattle.std.specs.Prelude.{ℤ, pos, negsuc, not, is_some, ◌&&◌}
 use Rattle.sv_logs.proofs.Each.{Each}
 use Rattle.sv_vxi.specs.declared.error_code.ErrorCode.TheVariants.{InvalidLink, ParameterError}
-use Rattle.sv_vxi.specs.Arguments.{Arguments, DeviceAbort, CreateLink, DeviceWrite, DeviceRead, DeviceReadstb, DeviceTrigger, DeviceClear, DeviceRemote, DeviceLocal, DeviceLock, DeviceUnlock, DeviceEnableSrq, DeviceDocmd, DestroyLink, CreateIntrChan, DestroyIntrChan, link, lock_wait, is_create_link}
+use Rattle.sv_vxi.specs.declared.arguments.GenericCall.TheVariants.{Readstb, Trigger, Clear, Remote, Local}
+use Rattle.sv_vxi.specs.Arguments.{LinkCall, DeviceAbort, DeviceWrite, DeviceRead, Generic, DeviceLock, DeviceUnlock, DeviceEnableSrq, DeviceDocmd, DestroyLink, Arguments, CreateLink, OnLink, CreateIntrChan, DestroyIntrChan, link, lock_wait, is_create_link}
 use Rattle.sv_links.specs.declared.waiting.Wait.{Wait}
 use Rattle.sv_links.specs.declared.waiting.Wait.TheVariants.{Lock, Input as ForInput, Response, Dial}
 use Rattle.sv_links.specs.Links.{Made, Destroyed, Locked, Unlocked, holder, is_locked_out}
@@ -11,9 +12,9 @@ use Rattle.sv_links.specs.Waiting.{Left}
 use Rattle.sv_history.specs.declared.event.Config.{Config}
 use Rattle.sv_history.specs.Act.{DeviceAct, Linked, Waited, Channel, Happened, Ticked, link_acts}
 use Rattle.sv_history.specs.CallOutcome.{CallOutcome}
-use Rattle.sv_history.specs.CoreCall.{CoreCall, lid_of, is_too_long}
-use Rattle.sv_history.specs.CoreChannel.{own_call}
-use Rattle.sv_history.specs.Admission.{Stop, Fails, Awaits, names_another, is_kept_out, lock_stop, own_stop, stop_of, admitted}
+use Rattle.sv_history.specs.CoreCall.{CoreCall, lid_of}
+use Rattle.sv_history.specs.CoreChannel.{owns, link_call, own_call}
+use Rattle.sv_history.specs.Admission.{Stop, Fails, Awaits, device_wait, stop_of, admitted}
 use Rattle.sv_history.specs.Resuming.{next_wait, continued, resumed}
 use Rattle.sv_history.specs.Effect.{call_effect}
 use Rattle.sv_laws.proofs.Isolation.Alike.{View, IsOwn, view_same}
@@ -24,66 +25,44 @@ holder_same c lid acts other view = view.held ∙ sym view.also
 
 -- ---- what stops it
 
-names_same : (c lid : ℕ) (named : Option ℤ) (acts other : List DeviceAct) → View c lid acts other
-    → names_another c named acts ≡ names_another c named other
-names_same c lid None acts other view = refl
-names_same c lid (Some (pos n)) acts other view = ap not (view.owns n)
-names_same c lid (Some (negsuc n)) acts other view = refl
+owns_same : (c lid : ℕ) (named : Option ℕ) (acts other : List DeviceAct) → View c lid acts other
+    → owns c named acts ≡ owns c named other
+owns_same c lid None acts other view = refl
+owns_same c lid (Some n) acts other view = view.owns n
 
-kept_same : (c lid : ℕ) (arguments : Arguments) (acts other : List DeviceAct) → View c lid acts other
-    → is_kept_out arguments acts ≡ is_kept_out arguments other
-kept_same c lid arguments acts other view =
-    ap (λ (h : Option ℕ). is_some (lock_wait arguments) && is_locked_out h (lid_of (link arguments))) (holder_same c lid acts other view)
-
-own_stop_same : (c lid : ℕ) (arguments : Arguments) (acts other : List DeviceAct) → is_create_link arguments ≡ false
-    → View c lid acts other → own_stop c arguments acts ≡ own_stop c arguments other
-own_stop_same c lid (CreateLink client_id lock_device lock_timeout device) acts other makes view = absurd cc
-own_stop_same c lid (CreateIntrChan host_addr host_port prog_num prog_vers prog_family) acts other makes view = rw view.opened refl
-own_stop_same c lid (DeviceWrite named io_timeout lock_timeout flags bytes) acts other makes view = rw view.instrument refl
-own_stop_same c lid (DeviceRead named request_size io_timeout lock_timeout flags term_char) acts other makes view =
-    rw view.instrument refl
-own_stop_same c lid _ acts other makes view = refl
+wait_same : (c lid : ℕ) (call : LinkCall) (acts other : List DeviceAct) → View c lid acts other
+    → device_wait call acts ≡ device_wait call other
+wait_same c lid (DeviceWrite io_timeout lock_timeout flags bytes) acts other view = rw view.instrument refl
+wait_same c lid (DeviceRead request_size io_timeout lock_timeout flags term_char) acts other view = rw view.instrument refl
+wait_same c lid _ acts other view = refl
 
 stop_same : (c lid : ℕ) (arguments : Arguments) (acts other : List DeviceAct) → is_create_link arguments ≡ false → View c lid acts other
     → stop_of c arguments acts ≡ stop_of c arguments other
-stop_same c lid arguments acts other makes view =
-    ap (λ (b : Bool). cond b (Some (Fails InvalidLink)) (cond (is_too_long arguments) (Some (Fails ParameterError))
-    (cond (is_kept_out arguments acts) (Some (lock_stop (lock_wait arguments))) (own_stop c arguments acts))))
-    (names_same c lid (link arguments) acts other view)
-    ∙ ap (λ (b : Bool). cond (names_another c (link arguments) other) (Some (Fails InvalidLink))
-    (cond (is_too_long arguments) (Some (Fails ParameterError))
-    (cond b (Some (lock_stop (lock_wait arguments))) (own_stop c arguments acts)))) (kept_same c lid arguments acts other view)
-    ∙ ap (λ (stop : Option Stop). cond (names_another c (link arguments) other) (Some (Fails InvalidLink))
-    (cond (is_too_long arguments) (Some (Fails ParameterError))
-    (cond (is_kept_out arguments other) (Some (lock_stop (lock_wait arguments))) stop)))
-    (own_stop_same c lid arguments acts other makes view)
+stop_same c lid (CreateLink client_id lock_device lock_timeout device) acts other makes view = absurd cc
+stop_same c lid (OnLink named call) acts other makes view =
+    rw (wait_same c lid call acts other view, owns_same c lid (lid_of (Some named)) acts other view, holder_same c lid acts other view) refl
+stop_same c lid (CreateIntrChan host_addr host_port prog_num prog_vers prog_family) acts other makes view = rw view.opened refl
+stop_same c lid DestroyIntrChan acts other makes view = refl
 
 -- ---- what it does
+
+link_same : (polled c lid n : ℕ) (call : LinkCall) (acts other : List DeviceAct) → View c lid acts other
+    → link_call polled c n call acts ≡ link_call polled c n call other
+link_same polled c lid n (DeviceWrite io_timeout lock_timeout flags bytes) acts other view = rw view.instrument refl
+link_same polled c lid n (DeviceRead request_size io_timeout lock_timeout flags term_char) acts other view = rw view.instrument refl
+link_same polled c lid n (Generic Trigger flags lock_timeout io_timeout) acts other view = rw view.instrument refl
+link_same polled c lid n (DeviceLock flags lock_timeout) acts other view = rw (holder_same c lid acts other view) refl
+link_same polled c lid n DeviceUnlock acts other view = rw (holder_same c lid acts other view) refl
+link_same polled c lid n (DeviceEnableSrq enable handle) acts other view = rw (view.owns n) refl
+link_same polled c lid n _ acts other view = refl
 
 pub done_same : (config : Config) (polled c lid : ℕ) (arguments : Arguments) (acts other : List DeviceAct)
     → is_create_link arguments ≡ false
     → View c lid acts other → own_call config polled c arguments acts ≡ own_call config polled c arguments other
 done_same config polled c lid (CreateLink client_id lock_device lock_timeout device) acts other makes view = absurd cc
-done_same config polled c lid (DeviceWrite named io_timeout lock_timeout flags bytes) acts other makes view = rw view.instrument refl
-done_same config polled c lid (DeviceRead named request_size io_timeout lock_timeout flags term_char) acts other makes view =
-    rw view.instrument refl
-done_same config polled c lid (DeviceTrigger parms) acts other makes view = rw view.instrument refl
-done_same config polled c lid (DeviceLock (pos n) flags lock_timeout) acts other makes view =
-    rw (holder_same c lid acts other view) refl
-done_same config polled c lid (DeviceUnlock (pos n)) acts other makes view = rw (holder_same c lid acts other view) refl
-done_same config polled c lid (DeviceEnableSrq (pos n) enable handle) acts other makes view = rw (view.owns n) refl
+done_same config polled c lid (OnLink (pos n) call) acts other makes view = link_same polled c lid n call acts other view
+done_same config polled c lid (OnLink (negsuc n) call) acts other makes view = refl
 done_same config polled c lid DestroyIntrChan acts other makes view = rw view.opened refl
-done_same config polled c lid (DeviceLock (negsuc n) flags lock_timeout) acts other makes view = refl
-done_same config polled c lid (DeviceUnlock (negsuc n)) acts other makes view = refl
-done_same config polled c lid (DeviceEnableSrq (negsuc n) enable handle) acts other makes view = refl
-done_same config polled c lid (DeviceReadstb parms) acts other makes view = refl
-done_same config polled c lid (DeviceClear parms) acts other makes view = refl
-done_same config polled c lid (DeviceRemote parms) acts other makes view = refl
-done_same config polled c lid (DeviceLocal parms) acts other makes view = refl
-done_same config polled c lid (DestroyLink named) acts other makes view = refl
-done_same config polled c lid (DeviceAbort named) acts other makes view = refl
-done_same config polled c lid (DeviceDocmd named flags io_timeout lock_timeout cmd network_order datasize bytes) acts other makes view =
-    refl
 done_same config polled c lid (CreateIntrChan host_addr host_port prog_num prog_vers prog_family) acts other makes view = refl
 
 admitted_by : (config : Config) (polled c lid : ℕ) (arguments : Arguments) (stop : Option Stop) (acts other : List DeviceAct)
@@ -107,14 +86,13 @@ admitted_same config polled c lid arguments acts other makes view =
 
 next_same : (c lid : ℕ) (wait : Wait) (arguments : Arguments) (acts other : List DeviceAct) → View c lid acts other
     → next_wait wait arguments acts ≡ next_wait wait arguments other
-next_same c lid Lock (DeviceWrite named io_timeout lock_timeout flags bytes) acts other view = rw view.instrument refl
-next_same c lid Lock (DeviceRead named request_size io_timeout lock_timeout flags term_char) acts other view = rw view.instrument refl
+next_same c lid Lock (OnLink named call) acts other view = wait_same c lid call acts other view
 next_same c lid Lock _ acts other view = refl
 next_same c lid ForInput arguments acts other view = refl
 next_same c lid Response arguments acts other view = refl
 next_same c lid Dial arguments acts other view = refl
 
-continued_by : (config : Config) (polled c lid : ℕ) (arguments : Arguments) (next : Option Wait) (acts other : List DeviceAct)
+continued_by : (config : Config) (polled c lid : ℕ) (arguments : Arguments) (next : Option (Wait × ℕ)) (acts other : List DeviceAct)
     → is_create_link arguments ≡ false → View c lid acts other
     → continued config polled c arguments next acts ≡ continued config polled c arguments next other
 continued_by config polled c lid arguments (Some wait) acts other makes view = rw view.clock refl
@@ -127,7 +105,7 @@ pub resumed_same : (config : Config) (polled c lid : ℕ) (wait : Wait) (call : 
     → is_create_link call.arguments ≡ false → View c lid acts other
     → resumed config polled c wait (Some call) acts ≡ resumed config polled c wait (Some call) other
 resumed_same config polled c lid wait call acts other makes view = ap (call_effect call.xid)
-    (ap (λ (next : Option Wait). continued config polled c call.arguments next acts) (next_same c lid wait call.arguments acts other view)
+    (ap (λ (next : Option (Wait × ℕ)). continued config polled c call.arguments next acts) (next_same c lid wait call.arguments acts other view)
     ∙ continued_by config polled c lid call.arguments (next_wait wait call.arguments other) acts other makes view)
 
 -- ---- its acts make no link

@@ -74,7 +74,7 @@ makes_none c lid log wait call true held for makes able is =
     absurd (lock_there lid (link c (wait_acts (device_acts log))) (waits c (wait_acts (device_acts log))) _ _ so.1
     (for ∙ ap (λ (w : Wait). Some w) so.0) (rw held at able))
 
-own_continued : (config : Config) (polled c : ℕ) (call : CoreCall) (next : Option Wait) (acts : List DeviceAct) (log : List Act)
+own_continued : (config : Config) (polled c : ℕ) (call : CoreCall) (next : Option (Wait × ℕ)) (acts : List DeviceAct) (log : List Act)
     → is_create_link call.arguments ≡ false
     → Each (IsOwnAct c) (acts_of c (call_effect call.xid (continued config polled c call.arguments next acts))) log
 own_continued config polled c call (Some wait) acts log makes =

@@ -6,14 +6,15 @@ use Rattle.std.proofs.lemmas.Bool.{cases_Bool, ne_eqb}
 use Rattle.sv_logs.proofs.Each.{Each}
 use Rattle.sv_vxi.specs.declared.error_code.ErrorCode.{ErrorCode}
 use Rattle.sv_vxi.specs.declared.arguments.LockWait.{LockWait}
-use Rattle.sv_vxi.specs.Arguments.{Arguments, DeviceAbort, CreateLink, DeviceUnlock, DeviceEnableSrq, DestroyLink, CreateIntrChan, DestroyIntrChan, link, lock_wait, max_handle}
+use Rattle.sv_vxi.specs.Arguments.{LinkCall, DeviceAbort, DeviceWrite, DeviceRead, Generic, DeviceLock, DeviceUnlock, DeviceEnableSrq, DeviceDocmd, DestroyLink, Arguments, CreateLink, OnLink, CreateIntrChan, DestroyIntrChan, lock_wait, max_handle}
 use Rattle.sv_links.specs.Links.{owner, is_of, holder, is_locked_out, lids_left}
 use Rattle.sv_laws.proofs.LinksAlike.{owner_is_of}
 use Rattle.sv_history.specs.declared.event.Config.{Config}
 use Rattle.sv_history.specs.Act.{DeviceAct, link_acts}
 use Rattle.sv_history.specs.CoreCall.{lid_of, is_too_long}
+use Rattle.sv_history.specs.CoreChannel.{owns}
 use Rattle.sv_history.specs.Interrupts.{has_channel, channel_fault}
-use Rattle.sv_history.specs.Admission.{Stop, names_another, is_kept_out, lock_stop, channel_stop, may_make_more, stop_of, admitted}
+use Rattle.sv_history.specs.Admission.{Stop, lock_stop, channel_stop, may_make_more, stop_of, admitted}
 use Rattle.sv_laws.proofs.Isolation.Alike.{IsForeign}
 use Rattle.sv_laws.proofs.EveryLog.Done.{named_own}
 
@@ -25,44 +26,44 @@ abbrev AreForeign : Config → ℕ → ℕ → ℕ → Arguments → List Device
 AreForeign config polled c d arguments acts stop = Each (IsForeign c) (admitted config polled d arguments stop acts).adds acts
 
 -- another link holds the lock
-kept_out : (c d lid : ℕ) (named : Option ℤ) (acts : List DeviceAct) → holder (link_acts acts) ≡ Some lid
+kept_out : (c d lid : ℕ) (named : Option ℕ) (acts : List DeviceAct) → holder (link_acts acts) ≡ Some lid
     → owner lid (link_acts acts) ≡ Some c
-    → d ≢ c → names_another d named acts ≡ false → is_locked_out (holder (link_acts acts)) (lid_of named) ≡ true
-kept_out c d lid None acts held mine ne own = rw held refl
-kept_out c d lid (Some (pos n)) acts held mine ne own =
-    let owns : owner n (link_acts acts) ≡ Some d = named_own d (Some (pos n)) acts n own refl in
+    → d ≢ c → owns d named acts ≡ true → is_locked_out (holder (link_acts acts)) named ≡ true
+kept_out c d lid None acts held mine ne own = absurd cc
+kept_out c d lid (Some n) acts held mine ne own =
+    let owns : owner n (link_acts acts) ≡ Some d = named_own d (Some n) acts n own refl in
     rw (held, ne_eqb n lid (λ same. ne (some_number d c (sym owns ∙ ap (λ (m : ℕ). owner m (link_acts acts)) same ∙ mine)))) refl
-kept_out c d lid (Some (negsuc n)) acts held mine ne own = absurd cc
 
 -- a call that minds the lock waits for it or fails
-waits_or_fails : (config : Config) (polled c d : ℕ) (arguments : Arguments) (acts : List DeviceAct) (wait : Option LockWait) → d ≢ c
+waits_or_fails : (config : Config) (polled c d : ℕ) (arguments : Arguments) (acts : List DeviceAct) (wait : LockWait) → d ≢ c
     → AreForeign config polled c d arguments acts (Some (lock_stop wait))
-waits_or_fails config polled c d arguments acts (Some wait) ne = elim (cases_Bool wait.waits) [
+waits_or_fails config polled c d arguments acts wait ne = elim (cases_Bool wait.waits) [
   | inl e ↦ rw e ((ne, (λ z. absurd cc), (λ z. absurd cc)), tt)
   | inr e ↦ rw e tt
 ]
-waits_or_fails config polled c d arguments acts None ne = tt
 
-minds_lock : (config : Config) (polled c d lid : ℕ) (arguments : Arguments) (acts : List DeviceAct) → is_some (lock_wait arguments) ≡ true
+some_of : (found : Option LockWait) → is_some found ≡ true → (wait : LockWait) × (found ≡ Some wait)
+some_of (Some wait) e = (wait, refl)
+some_of None e = absurd cc
+
+minds_lock : (config : Config) (polled c d lid : ℕ) (named : ℤ) (call : LinkCall) (acts : List DeviceAct)
+    → is_some (lock_wait call) ≡ true
     → holder (link_acts acts) ≡ Some lid → owner lid (link_acts acts) ≡ Some c → d ≢ c
-    → AreForeign config polled c d arguments acts (stop_of d arguments acts)
-minds_lock config polled c d lid arguments acts minds held mine ne = elim (cases_Bool (names_another d (link arguments) acts)) [
-  | inl e ↦ rw e tt
-  | inr e ↦ elim (cases_Bool (is_too_long arguments)) [
+    → AreForeign config polled c d (OnLink named call) acts (stop_of d (OnLink named call) acts)
+minds_lock config polled c d lid named call acts minds held mine ne = elim (cases_Bool (owns d (lid_of (Some named)) acts)) [
+  | inr e ↦ rw e tt
+  | inl e ↦ elim (cases_Bool (is_too_long call)) [
     | inl k ↦ rw (e, k) tt
     | inr k ↦
-        let out : is_kept_out arguments acts ≡ true = rw (minds, kept_out c d lid (link arguments) acts held mine ne e) refl in
-        rw (e, k, out) (waits_or_fails config polled c d arguments acts (lock_wait arguments) ne)
+        let wait = some_of (lock_wait call) minds in
+        rw (e, k, wait.1, kept_out c d lid (lid_of (Some named)) acts held mine ne e)
+        (waits_or_fails config polled c d (OnLink named call) acts wait.0 ne)
   ]
 ]
 
 -- a link of its own isn't the connection's
 own_other : (c d : ℕ) (found : Option ℕ) → d ≢ c → found ≡ Some d → is_of c found ≡ false
 own_other c d found ne is = rw is (ne_eqb d c ne)
-
-not_false : (b : Bool) → not b ≡ false → b ≡ true
-not_false true e = refl
-not_false false e = absurd cc
 
 fault_or_waits : (config : Config) (polled c d : ℕ) (arguments : Arguments) (acts : List DeviceAct) (fault : Option ErrorCode) → d ≢ c
     → AreForeign config polled c d arguments acts (Some (channel_stop fault))
@@ -88,15 +89,14 @@ call_foreign config polled c d lid (CreateLink client_id false lock_timeout devi
       ]
       | inr e ↦ rw e tt
     ]
-call_foreign config polled c d lid (DeviceUnlock (pos n)) acts held mine ne = elim (cases_Bool (is_of d (owner n (link_acts acts)))) [
+call_foreign config polled c d lid (OnLink (pos n) DeviceUnlock) acts held mine ne = elim (cases_Bool (is_of d (owner n (link_acts acts)))) [
   | inl e ↦
       let owns = owner_is_of d (owner n (link_acts acts)) e in
       let apart : lid ≢ n = λ same. ne (some_number d c (sym owns ∙ ap (λ (m : ℕ). owner m (link_acts acts)) (sym same) ∙ mine)) in
       rw (e, held, ne_eqb lid n apart) tt
   | inr e ↦ rw e tt
 ]
-call_foreign config polled c d lid (DeviceUnlock (negsuc n)) acts held mine ne = tt
-call_foreign config polled c d lid (DeviceEnableSrq (pos n) true handle) acts held mine ne =
+call_foreign config polled c d lid (OnLink (pos n) (DeviceEnableSrq true handle)) acts held mine ne =
     elim (cases_Bool (is_of d (owner n (link_acts acts)))) [
       | inl e ↦ elim (cases_Bool (nat_lt max_handle (length handle))) [
         | inl k ↦ rw (e, e, k) tt
@@ -106,28 +106,27 @@ call_foreign config polled c d lid (DeviceEnableSrq (pos n) true handle) acts he
       ]
       | inr e ↦ rw e tt
     ]
-call_foreign config polled c d lid (DeviceEnableSrq (pos n) false handle) acts held mine ne =
+call_foreign config polled c d lid (OnLink (pos n) (DeviceEnableSrq false handle)) acts held mine ne =
     elim (cases_Bool (is_of d (owner n (link_acts acts)))) [
       | inl e ↦
           let other = own_other c d (owner n (link_acts acts)) ne (owner_is_of d (owner n (link_acts acts)) e) in
           rw (e, e) (other, tt)
       | inr e ↦ rw e tt
     ]
-call_foreign config polled c d lid (DeviceEnableSrq (negsuc n) enable handle) acts held mine ne = tt
-call_foreign config polled c d lid (DestroyLink (pos n)) acts held mine ne = elim (cases_Bool (is_of d (owner n (link_acts acts)))) [
+call_foreign config polled c d lid (OnLink (pos n) DestroyLink) acts held mine ne = elim (cases_Bool (is_of d (owner n (link_acts acts)))) [
   | inl e ↦
       let other = own_other c d (owner n (link_acts acts)) ne (owner_is_of d (owner n (link_acts acts)) e) in
       rw e (other, tt)
   | inr e ↦ rw e tt
 ]
-call_foreign config polled c d lid (DestroyLink (negsuc n)) acts held mine ne = tt
+call_foreign config polled c d lid (OnLink (negsuc n) call) acts held mine ne = tt
 call_foreign config polled c d lid (CreateIntrChan host_addr host_port prog_num prog_vers prog_family) acts held mine ne =
     fault_or_waits config polled c d (CreateIntrChan host_addr host_port prog_num prog_vers prog_family) acts
     (channel_fault (has_channel d acts) host_addr host_port prog_family) ne
 call_foreign config polled c d lid DestroyIntrChan acts held mine ne =
     elim (cases_Bool (has_channel d acts)) [ inl e ↦ rw e (ne, tt) | inr e ↦ rw e tt ]
-call_foreign config polled c d lid (DeviceAbort named) acts held mine ne = elim (cases_Bool (names_another d (Some named) acts)) [
+call_foreign config polled c d lid (OnLink (pos n) DeviceAbort) acts held mine ne = elim (cases_Bool (is_of d (owner n (link_acts acts)))) [
   | inl e ↦ rw e tt
   | inr e ↦ rw e tt
 ]
-call_foreign config polled c d lid arguments acts held mine ne = minds_lock config polled c d lid arguments acts refl held mine ne
+call_foreign config polled c d lid (OnLink named call) acts held mine ne = minds_lock config polled c d lid named call acts refl held mine ne

@@ -5,7 +5,7 @@ use Rattle.sv_vxi.specs.declared.error_code.ErrorCode.{ErrorCode}
 use Rattle.sv_vxi.specs.declared.error_code.ErrorCode.TheVariants.{InvalidLink, ParameterError, NotAccessible, OutOfResources}
 use Rattle.sv_vxi.specs.declared.error_code.ErrorCode.TheVariants.{Locked as DeviceLocked}
 use Rattle.sv_vxi.specs.declared.arguments.LockWait.{LockWait}
-use Rattle.sv_vxi.specs.Arguments.{Arguments, CreateLink, CreateIntrChan, DestroyIntrChan, DeviceWrite, DeviceRead, link, lock_wait, io_timeout, is_create_link}
+use Rattle.sv_vxi.specs.Arguments.{LinkCall, DeviceAbort, DeviceWrite, DeviceRead, Generic, DeviceLock, DeviceUnlock, DeviceEnableSrq, DeviceDocmd, DestroyLink, Arguments, CreateLink, OnLink, CreateIntrChan, DestroyIntrChan, link, lock_wait, is_create_link}
 use Rattle.sv_links.specs.declared.waiting.Entry.{Entry}
 use Rattle.sv_links.specs.declared.waiting.Wait.{Wait}
 use Rattle.sv_links.specs.declared.waiting.Wait.TheVariants.{Lock, Input, Response, Dial}
@@ -13,17 +13,19 @@ use Rattle.sv_links.specs.Links.{holder, is_locked_out, is_this, lids_left}
 use Rattle.sv_links.specs.Waiting.{Entered, Left, creating, waits, link as link_of_wait, is_lock}
 use Rattle.sv_links.specs.Queue.{IsEntry, creations, without, rank_of}
 use Rattle.sv_history.specs.declared.event.Config.{Config}
-use Rattle.sv_history.specs.Act.{DeviceAct, Waited, link_acts, wait_acts}
-use Rattle.sv_history.specs.CoreCall.{lid_of, is_too_long}
+use Rattle.sv_history.specs.Act.{DeviceAct, Waited, link_acts, wait_acts, instrument_acts, exchange_acts}
+use Rattle.sv_history.specs.CallOutcome.{only}
+use Rattle.sv_history.specs.CoreCall.{lid_of, is_too_long, failure}
 use Rattle.sv_history.specs.Interrupts.{channel_fault, dialing, has_channel}
-use Rattle.sv_history.specs.CoreChannel.{make_link}
-use Rattle.sv_history.specs.Admission.{Stop, Fails, Awaits, names_another, is_kept_out, lock_stop, device_wait, may_make_more, channel_stop, device_stop, own_stop, stop_of, admitted}
+use Rattle.sv_history.specs.CoreChannel.{owns, make_link, link_call, own_call}
+use Rattle.sv_history.specs.Admission.{Stop, Fails, Awaits, lock_stop, device_wait, may_make_more, channel_stop, call_stop, stop_of, admitted}
 use Rattle.sv_history.specs.AbortChannel.{waits_with}
 use Rattle.sv_history.specs.History.{wants_memory}
 use Rattle.sv_server.specs.Device.Representation.{Device, IsDevice, HasPlace}
 use Rattle.sv_server.specs.Device.Inside.Outcome.{IsGranted, MayMake, Admits, AdmitsAt}
 use Rattle.sv_server.specs.declared.device.call_outcome.CallOutcome.{CallOutcome as Outcome}
-use Rattle.sv_history.specs.Refusing.{takes_memory}
+use Rattle.sv_exchange.specs.Exchange.{has_ended}
+use Rattle.sv_instrument.specs.Step.{is_answerable}
 
 pub both_true : (a b : Bool) → (a && b) ≡ true → (a ≡ true) × (b ≡ true)
 both_true true true e = (refl, refl)
@@ -77,18 +79,6 @@ granted_start c _ kept acts free place = tt
 
 -- ---- what a call waits for
 
--- one that has to wait names no link of another connection
-stop_named : (other : Bool) (rest : Option Stop) (wait : Wait) (until : Option ℕ)
-    → cond other (Some (Fails InvalidLink)) rest ≡ Some (Awaits wait until) → other ≡ false
-stop_named true rest wait until e = absurd cc
-stop_named false rest wait until e = refl
-
-named_some : (c : ℕ) (named : Option ℤ) (acts : List DeviceAct) → is_none named ≡ false → names_another c named acts ≡ false
-    → is_none (lid_of named) ≡ false
-named_some c None acts some own = absurd cc
-named_some c (Some (pos lid)) acts some own = refl
-named_some c (Some (negsuc n)) acts some own = absurd cc
-
 channel_waits : (fault : Option ErrorCode) (wait : Wait) (until : Option ℕ) → channel_stop fault ≡ Awaits wait until
     → (fault ≡ None) × (wait ≡ Dial)
 channel_waits (Some error) wait until e = absurd cc
@@ -97,32 +87,21 @@ channel_waits None wait until e = (refl, cc)
 some_stop : (a b : Stop) → Some a ≡ Some b → a ≡ b
 some_stop a b e = cc
 
--- where it waits for the lock and isn't a create_link, it names a link
-names_link : (c : ℕ) (arguments : Arguments) (acts : List DeviceAct) (until : Option ℕ) → stop_of c arguments acts
-    ≡ Some (Awaits Lock until)
-    → is_create_link arguments ≡ false → is_none (link arguments) ≡ false
-names_link c (CreateLink client_id lock_device lock_timeout device) acts until e other = absurd cc
-names_link c (CreateIntrChan host_addr host_port prog_num prog_vers prog_family) acts until e other =
-    absurd (let z : Lock ≡ Dial = (channel_waits _ Lock until (some_stop _ _ e)).1 in cc)
-names_link c DestroyIntrChan acts until e other = absurd (let z : None ≡ Some (Awaits Lock until) = e in cc)
-names_link c _ acts until e other = refl
-
 lock_both : (wait : Wait) (b : Bool) → (is_lock (Some wait) && b) ≡ true → (wait ≡ Lock) × (b ≡ true)
 lock_both Lock b e = (refl, e)
 lock_both _ b e = absurd cc
 
--- so one that waits for the lock and names none is a create_link, and may make a link
+-- so one that waits for the lock and names no link is a create_link, and may make a link
 pub lock_place : (c : ℕ) (arguments : Arguments) (acts : List DeviceAct) (wait : Wait) (until : Option ℕ)
     → stop_of c arguments acts ≡ Some (Awaits wait until) → (is_lock (Some wait) && is_none (lid_of (link arguments))) ≡ true
     → (is_create_link arguments ≡ true) × (may_make_more acts ≡ true)
 lock_place c (CreateLink client_id lock_device lock_timeout device) acts wait until e both =
     (refl, (link_waits _ (may_make_more acts) lock_device _ lock_timeout wait until e).0)
-lock_place c arguments acts wait until e both =
-    let (is, none) = lock_both wait _ both in
-    let at : stop_of c arguments acts ≡ Some (Awaits Lock until) = e ∙ ap (λ (w : Wait). Some (Awaits w until)) is in
-    let some = named_some c (link arguments) acts (names_link c arguments acts until at refl)
-    (stop_named (names_another c (link arguments) acts) _ Lock until at) in
-    absurd (let z : true ≡ false = sym none ∙ some in cc)
+lock_place c (OnLink (pos n) call) acts wait until e both = absurd (let z : false ≡ true = (lock_both wait false both).1 in cc)
+lock_place c (OnLink (negsuc n) call) acts wait until e both = absurd cc
+lock_place c (CreateIntrChan host_addr host_port prog_num prog_vers prog_family) acts wait until e both =
+    absurd (let z : Lock ≡ Dial = sym (lock_both wait _ both).0 ∙ (channel_waits _ wait until (some_stop _ _ e)).1 in cc)
+lock_place c DestroyIntrChan acts wait until e both = absurd cc
 
 -- and a create_link waits for the lock as such
 pub link_lock : (c : ℕ) (arguments : Arguments) (acts : List DeviceAct) (wait : Wait) (until : Option ℕ)
@@ -141,32 +120,37 @@ no_channel false host_addr host_port prog_family e = refl
 same_wait : (a b : Wait) (x y : Option ℕ) → Awaits a x ≡ Awaits b y → a ≡ b
 same_wait a b x y e = cc
 
-lock_never : (lock : Option LockWait) (until : Option ℕ) → lock_stop lock ≡ Awaits Dial until → ⊥
+lock_never : (lock : Option LockWait) (until : Option ℕ) → option_map lock_stop lock ≡ Some (Awaits Dial until) → ⊥
 lock_never None until e = cc
 lock_never (Some wait) until e = by wait.waits e
   where
-    by : (waits : Bool) → cond waits (Awaits Lock (Some wait.timeout)) (Fails DeviceLocked) ≡ Awaits Dial until → ⊥
+    by : (waits : Bool) → Some (cond waits (Awaits Lock (Some wait.timeout)) (Fails DeviceLocked)) ≡ Some (Awaits Dial until) → ⊥
     by true e = cc
     by false e = cc
 
-dial_never : (other long out : Bool) (lock : Option LockWait) (wait : Option Wait) (timeout until : Option ℕ) → (wait ≡ Some Dial → ⊥)
-    → cond other (Some (Fails InvalidLink)) (cond long (Some (Fails ParameterError))
-    (cond out (Some (lock_stop lock)) (option_map (λ wait. Awaits wait timeout) wait))) ≡ Some (Awaits Dial until) → ⊥
-dial_never true long out lock wait timeout until never e = absurd cc
-dial_never false true out lock wait timeout until never e = absurd cc
-dial_never false false true lock wait timeout until never e = lock_never lock until (some_stop _ _ e)
-dial_never false false false lock None timeout until never e = absurd cc
-dial_never false false false lock (Some wait) timeout until never e =
-    never (ap (λ (w : Wait). Some w) (same_wait wait Dial timeout until (some_stop _ _ e)))
+device_never : (call : LinkCall) (acts : List DeviceAct) (until : Option ℕ)
+    → option_map (λ (wait : Wait × ℕ). Awaits wait.0 (Some wait.1)) (device_wait call acts) ≡ Some (Awaits Dial until) → ⊥
+device_never (DeviceWrite timeout lock_timeout flags bytes) acts until e = by (has_ended (exchange_acts acts)) e
+  where
+    by : (b : Bool) → option_map (λ (wait : Wait × ℕ). Awaits wait.0 (Some wait.1)) (cond b (Some (Input, timeout)) None)
+        ≡ Some (Awaits Dial until) → ⊥
+    by true e = cc
+    by false e = cc
+device_never (DeviceRead request_size timeout lock_timeout flags term_char) acts until e = by (is_answerable (instrument_acts acts)) e
+  where
+    by : (b : Bool) → option_map (λ (wait : Wait × ℕ). Awaits wait.0 (Some wait.1)) (cond b None (Some (Response, timeout)))
+        ≡ Some (Awaits Dial until) → ⊥
+    by true e = cc
+    by false e = cc
+device_never _ acts until e = absurd cc
 
-one_of : (b : Bool) (a c : Option Wait) → (a ≡ Some Dial → ⊥) → (c ≡ Some Dial → ⊥) → cond b a c ≡ Some Dial → ⊥
-one_of true a c never other e = never e
-one_of false a c never other e = other e
-
-not_dial : (arguments : Arguments) (acts : List DeviceAct) → device_wait arguments acts ≡ Some Dial → ⊥
-not_dial (DeviceWrite lid timeout lock_timeout flags bytes) acts e = one_of _ (Some Input) None (λ z. cc) (λ z. cc) e
-not_dial (DeviceRead lid request_size timeout lock_timeout flags term_char) acts e = one_of _ None (Some Response) (λ z. cc) (λ z. cc) e
-not_dial _ acts e = absurd (let z : None ≡ Some Dial = e in cc)
+dial_never : (own long out : Bool) (lock : Option LockWait) (device : Option Stop) (until : Option ℕ) → (device ≡ Some (Awaits Dial until) → ⊥)
+    → cond (not own) (Some (Fails InvalidLink)) (cond long (Some (Fails ParameterError))
+    (cond out (option_map lock_stop lock) device)) ≡ Some (Awaits Dial until) → ⊥
+dial_never false long out lock device until never e = cc
+dial_never true true out lock device until never e = cc
+dial_never true false true lock device until never e = lock_never lock until e
+dial_never true false false lock device until never e = never e
 
 pub dials : (c : ℕ) (arguments : Arguments) (acts : List DeviceAct) (until : Option ℕ) → stop_of c arguments acts ≡ Some (Awaits Dial until)
     → (has_channel c acts ≡ false) × (is_create_link arguments ≡ false)
@@ -174,16 +158,26 @@ dials c (CreateLink client_id lock_device lock_timeout device) acts until e =
     absurd (let z : Dial ≡ Lock = (link_waits _ (may_make_more acts) lock_device _ lock_timeout Dial until e).1 in cc)
 dials c (CreateIntrChan host_addr host_port prog_num prog_vers prog_family) acts until e =
     (no_channel (has_channel c acts) host_addr host_port prog_family (channel_waits _ Dial until (some_stop _ _ e)).0, refl)
-dials c arguments acts until e = absurd (dial_never (names_another c (link arguments) acts) (is_too_long arguments)
-    (is_kept_out arguments acts) (lock_wait arguments) (device_wait arguments acts) (io_timeout arguments) until
-    (not_dial arguments acts) e)
+dials c (OnLink lid call) acts until e = absurd (dial_never (owns c (lid_of (Some lid)) acts) (is_too_long call) _ (lock_wait call)
+    (option_map (λ (wait : Wait × ℕ). Awaits wait.0 (Some wait.1)) (device_wait call acts)) until (device_never call acts until) e)
+dials c DestroyIntrChan acts until e = absurd cc
 
--- a call that is none of these is stopped by the device alone
-pub own_device : (c : ℕ) (arguments : Arguments) (acts : List DeviceAct) → takes_memory arguments ≡ false
-    → own_stop c arguments acts ≡ device_stop arguments acts
-own_device c (CreateLink client_id lock_device lock_timeout device) acts e = absurd cc
-own_device c (CreateIntrChan host_addr host_port prog_num prog_vers prog_family) acts e = absurd cc
-own_device c _ acts e = refl
+-- ---- a call on a link
+
+some_number : (a b : ℕ) → Some a ≡ Some b → a ≡ b
+some_number a b e = cc
+
+-- one whose link has a number is done with it
+pub own_numbered : (config : Config) (polled c n : ℕ) (lid : ℤ) (call : LinkCall) (acts : List DeviceAct) → Some n ≡ lid_of (Some lid)
+    → own_call config polled c (OnLink lid call) acts ≡ link_call polled c n call acts
+own_numbered config polled c n (pos m) call acts e = ap (λ (k : ℕ). link_call polled c k call acts) (sym (some_number n m e))
+own_numbered config polled c n (negsuc m) call acts e = absurd cc
+
+-- and one whose link has none fails
+pub own_nameless : (config : Config) (polled c : ℕ) (lid : ℤ) (call : LinkCall) (acts : List DeviceAct) → None ≡ lid_of (Some lid)
+    → own_call config polled c (OnLink lid call) acts ≡ only (failure (OnLink lid call) InvalidLink)
+own_nameless config polled c (pos m) call acts e = absurd cc
+own_nameless config polled c (negsuc m) call acts e = refl
 
 -- a call begins as what stops it says
 pub admits_as : (stop : Option Stop) {E : Type 0} (result : Result Outcome E) (c : ℕ) (arguments : Arguments) (old new : Device)

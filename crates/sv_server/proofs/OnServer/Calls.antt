@@ -50,7 +50,7 @@ left_concludes config c xid acts before what connection device (mine, all) =
     (mine, rw (append_assoc what.adds (Waited (Left c) ∷ []) before) all)
 
 -- a call that resumed
-resumed_concludes : (next : Option Wait) (outcome : Outcome) (device : Device) (config : Config) (polled c xid : ℕ)
+resumed_concludes : (next : Option (Wait × ℕ)) (outcome : Outcome) (device : Device) (config : Config) (polled c xid : ℕ)
     (arguments : Arguments) (acts : List ConnAct) (before : List DeviceAct) (connection : Connection) (new : Device)
     → ResumedAs next outcome device config polled c arguments before
     → ((log : List DeviceAct) (effect : Effect) → CallEndsAs outcome xid device config log effect
@@ -64,7 +64,7 @@ resumed_concludes None outcome device config polled c xid arguments acts before 
     left_concludes config c xid acts before what connection new (ends log _ (outcome_ends outcome xid device config log what so))
 
 -- it waits no more, or anew
-waits_on : (next : Option Wait) (outcome : Outcome) (device : Device) (config : Config) (polled c xid : ℕ) (call : CoreCall)
+waits_on : (next : Option (Wait × ℕ)) (outcome : Outcome) (device : Device) (config : Config) (polled c xid : ℕ) (call : CoreCall)
     (before : List DeviceAct) (old new : List Entry)
     → ResumedAs next outcome device config polled c call.arguments before → Resumes outcome c (is_create_link call.arguments) old new
     → WaitsOn (call_effect xid (continued config polled c call.arguments next before)) c (Some call) old new

@@ -1,17 +1,18 @@
 //! What stands in front of a call of the core channel (VXI-11 revision 1.0, B.4.4 and B.6):
 //! its link, the lock, and what it waits for.
 
-ghost use Rattle.std.specs.Prelude.{◌≡◌, ◌<◌, ◌&&◌, ℕ, List, ◌∷◌, Some, None, option_map, is_none, IfSome, OnOk, OnErr, Option, true, false, Bool, if◌then◌else◌};
-ghost use Rattle.sv_vxi.specs.Arguments.{is_create_link as makes_link};
-ghost use Rattle.sv_vxi.specs.Reading.{plain_arguments};
+ghost use Rattle.std.specs.Prelude.{◌≡◌, ◌<◌, ◌&&◌, ℕ, List, ◌∷◌, Some, None, option_map, is_none, is_some, IfSome, OnOk, OnErr, Option, true, false, Bool, if◌then◌else◌};
+ghost use Rattle.sv_vxi.specs.Arguments.{is_create_link as makes_link, lock_wait};
+ghost use Rattle.sv_vxi.specs.Reading.{plain_call, plain_arguments};
+ghost use Rattle.sv_links.specs.Links.{holder, is_locked_out as is_out};
 ghost use Rattle.sv_links.specs.Waiting.{Entered, is_lock};
 ghost use Rattle.sv_links.specs.Queue.{rank_of};
 ghost use Rattle.sv_exchange.specs.Exchange.{has_ended};
 ghost use Rattle.sv_instrument.specs.Step.{is_answerable};
 ghost use Rattle.sv_history.specs.declared.event.Config.{Config as Configured};
-ghost use Rattle.sv_history.specs.Act.{DeviceAct, Waited, instrument_acts, exchange_acts};
+ghost use Rattle.sv_history.specs.Act.{DeviceAct, Waited, link_acts, instrument_acts, exchange_acts};
 ghost use Rattle.sv_history.specs.Interrupts.{is_dial};
-ghost use Rattle.sv_history.specs.Admission.{names_another, is_kept_out, lock_stop as lock_stop_for, device_wait, may_make_more as may_make, link_stop as link_stop_for, channel_stop as channel_stop_for, device_stop as device_stop_for, own_stop as own_stop_for, stop_of, deadline as deadline_for, Awaits};
+ghost use Rattle.sv_history.specs.Admission.{lock_stop as lock_stop_for, device_wait, may_make_more as may_make, link_stop as link_stop_for, channel_stop as channel_stop_for, call_stop, stop_of, deadline as deadline_for, Awaits};
 ghost use Rattle.sv_server.specs.Device.Representation.{IsDevice, HasPlace};
 ghost use Rattle.sv_server.specs.Device.Inside.Outcome.{plain_stop, IsBehind, Admits, AdmitsAt};
 
@@ -23,7 +24,7 @@ use crate::device::error_results::failure;
 use crate::device::interrupts::channel_fault;
 use std::alloc::{AllocError, Allocator};
 use sv_links::{Entry, MAX_LINKS, Wait, is_locked_out};
-use sv_vxi::{Args, ErrorCode, LockWait};
+use sv_vxi::{Args, ErrorCode, LinkCall};
 
 /// How many links may live or be waited for.
 const MOST_LINKS: u8 = MAX_LINKS as u8;
@@ -42,20 +43,21 @@ pub enum Stop {
     },
 }
 
-/// What the lock of another link makes of a call that minds it.
-fn lock_stop(lock_wait: Option<LockWait>) -> Stop
-    ensures { plain_stop result ≡ lock_stop_for lock_wait }
+/// What the lock of another link makes of a call; `None` if it doesn't mind it.
+fn lock_stop(call: &LinkCall<'_>) -> Option<Stop>
+    ensures { option_map plain_stop result
+        ≡ option_map lock_stop_for (lock_wait (plain_call call.now)) }
 {
-    match lock_wait {
+    match call.lock_wait() {
         Some(wait) => if wait.waits {
-            Stop::Awaits {
+            Some(Stop::Awaits {
                 wait: Wait::Lock,
                 timeout: Some(wait.timeout),
-            }
+            })
         } else {
-            Stop::Fails(ErrorCode::Locked)
+            Some(Stop::Fails(ErrorCode::Locked))
         },
-        None => Stop::Fails(ErrorCode::Locked),
+        None => None,
     }
 }
 
@@ -73,84 +75,62 @@ fn channel_stop(fault: Option<ErrorCode>) -> Stop
 }
 
 impl<A: Allocator> Device<A> {
-    /// Whether a call names a link that isn't one of its connection.
-    fn names_another(&self, conn: Conn, named: Option<i32>) -> bool
+    /// Whether another link than this holds the lock, and a call minds it.
+    fn is_kept_out(&self, lid: Option<u32>, call: &LinkCall<'_>) -> bool
         ensures { (config : Configured) (acts : List DeviceAct) → IsDevice self.now config acts
-            → result ≡ names_another conn.number named acts }
+            → result ≡ (is_some (lock_wait (plain_call call.now))
+            && is_out (holder (link_acts acts)) lid) }
     {
-        match named {
-            Some(_) => !self.owns(conn, lid_of(named)),
+        match call.lock_wait() {
+            Some(_) => is_locked_out(self.links.holder(), lid),
             None => false,
         }
     }
 
-    /// Whether another link holds the lock, and a call minds it.
-    fn is_kept_out(&self, args: &Args<'_>) -> bool
-        ensures { (config : Configured) (acts : List DeviceAct) → IsDevice self.now config acts
-            → result ≡ is_kept_out (plain_arguments args.now) acts }
-    {
-        match args.lock_wait() {
-            Some(_) => is_locked_out(self.links.holder(), lid_of(args.link())),
-            None => false,
-        }
-    }
-
-    /// What a call waits for that isn't kept out: a write until no ended message waits to be
-    /// finished, a read until there is something to answer.
-    pub(super) fn device_wait(&self, args: &Args<'_>) -> Option<Wait>
+    /// What a call waits for that isn't kept out, and how long, in milliseconds: a write until no
+    /// ended message waits to be finished, a read until there is something to answer.
+    pub(super) fn device_wait(&self, call: &LinkCall<'_>) -> Option<(Wait, u32)>
         ensures answer { (config : Configured) (acts : List DeviceAct)
             → IsDevice self.now config acts
-            → result ≡ device_wait (plain_arguments args.now) acts }
-        ensures measure { IfSome result (λ wait. rank_of wait ≡ 1) }
-        ensures plain { IfSome result (λ wait. is_dial (Some wait) ≡ false) }
-        ensures other { IfSome result (λ wait. makes_link (plain_arguments args.now) ≡ false) }
+            → result ≡ device_wait (plain_call call.now) acts }
+        ensures measure { IfSome result (λ wait. rank_of wait.0 ≡ 1) }
+        ensures plain { IfSome result (λ wait. is_dial (Some wait.0) ≡ false) }
     {
-        match *args {
-            Args::DeviceWrite { .. } => self.input_wait(),
-            Args::DeviceRead { .. } => self.response_wait(),
-            Args::DeviceAbort { .. }
-            | Args::CreateLink { .. }
-            | Args::DeviceReadstb(_)
-            | Args::DeviceTrigger(_)
-            | Args::DeviceClear(_)
-            | Args::DeviceRemote(_)
-            | Args::DeviceLocal(_)
-            | Args::DeviceLock { .. }
-            | Args::DeviceUnlock { .. }
-            | Args::DeviceEnableSrq { .. }
-            | Args::DeviceDocmd { .. }
-            | Args::DestroyLink { .. }
-            | Args::CreateIntrChan { .. }
-            | Args::DestroyIntrChan => None,
+        match *call {
+            LinkCall::DeviceWrite { io_timeout, .. } => self.input_wait(io_timeout),
+            LinkCall::DeviceRead { io_timeout, .. } => self.response_wait(io_timeout),
+            _ => None,
         }
     }
 
     /// What a write waits for.
-    fn input_wait(&self) -> Option<Wait>
+    fn input_wait(&self, timeout: u32) -> Option<(Wait, u32)>
         ensures answer { (config : Configured) (acts : List DeviceAct)
             → IsDevice self.now config acts
-            → result ≡ (if has_ended (exchange_acts acts) then Some Wait.Input else None) }
-        ensures measure { IfSome result (λ wait. rank_of wait ≡ 1) }
-        ensures plain { IfSome result (λ wait. is_dial (Some wait) ≡ false) }
+            → result ≡ (if has_ended (exchange_acts acts)
+            then Some (Wait.Input, timeout) else None) }
+        ensures measure { IfSome result (λ wait. rank_of wait.0 ≡ 1) }
+        ensures plain { IfSome result (λ wait. is_dial (Some wait.0) ≡ false) }
     {
         if self.instrument.can_write() {
             return None;
         }
-        Some(Wait::Input)
+        Some((Wait::Input, timeout))
     }
 
     /// What a read waits for.
-    fn response_wait(&self) -> Option<Wait>
+    fn response_wait(&self, timeout: u32) -> Option<(Wait, u32)>
         ensures answer { (config : Configured) (acts : List DeviceAct)
             → IsDevice self.now config acts
-            → result ≡ (if is_answerable (instrument_acts acts) then None else Some Wait.Response) }
-        ensures measure { IfSome result (λ wait. rank_of wait ≡ 1) }
-        ensures plain { IfSome result (λ wait. is_dial (Some wait) ≡ false) }
+            → result ≡ (if is_answerable (instrument_acts acts)
+            then None else Some (Wait.Response, timeout)) }
+        ensures measure { IfSome result (λ wait. rank_of wait.0 ≡ 1) }
+        ensures plain { IfSome result (λ wait. is_dial (Some wait.0) ≡ false) }
     {
         if self.instrument.can_read() {
             return None;
         }
-        Some(Wait::Response)
+        Some((Wait::Response, timeout))
     }
 
     /// Whether a link more may be made, with those for which create_links wait.
@@ -183,24 +163,43 @@ impl<A: Allocator> Device<A> {
     }
 
     /// What stops a call that has to wait for the device.
-    fn device_stop(&self, args: &Args<'_>) -> Option<Stop>
+    fn device_stop(&self, call: &LinkCall<'_>) -> Option<Stop>
         ensures { (config : Configured) (acts : List DeviceAct) → IsDevice self.now config acts
-            → option_map plain_stop result ≡ device_stop_for (plain_arguments args.now) acts }
+            → option_map plain_stop result ≡ option_map (λ (wait : Wait × ℕ). Awaits wait.0 (Some wait.1))
+            (device_wait (plain_call call.now) acts) }
     {
-        match self.device_wait(args) {
-            Some(wait) => Some(Stop::Awaits {
+        match self.device_wait(call) {
+            Some((wait, timeout)) => Some(Stop::Awaits {
                 wait,
-                timeout: args.io_timeout(),
+                timeout: Some(timeout),
             }),
             None => None,
         }
     }
 
-    /// What stops a call by what it is.
-    fn own_stop(&self, conn: Conn, args: &Args<'_>) -> Option<Stop>
+    /// What stops a call on a link: the link is looked at first, then how much a write brings, then
+    /// the lock, and then what it waits for.
+    fn call_stop(&self, conn: Conn, lid: Option<u32>, call: &LinkCall<'_>) -> Option<Stop>
         ensures { (config : Configured) (acts : List DeviceAct) → IsDevice self.now config acts
             → option_map plain_stop result
-            ≡ own_stop_for conn.number (plain_arguments args.now) acts }
+            ≡ call_stop conn.number lid (plain_call call.now) acts }
+    {
+        if !self.owns(conn, lid) {
+            return Some(Stop::Fails(ErrorCode::InvalidLink));
+        }
+        if is_too_long(call) {
+            return Some(Stop::Fails(ErrorCode::ParameterError));
+        }
+        if self.is_kept_out(lid, call) {
+            return lock_stop(call);
+        }
+        self.device_stop(call)
+    }
+
+    /// What stops a call by what it is.
+    fn stop(&self, conn: Conn, args: &Args<'_>) -> Option<Stop>
+        ensures { (config : Configured) (acts : List DeviceAct) → IsDevice self.now config acts
+            → option_map plain_stop result ≡ stop_of conn.number (plain_arguments args.now) acts }
     {
         match *args {
             Args::CreateLink {
@@ -209,6 +208,7 @@ impl<A: Allocator> Device<A> {
                 device,
                 ..
             } => self.link_stop(lock_device, lock_timeout, device),
+            Args::OnLink { lid, call } => self.call_stop(conn, lid_of(Some(lid)), &call),
             Args::CreateIntrChan {
                 host_addr,
                 host_port,
@@ -220,39 +220,8 @@ impl<A: Allocator> Device<A> {
                 host_port,
                 prog_family,
             ))),
-            Args::DeviceAbort { .. }
-            | Args::DeviceWrite { .. }
-            | Args::DeviceRead { .. }
-            | Args::DeviceReadstb(_)
-            | Args::DeviceTrigger(_)
-            | Args::DeviceClear(_)
-            | Args::DeviceRemote(_)
-            | Args::DeviceLocal(_)
-            | Args::DeviceLock { .. }
-            | Args::DeviceUnlock { .. }
-            | Args::DeviceEnableSrq { .. }
-            | Args::DeviceDocmd { .. }
-            | Args::DestroyLink { .. }
-            | Args::DestroyIntrChan => self.device_stop(args),
+            Args::DestroyIntrChan => None,
         }
-    }
-
-    /// What stops a call: the link that it names is looked at first, then how much a write brings,
-    /// then the lock.
-    fn stop(&self, conn: Conn, args: &Args<'_>) -> Option<Stop>
-        ensures { (config : Configured) (acts : List DeviceAct) → IsDevice self.now config acts
-            → option_map plain_stop result ≡ stop_of conn.number (plain_arguments args.now) acts }
-    {
-        if self.names_another(conn, args.link()) {
-            return Some(Stop::Fails(ErrorCode::InvalidLink));
-        }
-        if is_too_long(args) {
-            return Some(Stop::Fails(ErrorCode::ParameterError));
-        }
-        if self.is_kept_out(args) {
-            return Some(lock_stop(args.lock_wait()));
-        }
-        self.own_stop(conn, args)
     }
 
     /// The clock, so many milliseconds from now.

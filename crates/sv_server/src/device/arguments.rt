@@ -1,12 +1,12 @@
 //! What the arguments of a call say (VXI-11 revision 1.0, section B.6).
 
 ghost use Rattle.std.specs.Prelude.{◌≡◌};
-ghost use Rattle.sv_vxi.specs.Reading.{plain_arguments};
+ghost use Rattle.sv_vxi.specs.Reading.{plain_call};
 ghost use Rattle.sv_history.specs.CoreCall.{lid_of as lid_for, is_too_long as too_long};
 ghost use Rattle.sv_history.specs.CoreChannel.{term_of as term_for};
 
 use sv_exchange::MAX_MESSAGE;
-use sv_vxi::{Args, Flags};
+use sv_vxi::{Flags, LinkCall};
 
 /// The number of the link that is named; none has a negative one.
 pub fn lid_of(named: Option<i32>) -> Option<u32>
@@ -19,10 +19,10 @@ pub fn lid_of(named: Option<i32>) -> Option<u32>
 }
 
 /// Whether a write brings more than may be.
-pub fn is_too_long(args: &Args<'_>) -> bool
-    ensures { result ≡ too_long (plain_arguments args.now) }
+pub fn is_too_long(call: &LinkCall<'_>) -> bool
+    ensures { result ≡ too_long (plain_call call.now) }
 {
-    if let Args::DeviceWrite { bytes, .. } = *args {
+    if let LinkCall::DeviceWrite { bytes, .. } = *call {
         return bytes.len() > MAX_MESSAGE;
     }
     false

@@ -1,7 +1,8 @@
 //! What each call of the core channel does, once it needn't wait (VXI-11 revision 1.0, B.6).
 
 ghost use Rattle.std.specs.Prelude.{◌≡◌, ◌<◌, ◌≤◌, ◌^◌, ℕ, pos, List, [], ◌∷◌, length, map, Some, None, true, false};
-ghost use Rattle.sv_vxi.specs.Reading.{plain_arguments};
+ghost use Rattle.sv_vxi.specs.Arguments.{Generic, OnLink};
+ghost use Rattle.sv_vxi.specs.Reading.{plain_call, plain_arguments};
 ghost use Rattle.sv_vxi.specs.declared.error_code.ErrorCode.TheVariants.{NoError};
 ghost use Rattle.sv_vxi.specs.Results.{Link, Status, Plain, plain_result, data_of};
 ghost use Rattle.sv_layers.specs.Act.{Exchanged, Polled, Purged};
@@ -10,22 +11,22 @@ ghost use Rattle.sv_exchange.specs.ReadGiven.{IsReadOf};
 ghost use Rattle.sv_exchange.specs.Contents.{shown_by};
 ghost use Rattle.sv_instrument.specs.Stimulus.{trigger_acts};
 ghost use Rattle.sv_history.specs.declared.event.Config.{Config as Configured};
-ghost use Rattle.sv_links.specs.Links.{holder, is_locked_out};
+ghost use Rattle.sv_links.specs.Links.{Destroyed, holder, is_locked_out};
 ghost use Rattle.sv_exchange.specs.Limits.{max_message, max_read};
-ghost use Rattle.sv_history.specs.Act.{DeviceAct, Happened, link_acts, instrument_acts, exchange_acts};
+ghost use Rattle.sv_history.specs.Act.{DeviceAct, Linked, Happened, link_acts, instrument_acts, exchange_acts};
 ghost use Rattle.sv_history.specs.CallOutcome.{answered};
 ghost use Rattle.sv_server.specs.Device.Representation.{IsDevice, HasPlace};
-ghost use Rattle.sv_history.specs.CoreChannel.{owns, make_link, destroy_link, device_lock, device_unlock, device_write, device_read, own_call};
+ghost use Rattle.sv_history.specs.CoreChannel.{owns, make_link, device_lock, device_unlock, device_write, device_read, link_call, own_call};
 ghost use Rattle.sv_server.specs.Device.Inside.Outcome.{IsDeviceAt, IsGranted, OutcomeIs, IsBrief};
 
 use crate::conn::Conn;
 use crate::device::Device;
 use crate::device::arguments::{lid_of, term_of};
 use crate::device::call_outcome::CallOutcome;
-use crate::device::error_results::{failure, no_link, nothing_read, plain, written};
+use crate::device::error_results::{call_failure, no_link, nothing_read, plain, written};
 use std::alloc::Allocator;
 use sv_exchange::{MAX_MESSAGE, Read};
-use sv_vxi::{Args, ErrorCode, Flags, VxiResult};
+use sv_vxi::{Args, ErrorCode, Flags, GenericCall, LinkCall, VxiResult};
 
 impl<A: Allocator> Device<A> {
     /// Whether a link is one of this connection.
@@ -102,7 +103,8 @@ impl<A: Allocator> Device<A> {
     /// destroy_link.
     fn destroy_link(&mut self, lid: u32) -> CallOutcome
         ensures ends { (config : Configured) (acts : List DeviceAct) → IsDevice self.old config acts
-            → OutcomeIs result self.new config acts (destroy_link (Some lid)) }
+            → OutcomeIs result self.new config acts
+            (answered (Linked (Destroyed lid) ∷ []) (Plain NoError)) }
         ensures short { IsBrief result }
         ensures waiting { self.new.waiting ≡ self.old.waiting }
     {
@@ -114,7 +116,7 @@ impl<A: Allocator> Device<A> {
     /// device_lock: the link gets the lock, unless another has it.
     fn device_lock(&mut self, lid: u32) -> CallOutcome
         ensures ends { (config : Configured) (acts : List DeviceAct) → IsDevice self.old config acts
-            → OutcomeIs result self.new config acts (device_lock (Some lid) acts) }
+            → OutcomeIs result self.new config acts (device_lock lid acts) }
         ensures short { IsBrief result }
         ensures waiting { self.new.waiting ≡ self.old.waiting }
     {
@@ -127,7 +129,7 @@ impl<A: Allocator> Device<A> {
     /// device_unlock: the lock is free, where the link had it.
     fn device_unlock(&mut self, lid: u32) -> CallOutcome
         ensures ends { (config : Configured) (acts : List DeviceAct) → IsDevice self.old config acts
-            → OutcomeIs result self.new config acts (device_unlock (Some lid) acts) }
+            → OutcomeIs result self.new config acts (device_unlock lid acts) }
         ensures short { IsBrief result }
         ensures waiting { self.new.waiting ≡ self.old.waiting }
     {
@@ -239,8 +241,71 @@ impl<A: Allocator> Device<A> {
         CallOutcome::Result(plain(ErrorCode::NoError))
     }
 
-    /// Does a call that needn't wait, with the link that it names. One without a link of its own is
-    /// none that was admitted.
+    /// Does a call on a link that needn't wait.
+    fn link_call(&mut self, conn: Conn, lid: u32, call: &LinkCall<'_>) -> CallOutcome
+        ensures ends { (config : Configured) (polled : ℕ) (acts : List DeviceAct)
+            → IsDeviceAt self.old config polled acts
+            → OutcomeIs result self.new config acts
+            (link_call polled conn.number lid (plain_call call.now) acts) }
+        ensures short { IsBrief result }
+        ensures waiting { self.new.waiting ≡ self.old.waiting }
+    {
+        match *call {
+            LinkCall::DeviceWrite { flags, bytes, .. } => self.device_write(flags, bytes),
+            LinkCall::DeviceRead {
+                request_size,
+                flags,
+                term_char,
+                ..
+            } => self.device_read(request_size, term_of(flags, term_char)),
+            LinkCall::Generic { call, .. } => self.generic_call(call),
+            LinkCall::DeviceLock { .. } => self.device_lock(lid),
+            LinkCall::DeviceUnlock => self.device_unlock(lid),
+            LinkCall::DeviceEnableSrq { enable, handle } => {
+                self.device_enable_srq(conn, lid, enable, handle)
+            }
+            LinkCall::DestroyLink => self.destroy_link(lid),
+            LinkCall::DeviceAbort => CallOutcome::Result(plain(ErrorCode::NotSupported)),
+            LinkCall::DeviceDocmd { .. } => {
+                CallOutcome::Result(call_failure(call, ErrorCode::NotSupported))
+            }
+        }
+    }
+
+    /// Does one of the five calls with Device_GenericParms.
+    fn generic_call(&mut self, call: GenericCall) -> CallOutcome
+        ensures ends { (config : Configured) (polled : ℕ) (acts : List DeviceAct)
+            → IsDeviceAt self.old config polled acts → (c lid flags lock_timeout io_timeout : ℕ)
+            → OutcomeIs result self.new config acts
+            (link_call polled c lid (Generic call flags lock_timeout io_timeout) acts) }
+        ensures short { IsBrief result }
+        ensures waiting { self.new.waiting ≡ self.old.waiting }
+    {
+        match call {
+            GenericCall::Readstb => self.device_readstb(),
+            GenericCall::Trigger => self.device_trigger(),
+            GenericCall::Clear => self.device_clear(),
+            GenericCall::Remote => CallOutcome::Result(plain(ErrorCode::NoError)),
+            GenericCall::Local => CallOutcome::Result(plain(ErrorCode::NoError)),
+        }
+    }
+
+    /// Does a call on the link of this number that needn't wait; a negative number is no link's.
+    fn on_link(&mut self, conn: Conn, lid: i32, call: &LinkCall<'_>) -> CallOutcome
+        ensures ends { (config : Configured) (polled : ℕ) (acts : List DeviceAct)
+            → IsDeviceAt self.old config polled acts
+            → OutcomeIs result self.new config acts
+            (own_call config polled conn.number (OnLink lid (plain_call call.now)) acts) }
+        ensures short { IsBrief result }
+        ensures waiting { self.new.waiting ≡ self.old.waiting }
+    {
+        match lid_of(Some(lid)) {
+            Some(lid) => self.link_call(conn, lid, call),
+            None => CallOutcome::Result(call_failure(call, ErrorCode::InvalidLink)),
+        }
+    }
+
+    /// Does a call that needn't wait.
     pub(super) fn own_call(&mut self, conn: Conn, args: &Args<'_>) -> CallOutcome
         ensures ends { (config : Configured) (polled : ℕ) (acts : List DeviceAct)
             → IsDeviceAt self.old config polled acts
@@ -250,46 +315,11 @@ impl<A: Allocator> Device<A> {
         ensures short { IsBrief result }
         ensures waiting { self.new.waiting ≡ self.old.waiting }
     {
-        match (*args, lid_of(args.link())) {
-            (Args::CreateLink { lock_device, .. }, _) => self.make_link(conn, lock_device),
-            (Args::DeviceWrite { flags, bytes, .. }, _) => self.device_write(flags, bytes),
-            (
-                Args::DeviceRead {
-                    request_size,
-                    flags,
-                    term_char,
-                    ..
-                },
-                _,
-            ) => self.device_read(request_size, term_of(flags, term_char)),
-            (Args::DeviceRemote(_), _) => CallOutcome::Result(plain(ErrorCode::NoError)),
-            (Args::DeviceLocal(_), _) => CallOutcome::Result(plain(ErrorCode::NoError)),
-            (Args::DeviceReadstb(_), _) => self.device_readstb(),
-            (Args::DeviceTrigger(_), _) => self.device_trigger(),
-            (Args::DeviceClear(_), _) => self.device_clear(),
-            (Args::DestroyLink { .. }, Some(lid)) => self.destroy_link(lid),
-            (Args::DeviceLock { .. }, Some(lid)) => self.device_lock(lid),
-            (Args::DeviceUnlock { .. }, Some(lid)) => self.device_unlock(lid),
-            (Args::DeviceEnableSrq { enable, handle, .. }, Some(lid)) => {
-                self.device_enable_srq(conn, lid, enable, handle)
-            }
-            (
-                Args::DestroyLink { .. }
-                | Args::DeviceLock { .. }
-                | Args::DeviceUnlock { .. }
-                | Args::DeviceEnableSrq { .. },
-                None,
-            ) => CallOutcome::Result(plain(ErrorCode::InvalidLink)),
-            (Args::DestroyIntrChan, _) => self.destroy_channel(conn),
-            (Args::DeviceAbort { .. }, _) => {
-                CallOutcome::Result(failure(args, ErrorCode::NotSupported))
-            }
-            (Args::DeviceDocmd { .. }, _) => {
-                CallOutcome::Result(failure(args, ErrorCode::NotSupported))
-            }
-            (Args::CreateIntrChan { .. }, _) => {
-                CallOutcome::Result(failure(args, ErrorCode::NotSupported))
-            }
+        match *args {
+            Args::CreateLink { lock_device, .. } => self.make_link(conn, lock_device),
+            Args::OnLink { lid, call } => self.on_link(conn, lid, &call),
+            Args::DestroyIntrChan => self.destroy_channel(conn),
+            Args::CreateIntrChan { .. } => CallOutcome::Result(plain(ErrorCode::NotSupported)),
         }
     }
 }

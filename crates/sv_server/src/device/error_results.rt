@@ -1,11 +1,12 @@
 //! Results of calls that fail, or that tell little, in the shape of each.
 
-ghost use Rattle.std.specs.Prelude.{◌≡◌, pos, []};
-ghost use Rattle.sv_vxi.specs.Reading.{plain_arguments};
+ghost use Rattle.std.specs.Prelude.{◌≡◌, ℤ, pos, []};
+ghost use Rattle.sv_vxi.specs.Arguments.{OnLink};
+ghost use Rattle.sv_vxi.specs.Reading.{plain_call, plain_arguments};
 ghost use Rattle.sv_vxi.specs.Results.{Link, Size, Plain, plain_result, data_of};
 ghost use Rattle.sv_history.specs.CoreCall.{failure as failed, no_bytes};
 
-use sv_vxi::{Args, ErrorCode, Reason, VxiResult};
+use sv_vxi::{Args, ErrorCode, GenericCall, LinkCall, Reason, VxiResult};
 
 /// The result of a call that fails, in the shape of that call's.
 pub fn failure(args: &Args<'_>, error: ErrorCode) -> VxiResult<'static>
@@ -14,21 +15,26 @@ pub fn failure(args: &Args<'_>, error: ErrorCode) -> VxiResult<'static>
 {
     match *args {
         Args::CreateLink { .. } => no_link(error),
-        Args::DeviceWrite { .. } => written(error, 0),
-        Args::DeviceRead { .. } => nothing_read(error),
-        Args::DeviceReadstb(_) => VxiResult::Status { error, stb: 0 },
-        Args::DeviceDocmd { .. } => VxiResult::Data { error, bytes: &[] },
-        Args::DeviceAbort { .. }
-        | Args::DeviceTrigger(_)
-        | Args::DeviceClear(_)
-        | Args::DeviceRemote(_)
-        | Args::DeviceLocal(_)
-        | Args::DeviceLock { .. }
-        | Args::DeviceUnlock { .. }
-        | Args::DeviceEnableSrq { .. }
-        | Args::DestroyLink { .. }
-        | Args::CreateIntrChan { .. }
-        | Args::DestroyIntrChan => plain(error),
+        Args::OnLink { call, .. } => call_failure(&call, error),
+        Args::CreateIntrChan { .. } | Args::DestroyIntrChan => plain(error),
+    }
+}
+
+/// The same of a call on a link.
+pub fn call_failure(call: &LinkCall<'_>, error: ErrorCode) -> VxiResult<'static>
+    ensures result_is { (lid : ℤ) → plain_result result
+        ≡ failed (OnLink lid (plain_call call.now)) error }
+    ensures short { data_of (plain_result result) ≡ [] }
+{
+    match *call {
+        LinkCall::DeviceWrite { .. } => written(error, 0),
+        LinkCall::DeviceRead { .. } => nothing_read(error),
+        LinkCall::Generic {
+            call: GenericCall::Readstb,
+            ..
+        } => VxiResult::Status { error, stb: 0 },
+        LinkCall::DeviceDocmd { .. } => VxiResult::Data { error, bytes: &[] },
+        _ => plain(error),
     }
 }
 

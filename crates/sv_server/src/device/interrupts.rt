@@ -1,16 +1,17 @@
 //! Interrupt channels, and the links that ask for service requests (VXI-11 revision 1.0, section
 //! B.6: device_enable_srq, create_intr_chan, destroy_intr_chan).
 
-ghost use Rattle.std.specs.Prelude.{◌≡◌, ◌<◌, ◌≤◌, ℕ, List, length, ◌∷◌, Some, None, IfOk, IfSome, OnErr, false, true};
-ghost use Rattle.sv_vxi.specs.declared.error_code.ErrorCode.TheVariants.{NoError};
+ghost use Rattle.std.specs.Prelude.{◌≡◌, ◌<◌, ◌≤◌, ℕ, List, length, ◌∷◌, Some, None, IfOk, IfSome, OnErr, false, true, if◌then◌else◌};
+ghost use Rattle.sv_vxi.specs.declared.error_code.ErrorCode.TheVariants.{NoError, InvalidLink};
 ghost use Rattle.sv_vxi.specs.Results.{Plain};
 ghost use Rattle.sv_links.specs.Waiting.{Left};
 ghost use Rattle.sv_links.specs.Queue.{without};
 ghost use Rattle.sv_links.specs.Channels.{ChannelOpened};
 ghost use Rattle.sv_history.specs.declared.event.Config.{Config as Configured};
 ghost use Rattle.sv_history.specs.Act.{DeviceAct, Waited, Channel, wait_acts};
+ghost use Rattle.sv_history.specs.CallOutcome.{only};
 ghost use Rattle.sv_server.specs.Device.Representation.{IsDevice};
-ghost use Rattle.sv_history.specs.Interrupts.{has_channel as channel_there, enable_srq as enabled_srq, device_enable_srq as done_enable_srq, is_peer as may_call, channel_fault as fault_of, destroy_channel as destroyed_channel, is_dialing, peer_by as asked_peer, end_channel as ended_channel, dialed};
+ghost use Rattle.sv_history.specs.Interrupts.{has_channel as channel_there, enable_srq as enabled_srq, is_peer as may_call, channel_fault as fault_of, destroy_channel as destroyed_channel, is_dialing, peer_by as asked_peer, end_channel as ended_channel, dialed};
 ghost use Rattle.sv_vxi.specs.Reading.{plain_arguments};
 ghost use Rattle.sv_links.specs.Channels.{ChannelAct, ChannelClosed, ChannelTaken, waiting as channel_bytes};
 ghost use Rattle.sv_links.specs.Limits.{max_queued};
@@ -94,8 +95,8 @@ impl<A: Allocator> Device<A> {
     ) -> CallOutcome
         ensures ends { (config : Configured) (acts : List DeviceAct) → IsDevice self.old config acts
             → OutcomeIs result self.new config acts
-            (done_enable_srq conn.number (owns conn.number (Some lid) acts) enable (Some lid)
-            handle.now) }
+            (if owns conn.number (Some lid) acts
+            then enabled_srq conn.number enable lid handle.now else only (Plain InvalidLink)) }
         ensures short { IsBrief result }
         ensures waiting { self.new.waiting ≡ self.old.waiting }
     {

@@ -1,6 +1,6 @@
 //! A call that was suspended goes on, or is given up.
 
-ghost use Rattle.std.specs.Prelude.{◌≡◌, ◌+◌, ◌<◌, ◌≤◌, ℕ, List, None, true, false, ◌∷◌};
+ghost use Rattle.std.specs.Prelude.{◌≡◌, ◌+◌, ◌<◌, ◌≤◌, ℕ, List, Some, None, IfSome, true, false, ◌∷◌};
 ghost use Rattle.sv_vxi.specs.Arguments.{is_create_link as makes_link};
 ghost use Rattle.sv_vxi.specs.Reading.{plain_arguments};
 ghost use Rattle.sv_links.specs.Waiting.{Left, waits};
@@ -9,7 +9,7 @@ ghost use Rattle.sv_history.specs.declared.event.Config.{Config};
 ghost use Rattle.sv_history.specs.Act.{DeviceAct, Waited, wait_acts};
 ghost use Rattle.sv_history.specs.CallOutcome.{only};
 ghost use Rattle.sv_history.specs.CoreCall.{failure as failed};
-ghost use Rattle.sv_history.specs.Admission.{device_wait};
+ghost use Rattle.sv_history.specs.Interrupts.{is_dial};
 ghost use Rattle.sv_history.specs.Resuming.{next_wait};
 ghost use Rattle.sv_server.specs.Device.Representation.{IsDevice};
 ghost use Rattle.sv_server.specs.Device.Inside.Outcome.{IsDeviceAt, MayMake, MayGoOn, GoesOnAs, OutcomeIs, ResumedAs, Resumes, IsBrief, IsNearer, is_able};
@@ -78,6 +78,20 @@ impl<A: Allocator> Device<A> {
         }
     }
 
+    /// What a call waits for next that waited for the lock, and how long.
+    fn next_wait(&self, args: &Args<'_>) -> Option<(Wait, u32)>
+        ensures answer { (config : Config) (acts : List DeviceAct) → IsDevice self.now config acts
+            → result ≡ next_wait Wait.Lock (plain_arguments args.now) acts }
+        ensures measure { IfSome result (λ wait. rank_of wait.0 ≡ 1) }
+        ensures plain { IfSome result (λ wait. is_dial (Some wait.0) ≡ false) }
+        ensures other { IfSome result (λ wait. makes_link (plain_arguments args.now) ≡ false) }
+    {
+        match *args {
+            Args::OnLink { call, .. } => self.device_wait(&call),
+            Args::CreateLink { .. } | Args::CreateIntrChan { .. } | Args::DestroyIntrChan => None,
+        }
+    }
+
     /// A call that waited for the lock.
     fn pass_lock(&mut self, conn: Conn, args: &Args<'_>) -> CallOutcome
         requires { rank (without conn.number self.old.waiting) + 2 ≤ rank self.old.waiting }
@@ -85,15 +99,15 @@ impl<A: Allocator> Device<A> {
             → IsDeviceAt self.old config polled acts
             → (waits conn.number (wait_acts acts) ≡ None → ⊥)
             → MayMake (plain_arguments args.now) conn.number self.old acts
-            → ResumedAs (device_wait (plain_arguments args.now) acts) result self.new config polled
-            conn.number (plain_arguments args.now) acts }
+            → ResumedAs (next_wait Wait.Lock (plain_arguments args.now) acts) result self.new config
+            polled conn.number (plain_arguments args.now) acts }
         ensures short { IsBrief result }
         ensures waiting { Resumes result conn.number (makes_link (plain_arguments args.now))
             self.old.waiting self.new.waiting }
         ensures measure { rank self.new.waiting < rank self.old.waiting }
     {
-        if let Some(wait) = self.device_wait(args) {
-            let deadline = self.deadline(args.io_timeout());
+        if let Some((wait, timeout)) = self.next_wait(args) {
+            let deadline = self.deadline(Some(timeout));
             self.waiting.again(conn.number, wait, deadline);
             return CallOutcome::Suspended;
         }

@@ -106,7 +106,7 @@ MayMake (CreateLink client_id lock_device lock_timeout device) c kept acts =
 MayMake _ c kept acts = ⊤
 
 -- It waits anew for this; or it is done, once it waits no more.
-abbrev pub ResumedAs : Option Wait → Outcome → Device → Config → ℕ → ℕ → Arguments → List DeviceAct → Type 0
+abbrev pub ResumedAs : Option (Wait × ℕ) → Outcome → Device → Config → ℕ → ℕ → Arguments → List DeviceAct → Type 0
 ResumedAs (Some wait) outcome device config polled c arguments acts =
     OutcomeIs outcome device config acts (continued config polled c arguments (Some wait) acts)
 ResumedAs None outcome device config polled c arguments acts =

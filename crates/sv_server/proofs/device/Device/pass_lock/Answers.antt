@@ -7,7 +7,7 @@ use Rattle.sv_server.proofs.device.Device.pass_lock.Goals as goal
 pub returns-in-Some-clause-resumes : goal.returns-in-Some-clause-resumes
 returns-in-Some-clause-resumes g c = λ config polled acts known waits may.
     let is = rw (← c.self.view_is) at known.0 in
-    rw (← (c.in-Some.ensures.answer config acts known.0), ← c.io_timeout.ensures, ← (c.deadline-deadline.ensures config acts known.0)) (
+    rw (← (c.in-Some.ensures.answer config acts known.0), ← (c.deadline-deadline.ensures config acts known.0)) (
       refl,
       device_again _ c.again.new.self config acts c.args.conn.number c.in-Some.wait c.deadline-deadline.result is
           (c.again.ensures.stands (wait_acts acts) is.4)
