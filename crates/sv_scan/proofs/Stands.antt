@@ -10,14 +10,15 @@ use Rattle.sv_scan.specs.declared.settings.Settings.{Settings}
 use Rattle.sv_scan.specs.declared.acts.ScanAct.{ScanAct}
 use Rattle.sv_scan.specs.declared.acts.ScanAct.TheVariants.{Input, Sample}
 use Rattle.sv_errors.specs.Limits.{is_channel, channel_count}
-use Rattle.sv_scan.specs.Setting.{range, input}
-use Rattle.sv_scan.specs.Scan.{before_init, samples, readings, reading, reading_in, channel_at, list_since}
+use Rattle.std.specs.Option.{option_map_or}
+use Rattle.sv_scan.specs.Setting.{scan_list, range, input}
+use Rattle.sv_scan.specs.Scan.{before_init, samples, readings, reading, reading_in, channel_at}
 use Rattle.sv_scan.specs.Counted.{kept, counts}
 use Rattle.sv_scan.specs.Answered.{refused_by}
 use Rattle.sv_scan.specs.Stands.{Run, Contents, Holds, StandsFor}
 use Rattle.sv_scan.specs.Representation.{contents_of}
 use Rattle.sv_scan.specs.Touched.{IsTouched, nothing}
-use Rattle.sv_scan.specs.Together.{AreDefaults}
+use Rattle.sv_scan.specs.Together.{AreOf}
 use Rattle.sv_scan.proofs.Searches.{length-readings, list_is}
 use Rattle.sv_scan.proofs.Untouched.{IsTouched-all, IsTouched-input}
 
@@ -103,7 +104,7 @@ sampled contents r =
 sampled_is : (contents : Contents) (log : List ScanAct) (r : Run) → contents.run ≡ Some r
     → is_channel (channel_at r.channels (length contents.readings)) ≡ true → Holds contents log → sampled contents r ≡ reading log
 sampled_is contents log r e known is =
-    let channels : list_since (before_init log) ≡ r.channels = list_is log r (sym is.run ∙ e) in
+    let channels : option_map_or scan_list (before_init log) [] ≡ r.channels = list_is log r (sym is.run ∙ e) in
     let many : length contents.readings ≡ samples log = ap length is.readings ∙ length-readings log in
     ap (reading_in contents.range) (is.inputs (channel_at r.channels (length contents.readings)) known)
     ∙ ap (λ (range : ℤ). reading_in range (input (channel_at r.channels (length contents.readings)) log)) is.range
@@ -139,7 +140,7 @@ zeros n place = elim (cases_lt place n) [
 ]
 
 -- no input was given, and each is 0
-pub StandsFor-new : (n : ℕ) (settings : Settings) → AreDefaults settings
+pub StandsFor-new : (n : ℕ) (settings : Settings) → AreOf settings []
     → StandsFor (contents_of (replicate n (pos 0)) settings None [] nothing) []
 StandsFor-new n settings are = record {
   inputs = λ channel known. zeros n (channel - 1);
