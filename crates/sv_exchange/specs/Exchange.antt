@@ -52,11 +52,8 @@ abbrev pub finished : List ExchangeAct → ℕ
 finished acts = length (filter (elim [ Finished ↦ true | _ ↦ false ]) (since drops_text acts))
 
 -- the acts since the current message began: those since a message was finished, or text dropped
-abbrev pub ends_message : List ExchangeAct → Bool
-ends_message = elim [ Finished ∷ acts ↦ true | TextDropped ∷ acts ↦ true | _ ↦ false ]
-
 abbrev pub current : List ExchangeAct → List ExchangeAct
-current acts = since ends_message acts
+current acts = since (elim [ Finished ∷ older ↦ true | TextDropped ∷ older ↦ true | _ ↦ false ]) acts
 
 -- how many units of it were done, whether it was told to be too long, whether its answers were dropped, and which answers it had
 abbrev pub units_done : List ExchangeAct → ℕ

@@ -15,9 +15,7 @@ is_same _ _ = false
 
 -- what an enable starts with, and is preset to
 abbrev pub start : RegisterName → ℕ
-start Operation = 0
-start Questionable = 0
-start Limit = 32767
+start = elim [ Limit ↦ 32767 | _ ↦ 0 ]
 
 -- a mask that is set, without bit 15, where the register is the one that is named
 abbrev pub mask_for : RegisterName → RegisterName → ℕ → Option ℕ
@@ -45,6 +43,4 @@ passes condition name k (act ∷ before) =
 
 -- whether the newest act leaves the event register: it is no `*CLS` and no reading of it
 abbrev pub leaves : RegisterName → List Act → Bool
-leaves name (EventRead other ∷ log) = not (is_same name other)
-leaves name (Cleared ∷ log) = false
-leaves name _ = true
+leaves name = elim [ EventRead other ∷ log ↦ not (is_same name other) | Cleared ∷ log ↦ false | _ ↦ true ]

@@ -104,10 +104,10 @@ acts_with entry acts = Entered entry.conn entry.lid entry.wait entry.deadline �
 
 IsEntry-entered : (entry : Entry) (acts : List WaitAct) (x : Entry) → x.conn ≢ entry.conn → IsEntry acts x
     → IsEntry (acts_with entry acts) x
-IsEntry-entered entry acts x apart h = rw (link, ne_eqb entry.conn x.conn (λ e. apart (sym e))) h
+IsEntry-entered entry acts x apart h = rw (ne_eqb entry.conn x.conn (λ e. apart (sym e))) h
 
 IsEntry-new : (entry : Entry) (acts : List WaitAct) → IsEntry (acts_with entry acts) entry
-IsEntry-new entry acts = rw (link, eq-eqb entry.conn entry.conn refl) (refl, refl, refl)
+IsEntry-new entry acts = rw (eq-eqb entry.conn entry.conn refl) (refl, refl, refl)
 
 arrival-entered : (entry : Entry) (acts : List WaitAct) (x : Entry) → x.conn ≢ entry.conn
     → arrival x.conn (acts_with entry acts) ≡ arrival x.conn acts

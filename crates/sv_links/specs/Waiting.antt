@@ -37,8 +37,11 @@ abbrev pub arrival : ℕ → List WaitAct → ℕ
 arrival c acts = length (newest (enters c) acts)
 
 -- the link that it names
+abbrev link_of : List WaitAct → Option ℕ
+link_of = elim [ Entered conn link wait deadline ∷ acts ↦ link | _ ↦ None ]
+
 abbrev pub link : ℕ → List WaitAct → Option ℕ
-link c acts = elim (newest (enters c) acts) [ Entered conn named wait deadline ∷ before ↦ named | _ ↦ None ]
+link c acts = link_of (newest (enters c) acts)
 
 -- whether it is the lock that is waited for
 abbrev pub is_lock : Option Wait → Bool

@@ -3,7 +3,7 @@ use Rattle.std.proofs.Common.{◌≡◌, ◌≢◌, ℕ, ◌-◌, ◌<◌, ◌�
 use Rattle.std.proofs.lemmas.Bool.{cond_both, cases_lt, eqb-true, eqb-false}
 use Rattle.std.proofs.lemmas.Bool.Decides.{nat_tests}
 use Rattle.std.proofs.lemmas.List.{get_or-set_same, get_or-set_other, get_or-replicate, get_or_past, length-replicate}
-use Rattle.std.specs.Prelude.{Ok, Err, is_none, slice_index_or, slice_set}
+use Rattle.std.specs.Prelude.{Ok, Err, unwrap_or, is_none, slice_index_or, slice_set}
 use Rattle.sv_errors.specs.declared.code.Code.{Code}
 use Rattle.sv_scan.specs.declared.setting.Reading.{Reading}
 use Rattle.sv_scan.specs.declared.settings.Settings.{Settings}
@@ -59,13 +59,13 @@ is_in channel legal = grind (arith, nat_tests)
 -- an input
 input_after : (inputs : List ℤ) (channel other : ℕ) (microvolts before : ℤ) → length inputs ≡ channel_count → is_channel channel ≡ true
     → is_channel other ≡ true → slice_index_or inputs (other - 1) (pos 0) ≡ before
-    → slice_index_or (slice_set inputs (channel - 1) microvolts) (other - 1) (pos 0) ≡ (if channel == other then microvolts else before)
+    → slice_index_or (slice_set inputs (channel - 1) microvolts) (other - 1) (pos 0) ≡ unwrap_or (if channel == other then Some microvolts else None) before
 input_after inputs channel other microvolts before size legal known same =
     let in_range = is_in channel legal in
     let other_in = is_in other known in
     let place : channel - 1 < length inputs = omega arith in
-    cond_both (channel == other) microvolts before
-    (λ (v : ℤ). slice_index_or (slice_set inputs (channel - 1) microvolts) (other - 1) (pos 0) ≡ v)
+    cond_both (channel == other) (Some microvolts) None
+    (λ (v : Option ℤ). slice_index_or (slice_set inputs (channel - 1) microvolts) (other - 1) (pos 0) ≡ unwrap_or v before)
     (λ e. let at : other - 1 ≡ channel - 1 = ap (λ (n : ℕ). n - 1) (sym (eqb-true channel other e)) in
     ap (λ (n : ℕ). slice_index_or (slice_set inputs (channel - 1) microvolts) n (pos 0)) at
     ∙ get_or-set_same inputs (channel - 1) microvolts (pos 0) place)

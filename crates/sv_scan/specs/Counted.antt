@@ -31,8 +31,8 @@ same_source _ _ = false
 -- what a setting is refused with behind these acts
 abbrev pub setting_fault : List ScanAct → Setting → Option Code
 setting_fault log setting =
-    if not (is_possible setting) then Some DataOutOfRange else if is_fixed setting && not
-    (is_idle (state log)) then Some SettingsConflict else None
+    if not (is_possible setting) then Some DataOutOfRange
+    else if is_fixed setting && not (is_idle (state log)) then Some SettingsConflict else None
 
 abbrev pub init_fault : List ScanAct → Option Code
 init_fault log = if is_idle (state log) then None else Some InitIgnored

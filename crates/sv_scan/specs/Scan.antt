@@ -57,10 +57,7 @@ reading log = reading_in (range log) (input (channel_at (option_map_or scan_list
 abbrev pub readings : List ScanAct → List Reading
 readings [] = []
 readings (Sample ∷ log) = readings log ++ reading log ∷ []
-readings (Init ∷ log) = []
-readings (Abort ∷ log) = []
-readings (Reset ∷ log) = []
-readings (_ ∷ log) = readings log
+readings (act ∷ log) = if starts_or_ends (act ∷ log) then [] else readings log
 
 -- the newest of them
 abbrev pub last_reading : List ScanAct → Option Reading

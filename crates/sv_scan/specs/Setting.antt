@@ -22,8 +22,8 @@ monitor = last_set (elim [ Monitor channel ↦ Some channel | _ ↦ None ]) 1
 
 -- a range that was asked for: the least of 1, 10 and 100 V that isn't below it
 abbrev pub least_range : ℤ → ℤ
-least_range wanted = if int_le wanted (pos 1000000) then pos 1000000 else if int_le wanted
-    (pos 10000000) then pos 10000000 else pos 100000000
+least_range wanted =
+    if int_le wanted (pos 1000000) then pos 1000000 else if int_le wanted (pos 10000000) then pos 10000000 else pos 100000000
 
 abbrev pub range : List ScanAct → ℤ
 range = last_set (elim [ Range wanted ↦ Some (least_range wanted) | _ ↦ None ]) (pos 10000000)
@@ -45,9 +45,8 @@ count = last_set (elim [ Count scans ↦ Some scans | _ ↦ None ]) 1
 
 -- the voltage of a channel's input: the last that was given, else 0
 abbrev pub input : ℕ → List ScanAct → ℤ
-input channel [] = pos 0
-input channel (Input given microvolts ∷ log) = if given == channel then microvolts else input channel log
-input channel (_ ∷ log) = input channel log
+input channel =
+    last_given (elim [ Input given microvolts ↦ if given == channel then Some microvolts else None | _ ↦ None ]) (pos 0)
 
 -- whether a setting may have its value
 abbrev pub is_possible : Setting → Bool
