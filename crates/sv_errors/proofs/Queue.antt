@@ -1,14 +1,21 @@
 -- What is queued after one more act: `queued-reported`, `queued-overflowed` and `queued-taken`.
 use Rattle.std.proofs.Common.{◌≡◌, ℕ, suc, ◌+◌, ◌-◌, ◌<◌, ◌≤◌, Bool, true, false, ◌&&◌, cond, List, [], ◌∷◌, ◌++◌, length, take, drop, refl, sym, ap, subst, ◌∙◌, add-one, arith, ◌⊎◌, inl, inr, length-append, length-drop}
-use Rattle.std.specs.Prelude.{map}
+use Rattle.std.specs.Prelude.{map, is_some, slice_get, unwrap_or}
 use Rattle.std.specs.List.{AllByRecursion}
 use Rattle.std.proofs.lemmas.Bool.{and_right, cases_lt, lt-ltb, le-ltb, eq-eqb, ne_eqb}
 use Rattle.std.proofs.lemmas.List.{drop-drop, drop-append-le, drop-map, map_push, take_at, length-map}
 use Rattle.sv_errors.specs.declared.code.Code.{Code}
-use Rattle.sv_errors.specs.declared.code.Code.TheVariants.{QueueOverflow}
+use Rattle.sv_errors.specs.declared.code.Code.TheVariants.{NoError, QueueOverflow}
 use Rattle.sv_errors.specs.declared.error_queue.QueueAct.{QueueAct}
 use Rattle.sv_errors.specs.declared.error_queue.QueueAct.TheVariants.{Report, Take, Clear}
-use Rattle.sv_errors.specs.ErrorQueue.{Counted, left, is_any, admit, take_one, counted, entries, is_full, up_to, reported, is_report, is_overtaken, shown, queued, StandsFor, most}
+use Rattle.sv_errors.specs.ErrorQueue.{Counted, left, admit, take_one, counted, entries, is_full, up_to, reported as newest_report, is_overtaken, shown, queued, StandsFor, most}
+
+-- whether the newest act is a report, and its code
+abbrev is_report : List QueueAct → Bool
+is_report acts = is_some (newest_report acts)
+
+abbrev reported : List QueueAct → Code
+reported acts = unwrap_or (newest_report acts) NoError
 
 -- ---- what is left of the admitted reports
 
@@ -22,7 +29,7 @@ left-admitted before place few room = rw (lt-ltb (length (left before)) most roo
 admit-full : (before : Counted) (place : ℕ) → most ≤ length (left before) → admit before place ≡ before
 admit-full before place full = rw (le-ltb (length (left before)) most full) refl
 
-any_or_none : (places : List ℕ) → (is_any places ≡ true) × (1 ≤ length places) ⊎ (is_any places ≡ false) × (places ≡ [])
+any_or_none : (places : List ℕ) → (is_some (slice_get places 0) ≡ true) × (1 ≤ length places) ⊎ (is_some (slice_get places 0) ≡ false) × (places ≡ [])
 any_or_none [] = inr (refl, refl)
 any_or_none (place ∷ places) = inl (refl, omega arith)
 

@@ -1,6 +1,6 @@
 -- The error queue (SCPI-1999, volume 2, section 21.8): what is queued, found by a search of its acts, which are read from the newest. A
 -- place of the acts is told by how many acts there are up to it.
-use Rattle.std.specs.Prelude.{◌≡◌, ℕ, ◌+◌, ◌-◌, ◌==◌, ◌&&◌, Bool, true, false, List, [], ◌∷◌, ◌++◌, length, map, drop, Option, nat_lt, slice_get, if◌then◌else◌}
+use Rattle.std.specs.Prelude.{◌≡◌, ℕ, ◌+◌, ◌-◌, ◌==◌, ◌&&◌, Bool, true, false, List, [], ◌∷◌, ◌++◌, length, map, drop, Option, Some, None, is_some, unwrap_or, nat_lt, slice_get, if◌then◌else◌}
 use Rattle.sv_errors.specs.declared.code.Code.{Code}
 use Rattle.sv_errors.specs.declared.code.Code.TheVariants.{NoError, QueueOverflow}
 use Rattle.sv_errors.specs.declared.error_queue.QueueAct.{QueueAct}
@@ -19,16 +19,12 @@ pub record Counted : Type 0 where
 abbrev pub left : Counted → List ℕ
 left counted = drop counted.taken counted.admitted
 
-abbrev pub is_any : List ℕ → Bool
-is_any [] = false
-is_any (place ∷ places) = true
-
 -- a report finds room where fewer than the most entries are left; taking from an empty queue takes none
 abbrev pub admit : Counted → ℕ → Counted
 admit before place = if nat_lt (length (left before)) most then record before { admitted = before.admitted ++ place ∷ [] } else before
 
 abbrev pub take_one : Counted → Counted
-take_one before = if is_any (left before) then record before { taken = before.taken + 1 } else before
+take_one before = if is_some (slice_get (left before) 0) then record before { taken = before.taken + 1 } else before
 
 abbrev pub counted : List QueueAct → Counted
 counted [] = record { admitted = []; taken = 0 }
@@ -48,22 +44,18 @@ is_full acts = length (entries acts) == most
 abbrev pub up_to : ℕ → List QueueAct → List QueueAct
 up_to place acts = drop (length acts - place) acts
 
-abbrev pub reported : List QueueAct → Code
-reported (Report code ∷ acts) = code
-reported _ = NoError
-
-abbrev pub is_report : List QueueAct → Bool
-is_report (Report code ∷ acts) = true
-is_report _ = false
+-- what the newest act reports, if it reports anything
+abbrev pub reported : List QueueAct → Option Code
+reported = elim [ Report code ∷ acts ↦ Some code | _ ↦ None ]
 
 -- whether another report came next, and not a taking
 abbrev pub is_overtaken : ℕ → List QueueAct → Bool
-is_overtaken place acts = nat_lt place (length acts) && is_report (up_to (place + 1) acts)
+is_overtaken place acts = nat_lt place (length acts) && is_some (reported (up_to (place + 1) acts))
 
 -- An entry shows its report's code; but the one that made the queue full shows the overflow, once another report came before the next
 -- taking.
 abbrev pub shown : List QueueAct → ℕ → Code
-shown acts place = if is_full (up_to place acts) && is_overtaken place acts then QueueOverflow else reported (up_to place acts)
+shown acts place = if is_full (up_to place acts) && is_overtaken place acts then QueueOverflow else unwrap_or (reported (up_to place acts)) NoError
 
 -- what can be taken, oldest first
 abbrev pub queued : List QueueAct → List Code

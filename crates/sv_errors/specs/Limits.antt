@@ -1,5 +1,5 @@
 -- How far the instrument's numbers reach.
-use Rattle.std.specs.Prelude.{ℕ, ◌*◌, ◌&&◌, Bool, List, length, nat_le}
+use Rattle.std.specs.Prelude.{ℕ, ◌*◌, ℤ, pos, neg_ℤ, int_le, ◌&&◌, Bool, List, length, nat_le}
 use Rattle.std.specs.List.{list_all}
 
 -- how many channels there are; they are numbered from 1
@@ -29,3 +29,7 @@ is_channel_list channels = nat_le 1 (length channels) && (nat_le (length channel
 -- the largest magnitude of a voltage that is given to the instrument, in microvolts: 1,000 V
 abbrev pub most_microvolts : ℕ
 most_microvolts = 1000000000
+
+-- whether a voltage is up to that in magnitude
+abbrev pub is_within : ℤ → Bool
+is_within value = int_le (neg_ℤ (pos most_microvolts)) value && int_le value (pos most_microvolts)

@@ -1,7 +1,7 @@
 -- Program text cut into messages.
 use Rattle.std.proofs.Common.{◌≡◌, ℕ, zero, suc, ◌+◌, ◌==◌, Bool, true, false, not, ◌&&◌, ◌||◌, cond, List, [], ◌∷◌, ◌++◌, length, take, drop, refl, sym, ap, ◌∙◌, inl, inr, nat_lt, arith}
 use Rattle.std.proofs.lemmas.Bool.{cases_lt, lt-ltb, le-ltb}
-use Rattle.sv_text.specs.Cut.{onto}
+use Rattle.std.specs.List.{onto_first as onto}
 use Rattle.sv_exchange.specs.Exchange.{Symbol, Byte, End, messages}
 use Rattle.sv_exchange.specs.Contents.{symbols, following}
 use Rattle.sv_exchange.specs.Fields.{first_size, has_line, second_at}

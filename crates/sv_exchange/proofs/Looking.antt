@@ -1,12 +1,12 @@
 -- A message that is looked at byte by byte, up to the semicolon behind its first unit.
 use Rattle.std.proofs.Common.{◌≡◌, ℕ, ◌+◌, ◌<◌, ◌≤◌, Bool, true, false, ◌&&◌, ◌||◌, cond, List, [], ◌∷◌, ◌++◌, length, take, drop, map, get_or, slice_get, slice_range, nat_lt, inl, inr, Option, Some, None, unwrap_or, refl, sym, ap, ◌∙◌, subst, append_assoc, append-nil, arith}
 use Rattle.std.specs.Prelude.{filter}
-use Rattle.std.specs.List.{list_all, list_any}
+use Rattle.std.specs.List.{list_all, list_any, onto_first as onto}
 use Rattle.std.proofs.lemmas.Bool.{cases_lt, ltb-true, ltb-false, or_parts, or_from, and_from}
 use Rattle.std.proofs.lemmas.Bool.Decides.{nat_tests}
 use Rattle.std.proofs.lemmas.List.{length-append, length_push, nil_from_length, take-append-drop, take-append-le, take_all, take_more, drop_all}
 use Rattle.std.proofs.lemmas.List.Folds.{list_any-append, list_all-append}
-use Rattle.sv_text.specs.Cut.{cut_at, onto}
+use Rattle.sv_text.specs.Cut.{cut_at}
 use Rattle.sv_text.specs.White.{is_white, trim, trim_start, trim_end}
 use Rattle.sv_lexer.specs.Token.{StandsAt}
 use Rattle.sv_lexer.specs.Partial.{Progress, Reads}

@@ -1,7 +1,7 @@
 -- Where an element first stands.
 use Rattle.std.proofs.Common.{◌≡◌, ℕ, zero, suc, ◌+◌, ◌==◌, Bool, true, false, not, cond, List, [], ◌∷◌, length, take, min, refl, inl, inr, Some, arith}
-use Rattle.sv_exchange.specs.Read.{up_to, read_count}
-use Rattle.std.specs.List.{position, position_or_len}
+use Rattle.sv_exchange.specs.Read.{read_count}
+use Rattle.std.specs.List.{position_or_len}
 use Rattle.std.proofs.lemmas.Bool.{cases_lt, lt-ltb, le-ltb}
 use Rattle.sv_text.proofs.Places.{place_within}
 use Rattle.sv_exchange.specs.Limits.{max_read}
@@ -20,19 +20,9 @@ place-take p (b ∷ bytes) (suc k) = at (p b) (place-take p bytes k)
     at true h = omega arith
     at false h = omega arith
 
--- up to the place and with it
-pub up_to_place : (p : ℕ → Bool) (bytes : List ℕ)
-    → up_to (position p bytes) (length bytes) ≡ min (position_or_len p bytes + 1) (length bytes)
-up_to_place p bytes =
-    let le = place_within p bytes in
-    elim (cases_lt (position_or_len p bytes) (length bytes)) [
-      | inl lt ↦ rw (lt-ltb (position_or_len p bytes) (length bytes) lt) (omega arith)
-      | inr ge ↦ rw (le-ltb (position_or_len p bytes) (length bytes) ge) (omega arith)
-    ]
-
 -- how many bytes a read gives that looks for the termination character within its limit
 pub count_by_place : (response : List ℕ) (most last limit place count : ℕ) → limit ≡ min most (min max_read (length response))
     → place ≡ position_or_len (λ b. b == last) (take limit response)
     → count ≡ min limit (place + 1) → count ≡ read_count response most (Some last)
 count_by_place response most last limit place count e f h =
-    omega (arith, place-take (λ b. b == last) response limit, up_to_place (λ b. b == last) response)
+    omega (arith, place-take (λ b. b == last) response limit)

@@ -1,8 +1,8 @@
 -- What each act makes of the response.
 use Rattle.std.proofs.Common.{◌≡◌, ℕ, cond, List, [], ◌∷◌, ◌++◌, drop, refl, sym, ap}
 use Rattle.std.proofs.lemmas.List.{drop-drop}
-use Rattle.sv_logs.specs.Since.{newest, since_place}
-use Rattle.sv_exchange.specs.Exchange.{ExchangeAct, Finished, ResponseRead, is_answered, whole_response, read_since, renews, renewed, bytes_read, answers, joined, response}
+use Rattle.sv_logs.specs.Since.{newest, since}
+use Rattle.sv_exchange.specs.Exchange.{ExchangeAct, Finished, ResponseRead, is_something, renews, renewed, bytes_read, answers, joined, response}
 
 -- what finishing a message makes of the response before it
 abbrev pub response_after : List (List ℕ) → List ℕ → List ℕ
@@ -14,12 +14,12 @@ pub response-finished : (acts : List ExchangeAct) → response (Finished ∷ act
 response-finished acts = at (answers acts) refl
   where
     at : (given : List (List ℕ)) → answers acts ≡ given
-        → drop (bytes_read (cond (is_answered given) [] (Finished ∷ since_place renews acts)))
-        (renewed (cond (is_answered given) (Finished ∷ acts) (newest renews acts)))
+        → drop (bytes_read (cond (is_something given) [] (Finished ∷ since renews acts)))
+        (renewed (cond (is_something given) (Finished ∷ acts) (newest renews acts)))
         ≡ response_after given (response acts)
     at [] e = refl
     at (answer ∷ others) e = ap (λ (g : List (List ℕ)). joined g ++ 10 ∷ []) e
 
 -- bytes were read
 pub response-read : (acts : List ExchangeAct) (count : ℕ) → response (ResponseRead count ∷ acts) ≡ drop count (response acts)
-response-read acts count = sym (drop-drop count (read_since acts) (whole_response acts))
+response-read acts count = sym (drop-drop count (bytes_read (since renews acts)) (renewed (newest renews acts)))

@@ -1,9 +1,9 @@
 -- Message exchange (IEEE 488.2, 6.1 and 6.3): program text, its messages and units, and the response, each found by a search of the acts,
 -- which are read from the newest.
 use Rattle.std.specs.Prelude.{ℕ, ◌+◌, ◌==◌, Bool, true, false, not, ◌&&◌, List, [], ◌∷◌, ◌++◌, length, drop, map, filter, Option, Some, None, nat_lt, slice_get, slice_index_or, if◌then◌else◌}
-use Rattle.std.specs.List.{list_any}
-use Rattle.sv_logs.specs.Since.{since, newest, since_place}
-use Rattle.sv_text.specs.Cut.{cut_at, onto}
+use Rattle.std.specs.List.{list_any, join_with_byte, onto_first}
+use Rattle.sv_logs.specs.Since.{since, newest}
+use Rattle.sv_text.specs.Cut.{cut_at}
 use Rattle.sv_text.specs.White.{trim}
 use Rattle.sv_exchange.specs.Limits.{max_message, max_response}
 
@@ -25,13 +25,11 @@ pub data Symbol : Type 0 where
   End : Symbol
 
 abbrev pub end_mark : Bool → List Symbol
-end_mark true = End ∷ []
-end_mark false = []
+end_mark ended = if ended then End ∷ [] else []
 
 -- what drops program text
-abbrev pub drops_text : ExchangeAct → Bool
-drops_text TextDropped = true
-drops_text _ = false
+abbrev pub drops_text : List ExchangeAct → Bool
+drops_text = elim [ TextDropped ∷ acts ↦ true | _ ↦ false ]
 
 -- what some acts bring, in order
 abbrev pub brought : List ExchangeAct → List Symbol
@@ -47,46 +45,25 @@ text acts = brought (since drops_text acts)
 abbrev pub messages : List Symbol → List (List ℕ)
 messages [] = [] ∷ []
 messages (End ∷ symbols) = [] ∷ messages symbols
-messages (Byte b ∷ symbols) = if b == 10 then [] ∷ messages symbols else onto b (messages symbols)
+messages (Byte b ∷ symbols) = if b == 10 then [] ∷ messages symbols else onto_first b (messages symbols)
 
 -- how many messages were finished since text was last dropped
-abbrev is_finish : ExchangeAct → Bool
-is_finish Finished = true
-is_finish _ = false
-
 abbrev pub finished : List ExchangeAct → ℕ
-finished acts = length (filter is_finish (since drops_text acts))
+finished acts = length (filter (elim [ Finished ↦ true | _ ↦ false ]) (since drops_text acts))
 
 -- the acts since the current message began: those since a message was finished, or text dropped
-abbrev pub ends_message : ExchangeAct → Bool
-ends_message Finished = true
-ends_message TextDropped = true
-ends_message _ = false
-
 abbrev pub current : List ExchangeAct → List ExchangeAct
-current acts = since ends_message acts
+current acts = since (elim [ Finished ∷ older ↦ true | TextDropped ∷ older ↦ true | _ ↦ false ]) acts
 
 -- how many units of it were done, whether it was told to be too long, whether its answers were dropped, and which answers it had
-abbrev is_unit_done : ExchangeAct → Bool
-is_unit_done UnitDone = true
-is_unit_done _ = false
-
-abbrev is_overrun : ExchangeAct → Bool
-is_overrun Overran = true
-is_overrun _ = false
-
-abbrev is_drop : ExchangeAct → Bool
-is_drop AnswersDropped = true
-is_drop _ = false
-
 abbrev pub units_done : List ExchangeAct → ℕ
-units_done acts = length (filter is_unit_done acts)
+units_done acts = length (filter (elim [ UnitDone ↦ true | _ ↦ false ]) acts)
 
 abbrev pub has_overrun : List ExchangeAct → Bool
-has_overrun acts = list_any is_overrun acts
+has_overrun acts = list_any (elim [ Overran ↦ true | _ ↦ false ]) acts
 
 abbrev pub has_dropped : List ExchangeAct → Bool
-has_dropped acts = list_any is_drop acts
+has_dropped acts = list_any (elim [ AnswersDropped ↦ true | _ ↦ false ]) acts
 
 abbrev pub answered : List ExchangeAct → List (List ℕ)
 answered [] = []
@@ -107,9 +84,10 @@ has_ended acts = nat_lt (finished acts + 1) (length (messages (text acts)))
 abbrev pub is_long : List ExchangeAct → Bool
 is_long acts = nat_lt max_message (length (message acts))
 
-abbrev pub is_something : List ℕ → Bool
+-- whether a list has anything
+abbrev pub is_something : {A : Type 0} → List A → Bool
 is_something [] = false
-is_something (b ∷ bytes) = true
+is_something (x ∷ xs) = true
 
 -- the units of a message: what stands between semicolons, without white space around it, where anything is left
 abbrev pub units : List ℕ → List (List ℕ)
@@ -123,18 +101,11 @@ next_unit acts =
 
 -- answers joined by semicolons
 abbrev pub joined : List (List ℕ) → List ℕ
-joined [] = []
-joined (answer ∷ []) = answer
-joined (answer ∷ other ∷ others) = answer ++ 59 ∷ joined (other ∷ others)
-
--- whether there are answers
-abbrev pub is_answered : List (List ℕ) → Bool
-is_answered [] = false
-is_answered (answer ∷ others) = true
+joined = join_with_byte 59
 
 -- At the newest act the response is another: a message that had answers is finished, or the response is interrupted.
 abbrev pub renews : List ExchangeAct → Bool
-renews (Finished ∷ acts) = is_answered (answers acts)
+renews (Finished ∷ acts) = is_something (answers acts)
 renews (Interrupted ∷ acts) = true
 renews _ = false
 
@@ -143,22 +114,15 @@ abbrev pub renewed : List ExchangeAct → List ℕ
 renewed (Finished ∷ acts) = joined (answers acts) ++ 10 ∷ []
 renewed _ = []
 
--- the response as it was when it began
-abbrev pub whole_response : List ExchangeAct → List ℕ
-whole_response acts = renewed (newest renews acts)
-
--- how many bytes were read since
+-- how many bytes were read
 abbrev pub bytes_read : List ExchangeAct → ℕ
 bytes_read [] = 0
 bytes_read (ResponseRead count ∷ acts) = bytes_read acts + count
 bytes_read (_ ∷ acts) = bytes_read acts
 
-abbrev pub read_since : List ExchangeAct → ℕ
-read_since acts = bytes_read (since_place renews acts)
-
--- what can be read: the response without the bytes that were read since it began
+-- what can be read: the response as it was when it began, without the bytes that were read since
 abbrev pub response : List ExchangeAct → List ℕ
-response acts = drop (read_since acts) (whole_response acts)
+response acts = drop (bytes_read (since renews acts)) (renewed (newest renews acts))
 
 -- what is due: an overlong message is told once; a unit starts, and where it is the first and a response stands, that is dropped before;
 -- else a message that has ended is finished

@@ -3,7 +3,7 @@ use Rattle.std.proofs.Common.{◌≡◌, ℕ, suc, ◌^◌, Bool, true, false, c
 use Rattle.std.specs.Prelude.{◌↔◌, not, ◌&&◌, ◌||◌}
 use Rattle.std.proofs.lemmas.Bool.{lt-ltb, and_parts, and_from}
 use Rattle.std.specs.Int.{from_bool}
-use Rattle.sv_errors.specs.ErrorQueue.{is_any}
+use Rattle.sv_exchange.specs.Exchange.{is_something}
 use Rattle.sv_scan.specs.Condition.{bit}
 
 -- booleans that say the same are the same
@@ -23,7 +23,7 @@ byte_is true = refl
 byte_is false = refl
 
 -- whether there is any place, by how many there are
-pub any_is : (places : List ℕ) → nat_lt 0 (length places) ≡ is_any places
+pub any_is : (places : List ℕ) → nat_lt 0 (length places) ≡ is_something places
 any_is [] = refl
 any_is (place ∷ places) = lt-ltb 0 (suc (length places)) (omega arith)
 

@@ -1,6 +1,6 @@
 -- The summary of the register of limits, as a test and as it is said of any register.
 use Rattle.std.proofs.Common.{◌≡◌, ℕ, ◌<◌, ◌^◌, Bool, true, false, List, [], ◌∷◌, refl, ap, ◌∙◌, sym, arith, inl, inr, get_or}
-use Rattle.std.specs.Prelude.{◌↔◌, ◌&&◌, ◌||◌, if◌then◌else◌}
+use Rattle.std.specs.Prelude.{◌↔◌, ◌&&◌, ◌||◌, Some, None, unwrap_or, if◌then◌else◌}
 use Rattle.std.specs.Int.{bit_at}
 use Rattle.std.specs.List.{list_any, range_with_len}
 use Rattle.std.proofs.lemmas.Bool.{cases_lt}
@@ -33,7 +33,7 @@ below_found k is_such lt e =
     list_any_at is_such (range_with_len 0 16) k 0 lt (ap is_such at ∙ e)
 
 -- a mask has no bit 15
-small_of : (b : Bool) (mask word : ℕ) → word < 2 ^ 16 → (if b then masked mask else word) < 2 ^ 16
+small_of : (b : Bool) (mask word : ℕ) → word < 2 ^ 16 → unwrap_or (if b then Some (masked mask) else None) word < 2 ^ 16
 small_of true mask word small = let below = mod_below mask (2 ^ 15) (omega arith) in omega (arith, below)
 small_of false mask word small = small
 

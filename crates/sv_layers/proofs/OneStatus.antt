@@ -1,6 +1,6 @@
 -- The status byte is told the same by each account of a log.
 use Rattle.std.proofs.Common.{◌≡◌, ℕ, ◌+◌, Bool, List, [], ◌∷◌, sym, ap, ◌∙◌}
-use Rattle.sv_errors.specs.ErrorQueue.{entries, is_any}
+use Rattle.sv_errors.specs.ErrorQueue.{entries}
 use Rattle.sv_status.specs.declared.status_byte.StatusAct.{StatusAct}
 use Rattle.sv_status.specs.declared.status_byte.StatusAct.TheVariants.{Update}
 use Rattle.sv_scan.specs.Condition.{bit}
@@ -13,7 +13,7 @@ use Rattle.sv_layers.proofs.Booleans.{same_bool}
 -- the word of the summary bits
 abbrev summary_word : Seen → Bool → Bool → Bool → ℕ
 summary_word at operates happened questioned = bit 7 operates + bit 5 happened + bit 4 (is_something (response at.exchange))
-    + bit 3 questioned + bit 2 (is_any (entries at.errors))
+    + bit 3 questioned + bit 2 (is_something (entries at.errors))
 
 one_summary : (a b : ℕ) (at : Seen) → IsSummary a at → IsSummary b at → a ≡ b
 one_summary a b at s t =

@@ -3,7 +3,7 @@ use Rattle.std.proofs.Common.{◌≡◌, ℕ, ◌<◌, ◌≤◌, Bool, true, fa
 use Rattle.std.specs.Prelude.{◌↔◌}
 use Rattle.std.specs.Int.{bit_at}
 use Rattle.std.proofs.lemmas.Nat.Bits.{bit_at-lt, same_from_bits}
-use Rattle.sv_errors.specs.ErrorQueue.{entries, is_any}
+use Rattle.sv_errors.specs.ErrorQueue.{entries}
 use Rattle.sv_logs.proofs.Since.{then_same}
 use Rattle.sv_status.specs.declared.status_byte.StatusAct.{StatusAct}
 use Rattle.sv_status.specs.StatusByte.{bits}
@@ -27,7 +27,7 @@ summary_small word at s =
     let five : bit 5 s.happened ≤ 32 = bit_small 5 s.happened 32 (omega arith) in
     let three : bit 3 s.questioned ≤ 8 = bit_small 3 s.questioned 8 (omega arith) in
     let four : bit 4 (is_something (response at.exchange)) ≤ 16 = bit_small 4 (is_something (response at.exchange)) 16 (omega arith) in
-    let two : bit 2 (is_any (entries at.errors)) ≤ 4 = bit_small 2 (is_any (entries at.errors)) 4 (omega arith) in
+    let two : bit 2 (is_something (entries at.errors)) ≤ 4 = bit_small 2 (is_something (entries at.errors)) 4 (omega arith) in
     let is = s.word_is in
     omega (arith, is, seven, five, four, three, two)
 

@@ -3,7 +3,7 @@ use Rattle.std.proofs.Common.{◌≡◌, ◌+◌, false, List, [], refl, ap, ari
 use Rattle.std.specs.Prelude.{◌↔◌}
 use Rattle.std.proofs.lemmas.Nat.Bits.{bit_at-zero}
 use Rattle.sv_errors.specs.declared.error_queue.QueueAct.{QueueAct}
-use Rattle.sv_errors.specs.ErrorQueue.{entries, is_any}
+use Rattle.sv_errors.specs.ErrorQueue.{entries}
 use Rattle.sv_logs.proofs.Since.{then_same}
 use Rattle.sv_status.specs.declared.register_name.RegisterName.{RegisterName}
 use Rattle.sv_status.specs.declared.register_name.RegisterName.TheVariants.{Operation, Questionable}
@@ -38,7 +38,7 @@ same_standard_summary log = same_enabled _ _ (same_enable log) (λ k. same_stand
 pub same_summaries : SameSummaries
 same_summaries word log is k =
     let available = is_something (response (seen log).exchange) in
-    let errors = is_any (entries (seen log).errors) in
+    let errors = is_something (entries (seen log).errors) in
     let seven = bit-le 7 is.operates in
     let five = bit-le 5 is.happened in
     let four = bit-le 4 available in
@@ -48,7 +48,7 @@ same_summaries word log is k =
     let same_word : word ≡ bit 7 is.operates + (bit 5 is.happened + (bit 4 available + (bit 3 is.questioned + bit 2 errors))) =
     omega arith in
     let exchange = ap (λ (acts : List ExchangeAct). is_something (response acts)) (projected log).0 in
-    let queue = ap (λ (acts : List QueueAct). is_any (entries acts)) (projected log).1 in
+    let queue = ap (λ (acts : List QueueAct). is_something (entries acts)) (projected log).1 in
     let operation = both_same (then_same is.operation (same_summary Operation log)) in
     let standard = both_same (then_same is.standard (same_standard_summary log)) in
     let questionable = both_same (then_same is.questionable (same_summary Questionable log)) in

@@ -1,6 +1,6 @@
 -- Condition, filters and enables, as they are seen and as the log has them.
 use Rattle.std.proofs.Common.{◌≡◌, ℕ, Bool, true, false, List, [], ◌∷◌, refl, ◌∙◌, subst, sym}
-use Rattle.std.specs.Prelude.{◌^◌, if◌then◌else◌}
+use Rattle.std.specs.Prelude.{◌^◌, Some, None, unwrap_or, if◌then◌else◌}
 use Rattle.std.proofs.Math.Nat.{mod-mod}
 use Rattle.sv_status.specs.declared.register_name.RegisterName.{RegisterName}
 use Rattle.sv_status.specs.declared.register_name.RegisterName.TheVariants.{Operation, Questionable, Limit}
@@ -42,17 +42,17 @@ read_words s true acts c r f e h = h
 read_words s false acts c r f e h = h
 
 enabled_words : (s : ℕ) (b : Bool) (mask : ℕ) (acts : List RegisterAct) (c r f e : ℕ) → Words s acts c r f e
-    → Words s (if b then SetEnable mask ∷ acts else acts) c r f (if b then masked mask else e)
+    → Words s (if b then SetEnable mask ∷ acts else acts) c r f (unwrap_or (if b then Some (masked mask) else None) e)
 enabled_words s true mask acts c r f e h = (h.0, h.1, h.2, refl)
 enabled_words s false mask acts c r f e h = h
 
 rise_words : (s : ℕ) (b : Bool) (mask : ℕ) (acts : List RegisterAct) (c r f e : ℕ) → Words s acts c r f e
-    → Words s (if b then SetFilter mask (register_words.fall acts) ∷ acts else acts) c (if b then masked mask else r) f e
+    → Words s (if b then SetFilter mask (register_words.fall acts) ∷ acts else acts) c (unwrap_or (if b then Some (masked mask) else None) r) f e
 rise_words s true mask acts c r f e h = (h.0, refl, (filters_masked acts).1 ∙ h.2, h.3)
 rise_words s false mask acts c r f e h = h
 
 fall_words : (s : ℕ) (b : Bool) (mask : ℕ) (acts : List RegisterAct) (c r f e : ℕ) → Words s acts c r f e
-    → Words s (if b then SetFilter (register_words.rise acts) mask ∷ acts else acts) c r (if b then masked mask else f) e
+    → Words s (if b then SetFilter (register_words.rise acts) mask ∷ acts else acts) c r (unwrap_or (if b then Some (masked mask) else None) f) e
 fall_words s true mask acts c r f e h = (h.0, (filters_masked acts).0 ∙ h.1, refl, h.3)
 fall_words s false mask acts c r f e h = h
 

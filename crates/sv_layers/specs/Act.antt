@@ -1,6 +1,7 @@
 -- What happens to the instrument, an act for each change, and what of it happens to its exchange, its error queue and its scanner. Acts
 -- are read from the newest.
-use Rattle.std.specs.Prelude.{ℕ, List, [], ◌∷◌}
+use Rattle.std.specs.Prelude.{ℕ, List, [], ◌∷◌, Some, None}
+use Rattle.std.specs.List.{filter_map}
 use Rattle.sv_errors.specs.declared.code.Code.{Code}
 use Rattle.sv_errors.specs.declared.error_queue.QueueAct.{QueueAct}
 use Rattle.sv_errors.specs.declared.error_queue.QueueAct.TheVariants as queue
@@ -42,9 +43,7 @@ exchange_acts (_ ∷ log) = exchange_acts log
 
 -- what happens to the scanner
 abbrev pub scan_acts : List Act → List ScanAct
-scan_acts [] = []
-scan_acts (Scanned act ∷ log) = act ∷ scan_acts log
-scan_acts (_ ∷ log) = scan_acts log
+scan_acts = filter_map (elim [ Scanned act ↦ Some act | _ ↦ None ])
 
 -- what happens to the error queue
 abbrev pub queue_acts : List Act → List QueueAct

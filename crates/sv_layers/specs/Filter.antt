@@ -1,6 +1,7 @@
 -- What the event registers (SCPI-1999, chapter 20, STATus) let pass, enable and clear, by searches of the instrument's log.
-use Rattle.std.specs.Prelude.{ℕ, ◌==◌, Bool, true, false, not, ◌&&◌, ◌||◌, List, [], ◌∷◌, if◌then◌else◌}
+use Rattle.std.specs.Prelude.{ℕ, ◌==◌, Bool, true, false, not, ◌&&◌, ◌||◌, List, [], ◌∷◌, Option, Some, None, if◌then◌else◌}
 use Rattle.std.specs.Int.{bit_at}
+use Rattle.sv_logs.specs.Since.{last_given}
 use Rattle.sv_status.specs.declared.register_name.RegisterName.{RegisterName}
 use Rattle.sv_status.specs.declared.register_name.RegisterName.TheVariants.{Operation, Questionable, Limit}
 use Rattle.sv_status.specs.Register.{masked}
@@ -14,28 +15,21 @@ is_same _ _ = false
 
 -- what an enable starts with, and is preset to
 abbrev pub start : RegisterName → ℕ
-start Operation = 0
-start Questionable = 0
-start Limit = 32767
+start = elim [ Limit ↦ 32767 | _ ↦ 0 ]
 
--- the filters for rising and for falling bits, and the enable: as they were last set or preset, without bit 15
+-- a mask that is set, without bit 15, where the register is the one that is named
+abbrev pub mask_for : RegisterName → RegisterName → ℕ → Option ℕ
+mask_for name other mask = if is_same name other then Some (masked mask) else None
+
+-- the filters for rising and for falling bits, and the enable: as they were last set or preset
 abbrev pub rise : RegisterName → List Act → ℕ
-rise name [] = 32767
-rise name (RiseSet other mask ∷ log) = if is_same name other then masked mask else rise name log
-rise name (Preset ∷ log) = 32767
-rise name (_ ∷ log) = rise name log
+rise name = last_given (elim [ RiseSet other mask ↦ mask_for name other mask | Preset ↦ Some 32767 | _ ↦ None ]) 32767
 
 abbrev pub fall : RegisterName → List Act → ℕ
-fall name [] = 0
-fall name (FallSet other mask ∷ log) = if is_same name other then masked mask else fall name log
-fall name (Preset ∷ log) = 0
-fall name (_ ∷ log) = fall name log
+fall name = last_given (elim [ FallSet other mask ↦ mask_for name other mask | Preset ↦ Some 0 | _ ↦ None ]) 0
 
 abbrev pub enable : RegisterName → List Act → ℕ
-enable name [] = start name
-enable name (Enabled other mask ∷ log) = if is_same name other then masked mask else enable name log
-enable name (Preset ∷ log) = start name
-enable name (_ ∷ log) = enable name log
+enable name = last_given (elim [ Enabled other mask ↦ mask_for name other mask | Preset ↦ Some (start name) | _ ↦ None ]) (start name)
 
 abbrev pub has_bit : ℕ → ℕ → Bool
 has_bit word k = bit_at word k == 1
@@ -49,6 +43,4 @@ passes condition name k (act ∷ before) =
 
 -- whether the newest act leaves the event register: it is no `*CLS` and no reading of it
 abbrev pub leaves : RegisterName → List Act → Bool
-leaves name (EventRead other ∷ log) = not (is_same name other)
-leaves name (Cleared ∷ log) = false
-leaves name _ = true
+leaves name = elim [ EventRead other ∷ log ↦ not (is_same name other) | Cleared ∷ log ↦ false | _ ↦ true ]

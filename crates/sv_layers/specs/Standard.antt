@@ -1,7 +1,7 @@
 -- Standard events (IEEE 488.2, 11.5.1) and the completion of operations (12.5.2), by searches of the instrument's log.
-use Rattle.std.specs.Prelude.{◌≡◌, ◌⊎◌, ℕ, Bool, true, false, ⊤, List, [], ◌∷◌}
+use Rattle.std.specs.Prelude.{◌≡◌, ◌⊎◌, ℕ, Bool, true, false, ⊤, List, [], ◌∷◌, Some, None}
 use Rattle.std.specs.Int.{bit_at}
-use Rattle.sv_logs.specs.Since.{Since}
+use Rattle.sv_logs.specs.Since.{Since, last_given}
 use Rattle.sv_errors.specs.Code.{standard_event_of}
 use Rattle.sv_errors.specs.ErrorQueue.{is_full}
 use Rattle.sv_scan.specs.declared.acts.ScanAct.TheVariants.{Reset}
@@ -10,15 +10,11 @@ use Rattle.sv_layers.specs.Condition.{is_idle}
 
 -- The newest act is an `*OPC`.
 abbrev pub IsAsked : List Act → Type 0
-IsAsked (OpcAsked ∷ log) = ⊤
-IsAsked _ = ⊥
+IsAsked = elim [ OpcAsked ∷ log ↦ ⊤ | _ ↦ ⊥ ]
 
 -- what cancels an `*OPC` that isn't complete: `*CLS`, `*RST` and a device clear
 abbrev pub cancels : Act → Bool
-cancels Cleared = true
-cancels (Scanned Reset) = true
-cancels Purged = true
-cancels _ = false
+cancels = elim [ Cleared ↦ true | Scanned Reset ↦ true | Purged ↦ true | _ ↦ false ]
 
 -- An `*OPC` isn't complete at the newest place: a measurement is under way, and it isn't cancelled.
 abbrev pub IsPending : List Act → Type 0
@@ -44,9 +40,7 @@ Occurs k log = (k ≡ 0) × Completes log
 
 -- The newest act doesn't clear the register: it is no `*CLS` and no `*ESR?`.
 abbrev pub NotCleared : List Act → Type 0
-NotCleared (StandardRead ∷ log) = ⊥
-NotCleared (Cleared ∷ log) = ⊥
-NotCleared _ = ⊤
+NotCleared = elim [ StandardRead ∷ log ↦ ⊥ | Cleared ∷ log ↦ ⊥ | _ ↦ ⊤ ]
 
 -- A bit stands exactly if its event occurred after the last clearing.
 abbrev pub Stands : ℕ → List Act → Type 0
@@ -54,9 +48,7 @@ Stands k log = Since (Occurs k) NotCleared log
 
 -- the enable that was set last
 abbrev pub enable : List Act → ℕ
-enable [] = 0
-enable (StandardEnabled mask ∷ log) = mask
-enable (_ ∷ log) = enable log
+enable = last_given (elim [ StandardEnabled mask ↦ Some mask | _ ↦ None ]) 0
 
 -- Some event stands that is enabled.
 abbrev pub Summary : List Act → Type 0

@@ -1,8 +1,8 @@
 -- The status byte and requests for service (IEEE 488.2, 11.2 and 11.3), by searches of the instrument's log.
-use Rattle.std.specs.Prelude.{◌≡◌, ◌⊎◌, ℕ, true, List, [], ◌∷◌}
+use Rattle.std.specs.Prelude.{◌≡◌, ◌⊎◌, ℕ, true, List, [], ◌∷◌, Some, None}
 use Rattle.std.specs.Int.{bit_at}
-use Rattle.sv_logs.specs.Since.{Since}
-use Rattle.sv_errors.specs.ErrorQueue.{entries, is_any}
+use Rattle.sv_logs.specs.Since.{Since, last_given}
+use Rattle.sv_errors.specs.ErrorQueue.{entries}
 use Rattle.sv_status.specs.declared.register_name.RegisterName.TheVariants.{Operation, Questionable}
 use Rattle.sv_exchange.specs.Exchange.{response, is_something}
 use Rattle.sv_layers.specs.Act.{Act, ServiceEnabled, Polled, exchange_acts, queue_acts}
@@ -14,13 +14,11 @@ use Rattle.sv_layers.specs.Standard.{Summary as StandardSummary}
 abbrev pub SummaryBit : ℕ → List Act → Type 0
 SummaryBit k log = ((k ≡ 7) × Summary Operation log) ⊎ ((k ≡ 5) × StandardSummary log)
     ⊎ ((k ≡ 4) × (is_something (response (exchange_acts log)) ≡ true)) ⊎ ((k ≡ 3) × Summary Questionable log)
-    ⊎ ((k ≡ 2) × (is_any (entries (queue_acts log)) ≡ true))
+    ⊎ ((k ≡ 2) × (is_something (entries (queue_acts log)) ≡ true))
 
 -- the service request enable that was set last
 abbrev pub service : List Act → ℕ
-service [] = 0
-service (ServiceEnabled mask ∷ log) = mask
-service (_ ∷ log) = service log
+service = last_given (elim [ ServiceEnabled mask ↦ Some mask | _ ↦ None ]) 0
 
 -- A summary bit stands and is enabled.
 abbrev pub Asks : ℕ → List Act → Type 0

@@ -3,7 +3,7 @@ use Rattle.std.proofs.Common.{◌≡◌, ℕ, zero, suc, ◌+◌, ◌<◌, ◌�
 use Rattle.std.proofs.lemmas.Bool.{eqb-true}
 use Rattle.std.specs.List.{sum_by}
 use Rattle.std.proofs.lemmas.List.Sums.{sum_by-append}
-use Rattle.sv_text.specs.Cut.{onto}
+use Rattle.std.specs.List.{onto_first as onto}
 use Rattle.sv_lexer.specs.Parameters.{cut_outside, is_open, opens, first_size, part_place}
 
 -- what stands in front counts only by whether a parenthesis is open

@@ -1,14 +1,14 @@
 -- A unit whose bytes were read one by one is what it is when it is read at once.
 use Rattle.std.proofs.Common.{◌≡◌, ℕ, ◌+◌, ◌-◌, ◌^◌, ◌<◌, ◌≤◌, ◌==◌, Bool, true, false, not, ◌&&◌, ◌||◌, cond, List, [], ◌∷◌, ◌++◌, length, take, get_or, max, nat_lt, nat_le, Option, Some, None, inl, inr, refl, sym, ap, ◌∙◌, subst, append_assoc, append-nil, arith}
 use Rattle.std.specs.List.{list_all}
-use Rattle.std.specs.Char.{is_ascii_graphic}
+use Rattle.std.specs.Char.{is_ascii_graphic, is_ascii_alphabetic as is_letter}
 use Rattle.std.proofs.lemmas.Bool.{cases_lt, le-leb, lt-leb}
 use Rattle.std.proofs.lemmas.Bool.Decides.{nat_tests}
 use Rattle.std.proofs.lemmas.List.{length_push, take_more}
 use Rattle.sv_errors.specs.declared.code.Code.{Code}
 use Rattle.sv_errors.specs.declared.code.Code.TheVariants.{InvalidCharacter, SyntaxError, ProgramMnemonicTooLong}
 use Rattle.sv_text.specs.White.{is_white}
-use Rattle.sv_lexer.specs.Spelled.{is_brief, is_letter, is_word_byte, is_header, words}
+use Rattle.sv_lexer.specs.Spelled.{is_word_byte, is_header, words}
 use Rattle.sv_lexer.specs.Unit.{header, header_place, rest, rest_place, is_legal, unit_fault}
 use Rattle.sv_lexer.specs.Partial.{Progress, kept, header_end, rest_end, last, others, longest, is_illegal, HasData, IsRead, At, Reads}
 use Rattle.sv_lexer.specs.Inside.Stage.{behind_graphic, behind_space, next}
@@ -99,6 +99,10 @@ reads_more p before bytes i lt h =
     (append_assoc before (take i bytes) (get_or bytes i 0 ∷ []) ∙ ap (λ (l : List ℕ). before ++ l) (sym (take_more bytes i 0 lt))) h
 
 -- ---- what is wrong with it
+
+-- a mnemonic has at most 12 characters
+abbrev is_brief : List ℕ → Bool
+is_brief word = nat_le (length word) 12
 
 -- the faults in their order
 abbrev fault_by : (legal spelled brief : Bool) → Option Code

@@ -1,14 +1,15 @@
 -- A header so far with one byte more.
 use Rattle.std.proofs.Common.{◌≡◌, ℕ, ◌+◌, ◌==◌, Bool, true, false, ◌&&◌, cond, List, [], ◌∷◌, ◌++◌, length, max, refl, sym, ap, ◌∙◌, subst, append_assoc, arith}
-use Rattle.std.specs.List.{list_all}
+use Rattle.std.specs.Char.{is_ascii_alphabetic as is_letter}
+use Rattle.std.specs.List.{list_all, onto_first as onto}
 use Rattle.std.proofs.lemmas.Bool.{and_parts, eqb-true}
 use Rattle.std.proofs.lemmas.Bool.Decides.{nat_tests}
 use Rattle.std.proofs.lemmas.List.{length_push}
 use Rattle.std.proofs.lemmas.List.Folds.{list_all-append}
-use Rattle.sv_text.specs.Cut.{cut_at, onto}
+use Rattle.sv_text.specs.Cut.{cut_at}
 use Rattle.sv_text.specs.Front.{is_empty}
 use Rattle.sv_text.specs.Header.{is_query}
-use Rattle.sv_lexer.specs.Spelled.{is_letter, is_word_byte, is_mnemonic, is_header, words}
+use Rattle.sv_lexer.specs.Spelled.{is_word_byte, is_mnemonic, is_header, words}
 use Rattle.sv_lexer.specs.Partial.{kept, last, others, longest, is_common, Awaits, IsUnsigned, HeaderEnds}
 use Rattle.sv_lexer.specs.Inside.Stage.{behind_graphic}
 use Rattle.sv_lexer.specs.Inside.Moved.{one_more, mnemonic_in, longest_in}

@@ -2,12 +2,13 @@
 use Rattle.std.proofs.Common.{◌≡◌, ℕ, suc, ◌-◌, ◌==◌, Bool, true, false, ◌&&◌, cond, List, [], ◌∷◌, ◌++◌, length, take, drop, refl, sym, ap, ◌∙◌, append_assoc, append-nil, arith}
 use Rattle.std.proofs.lemmas.Bool.{eqb-true}
 use Rattle.std.proofs.lemmas.Bool.Decides.{nat_tests}
-use Rattle.sv_text.specs.Cut.{cut_at, onto}
+use Rattle.std.specs.List.{onto_first as onto}
+use Rattle.sv_text.specs.Cut.{cut_at}
 use Rattle.sv_text.specs.Front.{is_empty}
 use Rattle.sv_text.specs.Header.{is_query, unsigned, lead, body}
 use Rattle.sv_text.specs.declared.header.Lead.{Lead}
 use Rattle.sv_text.specs.declared.header.Lead.TheVariants.{Common, Root, Onward}
-use Rattle.sv_lexer.specs.Spelled.{is_word_byte, words_of, words}
+use Rattle.sv_lexer.specs.Spelled.{is_word_byte, words}
 use Rattle.sv_lexer.specs.Partial.{last, others, is_common}
 
 -- the query sign taken off, from the front
@@ -118,7 +119,7 @@ cut_some s (b ∷ text) = at (b == s) (cut_at s text)
 pub words_some : (text : List ℕ) → has_part (words text) ≡ true
 words_some text = at (lead text)
   where
-    at : (l : Lead) → has_part (words_of l (body text)) ≡ true
+    at : (l : Lead) → has_part (elim l [ Common ↦ body text ∷ [] | _ ↦ cut_at 58 (body text) ]) ≡ true
     at Common = refl
     at Root = cut_some 58 (body text)
     at Onward = cut_some 58 (body text)
@@ -172,8 +173,18 @@ others_last (x ∷ y ∷ parts) e = ap (λ (ps : List (List ℕ)). x ∷ ps) (ot
 lead_onward : (b : ℕ) (more : List ℕ) → (b == 42) ≡ false → (b == 58) ≡ false → lead (b ∷ more) ≡ Onward
 lead_onward b more a k = ap (λ (t : Bool). cond t Common (cond (b == 58) Root Onward)) a ∙ ap (λ (t : Bool). cond t Root Onward) k
 
+-- the words of a header without its query sign, by what leads it
+abbrev body_led : List ℕ → Lead → List ℕ
+body_led text l = drop (elim l [ Onward ↦ 0 | _ ↦ 1 ]) text
+
+abbrev words_as : Lead → List ℕ → List (List ℕ)
+words_as l text = elim l [ Common ↦ text ∷ [] | _ ↦ cut_at 58 text ]
+
+abbrev words_led : List ℕ → Lead → List (List ℕ)
+words_led text l = words_as l (body_led text l)
+
 pub words_onward : (b : ℕ) (more : List ℕ) → (b == 42) ≡ false → (b == 58) ≡ false → words (b ∷ more) ≡ cut_at 58 (strip (b ∷ more))
-words_onward b more a k = rw (lead_onward b more a k) (ap (cut_at 58) (unsigned_is (b ∷ more)))
+words_onward b more a k = ap (words_led (unsigned (b ∷ more))) (lead_onward b more a k) ∙ ap (cut_at 58) (unsigned_is (b ∷ more))
 
 words_common : (more : List ℕ) → words (42 ∷ more) ≡ strip more ∷ []
 words_common more = ap (λ (l : List ℕ). drop 1 l ∷ []) (unsigned_is (42 ∷ more))

@@ -1,11 +1,10 @@
 -- The parameters of a program message unit (IEEE 488.2, 7.3.3 and 7.4.2).
 use Rattle.std.specs.Prelude.{ℕ, ◌+◌, ◌==◌, ◌&&◌, not, Bool, true, false, List, [], ◌∷◌, length, take, reverse, slice_index_or, Option, Some, None, if◌then◌else◌}
 use Rattle.sv_text.specs.Front.{is_empty}
-use Rattle.std.specs.List.{list_any, sum_by}
+use Rattle.std.specs.List.{list_any, sum_by, onto_first}
 use Rattle.sv_errors.specs.declared.code.Code.{Code}
 use Rattle.sv_errors.specs.declared.code.Code.TheVariants.{InvalidExpression, SyntaxError}
 use Rattle.sv_text.specs.White.{trim}
-use Rattle.sv_text.specs.Cut.{onto}
 use Rattle.sv_lexer.specs.Unit.{rest, rest_place, white_size}
 
 -- whether a parenthesis is open behind some bytes, which are read from the last: the last parenthesis is one that opens
@@ -17,12 +16,11 @@ is_open (b ∷ before) = if b == 40 then true else if b == 41 then false else is
 abbrev pub cut_outside : (before bytes : List ℕ) → List (List ℕ)
 cut_outside before [] = [] ∷ []
 cut_outside before (b ∷ bytes) = if b == 44 && not (is_open before) then []
-    ∷ cut_outside (b ∷ before) bytes else onto b (cut_outside (b ∷ before) bytes)
+    ∷ cut_outside (b ∷ before) bytes else onto_first b (cut_outside (b ∷ before) bytes)
 
 -- the parts between these commas; none where there is no text
 abbrev pub parts : List ℕ → List (List ℕ)
-parts [] = []
-parts (b ∷ text) = cut_outside [] (b ∷ text)
+parts text = if is_empty text then [] else cut_outside [] text
 
 -- where a part stands: behind the parts before it, and their commas
 abbrev pub part_place : ℕ → List (List ℕ) → ℕ

@@ -1,15 +1,10 @@
 -- How headers are spelled (IEEE 488.2, 7.6.1; SCPI-1999, volume 1, chapter 6).
-use Rattle.std.specs.Prelude.{ℕ, ◌==◌, ◌&&◌, ◌||◌, Bool, false, List, [], ◌∷◌, length, nat_le}
+use Rattle.std.specs.Prelude.{ℕ, ◌==◌, ◌&&◌, ◌||◌, Bool, false, List, [], ◌∷◌}
 use Rattle.std.specs.List.{list_all}
-use Rattle.std.specs.Char.{is_ascii_alphabetic, is_ascii_alphanumeric}
+use Rattle.std.specs.Char.{is_ascii_alphabetic as is_letter, is_ascii_alphanumeric}
 use Rattle.sv_text.specs.Cut.{cut_at}
 use Rattle.sv_text.specs.Header.{lead, body}
-use Rattle.sv_text.specs.declared.header.Lead.{Lead}
-use Rattle.sv_text.specs.declared.header.Lead.TheVariants.{Common, Root, Onward}
-
--- A to Z or a to z
-abbrev pub is_letter : ℕ → Bool
-is_letter = is_ascii_alphabetic
+use Rattle.sv_text.specs.declared.header.Lead.TheVariants.{Common}
 
 -- a letter, a digit or an underscore
 abbrev pub is_word_byte : ℕ → Bool
@@ -20,18 +15,9 @@ abbrev pub is_mnemonic : List ℕ → Bool
 is_mnemonic [] = false
 is_mnemonic (b ∷ bytes) = is_letter b && list_all is_word_byte bytes
 
--- at most 12 characters
-abbrev pub is_brief : List ℕ → Bool
-is_brief word = nat_le (length word) 12
-
-abbrev pub words_of : Lead → List ℕ → List (List ℕ)
-words_of Common body = body ∷ []
-words_of Root body = cut_at 58 body
-words_of Onward body = cut_at 58 body
-
 -- what has to be a mnemonic: all behind an asterisk, else each part between colons
 abbrev pub words : List ℕ → List (List ℕ)
-words text = words_of (lead text) (body text)
+words text = elim (lead text) [ Common ↦ body text ∷ [] | _ ↦ cut_at 58 (body text) ]
 
 -- whether a text is a header
 abbrev pub is_header : List ℕ → Bool

@@ -1,10 +1,9 @@
 -- Tokens of a unit: their kinds, and where they stand.
 use Rattle.std.specs.Prelude.{◌≡◌, ℕ, min, ◌==◌, ◌||◌, Bool, List, [], ◌∷◌, ◌++◌, length, if◌then◌else◌}
-use Rattle.std.specs.Char.{is_ascii_digit}
+use Rattle.std.specs.Char.{is_ascii_digit, is_ascii_alphabetic as is_letter}
 use Rattle.sv_lexer.specs.declared.token.Kind.{Kind}
 use Rattle.sv_lexer.specs.declared.token.Kind.TheVariants.{Number, Base, Word, Expression, Other}
 use Rattle.sv_lexer.specs.declared.token.Token.{Token}
-use Rattle.sv_lexer.specs.Spelled.{is_letter}
 
 -- a digit, a sign or a point
 abbrev begins_number : ℕ → Bool

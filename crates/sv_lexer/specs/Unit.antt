@@ -1,10 +1,10 @@
 -- The header of a program message unit, what stands behind it, and the faults of its spelling (IEEE 488.2, 7.3 and 7.6).
-use Rattle.std.specs.Prelude.{◌≡◌, ℕ, ◌+◌, ◌&&◌, ◌||◌, not, Bool, List, take, drop, Option, Some, None, Result, MatchResult, nat_lt, if◌then◌else◌}
+use Rattle.std.specs.Prelude.{◌≡◌, ℕ, ◌+◌, ◌&&◌, ◌||◌, not, Bool, List, take, drop, Option, Some, None, Result, MatchResult, nat_lt, nat_le, length, if◌then◌else◌}
 use Rattle.std.specs.List.{prefix_len, position_or_len, list_all}
 use Rattle.sv_errors.specs.declared.code.Code.{Code}
 use Rattle.sv_errors.specs.declared.code.Code.TheVariants.{InvalidCharacter, SyntaxError, ProgramMnemonicTooLong}
 use Rattle.sv_text.specs.White.{is_white, trim, trim_start}
-use Rattle.sv_lexer.specs.Spelled.{is_header, is_brief, words}
+use Rattle.sv_lexer.specs.Spelled.{is_header, words}
 
 -- how many bytes of white space stand in front
 abbrev pub white_size : List ℕ → ℕ
@@ -36,12 +36,12 @@ rest_place unit = header_place unit + header_size unit + white_size (behind unit
 abbrev pub is_legal : ℕ → Bool
 is_legal b = is_white b || (nat_lt 32 b && nat_lt b 127)
 
--- what is wrong with the bytes or the header of a unit, the first of these
+-- what is wrong with the bytes or the header of a unit, the first of these; a mnemonic has at most 12 characters
 abbrev pub unit_fault : List ℕ → Option Code
 unit_fault unit =
     if not (list_all is_legal unit) then Some InvalidCharacter
     else if not (is_header (header unit)) then Some SyntaxError
-    else if not (list_all is_brief (words (header unit))) then Some ProgramMnemonicTooLong
+    else if not (list_all (λ word. nat_le (length word) 12) (words (header unit))) then Some ProgramMnemonicTooLong
     else None
 
 -- What reading a unit gives: the unit, or what is wrong with it.

@@ -12,14 +12,14 @@ use Rattle.sv_xdr.proofs.Whole.{room_left, whole_is_written}
 use Rattle.sv_rpc.specs.Reply.{call_fields}
 use Rattle.sv_links.specs.declared.request.Peer.{Peer}
 use Rattle.sv_links.specs.Limits.{max_handle, longest_text}
-use Rattle.sv_links.specs.Request.{request, device_intr_srq}
+use Rattle.sv_links.specs.Request.{request}
 
 -- the header of a call, and the handle behind it
 abbrev pub header : ℕ → Peer → List (List ℕ)
-header xid peer = map spelling (call_fields xid peer.prog peer.vers device_intr_srq)
+header xid peer = map spelling (call_fields xid peer.prog peer.vers 30)
 
 abbrev pub text : ℕ → Peer → List ℕ → List ℕ
-text xid peer handle = concat (map spelling (call_fields xid peer.prog peer.vers device_intr_srq ++ Opaque handle ∷ []))
+text xid peer handle = concat (map spelling (call_fields xid peer.prog peer.vers 30 ++ Opaque handle ∷ []))
 
 header_is_40 : (xid : ℕ) (peer : Peer) → length (concat (header xid peer)) ≡ 40
 header_is_40 xid peer = refl

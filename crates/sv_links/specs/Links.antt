@@ -1,5 +1,7 @@
 -- Links (VXI-11 revision 1.0, sections B.4.4 and B.6): which live, who owns one, and which holds the lock. Acts are read from the newest.
 use Rattle.std.specs.Prelude.{ℕ, ◌+◌, ◌==◌, not, ◌&&◌, ◌||◌, Bool, true, false, List, [], ◌∷◌, ◌++◌, length, map, filter, find, reverse, option_map, Option, Some, None, nat_lt}
+use Rattle.std.specs.List.{filter_map}
+use Rattle.std.specs.Option.{option_map_or}
 use Rattle.sv_links.specs.Limits.{max_links}
 use Rattle.sv_links.specs.declared.links.Link.{Link}
 
@@ -28,8 +30,7 @@ abbrev pub owner : ℕ → List LinkAct → Option ℕ
 owner lid acts = option_map (λ link. link.conn) (find (λ link. link.lid == lid) (live acts))
 
 abbrev pub is_of : ℕ → Option ℕ → Bool
-is_of conn (Some other) = other == conn
-is_of conn None = false
+is_of conn owner = option_map_or (λ other. other == conn) owner false
 
 -- the numbers of a connection's live links, rising, and the first of them
 abbrev pub links_of : ℕ → List LinkAct → List ℕ
@@ -52,9 +53,7 @@ closing conn acts = reverse (map Destroyed (links_of conn acts))
 
 -- the links that were ever locked, from the newest
 abbrev pub locked : List LinkAct → List ℕ
-locked [] = []
-locked (Locked lid ∷ acts) = lid ∷ locked acts
-locked (_ ∷ acts) = locked acts
+locked = filter_map (elim [ Locked lid ↦ Some lid | _ ↦ None ])
 
 -- whether a link was locked, and since then neither unlocked nor destroyed
 abbrev pub is_locked : ℕ → List LinkAct → Bool
@@ -76,5 +75,4 @@ is_locked_out None named = false
 
 -- whether this is the link
 abbrev pub is_this : ℕ → Option ℕ → Bool
-is_this lid (Some other) = other == lid
-is_this lid None = false
+is_this lid named = option_map_or (λ other. other == lid) named false

@@ -30,8 +30,7 @@ deadline c (Left conn ∷ acts) = deadline c acts
 
 -- the newest act is the beginning of its wait
 abbrev pub enters : ℕ → List WaitAct → Bool
-enters c (Entered conn link wait deadline ∷ acts) = conn == c
-enters c _ = false
+enters c = elim [ Entered conn link wait deadline ∷ acts ↦ conn == c | _ ↦ false ]
 
 -- when it came: how many acts there were
 abbrev pub arrival : ℕ → List WaitAct → ℕ
@@ -39,16 +38,14 @@ arrival c acts = length (newest (enters c) acts)
 
 -- the link that it names
 abbrev link_of : List WaitAct → Option ℕ
-link_of (Entered conn link wait deadline ∷ acts) = link
-link_of _ = None
+link_of = elim [ Entered conn link wait deadline ∷ acts ↦ link | _ ↦ None ]
 
 abbrev pub link : ℕ → List WaitAct → Option ℕ
 link c acts = link_of (newest (enters c) acts)
 
 -- whether it is the lock that is waited for
 abbrev pub is_lock : Option Wait → Bool
-is_lock (Some Lock) = true
-is_lock _ = false
+is_lock = elim [ Some Lock ↦ true | _ ↦ false ]
 
 -- the numbers of connections, rising from 0
 abbrev pub connections : List ℕ

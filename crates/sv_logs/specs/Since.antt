@@ -1,10 +1,5 @@
 -- The searches that all layers share. A list of acts is read from the newest, and a place of it is one of its rests.
-use Rattle.std.specs.Prelude.{ℕ, ◌≤◌, Bool, ◌&&◌, ◌||◌, List, [], ◌∷◌, length, drop, if◌then◌else◌}
-
--- the acts since the newest one of a kind
-abbrev pub since : {A : Type 0} → (A → Bool) → List A → List A
-since is_start [] = []
-since is_start (act ∷ acts) = if is_start act then [] else act ∷ since is_start acts
+use Rattle.std.specs.Prelude.{ℕ, ◌≤◌, Bool, ◌&&◌, ◌||◌, List, [], ◌∷◌, length, drop, Option, unwrap_or, if◌then◌else◌}
 
 -- the newest place that is such a one; the empty list where none is
 abbrev pub newest : {A : Type 0} → (List A → Bool) → List A → List A
@@ -12,9 +7,14 @@ newest is_such [] = []
 newest is_such (act ∷ acts) = if is_such (act ∷ acts) then act ∷ acts else newest is_such acts
 
 -- the acts since that place
-abbrev pub since_place : {A : Type 0} → (List A → Bool) → List A → List A
-since_place is_such [] = []
-since_place is_such (act ∷ acts) = if is_such (act ∷ acts) then [] else act ∷ since_place is_such acts
+abbrev pub since : {A : Type 0} → (List A → Bool) → List A → List A
+since is_such [] = []
+since is_such (act ∷ acts) = if is_such (act ∷ acts) then [] else act ∷ since is_such acts
+
+-- what the newest act gives of those that give anything; the default where none does
+abbrev pub last_given : {A B : Type 0} → (A → Option B) → B → List A → B
+last_given gives default [] = default
+last_given gives default (act ∷ acts) = unwrap_or (gives act) (last_given gives default acts)
 
 -- Some place, so many acts ago, is a find, and each place since then, that one included, keeps it.
 pub record Since {A : Type 0} (IsFind Keeps : List A → Type 0) (log : List A) : Type 0 where

@@ -1,7 +1,7 @@
 -- Where a text is cut into lines.
 use Rattle.std.proofs.Common.{◌≡◌, ◌≢◌, ℕ, ◌+◌, ◌<◌, ◌==◌, cond, Bool, true, false, List, [], ◌∷◌, ◌++◌, length, take, drop, Option, Some, None, unwrap_or, refl, sym, ap, ◌∙◌, inl, inr, arith}
 use Rattle.std.proofs.lemmas.Bool.{lt-ltb, le-ltb, cases_lt}
-use Rattle.sv_text.specs.Cut.{onto}
+use Rattle.std.specs.List.{onto_first as onto}
 use Rattle.sv_text.proofs.Parts.{part_ended, part_last}
 use Rattle.sv_replay.specs.Script.{parts}
 use Rattle.sv_replay.specs.Text.{line_size, first_end}

@@ -1,13 +1,12 @@
 -- Record marking (RFC 5531, section 11), as a relation between a whole stream of bytes and its records.
-use Rattle.std.specs.Prelude.{◌≡◌, ℕ, ◌+◌, ◌<◌, ◌≤◌, ◌^◌, Bool, true, false, List, ◌++◌, length, map}
+use Rattle.std.specs.Prelude.{◌≡◌, ℕ, ◌+◌, ◌<◌, ◌≤◌, ◌^◌, Bool, true, false, List, ◌++◌, length, map, if◌then◌else◌}
 use Rattle.std.specs.List.{concat, flat_map, AllByRecursion}
 use Rattle.sv_xdr.specs.Spelling.{Unsigned, spelling}
 use Rattle.sv_rpc.specs.Limits.{max_record}
 
 -- A fragment's header is a word: its top bit marks the last fragment of a record, the 31 low bits are the length of the fragment's data.
 abbrev pub header_of : Bool → ℕ → List ℕ
-header_of true size = spelling (Unsigned (size + 2 ^ 31))
-header_of false size = spelling (Unsigned size)
+header_of last size = spelling (Unsigned (if last then size + 2 ^ 31 else size))
 
 -- a fragment: its header and its data
 abbrev pub fragment : Bool → List ℕ → List ℕ
@@ -36,9 +35,7 @@ pub data Tail : Type 0 where
 
 -- whether they are of a record that is too long
 abbrev pub ends_overlong : Tail → Bool
-ends_overlong (Header payload header) = false
-ends_overlong (Data payload missing last) = false
-ends_overlong TooLong = true
+ends_overlong = elim [ TooLong ↦ true | _ ↦ false ]
 
 -- Behind whole fragments that aren't the last of their record stands less than a header, or a header and less than its data, or the header
 -- that makes the record too long, and then anything.

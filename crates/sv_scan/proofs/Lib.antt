@@ -3,3 +3,4 @@ pub mod Searches
 pub mod Untouched
 pub mod Runs
 pub mod Stands
+pub mod EachSet

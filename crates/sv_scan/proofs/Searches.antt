@@ -2,12 +2,15 @@
 use Rattle.std.proofs.Common.{◌≡◌, ℕ, ◌+◌, ◌-◌, List, [], ◌∷◌, ◌++◌, length, Some, None, Option, refl, ap, ◌∙◌, arith, length-append, add-one}
 use Rattle.std.proofs.lemmas.Option.{slice_get-get_or}
 use Rattle.std.proofs.Math.Seq.{get_or-append_seam}
-use Rattle.std.specs.Prelude.{slice_get, option_map}
+use Rattle.std.specs.Prelude.{Bool, false, ◌*◌, ◌==◌, slice_get, option_map}
 use Rattle.sv_scan.specs.declared.setting.Reading.{Reading}
 use Rattle.sv_scan.specs.declared.acts.ScanAct.{ScanAct}
 use Rattle.sv_scan.specs.declared.acts.ScanAct.TheVariants.{Input, Configure, Init, Abort, Reset, Trigger, Sample}
 use Rattle.sv_scan.specs.Setting.{scan_list, count}
-use Rattle.sv_scan.specs.Scan.{before_init, triggers, samples, state, state_since, complete_since, is_complete, list_since, readings, reading, last_reading}
+use Rattle.std.specs.Option.{option_map_or}
+use Rattle.sv_scan.specs.declared.setting.State.{State}
+use Rattle.sv_scan.specs.declared.setting.State.TheVariants.{Idle}
+use Rattle.sv_scan.specs.Scan.{before_init, triggers, samples, state, state_by, is_complete, readings, reading, last_reading}
 use Rattle.sv_scan.specs.Stands.{Run, Contents, Holds, run}
 use Rattle.sv_scan.specs.Representation.{run_state, run_complete}
 
@@ -23,31 +26,19 @@ length-readings (Input channel microvolts ∷ log) = length-readings log
 length-readings (Configure setting ∷ log) = length-readings log
 length-readings (Trigger source ∷ log) = length-readings log
 
--- the last one of a list that ends so
-last_of : (xs : List Reading) (x : Reading) → slice_get (xs ++ x ∷ []) (length (xs ++ x ∷ []) - 1) ≡ Some x
-last_of xs x =
-    let size = length-append xs (x ∷ []) in
-    let place : length (xs ++ x ∷ []) - 1 ≡ length xs = omega arith in
-    ap (slice_get (xs ++ x ∷ [])) place ∙ slice_get-get_or (xs ++ x ∷ []) (length xs) x (omega arith)
-    ∙ ap (λ (y : Reading). Some y) (get_or-append_seam xs x [] x)
-
--- the last reading is the newest
-last_is : (log : List ScanAct) → slice_get (readings log) (length (readings log) - 1) ≡ last_reading log
-last_is (Sample ∷ log) = last_of (readings log) (reading log)
-last_is (Input channel microvolts ∷ log) = last_is log
-last_is (Configure setting ∷ log) = last_is log
-last_is (Trigger source ∷ log) = last_is log
-last_is _ = refl
-
+-- the last reading
 pub last_found : (found kept : List Reading) (log : List ScanAct) → found ≡ kept → kept ≡ readings log
     → slice_get found (length found - 1) ≡ last_reading log
-last_found found kept log same is = ap (λ (xs : List Reading). slice_get xs (length xs - 1)) (same ∙ is) ∙ last_is log
+last_found found kept log same is = ap (λ (xs : List Reading). slice_get xs (length xs - 1)) (same ∙ is)
 
 -- a measurement, as the acts in front of its initiation give it
 abbrev run_of : ℕ → List ScanAct → Run
 run_of count_of before = record { channels = scan_list before; scans = count before; triggers = count_of }
 
 -- the state of the measurement of the contents
+abbrev state_since : Option (List ScanAct) → ℕ → ℕ → State
+state_since before had read = option_map_or (λ acts. state_by had read (length (scan_list acts)) (count acts)) before Idle
+
 state_of_run : (before : Option (List ScanAct)) (had read : ℕ)
     → run_state (option_map (run_of had) before) read ≡ state_since before had read
 state_of_run None had read = refl
@@ -62,7 +53,7 @@ state_is contents log is =
 
 -- whether its readings are complete
 complete_of_run : (before : Option (List ScanAct)) (had read : ℕ)
-    → run_complete (option_map (run_of had) before) read ≡ complete_since before read
+    → run_complete (option_map (run_of had) before) read ≡ option_map_or (λ acts. read == count acts * length (scan_list acts)) before false
 complete_of_run None had read = refl
 complete_of_run (Some before) had read = refl
 
@@ -75,9 +66,9 @@ complete_is contents log is =
 
 -- the list of the measurement of the contents
 list_of_run : (before : Option (List ScanAct)) (had : ℕ) (r : Run) → option_map (run_of had) before ≡ Some r
-    → list_since before ≡ r.channels
+    → option_map_or scan_list before [] ≡ r.channels
 list_of_run None had r e = cc
 list_of_run (Some before) had r e = let same : run_of had before ≡ r = cc in ap (λ (run : Run). run.channels) same
 
-pub list_is : (log : List ScanAct) (r : Run) → run log ≡ Some r → list_since (before_init log) ≡ r.channels
+pub list_is : (log : List ScanAct) (r : Run) → run log ≡ Some r → option_map_or scan_list (before_init log) [] ≡ r.channels
 list_is log r e = list_of_run (before_init log) (triggers log) r e

@@ -3,21 +3,22 @@ use Rattle.std.proofs.Common.{◌≡◌, ◌≢◌, ℕ, ◌-◌, ◌<◌, ◌�
 use Rattle.std.proofs.lemmas.Bool.{cond_both, cases_lt, eqb-true, eqb-false}
 use Rattle.std.proofs.lemmas.Bool.Decides.{nat_tests}
 use Rattle.std.proofs.lemmas.List.{get_or-set_same, get_or-set_other, get_or-replicate, get_or_past, length-replicate}
-use Rattle.std.specs.Prelude.{Ok, Err, is_none, slice_index_or, slice_set}
+use Rattle.std.specs.Prelude.{Ok, Err, unwrap_or, is_none, slice_index_or, slice_set}
 use Rattle.sv_errors.specs.declared.code.Code.{Code}
 use Rattle.sv_scan.specs.declared.setting.Reading.{Reading}
 use Rattle.sv_scan.specs.declared.settings.Settings.{Settings}
 use Rattle.sv_scan.specs.declared.acts.ScanAct.{ScanAct}
 use Rattle.sv_scan.specs.declared.acts.ScanAct.TheVariants.{Input, Sample}
 use Rattle.sv_errors.specs.Limits.{is_channel, channel_count}
-use Rattle.sv_scan.specs.Setting.{range, input}
-use Rattle.sv_scan.specs.Scan.{before_init, samples, readings, reading, reading_in, channel_at, list_since}
+use Rattle.std.specs.Option.{option_map_or}
+use Rattle.sv_scan.specs.Setting.{scan_list, range, input}
+use Rattle.sv_scan.specs.Scan.{before_init, samples, readings, reading, reading_in, channel_at}
 use Rattle.sv_scan.specs.Counted.{kept, counts}
 use Rattle.sv_scan.specs.Answered.{refused_by}
 use Rattle.sv_scan.specs.Stands.{Run, Contents, Holds, StandsFor}
 use Rattle.sv_scan.specs.Representation.{contents_of}
 use Rattle.sv_scan.specs.Touched.{IsTouched, nothing}
-use Rattle.sv_scan.specs.Together.{AreDefaults}
+use Rattle.sv_scan.specs.Together.{AreOf}
 use Rattle.sv_scan.proofs.Searches.{length-readings, list_is}
 use Rattle.sv_scan.proofs.Untouched.{IsTouched-all, IsTouched-input}
 
@@ -58,13 +59,13 @@ is_in channel legal = grind (arith, nat_tests)
 -- an input
 input_after : (inputs : List ℤ) (channel other : ℕ) (microvolts before : ℤ) → length inputs ≡ channel_count → is_channel channel ≡ true
     → is_channel other ≡ true → slice_index_or inputs (other - 1) (pos 0) ≡ before
-    → slice_index_or (slice_set inputs (channel - 1) microvolts) (other - 1) (pos 0) ≡ (if channel == other then microvolts else before)
+    → slice_index_or (slice_set inputs (channel - 1) microvolts) (other - 1) (pos 0) ≡ unwrap_or (if channel == other then Some microvolts else None) before
 input_after inputs channel other microvolts before size legal known same =
     let in_range = is_in channel legal in
     let other_in = is_in other known in
     let place : channel - 1 < length inputs = omega arith in
-    cond_both (channel == other) microvolts before
-    (λ (v : ℤ). slice_index_or (slice_set inputs (channel - 1) microvolts) (other - 1) (pos 0) ≡ v)
+    cond_both (channel == other) (Some microvolts) None
+    (λ (v : Option ℤ). slice_index_or (slice_set inputs (channel - 1) microvolts) (other - 1) (pos 0) ≡ unwrap_or v before)
     (λ e. let at : other - 1 ≡ channel - 1 = ap (λ (n : ℕ). n - 1) (sym (eqb-true channel other e)) in
     ap (λ (n : ℕ). slice_index_or (slice_set inputs (channel - 1) microvolts) n (pos 0)) at
     ∙ get_or-set_same inputs (channel - 1) microvolts (pos 0) place)
@@ -103,7 +104,7 @@ sampled contents r =
 sampled_is : (contents : Contents) (log : List ScanAct) (r : Run) → contents.run ≡ Some r
     → is_channel (channel_at r.channels (length contents.readings)) ≡ true → Holds contents log → sampled contents r ≡ reading log
 sampled_is contents log r e known is =
-    let channels : list_since (before_init log) ≡ r.channels = list_is log r (sym is.run ∙ e) in
+    let channels : option_map_or scan_list (before_init log) [] ≡ r.channels = list_is log r (sym is.run ∙ e) in
     let many : length contents.readings ≡ samples log = ap length is.readings ∙ length-readings log in
     ap (reading_in contents.range) (is.inputs (channel_at r.channels (length contents.readings)) known)
     ∙ ap (λ (range : ℤ). reading_in range (input (channel_at r.channels (length contents.readings)) log)) is.range
@@ -139,7 +140,7 @@ zeros n place = elim (cases_lt place n) [
 ]
 
 -- no input was given, and each is 0
-pub StandsFor-new : (n : ℕ) (settings : Settings) → AreDefaults settings
+pub StandsFor-new : (n : ℕ) (settings : Settings) → AreOf settings []
     → StandsFor (contents_of (replicate n (pos 0)) settings None [] nothing) []
 StandsFor-new n settings are = record {
   inputs = λ channel known. zeros n (channel - 1);

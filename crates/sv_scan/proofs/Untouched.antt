@@ -1,6 +1,6 @@
 -- What an act leaves of the condition words.
 use Rattle.std.proofs.Common.{ℕ, ◌+◌, ◌==◌, ℤ, Bool, true, false, List, ◌∷◌, refl, ap, if◌then◌else◌}
-use Rattle.std.specs.Prelude.{int_lt, ◌&&◌, ◌||◌}
+use Rattle.std.specs.Prelude.{Some, None, unwrap_or, int_lt, ◌&&◌, ◌||◌}
 use Rattle.sv_scan.specs.declared.acts.ScanAct.{ScanAct}
 use Rattle.sv_scan.specs.declared.acts.ScanAct.TheVariants.{Input}
 use Rattle.sv_scan.specs.Setting.{monitor, input, limits, lower, upper}
@@ -25,5 +25,5 @@ pub IsTouched-input : (channel : ℕ) (microvolts : ℤ) (log : List ScanAct)
 IsTouched-input channel microvolts log = (
   (λ e. refl),
   (λ e. refl),
-  (λ e. ap (λ (b : Bool). live_word (if b then microvolts else input (monitor log) log) log) e),
+  (λ e. ap (λ (b : Bool). live_word (unwrap_or (if b then Some microvolts else None) (input (monitor log) log)) log) e),
 )

@@ -1,5 +1,5 @@
 -- The condition words (SCPI-1999, chapter 20), by the acts that count.
-use Rattle.std.specs.Prelude.{ℕ, ◌+◌, ◌^◌, ℤ, int_lt, ◌&&◌, ◌||◌, not, Bool, true, false, List, Option, Some, None}
+use Rattle.std.specs.Prelude.{ℕ, ◌+◌, ◌^◌, ℤ, int_lt, ◌&&◌, ◌||◌, not, Bool, true, false, List, Option, Some, None, if◌then◌else◌}
 use Rattle.sv_scan.specs.declared.setting.Reading.{Reading}
 use Rattle.sv_scan.specs.declared.setting.Reading.TheVariants.{Value, Over, Under}
 use Rattle.sv_scan.specs.declared.acts.ScanAct.{ScanAct}
@@ -9,16 +9,13 @@ use Rattle.sv_scan.specs.Counted.{is_idle, is_waiting, is_scanning}
 
 -- a bit of a word, where its condition holds
 abbrev pub bit : ℕ → Bool → ℕ
-bit place true = 2 ^ place
-bit place false = 0
+bit place holds = if holds then 2 ^ place else 0
 
 abbrev pub operation : List ScanAct → ℕ
 operation log = bit 4 (is_scanning (state log)) + bit 5 (is_waiting (state log)) + bit 8 (not (is_idle (state log)))
 
 abbrev pub is_overload : Option Reading → Bool
-is_overload (Some Over) = true
-is_overload (Some Under) = true
-is_overload _ = false
+is_overload = elim [ Some Over ↦ true | Some Under ↦ true | _ ↦ false ]
 
 -- a reading below a limit: a negative overload is below every limit
 abbrev pub is_below : Option Reading → ℤ → Bool

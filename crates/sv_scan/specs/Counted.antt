@@ -8,22 +8,19 @@ use Rattle.sv_errors.specs.declared.source.Source.TheVariants.{Immediate, Bus, E
 use Rattle.sv_scan.specs.declared.setting.State.{State}
 use Rattle.sv_scan.specs.declared.setting.State.TheVariants.{Idle, Waiting, Scanning}
 use Rattle.sv_scan.specs.declared.acts.ScanAct.{ScanAct}
-use Rattle.sv_scan.specs.declared.acts.ScanAct.TheVariants.{Input, Configure, Init, Abort, Reset, Trigger, Sample}
+use Rattle.sv_scan.specs.declared.acts.ScanAct.TheVariants.{Input, Configure, Init, Trigger, Sample}
 use Rattle.sv_errors.specs.Limits.{is_channel}
 use Rattle.sv_scan.specs.Setting.{is_possible, is_fixed, source}
 use Rattle.sv_scan.specs.Scan.{state}
 
 abbrev pub is_idle : State → Bool
-is_idle Idle = true
-is_idle _ = false
+is_idle = elim [ Idle ↦ true | _ ↦ false ]
 
 abbrev pub is_waiting : State → Bool
-is_waiting Waiting = true
-is_waiting _ = false
+is_waiting = elim [ Waiting ↦ true | _ ↦ false ]
 
 abbrev pub is_scanning : State → Bool
-is_scanning Scanning = true
-is_scanning _ = false
+is_scanning = elim [ Scanning ↦ true | _ ↦ false ]
 
 abbrev pub same_source : Source → Source → Bool
 same_source Immediate Immediate = true
@@ -34,8 +31,8 @@ same_source _ _ = false
 -- what a setting is refused with behind these acts
 abbrev pub setting_fault : List ScanAct → Setting → Option Code
 setting_fault log setting =
-    if not (is_possible setting) then Some DataOutOfRange else if is_fixed setting && not
-    (is_idle (state log)) then Some SettingsConflict else None
+    if not (is_possible setting) then Some DataOutOfRange
+    else if is_fixed setting && not (is_idle (state log)) then Some SettingsConflict else None
 
 abbrev pub init_fault : List ScanAct → Option Code
 init_fault log = if is_idle (state log) then None else Some InitIgnored
@@ -53,10 +50,9 @@ abbrev pub counts : List ScanAct → ScanAct → Bool
 counts log (Input channel microvolts) = is_channel channel
 counts log (Configure setting) = is_none (setting_fault log setting)
 counts log Init = is_none (init_fault log)
-counts log Abort = true
-counts log Reset = true
 counts log (Trigger source) = is_none (trigger_fault log source)
 counts log Sample = is_scanning (state log)
+counts log _ = true
 
 -- the acts that count, of all that happened
 abbrev pub kept : List ScanAct → List ScanAct

@@ -1,7 +1,8 @@
 -- The trigger state and the readings (SCPI-1999, volume 2, chapter 24), by counts over the acts that count, which are read from the newest.
-use Rattle.std.specs.Prelude.{ℕ, ◌*◌, ◌%◌, ◌==◌, ℤ, neg_ℤ, int_lt, nat_le, unsigned_abs, Bool, true, false, List, [], ◌∷◌, ◌++◌, length, filter, Option, Some, None, slice_index_or, if◌then◌else◌}
+use Rattle.std.specs.Prelude.{ℕ, ◌-◌, ◌*◌, ◌%◌, ◌==◌, ℤ, neg_ℤ, int_lt, nat_le, unsigned_abs, Bool, true, false, List, [], ◌∷◌, ◌++◌, length, filter, Option, Some, None, slice_get, slice_index_or, if◌then◌else◌}
 use Rattle.sv_errors.specs.Limits.{most_microvolts}
-use Rattle.sv_logs.specs.Since.{since}
+use Rattle.std.specs.Option.{option_map_or}
+use Rattle.sv_logs.specs.Since.{since, newest}
 use Rattle.sv_scan.specs.declared.setting.Reading.{Reading}
 use Rattle.sv_scan.specs.declared.setting.Reading.TheVariants.{Value, Over, Under}
 use Rattle.sv_scan.specs.declared.setting.State.{State}
@@ -11,47 +12,29 @@ use Rattle.sv_scan.specs.declared.acts.ScanAct.TheVariants.{Init, Abort, Reset, 
 use Rattle.sv_scan.specs.Setting.{scan_list, count, range, input}
 
 -- what begins a measurement or ends it
-abbrev pub starts_or_ends : ScanAct → Bool
-starts_or_ends Init = true
-starts_or_ends Abort = true
-starts_or_ends Reset = true
-starts_or_ends _ = false
+abbrev pub starts_or_ends : List ScanAct → Bool
+starts_or_ends = elim [ Init ∷ log ↦ true | Abort ∷ log ↦ true | Reset ∷ log ↦ true | _ ↦ false ]
 
 -- the acts in front of the newest of these, where it was an initiation
 abbrev pub before_init : List ScanAct → Option (List ScanAct)
-before_init [] = None
-before_init (Init ∷ log) = Some log
-before_init (Abort ∷ log) = None
-before_init (Reset ∷ log) = None
-before_init (_ ∷ log) = before_init log
-
-abbrev is_trigger : ScanAct → Bool
-is_trigger (Trigger source) = true
-is_trigger _ = false
-
-abbrev is_sample : ScanAct → Bool
-is_sample Sample = true
-is_sample _ = false
+before_init log = elim (newest starts_or_ends log) [ Init ∷ before ↦ Some before | _ ↦ None ]
 
 -- how many triggers and samples came since
 abbrev pub triggers : List ScanAct → ℕ
-triggers log = length (filter is_trigger (since starts_or_ends log))
+triggers log = length (filter (elim [ Trigger source ↦ true | _ ↦ false ]) (since starts_or_ends log))
 
 abbrev pub samples : List ScanAct → ℕ
-samples log = length (filter is_sample (since starts_or_ends log))
+samples log = length (filter (elim [ Sample ↦ true | _ ↦ false ]) (since starts_or_ends log))
 
 -- the state of a measurement, by how many triggers and samples it had, how many channels its list has, and how many scans are wanted
 abbrev pub state_by : ℕ → ℕ → ℕ → ℕ → State
 state_by triggers samples channels scans =
     if samples == scans * channels then Idle else if samples == triggers * channels then Waiting else Scanning
 
-abbrev pub state_since : Option (List ScanAct) → ℕ → ℕ → State
-state_since None triggers samples = Idle
-state_since (Some before) triggers samples = state_by triggers samples (length (scan_list before)) (count before)
-
 -- the state: that of the measurement since the last initiation, whose list and count are those of that moment; idle without one
 abbrev pub state : List ScanAct → State
-state log = state_since (before_init log) (triggers log) (samples log)
+state log =
+    option_map_or (λ before. state_by (triggers log) (samples log) (length (scan_list before)) (count before)) (before_init log) Idle
 
 -- a voltage as it reads in a range
 abbrev pub reading_in : ℤ → ℤ → Reading
@@ -66,36 +49,20 @@ is_bounded _ = true
 abbrev pub channel_at : List ℕ → ℕ → ℕ
 channel_at channels before = slice_index_or channels (before % length channels) 0
 
-abbrev pub list_since : Option (List ScanAct) → List ℕ
-list_since None = []
-list_since (Some before) = scan_list before
-
 -- what a sample reads behind these acts: the channel whose turn it is, with its input and the range as they stand there
 abbrev pub reading : List ScanAct → Reading
-reading log = reading_in (range log) (input (channel_at (list_since (before_init log)) (samples log)) log)
+reading log = reading_in (range log) (input (channel_at (option_map_or scan_list (before_init log) []) (samples log)) log)
 
 -- the readings of the measurement, oldest first
 abbrev pub readings : List ScanAct → List Reading
 readings [] = []
 readings (Sample ∷ log) = readings log ++ reading log ∷ []
-readings (Init ∷ log) = []
-readings (Abort ∷ log) = []
-readings (Reset ∷ log) = []
-readings (_ ∷ log) = readings log
+readings (act ∷ log) = if starts_or_ends (act ∷ log) then [] else readings log
 
 -- the newest of them
 abbrev pub last_reading : List ScanAct → Option Reading
-last_reading [] = None
-last_reading (Sample ∷ log) = Some (reading log)
-last_reading (Init ∷ log) = None
-last_reading (Abort ∷ log) = None
-last_reading (Reset ∷ log) = None
-last_reading (_ ∷ log) = last_reading log
-
-abbrev pub complete_since : Option (List ScanAct) → ℕ → Bool
-complete_since None samples = false
-complete_since (Some before) samples = samples == count before * length (scan_list before)
+last_reading log = slice_get (readings log) (length (readings log) - 1)
 
 -- whether the readings are valid: each channel of each scan was read
 abbrev pub is_complete : List ScanAct → Bool
-is_complete log = complete_since (before_init log) (samples log)
+is_complete log = option_map_or (λ before. samples log == count before * length (scan_list before)) (before_init log) false

@@ -1,7 +1,8 @@
 //! Which values a setting may have, and when it can be changed.
 
 ghost use Rattle.std.specs.Prelude.{◌≡◌};
-ghost use Rattle.sv_scan.specs.Setting.{is_limit as is_limit_value, is_possible as may_have, is_fixed as has_to_wait, least_range as least_range_of};
+ghost use Rattle.sv_errors.specs.Limits.{is_within};
+ghost use Rattle.sv_scan.specs.Setting.{is_possible as may_have, is_fixed as has_to_wait, least_range as least_range_of};
 
 use crate::setting::Setting;
 use sv_errors::{MOST_MICROVOLTS, MOST_SCANS, is_channel, is_channel_list};
@@ -11,7 +12,7 @@ const RANGES: (i64, i64, i64) = (1_000_000, 10_000_000, 100_000_000);
 
 /// Whether a limit may be this, in microvolts: up to 1,000 V in magnitude.
 fn is_limit(microvolts: i64) -> bool
-    ensures { result ≡ is_limit_value microvolts }
+    ensures { result ≡ is_within microvolts }
 {
     -i64::from(MOST_MICROVOLTS) <= microvolts && microvolts <= i64::from(MOST_MICROVOLTS)
 }

@@ -27,11 +27,12 @@ pub(crate) struct Settings {
 }
 
 impl Settings {
-    ghost use Rattle.sv_scan.specs.Together.{AreDefaults, IsSet};
+    ghost use Rattle.std.specs.Prelude.{[]};
+    ghost use Rattle.sv_scan.specs.Together.{AreOf, IsSet};
 
     /// Each has its default.
     pub(crate) fn new() -> Settings
-        ensures { AreDefaults result }
+        ensures { AreOf result [] }
     {
         Settings {
             list: ScanList::of(1),

@@ -1,16 +1,14 @@
 -- A status register (SCPI-1999, chapter 20, STATus): condition, filters, event and enable, each found by a search of the acts, which are
 -- read from the newest.
-use Rattle.std.specs.Prelude.{◌≡◌, ◌↔◌, ◌⊎◌, ℕ, ◌%◌, ◌^◌, ⊤, List, [], ◌∷◌}
+use Rattle.std.specs.Prelude.{◌≡◌, ◌↔◌, ◌⊎◌, ℕ, ◌%◌, ◌^◌, ⊤, List, [], ◌∷◌, Some, None}
 use Rattle.std.specs.Int.{bit_at}
-use Rattle.sv_logs.specs.Since.{Since}
+use Rattle.sv_logs.specs.Since.{Since, last_given}
 use Rattle.sv_status.specs.declared.register.RegisterAct.{RegisterAct}
 use Rattle.sv_status.specs.declared.register.RegisterAct.TheVariants.{Condition, SetFilter, SetEnable, ReadEvent, Preset, Clear}
 
 -- the condition that came last
 abbrev pub condition : List RegisterAct → ℕ
-condition [] = 0
-condition (Condition word ∷ acts) = word
-condition (_ ∷ acts) = condition acts
+condition = last_given (elim [ Condition word ↦ Some word | _ ↦ None ]) 0
 
 -- a mask that is written loses bit 15
 abbrev pub masked : ℕ → ℕ
@@ -18,23 +16,14 @@ masked word = word % 2 ^ 15
 
 -- the filters: as they were last set or preset
 abbrev pub rise : List RegisterAct → ℕ
-rise [] = 32767
-rise (SetFilter up down ∷ acts) = masked up
-rise (Preset ∷ acts) = 32767
-rise (_ ∷ acts) = rise acts
+rise = last_given (elim [ SetFilter up down ↦ Some (masked up) | Preset ↦ Some 32767 | _ ↦ None ]) 32767
 
 abbrev pub fall : List RegisterAct → ℕ
-fall [] = 0
-fall (SetFilter up down ∷ acts) = masked down
-fall (Preset ∷ acts) = 0
-fall (_ ∷ acts) = fall acts
+fall = last_given (elim [ SetFilter up down ↦ Some (masked down) | Preset ↦ Some 0 | _ ↦ None ]) 0
 
 -- the enable of a register that starts with this one, which a preset brings back
 abbrev pub enable : ℕ → List RegisterAct → ℕ
-enable start [] = start
-enable start (SetEnable word ∷ acts) = masked word
-enable start (Preset ∷ acts) = start
-enable start (_ ∷ acts) = enable start acts
+enable start = last_given (elim [ SetEnable word ↦ Some (masked word) | Preset ↦ Some start | _ ↦ None ]) start
 
 -- At the newest act a bit of the condition changes in a direction whose filter was on before.
 abbrev pub Passes : ℕ → List RegisterAct → Type 0
@@ -45,9 +34,7 @@ Passes k (act ∷ before) =
 
 -- The newest act doesn't clear the event register.
 abbrev pub NotCleared : List RegisterAct → Type 0
-NotCleared (ReadEvent ∷ acts) = ⊥
-NotCleared (Clear ∷ acts) = ⊥
-NotCleared _ = ⊤
+NotCleared = elim [ ReadEvent ∷ acts ↦ ⊥ | Clear ∷ acts ↦ ⊥ | _ ↦ ⊤ ]
 
 -- A bit of the event register stands exactly if it passed its filter after the last clearing.
 abbrev pub EventStands : ℕ → List RegisterAct → Type 0

@@ -1,7 +1,7 @@
 -- The standard event status register (IEEE 488.2, 11.5.1), found by a search of the acts, which are read from the newest.
-use Rattle.std.specs.Prelude.{◌≡◌, ◌↔◌, ℕ, ⊤, List, [], ◌∷◌}
+use Rattle.std.specs.Prelude.{◌≡◌, ◌↔◌, ℕ, ⊤, List, [], ◌∷◌, Some, None}
 use Rattle.std.specs.Int.{bit_at}
-use Rattle.sv_logs.specs.Since.{Since}
+use Rattle.sv_logs.specs.Since.{Since, last_given}
 use Rattle.sv_status.specs.declared.standard_event.StandardAct.{StandardAct}
 use Rattle.sv_status.specs.declared.standard_event.StandardAct.TheVariants.{Occur, Read, SetEnable, Clear}
 
@@ -13,9 +13,7 @@ Occurs k (_ ∷ acts) = ⊥
 
 -- The newest act doesn't clear the register.
 abbrev pub NotCleared : List StandardAct → Type 0
-NotCleared (Read ∷ acts) = ⊥
-NotCleared (Clear ∷ acts) = ⊥
-NotCleared _ = ⊤
+NotCleared = elim [ Read ∷ acts ↦ ⊥ | Clear ∷ acts ↦ ⊥ | _ ↦ ⊤ ]
 
 -- A bit stands exactly if its event occurred after the last clearing.
 abbrev pub Stands : ℕ → List StandardAct → Type 0
@@ -23,9 +21,7 @@ Stands k acts = Since (Occurs k) NotCleared acts
 
 -- the enable that was set last
 abbrev pub enable : List StandardAct → ℕ
-enable [] = 0
-enable (SetEnable word ∷ acts) = word
-enable (_ ∷ acts) = enable acts
+enable = last_given (elim [ SetEnable word ↦ Some word | _ ↦ None ]) 0
 
 -- Some event stands that is enabled.
 abbrev pub Summary : List StandardAct → Type 0

@@ -1,20 +1,16 @@
 -- The status byte and requests for service (IEEE 488.2, 11.2 and 11.3), found by a search of the acts, which are read from the newest.
-use Rattle.std.specs.Prelude.{◌≡◌, ◌≢◌, ◌↔◌, ◌⊎◌, ℕ, Bool, true, List, [], ◌∷◌}
+use Rattle.std.specs.Prelude.{◌≡◌, ◌≢◌, ◌↔◌, ◌⊎◌, ℕ, Bool, true, List, [], ◌∷◌, Some, None}
 use Rattle.std.specs.Int.{bit_at}
-use Rattle.sv_logs.specs.Since.{Since}
+use Rattle.sv_logs.specs.Since.{Since, last_given}
 use Rattle.sv_status.specs.declared.status_byte.StatusAct.{StatusAct}
 use Rattle.sv_status.specs.declared.status_byte.StatusAct.TheVariants.{Update, Poll}
 
 -- the summary bits, and which of them ask for service, as they came last
 abbrev pub bits : List StatusAct → ℕ
-bits [] = 0
-bits (Update word mask ∷ acts) = word
-bits (Poll ∷ acts) = bits acts
+bits = last_given (elim [ Update word mask ↦ Some word | _ ↦ None ]) 0
 
 abbrev pub enable : List StatusAct → ℕ
-enable [] = 0
-enable (Update word mask ∷ acts) = mask
-enable (Poll ∷ acts) = enable acts
+enable = last_given (elim [ Update word mask ↦ Some mask | _ ↦ None ]) 0
 
 -- A summary bit stands and is enabled; bit 6 is no summary bit.
 abbrev pub Asks : ℕ → ℕ → ℕ → Type 0

@@ -1,9 +1,9 @@
 -- The first part of text, and those behind it.
 use Rattle.std.proofs.Common.{◌≡◌, ℕ, suc, ◌+◌, ◌<◌, ◌≤◌, ◌==◌, Bool, true, false, not, cond, List, [], ◌∷◌, ◌++◌, length, take, drop, refl, ap, ◌∙◌, inl, inr, nat_lt, arith}
-use Rattle.std.specs.List.{position_or_len}
+use Rattle.std.specs.List.{position_or_len, onto_first as onto}
 use Rattle.std.proofs.lemmas.Bool.{cases_lt, lt-ltb, le-ltb, eqb-true}
 use Rattle.std.proofs.lemmas.List.{take_all}
-use Rattle.sv_text.specs.Cut.{cut_at, onto}
+use Rattle.sv_text.specs.Cut.{cut_at}
 
 -- where the first separator stands
 abbrev pub part_size : ℕ → List ℕ → ℕ

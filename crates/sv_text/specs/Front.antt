@@ -1,5 +1,6 @@
 -- What a text begins with.
-use Rattle.std.specs.Prelude.{ℕ, ◌==◌, Bool, true, false, List, [], ◌∷◌}
+use Rattle.std.specs.Prelude.{ℕ, ◌==◌, Bool, true, false, List, [], ◌∷◌, slice_get}
+use Rattle.std.specs.Option.{option_map_or}
 
 -- nothing is there
 abbrev pub is_empty : List ℕ → Bool
@@ -8,5 +9,4 @@ is_empty (byte ∷ bytes) = false
 
 -- a minus stands in front
 abbrev pub has_minus : List ℕ → Bool
-has_minus [] = false
-has_minus (byte ∷ bytes) = byte == 45
+has_minus text = option_map_or (λ b. b == 45) (slice_get text 0) false

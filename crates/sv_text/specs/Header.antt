@@ -1,16 +1,13 @@
 -- The parts of a header (IEEE 488.2, 7.6.1; SCPI-1999, volume 1, chapter 6): what leads it, its mnemonics, and the query sign at its end.
-use Rattle.std.specs.Prelude.{ℕ, ◌-◌, ◌==◌, Bool, false, List, [], ◌∷◌, length, take, drop, Option, Some, None, slice_get, if◌then◌else◌}
+use Rattle.std.specs.Prelude.{ℕ, ◌-◌, ◌==◌, Bool, false, List, [], ◌∷◌, length, take, drop, slice_get, if◌then◌else◌}
+use Rattle.std.specs.Option.{option_map_or}
 use Rattle.sv_text.specs.Cut.{cut_at}
 use Rattle.sv_text.specs.declared.header.Lead.{Lead}
 use Rattle.sv_text.specs.declared.header.Lead.TheVariants.{Common, Root, Onward}
 
-abbrev is_sign : Option ℕ → Bool
-is_sign None = false
-is_sign (Some b) = b == 63
-
 -- whether it ends in a query sign
 abbrev pub is_query : List ℕ → Bool
-is_query text = is_sign (slice_get text (length text - 1))
+is_query text = option_map_or (λ b. b == 63) (slice_get text (length text - 1)) false
 
 -- without the query sign
 abbrev pub unsigned : List ℕ → List ℕ
@@ -21,13 +18,9 @@ abbrev pub lead : List ℕ → Lead
 lead [] = Onward
 lead (b ∷ text) = if b == 42 then Common else if b == 58 then Root else Onward
 
-abbrev lead_size : Lead → ℕ
-lead_size Onward = 0
-lead_size _ = 1
-
 -- what stands between the lead and the query sign
 abbrev pub body : List ℕ → List ℕ
-body text = drop (lead_size (lead text)) (unsigned text)
+body text = drop (elim (lead text) [ Onward ↦ 0 | _ ↦ 1 ]) (unsigned text)
 
 -- the mnemonics, as they were sent: the parts between colons
 abbrev pub mnemonics : List ℕ → List (List ℕ)

@@ -2,6 +2,7 @@
 use Rattle.std.proofs.Common.{◌≡◌, ℕ, zero, suc, ◌+◌, ◌-◌, ◌<◌, ◌≤◌, ◌&&◌, Bool, true, false, not, cond, List, [], ◌∷◌, ◌++◌, length, refl, ap, ◌∙◌, inl, inr, arith}
 use Rattle.std.specs.Prelude.{nat_le, nat_lt, is_some, Option, Some, None, Result, Ok, Err, MatchResult, IfOk}
 use Rattle.std.specs.List.{list_all}
+use Rattle.std.specs.Option.{option_map_or}
 use Rattle.std.proofs.lemmas.Bool.{cases_lt, le-leb, leb-true, ltb-false}
 use Rattle.std.proofs.lemmas.List.{length-append}
 use Rattle.std.proofs.lemmas.List.Folds.{list_all-append}
@@ -86,7 +87,7 @@ listed-channels (item ∷ items) before list all most some h =
     item-channels (span item) before list (λ so_far. listed so_far items) all
     (λ so_far a m s e. listed-channels items so_far list a m (omega (arith, s)) e) h
 
-items-channels : (o : Option (List ℕ)) (list : List ℕ) → read_items o ≡ Ok list → is_channel_list list ≡ true
+items-channels : (o : Option (List ℕ)) (list : List ℕ) → option_map_or read_items o (Err InvalidExpression) ≡ Ok list → is_channel_list list ≡ true
 items-channels None list h = absurd cc
 items-channels (Some text) list h = at (list_all (λ item. is_some (span item)) (cut_at 44 text)) h
   where

@@ -13,7 +13,7 @@ use Rattle.std.proofs.lemmas.Fmt.{decimal_is_IsNumeral}
 use Rattle.sv_text.specs.White.{trim_start}
 use Rattle.sv_errors.specs.declared.code.Code.TheVariants.{InvalidSuffix}
 use Rattle.sv_value.specs.Decimal.{Parts, digits_in, behind_digits, fraction_in, behind_fraction, is_down, exponent_in, behind_exponent}
-use Rattle.sv_value.specs.Number.{magnitude, nearest, significant, signed, read_with}
+use Rattle.sv_value.specs.Number.{magnitude, nearest, significant_digits, signed, read_with}
 use Rattle.sv_value.specs.Value.{power_of_volts, within_volts}
 use Rattle.sv_value.specs.PrintedVoltage.{PrintedIsRead, six_digits}
 use Rattle.sv_value.proofs.Pieces.{digits-joined, behind-joined}
@@ -104,12 +104,12 @@ read-parts negative m le =
     let short = volts_short m le in
     let six = length-six (m % 1000000) (omega arith) in
     let joined = length-append whole fraction in
-    let few : significant (parts-of negative whole fraction []) ≤ 255 = omega (arith, short, six, joined) in
+    let few : significant_digits (whole ++ fraction) ≤ 255 = omega (arith, short, six, joined) in
     let even : length fraction + 0 ≡ 6 = omega (arith, six) in
     let value : magnitude 6 (parts-of negative whole fraction []) ≡ m =
     ap (λ k. nearest (digits_value 10 (whole ++ fraction) * 10 ^ 6) (10 ^ k)) even
     ∙ nearest-right (digits_value 10 (whole ++ fraction)) 6 6 (omega arith) ∙ (let v = whole-value m le in omega (arith, v)) in
-    rw (some, le-ltb 255 (significant (parts-of negative whole fraction [])) few, value) refl
+    rw (some, le-ltb 255 (significant_digits (whole ++ fraction)) few, value) refl
 
 pub read-again : PrintedIsRead
 read-again (pos n) le =

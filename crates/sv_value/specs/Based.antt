@@ -1,5 +1,6 @@
 -- Numbers in another base (IEEE 488.2, 7.7.4).
-use Rattle.std.specs.Prelude.{ℕ, ℤ, pos, ◌==◌, ◌||◌, not, Bool, false, List, [], ◌∷◌, Option, Some, None, Result, Ok, Err, if◌then◌else◌}
+use Rattle.std.specs.Prelude.{ℕ, ℤ, pos, ◌==◌, ◌||◌, not, Bool, false, List, ◌∷◌, slice_get, Option, Some, None, Result, Ok, Err, if◌then◌else◌}
+use Rattle.std.specs.Option.{option_map_or}
 use Rattle.std.specs.Char.{is_digit}
 use Rattle.std.specs.List.{list_all}
 use Rattle.std.specs.Str.Parse.{digits_value}
@@ -13,8 +14,7 @@ base_of letter =
     then Some 2 else None
 
 abbrev pub begins_with_digit : ℕ → List ℕ → Bool
-begins_with_digit base [] = false
-begins_with_digit base (b ∷ digits) = is_digit b base
+begins_with_digit base digits = option_map_or (λ b. is_digit b base) (slice_get digits 0) false
 
 abbrev pub read_digits : Option ℕ → List ℕ → Result ℤ Code
 read_digits None digits = Err SyntaxError
@@ -25,6 +25,5 @@ read_digits (Some base) digits =
 
 -- a number sign, a letter for the base, and digits; or what is wrong with them
 abbrev pub read_based : List ℕ → Result ℤ Code
-read_based [] = Err SyntaxError
-read_based (sign ∷ []) = Err SyntaxError
 read_based (sign ∷ letter ∷ digits) = read_digits (base_of letter) digits
+read_based _ = Err SyntaxError

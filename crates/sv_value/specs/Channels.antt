@@ -2,6 +2,7 @@
 use Rattle.std.specs.Prelude.{ℕ, ◌+◌, ◌-◌, ◌==◌, ◌&&◌, not, Bool, false, List, [], ◌∷◌, ◌++◌, length, take, reverse, nat_le, nat_lt, slice_get, Option, Some, None, is_some, Result, Ok, Err, if◌then◌else◌}
 use Rattle.sv_text.specs.Front.{is_empty}
 use Rattle.std.specs.List.{list_all, range_with_len}
+use Rattle.std.specs.Option.{option_map_or}
 use Rattle.std.specs.Char.{is_ascii_digit}
 use Rattle.std.specs.Str.Parse.{digits_value}
 use Rattle.sv_errors.specs.Limits.{is_channel, longest_list}
@@ -10,18 +11,14 @@ use Rattle.sv_errors.specs.declared.code.Code.TheVariants.{DataOutOfRange, TooMu
 use Rattle.sv_text.specs.White.{trim}
 use Rattle.sv_text.specs.Cut.{cut_at}
 
-abbrev closes : Option ℕ → Bool
-closes None = false
-closes (Some b) = b == 41
-
 abbrev closed : List ℕ → Option (List ℕ)
-closed text = if closes (slice_get text (length text - 1)) then Some (take (length text - 1) text) else None
+closed text =
+    if option_map_or (λ b. b == 41) (slice_get text (length text - 1)) false then Some (take (length text - 1) text) else None
 
 -- what stands between `(@` and `)`
 abbrev pub inner : List ℕ → Option (List ℕ)
-inner [] = None
-inner (a ∷ []) = None
 inner (a ∷ b ∷ text) = if a == 40 && b == 64 then closed text else None
+inner _ = None
 
 -- digits, and perhaps white space around them
 abbrev pub is_number : List ℕ → Bool
@@ -36,10 +33,9 @@ pub record Span : Type 0 where
   pub last : ℕ
 
 abbrev pub span_of : List (List ℕ) → Option Span
-span_of [] = None
 span_of (a ∷ []) = if is_number a then Some (record { first = number a; last = number a }) else None
 span_of (a ∷ b ∷ []) = if is_number a && is_number b then Some (record { first = number a; last = number b }) else None
-span_of (a ∷ b ∷ c ∷ others) = None
+span_of _ = None
 
 abbrev pub span : List ℕ → Option Span
 span item = span_of (cut_at 58 item)
@@ -62,11 +58,9 @@ abbrev pub listed : List ℕ → List (List ℕ) → Result (List ℕ) Code
 listed before [] = Ok before
 listed before (item ∷ items) = next (span item) before (λ so_far. listed so_far items)
 
-abbrev pub read_items : Option (List ℕ) → Result (List ℕ) Code
-read_items None = Err InvalidExpression
-read_items (Some text) = if list_all (λ item. is_some (span item)) (cut_at 44 text) then listed []
-    (cut_at 44 text) else Err InvalidExpression
+abbrev pub read_items : List ℕ → Result (List ℕ) Code
+read_items text = if list_all (λ item. is_some (span item)) (cut_at 44 text) then listed [] (cut_at 44 text) else Err InvalidExpression
 
 -- the channels of a list, or what is wrong with it
 abbrev pub read_list : List ℕ → Result (List ℕ) Code
-read_list text = read_items (inner text)
+read_list text = option_map_or read_items (inner text) (Err InvalidExpression)

@@ -1,6 +1,7 @@
 -- How decimal numbers are spelled (IEEE 488.2, 7.7.2 and 7.7.3): a sign, digits with a point, an exponent, and a suffix.
-use Rattle.std.specs.Prelude.{ℕ, ◌==◌, ◌&&◌, ◌||◌, not, Bool, true, List, [], ◌∷◌, take, drop, if◌then◌else◌}
+use Rattle.std.specs.Prelude.{ℕ, ◌==◌, ◌&&◌, ◌||◌, not, Bool, true, List, [], ◌∷◌, take, drop, slice_get, if◌then◌else◌}
 use Rattle.sv_text.specs.Front.{is_empty, has_minus}
+use Rattle.std.specs.Option.{option_map_or}
 use Rattle.std.specs.List.{position_or_len}
 use Rattle.std.specs.Char.{is_ascii_digit, is_ascii_alphabetic}
 use Rattle.sv_text.specs.White.{trim_start}
@@ -75,8 +76,7 @@ number_parts text = record {
 
 -- whether a letter begins a suffix, where there is one
 abbrev pub begins_well : List ℕ → Bool
-begins_well [] = true
-begins_well (b ∷ suffix) = is_ascii_alphabetic b
+begins_well suffix = option_map_or is_ascii_alphabetic (slice_get suffix 0) true
 
 -- whether there is a digit, and what stands behind the number begins with a letter
 abbrev pub is_spelled : Parts → Bool

@@ -1,5 +1,5 @@
 -- The value of a decimal number: a fraction of two whole numbers, rounded to the nearest, half away from zero.
-use Rattle.std.specs.Prelude.{ℕ, ◌+◌, ◌-◌, ◌*◌, ◌/◌, ◌^◌, ℤ, pos, neg_ℤ, ◌==◌, Bool, true, false, List, ◌++◌, length, nat_lt, not, Option, Some, None, Result, Ok, Err, if◌then◌else◌}
+use Rattle.std.specs.Prelude.{ℕ, ◌+◌, ◌-◌, ◌*◌, ◌/◌, ◌^◌, ℤ, pos, neg_ℤ, ◌==◌, Bool, List, ◌++◌, length, nat_lt, not, Option, Some, None, Result, Ok, Err, if◌then◌else◌}
 use Rattle.std.specs.List.{position_or_len}
 use Rattle.std.specs.Str.Parse.{digits_value}
 use Rattle.sv_errors.specs.declared.code.Code.{Code}
@@ -23,30 +23,20 @@ magnitude power number = nearest (digits_value 10 (number.whole ++ number.fracti
     (10 ^ (length number.fraction + left number))
 
 abbrev pub signed : Bool → ℕ → ℤ
-signed true n = neg_ℤ (pos n)
-signed false n = pos n
-
-abbrev pub value : ℕ → Parts → ℤ
-value power number = signed number.negative (magnitude power number)
+signed negative n = if negative then neg_ℤ (pos n) else pos n
 
 -- how many digits a mantissa has, without the zeros in front
-abbrev pub zeros : List ℕ → ℕ
-zeros digits = position_or_len (λ b. not (b == 48)) digits
-
 abbrev pub significant_digits : List ℕ → ℕ
-significant_digits digits = length digits - zeros digits
-
-abbrev pub significant : Parts → ℕ
-significant number = significant_digits (number.whole ++ number.fraction)
+significant_digits digits = length digits - position_or_len (λ b. not (b == 48)) digits
 
 -- a number in a unit that its suffix gives, or else what is wrong with it: the first of these
 abbrev pub read_with : Option ℕ → Code → Parts → Result ℤ Code
 read_with None suffix_code number = if not (is_spelled number) then Err InvalidCharacterInNumber else Err suffix_code
 read_with (Some power) suffix_code number =
     if not (is_spelled number) then Err InvalidCharacterInNumber
-    else if nat_lt 255 (significant number) then Err TooManyDigits
+    else if nat_lt 255 (significant_digits (number.whole ++ number.fraction)) then Err TooManyDigits
     else if nat_lt 32000 (digits_value 10 number.exponent) then Err ExponentTooLarge
-    else Ok (value power number)
+    else Ok (signed number.negative (magnitude power number))
 
 abbrev pub read_decimal : (List ℕ → Option ℕ) → Code → List ℕ → Result ℤ Code
 read_decimal power_of suffix_code text = read_with (power_of (number_parts text).suffix) suffix_code (number_parts text)

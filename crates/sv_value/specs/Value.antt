@@ -1,7 +1,7 @@
 -- What the value of a parameter is, by its kind, or which error it is.
-use Rattle.std.specs.Prelude.{◌≡◌, ℕ, ℤ, pos, negsuc, neg_ℤ, int_le, nat_le, ◌&&◌, ◌==◌, Bool, true, false, List, codes, Option, Some, None, Result, Ok, Err, if◌then◌else◌}
+use Rattle.std.specs.Prelude.{◌≡◌, ℕ, ℤ, pos, negsuc, nat_le, ◌&&◌, ◌||◌, ◌==◌, Bool, true, false, List, codes, Option, Some, None, Result, Ok, Err, if◌then◌else◌}
 use Rattle.sv_text.specs.Front.{is_empty}
-use Rattle.sv_errors.specs.Limits.{most_microvolts, is_channel_list}
+use Rattle.sv_errors.specs.Limits.{is_within, is_channel_list}
 use Rattle.sv_errors.specs.declared.code.Code.{Code}
 use Rattle.sv_errors.specs.declared.code.Code.TheVariants.{SyntaxError, DataTypeError, InvalidSuffix, SuffixNotAllowed, DataOutOfRange}
 use Rattle.sv_errors.specs.declared.source.Source.{Source}
@@ -9,14 +9,14 @@ use Rattle.sv_lexer.specs.declared.token.Kind.{Kind}
 use Rattle.sv_lexer.specs.declared.token.Kind.TheVariants.{Number, Base, Word, Expression, Other}
 use Rattle.sv_value.specs.Number.{read_decimal}
 use Rattle.sv_value.specs.Based.{read_based}
-use Rattle.sv_value.specs.Choice.{is_same, read_switch, read_keyword}
+use Rattle.std.specs.Str.{str_eq_ignore_ascii_case as is_same}
+use Rattle.sv_value.specs.Choice.{read_switch, read_keyword}
 use Rattle.sv_value.specs.Channels.{read_list}
 
 -- how many powers of ten a unit of voltage is above the microvolt; no suffix is volts
 abbrev pub power_of_volts : List ℕ → Option ℕ
 power_of_volts suffix =
-    if is_empty suffix then Some 6
-    else if is_same suffix (codes "V") then Some 6
+    if is_empty suffix || is_same suffix (codes "V") then Some 6
     else if is_same suffix (codes "KV") then Some 9
     else if is_same suffix (codes "MV") then Some 3
     else if is_same suffix (codes "UV") then Some 0
@@ -28,14 +28,12 @@ power_of_none suffix = if is_empty suffix then Some 0 else None
 
 -- data of a kind that the place doesn't take
 abbrev pub wrong_kind : Kind → Code
-wrong_kind Other = SyntaxError
-wrong_kind _ = DataTypeError
+wrong_kind = elim [ Other ↦ SyntaxError | _ ↦ DataTypeError ]
 
 -- up to 1,000 V in magnitude
 abbrev pub within_volts : Result ℤ Code → Result ℤ Code
 within_volts (Err code) = Err code
-within_volts (Ok value) = if int_le (neg_ℤ (pos most_microvolts)) value && int_le value
-    (pos most_microvolts) then Ok value else Err DataOutOfRange
+within_volts (Ok value) = if is_within value then Ok value else Err DataOutOfRange
 
 -- a voltage, in microvolts
 abbrev pub read_voltage : Kind → List ℕ → Result ℤ Code

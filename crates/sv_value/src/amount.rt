@@ -2,9 +2,9 @@
 
 ghost use Rattle.std.specs.Prelude.{◌≡◌, ◌≤◌, ◌++◌, ◌==◌, ℤ, not, true, length, position, Result, Ok, Err, MatchResult, IfOk, IfSome, unsigned_abs};
 ghost use Rattle.std.specs.Char.{is_ascii_digit};
-ghost use Rattle.std.specs.List.{list_all};
+ghost use Rattle.std.specs.List.{list_all, position_or_len};
 ghost use Rattle.sv_errors.specs.declared.code.Code.{Code as ErrorCode};
-ghost use Rattle.sv_value.specs.Number.{read_with, significant_digits, zeros};
+ghost use Rattle.sv_value.specs.Number.{read_with, significant_digits};
 ghost use Rattle.sv_value.specs.Plain.{plain, StandsFor};
 ghost use Rattle.sv_value.specs.Value.{is_on, within, within_volts};
 
@@ -108,7 +108,7 @@ fn significant(whole: &[u8], fraction: &[u8]) -> usize
 
 /// How many zeros stand in front.
 fn zeros_in(digits: &[u8]) -> usize
-    ensures value { result ≡ zeros digits.now }
+    ensures value { result ≡ position_or_len (λ b. not (b == 48)) digits.now }
     ensures within { result ≤ length digits.now }
 {
     zeros_end(digits).unwrap_or(digits.len())

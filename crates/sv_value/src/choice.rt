@@ -3,7 +3,8 @@
 ghost use Rattle.std.specs.Prelude.{◌≡◌, IsTrue};
 ghost use Rattle.std.specs.List.{list_all};
 ghost use Rattle.sv_lexer.specs.Spelled.{is_word_byte};
-ghost use Rattle.sv_value.specs.Choice.{is_same as is_same_text, read_keyword, read_switch};
+ghost use Rattle.std.specs.Str.{str_eq_ignore_ascii_case};
+ghost use Rattle.sv_value.specs.Choice.{read_keyword, read_switch};
 
 use sv_errors::{Code, Source};
 
@@ -44,7 +45,7 @@ pub(crate) fn switch_of(text: &[u8]) -> Result<bool, Code>
 
 /// Whether two texts are the same in any case.
 pub(crate) fn is_same(text: &[u8], other: &[u8]) -> bool
-    ensures { result ≡ is_same_text text.now other.now }
+    ensures { result ≡ str_eq_ignore_ascii_case text.now other.now }
 {
     text.eq_ignore_ascii_case(other)
 }

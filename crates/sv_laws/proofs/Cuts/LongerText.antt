@@ -3,7 +3,7 @@ use Rattle.std.proofs.Common.{◌≡◌, ◌≢◌, ℕ, zero, suc, ◌+◌, ◌
 use Rattle.std.specs.Prelude.{slice_index_or, nat_lt, ◌==◌}
 use Rattle.std.specs.List.{AllByRecursion}
 use Rattle.std.proofs.lemmas.Bool.{ltb-true, ne_eqb}
-use Rattle.sv_text.specs.Cut.{onto}
+use Rattle.std.specs.List.{onto_first as onto}
 use Rattle.sv_exchange.specs.Exchange.{ExchangeAct, Accepted, Symbol, Byte, End, end_mark, text, messages, finished, message, has_ended, is_long}
 use Rattle.sv_exchange.specs.Limits.{max_message}
 use Rattle.sv_laws.proofs.Cuts.SameExchange.{text_cut}

@@ -3,8 +3,16 @@ use Rattle.std.proofs.Common.{◌≡◌, ℕ, suc, ◌+◌, Bool, false, cond, L
 use Rattle.std.specs.Prelude.{slice_index_or, slice_get, nat_lt, not, ◌&&◌, ◌==◌, None, if◌then◌else◌}
 use Rattle.std.proofs.lemmas.Bool.{cases_Bool}
 use Rattle.std.proofs.lemmas.List.{map-append}
-use Rattle.sv_exchange.specs.Exchange.{ExchangeAct, Accepted, TextDropped, Overran, UnitDone, Answered, AnswersDropped, Finished, Interrupted, ResponseRead, Symbol, Byte, end_mark, text, messages, finished, current, units_done, has_overrun, has_dropped, answered, answers, message, has_ended, joined, is_answered, whole_response, read_since, response, is_something, units, next_unit, Due, OverrunDue, due_unit, due}
+use Rattle.sv_exchange.specs.Exchange.{ExchangeAct, Accepted, TextDropped, Overran, UnitDone, Answered, AnswersDropped, Finished, Interrupted, ResponseRead, Symbol, Byte, end_mark, text, messages, finished, current, units_done, has_overrun, has_dropped, answered, answers, message, has_ended, joined, renews, renewed, bytes_read, response, is_something, units, next_unit, Due, OverrunDue, due_unit, due}
 use Rattle.sv_exchange.specs.Limits.{max_message}
+use Rattle.sv_logs.specs.Since.{since, newest}
+
+-- the response as it was when it began, and how many bytes were read since
+abbrev whole_response : List ExchangeAct → List ℕ
+whole_response acts = renewed (newest renews acts)
+
+abbrev read_since : List ExchangeAct → ℕ
+read_since acts = bytes_read (since renews acts)
 
 -- what is found without a look at the text
 pub record SameExchange (acts other : List ExchangeAct) : Type 0 where
@@ -39,11 +47,11 @@ answers_same acts other v = ap (λ (b : Bool). cond b [] (answered (current acts
 
 -- a message is finished: its answers become the response, if it had any
 whole_finished : (acts : List ExchangeAct)
-    → whole_response (Finished ∷ acts) ≡ cond (is_answered (answers acts)) (joined (answers acts) ++ 10 ∷ []) (whole_response acts)
-whole_finished acts = elim (cases_Bool (is_answered (answers acts))) [ inl e ↦ rw e refl | inr e ↦ rw e refl ]
+    → whole_response (Finished ∷ acts) ≡ cond (is_something (answers acts)) (joined (answers acts) ++ 10 ∷ []) (whole_response acts)
+whole_finished acts = elim (cases_Bool (is_something (answers acts))) [ inl e ↦ rw e refl | inr e ↦ rw e refl ]
 
-read_finished : (acts : List ExchangeAct) → read_since (Finished ∷ acts) ≡ cond (is_answered (answers acts)) 0 (read_since acts)
-read_finished acts = elim (cases_Bool (is_answered (answers acts))) [ inl e ↦ rw e refl | inr e ↦ rw e refl ]
+read_finished : (acts : List ExchangeAct) → read_since (Finished ∷ acts) ≡ cond (is_something (answers acts)) 0 (read_since acts)
+read_finished acts = elim (cases_Bool (is_something (answers acts))) [ inl e ↦ rw e refl | inr e ↦ rw e refl ]
 
 exchange_finished : (acts other : List ExchangeAct) → SameExchange acts other → SameExchange (Finished ∷ acts) (Finished ∷ other)
 exchange_finished acts other v =
@@ -55,11 +63,11 @@ exchange_finished acts other v =
       dropped = refl;
       given = refl;
       whole = whole_finished acts
-          ∙ ap (λ (l : List (List ℕ)). cond (is_answered l) (joined l ++ 10 ∷ []) (whole_response acts)) same
-          ∙ ap (λ (l : List ℕ). cond (is_answered (answers other)) (joined (answers other) ++ 10 ∷ []) l) v.whole
+          ∙ ap (λ (l : List (List ℕ)). cond (is_something l) (joined l ++ 10 ∷ []) (whole_response acts)) same
+          ∙ ap (λ (l : List ℕ). cond (is_something (answers other)) (joined (answers other) ++ 10 ∷ []) l) v.whole
           ∙ sym (whole_finished other);
-      read = read_finished acts ∙ ap (λ (l : List (List ℕ)). cond (is_answered l) 0 (read_since acts)) same
-          ∙ ap (λ (n : ℕ). cond (is_answered (answers other)) 0 n) v.read ∙ sym (read_finished other);
+      read = read_finished acts ∙ ap (λ (l : List (List ℕ)). cond (is_something l) 0 (read_since acts)) same
+          ∙ ap (λ (n : ℕ). cond (is_something (answers other)) 0 n) v.read ∙ sym (read_finished other);
     }
 
 -- the same act

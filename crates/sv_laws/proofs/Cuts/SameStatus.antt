@@ -1,21 +1,20 @@
 -- Two logs of the instrument that are the same but for where program text was accepted: no search of its status tells them apart.
 use Rattle.std.proofs.Common.{◌≡◌, ℕ, Bool, true, false, List, [], ◌∷◌, refl, sym, ap, ◌∙◌, inl, inr, arith}
-use Rattle.std.specs.Prelude.{◌↔◌, ◌+◌, not, if◌then◌else◌}
+use Rattle.std.specs.Prelude.{◌↔◌, ◌+◌, not, unwrap_or}
 use Rattle.std.specs.Int.{bit_at}
 use Rattle.sv_errors.specs.declared.error_queue.QueueAct.{QueueAct}
 use Rattle.sv_errors.specs.declared.error_queue.QueueAct.TheVariants as queue_act
-use Rattle.sv_errors.specs.ErrorQueue.{entries, is_any, is_full}
+use Rattle.sv_errors.specs.ErrorQueue.{entries, is_full}
 use Rattle.sv_logs.specs.Since.{Since}
 use Rattle.sv_logs.proofs.Since.{since_empty, since_step, then_same}
 use Rattle.sv_status.specs.declared.register_name.RegisterName.{RegisterName}
 use Rattle.sv_status.specs.declared.register_name.RegisterName.TheVariants.{Operation, Questionable, Limit}
-use Rattle.sv_status.specs.Register.{masked}
 use Rattle.sv_scan.specs.declared.acts.ScanAct.{ScanAct}
 use Rattle.sv_scan.specs.Counted.{kept}
 use Rattle.sv_scan.specs.Condition as scan
 use Rattle.sv_exchange.specs.Exchange.{Accepted, TextDropped, Interrupted, response, is_something}
 use Rattle.sv_layers.specs.Act.{Act, Exchanged, Purged, Scanned, Reported, EntryTaken, Cleared, Preset, OpcAsked, StandardRead, StandardEnabled, EventRead, Enabled, RiseSet, FallSet, ServiceEnabled, Polled, exchange_acts, scan_acts, queue_acts}
-use Rattle.sv_layers.specs.Filter.{is_same, rise, fall, enable, has_bit, passes}
+use Rattle.sv_layers.specs.Filter.{is_same, mask_for, rise, fall, enable, has_bit, passes}
 use Rattle.sv_layers.specs.Condition.{limit_summary, condition, counted, is_idle}
 use Rattle.sv_layers.specs.Event.{EventStands, Summary}
 use Rattle.sv_layers.specs.Standard as standard
@@ -91,19 +90,19 @@ queue_more _ log other same = same
 
 rise_act : (name : RegisterName) (act : Act) (log other : List Act) → rise name log ≡ rise name other
     → rise name (act ∷ log) ≡ rise name (act ∷ other)
-rise_act name (RiseSet which mask) log other same = ap (λ (w : ℕ). if is_same name which then masked mask else w) same
+rise_act name (RiseSet which mask) log other same = ap (λ (w : ℕ). unwrap_or (mask_for name which mask) w) same
 rise_act name Preset log other same = refl
 rise_act name _ log other same = same
 
 fall_act : (name : RegisterName) (act : Act) (log other : List Act) → fall name log ≡ fall name other
     → fall name (act ∷ log) ≡ fall name (act ∷ other)
-fall_act name (FallSet which mask) log other same = ap (λ (w : ℕ). if is_same name which then masked mask else w) same
+fall_act name (FallSet which mask) log other same = ap (λ (w : ℕ). unwrap_or (mask_for name which mask) w) same
 fall_act name Preset log other same = refl
 fall_act name _ log other same = same
 
 enable_act : (name : RegisterName) (act : Act) (log other : List Act) → enable name log ≡ enable name other
     → enable name (act ∷ log) ≡ enable name (act ∷ other)
-enable_act name (Enabled which mask) log other same = ap (λ (w : ℕ). if is_same name which then masked mask else w) same
+enable_act name (Enabled which mask) log other same = ap (λ (w : ℕ). unwrap_or (mask_for name which mask) w) same
 enable_act name Preset log other same = refl
 enable_act name _ log other same = same
 
@@ -215,7 +214,7 @@ record SameBits (log other : List Act) : Type 0 where
   happened : standard.Summary log ↔ standard.Summary other
   available : is_something (response (exchange_acts log)) ≡ is_something (response (exchange_acts other))
   questioned : Summary Questionable log ↔ Summary Questionable other
-  errors : is_any (entries (queue_acts log)) ≡ is_any (entries (queue_acts other))
+  errors : is_something (entries (queue_acts log)) ≡ is_something (entries (queue_acts other))
   serves : service log ≡ service other
 
 summary_to : (k : ℕ) (log other : List Act) → SameBits log other → SummaryBit k log → SummaryBit k other
@@ -247,7 +246,7 @@ bits_of log other v = record {
   happened = standard_summary_same log other v.standards v.stands;
   available = ap is_something (response_same (exchange_acts log) (exchange_acts other) v.exchange);
   questioned = summary_same Questionable log other (v.enables Questionable) (v.events Questionable);
-  errors = ap (λ (l : List QueueAct). is_any (entries l)) v.queued;
+  errors = ap (λ (l : List QueueAct). is_something (entries l)) v.queued;
   serves = v.serves;
 }
 
@@ -291,7 +290,7 @@ status_act act log other v =
       available = ap is_something (response_same (exchange_acts (act ∷ log)) (exchange_acts (act ∷ other)) exchange);
       questioned = summary_same Questionable (act ∷ log) (act ∷ other) (enable_act Questionable act log other (v.enables Questionable))
           (events Questionable);
-      errors = ap (λ (l : List QueueAct). is_any (entries l)) (queue_more act log other v.queued);
+      errors = ap (λ (l : List QueueAct). is_something (entries l)) (queue_more act log other v.queued);
       serves = service_act act log other v.serves;
     } in
     record {

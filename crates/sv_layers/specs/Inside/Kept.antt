@@ -1,7 +1,7 @@
 -- What the layers keep, and that it stands for a log.
 use Rattle.std.specs.Prelude.{◌≡◌, ◌↔◌, ℕ, ◌+◌, min, Bool, true, List, [], ◌∷◌, length}
 use Rattle.sv_errors.specs.declared.code.Code.{Code}
-use Rattle.sv_errors.specs.ErrorQueue.{entries, is_any, StandsFor as Queues}
+use Rattle.sv_errors.specs.ErrorQueue.{entries, StandsFor as Queues}
 use Rattle.sv_status.specs.declared.register_name.RegisterName.TheVariants.{Operation, Questionable, Limit}
 use Rattle.sv_status.specs.Register.{Latches as RegisterLatches, Summary, StandsFor as Registers}
 use Rattle.sv_status.specs.StandardEvent.{Latches as StandardLatches, Summary as StandardSummary, StandsFor as Standards}
@@ -41,7 +41,7 @@ pub record IsSummary (word : ℕ) (at : Seen) : Type 0 where
   pub standard : (happened ≡ true) ↔ StandardSummary at.standard
   pub questionable : (questioned ≡ true) ↔ Summary (start Questionable) at.questionable
   pub word_is : word ≡ bit 7 operates + bit 5 happened + bit 4 (is_something (response at.exchange)) + bit 3 questioned
-      + bit 2 (is_any (entries at.errors))
+      + bit 2 (is_something (entries at.errors))
 
 -- a poll comes before the status byte is told
 abbrev pub own_status : Act → List StatusAct → List StatusAct

@@ -1,8 +1,8 @@
 -- What a unit ends in, and what it ends in with one byte more (IEEE 488.2, 7.3 and 7.6).
 use Rattle.std.specs.Prelude.{ℕ, ◌==◌, if◌then◌else◌}
-use Rattle.std.specs.Char.{is_ascii_graphic}
+use Rattle.std.specs.Char.{is_ascii_graphic, is_ascii_alphabetic as is_letter}
 use Rattle.sv_text.specs.White.{is_white}
-use Rattle.sv_lexer.specs.Spelled.{is_letter, is_word_byte}
+use Rattle.sv_lexer.specs.Spelled.{is_word_byte}
 use Rattle.sv_lexer.specs.declared.stage.Stage.{Stage}
 use Rattle.sv_lexer.specs.declared.stage.Stage.TheVariants.{WhiteSpace, Asterisk, Colon, CommonMnemonic, Mnemonic, QuerySign, HeaderSeparator, ProgramData, DataSpace, Misspelled, Illegal}
 

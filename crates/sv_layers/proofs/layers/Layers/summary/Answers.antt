@@ -1,5 +1,5 @@
 use Rattle.std.proofs.Common.{◌≡◌, ℕ, refl, ap, ◌∙◌, nat_lt}
-use Rattle.sv_errors.specs.ErrorQueue.{entries, is_any}
+use Rattle.sv_errors.specs.ErrorQueue.{entries}
 use Rattle.sv_scan.specs.Condition.{bit}
 use Rattle.sv_exchange.specs.Exchange.{response, is_something}
 use Rattle.sv_layers.proofs.Booleans.{bit_is, any_is}
@@ -10,7 +10,7 @@ returns g c = λ at told h.
     let j = rw (← c.self.view_is) at h in
     let available : c.mask_where-3.result ≡ bit 4 (is_something (response at.exchange)) =
     c.mask_where-3.ensures ∙ bit_is 4 c.readable.result ∙ ap (bit 4) (c.readable.ensures.answer at.exchange j.exchange) in
-    let errors : c.mask_where-5.result ≡ bit 2 (is_any (entries at.errors)) =
+    let errors : c.mask_where-5.result ≡ bit 2 (is_something (entries at.errors)) =
     c.mask_where-5.ensures ∙ bit_is 2 (nat_lt 0 c.count.result)
     ∙ ap (λ (n : ℕ). bit 2 (nat_lt 0 n)) (c.count.ensures.answer at.errors j.errors) ∙ ap (bit 2) (any_is (entries at.errors)) in
     record {

@@ -2,12 +2,17 @@ use Rattle.std.proofs.Common.{rules}
 use Rattle.sv_scan.specs.declared.acts.ScanAct.TheVariants.{Configure}
 use Rattle.sv_scan.specs.Counted.{kept, setting_fault}
 use Rattle.sv_scan.proofs.Stands.{StandsFor-counted, StandsFor-dropped, is_accepted, is_refused}
+use Rattle.sv_scan.proofs.EachSet.{each_set}
 use Rattle.sv_scan.proofs.scanner.Scanner.configure.Goals as goal
+
+pub invariant_of-self : goal.invariant_of-self
+invariant_of-self g c = let set = each_set c.args.setting _ _ c.set.ensures in search (rules, set)
 
 pub returns-in-Ok-clause-stands : goal.returns-in-Ok-clause-stands
 returns-in-Ok-clause-stands g c acts is =
     StandsFor-counted _ (Configure c.args.setting) acts
-    (is_accepted (setting_fault (kept acts) c.args.setting) (c.in-Ok.ensures.answer acts is)) (search rules)
+    (is_accepted (setting_fault (kept acts) c.args.setting) (c.in-Ok.ensures.answer acts is))
+    (let set = each_set c.args.setting _ _ c.set.ensures in search (rules, set))
 
 pub returns-in-Err-clause-stands : goal.returns-in-Err-clause-stands
 returns-in-Err-clause-stands g c acts is =
