@@ -1,3 +1,4 @@
+pub mod Lives
 pub mod Projections
 pub mod Telling
 pub mod OneStep

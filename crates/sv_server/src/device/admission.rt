@@ -11,6 +11,7 @@ ghost use Rattle.sv_exchange.specs.Exchange.{has_ended};
 ghost use Rattle.sv_instrument.specs.Step.{is_answerable};
 ghost use Rattle.sv_history.specs.declared.event.Config.{Config as Configured};
 ghost use Rattle.sv_history.specs.Act.{DeviceAct, Waited, link_acts, instrument_acts, exchange_acts};
+ghost use Rattle.sv_history.specs.CoreCall.{lid_of as lid_for};
 ghost use Rattle.sv_history.specs.Interrupts.{is_dial};
 ghost use Rattle.sv_history.specs.Admission.{lock_stop as lock_stop_for, device_wait, may_make_more as may_make, link_stop as link_stop_for, channel_stop as channel_stop_for, call_stop, stop_of, deadline as deadline_for, Awaits};
 ghost use Rattle.sv_server.specs.Device.Representation.{IsDevice, HasPlace};
@@ -179,11 +180,12 @@ impl<A: Allocator> Device<A> {
 
     /// What stops a call on a link: the link is looked at first, then how much a write brings, then
     /// the lock, and then what it waits for.
-    fn call_stop(&self, conn: Conn, lid: Option<u32>, call: &LinkCall<'_>) -> Option<Stop>
+    fn call_stop(&self, conn: Conn, lid: i32, call: &LinkCall<'_>) -> Option<Stop>
         ensures { (config : Configured) (acts : List DeviceAct) → IsDevice self.now config acts
             → option_map plain_stop result
-            ≡ call_stop conn.number lid (plain_call call.now) acts }
+            ≡ call_stop conn.number (lid_for (Some lid)) (plain_call call.now) acts }
     {
+        let lid = lid_of(Some(lid));
         if !self.owns(conn, lid) {
             return Some(Stop::Fails(ErrorCode::InvalidLink));
         }
@@ -208,7 +210,7 @@ impl<A: Allocator> Device<A> {
                 device,
                 ..
             } => self.link_stop(lock_device, lock_timeout, device),
-            Args::OnLink { lid, call } => self.call_stop(conn, lid_of(Some(lid)), &call),
+            Args::OnLink { lid, call } => self.call_stop(conn, lid, &call),
             Args::CreateIntrChan {
                 host_addr,
                 host_port,

@@ -10,27 +10,27 @@ use Rattle.sv_server.proofs.device.Device.call_stop.Goals as goal
 
 pub returns-then-not-owns : goal.returns-then-not-owns
 returns-then-not-owns g c = λ config acts is.
-    let another : owns c.args.conn.number c.args.lid acts ≡ false = sym (c.if-not-owns.ensures config acts is) in
-    rw another refl
+    let another : owns c.args.conn.number c.lid_of-lid.result acts ≡ false = sym (c.if-not-owns.ensures config acts is) in
+    rw (← c.lid_of-lid.ensures, another) refl
 
 pub returns-then-is_too_long : goal.returns-then-is_too_long
 returns-then-is_too_long g c = λ config acts is.
-    let own : owns c.args.conn.number c.args.lid acts ≡ true = sym (c.if-not-owns.ensures config acts is) in
+    let own : owns c.args.conn.number c.lid_of-lid.result acts ≡ true = sym (c.if-not-owns.ensures config acts is) in
     let long : is_too_long (plain_call c.args.call.now) ≡ true = sym c.if-is_too_long.ensures in
-    rw (own, long) refl
+    rw (← c.lid_of-lid.ensures, own, long) refl
 
 pub returns-then-is_kept_out : goal.returns-then-is_kept_out
 returns-then-is_kept_out g c = λ config acts is.
-    let own : owns c.args.conn.number c.args.lid acts ≡ true = sym (c.if-not-owns.ensures config acts is) in
+    let own : owns c.args.conn.number c.lid_of-lid.result acts ≡ true = sym (c.if-not-owns.ensures config acts is) in
     let short : is_too_long (plain_call c.args.call.now) ≡ false = sym c.if-is_too_long.ensures in
-    let out : (is_some (lock_wait (plain_call c.args.call.now)) && is_locked_out (holder (link_acts acts)) c.args.lid) ≡ true =
+    let out : (is_some (lock_wait (plain_call c.args.call.now)) && is_locked_out (holder (link_acts acts)) c.lid_of-lid.result) ≡ true =
     sym (c.if-is_kept_out.ensures config acts is) in
-    rw (own, short, out) c.lock_stop.ensures
+    rw (← c.lid_of-lid.ensures, own, short, out) c.lock_stop.ensures
 
 pub returns : goal.returns
 returns g c = λ config acts is.
-    let own : owns c.args.conn.number c.args.lid acts ≡ true = sym (c.if-not-owns.ensures config acts is) in
+    let own : owns c.args.conn.number c.lid_of-lid.result acts ≡ true = sym (c.if-not-owns.ensures config acts is) in
     let short : is_too_long (plain_call c.args.call.now) ≡ false = sym c.if-is_too_long.ensures in
-    let out : (is_some (lock_wait (plain_call c.args.call.now)) && is_locked_out (holder (link_acts acts)) c.args.lid) ≡ false =
+    let out : (is_some (lock_wait (plain_call c.args.call.now)) && is_locked_out (holder (link_acts acts)) c.lid_of-lid.result) ≡ false =
     sym (c.if-is_kept_out.ensures config acts is) in
-    rw (own, short, out) (c.device_stop.ensures config acts is)
+    rw (← c.lid_of-lid.ensures, own, short, out) (c.device_stop.ensures config acts is)
