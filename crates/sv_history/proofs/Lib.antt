@@ -1,3 +1,4 @@
+pub mod Dialing
 pub mod Lives
 pub mod Projections
 pub mod Telling

@@ -14,10 +14,7 @@ use Rattle.sv_history.specs.CoreCall.{lid_of}
 use Rattle.sv_history.specs.Admission.{stop_of, admitted}
 use Rattle.sv_history.specs.AbortChannel.{aborted, abort_result}
 
--- what the port mapper tells (RFC 1833, section 3): the ports of the configuration
-abbrev pub ports_of : Config → Ports
-ports_of config = record { core = config.core; abort = config.abort }
-
+-- what the port mapper tells (RFC 1833, section 3)
 abbrev pub port_reply : ℕ → Result ℕ Garbage → List ℕ
 port_reply xid (Ok port) = reply_record xid Success (Unsigned port ∷ [])
 port_reply xid (Err garbage) = reply_record xid GarbageArgs []
@@ -29,7 +26,8 @@ request_effect config polled c (Decided xid reply) acts = replied (reply_record 
 request_effect config polled c (CoreRequest call) acts =
     call_effect call.xid (admitted config polled c call.arguments (stop_of c call.arguments acts) acts)
 request_effect config polled c (AbortRequest xid lid) acts = replied (result_reply xid (abort_result (lid_of (Some lid)) acts))
-request_effect config polled c (PortRequest xid args) acts = replied (port_reply xid (port_at (ports_of config) args))
+request_effect config polled c (PortRequest xid args) acts =
+    replied (port_reply xid (port_at (record { core = config.core; abort = config.abort }) args))
 
 -- the connection whose suspended call it ends beside
 abbrev pub aborts : Request → List DeviceAct → Option ℕ

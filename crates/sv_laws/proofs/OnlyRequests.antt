@@ -31,7 +31,8 @@ use Rattle.sv_history.specs.Request.{Request, NoCall, Decided, CoreRequest, Abor
 use Rattle.sv_history.specs.Requests.{HearsOf, link_told, request_told}
 use Rattle.sv_history.specs.Admission.{Stop, Fails, Awaits, stop_of, admitted}
 use Rattle.sv_history.specs.Execution.{request_effect, aborts}
-use Rattle.sv_history.specs.Interrupts.{has_channel, peer_by, dialed_to}
+use Rattle.sv_history.specs.Interrupts.{has_channel}
+use Rattle.sv_history.proofs.Dialing.{peer_by, dialed_to, dialed_is}
 use Rattle.sv_history.specs.Resuming.{effect_of, leaving, next_wait, continued, connected, late}
 use Rattle.sv_history.specs.Refusing.{refusable}
 use Rattle.sv_history.specs.Settling.{IsNext, SettlesIn}
@@ -312,7 +313,7 @@ begins_dialed c ok None log e =
     by : (ok : Bool) (told : List ChannelAct) → HearsOf (device_acts log) told → HearsOf (device_acts log) (cond ok [] [] ++ told)
     by true told x = x
     by false told x = x
-begins_dialed c ok (Some call) log e = by ok (peer_by call.arguments)
+begins_dialed c ok (Some call) log e = rw (dialed_is c ok call.arguments) (by ok (peer_by call.arguments))
   where
     by : (ok : Bool) (found : Option Peer)
         → (base : List DeviceAct)

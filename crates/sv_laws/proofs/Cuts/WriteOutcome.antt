@@ -46,13 +46,13 @@ core_is (AbortRequest xid lid) call is = absurd cc
 core_is (PortRequest xid args) call is = absurd cc
 
 -- a call of the core program is of no other
-other_program : (found : PlainCall) (call : CoreCall) (role : Role) → eqb (program_of Core) (program_of role) ≡ false
+other_program : (found : PlainCall) (call : CoreCall) (role : Role) → eqb (program_of Core).0 (program_of role).0 ≡ false
     → core_call_of (unless_decided Core found (header_reply Core found)) ≡ Some call
     → unless_decided role found (header_reply role found) ≡ Decided found.xid ProgUnavail
-other_program found call role apart is = elim (cases_Bool (found.prog == program_of Core)) [
+other_program found call role apart is = elim (cases_Bool (found.prog == (program_of Core).0)) [
   | inl e ↦
-      let same : found.prog ≡ program_of Core = eqb-true found.prog (program_of Core) e in
-      let far : eqb found.prog (program_of role) ≡ false = ap (λ (n : ℕ). eqb n (program_of role)) same ∙ apart in
+      let same : found.prog ≡ (program_of Core).0 = eqb-true found.prog (program_of Core).0 e in
+      let far : eqb found.prog (program_of role).0 ≡ false = ap (λ (n : ℕ). eqb n (program_of role).0) same ∙ apart in
       rw far refl
   | inr e ↦ absurd (let z : None ≡ Some call = rw e at is in cc)
 ]

@@ -8,7 +8,7 @@ use Rattle.sv_rpc.specs.declared.call.CallFault.TheVariants.{BadHeader, Version}
 use Rattle.sv_rpc.specs.Call.{PlainCall, call_at}
 use Rattle.sv_rpc.specs.Stream.{records_of}
 use Rattle.sv_xdr.specs.declared.garbage.Garbage.{Garbage}
-use Rattle.sv_vxi.specs.Arguments.{Arguments}
+use Rattle.sv_vxi.specs.Arguments.{Arguments, CreateLink, OnLink, CreateIntrChan, DestroyIntrChan}
 use Rattle.sv_vxi.specs.Reading.{arguments_at}
 use Rattle.sv_history.specs.declared.event.Role.{Role}
 use Rattle.sv_history.specs.declared.event.Role.TheVariants.{Core, Abort, Portmap}
@@ -18,7 +18,7 @@ use Rattle.sv_history.specs.Act.{Act, ConnAct}
 use Rattle.sv_history.specs.Connection.{next_call}
 use Rattle.sv_history.proofs.Lives.{open_role, unanswered, took_no_call, stream, completed}
 use Rattle.sv_history.specs.CoreCall.{CoreCall}
-use Rattle.sv_history.specs.Request.{Request, CoreRequest, AbortRequest, link_in, core_request, abort_request, unless_decided, header_reply, request_of, core_call_of, core_call, asked, next_request}
+use Rattle.sv_history.specs.Request.{Request, CoreRequest, AbortRequest, core_request, abort_request, unless_decided, header_reply, request_of, core_call_of, core_call, asked, next_request}
 use Rattle.sv_history.specs.History.{unless_shut}
 
 -- ---- it has no other without an answer
@@ -34,13 +34,13 @@ free_call acts bytes e =
 
 -- ---- a call of the core channel is taken on a core channel, and is what its bytes are
 
-abort_none : (xid : ℕ) (named : Option ℤ) → core_call_of (abort_request xid named) ≡ None
-abort_none xid (Some lid) = refl
-abort_none xid None = refl
+abort_none : (xid : ℕ) (read : Result Arguments Garbage) → core_call_of (abort_request xid read) ≡ None
+abort_none xid (Ok (OnLink lid call)) = refl
+abort_none xid _ = refl
 
 abort_role : (call : PlainCall) (reply : Option Reply) → core_call_of (unless_decided Abort call reply) ≡ None
 abort_role call (Some reply) = refl
-abort_role call None = abort_none call.xid (link_in (arguments_at call.proc call.args))
+abort_role call None = abort_none call.xid (arguments_at call.proc call.args)
 
 portmap_role : (call : PlainCall) (reply : Option Reply) → core_call_of (unless_decided Portmap call reply) ≡ None
 portmap_role call (Some reply) = refl

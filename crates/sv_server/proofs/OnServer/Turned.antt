@@ -1,9 +1,11 @@
 -- What a Turn of an open connection leaves.
 use Rattle.std.proofs.Common.{◌≡◌, ℕ, Bool, true, false, List, Option, Some, None, cond, nat_lt, refl, sym, ap, ◌∙◌, inl, inr}
-use Rattle.std.specs.Prelude.{not, ℤ, Result, Ok, Err}
+use Rattle.std.specs.Prelude.{not, Result, Ok, Err}
 use Rattle.sv_exchange.specs.declared.read.Read.{Read}
 use Rattle.sv_exchange.specs.ReadGiven.{IsReadOf}
 use Rattle.sv_vxi.specs.declared.error_code.ErrorCode.TheVariants.{NoError}
+use Rattle.sv_xdr.specs.declared.garbage.Garbage.{Garbage}
+use Rattle.sv_vxi.specs.Arguments.{Arguments, CreateLink, OnLink, CreateIntrChan, DestroyIntrChan}
 use Rattle.sv_vxi.specs.Results.{Read as ReadResult}
 use Rattle.sv_history.specs.CoreChannel.{read_of}
 use Rattle.sv_history.specs.declared.event.Config.{Config}
@@ -45,9 +47,9 @@ if_none true short e = refl
 if_none false short e = rw e refl
 
 -- a call of the core channel is asked for on the core channel alone
-decided_none : (xid : ℕ) (lid : Option ℤ) (call : CoreCall) → abort_request xid lid ≡ CoreRequest call → ⊥
-decided_none xid (Some lid) call e = cc
-decided_none xid None call e = cc
+decided_none : (xid : ℕ) (read : Result Arguments Garbage) (call : CoreCall) → abort_request xid read ≡ CoreRequest call → ⊥
+decided_none xid (Ok (OnLink lid on)) call e = cc
+decided_none xid _ call e = cc
 
 core_unless : (role : Role) (header : PlainCall) (reply : Option Reply) (call : CoreCall)
     → unless_decided role header reply ≡ CoreRequest call → role ≡ Core

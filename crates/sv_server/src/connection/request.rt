@@ -5,7 +5,7 @@ ghost use Rattle.std.specs.Prelude.{◌≡◌, Option, Ok, None, option_map, tru
 ghost use Rattle.sv_rpc.specs.Call.{plain_call, call_at};
 ghost use Rattle.sv_vxi.specs.Arguments.{core_calls, abort_calls, is_one_of};
 ghost use Rattle.sv_vxi.specs.Reading.{arguments_at};
-ghost use Rattle.sv_history.specs.Request.{program_of as program_for, version_of as version_for, procedures_of, header_reply as reply_to, core_request as core_request_for, link_in, abort_request as abort_request_for, procedure_request as procedure_request_for, unless_decided, request_of as request_for, core_call as core_call_in_record};
+ghost use Rattle.sv_history.specs.Request.{program_of as program_for, header_reply as reply_to, core_request as core_request_for, abort_request as abort_request_for, procedure_request as procedure_request_for, unless_decided, request_of as request_for, core_call as core_call_in_record};
 ghost use Rattle.sv_server.specs.Connection.Inside.Requests.{plain_request, plain_core_call, xid_of};
 
 use sv_history::Role;
@@ -78,7 +78,7 @@ impl Request<'_> {
 
 /// The program that a connection serves.
 fn program_of(role: Role) -> u32
-    ensures { result ≡ program_for role }
+    ensures { result ≡ (program_for role).0 }
 {
     match role {
         Role::Core => 0x0607AF,
@@ -89,7 +89,7 @@ fn program_of(role: Role) -> u32
 
 /// Its version.
 fn version_of(role: Role) -> u32
-    ensures { result ≡ version_for role }
+    ensures { result ≡ (program_for role).1 }
 {
     match role {
         Role::Core | Role::Abort => 1,
@@ -99,7 +99,7 @@ fn version_of(role: Role) -> u32
 
 /// Whether it is a procedure of the program, beside the one that does nothing.
 fn has_procedure(role: Role, proc: u32) -> bool
-    ensures { result ≡ is_one_of (procedures_of role) proc }
+    ensures { result ≡ is_one_of (program_for role).2 proc }
 {
     match role {
         Role::Core => is_core_call(proc),
@@ -110,7 +110,7 @@ fn has_procedure(role: Role, proc: u32) -> bool
 
 /// Whether it is a call of the core channel.
 fn is_core_call(proc: u32) -> bool
-    ensures { result ≡ is_one_of (procedures_of Role.Core) proc }
+    ensures { result ≡ is_one_of core_calls proc }
 {
     matches!(
         proc,
@@ -173,26 +173,15 @@ fn core_request<'a>(call: &Call<'a>) -> Request<'a>
     }
 }
 
-/// The link that a call of the abort channel names, where its arguments can be read.
-fn aborted_link(call: &Call<'_>) -> Option<i32>
-    requires { is_one_of abort_calls call.now.proc ≡ true }
-    ensures { result ≡ link_in (arguments_at call.now.proc call.now.args.now) }
-{
-    match read_args(call.proc, call.args) {
-        Ok(args) => args.link(),
-        Err(_) => None,
-    }
-}
-
 /// What a call of the abort channel asks for.
 fn abort_request<'a>(call: &Call<'a>) -> Request<'a>
     requires { is_one_of abort_calls call.now.proc ≡ true }
-    ensures { plain_request result ≡ abort_request_for call.now.xid
-        (link_in (arguments_at call.now.proc call.now.args.now)) }
+    ensures { plain_request result
+        ≡ abort_request_for call.now.xid (arguments_at call.now.proc call.now.args.now) }
 {
-    match aborted_link(call) {
-        Some(lid) => Request::Abort { xid: call.xid, lid },
-        None => Request::Decided {
+    match read_args(call.proc, call.args) {
+        Ok(Args::OnLink { lid, .. }) => Request::Abort { xid: call.xid, lid },
+        Ok(_) | Err(_) => Request::Decided {
             xid: call.xid,
             reply: Reply::GarbageArgs,
         },

@@ -1,13 +1,14 @@
 //! The abort channel (VXI-11 revision 1.0, section B.6).
 
-ghost use Rattle.std.specs.Prelude.{◌≡◌, List, [], Some};
+ghost use Rattle.std.specs.Prelude.{◌≡◌, ◌&&◌, List, [], Some, is_some};
 ghost use Rattle.sv_vxi.specs.Results.{plain_result, data_of};
 ghost use Rattle.sv_links.specs.Links.{is_this as is_this_link};
 ghost use Rattle.sv_history.specs.declared.event.Config.{Config};
-ghost use Rattle.sv_history.specs.Act.{DeviceAct};
+ghost use Rattle.sv_links.specs.Waiting.{waits, link};
+ghost use Rattle.sv_history.specs.Act.{DeviceAct, wait_acts};
 ghost use Rattle.sv_server.specs.Device.Representation.{IsDevice};
 ghost use Rattle.sv_history.specs.CoreCall.{lid_of as lid_for};
-ghost use Rattle.sv_history.specs.AbortChannel.{owner_of as owner_for, waits_with as waits_with_link, where_waiting as where_waiting_with, aborted as aborted_by, abort_result as result_of};
+ghost use Rattle.sv_history.specs.AbortChannel.{owner_of as owner_for, where_waiting as where_waiting_with, aborted as aborted_by, abort_result as result_of};
 
 use crate::device::Device;
 use crate::device::arguments::lid_of;
@@ -64,7 +65,8 @@ impl<A: Allocator> Device<A> {
     /// Whether the call of a connection waits and names this link.
     fn waits_with(&self, conn: u8, lid: u32) -> bool
         ensures { (config : Config) (acts : List DeviceAct) → IsDevice self.now config acts
-            → result ≡ waits_with_link conn (Some lid) acts }
+            → result ≡ (is_some (waits conn (wait_acts acts))
+            && is_this_link lid (link conn (wait_acts acts))) }
     {
         match self.waiting.of(conn) {
             Some(entry) => is_this(lid, entry.lid),

@@ -22,7 +22,7 @@ use crate::device::Device;
 use crate::device::arguments::{is_too_long, lid_of};
 use crate::device::call_outcome::CallOutcome;
 use crate::device::error_results::failure;
-use crate::device::interrupts::channel_fault;
+use crate::device::interrupts::is_peer;
 use std::alloc::{AllocError, Allocator};
 use sv_links::{Entry, MAX_LINKS, Wait, is_locked_out};
 use sv_vxi::{Args, ErrorCode, LinkCall};
@@ -62,16 +62,23 @@ fn lock_stop(call: &LinkCall<'_>) -> Option<Stop>
     }
 }
 
-/// An interrupt channel can't be opened, or waits until its peer was called.
-fn channel_stop(fault: Option<ErrorCode>) -> Stop
-    ensures { plain_stop result ≡ channel_stop_for fault }
+/// An interrupt channel can't be opened where one is, not over anything but TCP (0), and not to
+/// everywhere; else it waits until its peer was called.
+fn channel_stop(there: bool, host_addr: u32, host_port: u32, prog_family: u32) -> Stop
+    ensures { plain_stop result ≡ channel_stop_for there host_addr host_port prog_family }
 {
-    match fault {
-        Some(error) => Stop::Fails(error),
-        None => Stop::Awaits {
-            wait: Wait::Dial,
-            timeout: None,
-        },
+    if there {
+        return Stop::Fails(ErrorCode::AlreadyEstablished);
+    }
+    if prog_family != 0 {
+        return Stop::Fails(ErrorCode::NotSupported);
+    }
+    if !is_peer(host_addr, host_port) {
+        return Stop::Fails(ErrorCode::InvalidAddress);
+    }
+    Stop::Awaits {
+        wait: Wait::Dial,
+        timeout: None,
     }
 }
 
@@ -216,12 +223,12 @@ impl<A: Allocator> Device<A> {
                 host_port,
                 prog_family,
                 ..
-            } => Some(channel_stop(channel_fault(
+            } => Some(channel_stop(
                 self.has_channel(conn),
                 host_addr,
                 host_port,
                 prog_family,
-            ))),
+            )),
             Args::DestroyIntrChan => None,
         }
     }

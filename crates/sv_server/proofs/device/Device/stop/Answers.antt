@@ -11,4 +11,4 @@ returns-in-OnLink g c = λ config acts is. rw c.in-OnLink.is (c.call_stop.ensure
 
 pub returns-in-CreateIntrChan : goal.returns-in-CreateIntrChan
 returns-in-CreateIntrChan g c = λ config acts is. rw c.in-CreateIntrChan.is (ap (λ (s : Stop). Some s)
-    (rw (c.channel_fault.ensures, c.has_channel.ensures config acts is) at c.channel_stop.ensures))
+    (rw (c.has_channel.ensures config acts is) at c.channel_stop.ensures))
