@@ -1,3 +1,4 @@
+pub mod Deciding
 pub mod Dialing
 pub mod Lives
 pub mod Projections

@@ -17,8 +17,5 @@ where_waiting (Some c) (Some lid) acts =
     if is_some (waits c (wait_acts acts)) && is_this lid (link c (wait_acts acts)) then Some c else None
 where_waiting _ _ acts = None
 
-abbrev pub aborted : Option ℕ → List DeviceAct → Option ℕ
-aborted lid acts = where_waiting (owner_of lid acts) lid acts
-
 abbrev pub abort_result : Option ℕ → List DeviceAct → Outcome
 abort_result lid acts = Plain (if is_some (owner_of lid acts) then NoError else InvalidLink)

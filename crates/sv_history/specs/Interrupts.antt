@@ -30,11 +30,6 @@ enable_srq c false lid handle = answered (Channel (SrqDisabled lid) ∷ []) (Pla
 abbrev pub is_peer : ℕ → ℕ → Bool
 is_peer host_addr host_port = (host_addr / 16777216 == 127) && nat_lt 0 host_port && nat_lt host_port 65536
 
--- the channel is closed, where one is open
-abbrev pub destroy_channel : ℕ → List DeviceAct → CallOutcome
-destroy_channel c acts = if has_channel c acts then answered (Channel (ChannelClosed c) ∷ []) (Plain NoError)
-    else only (Plain NotEstablished)
-
 -- whether a create_intr_chan of a connection waits for its peer to be called
 abbrev pub is_dial : Option Wait → Bool
 is_dial (Some Dialing) = true

@@ -29,15 +29,6 @@ program_of Core = (395183, 1, core_calls)
 program_of Abort = (395184, 1, abort_calls)
 program_of Portmap = (100000, 2, 3 ∷ [])
 
--- what the header of a call alone decides: another program, another version, nothing to do, or another procedure
-abbrev pub header_reply : Role → PlainCall → Option Reply
-header_reply role call =
-    let (program, version, procedures) = program_of role in
-    if not (call.prog == program) then Some ProgUnavail
-    else (if not (call.vers == version) then Some (ProgMismatch version version)
-    else (if call.proc == 0 then Some Success
-    else (if not (is_one_of procedures call.proc) then Some ProcUnavail else None)))
-
 -- a call of one of its program's procedures
 abbrev pub core_request : ℕ → Result Arguments Garbage → Request
 core_request xid (Ok arguments) = CoreRequest (record { xid = xid; arguments = arguments })
@@ -52,13 +43,18 @@ procedure_request Core call = core_request call.xid (arguments_at call.proc call
 procedure_request Abort call = abort_request call.xid (arguments_at call.proc call.args)
 procedure_request Portmap call = PortRequest call.xid call.args
 
-abbrev pub unless_decided : Role → PlainCall → Option Reply → Request
-unless_decided role call (Some reply) = Decided call.xid reply
-unless_decided role call None = procedure_request role call
+-- what a call asks for: its header decides the reply where it names another program, another version, nothing to do, or another procedure
+abbrev pub call_request : Role → PlainCall → Request
+call_request role call =
+    let (program, version, procedures) = program_of role in
+    if not (call.prog == program) then Decided call.xid ProgUnavail
+    else (if not (call.vers == version) then Decided call.xid (ProgMismatch version version)
+    else (if call.proc == 0 then Decided call.xid Success
+    else (if not (is_one_of procedures call.proc) then Decided call.xid ProcUnavail else procedure_request role call)))
 
 -- Another version of RPC is denied.
 abbrev pub request_of : Role → Result PlainCall CallFault → Request
-request_of role (Ok call) = unless_decided role call (header_reply role call)
+request_of role (Ok call) = call_request role call
 request_of role (Err (Version xid)) = Decided xid Mismatch
 request_of role (Err BadHeader) = NoCall
 

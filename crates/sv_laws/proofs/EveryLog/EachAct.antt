@@ -35,7 +35,8 @@ use Rattle.sv_history.specs.CallOutcome.{CallOutcome, only}
 use Rattle.sv_history.specs.CoreCall.{CoreCall, lid_of, failure}
 use Rattle.sv_history.specs.Reply.{reply_record}
 use Rattle.sv_history.specs.Effect.{Effect, acts_of, replies, result_reply}
-use Rattle.sv_history.specs.Request.{Request, NoCall, Decided, CoreRequest, AbortRequest, PortRequest, core_request, abort_request, procedure_request, unless_decided, header_reply, request_of, core_call_of, core_call_in, asked, next_request}
+use Rattle.sv_history.specs.Request.{Request, NoCall, Decided, CoreRequest, AbortRequest, PortRequest, core_request, abort_request, procedure_request, request_of, core_call_of, core_call_in, asked, next_request}
+use Rattle.sv_history.proofs.Deciding.{unless_decided, header_reply, request_is}
 use Rattle.sv_history.specs.AbortChannel.{abort_result}
 use Rattle.sv_history.specs.Execution.{port_reply, request_effect, aborts}
 use Rattle.sv_history.specs.Interrupts.{dialed}
@@ -102,7 +103,7 @@ xid_decided role call (Some reply) = refl
 xid_decided role call None = xid_procedure role call
 
 xid_requested : (role : Role) (call : Result PlainCall CallFault) → xid_in (request_of role call) ≡ xid_of call
-xid_requested role (Ok call) = xid_decided role call (header_reply role call)
+xid_requested role (Ok call) = ap xid_in (request_is role call) ∙ xid_decided role call (header_reply role call)
 xid_requested role (Err (Version xid)) = refl
 xid_requested role (Err BadHeader) = refl
 

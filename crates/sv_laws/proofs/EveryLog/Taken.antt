@@ -18,7 +18,8 @@ use Rattle.sv_history.specs.Act.{Act, ConnAct}
 use Rattle.sv_history.specs.Connection.{next_call}
 use Rattle.sv_history.proofs.Lives.{open_role, unanswered, took_no_call, stream, completed}
 use Rattle.sv_history.specs.CoreCall.{CoreCall}
-use Rattle.sv_history.specs.Request.{Request, CoreRequest, AbortRequest, core_request, abort_request, unless_decided, header_reply, request_of, core_call_of, core_call, asked, next_request}
+use Rattle.sv_history.specs.Request.{Request, CoreRequest, AbortRequest, core_request, abort_request, request_of, core_call_of, core_call, asked, next_request}
+use Rattle.sv_history.proofs.Deciding.{unless_decided, header_reply, request_is}
 use Rattle.sv_history.specs.History.{unless_shut}
 
 -- ---- it has no other without an answer
@@ -47,12 +48,12 @@ portmap_role call (Some reply) = refl
 portmap_role call None = refl
 
 abort_call : (call : Result PlainCall CallFault) → core_call_of (request_of Abort call) ≡ None
-abort_call (Ok call) = abort_role call (header_reply Abort call)
+abort_call (Ok call) = ap core_call_of (request_is Abort call) ∙ abort_role call (header_reply Abort call)
 abort_call (Err (Version xid)) = refl
 abort_call (Err BadHeader) = refl
 
 portmap_call : (call : Result PlainCall CallFault) → core_call_of (request_of Portmap call) ≡ None
-portmap_call (Ok call) = portmap_role call (header_reply Portmap call)
+portmap_call (Ok call) = ap core_call_of (request_is Portmap call) ∙ portmap_role call (header_reply Portmap call)
 portmap_call (Err (Version xid)) = refl
 portmap_call (Err BadHeader) = refl
 
@@ -90,7 +91,7 @@ core_role call (Some reply) = refl
 core_role call None = core_none call.xid (arguments_at call.proc call.args)
 
 core_aborts : (call : Result PlainCall CallFault) → is_abort (Some (request_of Core call)) ≡ false
-core_aborts (Ok call) = core_role call (header_reply Core call)
+core_aborts (Ok call) = ap (λ (r : Request). is_abort (Some r)) (request_is Core call) ∙ core_role call (header_reply Core call)
 core_aborts (Err (Version xid)) = refl
 core_aborts (Err BadHeader) = refl
 

@@ -5,7 +5,7 @@ ghost use Rattle.std.specs.Prelude.{◌≡◌, Option, Ok, None, option_map, tru
 ghost use Rattle.sv_rpc.specs.Call.{plain_call, call_at};
 ghost use Rattle.sv_vxi.specs.Arguments.{core_calls, abort_calls, is_one_of};
 ghost use Rattle.sv_vxi.specs.Reading.{arguments_at};
-ghost use Rattle.sv_history.specs.Request.{program_of as program_for, header_reply as reply_to, core_request as core_request_for, abort_request as abort_request_for, procedure_request as procedure_request_for, unless_decided, request_of as request_for, core_call as core_call_in_record};
+ghost use Rattle.sv_history.specs.Request.{program_of as program_for, core_request as core_request_for, abort_request as abort_request_for, procedure_request as procedure_request_for, call_request as call_request_for, request_of as request_for, Decided, core_call as core_call_in_record};
 ghost use Rattle.sv_server.specs.Connection.Inside.Requests.{plain_request, plain_core_call, xid_of};
 
 use sv_history::Role;
@@ -132,29 +132,6 @@ fn is_core_call(proc: u32) -> bool
     )
 }
 
-/// The reply that the header of a call alone decides, where it does.
-fn header_reply(role: Role, call: &Call<'_>) -> Option<Reply>
-    ensures { result ≡ reply_to role (plain_call call.now) }
-{
-    if call.prog != program_of(role) {
-        return Some(Reply::ProgUnavail);
-    }
-    let version = version_of(role);
-    if call.vers != version {
-        return Some(Reply::ProgMismatch {
-            low: version,
-            high: version,
-        });
-    }
-    if call.proc == NULL {
-        return Some(Reply::Success);
-    }
-    if !has_procedure(role, call.proc) {
-        return Some(Reply::ProcUnavail);
-    }
-    None
-}
-
 /// What a call of the core channel asks for.
 fn core_request<'a>(call: &Call<'a>) -> Request<'a>
     requires { is_one_of core_calls call.now.proc ≡ true }
@@ -190,7 +167,7 @@ fn abort_request<'a>(call: &Call<'a>) -> Request<'a>
 
 /// What a call of one of its program's procedures asks for.
 fn procedure_request<'a>(role: Role, call: &Call<'a>) -> Request<'a>
-    requires { reply_to role (plain_call call.now) ≡ None }
+    requires { is_one_of (program_for role).2 call.now.proc ≡ true }
     ensures { plain_request result ≡ procedure_request_for role (plain_call call.now) }
 {
     match role {
@@ -203,16 +180,39 @@ fn procedure_request<'a>(role: Role, call: &Call<'a>) -> Request<'a>
     }
 }
 
-/// What a call asks for, unless its header alone decides the reply.
-fn call_request<'a>(role: Role, call: &Call<'a>) -> Request<'a>
-    ensures { plain_request result
-        ≡ unless_decided role (plain_call call.now) (reply_to role (plain_call call.now)) }
+/// A call whose reply its header decides.
+fn decided<'a>(call: &Call<'a>, reply: Reply) -> Request<'a>
+    ensures { plain_request result ≡ Decided call.now.xid reply }
 {
-    if let Some(reply) = header_reply(role, call) {
-        return Request::Decided {
-            xid: call.xid,
-            reply,
-        };
+    Request::Decided {
+        xid: call.xid,
+        reply,
+    }
+}
+
+/// What a call asks for: its header decides the reply where it names another program, another
+/// version, nothing to do, or another procedure.
+fn call_request<'a>(role: Role, call: &Call<'a>) -> Request<'a>
+    ensures { plain_request result ≡ call_request_for role (plain_call call.now) }
+{
+    if call.prog != program_of(role) {
+        return decided(call, Reply::ProgUnavail);
+    }
+    let version = version_of(role);
+    if call.vers != version {
+        return decided(
+            call,
+            Reply::ProgMismatch {
+                low: version,
+                high: version,
+            },
+        );
+    }
+    if call.proc == NULL {
+        return decided(call, Reply::Success);
+    }
+    if !has_procedure(role, call.proc) {
+        return decided(call, Reply::ProcUnavail);
     }
     procedure_request(role, call)
 }

@@ -8,7 +8,7 @@ ghost use Rattle.sv_links.specs.Waiting.{waits, link};
 ghost use Rattle.sv_history.specs.Act.{DeviceAct, wait_acts};
 ghost use Rattle.sv_server.specs.Device.Representation.{IsDevice};
 ghost use Rattle.sv_history.specs.CoreCall.{lid_of as lid_for};
-ghost use Rattle.sv_history.specs.AbortChannel.{owner_of as owner_for, where_waiting as where_waiting_with, aborted as aborted_by, abort_result as result_of};
+ghost use Rattle.sv_history.specs.AbortChannel.{owner_of as owner_for, where_waiting as where_waiting_with, abort_result as result_of};
 
 use crate::device::Device;
 use crate::device::arguments::lid_of;
@@ -41,7 +41,8 @@ impl<A: Allocator> Device<A> {
         ensures answer { (config : Config) (acts : List DeviceAct) → IsDevice self.now config acts
             → plain_result result.result ≡ result_of (lid_for (Some lid)) acts }
         ensures conn { (config : Config) (acts : List DeviceAct) → IsDevice self.now config acts
-            → result.conn ≡ aborted_by (lid_for (Some lid)) acts }
+            → result.conn ≡ where_waiting_with (owner_for (lid_for (Some lid)) acts)
+            (lid_for (Some lid)) acts }
         ensures short { data_of (plain_result result.result) ≡ [] }
     {
         let lid = lid_of(Some(lid));
@@ -92,7 +93,7 @@ impl<A: Allocator> Device<A> {
     /// The connection whose waiting call device_abort ends: the one that names the link.
     fn aborted(&self, lid: Option<u32>) -> Option<u8>
         ensures { (config : Config) (acts : List DeviceAct) → IsDevice self.now config acts
-            → result ≡ aborted_by lid acts }
+            → result ≡ where_waiting_with (owner_for lid acts) lid acts }
     {
         match self.owner_of(lid) {
             Some(conn) => self.where_waiting(conn, lid),

@@ -223,12 +223,7 @@ impl<A: Allocator> Device<A> {
                 host_port,
                 prog_family,
                 ..
-            } => Some(channel_stop(
-                self.has_channel(conn),
-                host_addr,
-                host_port,
-                prog_family,
-            )),
+            } => Some(channel_stop(self.has_channel(conn), host_addr, host_port, prog_family)),
             Args::DestroyIntrChan => None,
         }
     }

@@ -1,17 +1,17 @@
 //! Interrupt channels, and the links that ask for service requests (VXI-11 revision 1.0, section
 //! B.6: device_enable_srq, create_intr_chan, destroy_intr_chan).
 
-ghost use Rattle.std.specs.Prelude.{◌≡◌, ◌<◌, ◌≤◌, ℕ, List, length, ◌∷◌, Some, None, IfOk, IfSome, OnErr, false, true, if◌then◌else◌};
-ghost use Rattle.sv_vxi.specs.declared.error_code.ErrorCode.TheVariants.{NoError, InvalidLink};
+ghost use Rattle.std.specs.Prelude.{◌≡◌, ◌<◌, ◌≤◌, ℕ, List, length, [], ◌∷◌, Some, None, IfOk, IfSome, OnErr, false, true, if◌then◌else◌};
+ghost use Rattle.sv_vxi.specs.declared.error_code.ErrorCode.TheVariants.{NoError, InvalidLink, NotEstablished};
 ghost use Rattle.sv_vxi.specs.Results.{Plain};
 ghost use Rattle.sv_links.specs.Waiting.{Left};
 ghost use Rattle.sv_links.specs.Queue.{without};
 ghost use Rattle.sv_links.specs.Channels.{ChannelOpened};
 ghost use Rattle.sv_history.specs.declared.event.Config.{Config as Configured};
 ghost use Rattle.sv_history.specs.Act.{DeviceAct, Waited, Channel, wait_acts};
-ghost use Rattle.sv_history.specs.CallOutcome.{only};
+ghost use Rattle.sv_history.specs.CallOutcome.{answered, only};
 ghost use Rattle.sv_server.specs.Device.Representation.{IsDevice};
-ghost use Rattle.sv_history.specs.Interrupts.{has_channel as channel_there, enable_srq as enabled_srq, is_peer as may_call, destroy_channel as destroyed_channel, is_dialing, dialed};
+ghost use Rattle.sv_history.specs.Interrupts.{has_channel as channel_there, enable_srq as enabled_srq, is_peer as may_call, is_dialing, dialed};
 ghost use Rattle.sv_vxi.specs.Arguments.{CreateIntrChan};
 ghost use Rattle.sv_vxi.specs.Reading.{plain_arguments};
 ghost use Rattle.sv_links.specs.Channels.{ChannelAct, ChannelClosed, ChannelTaken, waiting as channel_bytes};
@@ -90,7 +90,9 @@ impl<A: Allocator> Device<A> {
     /// destroy_intr_chan: the channel is closed, where one is open.
     pub(super) fn destroy_channel(&mut self, conn: Conn) -> CallOutcome
         ensures ends { (config : Configured) (acts : List DeviceAct) → IsDevice self.old config acts
-            → OutcomeIs result self.new config acts (destroyed_channel conn.number acts) }
+            → OutcomeIs result self.new config acts (if channel_there conn.number acts
+            then answered (Channel (ChannelClosed conn.number) ∷ []) (Plain NoError)
+            else only (Plain NotEstablished)) }
         ensures short { IsBrief result }
         ensures waiting { self.new.waiting ≡ self.old.waiting }
     {
@@ -125,10 +127,14 @@ impl<A: Allocator> Device<A> {
                 prog_num,
                 prog_vers,
                 ..
-            } => self.end_channel(conn, ok, Peer {
-                prog: prog_num,
-                vers: prog_vers,
-            }),
+            } => self.end_channel(
+                conn,
+                ok,
+                Peer {
+                    prog: prog_num,
+                    vers: prog_vers,
+                },
+            ),
             Args::CreateLink { .. } | Args::OnLink { .. } | Args::DestroyIntrChan => {
                 self.give_up_channel(conn);
                 CallOutcome::Result(failure(args, ErrorCode::NotEstablished))
