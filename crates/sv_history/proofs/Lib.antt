@@ -1,3 +1,6 @@
+pub mod Deciding
+pub mod Dialing
+pub mod Lives
 pub mod Projections
 pub mod Telling
 pub mod OneStep

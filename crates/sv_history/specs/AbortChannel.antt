@@ -11,18 +11,11 @@ abbrev pub owner_of : Option ℕ → List DeviceAct → Option ℕ
 owner_of (Some lid) acts = owner lid (link_acts acts)
 owner_of None acts = None
 
--- whether the call of a connection waits and names this link
-abbrev pub waits_with : ℕ → Option ℕ → List DeviceAct → Bool
-waits_with c (Some lid) acts = is_some (waits c (wait_acts acts)) && is_this lid (link c (wait_acts acts))
-waits_with c None acts = false
-
--- the connection whose call is ended
+-- the connection whose call is ended: this one, where its call waits and names this link
 abbrev pub where_waiting : Option ℕ → Option ℕ → List DeviceAct → Option ℕ
-where_waiting (Some c) lid acts = if waits_with c lid acts then Some c else None
-where_waiting None lid acts = None
-
-abbrev pub aborted : Option ℕ → List DeviceAct → Option ℕ
-aborted lid acts = where_waiting (owner_of lid acts) lid acts
+where_waiting (Some c) (Some lid) acts =
+    if is_some (waits c (wait_acts acts)) && is_this lid (link c (wait_acts acts)) then Some c else None
+where_waiting _ _ acts = None
 
 abbrev pub abort_result : Option ℕ → List DeviceAct → Outcome
 abort_result lid acts = Plain (if is_some (owner_of lid acts) then NoError else InvalidLink)

@@ -1,9 +1,9 @@
 -- What stands in front of a call of the core channel (VXI-11 revision 1.0, sections B.4.4 and B.6): its link, the lock, and what it waits
 -- for.
-use Rattle.std.specs.Prelude.{ℕ, ◌+◌, not, Bool, List, length, Option, Some, None, option_map, is_some, codes, nat_lt, ◌&&◌, if◌then◌else◌}
+use Rattle.std.specs.Prelude.{ℕ, ◌+◌, ◌==◌, not, Bool, List, length, Option, Some, None, option_map, is_some, codes, nat_lt, ◌&&◌, if◌then◌else◌}
 use Rattle.std.specs.Str.{bytes_eq}
 use Rattle.sv_vxi.specs.declared.error_code.ErrorCode.{ErrorCode}
-use Rattle.sv_vxi.specs.declared.error_code.ErrorCode.TheVariants.{InvalidLink, ParameterError, NotAccessible, OutOfResources}
+use Rattle.sv_vxi.specs.declared.error_code.ErrorCode.TheVariants.{InvalidLink, ParameterError, NotAccessible, NotSupported, OutOfResources, InvalidAddress, AlreadyEstablished}
 use Rattle.sv_vxi.specs.declared.error_code.ErrorCode.TheVariants.{Locked as DeviceLocked}
 use Rattle.sv_vxi.specs.declared.arguments.LockWait.{LockWait}
 use Rattle.sv_vxi.specs.Arguments.{LinkCall, DeviceWrite, DeviceRead, Arguments, CreateLink, OnLink, CreateIntrChan, DestroyIntrChan, link, lock_wait}
@@ -18,7 +18,7 @@ use Rattle.sv_history.specs.declared.event.Config.{Config}
 use Rattle.sv_history.specs.Act.{DeviceAct, link_acts, wait_acts, instrument_acts, exchange_acts, ticks}
 use Rattle.sv_history.specs.CallOutcome.{CallOutcome, only, suspended}
 use Rattle.sv_history.specs.CoreCall.{lid_of, is_too_long, failure}
-use Rattle.sv_history.specs.Interrupts.{has_channel, channel_fault}
+use Rattle.sv_history.specs.Interrupts.{has_channel, is_peer}
 use Rattle.sv_history.specs.CoreChannel.{owns, own_call}
 
 -- what stops a call: it fails, or it waits, at most so many milliseconds
@@ -57,17 +57,20 @@ link_stop lock_device timeout device acts =
     else (if not (may_make_more acts) then Some (Fails OutOfResources)
     else (if lock_device && is_locked_out (holder (link_acts acts)) None then Some (Awaits Lock (Some timeout)) else None))
 
--- an interrupt channel is opened once its peer was called, for which the call waits without a deadline
-abbrev pub channel_stop : Option ErrorCode → Stop
-channel_stop (Some error) = Fails error
-channel_stop None = Awaits Dial None
+-- an interrupt channel can't be opened where one is, not over anything but TCP (0), and not to everywhere; else it is opened once its peer
+-- was called, for which the call waits without a deadline
+abbrev pub channel_stop : Bool → ℕ → ℕ → ℕ → Stop
+channel_stop there host_addr host_port prog_family =
+    if there then Fails AlreadyEstablished
+    else (if not (prog_family == 0) then Fails NotSupported
+    else (if not (is_peer host_addr host_port) then Fails InvalidAddress else Awaits Dial None))
 
 -- what stops a call by what it is
 abbrev pub stop_of : ℕ → Arguments → List DeviceAct → Option Stop
 stop_of c (CreateLink client_id lock_device lock_timeout device) acts = link_stop lock_device lock_timeout device acts
 stop_of c (OnLink lid call) acts = call_stop c (lid_of (Some lid)) call acts
 stop_of c (CreateIntrChan host_addr host_port prog_num prog_vers prog_family) acts =
-    Some (channel_stop (channel_fault (has_channel c acts) host_addr host_port prog_family))
+    Some (channel_stop (has_channel c acts) host_addr host_port prog_family)
 stop_of c DestroyIntrChan acts = None
 
 -- so many milliseconds from now

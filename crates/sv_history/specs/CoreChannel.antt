@@ -3,12 +3,13 @@
 use Rattle.std.specs.Prelude.{ℕ, ◌+◌, ◌%◌, ◌==◌, not, pos, negsuc, Bool, false, List, [], ◌∷◌, ◌++◌, length, map, take, Option, Some, None, nat_lt, if◌then◌else◌}
 use Rattle.std.specs.Int.{bit_at}
 use Rattle.sv_errors.specs.declared.code.Code.TheVariants.{QueryUnterminated}
-use Rattle.sv_vxi.specs.declared.error_code.ErrorCode.TheVariants.{NoError, InvalidLink, ParameterError, NotSupported, OutOfResources, NoLock, IoTimeout}
+use Rattle.sv_vxi.specs.declared.error_code.ErrorCode.TheVariants.{NoError, InvalidLink, ParameterError, NotSupported, NotEstablished, OutOfResources, NoLock, IoTimeout}
 use Rattle.sv_vxi.specs.declared.error_code.ErrorCode.TheVariants.{Locked as DeviceLocked}
 use Rattle.sv_vxi.specs.declared.arguments.GenericCall.TheVariants.{Readstb, Trigger, Clear}
 use Rattle.sv_vxi.specs.Arguments.{LinkCall, DeviceWrite, DeviceRead, Generic, DeviceLock, DeviceUnlock, DeviceEnableSrq, DestroyLink, Arguments, CreateLink, OnLink, DestroyIntrChan}
 use Rattle.sv_vxi.specs.Results.{Outcome, Link, Size, Read, Status, Plain}
 use Rattle.sv_links.specs.Links.{Made, Destroyed, Locked, Unlocked, owner, is_of, made, lids_left, holder, is_locked_out, is_this}
+use Rattle.sv_links.specs.Channels.{ChannelClosed}
 use Rattle.sv_exchange.specs.Exchange.{Accepted, TextDropped, ResponseRead, has_ended, response, is_something}
 use Rattle.sv_exchange.specs.Read.{read_count, ends_at_term}
 use Rattle.sv_exchange.specs.Limits.{max_message}
@@ -16,10 +17,10 @@ use Rattle.sv_history.specs.declared.event.Config.{Config}
 use Rattle.sv_layers.specs.Act.{Exchanged, Reported, Purged, Polled}
 use Rattle.sv_instrument.specs.Step.{is_answerable}
 use Rattle.sv_instrument.specs.Stimulus.{trigger_acts}
-use Rattle.sv_history.specs.Act.{DeviceAct, Linked, Happened, link_acts, instrument_acts, exchange_acts}
+use Rattle.sv_history.specs.Act.{DeviceAct, Linked, Channel, Happened, link_acts, instrument_acts, exchange_acts}
 use Rattle.sv_history.specs.CallOutcome.{CallOutcome, answered, only}
 use Rattle.sv_history.specs.CoreCall.{no_bytes, failure}
-use Rattle.sv_history.specs.Interrupts.{enable_srq, destroy_channel}
+use Rattle.sv_history.specs.Interrupts.{has_channel, enable_srq}
 
 -- whether a link is one of this connection: it lives, and this one made it
 abbrev pub owns : ℕ → Option ℕ → List DeviceAct → Bool
@@ -95,5 +96,6 @@ abbrev pub own_call : Config → ℕ → ℕ → Arguments → List DeviceAct �
 own_call config polled c (CreateLink client_id lock_device lock_timeout device) acts = make_link config c lock_device acts
 own_call config polled c (OnLink (pos lid) call) acts = link_call polled c lid call acts
 own_call config polled c (OnLink (negsuc n) call) acts = only (failure (OnLink (negsuc n) call) InvalidLink)
-own_call config polled c DestroyIntrChan acts = destroy_channel c acts
+own_call config polled c DestroyIntrChan acts =
+    if has_channel c acts then answered (Channel (ChannelClosed c) ∷ []) (Plain NoError) else only (Plain NotEstablished)
 own_call config polled c arguments acts = only (failure arguments NotSupported)

@@ -47,8 +47,7 @@ IsEvent (Took port count) = (port_number port < 256) × (count < 2 ^ 32)
 IsEvent (Close port) = port_number port < 256
 IsEvent (Dialed conn ok) = conn < 256
 IsEvent (Input channel microvolts) = (channel < 256) × (neg_ℤ (pos (2 ^ 63)) ≤ℤ microvolts) × (microvolts <ℤ pos (2 ^ 63))
-IsEvent External = ⊤
-IsEvent Tick = ⊤
+IsEvent _ = ⊤
 
 -- A configuration that can be given: its numbers lie in theirs.
 abbrev pub IsConfig : Config → Type 0

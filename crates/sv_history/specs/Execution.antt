@@ -12,12 +12,9 @@ use Rattle.sv_history.specs.Effect.{Effect, result_reply, call_effect, replied}
 use Rattle.sv_history.specs.Request.{Request, NoCall, Decided, CoreRequest, AbortRequest, PortRequest}
 use Rattle.sv_history.specs.CoreCall.{lid_of}
 use Rattle.sv_history.specs.Admission.{stop_of, admitted}
-use Rattle.sv_history.specs.AbortChannel.{aborted, abort_result}
+use Rattle.sv_history.specs.AbortChannel.{owner_of, where_waiting, abort_result}
 
--- what the port mapper tells (RFC 1833, section 3): the ports of the configuration
-abbrev pub ports_of : Config → Ports
-ports_of config = record { core = config.core; abort = config.abort }
-
+-- what the port mapper tells (RFC 1833, section 3)
 abbrev pub port_reply : ℕ → Result ℕ Garbage → List ℕ
 port_reply xid (Ok port) = reply_record xid Success (Unsigned port ∷ [])
 port_reply xid (Err garbage) = reply_record xid GarbageArgs []
@@ -29,9 +26,10 @@ request_effect config polled c (Decided xid reply) acts = replied (reply_record 
 request_effect config polled c (CoreRequest call) acts =
     call_effect call.xid (admitted config polled c call.arguments (stop_of c call.arguments acts) acts)
 request_effect config polled c (AbortRequest xid lid) acts = replied (result_reply xid (abort_result (lid_of (Some lid)) acts))
-request_effect config polled c (PortRequest xid args) acts = replied (port_reply xid (port_at (ports_of config) args))
+request_effect config polled c (PortRequest xid args) acts =
+    replied (port_reply xid (port_at (record { core = config.core; abort = config.abort }) args))
 
 -- the connection whose suspended call it ends beside
 abbrev pub aborts : Request → List DeviceAct → Option ℕ
-aborts (AbortRequest xid lid) acts = aborted (lid_of (Some lid)) acts
+aborts (AbortRequest xid lid) acts = where_waiting (owner_of (lid_of (Some lid)) acts) (lid_of (Some lid)) acts
 aborts _ acts = None

@@ -11,7 +11,7 @@ use Rattle.sv_links.specs.Waiting.{WaitAct, waits, connections}
 use Rattle.sv_links.specs.Channels.{SrqEnabled, SrqDisabled, ChannelOpened, ChannelClosed, is_channel_open}
 use Rattle.sv_history.specs.declared.event.Dial.{Dial}
 use Rattle.sv_history.specs.Act.{Act, DeviceAct, Channel, of, device_acts, wait_acts, channel_acts}
-use Rattle.sv_history.specs.Connection.{unanswered}
+use Rattle.sv_history.specs.Connection.{life}
 use Rattle.sv_history.specs.CallOutcome.{CallOutcome, answered, only}
 use Rattle.sv_history.specs.CoreCall.{CoreCall, failure}
 use Rattle.sv_history.specs.Request.{core_call_in}
@@ -26,20 +26,9 @@ enable_srq c true lid handle = if nat_lt max_handle (length handle) then only (P
     else answered (Channel (SrqEnabled lid c handle) ∷ []) (Plain NoError)
 enable_srq c false lid handle = answered (Channel (SrqDisabled lid) ∷ []) (Plain NoError)
 
--- why no channel can be opened: one is open, it isn't over TCP (0), or the address isn't in 127.0.0.0/8, or the port none of 1 to 65535
+-- whether a channel may be opened to there: an address in 127.0.0.0/8, and a port of 1 to 65535
 abbrev pub is_peer : ℕ → ℕ → Bool
 is_peer host_addr host_port = (host_addr / 16777216 == 127) && nat_lt 0 host_port && nat_lt host_port 65536
-
-abbrev pub channel_fault : Bool → ℕ → ℕ → ℕ → Option ErrorCode
-channel_fault there host_addr host_port prog_family =
-    if there then Some AlreadyEstablished
-    else (if not (prog_family == 0) then Some NotSupported
-    else (if not (is_peer host_addr host_port) then Some InvalidAddress else None))
-
--- the channel is closed, where one is open
-abbrev pub destroy_channel : ℕ → List DeviceAct → CallOutcome
-destroy_channel c acts = if has_channel c acts then answered (Channel (ChannelClosed c) ∷ []) (Plain NoError)
-    else only (Plain NotEstablished)
 
 -- whether a create_intr_chan of a connection waits for its peer to be called
 abbrev pub is_dial : Option Wait → Bool
@@ -65,21 +54,10 @@ dial_in None = None
 
 -- of the call of a connection that waits for it
 abbrev pub dial_of : ℕ → List Act → Option Dial
-dial_of c log = if is_dialing c (wait_acts (device_acts log)) then dial_in (core_call_in (unanswered (of c log))) else None
+dial_of c log = if is_dialing c (wait_acts (device_acts log)) then dial_in (core_call_in (life (of c log)).unanswered) else None
 
--- The peer was called, and the channel is open; or it can't be.
-abbrev pub end_channel : ℕ → Bool → Peer → CallOutcome
-end_channel c true peer = answered (Channel (ChannelOpened c peer) ∷ []) (Plain NoError)
-end_channel c false peer = only (Plain NotEstablished)
-
--- which peer a call asks for
-abbrev pub peer_by : Arguments → Option Peer
-peer_by (CreateIntrChan host_addr host_port prog_num prog_vers prog_family) = Some (record { prog = prog_num; vers = prog_vers })
-peer_by _ = None
-
-abbrev pub dialed_to : ℕ → Bool → Arguments → Option Peer → CallOutcome
-dialed_to c ok arguments (Some peer) = end_channel c ok peer
-dialed_to c ok arguments None = only (failure arguments NotEstablished)
-
+-- what a create_intr_chan comes to whose peer was called: the channel is open, or it can't be
 abbrev pub dialed : ℕ → Bool → Arguments → CallOutcome
-dialed c ok arguments = dialed_to c ok arguments (peer_by arguments)
+dialed c true (CreateIntrChan host_addr host_port prog_num prog_vers prog_family) =
+    answered (Channel (ChannelOpened c (record { prog = prog_num; vers = prog_vers })) ∷ []) (Plain NoError)
+dialed c _ arguments = only (failure arguments NotEstablished)

@@ -7,12 +7,12 @@ use Rattle.sv_rpc.specs.declared.reply.Reply.TheVariants.{Success, Mismatch, Pro
 use Rattle.sv_rpc.specs.declared.call.CallFault.{CallFault}
 use Rattle.sv_rpc.specs.declared.call.CallFault.TheVariants.{BadHeader, Version}
 use Rattle.sv_rpc.specs.Call.{PlainCall, call_at}
-use Rattle.sv_vxi.specs.Arguments.{Arguments, core_calls, abort_calls, is_one_of, link}
+use Rattle.sv_vxi.specs.Arguments.{Arguments, OnLink, core_calls, abort_calls, is_one_of}
 use Rattle.sv_vxi.specs.Reading.{arguments_at}
 use Rattle.sv_history.specs.declared.event.Role.{Role}
 use Rattle.sv_history.specs.declared.event.Role.TheVariants.{Core, Abort, Portmap}
 use Rattle.sv_history.specs.Act.{ConnAct}
-use Rattle.sv_history.specs.Connection.{open_role, next_call}
+use Rattle.sv_history.specs.Connection.{life, next_call}
 use Rattle.sv_history.specs.CoreCall.{CoreCall}
 
 -- it is no call; its header or its arguments alone decide the reply; or it is a call of the core channel, device_abort, or GETPORT
@@ -24,53 +24,37 @@ pub data Request : Type 0 where
   PortRequest : (xid : ℕ) (args : List ℕ) → Request
 
 -- the program that a connection serves, its version, and its procedures beside 0, which does nothing
-abbrev pub program_of : Role → ℕ
-program_of Core = 395183
-program_of Abort = 395184
-program_of Portmap = 100000
-
-abbrev pub version_of : Role → ℕ
-version_of Portmap = 2
-version_of _ = 1
-
-abbrev pub procedures_of : Role → List ℕ
-procedures_of Core = core_calls
-procedures_of Abort = abort_calls
-procedures_of Portmap = 3 ∷ []
-
--- what the header of a call alone decides: another program, another version, nothing to do, or another procedure
-abbrev pub header_reply : Role → PlainCall → Option Reply
-header_reply role call =
-    if not (call.prog == program_of role) then Some ProgUnavail
-    else (if not (call.vers == version_of role) then Some (ProgMismatch (version_of role) (version_of role))
-    else (if call.proc == 0 then Some Success
-    else (if not (is_one_of (procedures_of role) call.proc) then Some ProcUnavail else None)))
+abbrev pub program_of : Role → ℕ × ℕ × List ℕ
+program_of Core = (395183, 1, core_calls)
+program_of Abort = (395184, 1, abort_calls)
+program_of Portmap = (100000, 2, 3 ∷ [])
 
 -- a call of one of its program's procedures
 abbrev pub core_request : ℕ → Result Arguments Garbage → Request
 core_request xid (Ok arguments) = CoreRequest (record { xid = xid; arguments = arguments })
 core_request xid (Err garbage) = Decided xid GarbageArgs
 
-abbrev pub link_in : Result Arguments Garbage → Option ℤ
-link_in (Ok arguments) = link arguments
-link_in (Err garbage) = None
-
-abbrev pub abort_request : ℕ → Option ℤ → Request
-abort_request xid (Some lid) = AbortRequest xid lid
-abort_request xid None = Decided xid GarbageArgs
+abbrev pub abort_request : ℕ → Result Arguments Garbage → Request
+abort_request xid (Ok (OnLink lid call)) = AbortRequest xid lid
+abort_request xid _ = Decided xid GarbageArgs
 
 abbrev pub procedure_request : Role → PlainCall → Request
 procedure_request Core call = core_request call.xid (arguments_at call.proc call.args)
-procedure_request Abort call = abort_request call.xid (link_in (arguments_at call.proc call.args))
+procedure_request Abort call = abort_request call.xid (arguments_at call.proc call.args)
 procedure_request Portmap call = PortRequest call.xid call.args
 
-abbrev pub unless_decided : Role → PlainCall → Option Reply → Request
-unless_decided role call (Some reply) = Decided call.xid reply
-unless_decided role call None = procedure_request role call
+-- what a call asks for: its header decides the reply where it names another program, another version, nothing to do, or another procedure
+abbrev pub call_request : Role → PlainCall → Request
+call_request role call =
+    let (program, version, procedures) = program_of role in
+    if not (call.prog == program) then Decided call.xid ProgUnavail
+    else (if not (call.vers == version) then Decided call.xid (ProgMismatch version version)
+    else (if call.proc == 0 then Decided call.xid Success
+    else (if not (is_one_of procedures call.proc) then Decided call.xid ProcUnavail else procedure_request role call)))
 
 -- Another version of RPC is denied.
 abbrev pub request_of : Role → Result PlainCall CallFault → Request
-request_of role (Ok call) = unless_decided role call (header_reply role call)
+request_of role (Ok call) = call_request role call
 request_of role (Err (Version xid)) = Decided xid Mismatch
 request_of role (Err BadHeader) = NoCall
 
@@ -80,7 +64,7 @@ asked (Some role) (Some bytes) = Some (request_of role (call_at bytes))
 asked _ _ = None
 
 abbrev pub next_request : List ConnAct → Option Request
-next_request acts = asked (open_role acts) (next_call acts)
+next_request acts = asked (life acts).role (next_call acts)
 
 -- the call of the core channel that a record is, where it is one
 abbrev pub core_call_of : Request → Option CoreCall

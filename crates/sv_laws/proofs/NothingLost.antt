@@ -21,11 +21,13 @@ use Rattle.sv_history.specs.declared.event.Refused.{Refused}
 use Rattle.sv_history.specs.declared.event.Refused.TheVariants.{NoMemory, ConnInUse, NoConn, NoRoom, NotSent, NoDial, NotRefusable, BadChannel, BadInput, TimeOver}
 use Rattle.sv_history.specs.Event.{PlainEvent, Open, Bytes, Turn, Refuse, Took, Close, Dialed, Input, External, Tick}
 use Rattle.sv_history.specs.Act.{Act, ConnAct, DeviceAct, Linked, Waited, Channel, Happened, Ticked, PortClosed, On, OnDevice, of, device_acts, link_acts, wait_acts, instrument_acts}
-use Rattle.sv_history.specs.Connection.{is_open, open_role, unanswered, room, waiting}
+use Rattle.sv_history.specs.Connection.{is_open, room, waiting}
+use Rattle.sv_history.proofs.Lives.{open_role, unanswered}
 use Rattle.sv_history.specs.CoreCall.{CoreCall}
 use Rattle.sv_history.specs.Request.{core_call_in}
 use Rattle.sv_history.specs.Effect.{acts_of}
-use Rattle.sv_history.specs.Interrupts.{has_channel, is_dialing, dialing, dial_in, dialed_to, peer_by}
+use Rattle.sv_history.specs.Interrupts.{has_channel, is_dialing, dialing, dial_in}
+use Rattle.sv_history.proofs.Dialing.{peer_by, dialed_to, dialed_is}
 use Rattle.sv_history.specs.Resuming.{connected}
 use Rattle.sv_history.specs.History.{is_shut, refusal, own_acts, did, wants_memory, AnswersBy, IsLogOf}
 use Rattle.sv_laws.specs.Laws.{NothingLost}
@@ -108,7 +110,7 @@ dialed_modest c ok call =
     at_peer ok call None = left_modest c ((dialed_to c ok call.arguments None).adds ++ Waited (Left c) ∷ []) refl refl
 
     by : (call : Option CoreCall) → wants_memory (connected c ok call).adds ≡ false
-    by (Some call) = at_peer ok call (peer_by call.arguments)
+    by (Some call) = rw (dialed_is c ok call.arguments) (at_peer ok call (peer_by call.arguments))
     by None = left_modest c (Waited (Left c) ∷ []) refl refl
 
 happened_none : (adds : List InstrumentAct) → (link_acts (map Happened adds) ≡ []) × (wait_acts (map Happened adds) ≡ [])

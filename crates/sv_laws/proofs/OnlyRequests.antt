@@ -21,7 +21,8 @@ use Rattle.sv_history.specs.declared.event.Config.{Config}
 use Rattle.sv_history.specs.declared.event.Port.TheVariants.{Conn, Intr}
 use Rattle.sv_history.specs.Event.{PlainEvent, Open, Bytes, Turn, Refuse, Took, Close, Dialed, Input, External, Tick}
 use Rattle.sv_history.specs.Act.{Act, DeviceAct, CallTaken, PortClosed, Linked, Waited, Channel, Happened, Ticked, On, OnDevice, of, device_acts, link_acts, instrument_acts, exchange_acts, ticks}
-use Rattle.sv_history.specs.Connection.{unanswered, next_call}
+use Rattle.sv_history.specs.Connection.{next_call}
+use Rattle.sv_history.proofs.Lives.{unanswered}
 use Rattle.sv_history.specs.CallOutcome.{CallOutcome, only}
 use Rattle.sv_history.specs.CoreCall.{CoreCall, failure}
 use Rattle.sv_history.specs.CoreChannel.{own_call}
@@ -30,7 +31,8 @@ use Rattle.sv_history.specs.Request.{Request, NoCall, Decided, CoreRequest, Abor
 use Rattle.sv_history.specs.Requests.{HearsOf, link_told, request_told}
 use Rattle.sv_history.specs.Admission.{Stop, Fails, Awaits, stop_of, admitted}
 use Rattle.sv_history.specs.Execution.{request_effect, aborts}
-use Rattle.sv_history.specs.Interrupts.{has_channel, peer_by, dialed_to}
+use Rattle.sv_history.specs.Interrupts.{has_channel}
+use Rattle.sv_history.proofs.Dialing.{peer_by, dialed_to, dialed_is}
 use Rattle.sv_history.specs.Resuming.{effect_of, leaving, next_wait, continued, connected, late}
 use Rattle.sv_history.specs.Refusing.{refusable}
 use Rattle.sv_history.specs.Settling.{IsNext, SettlesIn}
@@ -311,7 +313,7 @@ begins_dialed c ok None log e =
     by : (ok : Bool) (told : List ChannelAct) → HearsOf (device_acts log) told → HearsOf (device_acts log) (cond ok [] [] ++ told)
     by true told x = x
     by false told x = x
-begins_dialed c ok (Some call) log e = by ok (peer_by call.arguments)
+begins_dialed c ok (Some call) log e = rw (dialed_is c ok call.arguments) (by ok (peer_by call.arguments))
   where
     by : (ok : Bool) (found : Option Peer)
         → (base : List DeviceAct)

@@ -14,7 +14,6 @@ ghost use Rattle.sv_instrument.specs.Representation.{left_of};
 ghost use Rattle.sv_history.specs.declared.event.Config.{Config};
 ghost use Rattle.sv_links.specs.Channels.{ChannelClosed};
 ghost use Rattle.sv_history.specs.Act.{DeviceAct, Linked, Waited, Channel, Happened, Ticked, link_acts, wait_acts, instrument_acts, ticks};
-ghost use Rattle.sv_history.specs.Execution.{ports_of};
 ghost use Rattle.sv_history.specs.Settling.{CanResume};
 ghost use Rattle.sv_history.specs.Still.{IsStill};
 ghost use Rattle.sv_server.specs.Device.Inside.WaitingCall.{IsKept};
@@ -155,7 +154,7 @@ impl<A: Allocator> Device<A> {
     /// The ports of the configuration.
     pub fn ports(&self) -> Ports
         ensures { (config : Config) (acts : List DeviceAct) → IsDevice self.now config acts
-            → result ≡ ports_of config }
+            → result ≡ record { core = config.core; abort = config.abort } }
     {
         Ports {
             core: self.config.core,

@@ -8,7 +8,7 @@ use Rattle.sv_rpc.specs.Stream.{records_of, tail_of}
 use Rattle.sv_history.specs.declared.event.Config.{Config}
 use Rattle.sv_history.specs.Event.{PlainEvent}
 use Rattle.sv_history.specs.Act.{Act, ConnAct, Opened, Piece, CallTaken, Faulted, Replied, BytesTaken, PortClosed, of}
-use Rattle.sv_history.specs.Connection.{open_role, stream, completed, took_no_call, unanswered}
+use Rattle.sv_history.proofs.Lives.{open_role, stream, completed, took_no_call, unanswered}
 use Rattle.sv_laws.specs.Cuts.{without_pieces}
 use Rattle.sv_laws.proofs.Cuts.ReadsOn.{resumed_at, records_more}
 use Rattle.sv_laws.proofs.Cuts.BytesBehind.{GoesOn, behind_bare, behind_stream}

@@ -9,7 +9,7 @@ use Rattle.sv_history.specs.declared.event.Port.{Port}
 use Rattle.sv_history.specs.declared.event.Port.TheVariants.{Conn, Intr}
 use Rattle.sv_history.specs.Event.{PlainEvent, Bytes}
 use Rattle.sv_history.specs.Act.{Act, DeviceAct, Piece, On, of, device_acts}
-use Rattle.sv_history.specs.Connection.{stream}
+use Rattle.sv_history.proofs.Lives.{stream}
 use Rattle.sv_history.specs.Requests.{HearsOf}
 use Rattle.sv_history.specs.History.{IsLogOf}
 use Rattle.sv_laws.specs.Adding.{all_sent, Sends}

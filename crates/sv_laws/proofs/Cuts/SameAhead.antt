@@ -5,7 +5,8 @@ use Rattle.std.proofs.lemmas.Bool.{cases_Bool}
 use Rattle.sv_rpc.specs.Stream.{records_of}
 use Rattle.sv_history.specs.declared.event.Role.{Role}
 use Rattle.sv_history.specs.Act.{Act, ConnAct, Opened, Piece, CallTaken, Faulted, Replied, BytesTaken, PortClosed, On, OnDevice, of}
-use Rattle.sv_history.specs.Connection.{open_role, unanswered, completed, took_no_call, stream, next_call}
+use Rattle.sv_history.specs.Connection.{next_call}
+use Rattle.sv_history.proofs.Lives.{open_role, unanswered, completed, took_no_call, stream}
 use Rattle.sv_history.specs.Request.{asked, next_request}
 use Rattle.sv_laws.specs.Adding.{all_replies}
 

@@ -8,7 +8,8 @@ use Rattle.sv_xdr.proofs.Fields.{IsBytes}
 use Rattle.sv_rpc.specs.Stream.{records_of}
 use Rattle.sv_history.specs.declared.event.Role.{Role}
 use Rattle.sv_history.specs.Act.{Act, ConnAct, DeviceAct, Opened, Piece, CallTaken, Faulted, Replied, BytesTaken, PortClosed, On, OnDevice, of, device_acts}
-use Rattle.sv_history.specs.Connection.{open_role, unanswered, completed, took_no_call, stream, next_call}
+use Rattle.sv_history.specs.Connection.{next_call}
+use Rattle.sv_history.proofs.Lives.{open_role, unanswered, completed, took_no_call, stream}
 use Rattle.sv_history.specs.Request.{Request, asked, next_request}
 use Rattle.sv_history.specs.Refusing.{refusable_call, refusable}
 use Rattle.sv_history.specs.Effect.{Effect, acts_of}

@@ -1,6 +1,6 @@
 -- What a call of the core program is on a connection, and what a write comes to: it fails, or waits for what isn't there, or its bytes are
 -- accepted.
-use Rattle.std.proofs.Common.{◌≡◌, ◌≢◌, ℕ, suc, Bool, false, eqb, List, [], ◌∷◌, length, Option, Some, None, refl, ap, subst, ◌∙◌, inl, inr, ◌⊎◌, arith}
+use Rattle.std.proofs.Common.{◌≡◌, ◌≢◌, ℕ, suc, Bool, false, eqb, List, [], ◌∷◌, length, Option, Some, None, refl, sym, ap, subst, ◌∙◌, inl, inr, ◌⊎◌, arith}
 use Rattle.std.specs.Prelude.{not, pos, nat_lt, ◌==◌, Result, Ok, Err}
 use Rattle.std.specs.Int.{bit_at}
 use Rattle.std.proofs.lemmas.Bool.{cases_Bool, eqb-true}
@@ -28,7 +28,8 @@ use Rattle.sv_history.specs.declared.event.Role.TheVariants.{Core, Abort, Portma
 use Rattle.sv_history.specs.Act.{DeviceAct, Happened, link_acts, instrument_acts, exchange_acts}
 use Rattle.sv_history.specs.CallOutcome.{CallOutcome, answered, only, suspended}
 use Rattle.sv_history.specs.CoreCall.{CoreCall}
-use Rattle.sv_history.specs.Request.{Request, NoCall, Decided, CoreRequest, AbortRequest, PortRequest, program_of, header_reply, unless_decided, request_of, core_call_of, core_call, asked}
+use Rattle.sv_history.specs.Request.{Request, NoCall, Decided, CoreRequest, AbortRequest, PortRequest, program_of, request_of, core_call_of, core_call, asked}
+use Rattle.sv_history.proofs.Deciding.{header_reply, unless_decided, request_is}
 use Rattle.sv_history.specs.CoreChannel.{device_write}
 use Rattle.sv_history.specs.Admission.{stop_of, admitted}
 use Rattle.sv_history.specs.Resuming.{late}
@@ -46,13 +47,13 @@ core_is (AbortRequest xid lid) call is = absurd cc
 core_is (PortRequest xid args) call is = absurd cc
 
 -- a call of the core program is of no other
-other_program : (found : PlainCall) (call : CoreCall) (role : Role) → eqb (program_of Core) (program_of role) ≡ false
+other_program : (found : PlainCall) (call : CoreCall) (role : Role) → eqb (program_of Core).0 (program_of role).0 ≡ false
     → core_call_of (unless_decided Core found (header_reply Core found)) ≡ Some call
     → unless_decided role found (header_reply role found) ≡ Decided found.xid ProgUnavail
-other_program found call role apart is = elim (cases_Bool (found.prog == program_of Core)) [
+other_program found call role apart is = elim (cases_Bool (found.prog == (program_of Core).0)) [
   | inl e ↦
-      let same : found.prog ≡ program_of Core = eqb-true found.prog (program_of Core) e in
-      let far : eqb found.prog (program_of role) ≡ false = ap (λ (n : ℕ). eqb n (program_of role)) same ∙ apart in
+      let same : found.prog ≡ (program_of Core).0 = eqb-true found.prog (program_of Core).0 e in
+      let far : eqb found.prog (program_of role).0 ≡ false = ap (λ (n : ℕ). eqb n (program_of role).0) same ∙ apart in
       rw far refl
   | inr e ↦ absurd (let z : None ≡ Some call = rw e at is in cc)
 ]
@@ -60,8 +61,10 @@ other_program found call role apart is = elim (cases_Bool (found.prog == program
 core_in : (role : Role) (found : Result PlainCall CallFault) (call : CoreCall) → core_call_of (request_of Core found) ≡ Some call
     → IsCore (request_of role found) call
 core_in Core found call is = core_is (request_of Core found) call is
-core_in Abort (Ok found) call is = inr (found.xid, other_program found call Abort refl is)
-core_in Portmap (Ok found) call is = inr (found.xid, other_program found call Portmap refl is)
+core_in Abort (Ok found) call is =
+    inr (found.xid, request_is Abort found ∙ other_program found call Abort refl (ap core_call_of (sym (request_is Core found)) ∙ is))
+core_in Portmap (Ok found) call is =
+    inr (found.xid, request_is Portmap found ∙ other_program found call Portmap refl (ap core_call_of (sym (request_is Core found)) ∙ is))
 core_in Abort (Err (Version xid)) call is = absurd cc
 core_in Portmap (Err (Version xid)) call is = absurd cc
 core_in Abort (Err BadHeader) call is = absurd cc

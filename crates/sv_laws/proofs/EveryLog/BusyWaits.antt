@@ -23,13 +23,15 @@ use Rattle.sv_history.specs.declared.event.Config.{Config}
 use Rattle.sv_history.specs.declared.event.Port.TheVariants.{Conn, Intr}
 use Rattle.sv_history.specs.Event.{PlainEvent, Open, Bytes, Turn, Refuse, Took, Close, Dialed, Input, External, Tick}
 use Rattle.sv_history.specs.Act.{Act, ConnAct, DeviceAct, Opened, Piece, CallTaken, Replied, BytesTaken, PortClosed, Waited, Channel, Happened, Ticked, On, OnDevice, of, device_acts, link_acts, wait_acts, instrument_acts, exchange_acts}
-use Rattle.sv_history.specs.Connection.{unanswered, next_call}
+use Rattle.sv_history.specs.Connection.{next_call}
+use Rattle.sv_history.proofs.Lives.{unanswered}
 use Rattle.sv_history.specs.CallOutcome.{CallOutcome, only}
 use Rattle.sv_history.specs.CoreCall.{CoreCall, lid_of, failure}
 use Rattle.sv_history.specs.CoreChannel.{own_call}
 use Rattle.sv_history.specs.Effect.{Effect, acts_of, replies, call_effect}
 use Rattle.sv_history.specs.Request.{Request, NoCall, Decided, CoreRequest, AbortRequest, PortRequest, core_call_in, next_request}
-use Rattle.sv_history.specs.Interrupts.{has_channel, peer_by, dialed, dialed_to}
+use Rattle.sv_history.specs.Interrupts.{has_channel, dialed}
+use Rattle.sv_history.proofs.Dialing.{peer_by, dialed_to, dialed_is}
 use Rattle.sv_history.specs.Admission.{Stop, Fails, Awaits, stop_of, admitted, deadline}
 use Rattle.sv_history.specs.Execution.{request_effect, aborts}
 use Rattle.sv_history.specs.Refusing.{refusable, refused_reply}
@@ -166,7 +168,7 @@ all_failed error c log fit all = all_ended c (λ arguments. leaving c (only (fai
 all_dialed : (c : ℕ) (ok : Bool) (log : List Act) → Fit log → AllWait log
     → AllWait (acts_of c (effect_of c (λ arguments. leaving c (dialed c ok arguments)) (core_call_in (unanswered (of c log)))) ++ log)
 all_dialed c ok log fit all = all_ended c (λ arguments. leaving c (dialed c ok arguments)) log fit all
-    (λ call. by ok call (peer_by call.arguments))
+    (λ call. rw (dialed_is c ok call.arguments) (by ok call (peer_by call.arguments)))
   where
     by : (ok : Bool) (call : CoreCall) (peer : Option Peer)
         → AllWait (acts_of c (call_effect call.xid (leaving c (dialed_to c ok call.arguments peer))) ++ log)

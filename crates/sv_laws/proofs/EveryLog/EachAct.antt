@@ -12,7 +12,7 @@ use Rattle.sv_rpc.specs.declared.call.CallFault.TheVariants.{BadHeader, Version}
 use Rattle.sv_rpc.specs.Ports.{port_at}
 use Rattle.sv_rpc.specs.Call.{PlainCall, call_at}
 use Rattle.sv_vxi.specs.declared.error_code.ErrorCode.TheVariants.{Abort as Aborted, OutOfResources}
-use Rattle.sv_vxi.specs.Arguments.{Arguments}
+use Rattle.sv_vxi.specs.Arguments.{Arguments, CreateLink, OnLink, CreateIntrChan, DestroyIntrChan}
 use Rattle.sv_vxi.specs.Reading.{arguments_at}
 use Rattle.sv_vxi.specs.Results.{Outcome, result_fields}
 use Rattle.sv_links.specs.Links.{closing}
@@ -29,14 +29,16 @@ use Rattle.sv_history.specs.declared.event.Role.TheVariants.{Core, Abort, Portma
 use Rattle.sv_history.specs.declared.event.Port.TheVariants.{Conn, Intr}
 use Rattle.sv_history.specs.Event.{PlainEvent, Open, Bytes, Turn, Refuse, Took, Close, Dialed, Input, External, Tick, IsEvent}
 use Rattle.sv_history.specs.Act.{Act, ConnAct, DeviceAct, Opened, Piece, CallTaken, Faulted, Replied, BytesTaken, PortClosed, Linked, Waited, Channel, Happened, Ticked, On, OnDevice, of, device_acts, link_acts, instrument_acts}
-use Rattle.sv_history.specs.Connection.{open_role, is_open, unanswered, next_call}
+use Rattle.sv_history.specs.Connection.{is_open, next_call}
+use Rattle.sv_history.proofs.Lives.{open_role, unanswered}
 use Rattle.sv_history.specs.CallOutcome.{CallOutcome, only}
 use Rattle.sv_history.specs.CoreCall.{CoreCall, lid_of, failure}
 use Rattle.sv_history.specs.Reply.{reply_record}
 use Rattle.sv_history.specs.Effect.{Effect, acts_of, replies, result_reply}
-use Rattle.sv_history.specs.Request.{Request, NoCall, Decided, CoreRequest, AbortRequest, PortRequest, link_in, core_request, abort_request, procedure_request, unless_decided, header_reply, request_of, core_call_of, core_call_in, asked, next_request}
+use Rattle.sv_history.specs.Request.{Request, NoCall, Decided, CoreRequest, AbortRequest, PortRequest, core_request, abort_request, procedure_request, request_of, core_call_of, core_call_in, asked, next_request}
+use Rattle.sv_history.proofs.Deciding.{unless_decided, header_reply, request_is}
 use Rattle.sv_history.specs.AbortChannel.{abort_result}
-use Rattle.sv_history.specs.Execution.{ports_of, port_reply, request_effect, aborts}
+use Rattle.sv_history.specs.Execution.{port_reply, request_effect, aborts}
 use Rattle.sv_history.specs.Interrupts.{dialed}
 use Rattle.sv_history.specs.Resuming.{effect_of, leaving, next_wait, continued, late}
 use Rattle.sv_history.specs.Refusing.{takes_memory, refusable_call, refusable, refused_reply}
@@ -87,13 +89,13 @@ xid_core : (xid : ℕ) (arguments : Result Arguments Garbage) → xid_in (core_r
 xid_core xid (Ok arguments) = refl
 xid_core xid (Err garbage) = refl
 
-xid_abort : (xid : ℕ) (lid : Option ℤ) → xid_in (abort_request xid lid) ≡ Some xid
-xid_abort xid (Some lid) = refl
-xid_abort xid None = refl
+xid_abort : (xid : ℕ) (read : Result Arguments Garbage) → xid_in (abort_request xid read) ≡ Some xid
+xid_abort xid (Ok (OnLink lid call)) = refl
+xid_abort xid _ = refl
 
 xid_procedure : (role : Role) (call : PlainCall) → xid_in (procedure_request role call) ≡ Some call.xid
 xid_procedure Core call = xid_core call.xid (arguments_at call.proc call.args)
-xid_procedure Abort call = xid_abort call.xid (link_in (arguments_at call.proc call.args))
+xid_procedure Abort call = xid_abort call.xid (arguments_at call.proc call.args)
 xid_procedure Portmap call = refl
 
 xid_decided : (role : Role) (call : PlainCall) (reply : Option Reply) → xid_in (unless_decided role call reply) ≡ Some call.xid
@@ -101,7 +103,7 @@ xid_decided role call (Some reply) = refl
 xid_decided role call None = xid_procedure role call
 
 xid_requested : (role : Role) (call : Result PlainCall CallFault) → xid_in (request_of role call) ≡ xid_of call
-xid_requested role (Ok call) = xid_decided role call (header_reply role call)
+xid_requested role (Ok call) = ap xid_in (request_is role call) ∙ xid_decided role call (header_reply role call)
 xid_requested role (Err (Version xid)) = refl
 xid_requested role (Err BadHeader) = refl
 
@@ -211,7 +213,7 @@ came_request config polled c bytes (CoreRequest call) acts own is all =
 came_request config polled c bytes (AbortRequest xid lid) acts own is all =
     ((bytes, refl, told_result bytes xid (abort_result (lid_of (Some lid)) acts) is), all)
 came_request config polled c bytes (PortRequest xid args) acts own is all =
-    ((bytes, refl, port_replied bytes xid (port_at (ports_of config) args) is), all)
+    ((bytes, refl, port_replied bytes xid (port_at (record { core = config.core; abort = config.abort }) args) is), all)
 
 all_turn : (config : Config) (polled c : ℕ) (found : Option (List ℕ)) (request : Option Request) (log : List Act) → Everywhere log
     → is_open (of c log) ≡ true → next_call (of c log) ≡ found → next_request (of c log) ≡ request

@@ -26,12 +26,13 @@ use Rattle.sv_history.specs.declared.event.Role.{Role}
 use Rattle.sv_history.specs.declared.event.Role.TheVariants.{Core}
 use Rattle.sv_history.specs.Event.{PlainEvent, Open, Bytes, Turn, Refuse, Took, Close, Dialed, Input, External, Tick, IsEvent}
 use Rattle.sv_history.specs.Act.{Act, ConnAct, DeviceAct, Opened, Piece, CallTaken, Replied, BytesTaken, PortClosed, Linked, Waited, Channel, Happened, Ticked, On, OnDevice, of, device_acts, link_acts, wait_acts, instrument_acts}
-use Rattle.sv_history.specs.Connection.{open_role, unanswered, next_call}
+use Rattle.sv_history.specs.Connection.{next_call}
+use Rattle.sv_history.proofs.Lives.{open_role, unanswered}
 use Rattle.sv_history.specs.CoreCall.{CoreCall, lid_of}
 use Rattle.sv_history.specs.CoreChannel.{own_call}
 use Rattle.sv_history.specs.Effect.{Effect, acts_of, replies, call_effect}
 use Rattle.sv_history.specs.Request.{Request, NoCall, Decided, CoreRequest, AbortRequest, PortRequest, core_call_in, next_request}
-use Rattle.sv_history.specs.Interrupts.{dialed_to, peer_by}
+use Rattle.sv_history.proofs.Dialing.{peer_by, dialed_to, dialed_is}
 use Rattle.sv_history.specs.Admission.{Stop, Fails, Awaits, stop_of, admitted}
 use Rattle.sv_history.specs.Execution.{request_effect, aborts}
 use Rattle.sv_history.specs.Resuming.{leaving, next_wait, continued, resumed, failed, connected, late}
@@ -116,7 +117,7 @@ fit_dialed c ok call None log fit =
     (left_none c (wait_acts (device_acts log)))
 
 fit_connected : (c : ℕ) (ok : Bool) (call : Option CoreCall) (log : List Act) → Fit log → Fit (acts_of c (connected c ok call) ++ log)
-fit_connected c ok (Some call) log fit = fit_dialed c ok call (peer_by call.arguments) log fit
+fit_connected c ok (Some call) log fit = rw (dialed_is c ok call.arguments) (fit_dialed c ok call (peer_by call.arguments) log fit)
 fit_connected c ok None log fit = fit_free c (connected c ok None) log fit (refl, tt) refl
     (left_none c (wait_acts (device_acts log)))
 

@@ -8,16 +8,18 @@ use Rattle.sv_rpc.specs.declared.call.CallFault.TheVariants.{BadHeader, Version}
 use Rattle.sv_rpc.specs.Call.{PlainCall, call_at}
 use Rattle.sv_rpc.specs.Stream.{records_of}
 use Rattle.sv_xdr.specs.declared.garbage.Garbage.{Garbage}
-use Rattle.sv_vxi.specs.Arguments.{Arguments}
+use Rattle.sv_vxi.specs.Arguments.{Arguments, CreateLink, OnLink, CreateIntrChan, DestroyIntrChan}
 use Rattle.sv_vxi.specs.Reading.{arguments_at}
 use Rattle.sv_history.specs.declared.event.Role.{Role}
 use Rattle.sv_history.specs.declared.event.Role.TheVariants.{Core, Abort, Portmap}
 use Rattle.sv_history.specs.declared.event.Refused.{Refused}
 use Rattle.sv_history.specs.declared.event.Refused.TheVariants.{NoConn}
 use Rattle.sv_history.specs.Act.{Act, ConnAct}
-use Rattle.sv_history.specs.Connection.{open_role, unanswered, next_call, took_no_call, stream, completed}
+use Rattle.sv_history.specs.Connection.{next_call}
+use Rattle.sv_history.proofs.Lives.{open_role, unanswered, took_no_call, stream, completed}
 use Rattle.sv_history.specs.CoreCall.{CoreCall}
-use Rattle.sv_history.specs.Request.{Request, CoreRequest, AbortRequest, link_in, core_request, abort_request, unless_decided, header_reply, request_of, core_call_of, core_call, asked, next_request}
+use Rattle.sv_history.specs.Request.{Request, CoreRequest, AbortRequest, core_request, abort_request, request_of, core_call_of, core_call, asked, next_request}
+use Rattle.sv_history.proofs.Deciding.{unless_decided, header_reply, request_is}
 use Rattle.sv_history.specs.History.{unless_shut}
 
 -- ---- it has no other without an answer
@@ -33,25 +35,25 @@ free_call acts bytes e =
 
 -- ---- a call of the core channel is taken on a core channel, and is what its bytes are
 
-abort_none : (xid : ℕ) (named : Option ℤ) → core_call_of (abort_request xid named) ≡ None
-abort_none xid (Some lid) = refl
-abort_none xid None = refl
+abort_none : (xid : ℕ) (read : Result Arguments Garbage) → core_call_of (abort_request xid read) ≡ None
+abort_none xid (Ok (OnLink lid call)) = refl
+abort_none xid _ = refl
 
 abort_role : (call : PlainCall) (reply : Option Reply) → core_call_of (unless_decided Abort call reply) ≡ None
 abort_role call (Some reply) = refl
-abort_role call None = abort_none call.xid (link_in (arguments_at call.proc call.args))
+abort_role call None = abort_none call.xid (arguments_at call.proc call.args)
 
 portmap_role : (call : PlainCall) (reply : Option Reply) → core_call_of (unless_decided Portmap call reply) ≡ None
 portmap_role call (Some reply) = refl
 portmap_role call None = refl
 
 abort_call : (call : Result PlainCall CallFault) → core_call_of (request_of Abort call) ≡ None
-abort_call (Ok call) = abort_role call (header_reply Abort call)
+abort_call (Ok call) = ap core_call_of (request_is Abort call) ∙ abort_role call (header_reply Abort call)
 abort_call (Err (Version xid)) = refl
 abort_call (Err BadHeader) = refl
 
 portmap_call : (call : Result PlainCall CallFault) → core_call_of (request_of Portmap call) ≡ None
-portmap_call (Ok call) = portmap_role call (header_reply Portmap call)
+portmap_call (Ok call) = ap core_call_of (request_is Portmap call) ∙ portmap_role call (header_reply Portmap call)
 portmap_call (Err (Version xid)) = refl
 portmap_call (Err BadHeader) = refl
 
@@ -89,7 +91,7 @@ core_role call (Some reply) = refl
 core_role call None = core_none call.xid (arguments_at call.proc call.args)
 
 core_aborts : (call : Result PlainCall CallFault) → is_abort (Some (request_of Core call)) ≡ false
-core_aborts (Ok call) = core_role call (header_reply Core call)
+core_aborts (Ok call) = ap (λ (r : Request). is_abort (Some r)) (request_is Core call) ∙ core_role call (header_reply Core call)
 core_aborts (Err (Version xid)) = refl
 core_aborts (Err BadHeader) = refl
 

@@ -1,25 +1,26 @@
 -- While a link holds the lock, the acts of another connection's event, and of its call that ends, are of others.
 use Rattle.std.proofs.Common.{◌≡◌, ◌≢◌, ℕ, Bool, true, false, eqb, eq-eqb, List, [], ◌∷◌, ◌++◌, Option, Some, None, sym, ap, subst, inl, inr}
-use Rattle.std.specs.Prelude.{map, not}
+use Rattle.std.specs.Prelude.{map, not, is_some, ◌&&◌}
 use Rattle.std.proofs.lemmas.Bool.{cases_Bool}
 use Rattle.sv_logs.proofs.Each.{Each, each_join}
 use Rattle.sv_vxi.specs.declared.error_code.ErrorCode.{ErrorCode}
 use Rattle.sv_vxi.specs.declared.error_code.ErrorCode.TheVariants.{Abort}
 use Rattle.sv_links.specs.declared.request.Peer.{Peer}
-use Rattle.sv_links.specs.Links.{LinkAct, owner, holder, closing}
-use Rattle.sv_links.specs.Waiting.{Left}
+use Rattle.sv_links.specs.Links.{LinkAct, owner, holder, closing, is_this}
+use Rattle.sv_links.specs.Waiting.{Left, waits, link}
 use Rattle.sv_laws.proofs.LinksAlike.{IsForeignLink}
 use Rattle.sv_laws.proofs.Closed.{closed_foreign}
 use Rattle.sv_history.specs.declared.event.Config.{Config}
 use Rattle.sv_history.specs.declared.event.Port.TheVariants.{Conn, Intr}
 use Rattle.sv_history.specs.Event.{PlainEvent, Open, Bytes, Turn, Refuse, Took, Close, Dialed, Input, External, Tick}
-use Rattle.sv_history.specs.Act.{Act, ConnAct, DeviceAct, CallTaken, PortClosed, Linked, Waited, On, OnDevice, of, device_acts, link_acts}
-use Rattle.sv_history.specs.Connection.{unanswered, next_call}
+use Rattle.sv_history.specs.Act.{Act, ConnAct, DeviceAct, CallTaken, PortClosed, Linked, Waited, On, OnDevice, of, device_acts, link_acts, wait_acts}
+use Rattle.sv_history.specs.Connection.{next_call}
+use Rattle.sv_history.proofs.Lives.{unanswered}
 use Rattle.sv_history.specs.CoreCall.{CoreCall, lid_of}
 use Rattle.sv_history.specs.Effect.{Effect, acts_of, call_effect}
 use Rattle.sv_history.specs.Request.{Request, NoCall, Decided, CoreRequest, AbortRequest, PortRequest, core_call_in, next_request}
-use Rattle.sv_history.specs.Interrupts.{dialed_to, peer_by}
-use Rattle.sv_history.specs.AbortChannel.{owner_of, waits_with, where_waiting}
+use Rattle.sv_history.proofs.Dialing.{peer_by, dialed_to, dialed_is}
+use Rattle.sv_history.specs.AbortChannel.{owner_of, where_waiting}
 use Rattle.sv_history.specs.Execution.{request_effect, aborts}
 use Rattle.sv_history.specs.Refusing.{refusable}
 use Rattle.sv_history.specs.Resuming.{leaving, failed, connected}
@@ -65,14 +66,15 @@ foreign_dialed c d ok call None log ne =
 
 foreign_connected : (c d : ℕ) (ok : Bool) (call : Option CoreCall) (log : List Act) → d ≢ c
     → Each (IsForeignAct c) (acts_of d (connected d ok call)) log
-foreign_connected c d ok (Some call) log ne = foreign_dialed c d ok call (peer_by call.arguments) log ne
+foreign_connected c d ok (Some call) log ne = rw (dialed_is d ok call.arguments) (foreign_dialed c d ok call (peer_by call.arguments) log ne)
 foreign_connected c d ok None log ne = foreign_effect c d (connected d ok None) log ne (ne, tt)
 
 -- ---- a Turn
 
 where_owner : (found lid : Option ℕ) (acts : List DeviceAct) (e : ℕ) → where_waiting found lid acts ≡ Some e → found ≡ Some e
 where_owner None lid acts e h = absurd cc
-where_owner (Some d) lid acts e h = elim (cases_Bool (waits_with d lid acts)) [
+where_owner (Some d) None acts e h = absurd cc
+where_owner (Some d) (Some n) acts e h = elim (cases_Bool (is_some (waits d (wait_acts acts)) && is_this n (link d (wait_acts acts)))) [
   | inl k ↦ rw k at h
   | inr k ↦ absurd (let z : None ≡ Some e = rw k at h in cc)
 ]

@@ -19,12 +19,13 @@ use Rattle.sv_history.specs.declared.event.Port.TheVariants.{Conn, Intr}
 use Rattle.sv_history.specs.declared.event.Role.TheVariants.{Core}
 use Rattle.sv_history.specs.Event.{PlainEvent, Open, Bytes, Turn, Refuse, Took, Close, Dialed, Input, External, Tick}
 use Rattle.sv_history.specs.Act.{Act, ConnAct, DeviceAct, CallTaken, PortClosed, Waited, Happened, Ticked, On, OnDevice, of, device_acts, link_acts, instrument_acts}
-use Rattle.sv_history.specs.Connection.{open_role, unanswered, next_call}
+use Rattle.sv_history.specs.Connection.{next_call}
+use Rattle.sv_history.proofs.Lives.{open_role, unanswered}
 use Rattle.sv_history.specs.CallOutcome.{CallOutcome}
 use Rattle.sv_history.specs.CoreCall.{CoreCall}
 use Rattle.sv_history.specs.Effect.{Effect, acts_of, call_effect}
 use Rattle.sv_history.specs.Request.{Request, NoCall, Decided, CoreRequest, AbortRequest, PortRequest, core_call_in, next_request}
-use Rattle.sv_history.specs.Interrupts.{dialed_to, peer_by}
+use Rattle.sv_history.proofs.Dialing.{peer_by, dialed_to, dialed_is}
 use Rattle.sv_history.specs.Admission.{Stop, Fails, Awaits, stop_of, admitted}
 use Rattle.sv_history.specs.Refusing.{refusable}
 use Rattle.sv_history.specs.Resuming.{leaving, failed, connected}
@@ -110,7 +111,7 @@ own_dialed c ok call None log =
     own_effect c (call_effect call.xid (leaving c (dialed_to c ok call.arguments None))) [] log (refl, tt)
 
 own_connected : (c : ℕ) (ok : Bool) (call : Option CoreCall) (log : List Act) → Each (IsOwnAct c) (acts_of c (connected c ok call)) log
-own_connected c ok (Some call) log = own_dialed c ok call (peer_by call.arguments) log
+own_connected c ok (Some call) log = rw (dialed_is c ok call.arguments) (own_dialed c ok call (peer_by call.arguments) log)
 own_connected c ok None log = own_effect c (connected c ok None) [] log (refl, tt)
 
 pub own_happened : (c : ℕ) (adds : List InstrumentAct) (log : List Act) → Each (IsOwnAct c) (map OnDevice (map Happened adds)) log

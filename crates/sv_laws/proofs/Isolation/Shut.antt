@@ -1,6 +1,6 @@
 -- While a link holds the lock, a call of another connection adds nothing of the instrument's, takes no lock, and speaks of its own links.
 use Rattle.std.proofs.Common.{◌≡◌, ◌≢◌, ℕ, Bool, true, false, List, length, nat_lt, Option, Some, None, refl, sym, ap, ◌∙◌, inl, inr}
-use Rattle.std.specs.Prelude.{ℤ, pos, negsuc, not, codes, is_some}
+use Rattle.std.specs.Prelude.{ℤ, pos, negsuc, not, codes, is_some, ◌==◌}
 use Rattle.std.specs.Str.{bytes_eq}
 use Rattle.std.proofs.lemmas.Bool.{cases_Bool, ne_eqb}
 use Rattle.sv_logs.proofs.Each.{Each}
@@ -13,7 +13,7 @@ use Rattle.sv_history.specs.declared.event.Config.{Config}
 use Rattle.sv_history.specs.Act.{DeviceAct, link_acts}
 use Rattle.sv_history.specs.CoreCall.{lid_of, is_too_long}
 use Rattle.sv_history.specs.CoreChannel.{owns}
-use Rattle.sv_history.specs.Interrupts.{has_channel, channel_fault}
+use Rattle.sv_history.specs.Interrupts.{has_channel, is_peer}
 use Rattle.sv_history.specs.Admission.{Stop, lock_stop, channel_stop, may_make_more, stop_of, admitted}
 use Rattle.sv_laws.proofs.Isolation.Alike.{IsForeign}
 use Rattle.sv_laws.proofs.EveryLog.Done.{named_own}
@@ -65,10 +65,17 @@ minds_lock config polled c d lid named call acts minds held mine ne = elim (case
 own_other : (c d : ℕ) (found : Option ℕ) → d ≢ c → found ≡ Some d → is_of c found ≡ false
 own_other c d found ne is = rw is (ne_eqb d c ne)
 
-fault_or_waits : (config : Config) (polled c d : ℕ) (arguments : Arguments) (acts : List DeviceAct) (fault : Option ErrorCode) → d ≢ c
-    → AreForeign config polled c d arguments acts (Some (channel_stop fault))
-fault_or_waits config polled c d arguments acts (Some error) ne = tt
-fault_or_waits config polled c d arguments acts None ne = ((ne, (λ z. absurd cc), (λ z. absurd cc)), tt)
+fault_or_waits : (config : Config) (polled c d : ℕ) (arguments : Arguments) (acts : List DeviceAct) (there : Bool)
+    (host_addr host_port prog_family : ℕ) → d ≢ c
+    → AreForeign config polled c d arguments acts (Some (channel_stop there host_addr host_port prog_family))
+fault_or_waits config polled c d arguments acts true host_addr host_port prog_family ne = tt
+fault_or_waits config polled c d arguments acts false host_addr host_port prog_family ne = elim (cases_Bool (prog_family == 0)) [
+  | inl e ↦ elim (cases_Bool (is_peer host_addr host_port)) [
+    | inl k ↦ rw (e, k) ((ne, (λ z. absurd cc), (λ z. absurd cc)), tt)
+    | inr k ↦ rw (e, k) tt
+  ]
+  | inr e ↦ rw e tt
+]
 
 pub call_foreign : (config : Config) (polled c d lid : ℕ) (arguments : Arguments) (acts : List DeviceAct)
     → holder (link_acts acts) ≡ Some lid → owner lid (link_acts acts) ≡ Some c → d ≢ c
@@ -122,7 +129,7 @@ call_foreign config polled c d lid (OnLink (pos n) DestroyLink) acts held mine n
 call_foreign config polled c d lid (OnLink (negsuc n) call) acts held mine ne = tt
 call_foreign config polled c d lid (CreateIntrChan host_addr host_port prog_num prog_vers prog_family) acts held mine ne =
     fault_or_waits config polled c d (CreateIntrChan host_addr host_port prog_num prog_vers prog_family) acts
-    (channel_fault (has_channel d acts) host_addr host_port prog_family) ne
+    (has_channel d acts) host_addr host_port prog_family ne
 call_foreign config polled c d lid DestroyIntrChan acts held mine ne =
     elim (cases_Bool (has_channel d acts)) [ inl e ↦ rw e (ne, tt) | inr e ↦ rw e tt ]
 call_foreign config polled c d lid (OnLink (pos n) DeviceAbort) acts held mine ne = elim (cases_Bool (is_of d (owner n (link_acts acts)))) [

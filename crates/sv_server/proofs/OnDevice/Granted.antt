@@ -1,8 +1,8 @@
 -- What is known of a call by its arguments and by what stops it.
 use Rattle.std.proofs.Common.{◌≡◌, ℕ, ◌<◌, ◌&&◌, Bool, true, false, cond, suc, List, [], ◌∷◌, nat_lt, Option, Some, None, refl, sym, ap, subst, ◌∙◌, arith}
-use Rattle.std.specs.Prelude.{ℤ, pos, negsuc, not, ◌||◌, is_none, is_some, option_map, Result, Ok, Err, IfOk, OnOk, OnErr}
+use Rattle.std.specs.Prelude.{ℤ, pos, negsuc, not, ◌||◌, is_none, is_some, option_map, Result, Ok, Err, IfOk, OnOk, OnErr, ◌==◌}
 use Rattle.sv_vxi.specs.declared.error_code.ErrorCode.{ErrorCode}
-use Rattle.sv_vxi.specs.declared.error_code.ErrorCode.TheVariants.{InvalidLink, ParameterError, NotAccessible, OutOfResources}
+use Rattle.sv_vxi.specs.declared.error_code.ErrorCode.TheVariants.{InvalidLink, ParameterError, NotAccessible, NotSupported, OutOfResources, InvalidAddress}
 use Rattle.sv_vxi.specs.declared.error_code.ErrorCode.TheVariants.{Locked as DeviceLocked}
 use Rattle.sv_vxi.specs.declared.arguments.LockWait.{LockWait}
 use Rattle.sv_vxi.specs.Arguments.{LinkCall, DeviceAbort, DeviceWrite, DeviceRead, Generic, DeviceLock, DeviceUnlock, DeviceEnableSrq, DeviceDocmd, DestroyLink, Arguments, CreateLink, OnLink, CreateIntrChan, DestroyIntrChan, link, lock_wait, is_create_link}
@@ -16,10 +16,9 @@ use Rattle.sv_history.specs.declared.event.Config.{Config}
 use Rattle.sv_history.specs.Act.{DeviceAct, Waited, link_acts, wait_acts, instrument_acts, exchange_acts}
 use Rattle.sv_history.specs.CallOutcome.{only}
 use Rattle.sv_history.specs.CoreCall.{lid_of, is_too_long, failure}
-use Rattle.sv_history.specs.Interrupts.{channel_fault, dialing, has_channel}
+use Rattle.sv_history.specs.Interrupts.{is_peer, dialing, has_channel}
 use Rattle.sv_history.specs.CoreChannel.{owns, make_link, link_call, own_call}
 use Rattle.sv_history.specs.Admission.{Stop, Fails, Awaits, lock_stop, device_wait, may_make_more, channel_stop, call_stop, stop_of, admitted}
-use Rattle.sv_history.specs.AbortChannel.{waits_with}
 use Rattle.sv_history.specs.History.{wants_memory}
 use Rattle.sv_server.specs.Device.Representation.{Device, IsDevice, HasPlace}
 use Rattle.sv_server.specs.Device.Inside.Outcome.{IsGranted, MayMake, Admits, AdmitsAt}
@@ -79,10 +78,17 @@ granted_start c _ kept acts free place = tt
 
 -- ---- what a call waits for
 
-channel_waits : (fault : Option ErrorCode) (wait : Wait) (until : Option ℕ) → channel_stop fault ≡ Awaits wait until
-    → (fault ≡ None) × (wait ≡ Dial)
-channel_waits (Some error) wait until e = absurd cc
-channel_waits None wait until e = (refl, cc)
+channel_waits : (there : Bool) (host_addr host_port prog_family : ℕ) (wait : Wait) (until : Option ℕ)
+    → channel_stop there host_addr host_port prog_family ≡ Awaits wait until → (there ≡ false) × (wait ≡ Dial)
+channel_waits true host_addr host_port prog_family wait until e = absurd cc
+channel_waits false host_addr host_port prog_family wait until e =
+    (refl, by (not (prog_family == 0)) (not (is_peer host_addr host_port)) e)
+  where
+    by : (other far : Bool) → cond other (Fails NotSupported) (cond far (Fails InvalidAddress) (Awaits Dial None)) ≡ Awaits wait until
+        → wait ≡ Dial
+    by true far e = absurd cc
+    by false true e = absurd cc
+    by false false e = cc
 
 some_stop : (a b : Stop) → Some a ≡ Some b → a ≡ b
 some_stop a b e = cc
@@ -100,7 +106,7 @@ lock_place c (CreateLink client_id lock_device lock_timeout device) acts wait un
 lock_place c (OnLink (pos n) call) acts wait until e both = absurd (let z : false ≡ true = (lock_both wait false both).1 in cc)
 lock_place c (OnLink (negsuc n) call) acts wait until e both = absurd cc
 lock_place c (CreateIntrChan host_addr host_port prog_num prog_vers prog_family) acts wait until e both =
-    absurd (let z : Lock ≡ Dial = sym (lock_both wait _ both).0 ∙ (channel_waits _ wait until (some_stop _ _ e)).1 in cc)
+    absurd (let z : Lock ≡ Dial = sym (lock_both wait _ both).0 ∙ (channel_waits (has_channel c acts) host_addr host_port prog_family wait until (some_stop _ _ e)).1 in cc)
 lock_place c DestroyIntrChan acts wait until e both = absurd cc
 
 -- and a create_link waits for the lock as such
@@ -112,10 +118,6 @@ link_lock c (CreateLink client_id lock_device lock_timeout device) acts wait unt
 link_lock c _ acts wait until e makes = absurd (let z : false ≡ true = makes in cc)
 
 -- a create_intr_chan waits for its peer, and no other call does; it finds no channel open
-no_channel : (there : Bool) (host_addr host_port prog_family : ℕ) → channel_fault there host_addr host_port prog_family ≡ None
-    → there ≡ false
-no_channel true host_addr host_port prog_family e = absurd cc
-no_channel false host_addr host_port prog_family e = refl
 
 same_wait : (a b : Wait) (x y : Option ℕ) → Awaits a x ≡ Awaits b y → a ≡ b
 same_wait a b x y e = cc
@@ -157,7 +159,7 @@ pub dials : (c : ℕ) (arguments : Arguments) (acts : List DeviceAct) (until : O
 dials c (CreateLink client_id lock_device lock_timeout device) acts until e =
     absurd (let z : Dial ≡ Lock = (link_waits _ (may_make_more acts) lock_device _ lock_timeout Dial until e).1 in cc)
 dials c (CreateIntrChan host_addr host_port prog_num prog_vers prog_family) acts until e =
-    (no_channel (has_channel c acts) host_addr host_port prog_family (channel_waits _ Dial until (some_stop _ _ e)).0, refl)
+    ((channel_waits (has_channel c acts) host_addr host_port prog_family Dial until (some_stop _ _ e)).0, refl)
 dials c (OnLink lid call) acts until e = absurd (dial_never (owns c (lid_of (Some lid)) acts) (is_too_long call) _ (lock_wait call)
     (option_map (λ (wait : Wait × ℕ). Awaits wait.0 (Some wait.1)) (device_wait call acts)) until (device_never call acts until) e)
 dials c DestroyIntrChan acts until e = absurd cc
@@ -225,7 +227,7 @@ free_lock None lid e = refl
 
 -- a call that waits tells which link it names
 pub waits_told : (c lid : ℕ) (entry : Entry) (acts : List DeviceAct) → entry.conn ≡ c → IsEntry (wait_acts acts) entry
-    → is_this lid entry.lid ≡ waits_with c (Some lid) acts
+    → is_this lid entry.lid ≡ (is_some (waits c (wait_acts acts)) && is_this lid (link_of_wait c (wait_acts acts)))
 waits_told c lid entry acts same is =
     subst (λ (d : ℕ). is_this lid entry.lid ≡ (is_some (waits d (wait_acts acts)) && is_this lid (link_of_wait d (wait_acts acts)))) same
     (ap (λ (l : Option ℕ). is_this lid l) (sym is.2)

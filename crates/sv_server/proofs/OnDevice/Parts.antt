@@ -309,8 +309,8 @@ not_false false e = absurd cc
 pub lock_ends : (config : Config) (acts : List DeviceAct) (kept : Device) (links : Table) (lid : ℕ) (got : Bool) → IsDevice kept config acts
     → got ≡ not (is_locked_out (holder (link_acts acts)) (Some lid)) → (got ≡ true → IsTable links (Locked lid ∷ link_acts acts))
     → links.spare ≡ kept.links.spare → (got ≡ false → links ≡ kept.links)
-    → (told : Outcome) → told ≡ Plain (if got then NoError else DeviceLocked) → IsResult (device_lock (Some lid) acts).result told
-    × IsDevice (record kept { links = links }) config ((device_lock (Some lid) acts).adds ++ acts)
+    → (told : Outcome) → told ≡ Plain (if got then NoError else DeviceLocked) → IsResult (device_lock lid acts).result told
+    × IsDevice (record kept { links = links }) config ((device_lock lid acts).adds ++ acts)
 lock_ends config acts kept links lid true is granted stands spare same told tells =
     let free : is_locked_out (holder (link_acts acts)) (Some lid) ≡ false = not_true _ granted in
     rw free (sym tells, device_locked kept links config acts lid is (stands refl) spare)
@@ -323,8 +323,8 @@ pub unlock_ends : (config : Config) (acts : List DeviceAct) (kept : Device) (lin
     → IsDevice kept config acts
     → freed ≡ is_this lid (holder (link_acts acts)) → (freed ≡ true → IsTable links (Unlocked lid ∷ link_acts acts))
     → links.spare ≡ kept.links.spare → (freed ≡ false → links ≡ kept.links)
-    → (told : Outcome) → told ≡ Plain (if freed then NoError else NoLock) → IsResult (device_unlock (Some lid) acts).result told
-    × IsDevice (record kept { links = links }) config ((device_unlock (Some lid) acts).adds ++ acts)
+    → (told : Outcome) → told ≡ Plain (if freed then NoError else NoLock) → IsResult (device_unlock lid acts).result told
+    × IsDevice (record kept { links = links }) config ((device_unlock lid acts).adds ++ acts)
 unlock_ends config acts kept links lid true is this stands spare same told tells =
     rw (sym this) (sym tells, device_unlocked kept links config acts lid is (stands refl) spare)
 unlock_ends config acts kept links lid false is this stands spare same told tells =

@@ -7,16 +7,16 @@ use Rattle.sv_history.specs.declared.event.Config.{Config}
 use Rattle.sv_history.specs.Act.{DeviceAct, wait_acts}
 use Rattle.sv_history.specs.CoreCall.{lid_of}
 use Rattle.sv_history.specs.Request.{Request, AbortRequest}
-use Rattle.sv_history.specs.AbortChannel.{owner_of, waits_with, where_waiting}
+use Rattle.sv_history.specs.AbortChannel.{owner_of, where_waiting}
 use Rattle.sv_history.specs.Execution.{request_effect, aborts}
 
 some_waits : (b : Bool) (lid : ℕ) (named : Option ℕ) → (b && is_this lid named) ≡ true → b ≡ true
 some_waits true lid named e = refl
 some_waits false lid named e = absurd cc
 
-waiting_with : (c : ℕ) (lid : Option ℕ) (acts : List DeviceAct) → waits_with c lid acts ≡ true → waits c (wait_acts acts) ≡ None → ⊥
-waiting_with c None acts e none = cc
-waiting_with c (Some lid) acts e none =
+waiting_with : (c lid : ℕ) (acts : List DeviceAct) → (is_some (waits c (wait_acts acts)) && is_this lid (link c (wait_acts acts))) ≡ true
+    → waits c (wait_acts acts) ≡ None → ⊥
+waiting_with c lid acts e none =
     let some = some_waits (is_some (waits c (wait_acts acts))) lid (link c (wait_acts acts)) e in
     let z : false ≡ true = sym (ap is_some none) ∙ some in cc
 
@@ -27,8 +27,9 @@ if_waiting false c d e = absurd cc
 where_aborted : (owner lid : Option ℕ) (acts : List DeviceAct) (d : ℕ) → where_waiting owner lid acts ≡ Some d
     → waits d (wait_acts acts) ≡ None → ⊥
 where_aborted None lid acts d e none = cc
-where_aborted (Some c) lid acts d e none =
-    let (so, same) = if_waiting (waits_with c lid acts) c d e in
+where_aborted (Some c) None acts d e none = cc
+where_aborted (Some c) (Some lid) acts d e none =
+    let (so, same) = if_waiting (is_some (waits c (wait_acts acts)) && is_this lid (link c (wait_acts acts))) c d e in
     waiting_with c lid acts so (ap (λ (n : ℕ). waits n (wait_acts acts)) same ∙ none)
 
 pub request_aborts : (config : Config) (polled c : ℕ) (request : Request) (acts : List DeviceAct) (d : ℕ) → aborts request acts ≡ Some d

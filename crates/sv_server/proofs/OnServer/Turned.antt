@@ -1,15 +1,18 @@
 -- What a Turn of an open connection leaves.
 use Rattle.std.proofs.Common.{◌≡◌, ℕ, Bool, true, false, List, Option, Some, None, cond, nat_lt, refl, sym, ap, ◌∙◌, inl, inr}
-use Rattle.std.specs.Prelude.{not, ℤ, Result, Ok, Err}
+use Rattle.std.specs.Prelude.{not, Result, Ok, Err}
 use Rattle.sv_exchange.specs.declared.read.Read.{Read}
 use Rattle.sv_exchange.specs.ReadGiven.{IsReadOf}
 use Rattle.sv_vxi.specs.declared.error_code.ErrorCode.TheVariants.{NoError}
+use Rattle.sv_xdr.specs.declared.garbage.Garbage.{Garbage}
+use Rattle.sv_vxi.specs.Arguments.{Arguments, CreateLink, OnLink, CreateIntrChan, DestroyIntrChan}
 use Rattle.sv_vxi.specs.Results.{Read as ReadResult}
 use Rattle.sv_history.specs.CoreChannel.{read_of}
 use Rattle.sv_history.specs.declared.event.Config.{Config}
 use Rattle.sv_links.specs.declared.waiting.Entry.{Entry}
 use Rattle.sv_history.specs.Act.{DeviceAct, ConnAct}
-use Rattle.sv_history.specs.Connection.{free, is_idle, open_role, next_call}
+use Rattle.sv_history.specs.Connection.{free, is_idle, next_call}
+use Rattle.sv_history.proofs.Lives.{open_role}
 use Rattle.sv_history.specs.declared.event.Refused.TheVariants.{NoRoom}
 use Rattle.sv_history.specs.History.{turn_refusal}
 use Rattle.sv_history.specs.CoreCall.{CoreCall}
@@ -18,7 +21,8 @@ use Rattle.sv_server.specs.Server.Inside.Ending.{EndsAs, Holds, HeldAs}
 use Rattle.sv_server.specs.Connection.Inside.Requests.{xid_of}
 use Rattle.sv_server.specs.declared.server.execution.Executed.{Executed}
 use Rattle.sv_history.specs.Effect.{Effect}
-use Rattle.sv_history.specs.Request.{Request, NoCall, Decided, CoreRequest, PortRequest, abort_request, unless_decided, header_reply, request_of, core_call_of, core_call, asked, next_request}
+use Rattle.sv_history.specs.Request.{Request, NoCall, Decided, CoreRequest, PortRequest, abort_request, request_of, core_call_of, core_call, asked, next_request}
+use Rattle.sv_history.proofs.Deciding.{unless_decided, header_reply, request_is}
 use Rattle.sv_history.specs.declared.event.Role.{Role}
 use Rattle.sv_history.specs.declared.event.Role.TheVariants.{Core, Abort, Portmap}
 use Rattle.sv_history.specs.Limits.{longest_reply}
@@ -44,9 +48,9 @@ if_none true short e = refl
 if_none false short e = rw e refl
 
 -- a call of the core channel is asked for on the core channel alone
-decided_none : (xid : ℕ) (lid : Option ℤ) (call : CoreCall) → abort_request xid lid ≡ CoreRequest call → ⊥
-decided_none xid (Some lid) call e = cc
-decided_none xid None call e = cc
+decided_none : (xid : ℕ) (read : Result Arguments Garbage) (call : CoreCall) → abort_request xid read ≡ CoreRequest call → ⊥
+decided_none xid (Ok (OnLink lid on)) call e = cc
+decided_none xid _ call e = cc
 
 core_unless : (role : Role) (header : PlainCall) (reply : Option Reply) (call : CoreCall)
     → unless_decided role header reply ≡ CoreRequest call → role ≡ Core
@@ -56,7 +60,7 @@ core_unless Abort header None call e = absurd (decided_none header.xid _ call e)
 core_unless Portmap header None call e = absurd (let z : PortRequest header.xid header.args ≡ CoreRequest call = e in cc)
 
 core_alone : (role : Role) (read : Result PlainCall CallFault) (call : CoreCall) → request_of role read ≡ CoreRequest call → role ≡ Core
-core_alone role (Ok header) call e = core_unless role header (header_reply role header) call e
+core_alone role (Ok header) call e = core_unless role header (header_reply role header) call (sym (request_is role header) ∙ e)
 core_alone role (Err (Version xid)) call e = absurd (let z : Decided xid Mismatch ≡ CoreRequest call = e in cc)
 core_alone role (Err BadHeader) call e = absurd (let z : NoCall ≡ CoreRequest call = e in cc)
 

@@ -5,7 +5,7 @@ ghost use Rattle.std.specs.Prelude.{◌≡◌, Option, Ok, None, option_map, tru
 ghost use Rattle.sv_rpc.specs.Call.{plain_call, call_at};
 ghost use Rattle.sv_vxi.specs.Arguments.{core_calls, abort_calls, is_one_of};
 ghost use Rattle.sv_vxi.specs.Reading.{arguments_at};
-ghost use Rattle.sv_history.specs.Request.{program_of as program_for, version_of as version_for, procedures_of, header_reply as reply_to, core_request as core_request_for, link_in, abort_request as abort_request_for, procedure_request as procedure_request_for, unless_decided, request_of as request_for, core_call as core_call_in_record};
+ghost use Rattle.sv_history.specs.Request.{program_of as program_for, core_request as core_request_for, abort_request as abort_request_for, procedure_request as procedure_request_for, call_request as call_request_for, request_of as request_for, Decided, core_call as core_call_in_record};
 ghost use Rattle.sv_server.specs.Connection.Inside.Requests.{plain_request, plain_core_call, xid_of};
 
 use sv_history::Role;
@@ -78,7 +78,7 @@ impl Request<'_> {
 
 /// The program that a connection serves.
 fn program_of(role: Role) -> u32
-    ensures { result ≡ program_for role }
+    ensures { result ≡ (program_for role).0 }
 {
     match role {
         Role::Core => 0x0607AF,
@@ -89,7 +89,7 @@ fn program_of(role: Role) -> u32
 
 /// Its version.
 fn version_of(role: Role) -> u32
-    ensures { result ≡ version_for role }
+    ensures { result ≡ (program_for role).1 }
 {
     match role {
         Role::Core | Role::Abort => 1,
@@ -99,7 +99,7 @@ fn version_of(role: Role) -> u32
 
 /// Whether it is a procedure of the program, beside the one that does nothing.
 fn has_procedure(role: Role, proc: u32) -> bool
-    ensures { result ≡ is_one_of (procedures_of role) proc }
+    ensures { result ≡ is_one_of (program_for role).2 proc }
 {
     match role {
         Role::Core => is_core_call(proc),
@@ -110,7 +110,7 @@ fn has_procedure(role: Role, proc: u32) -> bool
 
 /// Whether it is a call of the core channel.
 fn is_core_call(proc: u32) -> bool
-    ensures { result ≡ is_one_of (procedures_of Role.Core) proc }
+    ensures { result ≡ is_one_of core_calls proc }
 {
     matches!(
         proc,
@@ -132,29 +132,6 @@ fn is_core_call(proc: u32) -> bool
     )
 }
 
-/// The reply that the header of a call alone decides, where it does.
-fn header_reply(role: Role, call: &Call<'_>) -> Option<Reply>
-    ensures { result ≡ reply_to role (plain_call call.now) }
-{
-    if call.prog != program_of(role) {
-        return Some(Reply::ProgUnavail);
-    }
-    let version = version_of(role);
-    if call.vers != version {
-        return Some(Reply::ProgMismatch {
-            low: version,
-            high: version,
-        });
-    }
-    if call.proc == NULL {
-        return Some(Reply::Success);
-    }
-    if !has_procedure(role, call.proc) {
-        return Some(Reply::ProcUnavail);
-    }
-    None
-}
-
 /// What a call of the core channel asks for.
 fn core_request<'a>(call: &Call<'a>) -> Request<'a>
     requires { is_one_of core_calls call.now.proc ≡ true }
@@ -173,26 +150,15 @@ fn core_request<'a>(call: &Call<'a>) -> Request<'a>
     }
 }
 
-/// The link that a call of the abort channel names, where its arguments can be read.
-fn aborted_link(call: &Call<'_>) -> Option<i32>
-    requires { is_one_of abort_calls call.now.proc ≡ true }
-    ensures { result ≡ link_in (arguments_at call.now.proc call.now.args.now) }
-{
-    match read_args(call.proc, call.args) {
-        Ok(args) => args.link(),
-        Err(_) => None,
-    }
-}
-
 /// What a call of the abort channel asks for.
 fn abort_request<'a>(call: &Call<'a>) -> Request<'a>
     requires { is_one_of abort_calls call.now.proc ≡ true }
-    ensures { plain_request result ≡ abort_request_for call.now.xid
-        (link_in (arguments_at call.now.proc call.now.args.now)) }
+    ensures { plain_request result
+        ≡ abort_request_for call.now.xid (arguments_at call.now.proc call.now.args.now) }
 {
-    match aborted_link(call) {
-        Some(lid) => Request::Abort { xid: call.xid, lid },
-        None => Request::Decided {
+    match read_args(call.proc, call.args) {
+        Ok(Args::OnLink { lid, .. }) => Request::Abort { xid: call.xid, lid },
+        Ok(_) | Err(_) => Request::Decided {
             xid: call.xid,
             reply: Reply::GarbageArgs,
         },
@@ -201,7 +167,7 @@ fn abort_request<'a>(call: &Call<'a>) -> Request<'a>
 
 /// What a call of one of its program's procedures asks for.
 fn procedure_request<'a>(role: Role, call: &Call<'a>) -> Request<'a>
-    requires { reply_to role (plain_call call.now) ≡ None }
+    requires { is_one_of (program_for role).2 call.now.proc ≡ true }
     ensures { plain_request result ≡ procedure_request_for role (plain_call call.now) }
 {
     match role {
@@ -214,16 +180,39 @@ fn procedure_request<'a>(role: Role, call: &Call<'a>) -> Request<'a>
     }
 }
 
-/// What a call asks for, unless its header alone decides the reply.
-fn call_request<'a>(role: Role, call: &Call<'a>) -> Request<'a>
-    ensures { plain_request result
-        ≡ unless_decided role (plain_call call.now) (reply_to role (plain_call call.now)) }
+/// A call whose reply its header decides.
+fn decided<'a>(call: &Call<'a>, reply: Reply) -> Request<'a>
+    ensures { plain_request result ≡ Decided call.now.xid reply }
 {
-    if let Some(reply) = header_reply(role, call) {
-        return Request::Decided {
-            xid: call.xid,
-            reply,
-        };
+    Request::Decided {
+        xid: call.xid,
+        reply,
+    }
+}
+
+/// What a call asks for: its header decides the reply where it names another program, another
+/// version, nothing to do, or another procedure.
+fn call_request<'a>(role: Role, call: &Call<'a>) -> Request<'a>
+    ensures { plain_request result ≡ call_request_for role (plain_call call.now) }
+{
+    if call.prog != program_of(role) {
+        return decided(call, Reply::ProgUnavail);
+    }
+    let version = version_of(role);
+    if call.vers != version {
+        return decided(
+            call,
+            Reply::ProgMismatch {
+                low: version,
+                high: version,
+            },
+        );
+    }
+    if call.proc == NULL {
+        return decided(call, Reply::Success);
+    }
+    if !has_procedure(role, call.proc) {
+        return decided(call, Reply::ProcUnavail);
     }
     procedure_request(role, call)
 }

@@ -1,13 +1,14 @@
 //! The abort channel (VXI-11 revision 1.0, section B.6).
 
-ghost use Rattle.std.specs.Prelude.{◌≡◌, List, [], Some};
+ghost use Rattle.std.specs.Prelude.{◌≡◌, ◌&&◌, List, [], Some, is_some};
 ghost use Rattle.sv_vxi.specs.Results.{plain_result, data_of};
 ghost use Rattle.sv_links.specs.Links.{is_this as is_this_link};
 ghost use Rattle.sv_history.specs.declared.event.Config.{Config};
-ghost use Rattle.sv_history.specs.Act.{DeviceAct};
+ghost use Rattle.sv_links.specs.Waiting.{waits, link};
+ghost use Rattle.sv_history.specs.Act.{DeviceAct, wait_acts};
 ghost use Rattle.sv_server.specs.Device.Representation.{IsDevice};
 ghost use Rattle.sv_history.specs.CoreCall.{lid_of as lid_for};
-ghost use Rattle.sv_history.specs.AbortChannel.{owner_of as owner_for, waits_with as waits_with_link, where_waiting as where_waiting_with, aborted as aborted_by, abort_result as result_of};
+ghost use Rattle.sv_history.specs.AbortChannel.{owner_of as owner_for, where_waiting as where_waiting_with, abort_result as result_of};
 
 use crate::device::Device;
 use crate::device::arguments::lid_of;
@@ -40,7 +41,8 @@ impl<A: Allocator> Device<A> {
         ensures answer { (config : Config) (acts : List DeviceAct) → IsDevice self.now config acts
             → plain_result result.result ≡ result_of (lid_for (Some lid)) acts }
         ensures conn { (config : Config) (acts : List DeviceAct) → IsDevice self.now config acts
-            → result.conn ≡ aborted_by (lid_for (Some lid)) acts }
+            → result.conn ≡ where_waiting_with (owner_for (lid_for (Some lid)) acts)
+            (lid_for (Some lid)) acts }
         ensures short { data_of (plain_result result.result) ≡ [] }
     {
         let lid = lid_of(Some(lid));
@@ -64,7 +66,8 @@ impl<A: Allocator> Device<A> {
     /// Whether the call of a connection waits and names this link.
     fn waits_with(&self, conn: u8, lid: u32) -> bool
         ensures { (config : Config) (acts : List DeviceAct) → IsDevice self.now config acts
-            → result ≡ waits_with_link conn (Some lid) acts }
+            → result ≡ (is_some (waits conn (wait_acts acts))
+            && is_this_link lid (link conn (wait_acts acts))) }
     {
         match self.waiting.of(conn) {
             Some(entry) => is_this(lid, entry.lid),
@@ -90,7 +93,7 @@ impl<A: Allocator> Device<A> {
     /// The connection whose waiting call device_abort ends: the one that names the link.
     fn aborted(&self, lid: Option<u32>) -> Option<u8>
         ensures { (config : Config) (acts : List DeviceAct) → IsDevice self.now config acts
-            → result ≡ aborted_by lid acts }
+            → result ≡ where_waiting_with (owner_for lid acts) lid acts }
     {
         match self.owner_of(lid) {
             Some(conn) => self.where_waiting(conn, lid),

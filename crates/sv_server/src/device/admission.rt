@@ -11,6 +11,7 @@ ghost use Rattle.sv_exchange.specs.Exchange.{has_ended};
 ghost use Rattle.sv_instrument.specs.Step.{is_answerable};
 ghost use Rattle.sv_history.specs.declared.event.Config.{Config as Configured};
 ghost use Rattle.sv_history.specs.Act.{DeviceAct, Waited, link_acts, instrument_acts, exchange_acts};
+ghost use Rattle.sv_history.specs.CoreCall.{lid_of as lid_for};
 ghost use Rattle.sv_history.specs.Interrupts.{is_dial};
 ghost use Rattle.sv_history.specs.Admission.{lock_stop as lock_stop_for, device_wait, may_make_more as may_make, link_stop as link_stop_for, channel_stop as channel_stop_for, call_stop, stop_of, deadline as deadline_for, Awaits};
 ghost use Rattle.sv_server.specs.Device.Representation.{IsDevice, HasPlace};
@@ -21,7 +22,7 @@ use crate::device::Device;
 use crate::device::arguments::{is_too_long, lid_of};
 use crate::device::call_outcome::CallOutcome;
 use crate::device::error_results::failure;
-use crate::device::interrupts::channel_fault;
+use crate::device::interrupts::is_peer;
 use std::alloc::{AllocError, Allocator};
 use sv_links::{Entry, MAX_LINKS, Wait, is_locked_out};
 use sv_vxi::{Args, ErrorCode, LinkCall};
@@ -61,16 +62,23 @@ fn lock_stop(call: &LinkCall<'_>) -> Option<Stop>
     }
 }
 
-/// An interrupt channel can't be opened, or waits until its peer was called.
-fn channel_stop(fault: Option<ErrorCode>) -> Stop
-    ensures { plain_stop result ≡ channel_stop_for fault }
+/// An interrupt channel can't be opened where one is, not over anything but TCP (0), and not to
+/// everywhere; else it waits until its peer was called.
+fn channel_stop(there: bool, host_addr: u32, host_port: u32, prog_family: u32) -> Stop
+    ensures { plain_stop result ≡ channel_stop_for there host_addr host_port prog_family }
 {
-    match fault {
-        Some(error) => Stop::Fails(error),
-        None => Stop::Awaits {
-            wait: Wait::Dial,
-            timeout: None,
-        },
+    if there {
+        return Stop::Fails(ErrorCode::AlreadyEstablished);
+    }
+    if prog_family != 0 {
+        return Stop::Fails(ErrorCode::NotSupported);
+    }
+    if !is_peer(host_addr, host_port) {
+        return Stop::Fails(ErrorCode::InvalidAddress);
+    }
+    Stop::Awaits {
+        wait: Wait::Dial,
+        timeout: None,
     }
 }
 
@@ -179,11 +187,12 @@ impl<A: Allocator> Device<A> {
 
     /// What stops a call on a link: the link is looked at first, then how much a write brings, then
     /// the lock, and then what it waits for.
-    fn call_stop(&self, conn: Conn, lid: Option<u32>, call: &LinkCall<'_>) -> Option<Stop>
+    fn call_stop(&self, conn: Conn, lid: i32, call: &LinkCall<'_>) -> Option<Stop>
         ensures { (config : Configured) (acts : List DeviceAct) → IsDevice self.now config acts
             → option_map plain_stop result
-            ≡ call_stop conn.number lid (plain_call call.now) acts }
+            ≡ call_stop conn.number (lid_for (Some lid)) (plain_call call.now) acts }
     {
+        let lid = lid_of(Some(lid));
         if !self.owns(conn, lid) {
             return Some(Stop::Fails(ErrorCode::InvalidLink));
         }
@@ -208,18 +217,13 @@ impl<A: Allocator> Device<A> {
                 device,
                 ..
             } => self.link_stop(lock_device, lock_timeout, device),
-            Args::OnLink { lid, call } => self.call_stop(conn, lid_of(Some(lid)), &call),
+            Args::OnLink { lid, call } => self.call_stop(conn, lid, &call),
             Args::CreateIntrChan {
                 host_addr,
                 host_port,
                 prog_family,
                 ..
-            } => Some(channel_stop(channel_fault(
-                self.has_channel(conn),
-                host_addr,
-                host_port,
-                prog_family,
-            ))),
+            } => Some(channel_stop(self.has_channel(conn), host_addr, host_port, prog_family)),
             Args::DestroyIntrChan => None,
         }
     }

@@ -1,17 +1,18 @@
 //! Interrupt channels, and the links that ask for service requests (VXI-11 revision 1.0, section
 //! B.6: device_enable_srq, create_intr_chan, destroy_intr_chan).
 
-ghost use Rattle.std.specs.Prelude.{◌≡◌, ◌<◌, ◌≤◌, ℕ, List, length, ◌∷◌, Some, None, IfOk, IfSome, OnErr, false, true, if◌then◌else◌};
-ghost use Rattle.sv_vxi.specs.declared.error_code.ErrorCode.TheVariants.{NoError, InvalidLink};
+ghost use Rattle.std.specs.Prelude.{◌≡◌, ◌<◌, ◌≤◌, ℕ, List, length, [], ◌∷◌, Some, None, IfOk, IfSome, OnErr, false, true, if◌then◌else◌};
+ghost use Rattle.sv_vxi.specs.declared.error_code.ErrorCode.TheVariants.{NoError, InvalidLink, NotEstablished};
 ghost use Rattle.sv_vxi.specs.Results.{Plain};
 ghost use Rattle.sv_links.specs.Waiting.{Left};
 ghost use Rattle.sv_links.specs.Queue.{without};
 ghost use Rattle.sv_links.specs.Channels.{ChannelOpened};
 ghost use Rattle.sv_history.specs.declared.event.Config.{Config as Configured};
 ghost use Rattle.sv_history.specs.Act.{DeviceAct, Waited, Channel, wait_acts};
-ghost use Rattle.sv_history.specs.CallOutcome.{only};
+ghost use Rattle.sv_history.specs.CallOutcome.{answered, only};
 ghost use Rattle.sv_server.specs.Device.Representation.{IsDevice};
-ghost use Rattle.sv_history.specs.Interrupts.{has_channel as channel_there, enable_srq as enabled_srq, is_peer as may_call, channel_fault as fault_of, destroy_channel as destroyed_channel, is_dialing, peer_by as asked_peer, end_channel as ended_channel, dialed};
+ghost use Rattle.sv_history.specs.Interrupts.{has_channel as channel_there, enable_srq as enabled_srq, is_peer as may_call, is_dialing, dialed};
+ghost use Rattle.sv_vxi.specs.Arguments.{CreateIntrChan};
 ghost use Rattle.sv_vxi.specs.Reading.{plain_arguments};
 ghost use Rattle.sv_links.specs.Channels.{ChannelAct, ChannelClosed, ChannelTaken, waiting as channel_bytes};
 ghost use Rattle.sv_links.specs.Limits.{max_queued};
@@ -30,50 +31,10 @@ use sv_vxi::{Args, ErrorCode};
 
 /// Whether an interrupt channel may be opened to there: an address in 127.0.0.0/8, and a port of 1
 /// to 65535.
-fn is_peer(host_addr: u32, host_port: u32) -> bool
+pub fn is_peer(host_addr: u32, host_port: u32) -> bool
     ensures { result ≡ may_call host_addr host_port }
 {
     host_addr / 0x0100_0000 == 127 && host_port > 0 && host_port < 65536
-}
-
-/// Why no interrupt channel can be opened: one is there, it isn't over TCP (0), or it can't be
-/// opened to there.
-pub fn channel_fault(
-    there: bool,
-    host_addr: u32,
-    host_port: u32,
-    prog_family: u32,
-) -> Option<ErrorCode>
-    ensures { result ≡ fault_of there host_addr host_port prog_family }
-{
-    if there {
-        return Some(ErrorCode::AlreadyEstablished);
-    }
-    if prog_family != 0 {
-        return Some(ErrorCode::NotSupported);
-    }
-    if !is_peer(host_addr, host_port) {
-        return Some(ErrorCode::InvalidAddress);
-    }
-    None
-}
-
-/// Which peer a call asks for, where it asks for one.
-fn peer_by(args: &Args<'_>) -> Option<Peer>
-    ensures { result ≡ asked_peer (plain_arguments args.now) }
-{
-    if let Args::CreateIntrChan {
-        prog_num,
-        prog_vers,
-        ..
-    } = *args
-    {
-        return Some(Peer {
-            prog: prog_num,
-            vers: prog_vers,
-        });
-    }
-    None
 }
 
 impl<A: Allocator> Device<A> {
@@ -129,7 +90,9 @@ impl<A: Allocator> Device<A> {
     /// destroy_intr_chan: the channel is closed, where one is open.
     pub(super) fn destroy_channel(&mut self, conn: Conn) -> CallOutcome
         ensures ends { (config : Configured) (acts : List DeviceAct) → IsDevice self.old config acts
-            → OutcomeIs result self.new config acts (destroyed_channel conn.number acts) }
+            → OutcomeIs result self.new config acts (if channel_there conn.number acts
+            then answered (Channel (ChannelClosed conn.number) ∷ []) (Plain NoError)
+            else only (Plain NotEstablished)) }
         ensures short { IsBrief result }
         ensures waiting { self.new.waiting ≡ self.old.waiting }
     {
@@ -159,9 +122,20 @@ impl<A: Allocator> Device<A> {
         ensures short { IsBrief result }
         ensures waiting { self.new.waiting ≡ without conn.number self.old.waiting }
     {
-        match peer_by(args) {
-            Some(peer) => self.end_channel(conn, ok, peer),
-            None => {
+        match *args {
+            Args::CreateIntrChan {
+                prog_num,
+                prog_vers,
+                ..
+            } => self.end_channel(
+                conn,
+                ok,
+                Peer {
+                    prog: prog_num,
+                    vers: prog_vers,
+                },
+            ),
+            Args::CreateLink { .. } | Args::OnLink { .. } | Args::DestroyIntrChan => {
                 self.give_up_channel(conn);
                 CallOutcome::Result(failure(args, ErrorCode::NotEstablished))
             }
@@ -172,8 +146,9 @@ impl<A: Allocator> Device<A> {
     fn end_channel(&mut self, conn: Conn, ok: bool, peer: Peer) -> CallOutcome
         ensures ends { (config : Configured) (acts : List DeviceAct)
             → IsDevice self.old config acts → is_dialing conn.number (wait_acts acts) ≡ true
-            → OutcomeIs result self.new config (Waited (Left conn.number) ∷ acts)
-            (ended_channel conn.number ok peer) }
+            → (addr port family : ℕ) → OutcomeIs result self.new config
+            (Waited (Left conn.number) ∷ acts)
+            (dialed conn.number ok (CreateIntrChan addr port peer.prog peer.vers family)) }
         ensures short { IsBrief result }
         ensures waiting { self.new.waiting ≡ without conn.number self.old.waiting }
     {

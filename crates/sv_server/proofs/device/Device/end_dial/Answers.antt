@@ -1,9 +1,14 @@
-use Rattle.std.proofs.Common.{◌≡◌, None, sym}
+use Rattle.std.proofs.Common.{rules, ◌≡◌, None, sym}
 use Rattle.sv_vxi.specs.Reading.{plain_arguments}
-use Rattle.sv_history.specs.Interrupts.{peer_by}
+use Rattle.sv_history.proofs.Dialing.{peer_by, dialed_is}
 use Rattle.sv_server.proofs.device.Device.end_dial.Goals as goal
 
-pub returns-in-None-clause-ends : goal.returns-in-None-clause-ends
-returns-in-None-clause-ends g c = λ config acts old dials.
-    let none : peer_by (plain_arguments c.args.args.now) ≡ None = sym c.in-None.ensures in
-    rw none (sym c.failure.ensures.result_is, c.give_up_channel.ensures.stands config acts old)
+pub returns-in-CreateIntrChan-clause-ends : goal.returns-in-CreateIntrChan-clause-ends
+returns-in-CreateIntrChan-clause-ends g c = λ config acts old dials.
+    rw c.in-CreateIntrChan.is (c.end_channel.ensures.ends config acts old dials _ _ _)
+
+pub returns-in-CreateLink-clause-ends : goal.returns-in-CreateLink-clause-ends
+returns-in-CreateLink-clause-ends g c = λ config acts old dials.
+    let none : peer_by (plain_arguments c.args.args.now) ≡ None = search (rules, c.in-CreateLink.is) in
+    rw (dialed_is c.args.conn.number c.args.ok (plain_arguments c.args.args.now), none)
+    (sym c.failure.ensures.result_is, c.give_up_channel.ensures.stands config acts old)
