@@ -1,7 +1,7 @@
 -- How often a reader was read, and what its reads gave.
 use Rattle.std.specs.Prelude.{◌≡◌, ◌⊎◌, ℕ, ◌≤◌, List, [], ◌∷◌, length, Option, Bool, Result, Ok, Err, ⊤}
 use Rattle.sv_replay.specs.declared.fault.RunFault.{RunFault}
-use Rattle.sv_replay.specs.declared.fault.RunFault.TheVariants.{BadLine, Input, Output, Memory}
+use Rattle.sv_replay.specs.declared.fault.RunFault.TheVariants.{Input}
 use Rattle.sv_replay.specs.declared.input.InputFault.{InputFault}
 use Rattle.sv_replay.specs.Stage.{WhileGoing}
 

@@ -1,4 +1,4 @@
-use Rattle.std.proofs.Common.{◌≡◌, ◌<◌, ◌≤◌, ◌∷◌, refl, rules, drop, take, length, min, inl, inr, sym, ap, subst, ◌∙◌}
+use Rattle.std.proofs.Common.{◌≡◌, ◌<◌, ◌≤◌, ◌∷◌, refl, rules, take, length, min, inl, sym, ap, subst, ◌∙◌}
 use Rattle.sv_history.specs.Event.{Bytes}
 use Rattle.sv_history.specs.History.{Answers, history_after}
 use Rattle.sv_server.specs.Server.State.{StandsFor}
