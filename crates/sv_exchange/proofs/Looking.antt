@@ -123,16 +123,11 @@ regrouped seen before unit space b e =
     ap (λ (l : List ℕ). l ++ b ∷ []) e ∙ append_assoc before (unit ++ space) (b ∷ [])
     ∙ ap (λ (l : List ℕ). before ++ l) (append_assoc unit space (b ∷ []))
 
--- a separator behind a unit
-pub ended : (a new : Ahead) (seen : List ℕ) (b : ℕ) → a.closed ≡ false → a.start < a.end → b ≡ 59 → new.start ≡ a.start → new.end ≡ a.end
-    → new.looked ≡ a.looked + 1 → new.closed ≡ true → new.partial ≡ a.partial → IsAhead a seen → IsAhead new (seen ++ b ∷ [])
-ended a new seen b unclosed lt is s e l c p h =
-    let o = opened a seen h unclosed in
-    let some : is_something h.unit ≡ true = something h.unit (length h.before) (omega (arith, lt, h.begins, h.closes)) in
-    let left : (more : List ℕ) → units ((seen ++ b ∷ []) ++ more) ≡ h.unit ∷ units more =
-    λ more. ap units (append_assoc seen (b ∷ []) more) ∙ o.left (b ∷ more)
-    ∙ ap (λ (n : ℕ). units ((h.unit ++ h.space) ++ (n ∷ more))) is ∙ ap kept (cut_over (h.unit ++ h.space) more o.single)
-    ∙ part_unit seen h.unit h.space (cut_at 59 more) some o in
+-- one byte more behind a unit, which is found as it was
+one_behind : (a new : Ahead) (seen : List ℕ) (b : ℕ) → new.start ≡ a.start → new.end ≡ a.end → new.looked ≡ a.looked + 1
+    → new.partial ≡ a.partial → (h : IsAhead a seen) → IsFound new.closed (seen ++ b ∷ []) h.unit (h.space ++ b ∷ [])
+    → IsAhead new (seen ++ b ∷ [])
+one_behind a new seen b s e l p h found =
     let long = length_push seen b in
     record {
       before = h.before;
@@ -143,8 +138,21 @@ ended a new seen b unclosed lt is s e l c p h =
       closes = e ∙ h.closes;
       size = omega (arith, l, h.size, long);
       reads = subst (λ (q : Progress). Reads q h.unit) (sym p) h.reads;
-      found = subst (λ (t : Bool). IsFound t (seen ++ b ∷ []) h.unit (h.space ++ b ∷ [])) (sym c) (some, left);
+      found = found;
     }
+
+-- a separator behind a unit
+pub ended : (a new : Ahead) (seen : List ℕ) (b : ℕ) → a.closed ≡ false → a.start < a.end → b ≡ 59 → new.start ≡ a.start → new.end ≡ a.end
+    → new.looked ≡ a.looked + 1 → new.closed ≡ true → new.partial ≡ a.partial → IsAhead a seen → IsAhead new (seen ++ b ∷ [])
+ended a new seen b unclosed lt is s e l c p h =
+    let o = opened a seen h unclosed in
+    let some : is_something h.unit ≡ true = something h.unit (length h.before) (omega (arith, lt, h.begins, h.closes)) in
+    let left : (more : List ℕ) → units ((seen ++ b ∷ []) ++ more) ≡ h.unit ∷ units more =
+    λ more. ap units (append_assoc seen (b ∷ []) more) ∙ o.left (b ∷ more)
+    ∙ ap (λ (n : ℕ). units ((h.unit ++ h.space) ++ (n ∷ more))) is ∙ ap kept (cut_over (h.unit ++ h.space) more o.single)
+    ∙ part_unit seen h.unit h.space (cut_at 59 more) some o in
+    one_behind a new seen b s e l p h
+    (subst (λ (t : Bool). IsFound t (seen ++ b ∷ []) h.unit (h.space ++ b ∷ [])) (sym c) (some, left))
 
 -- white space behind one
 pub spaced : (a new : Ahead) (seen : List ℕ) (b : ℕ) → a.closed ≡ false → a.start < a.end → is_white b ≡ true → new.start ≡ a.start
@@ -157,29 +165,18 @@ spaced a new seen b unclosed lt w s e l c p h =
     let left : (more : List ℕ) → units ((seen ++ b ∷ []) ++ more) ≡ units ((h.unit ++ (h.space ++ b ∷ [])) ++ more) =
     λ more. ap units (append_assoc seen (b ∷ []) more) ∙ o.left (b ∷ more) ∙ ap units (sym (append_assoc (h.unit ++ h.space) (b ∷ []) more))
     ∙ ap (λ (l : List ℕ). units (l ++ more)) (sym all) in
-    let long = length_push seen b in
-    record {
-      before = h.before;
-      unit = h.unit;
-      space = h.space ++ b ∷ [];
-      whole = regrouped seen h.before h.unit h.space b h.whole;
-      begins = s ∙ h.begins;
-      closes = e ∙ h.closes;
-      size = omega (arith, l, h.size, long);
-      reads = subst (λ (q : Progress). Reads q h.unit) (sym p) h.reads;
-      found = subst (λ (t : Bool). IsFound t (seen ++ b ∷ []) h.unit (h.space ++ b ∷ [])) (sym (c ∙ unclosed))
-          (record {
-            left = left;
-            single = ap (list_any is_separator) all ∙ list_any-append is_separator (h.unit ++ h.space) (b ∷ [])
-                ∙ or_from (list_any is_separator (h.unit ++ h.space)) (is_separator b || false) o.single
-                (or_from (is_separator b) false (white_no_separator b w) refl);
-            white = list_all-append is_white h.space (b ∷ [])
-                ∙ and_from (list_all is_white h.space) (is_white b && true) o.white (and_from (is_white b) true w refl);
-            unbegun = λ none. (let f : true ≡ false = sym some ∙ none in absurd cc);
-            starts = o.starts;
-            ends = o.ends;
-          });
-    }
+    one_behind a new seen b s e l p h
+    (subst (λ (t : Bool). IsFound t (seen ++ b ∷ []) h.unit (h.space ++ b ∷ [])) (sym (c ∙ unclosed)) (record {
+      left = left;
+      single = ap (list_any is_separator) all ∙ list_any-append is_separator (h.unit ++ h.space) (b ∷ [])
+          ∙ or_from (list_any is_separator (h.unit ++ h.space)) (is_separator b || false) o.single
+          (or_from (is_separator b) false (white_no_separator b w) refl);
+      white = list_all-append is_white h.space (b ∷ [])
+          ∙ and_from (list_all is_white h.space) (is_white b && true) o.white (and_from (is_white b) true w refl);
+      unbegun = λ none. (let f : true ≡ false = sym some ∙ none in absurd cc);
+      starts = o.starts;
+      ends = o.ends;
+    }))
 
 -- another byte, behind what was open
 pub grown_open : (seen unit space : List ℕ) (b : ℕ) → is_white b ≡ false → is_separator b ≡ false → IsOpen seen unit space

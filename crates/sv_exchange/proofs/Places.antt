@@ -1,9 +1,7 @@
 -- Where an element first stands.
-use Rattle.std.proofs.Common.{◌≡◌, ℕ, zero, suc, ◌+◌, ◌==◌, Bool, true, false, not, cond, List, [], ◌∷◌, length, take, min, refl, inl, inr, Some, arith}
+use Rattle.std.proofs.Common.{◌≡◌, ℕ, zero, suc, ◌+◌, ◌==◌, Bool, true, false, not, cond, List, [], ◌∷◌, length, take, min, refl, Some, arith}
 use Rattle.sv_exchange.specs.Read.{read_count}
 use Rattle.std.specs.List.{position_or_len}
-use Rattle.std.proofs.lemmas.Bool.{cases_lt, lt-ltb, le-ltb}
-use Rattle.sv_text.proofs.Places.{place_within}
 use Rattle.sv_exchange.specs.Limits.{max_read}
 
 -- among the first k

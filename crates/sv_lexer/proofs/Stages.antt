@@ -1,10 +1,10 @@
 -- What is known of a unit with one byte more, at each of the stages that it may end in.
-use Rattle.std.proofs.Common.{◌≡◌, ℕ, ◌<◌, ◌==◌, Bool, true, false, ◌&&◌, cond, List, [], ◌∷◌, ◌++◌, length, refl, sym, ap, ◌∙◌, subst, append_assoc, arith}
+use Rattle.std.proofs.Common.{◌≡◌, ℕ, ◌<◌, Bool, true, false, ◌&&◌, cond, List, [], ◌∷◌, ◌++◌, length, refl, sym, ap, ◌∙◌, subst, append_assoc, arith}
 use Rattle.std.specs.List.{list_all}
-use Rattle.std.specs.Char.{is_ascii_graphic, is_ascii_alphabetic as is_letter}
+use Rattle.std.specs.Char.{is_ascii_graphic}
 use Rattle.sv_text.specs.Front.{is_empty}
 use Rattle.sv_text.specs.White.{is_white}
-use Rattle.sv_lexer.specs.Spelled.{is_word_byte, is_mnemonic, is_header, words}
+use Rattle.sv_lexer.specs.Spelled.{is_mnemonic, is_header, words}
 use Rattle.sv_lexer.specs.Unit.{header, header_place, rest, rest_place}
 use Rattle.sv_lexer.specs.Partial.{Progress, kept, header_end, rest_end, last, others, longest, Awaits, HeaderEnds, UnitEnds, HasData, IsRead, At}
 use Rattle.sv_lexer.specs.Inside.Stage.{behind_graphic, behind_space, next}

@@ -6,7 +6,7 @@ use Rattle.sv_logs.specs.Since.{newest}
 use Rattle.sv_links.specs.declared.waiting.Wait.{Wait}
 use Rattle.sv_links.specs.Limits.{max_connections}
 use Rattle.sv_links.specs.Links.{is_locked_out}
-use Rattle.sv_links.specs.declared.waiting.Wait.TheVariants.{Lock, Input, Response, Dial}
+use Rattle.sv_links.specs.declared.waiting.Wait.TheVariants.{Lock, Input, Response}
 
 -- what happens to the call of a connection: it begins to wait, with the link that it names, if any; it waits anew, for something else; it
 -- waits no more. A wait has a deadline, or none

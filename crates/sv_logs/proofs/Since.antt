@@ -55,13 +55,28 @@ since_kept F K a log k =
     let law = since_step F K a log in
     ((λ (s : Since F K (a ∷ log)). (law.0 s).1), (λ (h : F (a ∷ log) ⊎ Since F K log). law.1 (k, h)))
 
+-- a search overlooks an act that is no find, and keeps what was found
+pub since_over : {A : Type 0} (F K : List A → Type 0) (a : A) (log : List A) → (F (a ∷ log) → ⊥) → (Since F K log → K (a ∷ log))
+    → Since F K (a ∷ log) ↔ Since F K log
+since_over F K a log none kept =
+    let step = since_step F K a log in (
+      (λ s. elim (step.0 s).1 [ inl f ↦ absurd (none f) | inr before ↦ before ]),
+      (λ s. step.1 (kept s, inr s)),
+    )
+
 -- the newest place keeps it, and is no find
 pub since_same : {A : Type 0} (F K : List A → Type 0) (a : A) (log : List A) → K (a ∷ log) → (F (a ∷ log) → ⊥)
     → Since F K (a ∷ log) ↔ Since F K log
-since_same F K a log k none =
-    let law = since_step F K a log in (
-      (λ (s : Since F K (a ∷ log)). elim (law.0 s).1 [ inl f ↦ absurd (none f) | inr before ↦ before ]),
-      (λ (before : Since F K log). law.1 (k, inr before)),
+since_same F K a log k none = since_over F K a log none (λ before. k)
+
+-- two searches go on alike at an act, where they did before it
+pub since_alike : {A : Type 0} (F K : List A → Type 0) (a : A) (log other : List A) → F (a ∷ log) ↔ F (a ∷ other)
+    → K (a ∷ log) ↔ K (a ∷ other) → Since F K log ↔ Since F K other → Since F K (a ∷ log) ↔ Since F K (a ∷ other)
+since_alike F K a log other found kept before =
+    let one = since_step F K a log in
+    let two = since_step F K a other in (
+      (λ s. let h = one.0 s in two.1 (kept.0 h.0, elim h.1 [ inl f ↦ inl (found.0 f) | inr b ↦ inr (before.0 b) ])),
+      (λ s. let h = two.0 s in one.1 (kept.1 h.0, elim h.1 [ inl f ↦ inl (found.1 f) | inr b ↦ inr (before.1 b) ])),
     )
 
 -- the newest place doesn't keep it

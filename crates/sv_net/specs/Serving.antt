@@ -1,6 +1,7 @@
 -- What a loop of sweeps does: a sweep, and waits behind it; the newest comes first.
-use Rattle.std.specs.Prelude.{◌≡◌, ℕ, ◌-◌, ◌/◌, ◌<◌, min, Bool, true, false, List, [], ◌∷◌, length, Option}
+use Rattle.std.specs.Prelude.{◌≡◌, ℕ, ◌-◌, ◌/◌, ◌<◌, min, Bool, true, false, List, [], ◌∷◌, length, Option, Some, None}
 use Rattle.std.specs.declared.time.Duration.{Duration}
+use Rattle.sv_logs.specs.Since.{last_given}
 use Rattle.sv_serve.specs.Carried.{Swept}
 use Rattle.sv_serve.specs.Heard.{Heard}
 use Rattle.sv_serve.specs.Moment.{Driving, Goes}
@@ -16,16 +17,12 @@ pub data Doing (W : Type 0) : Type 0 where
 
 -- the nanosecond at which the last wait ended, and the one at which the last sweep began; 0 in front of both
 abbrev pub time_of : {W : Type 0} → List (Doing W) → ℕ
-time_of [] = 0
-time_of (MadeSweep ∷ doings) = time_of doings
-time_of (Waited limit reported ended ∷ doings) = ended
-time_of (Told wire ∷ doings) = time_of doings
+time_of = last_given (elim [ Waited limit reported ended ↦ Some ended | _ ↦ None ]) 0
 
 abbrev pub swept_at : {W : Type 0} → List (Doing W) → ℕ
 swept_at [] = 0
 swept_at (MadeSweep ∷ doings) = time_of doings
-swept_at (Waited limit reported ended ∷ doings) = swept_at doings
-swept_at (Told wire ∷ doings) = swept_at doings
+swept_at (_ ∷ doings) = swept_at doings
 
 -- how many whole milliseconds came between two nanoseconds, at most 1,000
 abbrev pub ticks_between : ℕ → ℕ → ℕ
@@ -35,23 +32,15 @@ ticks_between before now = min (now / 1000000 - before / 1000000) 1000
 abbrev pub handed_in : {W : Type 0} → List (Doing W) → List ℕ
 handed_in [] = []
 handed_in (MadeSweep ∷ doings) = ticks_between (swept_at doings) (time_of doings) ∷ handed_in doings
-handed_in (Waited limit reported ended ∷ doings) = handed_in doings
-handed_in (Told wire ∷ doings) = handed_in doings
+handed_in (_ ∷ doings) = handed_in doings
 
 -- whether a wait was the last thing, so nothing of it was told
 abbrev pub is_fresh : {W : Type 0} → List (Doing W) → Bool
-is_fresh [] = true
-is_fresh (Waited limit reported ended ∷ doings) = true
-is_fresh (MadeSweep ∷ doings) = false
-is_fresh (Told wire ∷ doings) = false
+is_fresh = elim [ MadeSweep ∷ doings ↦ false | Told wire ∷ doings ↦ false | _ ↦ true ]
 
 -- whether all was told that came in waits
 abbrev pub is_told : {W : Type 0} → List (Doing W) → Bool
-is_told [] = true
-is_told (MadeSweep ∷ doings) = is_told doings
-is_told (Waited limit true ended ∷ doings) = false
-is_told (Waited limit false ended ∷ doings) = is_told doings
-is_told (Told wire ∷ doings) = true
+is_told = last_given (elim [ Waited limit true ended ↦ Some false | Told wire ↦ Some true | _ ↦ None ]) true
 
 -- Doings lead from one driver to another: each sweep is handed its milliseconds, which pass in front of what was reported meanwhile; no
 -- wait is longer than it may be, and none comes before all was told.
@@ -67,9 +56,7 @@ Serves hears (Told wire ∷ doings) start now = Serves hears doings start now ×
 abbrev pub Waits : {W M : Type 0} → (M → Doing W → M → Type 0) → List (Doing W) → M → M → Type 0
 Waits answers [] start now = now ≡ start
 Waits answers (MadeSweep ∷ doings) start now = Waits answers doings start now
-Waits answers (Waited limit reported ended ∷ doings) start now =
-    (between : _) × Waits answers doings start between × answers between (Waited limit reported ended) now
-Waits answers (Told wire ∷ doings) start now = (between : _) × Waits answers doings start between × answers between (Told wire) now
+Waits answers (doing ∷ doings) start now = (between : _) × Waits answers doings start between × answers between doing now
 
 -- Doings with such a number of sweeps lead from one driver to another, and so do sweeps that were handed those milliseconds.
 abbrev pub Served : {W : Type 0} → (W → Heard → W → Type 0) → (ℕ → Type 0) → Driving W → Driving W → Type 0

@@ -15,8 +15,7 @@ socket_number (Intr c) = 16 + c
 -- A read gives the next bytes that a stream has left to read, and takes them out; where it gives none, they stay.
 abbrev pub Gives : {S : Type 0} → (S → Option (List ℕ)) → Answer (List ℕ) → S → S → Type 0
 Gives left (Got bytes) old new = Consumes (left old) (left new) bytes
-Gives left Pending old new = Keeps (left old) (left new)
-Gives left Failed old new = Keeps (left old) (left new)
+Gives left answer old new = Keeps (left old) (left new)
 
 -- A probe reads and drops what comes, if so said; else it leaves all.
 abbrev pub Skips : {S : Type 0} → (S → Option (List ℕ)) → Bool → S → S → Type 0
@@ -26,8 +25,7 @@ Skips left false old new = Keeps (left old) (left new)
 -- A write puts as many of the bytes behind what a stream was sent as it answers, and none where it takes none.
 abbrev pub Takes : {S : Type 0} → (S → Option (List ℕ)) → List ℕ → Answer ℕ → S → S → Type 0
 Takes sent bytes (Got n) old new = Appends (sent old) (sent new) (take n bytes)
-Takes sent bytes Pending old new = Keeps (sent old) (sent new)
-Takes sent bytes Failed old new = Keeps (sent old) (sent new)
+Takes sent bytes answer old new = Keeps (sent old) (sent new)
 
 -- The stream that is at a place does this; where there is none, the call fails.
 abbrev pub Does : {S A : Type 0} → (S → S → Type 0) → Answer A → Option S → Option S → Type 0

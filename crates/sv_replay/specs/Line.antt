@@ -20,9 +20,8 @@ abbrev pub IsNumber : List ℕ → ℕ → Type 0
 IsNumber digits n = (digits ≢ []) × AllByRecursion (λ digit. (48 ≤ digit) × (digit ≤ 57)) digits × (n ≡ value_of digits)
 
 abbrev pub HasNoLeadingZero : List ℕ → Type 0
-HasNoLeadingZero [] = Unit {0}
-HasNoLeadingZero (digit ∷ []) = Unit {0}
 HasNoLeadingZero (digit ∷ other ∷ digits) = digit ≢ 48
+HasNoLeadingZero digits = Unit {0}
 
 -- a number without leading zeros, of at most this
 abbrev pub IsPlain : ℕ → List ℕ → ℕ → Type 0

@@ -1,7 +1,7 @@
 -- How often a reader was read, and what its reads gave.
 use Rattle.std.specs.Prelude.{◌≡◌, ◌⊎◌, ℕ, ◌≤◌, List, [], ◌∷◌, length, Option, Bool, Result, Ok, Err, ⊤}
 use Rattle.sv_replay.specs.declared.fault.RunFault.{RunFault}
-use Rattle.sv_replay.specs.declared.fault.RunFault.TheVariants.{BadLine, Input, Output, Memory}
+use Rattle.sv_replay.specs.declared.fault.RunFault.TheVariants.{Input}
 use Rattle.sv_replay.specs.declared.input.InputFault.{InputFault}
 use Rattle.sv_replay.specs.Stage.{WhileGoing}
 
@@ -24,9 +24,7 @@ Made gives first reads last = Reads gives first reads last × (length reads ≤ 
 
 -- the newest read failed
 abbrev pub HasFailed : List Gave → Type 0
-HasFailed [] = ⊥
-HasFailed (Ok gave ∷ reads) = ⊥
-HasFailed (Err fault ∷ reads) = ⊤
+HasFailed = elim [ Err fault ∷ reads ↦ ⊤ | _ ↦ ⊥ ]
 
 -- No read is to follow: the newest one failed, or there were as many as there may be.
 abbrev pub IsLast : List Gave → Type 0
@@ -39,11 +37,8 @@ IsReadOn gives first last count (Err fault) = (reads : List Gave) × Made gives 
 
 -- This holds where the answer is the input's fault.
 abbrev pub OnInput : {A : Type 0} → Result A RunFault → Type 0 → Type 0
-OnInput (Ok a) fact = ⊤
-OnInput (Err (BadLine n)) fact = ⊤
 OnInput (Err Input) fact = fact
-OnInput (Err Output) fact = ⊤
-OnInput (Err Memory) fact = ⊤
+OnInput answer fact = ⊤
 
 -- The same of a turn of a run.
 abbrev pub IsTurned : {S : Type 0} → (S → Gave → S → Type 0) → S → S → ℕ → Result Bool RunFault → Type 0

@@ -1,5 +1,5 @@
 -- How far a run is, and how it goes on.
-use Rattle.std.specs.Prelude.{◌≡◌, ℕ, ◌≤◌, List, [], ◌++◌, length, Bool, true, false, Option, Result, Ok, Err, ⊤}
+use Rattle.std.specs.Prelude.{◌≡◌, ℕ, ◌+◌, ◌*◌, ◌≤◌, List, [], ◌++◌, length, Bool, true, false, Option, Result, Ok, Err, ⊤}
 use Rattle.std.specs.Io.KnownBytes.{IsAtEnd}
 use Rattle.sv_server.specs.declared.replay.ReplayFault.{ReplayFault}
 use Rattle.sv_server.specs.declared.replay.ReplayFault.TheVariants.{NoMemory, Write}
@@ -9,6 +9,7 @@ use Rattle.sv_replay.specs.declared.fault.RunFault.{RunFault}
 use Rattle.sv_replay.specs.declared.fault.RunFault.TheVariants.{BadLine, Input, Output, Memory}
 use Rattle.sv_replay.specs.Line.{Line, Says}
 use Rattle.sv_replay.specs.Script.{parts, events_of, IsScript, IsBad, Prints, Stops}
+use Rattle.sv_replay.specs.Text.{Held}
 use Rattle.sv_replay.specs.Run.{set_up, Runs}
 
 -- Some lines of what was read are done, so many, and this is left of it; what they say is printed.
@@ -40,5 +41,11 @@ Goes server left number rest (Err fault) read text = Runs read rest (Err fault) 
 -- This holds where the run goes on.
 abbrev pub WhileGoing : {E : Type 0} → Result Bool E → Type 0 → Type 0
 WhileGoing (Ok true) fact = fact
-WhileGoing (Ok false) fact = Unit {0}
-WhileGoing (Err fault) fact = Unit {0}
+WhileGoing answer fact = Unit {0}
+
+-- How far a turn came that goes on: one line more is done, or one read more was made; no more text is held than that many reads bring;
+-- and the reader isn't read more often than it may be.
+pub record Progress (lines : ℕ) (held : Held) (done : ℕ) (left : Held) : Type 0 where
+  pub counted : done + left.reads ≡ lines + held.reads + 1
+  pub bounded : lines + length held.text ≤ 131072 * held.reads → done + length left.text ≤ 131072 * left.reads
+  pub few : held.reads ≤ 4294967294 → left.reads ≤ 4294967294

@@ -8,7 +8,7 @@ ghost use Rattle.sv_server.specs.Server.State.{StandsFor};
 ghost use Rattle.sv_replay.specs.Text.{nothing_held, first_end};
 ghost use Rattle.sv_replay.specs.Run.{set_up, Runs};
 ghost use Rattle.sv_replay.specs.Reads.{Gave, Made, IsTurned, IsReadOut, OnInput};
-ghost use Rattle.sv_replay.specs.Stage.{IsStage, LineRuns, Goes, WhileGoing};
+ghost use Rattle.sv_replay.specs.Stage.{IsStage, LineRuns, Goes, WhileGoing, Progress};
 
 use crate::fault::RunFault;
 use crate::input::Source;
@@ -174,13 +174,8 @@ impl<A: Allocator> Run<A> {
             × Appends (W.contents writer.old) (W.contents writer.new) other
             × Goes self.new.server self.new.text.text self.new.lines (R.remaining reader.new) result
             (read ++ more) (text ++ other) }
-        ensures counted { WhileGoing result
-            (self.new.lines + self.new.text.reads ≡ self.old.lines + self.old.text.reads + 1) }
-        ensures bounded { WhileGoing result
-            (self.old.lines + length self.old.text.text ≤ 131072 * self.old.text.reads
-            → self.new.lines + length self.new.text.text ≤ 131072 * self.new.text.reads) }
-        ensures few { WhileGoing result (self.old.text.reads ≤ 4294967294
-            → self.new.text.reads ≤ 4294967294) }
+        ensures progress { WhileGoing result
+            (Progress self.old.lines self.old.text self.new.lines self.new.text) }
         ensures heard { (first : R) (reads : List Gave) → Made R.gives first reads reader.old
             → length reads ≡ self.old.text.reads
             → IsTurned R.gives first reader.new self.new.text.reads result }
@@ -217,13 +212,8 @@ impl<A: Allocator> Run<A> {
             × Appends (W.contents writer.old) (W.contents writer.new) other
             × Goes self.new.server self.new.text.text self.new.lines (R.remaining reader.new) result
             (read ++ more) (text ++ other) }
-        ensures counted { WhileGoing result
-            (self.new.lines + self.new.text.reads ≡ self.old.lines + self.old.text.reads + 1) }
-        ensures bounded { WhileGoing result
-            (self.old.lines + length self.old.text.text ≤ 131072 * self.old.text.reads
-            → self.new.lines + length self.new.text.text ≤ 131072 * self.new.text.reads) }
-        ensures few { WhileGoing result (self.old.text.reads ≤ 4294967294
-            → self.new.text.reads ≤ 4294967294) }
+        ensures progress { WhileGoing result
+            (Progress self.old.lines self.old.text self.new.lines self.new.text) }
         ensures heard { (first : R) (reads : List Gave) → Made R.gives first reads reader.old
             → length reads ≡ self.old.text.reads
             → IsTurned R.gives first reader.new self.new.text.reads result }

@@ -1,8 +1,6 @@
 -- What the searches of the acts find, by what the scanner holds.
-use Rattle.std.proofs.Common.{◌≡◌, ℕ, ◌+◌, ◌-◌, List, [], ◌∷◌, ◌++◌, length, Some, None, Option, refl, ap, ◌∙◌, arith, length-append, add-one}
-use Rattle.std.proofs.lemmas.Option.{slice_get-get_or}
-use Rattle.std.proofs.Math.Seq.{get_or-append_seam}
-use Rattle.std.specs.Prelude.{Bool, false, ◌*◌, ◌==◌, slice_get, option_map}
+use Rattle.std.proofs.Common.{◌≡◌, ℕ, ◌+◌, ◌-◌, List, [], ◌∷◌, length, Some, None, Option, refl, ap, ◌∙◌, length-append, add-one}
+use Rattle.std.specs.Prelude.{false, ◌*◌, ◌==◌, slice_get, option_map}
 use Rattle.sv_scan.specs.declared.setting.Reading.{Reading}
 use Rattle.sv_scan.specs.declared.acts.ScanAct.{ScanAct}
 use Rattle.sv_scan.specs.declared.acts.ScanAct.TheVariants.{Input, Configure, Init, Abort, Reset, Trigger, Sample}

@@ -1,5 +1,5 @@
 -- The condition words (SCPI-1999, chapter 20), by the acts that count.
-use Rattle.std.specs.Prelude.{ℕ, ◌+◌, ◌^◌, ℤ, int_lt, ◌&&◌, ◌||◌, not, Bool, true, false, List, Option, Some, None, if◌then◌else◌}
+use Rattle.std.specs.Prelude.{ℕ, ◌+◌, ◌^◌, ℤ, int_lt, ◌&&◌, ◌||◌, not, Bool, true, false, List, Option, Some, if◌then◌else◌}
 use Rattle.sv_scan.specs.declared.setting.Reading.{Reading}
 use Rattle.sv_scan.specs.declared.setting.Reading.TheVariants.{Value, Over, Under}
 use Rattle.sv_scan.specs.declared.acts.ScanAct.{ScanAct}

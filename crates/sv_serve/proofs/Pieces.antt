@@ -1,9 +1,12 @@
 -- What is read comes to the front of a buffer.
-use Rattle.std.proofs.Common.{◌≡◌, ℕ, List, ◌++◌, take, drop, length, min, refl, ap, ◌∙◌, arith}
+use Rattle.std.proofs.Common.{◌≡◌, ℕ, ◌<◌, List, ◌++◌, take, drop, length, min, inr, refl, subst, ap, ◌∙◌, arith}
 use Rattle.std.proofs.lemmas.List.{take_at, take-append-le, length-take}
 use Rattle.sv_serve.specs.declared.wire.Answer.{Answer}
 use Rattle.sv_serve.specs.declared.wire.Answer.TheVariants.{Got, Pending, Failed}
-use Rattle.sv_serve.specs.Heard.{bytes_of, IsWithin, IsPiece}
+use Rattle.sv_history.specs.declared.event.Config.{Config}
+use Rattle.sv_serve.specs.Heard.{Heard, WasRead, bytes_of, IsWithin, IsPiece}
+use Rattle.sv_serve.specs.Moment.{Moment}
+use Rattle.sv_serve.specs.Steps.{Comes, ReadsUpTo}
 
 -- the buffer is what was read into, and what was behind that stays
 pub front_bytes : (answer : Answer ℕ) (front rest : List ℕ) → IsWithin answer (length front)
@@ -24,3 +27,20 @@ again len items lent new short same = take_at new (drop (length new) items) len 
 
 pub asked_for : (len room size : ℕ) → size ≡ min len room → len ≡ 16384 → size ≡ min room 16384
 asked_for len room size is long = grind (arith, is, long)
+
+-- as many bytes are asked for as there is room for, and what comes of them follows
+pub read_so : {W : Type 0} (hears : W → Heard → W → Type 0) (config : Config) (conn room size : ℕ) (answer : Answer ℕ) (buffer : List ℕ)
+    (before after : Moment W) (wire : W) → 0 < room → size ≡ min room 16384 → IsWithin answer size
+    → hears before.wire (WasRead conn size (bytes_of answer buffer)) wire
+    → Comes hears conn (bytes_of answer buffer) config (record before { wire = wire }) after
+    → ReadsUpTo hears room conn config before after
+read_so hears config conn room size answer buffer before after wire some asked within heard comes = inr (
+  some,
+  bytes_of answer buffer,
+  within_piece answer buffer (min room 16384) (subst (λ n. IsWithin answer n) asked within),
+  (
+    record before { wire = wire },
+    (wire, subst (λ n. hears before.wire (WasRead conn n (bytes_of answer buffer)) wire) asked heard, refl),
+    comes,
+  ),
+)

@@ -26,11 +26,9 @@ bytes_of Failed buffer = Failed
 -- at most so many were read or written
 abbrev pub IsWithin : Answer ℕ → ℕ → Type 0
 IsWithin (Got n) most = n ≤ most
-IsWithin Pending most = ⊤
-IsWithin Failed most = ⊤
+IsWithin answer most = ⊤
 
 -- a piece of at most so many bytes
 abbrev pub IsPiece : Answer (List ℕ) → ℕ → Type 0
 IsPiece (Got bytes) most = length bytes ≤ most
-IsPiece Pending most = ⊤
-IsPiece Failed most = ⊤
+IsPiece answer most = ⊤

@@ -1,6 +1,6 @@
 -- The steps of a driver. In each the wire is asked once at most, and what it answers happens to the server. Only a Turn, a Tick and an
 -- entry of the scenario may be refused.
-use Rattle.std.specs.Prelude.{◌≡◌, ◌⊎◌, ℕ, ◌<◌, min, ◌==◌, ◌&&◌, ◌||◌, Bool, true, false, List, [], length, Option, Some, None, Result, Ok, Err, ⊤, slice_set, slice_index_or, if◌then◌else◌}
+use Rattle.std.specs.Prelude.{◌≡◌, ◌⊎◌, ℕ, ◌<◌, min, ◌==◌, ◌&&◌, ◌||◌, Bool, true, false, List, [], length, Option, Some, None, Result, Ok, Err, ⊤, slice_set, slice_index_or}
 use Rattle.sv_history.specs.declared.event.Config.{Config}
 use Rattle.sv_history.specs.declared.event.Dial.{Dial}
 use Rattle.sv_history.specs.declared.event.Did.{Did}
@@ -42,9 +42,7 @@ Notes c dial config before after = after ≡ record before { called = slice_set 
 -- A connection comes, for a purpose, and gets the lowest free number; where none is free, it is dropped.
 abbrev pub Opens : {W : Type 0} → Role → Option ℕ → Answer ⊤ → Config → Moment W → Moment W → Type 0
 Opens role (Some c) (Got all) = Happens (Open c role)
-Opens role (Some c) Pending = Stays
-Opens role (Some c) Failed = Stays
-Opens role None answer = Stays
+Opens role number answer = Stays
 
 abbrev pub Accepts : {W : Type 0} → (W → Heard → W → Type 0) → Role → Config → Moment W → Moment W → Type 0
 Accepts hears role config before after = (number : Option ℕ) × (answer : Answer ⊤) × IsLowest number config before
@@ -79,9 +77,8 @@ longest_piece = 16384
 
 -- a connection that is gone is closed
 abbrev pub Drops : {W : Type 0} → (W → Heard → W → Type 0) → ℕ → Answer ⊤ → Config → Moment W → Moment W → Type 0
-Drops hears c (Got all) = Stays
-Drops hears c Pending = Stays
 Drops hears c Failed = Closes hears c
+Drops hears c answer = Stays
 
 abbrev pub ProbesIf : {W : Type 0} → (W → Heard → W → Type 0) → ℕ → Bool → Config → Moment W → Moment W → Type 0
 ProbesIf hears c false config before after = after ≡ before

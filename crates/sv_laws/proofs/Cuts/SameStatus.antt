@@ -5,8 +5,7 @@ use Rattle.std.specs.Int.{bit_at}
 use Rattle.sv_errors.specs.declared.error_queue.QueueAct.{QueueAct}
 use Rattle.sv_errors.specs.declared.error_queue.QueueAct.TheVariants as queue_act
 use Rattle.sv_errors.specs.ErrorQueue.{entries, is_full}
-use Rattle.sv_logs.specs.Since.{Since}
-use Rattle.sv_logs.proofs.Since.{since_empty, since_step, then_same}
+use Rattle.sv_logs.proofs.Since.{since_empty, since_alike, since_over, then_same}
 use Rattle.sv_status.specs.declared.register_name.RegisterName.{RegisterName}
 use Rattle.sv_status.specs.declared.register_name.RegisterName.TheVariants.{Operation, Questionable, Limit}
 use Rattle.sv_scan.specs.declared.acts.ScanAct.{ScanAct}
@@ -28,25 +27,6 @@ use Rattle.sv_laws.proofs.Cuts.SameExchange.{SameExchange, exchange_same, exchan
 
 abbrev both_ways : (P : Type 0) → P ↔ P
 both_ways P = ((λ (h : P). h), (λ (h : P). h))
-
--- a search behind an act, in the one log and in the other
-since_alike : (F K : List Act → Type 0) (act : Act) (log other : List Act) → F (act ∷ log) ↔ F (act ∷ other)
-    → K (act ∷ log) ↔ K (act ∷ other) → Since F K log ↔ Since F K other → Since F K (act ∷ log) ↔ Since F K (act ∷ other)
-since_alike F K act log other found kept before =
-    let one = since_step F K act log in
-    let two = since_step F K act other in (
-      (λ s. let h = one.0 s in two.1 (kept.0 h.0, elim h.1 [ inl f ↦ inl (found.0 f) | inr b ↦ inr (before.0 b) ])),
-      (λ s. let h = two.0 s in one.1 (kept.1 h.0, elim h.1 [ inl f ↦ inl (found.1 f) | inr b ↦ inr (before.1 b) ])),
-    )
-
--- a search overlooks an act that is no find, and keeps what was found
-since_over : (F K : List Act → Type 0) (act : Act) (log : List Act) → (F (act ∷ log) → ⊥) → (Since F K log → K (act ∷ log))
-    → Since F K (act ∷ log) ↔ Since F K log
-since_over F K act log none kept =
-    let step = since_step F K act log in (
-      (λ s. elim (step.0 s).1 [ inl f ↦ absurd (none f) | inr before ↦ before ]),
-      (λ s. step.1 (kept s, inr s)),
-    )
 
 -- ---- two logs
 

@@ -45,9 +45,9 @@ loop-preserved g c =
       so_far_turn c.loop.run.server c.turn.new.self.server c.loop.run.text.text c.turn.new.self.text.text c.loop.run.lines
           c.turn.new.self.lines _ _ _ _ _ _ (Ok true) c.loop.invariant.0
           (rw e at c.in_ok-turn.ensures.goes),
-      omega (arith, rw e at c.in_ok-turn.ensures.counted, c.loop.invariant.1),
-      (rw e at c.in_ok-turn.ensures.bounded) c.loop.invariant.2,
-      (rw e at c.in_ok-turn.ensures.few) c.loop.invariant.3,
+      omega (arith, (rw e at c.in_ok-turn.ensures.progress).counted, c.loop.invariant.1),
+      (rw e at c.in_ok-turn.ensures.progress).bounded c.loop.invariant.2,
+      (rw e at c.in_ok-turn.ensures.progress).few c.loop.invariant.3,
       (let (reads, made, as_many) = c.loop.invariant.4 in
           let (others, they, count, on) = rw e at (c.in_ok-turn.ensures.heard _ reads made as_many) in (others, they, count)),
     )

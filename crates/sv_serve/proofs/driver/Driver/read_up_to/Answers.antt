@@ -1,11 +1,11 @@
-use Rattle.std.proofs.Common.{◌≡◌, ◌<◌, ◌≤◌, ◌∷◌, refl, rules, drop, take, length, min, inl, inr, sym, ap, subst, ◌∙◌}
+use Rattle.std.proofs.Common.{◌≡◌, ◌<◌, ◌≤◌, ◌∷◌, refl, rules, take, length, min, inl, sym, ap, subst, ◌∙◌}
 use Rattle.sv_history.specs.Event.{Bytes}
 use Rattle.sv_history.specs.History.{Answers, history_after}
 use Rattle.sv_server.specs.Server.State.{StandsFor}
-use Rattle.sv_serve.specs.Heard.{WasRead, bytes_of, IsWithin}
+use Rattle.sv_serve.specs.Heard.{IsWithin}
 use Rattle.sv_serve.specs.Moment.{moment}
 use Rattle.sv_serve.proofs.Suited.{suited, bytes_suit, room_open}
-use Rattle.sv_serve.proofs.Pieces.{within_piece, again, asked_for}
+use Rattle.sv_serve.proofs.Pieces.{within_piece, again, asked_for, read_so}
 use Rattle.sv_serve.proofs.driver.Driver.read_up_to.Goals as goal
 
 pub invariant_of-self : goal.invariant_of-self
@@ -61,60 +61,20 @@ returns-in-Got g c = rw (← c.self.view_is) (λ config history stands has.
       subst (λ r. StandsFor c.apply.new.self config (history_after (Bytes c.args.conn bytes) r history)) done
           (subst (λ l. StandsFor c.apply.new.self config (history_after (Bytes c.args.conn l) c.apply.result history)) same
           (c.apply.ensures.stands config history stands)),
-      inr (
-        some,
-        bytes_of c.read_into.result c.read_into.new.buffer,
-        piece,
-        (
-          record {
-            wire = c.read_into.new.wire;
-            history = history;
-            called = c.self.inside.called;
-            ahead = drop c.self.inside.next c.self.inside.scenario.items;
-            ticks = c.self.inside.ticks;
-          },
-          (
-            c.read_into.new.wire,
-            subst (λ n. g.W.Wire.hears c.self.inside.wire (WasRead c.args.conn n
-                (bytes_of c.read_into.result c.read_into.new.buffer)) c.read_into.new.wire)
-                asked c.read_into.ensures.heard,
-            refl,
-          ),
-          rw c.in-Got.is (log, is_log, subst (λ r. Answers config (Bytes c.args.conn bytes) log r) done answers, refl),
-        ),
-      ),
+      read_so g.W.Wire.hears config c.args.conn c.args.room c.min-size.result c.read_into.result c.read_into.new.buffer _ _
+          c.read_into.new.wire some asked c.read_into.ensures.within c.read_into.ensures.heard
+          (rw c.in-Got.is (log, is_log, subst (λ r. Answers config (Bytes c.args.conn bytes) log r) done answers, refl)),
     ))
 
 pub returns-in-Pending : goal.returns-in-Pending
 returns-in-Pending g c = rw (← c.self.view_is) (λ config history stands has.
     let some : 0 < c.args.room = search rules in
     let asked : c.min-size.result ≡ min c.args.room 16384 = asked_for c.len.result c.args.room c.min-size.result c.min-size.ensures
-    (c.len.ensures ∙ sym c.deref_mut.ensures.len ∙ ap length c.deref_mut.ensures.value ∙ c.self.invariant.3) in
-    let piece = within_piece c.read_into.result c.read_into.new.buffer (min c.args.room 16384)
-    (subst (λ n. IsWithin c.read_into.result n) asked c.read_into.ensures.within) in (
+    (c.len.ensures ∙ sym c.deref_mut.ensures.len ∙ ap length c.deref_mut.ensures.value ∙ c.self.invariant.3) in (
       history,
       stands,
-      inr (
-        some,
-        bytes_of c.read_into.result c.read_into.new.buffer,
-        piece,
-        (
-          record {
-            wire = c.read_into.new.wire;
-            history = history;
-            called = c.self.inside.called;
-            ahead = drop c.self.inside.next c.self.inside.scenario.items;
-            ticks = c.self.inside.ticks;
-          },
-          (
-            c.read_into.new.wire,
-            subst (λ n. g.W.Wire.hears c.self.inside.wire (WasRead c.args.conn n (bytes_of c.read_into.result c.read_into.new.buffer))
-                c.read_into.new.wire) asked c.read_into.ensures.heard,
-            refl,
-          ),
-          rw c.in-Pending.is refl,
-        ),
-      ),
+      read_so g.W.Wire.hears config c.args.conn c.args.room c.min-size.result c.read_into.result c.read_into.new.buffer _ _
+          c.read_into.new.wire some asked c.read_into.ensures.within c.read_into.ensures.heard (rw c.in-Pending.is refl),
     ))
 
 pub returns-in-Failed : goal.returns-in-Failed
@@ -122,31 +82,10 @@ returns-in-Failed g c = rw (← c.self.view_is) (λ config history stands has.
     let some : 0 < c.args.room = search rules in
     let asked : c.min-size.result ≡ min c.args.room 16384 = asked_for c.len.result c.args.room c.min-size.result c.min-size.ensures
     (c.len.ensures ∙ sym c.deref_mut.ensures.len ∙ ap length c.deref_mut.ensures.value ∙ c.self.invariant.3) in
-    let piece = within_piece c.read_into.result c.read_into.new.buffer (min c.args.room 16384)
-    (subst (λ n. IsWithin c.read_into.result n) asked c.read_into.ensures.within) in
     let is_open = room_open c.args.conn c.args.room config (moment c.args.self.now history) c.requires some has in
     let (h0, s0, p0) = c.close.ensures config history stands is_open in (
       h0,
       s0,
-      inr (
-        some,
-        bytes_of c.read_into.result c.read_into.new.buffer,
-        piece,
-        (
-          record {
-            wire = c.read_into.new.wire;
-            history = history;
-            called = c.self.inside.called;
-            ahead = drop c.self.inside.next c.self.inside.scenario.items;
-            ticks = c.self.inside.ticks;
-          },
-          (
-            c.read_into.new.wire,
-            subst (λ n. g.W.Wire.hears c.self.inside.wire (WasRead c.args.conn n (bytes_of c.read_into.result c.read_into.new.buffer))
-                c.read_into.new.wire) asked c.read_into.ensures.heard,
-            refl,
-          ),
-          rw c.in-Failed.is p0,
-        ),
-      ),
+      read_so g.W.Wire.hears config c.args.conn c.args.room c.min-size.result c.read_into.result c.read_into.new.buffer _ _
+          c.read_into.new.wire some asked c.read_into.ensures.within c.read_into.ensures.heard (rw c.in-Failed.is p0),
     ))
