@@ -13,8 +13,8 @@ from typing import Dict, Iterator, List, Tuple
 from scanvolt import portmap
 from scanvolt.vxi11 import Reader, Records, calls, encode_reply, read_call, words
 
-TOP = pathlib.Path(__file__).resolve().parent.parent
-ENVIRONMENT = dict(os.environ, PYTHONPATH=str(TOP), PYTHONDONTWRITEBYTECODE="1")
+PACKAGE = pathlib.Path(portmap.__file__).resolve().parents[1]
+ENVIRONMENT = dict(os.environ, PYTHONPATH=str(PACKAGE), PYTHONDONTWRITEBYTECODE="1")
 PATIENCE = 20       # seconds
 
 
