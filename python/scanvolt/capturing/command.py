@@ -1,13 +1,16 @@
 """A session with `scanvolt serve`, from its capture, replayed.
 
     scanvolt-capture compare CAPTURE [--scenario FILE] [--start SECONDS]
+    scanvolt-capture virtual CAPTURE [--scenario FILE] [--start SECONDS]
     scanvolt-capture script CAPTURE > session.replay
 
 CAPTURE is a pcap or pcapng file, as `tshark -i lo -f tcp -w CAPTURE` writes it, from the start of
 the server on. `script` makes the script of docs/REPLAY.md that tells the same to `scanvolt replay`.
 `compare` replays it and compares each reply, and each call on an interrupt channel, byte by byte.
-It tells the first that differs, by the bytes around it and their text. `tshark` is needed, from
-Debian's package of that name; it also puts the bytes of each connection together.
+It tells the first that differs, by the bytes around it and their text. `virtual` compares, and does the
+same calls again by `scanvolt.virtual`: the replies have to be the same bytes, and the service requests
+the same ones in the same order. `tshark` is needed, from Debian's package of that name; it also puts
+the bytes of each connection together.
 
 What is exact: the bytes of each connection, the order of calls and replies, who closes what. Ports
 in the replies of create_link and GETPORT are told as 4096 and 4097, as a replay has them.
@@ -45,6 +48,7 @@ from .script import Scheduled, scenario, script
 from .session import Session
 from .streams import streams
 from .told import counted, moves, start_of, summary, told
+from .virtually import Again
 
 NAME = "scanvolt-capture"
 
@@ -53,7 +57,7 @@ def words(given: Optional[List[str]]) -> argparse.Namespace:
     """The words of the command line."""
     parser = argparse.ArgumentParser(
         prog=NAME, description=__doc__, formatter_class=argparse.RawDescriptionHelpFormatter)
-    parser.add_argument("mode", choices=("script", "compare"))
+    parser.add_argument("mode", choices=("script", "compare", "virtual"))
     parser.add_argument("capture", metavar="CAPTURE")
     parser.add_argument("--program", help="the scanvolt that replays; for `compare` the one that SCANVOLT or PATH or "
                         "the checkout has, without it; a script is then that of the comparison, with what it moved")
@@ -89,13 +93,21 @@ def compare(session: Session, entries: List[Scheduled], given: argparse.Namespac
     print("capture: " + summary(session))
     if difference is None:
         print("capture: all equal in the replay, " + moves(comparison, ticks))
-        return 0
+        return again(session, ticks, given) if given.mode == "virtual" else 0
     print("capture: the first that differs, with ticks tried up to %s otherwise:" %
           counted(given.slack, "millisecond"))
     print("\n".join(told(session, difference)))
     if entries:
         print("capture: " + start_of(comparison))
     return 1
+
+
+def again(session: Session, ticks: List[int], given: argparse.Namespace) -> int:
+    """Does the calls again in virtual time, and tells; the status."""
+    found = Again(session, ticks, given.program, given.scenario)
+    told_again = found.differences()
+    print("\n".join("capture: " + line for line in told_again or [found.summary()]))
+    return 1 if told_again else 0
 
 
 def printing() -> None:
@@ -109,7 +121,7 @@ def main(given_words: Optional[List[str]] = None) -> int:
     try:
         entries = scenario(given.scenario) if given.scenario else []
         session = session_of(given)
-        if given.mode == "compare":
+        if given.mode != "script":
             return compare(session, entries, given)
         print("capture: " + summary(session), file=sys.stderr)
         ticks = [point.ticks for point in session.points]
