@@ -34,9 +34,11 @@ DOC_FILES := LICENSE CHANGELOG.md docs/INSTRUMENT.md docs/REPLAY.md examples/ide
 
 # What a proof doesn't see (tools/lint); then proves what changed and the crates above it from nothing
 # (every crate and its tests by `rt ci --anew`), tries the must-fail edits in the same way, and runs
-# the programs and the tests.
+# the programs and the tests. Last, the tests of the Python package that take the standard library alone,
+# over the proved program: they print nothing where they pass.
 test: lint
 	@$(RT) ci
+	@RT='$(RT)' python/proved
 
 # Tells what falls short in layout, length and edits; it takes seconds.
 lint:

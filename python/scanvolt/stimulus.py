@@ -3,21 +3,34 @@ import decimal
 import os
 import re
 from dataclasses import dataclass
-from typing import List, Tuple, Union
+from typing import List, Optional, Tuple, Union
 
 CHANNELS = 128
 MOST_MICROVOLTS = 10 ** 9
 LONGEST_LINE = 65536        # bytes
-ENTRY = re.compile(rb"([0-9]{1,18}) (?:(external)|input ([1-9][0-9]{0,2}) (-?[0-9]{1,18}))")
+SHOWN_MOST = 40             # characters that are shown of a bad word
+DIGITS, CHANNEL, LEVEL = re.compile(b"[0-9]{1,18}"), re.compile(b"[1-9][0-9]{0,2}"), re.compile(b"-?[0-9]{1,18}")
+Name = Union[str, "os.PathLike[str]"]
 Volts = Union[decimal.Decimal, int, float, str]
 
 
 @dataclass(frozen=True)
 class Entry:
-    """What happens at a millisecond, as a line of a replay."""
+    """What happens at a millisecond, as a line of a replay: the external trigger, or an input has a voltage."""
 
     clock: int
     line: bytes
+    channel: Optional[int] = None
+    microvolts: int = 0
+
+
+@dataclass(frozen=True)
+class Bad:
+    """A bad line of a scenario: its number, counted from 1, and why it is one."""
+
+    number: int
+    line: bytes
+    reason: str
 
 
 def microvolts(volts: Volts) -> int:
@@ -45,30 +58,55 @@ def input_line(channel: int, volts: Volts) -> bytes:
     return b"input %d %d\n" % (channel, microvolts(volts))
 
 
-def read_scenario(name: "Union[str, os.PathLike[str]]") -> List[Entry]:
+def read_scenario(name: Name) -> List[Entry]:
     """The entries of a scenario's file. Raises ValueError at the first bad line, OSError where it can't be
     read.
     """
-    with open(name, "rb") as file:
-        lines = file.read().split(b"\n")
-    entries: List[Entry] = []
-    for number, line in enumerate(lines, 1):
-        if not line:
-            continue
-        entry, good = _entry(line)
-        if not good or (entries and entry.clock < entries[-1].clock):
-            raise ValueError("bad line %d of the scenario %s" % (number, os.fspath(name)))
-        entries.append(entry)
+    entries, bad = checked_scenario(name)
+    if bad:
+        raise ValueError("bad line %d of the scenario %s: %s" % (bad[0].number, os.fspath(name), bad[0].reason))
     return entries
 
 
-def _entry(line: bytes) -> Tuple[Entry, bool]:
-    """The entry that a line says, and whether it says one."""
-    said = ENTRY.fullmatch(line)
-    if said is None or len(line) > LONGEST_LINE:
-        return Entry(0, b""), False
-    clock, external, channel, level = said.groups()
-    if external:
-        return Entry(int(clock), b"external\n"), True
-    good = int(channel) <= CHANNELS and abs(int(level)) <= MOST_MICROVOLTS
-    return Entry(int(clock), b"input %d %d\n" % (int(channel), int(level))), good
+def checked_scenario(name: Name) -> Tuple[List[Entry], List[Bad]]:
+    """The entries of a scenario's file, and its bad lines. Raises OSError where it can't be read."""
+    with open(name, "rb") as file:
+        lines = file.read().split(b"\n")
+    entries: List[Entry] = []
+    bad: List[Bad] = []
+    for number, line in enumerate(lines, 1):
+        if line:
+            try:
+                entries.append(entry_of(line, entries[-1].clock if entries else 0))
+            except ValueError as fault:
+                bad.append(Bad(number, line, str(fault)))
+    return entries, bad
+
+
+def entry_of(line: bytes, last: int = 0) -> Entry:
+    """The entry that a line says, not before this millisecond. Raises ValueError, with the reason."""
+    if len(line) > LONGEST_LINE:
+        raise ValueError("it has more than %d bytes" % LONGEST_LINE)
+    clock, *words = line.split(b" ")
+    if not DIGITS.fullmatch(clock):
+        raise ValueError("a time is a whole number of milliseconds, of 1 to 18 digits, and not %s" % shown(clock))
+    if int(clock) < last:
+        raise ValueError("a time may not be before the one in front of it, %d: %d" % (last, int(clock)))
+    if words == [b"external"]:
+        return Entry(int(clock), b"external\n")
+    if len(words) != 3 or words[0] != b"input":
+        raise ValueError("behind the time stands `external` or `input CHANNEL MICROVOLTS`, with one space "
+                         "between two words, and not %s" % shown(b" ".join(words)))
+    channel, level = words[1:]
+    if not CHANNEL.fullmatch(channel) or int(channel) > CHANNELS:
+        raise ValueError("a channel is a whole number, 1 to %d, and not %s" % (CHANNELS, shown(channel)))
+    if not LEVEL.fullmatch(level) or abs(int(level)) > MOST_MICROVOLTS:
+        raise ValueError("a voltage is a whole number of microvolts, of at most 18 digits, %d to %d, and not %s" % (
+            -MOST_MICROVOLTS, MOST_MICROVOLTS, shown(level)))
+    return Entry(int(clock), b"input %d %d\n" % (int(channel), int(level)), int(channel), int(level))
+
+
+def shown(word: bytes) -> str:
+    """What stands in a line, as far as it is short."""
+    text = word.decode("latin-1").encode("unicode_escape").decode()
+    return "`%s`" % text if len(text) <= SHOWN_MOST else "`%s`.." % text[:SHOWN_MOST]

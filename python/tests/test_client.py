@@ -12,7 +12,8 @@ from unittest import mock
 
 from scanvolt.program import Server
 from scanvolt.vxi11 import (CORE, BadReply, Channel, Client, DeviceError, GarbageArguments, Link,
-                            ProcedureUnavailable, ProgramMismatch, ProgramUnavailable, calls, port_of)
+                            ProcedureUnavailable, ProgramMismatch, ProgramUnavailable, calls, encode_reply,
+                            mark, port_of, record, words)
 
 SCENARIO = "0 input 1 1250000\n0 input 2 -300000\n0 input 3 7500000\n"
 
@@ -213,8 +214,7 @@ class OldVersion(calls.Call[None]):
 class Peers(unittest.TestCase):
     """Servers of one connection that answer with bytes given here."""
 
-    LINK = ("80000028 00000001 00000001 00000000 00000000 00000000 00000000"
-            "00000000 00000001 00001001 00001000")
+    LINK = encode_reply(1, words(0, 1, 4097, 4096))
 
     def link(self, *answers: bytes, patience: float = 5) -> Link:
         """A link to a peer that sends these bytes, each behind a call, and then closes."""
@@ -229,7 +229,7 @@ class Peers(unittest.TestCase):
     @staticmethod
     def answer(listener: socket.socket, answers: Tuple[bytes, ...]) -> None:
         with listener, listener.accept()[0] as peer:
-            for answer in (bytes.fromhex(Peers.LINK), *answers):
+            for answer in (Peers.LINK, *answers):
                 if not peer.recv(1000):
                     return
                 peer.sendall(answer)
@@ -248,21 +248,20 @@ class Peers(unittest.TestCase):
 
     def test_another_reply(self) -> None:
         with self.assertRaises(BadReply):
-            self.link(bytes.fromhex("80000004 00000009")).readstb()
+            self.link(record(words(9))).readstb()
 
     def test_a_reply_in_fragments(self) -> None:
-        link = self.link(bytes.fromhex("00000005 00000002 00 8000001b 000001 00000000 00000000 00000000"
-                                       "00000000 00000000 00000058"))
+        body = encode_reply(2, words(0, 88))[len(mark(0)):]
+        link = self.link(mark(5, last=False) + body[:5] + mark(len(body) - 5) + body[5:])
         self.assertEqual(link.readstb(), 88)
 
     def test_a_result_that_cannot_be_read(self) -> None:
-        link = self.link(bytes.fromhex("8000001a 00000002 00000001 00000000 00000000 00000000 00000000 0000"))
+        link = self.link(encode_reply(2, words(0)[:2]))
         self.assertRaisesRegex(BadReply, "device_readstb", link.readstb)
 
     def test_writes_that_take_less(self) -> None:
         """What wasn't taken is written again; that nothing is taken is a fault."""
-        head = "80000020 %08x 00000001 00000000 00000000 00000000 00000000 00000000 %08x"
-        link = self.link(*(bytes.fromhex(head % reply) for reply in ((2, 2), (3, 4), (4, 0))))
+        link = self.link(*(encode_reply(xid, words(0, size)) for xid, size in ((2, 2), (3, 4), (4, 0))))
         self.assertEqual(link.write("*IDN?\n"), 6)
         self.assertRaisesRegex(BadReply, "took no byte of 6", link.write, "*IDN?\n")
 

@@ -1,9 +1,13 @@
-"""Records, calls and replies: the bytes of RFC 5531 and RFC 4506, written down by hand."""
+"""Records, calls and replies: the bytes of RFC 5531 and RFC 4506, written down by hand: bytes as others send
+them, and not as scanvolt.vxi11 has them.
+"""
 import unittest
 
 from scanvolt.vxi11 import (AuthenticationRefused, BadReply, GarbageArguments, ProcedureUnavailable,
                             ProgramMismatch, ProgramUnavailable, Reader, Records, RpcMismatch, SystemFault,
-                            XdrError, encode_call, opaque, read_call, read_reply, record, words)
+                            XdrError, calls, encode_call, encode_reply, mark, opaque, read_call, read_reply,
+                            record, words)
+from scanvolt.vxi11.rpc import RESULT_AT
 
 
 def data(*texts: str) -> bytes:
@@ -15,7 +19,7 @@ class Values(unittest.TestCase):
     """RFC 4506, section 4."""
 
     def test_words(self) -> None:
-        self.assertEqual(words(1, 0x0607AF, -1), data("00000001 000607af ffffffff"))
+        self.assertEqual(words(1, 0x123456, -1), data("00000001 00123456 ffffffff"))
 
     def test_opaque_is_filled_up(self) -> None:
         self.assertEqual(opaque(b""), data("00000000"))
@@ -41,6 +45,7 @@ class Marks(unittest.TestCase):
 
     def test_one_fragment(self) -> None:
         self.assertEqual(record(b"abcde"), data("80000005 6162636465"))
+        self.assertEqual((mark(5), mark(5, last=False)), (data("80000005"), data("00000005")))
 
     def test_pieces_of_any_size(self) -> None:
         stream = data("00000002 6162 80000001 63", "80000000", "00000000 80000004 64656667")
@@ -67,14 +72,14 @@ class Messages(unittest.TestCase):
     SUCCESS = "00000007 00000001 00000000 00000000 00000000 00000000"
 
     def test_a_call(self) -> None:
-        self.assertEqual(encode_call(0x12345678, 0x0607AF, 1, 10), self.CALL)
-        self.assertEqual(encode_call(0x12345678, 0x0607AF, 1, 10, b"\0\0\0\1"),
+        self.assertEqual(encode_call(0x12345678, calls.CORE, 1, calls.CREATE_LINK), self.CALL)
+        self.assertEqual(encode_call(0x12345678, calls.CORE, 1, calls.CREATE_LINK, b"\0\0\0\1"),
                          data("8000002c") + self.CALL[4:] + data("00000001"))
 
     def test_a_call_that_came(self) -> None:
         found = read_call(self.CALL[4:] + b"\0\0\0\5")
         self.assertEqual((found.xid, found.program, found.version, found.procedure, found.arguments),
-                         (0x12345678, 0x0607AF, 1, 10, b"\0\0\0\5"))
+                         (0x12345678, calls.CORE, 1, calls.CREATE_LINK, b"\0\0\0\5"))
 
     def test_a_call_with_a_credential(self) -> None:
         found = read_call(data("00000001 00000000 00000002 000607b1 00000001 0000001e",
@@ -88,6 +93,10 @@ class Messages(unittest.TestCase):
 
     def test_a_result(self) -> None:
         self.assertEqual(read_reply(data(self.SUCCESS, "00000000 0000000f"), 7), data("00000000 0000000f"))
+
+    def test_a_reply(self) -> None:
+        self.assertEqual(encode_reply(7, b"abcd"), data("8000001c", self.SUCCESS, "61626364"))
+        self.assertEqual(encode_reply(7, b"abcd")[RESULT_AT:], b"abcd")
 
     def test_a_result_behind_a_verifier(self) -> None:
         body = data("00000007 00000001 00000000 00000002 00000003 61626300 00000000", "00000009")

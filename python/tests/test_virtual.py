@@ -16,6 +16,7 @@ from scanvolt.vxi11 import (CORE, DeviceError, GarbageArguments, Link, Procedure
 
 Value = TypeVar("Value")
 REAL_TIME = 0.05        # seconds that a measurement of 2,048 ms may take, by the proved program
+TRIES = 20              # how often it may take longer
 
 
 class WithMeter(unittest.TestCase):
@@ -179,17 +180,20 @@ class Moments(WithMeter):
                 self.assertEqual(answer.count(","), channels * count - 1)
 
     def test_the_longest_measurement(self) -> None:
-        """2,048 ms, whose response of 20,480 bytes is read whole, in little real time."""
+        """2,048 ms, whose response of 20,480 bytes is read whole, in little real time: the least of some, since
+        others use the machine too.
+        """
         passed: List[float] = []
         self.link.write("CONF:VOLT (@1:128);:TRIG:COUN 16")
-        for _ in range(3):
+        while len(passed) < TRIES and min(passed, default=REAL_TIME) >= REAL_TIME:
             began = time.perf_counter()
             self.link.write("READ?")
             answer = self.takes(2048, self.link.read)
             passed.append(time.perf_counter() - began)
             self.assertEqual(len(answer), 20480)
-        if "unproved" not in find_program():
-            self.assertLess(min(passed), REAL_TIME)
+            if "unproved" in find_program():
+                return
+        self.assertLess(min(passed), REAL_TIME)
 
     def test_without_a_second_program(self) -> None:
         """Where too many lines went by, time is tried millisecond by millisecond."""
@@ -212,8 +216,8 @@ class Moments(WithMeter):
         self.assertEqual(self.link.query("READ?")[:20], "+2.000000,-0.300000,")
 
     def test_long_times(self) -> None:
-        self.meter.advance(100000)
-        self.assertEqual(self.meter.clock, 100000)
+        self.meter.advance(10 ** 5)
+        self.assertEqual(self.meter.clock, 10 ** 5)
         self.assertRaises(ValueError, self.meter.advance, -1)
 
     def test_python_s_clock(self) -> None:

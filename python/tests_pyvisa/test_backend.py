@@ -129,7 +129,7 @@ class Messages(WithResource):
         for count in (1, 8, 15, 16):
             self.resource.write("CONF:VOLT (@1:128);:TRIG:COUN %d" % count)
             self.resource.write("READ?")
-            for chunk in (20480, 4096, 10240, 8192, 100000):
+            for chunk in (20480, 4096, 10240, 8192, 10 ** 5):
                 with self.subTest(count=count, chunk=chunk):
                     self.resource.chunk_size = chunk
                     self.assertEqual(len(self.resource.read_raw()), 1280 * count)

@@ -3,13 +3,13 @@ import socket
 import threading
 import time
 
-from attacking.calls import (CORE, CREATE_INTR_CHAN, ENABLE_SRQ, LOCK, PATIENCE, TIMEOUT, UNLOCK, WAITLOCK, Lost,
-                             Peer, opaque, words)
+from attacking.calls import PATIENCE, Lost, Peer
+from scanvolt.vxi11 import calls
 
+# The service requests that come: each has the next number as its xid.
 HANDLE = b"beside"
-# A call of device_intr_srq, but for its number: its length, and what stands in front and behind.
-CALL, FRONT = 56, words(0x80000000 | 52)
-BEHIND = words(0, 2, 0x0607B1, 1, 30, 0, 0, 0, 0) + opaque(HANDLE)
+REQUEST = calls.device_intr_srq(HANDLE)
+SIZE = len(REQUEST.encode(0))
 
 
 class Beside(threading.Thread):
@@ -47,10 +47,9 @@ class Requests(threading.Thread):
         self.peer.make_link()
         with socket.create_server(("127.0.0.1", 0)) as listener:
             listener.settimeout(PATIENCE)
-            remote = words(0x7F000001, listener.getsockname()[1], 0x0607B1, 1, 0)
-            self.peer.do(CREATE_INTR_CHAN, remote, b"")
+            self.peer.do(calls.create_intr_chan(calls.LOOPBACK, listener.getsockname()[1]))
             self.channel = listener.accept()[0]
-        self.peer.do(ENABLE_SRQ, words(self.peer.link, 1) + opaque(HANDLE), b"")
+        self.peer.do(calls.device_enable_srq(self.peer.link, HANDLE))
         self.count = 0          # calls that came, of which others may have raised some
         self.asked = 0          # requests that it raised
         self.data = b""
@@ -68,16 +67,16 @@ class Requests(threading.Thread):
         if not piece:
             raise Lost("the interrupt channel was closed")
         self.data += piece
-        while len(self.data) >= CALL:
+        while len(self.data) >= SIZE:
             self.count += 1
-            if self.data[:CALL] != FRONT + words(self.count) + BEHIND:
-                raise Lost("request %d is another: %s" % (self.count, self.data[:CALL].hex()))
-            self.data = self.data[CALL:]
+            if self.data[:SIZE] != REQUEST.encode(self.count):
+                raise Lost("request %d is another: %s" % (self.count, self.data[:SIZE].hex()))
+            self.data = self.data[SIZE:]
         return True
 
     def ask(self):
         """Raises one request, with the lock, so that nobody else does."""
-        self.peer.do(LOCK, words(self.peer.link, WAITLOCK, TIMEOUT), b"")
+        self.peer.lock()
         self.peer.write(b"*CLS;*SRE 4\n")
         self.peer.poll()
         while self.take(0):
@@ -91,7 +90,7 @@ class Requests(threading.Thread):
         if self.count != before + 1:
             raise Lost("%d requests came instead of one" % (self.count - before))
         self.asked += 1
-        self.peer.do(UNLOCK, words(self.peer.link), b"")
+        self.peer.unlock()
 
     def run(self):
         try:

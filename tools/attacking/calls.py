@@ -1,12 +1,11 @@
-"""Calls of VXI-11, and a peer that makes them."""
+"""A peer that makes calls of VXI-11, and may break off within one."""
 import socket
 import struct
 
-CORE, ABORT, PORTMAP = (0x0607AF, 1), (0x0607B0, 1), (100000, 2)
-CREATE_LINK, WRITE, READ, READSTB, CLEAR, LOCK, UNLOCK = 10, 11, 12, 13, 15, 18, 19
-ENABLE_SRQ, CREATE_INTR_CHAN, DESTROY_INTR_CHAN = 20, 25, 26
-DEVICE_ABORT, GETPORT = 1, 3
-WAITLOCK, END = 1, 8
+from scanvolt.vxi11 import DeviceError, Records, XdrError, calls, encode_reply, opaque, words
+from scanvolt.vxi11.errors import OUT_OF_RESOURCES
+from scanvolt.vxi11.rpc import RESULT_AT
+
 NAME = b"SCANVOLT,SV32,0,1.0\n"
 PATIENCE = 20           # seconds within which a reply has to come
 TIMEOUT = 15000         # the timeout of calls, in milliseconds
@@ -17,27 +16,11 @@ class Lost(Exception):
 
 
 class NoRoom(Lost):
-    """A link was refused for want of room: error 9."""
+    """A link was refused for want of room."""
 
 
 class Dropped(Exception):
     """A peer has sent all that it was to send."""
-
-
-def words(*numbers):
-    return b"".join(struct.pack(">I", number & 0xFFFFFFFF) for number in numbers)
-
-
-def opaque(data):
-    return words(len(data)) + data + bytes(-len(data) % 4)
-
-
-def record(payload):
-    return words(0x80000000 | len(payload)) + payload
-
-
-def call(xid, program, procedure, arguments=b""):
-    return record(words(xid, 0, 2, *program, procedure, 0, 0, 0, 0) + arguments)
 
 
 def reset(connection):
@@ -92,49 +75,65 @@ class Peer:
             data += piece
         return data
 
-    def result(self, program, procedure, arguments=b""):
+    def reply(self):
+        """The bytes of the next record, with its marks."""
+        records, data = Records(), b""
+        while True:
+            data += self.take(1 if records.left is None else records.left)
+            if records.push(data[records.count:]):
+                return data
+
+    def result(self, call):
         """Does a call; the bytes of its result."""
         self.xid += 1
-        self.send(call(self.xid, program, procedure, arguments))
-        head = struct.unpack(">I", self.take(4))[0]
-        reply = self.take(head & 0x7FFFFFFF)
-        if head < 0x80000000 or reply[:24] != words(self.xid, 1, 0, 0, 0, 0):
+        self.send(call.encode(self.xid))
+        reply = self.reply()
+        if reply != encode_reply(self.xid, reply[RESULT_AT:]):
             raise Lost("call %d has another reply: %s" % (self.xid, reply.hex()))
-        return reply[24:]
+        return reply[RESULT_AT:]
 
-    def do(self, procedure, arguments, expected):
-        """Does a call of the core channel that answers so, after error 0."""
-        found = self.result(CORE, procedure, arguments)
+    def do(self, call, expected=b""):
+        """Does a call of the core channel that answers so, behind no error."""
+        found = self.result(call)
         if found != words(0) + expected:
-            raise Lost("procedure %d answers otherwise: %s" % (procedure, found.hex()))
+            raise Lost("%s answers otherwise: %s" % (call.name, found.hex()))
 
     def make_link(self):
-        found = self.result(CORE, CREATE_LINK, words(1, 0, 0) + opaque(b"inst0"))
-        if found == words(9, 0, 0, 0):
+        call = calls.create_link(client=1)
+        found = self.result(call)
+        if found == words(OUT_OF_RESOURCES, 0, 0, 0):
             raise NoRoom("no room for a link")
-        if len(found) != 16 or found[:4] != words(0):
-            raise Lost("no link: %s" % found.hex())
-        self.link = struct.unpack(">I", found[4:8])[0]
+        try:
+            made = call.read(found)
+        except (DeviceError, XdrError) as fault:
+            raise Lost("no link: %s" % fault) from None
+        self.link = made.link
 
     def write(self, text):
-        arguments = words(self.link, TIMEOUT, TIMEOUT, END) + opaque(text)
-        self.do(WRITE, arguments, words(len(text)))
+        self.do(calls.device_write(self.link, text, TIMEOUT), words(len(text)))
+
+    def lock(self):
+        """Waits for the lock."""
+        self.do(calls.device_lock(self.link, TIMEOUT))
+
+    def unlock(self):
+        self.do(calls.device_unlock(self.link))
 
     def session(self):
         """The lock, a cleared instrument, its name, a poll, the lock freed; six replies."""
-        waiting = words(self.link, WAITLOCK, TIMEOUT)
-        self.do(LOCK, waiting, b"")
-        self.do(CLEAR, waiting + words(TIMEOUT), b"")
+        self.lock()
+        self.do(calls.device_clear(self.link, TIMEOUT, TIMEOUT))
         self.write(b"*IDN?\n")
-        wanted = words(self.link, 1024, TIMEOUT, TIMEOUT, 0, 0)
-        self.do(READ, wanted, words(4) + opaque(NAME))
+        self.do(calls.device_read(self.link, 1024, TIMEOUT), words(calls.ENDED) + opaque(NAME))
         self.poll()
-        self.do(UNLOCK, words(self.link), b"")
+        self.unlock()
         return 6
 
     def poll(self):
         """The status byte."""
-        found = self.result(CORE, READSTB, words(self.link, WAITLOCK, TIMEOUT, TIMEOUT))
-        if len(found) != 8 or found[:4] != words(0):
-            raise Lost("no status byte: %s" % found.hex())
-        return found[7]
+        call = calls.device_readstb(self.link, TIMEOUT, TIMEOUT)
+        found = self.result(call)
+        try:
+            return call.read(found)
+        except (DeviceError, XdrError) as fault:
+            raise Lost("no status byte: %s" % fault) from None

@@ -2,33 +2,34 @@
 import multiprocessing
 import time
 
-from attacking.calls import CORE, LOCK, PATIENCE, WAITLOCK, Lost, Peer, call, words
+from attacking.calls import PATIENCE, Lost, Peer
+from scanvolt.vxi11 import calls, encode_reply, words
+from scanvolt.vxi11.errors import LOCKED
 
 PROCESSES, EACH = 3, 4      # who asks, and on how many connections
 DEADLINES = 20
 WAIT = 100                  # milliseconds of a deadline
 LATEST = 1000               # milliseconds behind which a deadline counts as lost
-LOCKED = 11
 
 
 def ask(port, begun, ended):
     """Asks on each of its connections as soon as the last reply there came: calls that do nothing."""
     peers = [Peer(port) for _ in range(EACH)]
-    nothing = call(1, CORE, 0)
+    nothing = calls.null().encode(1)
     for peer in peers:
         peer.send(nothing)
     begun.release()
     while not ended.is_set():
         for peer in peers:
-            peer.take(28)
+            peer.take(len(encode_reply(1)))
             peer.send(nothing)
 
 
 def lateness(peer, first, second):
     """By how many milliseconds a call is late that waits in vain for the lock."""
-    peer.do(LOCK, words(first, 0, 0), b"")
+    peer.do(calls.device_lock(first))
     begun = time.monotonic()
-    found = peer.result(CORE, LOCK, words(second, WAITLOCK, WAIT))
+    found = peer.result(calls.device_lock(second, WAIT))
     late = 1000 * (time.monotonic() - begun) - WAIT
     if found != words(LOCKED):
         raise Lost("a call that waited for the lock answers otherwise: %s" % found.hex())

@@ -1,18 +1,18 @@
 """The hostile peers, each alone. A connection that is refused, dropped or reset is to be expected:
 it may be the seventeenth, or its bytes were no call.
 """
-import random
 import socket
 import time
 
-from attacking.calls import (ABORT, CORE, CREATE_INTR_CHAN, DESTROY_INTR_CHAN, DEVICE_ABORT, ENABLE_SRQ, GETPORT,
-                             LOCK, PORTMAP, READ, TIMEOUT, UNLOCK, WAITLOCK, Dropped, Lost, Peer, call, opaque,
-                             record, reset, words)
+from attacking.calls import TIMEOUT, Dropped, Lost, Peer, reset
+from scanvolt.vxi11 import calls, encode_call, encode_reply, mark, record, words
+from scanvolt.vxi11.errors import LOCKED, NOT_ESTABLISHED
 
 PLACES = 16
 LONGEST = 0xFFFFFFFF    # the longest timeout, in milliseconds
+ASK_PORT = calls.getport(calls.CORE, 1)
 # What leaves a connection no room while its call waits: further calls, or a record that is too long.
-FURTHER, TOO_LONG = call(1, CORE, 0) * 1000, bytes.fromhex("80002001")
+FURTHER, TOO_LONG = calls.null().encode(1) * 1000, mark(8193)
 
 
 def visit(server, chance):
@@ -25,9 +25,9 @@ def visit(server, chance):
             peer.make_link()
             peer.session()
         elif door == "abort":
-            peer.result(ABORT, DEVICE_ABORT, words(0))
+            peer.result(calls.device_abort(0))
         else:
-            peer.result(PORTMAP, GETPORT, words(*CORE, 6, 0))
+            peer.result(ASK_PORT)
     except (Dropped, ConnectionError):
         pass
     finally:
@@ -46,7 +46,7 @@ def noise(chance):
         elif kind == 1:
             data += record(rest)
         else:
-            data += call(len(data), CORE, chance.randrange(28), rest)
+            data += encode_call(len(data), calls.CORE, 1, chance.randrange(calls.DESTROY_INTR_CHAN + 2), rest)
     return data[:10000]
 
 
@@ -65,7 +65,7 @@ def reset_early(server, chance):
     """Resets while replies are on their way."""
     try:
         peer = Peer(server.core)
-        peer.send(call(1, CORE, 0) * chance.randrange(1, 200))
+        peer.send(calls.null().encode(1) * chance.randrange(1, 200))
         time.sleep(chance.choice((0, 0, 0.001)))
         reset(peer.socket)
     except ConnectionError:
@@ -75,7 +75,7 @@ def reset_early(server, chance):
 def half_close(server, chance):
     """Ends its own direction behind some calls, or within one; the server has to close."""
     with Peer(server.core) as peer:
-        data = call(1, CORE, 0) * 3
+        data = calls.null().encode(1) * 3
         try:
             peer.send(data[:chance.randrange(1, len(data) + 1)])
             peer.socket.shutdown(socket.SHUT_WR)
@@ -88,16 +88,16 @@ def half_close(server, chance):
 
 
 def remote(listener):
-    """The arguments of create_intr_chan to a port that is listened on."""
-    return words(0x7F000001, listener.getsockname()[1], 0x0607B1, 1, 0)
+    """A create_intr_chan to a port that is listened on."""
+    return calls.create_intr_chan(calls.LOOPBACK, listener.getsockname()[1])
 
 
 def raise_once(peer):
     """Raises a request for service, with the lock, and clears it."""
-    peer.do(LOCK, words(peer.link, WAITLOCK, TIMEOUT), b"")
+    peer.lock()
     peer.write(b"*CLS;*SRE 4;UNKNOWN\n")
     peer.write(b"*CLS;*SRE 0\n")
-    peer.do(UNLOCK, words(peer.link), b"")
+    peer.unlock()
 
 
 def interrupt_channel(server, chance):
@@ -108,20 +108,20 @@ def interrupt_channel(server, chance):
         peer.make_link()
         where = remote(listener)
         if kind == "leave":
-            peer.send(call(2, CORE, CREATE_INTR_CHAN, where))
+            peer.send(where.encode(2))
             peer.drop(chance)
             return
         if kind == "refuse":
             listener.close()
-        found = peer.result(CORE, CREATE_INTR_CHAN, where)
-        if found not in server.outcomes(6 if kind == "refuse" else 0):
+        found = peer.result(where)
+        if found not in server.outcomes(NOT_ESTABLISHED if kind == "refuse" else 0):
             raise Lost("create_intr_chan answers otherwise: %s" % found.hex())
         if kind == "reset" and found == words(0):
             reset(listener.accept()[0])
-            peer.do(ENABLE_SRQ, words(peer.link, 1) + opaque(b"hostile"), b"")
+            peer.do(calls.device_enable_srq(peer.link, b"hostile"))
             raise_once(peer)
-            found = peer.result(CORE, DESTROY_INTR_CHAN)
-            if found != words(6):
+            found = peer.result(calls.destroy_intr_chan())
+            if found != words(NOT_ESTABLISHED):
                 raise Lost("an interrupt channel that was reset stands: %s" % found.hex())
 
 
@@ -129,12 +129,12 @@ def take_the_lock(server, chance):
     """Takes the lock, or waits for it, and dies."""
     with Peer(server.core) as peer:
         peer.make_link()
-        lock = words(peer.link, WAITLOCK, TIMEOUT)
+        lock = calls.device_lock(peer.link, TIMEOUT)
         if chance.random() < 0.5:
-            peer.do(LOCK, lock, b"")
+            peer.do(lock)
             time.sleep(chance.choice((0, 0.001, 0.02)))
         else:
-            peer.send(call(9, CORE, LOCK, lock))
+            peer.send(lock.encode(9))
         peer.drop(chance)
 
 
@@ -142,34 +142,35 @@ def fill_channel(server, chance):
     """Raises 33 requests in one message: 32 of them find room on its channel."""
     with Peer(server.core) as peer, socket.create_server(("127.0.0.1", 0)) as listener:
         peer.make_link()
-        found = peer.result(CORE, CREATE_INTR_CHAN, remote(listener))
+        found = peer.result(remote(listener))
         if found not in server.outcomes(0):
             raise Lost("create_intr_chan answers otherwise: %s" % found.hex())
         if found != words(0):
             return
-        peer.do(ENABLE_SRQ, words(peer.link, 1) + opaque(b"filled"), b"")
-        peer.do(LOCK, words(peer.link, WAITLOCK, TIMEOUT), b"")
+        peer.do(calls.device_enable_srq(peer.link, b"filled"))
+        peer.lock()
         peer.write(b"*CLS;*SRE 4\n")
         peer.write(b";".join([b"*CLS;UNKNOWN"] * 33) + b"\n")
         peer.write(b"*CLS;*SRE 0\n")
-        peer.do(UNLOCK, words(peer.link), b"")
+        peer.unlock()
         if chance.random() < 0.5:
             channel = listener.accept()[0]
             channel.settimeout(peer.socket.gettimeout())
             with channel:
-                if len(channel.recv(32 * 56, socket.MSG_WAITALL)) != 32 * 56:
+                size = 32 * len(calls.device_intr_srq(b"filled").encode(1))
+                if len(channel.recv(size, socket.MSG_WAITALL)) != size:
                     raise Lost("a channel gets fewer calls than it has room for")
 
 
 def never_read(server, chance):
     """Sends calls and takes no reply, until no more of them are taken, and stays for a while."""
     with Peer(server.core, narrow=True) as peer:
-        rest = calls = call(1, CORE, 0) * 500
+        rest = nothing = calls.null().encode(1) * 500
         peer.socket.setblocking(False)
         end = time.monotonic() + chance.uniform(0.5, 3)
         while time.monotonic() < end:
             try:
-                rest = rest[peer.socket.send(rest):] or calls
+                rest = rest[peer.socket.send(rest):] or nothing
             except BlockingIOError:
                 time.sleep(0.02)
         peer.drop(chance)
@@ -183,14 +184,14 @@ def all_gone(server, behind):
     for peer in peers:
         peer.make_link()
     # The first holds the lock and reads what comes when a trigger does, which is never.
-    peers[0].do(LOCK, words(peers[0].link, 0, 0), b"")
+    peers[0].do(calls.device_lock(peers[0].link))
     peers[0].write(b"*RST;*CLS;:TRIG:SOUR EXT;:INIT;*OPC?\n")
     for place, peer in enumerate(peers):
         if place == 0:
-            waiting = call(9, CORE, READ, words(peer.link, 1024, LONGEST, 0, 0, 0))
+            waiting = calls.device_read(peer.link, 1024, LONGEST)
         else:
-            waiting = call(9, CORE, LOCK, words(peer.link, WAITLOCK, LONGEST))
-        peer.send(waiting + behind)
+            waiting = calls.device_lock(peer.link, LONGEST)
+        peer.send(waiting.encode(9) + behind)
     time.sleep(0.2)
     for peer in peers:
         peer.socket.setblocking(False)
@@ -217,14 +218,15 @@ def half_closed(server):
     with Peer(server.core) as holder, Peer(server.core) as peer:
         holder.make_link()
         peer.make_link()
-        holder.do(LOCK, words(holder.link, 0, 0), b"")
-        peer.send(call(9, CORE, LOCK, words(peer.link, WAITLOCK, 300)) + FURTHER)
+        holder.do(calls.device_lock(holder.link))
+        peer.send(calls.device_lock(peer.link, 300).encode(9) + FURTHER)
         peer.socket.shutdown(socket.SHUT_WR)
+        wanted = encode_reply(9, words(LOCKED))
         try:
-            found = peer.take(32)
+            found = peer.take(len(wanted))
         except OSError as fault:
             raise Lost("a call that waits isn't answered where its peer sends no more: %s" % fault) from None
-        if found != record(words(9, 1, 0, 0, 0, 0, 11)):
+        if found != wanted:
             raise Lost("where its peer sends no more, a call is answered otherwise: %s" % found.hex())
 
 
@@ -233,17 +235,18 @@ def urgent(server, chance):
     with Peer(server.core) as peer:
         peer.make_link()
         peer.socket.settimeout(1)
-        calls = [call(xid, CORE, 0) for xid in (7, 8)]
-        cut = chance.randrange(len(calls[1]))
+        first, second = (calls.null().encode(xid) for xid in (7, 8))
+        wanted = encode_reply(7) + encode_reply(8)
+        cut = chance.randrange(len(second))
         try:
-            peer.socket.sendall(calls[0])
+            peer.socket.sendall(first)
             peer.socket.send(b"!", socket.MSG_OOB)
-            peer.socket.sendall(calls[1][:cut])
-            peer.socket.sendall(calls[1][cut:])
-            found = peer.take(2 * 28)
+            peer.socket.sendall(second[:cut])
+            peer.socket.sendall(second[cut:])
+            found = peer.take(len(wanted))
         except socket.timeout:
             raise Lost("a call behind a byte of urgent data isn't answered") from None
-        if found != b"".join(record(words(xid, 1, 0, 0, 0, 0)) for xid in (7, 8)):
+        if found != wanted:
             raise Lost("calls around a byte of urgent data are answered otherwise: %s" % found.hex())
 
 
@@ -253,7 +256,7 @@ def all_places(server, taken=1):
         for _ in range(3):
             time.sleep(0.2)
             with Peer(server.portmap) as peer:
-                if peer.result(PORTMAP, GETPORT, words(*CORE, 6, 0)) != words(server.core):
+                if peer.result(ASK_PORT) != words(server.core):
                     raise Lost("the port mapper answers otherwise")
             time.sleep(0.2)
             peers = [Peer(server.core) for _ in range(PLACES - taken)]

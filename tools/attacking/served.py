@@ -6,7 +6,8 @@ import subprocess
 import threading
 import time
 
-from attacking.calls import PATIENCE, Lost, words
+from attacking.calls import PATIENCE, Lost
+from scanvolt.vxi11 import words
 
 TOOLS = os.path.dirname(os.path.dirname(os.path.abspath(__file__)))
 PROVED = os.path.dirname(TOOLS) + "/crates/scanvolt/out/scanvolt"

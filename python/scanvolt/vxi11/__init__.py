@@ -11,7 +11,7 @@ from .link import Carrier, Link, LinkCalls
 from .requests import RequestStream, ServiceRequest
 from .rpc import (AuthenticationRefused, BadReply, CallMessage, GarbageArguments, ProcedureUnavailable,
                   ProgramMismatch, ProgramUnavailable, Record, Records, RpcError, RpcMismatch, SystemFault,
-                  encode_call, read_call, read_reply, record)
+                  encode_call, encode_reply, mark, read_call, read_reply, record)
 from .xdr import Reader, XdrError, opaque, words
 
 __all__ = [
@@ -19,6 +19,6 @@ __all__ = [
     "Client", "DeviceError", "ENDED", "GarbageArguments", "INTERRUPT", "Link", "LinkCalls", "Made",
     "PORT_MAPPER", "Piece", "ProcedureUnavailable", "ProgramMismatch", "ProgramUnavailable",
     "REQUEST_COUNT", "Reader", "Record", "Records", "RequestStream", "RpcError", "RpcMismatch",
-    "ServiceRequest", "ServiceRequests", "SystemFault", "TERMINATOR", "XdrError", "encode_call", "name_of",
-    "opaque", "port_of", "read_call", "read_reply", "record", "words",
+    "ServiceRequest", "ServiceRequests", "SystemFault", "TERMINATOR", "XdrError", "encode_call",
+    "encode_reply", "mark", "name_of", "opaque", "port_of", "read_call", "read_reply", "record", "words",
 ]

@@ -1,4 +1,4 @@
-"""The calls of VXI-11 (revision 1.0, B.6) and GETPORT of the port mapper (RFC 1833, section 3).
+"""The calls of VXI-11 (revision 1.0, B.6), and GETPORT, SET and UNSET of the port mapper (RFC 1833, section 3).
 
 Each function gives a Call: its program, version, procedure and arguments, and how its result is read.
 Timeouts are milliseconds. `wait` is how long a call may take by its own timeouts, in milliseconds.
@@ -17,20 +17,27 @@ CREATE_LINK, DEVICE_WRITE, DEVICE_READ, DEVICE_READSTB, DEVICE_TRIGGER, DEVICE_C
 DEVICE_REMOTE, DEVICE_LOCAL, DEVICE_LOCK, DEVICE_UNLOCK = 16, 17, 18, 19
 DEVICE_ENABLE_SRQ, DEVICE_DOCMD = 20, 22
 DESTROY_LINK, CREATE_INTR_CHAN, DESTROY_INTR_CHAN = 23, 25, 26
-DEVICE_ABORT, DEVICE_INTR_SRQ, GETPORT = 1, 30, 3
+DEVICE_ABORT, DEVICE_INTR_SRQ = 1, 30
+SET, UNSET, GETPORT = 1, 2, 3
 NULL = 0
 
 NAMES = {
-    CORE: {10: "create_link", 11: "device_write", 12: "device_read", 13: "device_readstb", 14:
-    "device_trigger",        15: "device_clear", 16: "device_remote", 17: "device_local", 18: "device_lock",
-    19: "device_unlock",        20: "device_enable_srq", 22: "device_docmd", 23: "destroy_link", 25:
-    "create_intr_chan",        26: "destroy_intr_chan"}, ABORT: {1: "device_abort"}, INTERRUPT: {30:
-    "device_intr_srq"}, PORT_MAPPER: {3: "GETPORT"},
+    CORE: {
+        CREATE_LINK: "create_link", DEVICE_WRITE: "device_write", DEVICE_READ: "device_read",
+        DEVICE_READSTB: "device_readstb", DEVICE_TRIGGER: "device_trigger", DEVICE_CLEAR: "device_clear",
+        DEVICE_REMOTE: "device_remote", DEVICE_LOCAL: "device_local", DEVICE_LOCK: "device_lock",
+        DEVICE_UNLOCK: "device_unlock", DEVICE_ENABLE_SRQ: "device_enable_srq", DEVICE_DOCMD: "device_docmd",
+        DESTROY_LINK: "destroy_link", CREATE_INTR_CHAN: "create_intr_chan",
+        DESTROY_INTR_CHAN: "destroy_intr_chan"},
+    ABORT: {DEVICE_ABORT: "device_abort"},
+    INTERRUPT: {DEVICE_INTR_SRQ: "device_intr_srq"},
+    PORT_MAPPER: {SET: "SET", UNSET: "UNSET", GETPORT: "GETPORT"},
 }
 
 WAITLOCK, END, TERMCHRSET = 1, 8, 128               # flags of a call
 REQUEST_COUNT, TERMINATOR, ENDED = 1, 2, 4          # reasons of a read, whose sum is given
 TCP, UDP = 6, 17                                    # protocols of the port mapper
+PORT = 111                                          # that of the port mapper
 LOOPBACK = 0x7F000001                               # 127.0.0.1
 BY_TCP, BY_UDP = 0, 1                               # families of an interrupt channel
 SRQ_MOST = 40                                       # bytes of a handle
@@ -145,6 +152,10 @@ def _data(result: bytes) -> bytes:
 
 def _port(result: bytes) -> int:
     return Reader(result).word()
+
+
+def _said(result: bytes) -> bool:
+    return Reader(result).boolean()
 
 
 def _flags(lock_timeout: int) -> int:
@@ -263,6 +274,21 @@ def device_abort(link: int) -> Call[None]:
 def getport(program: int, version: int, protocol: int = TCP) -> Call[int]:
     """The port of a program, 0 where there is none. It goes to the port mapper."""
     return Call(PORT_MAPPER, GETPORT, words(program, version, protocol, 0), _port)
+
+
+def set_port(program: int, version: int, port: int, protocol: int = TCP) -> Call[bool]:
+    """Registers the port of a program; whether it was, which another registration forbids."""
+    return Call(PORT_MAPPER, SET, words(program, version, protocol, port), _said)
+
+
+def unset_port(program: int, version: int) -> Call[bool]:
+    """Takes back all ports of a program; whether there were any."""
+    return Call(PORT_MAPPER, UNSET, words(program, version, 0, 0), _said)
+
+
+def device_intr_srq(handle: bytes) -> Call[None]:
+    """A service request, which the instrument sends over an interrupt channel. It has no reply."""
+    return Call(INTERRUPT, DEVICE_INTR_SRQ, opaque(handle), _nothing)
 
 
 def read_service_request(arguments: bytes) -> bytes:

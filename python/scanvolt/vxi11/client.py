@@ -23,14 +23,17 @@ class Channel:
 
     patience is seconds that a reply may take, beyond the timeouts of its call: behind it the connection is
     closed, and ConnectionError raised. So it is where a call is interrupted, since its reply would be taken
-    for another's.
+    for another's. Who has a socket that is connected gives it.
     """
 
-    def __init__(self, host: str, port: int, patience: float = PATIENCE) -> None:
+    def __init__(self, host: str, port: int, patience: float = PATIENCE,
+                 connected: Optional[socket.socket] = None) -> None:
         self.host = host
         self.patience = patience
-        self.socket = socket.create_connection((host, port), patience)
-        self.socket.setsockopt(socket.IPPROTO_TCP, socket.TCP_NODELAY, 1)
+        if connected is None:
+            connected = socket.create_connection((host, port), patience)
+            connected.setsockopt(socket.IPPROTO_TCP, socket.TCP_NODELAY, 1)
+        self.socket = connected
         self.xid = 0
         self.records = Records()
         self.turn = threading.Lock()

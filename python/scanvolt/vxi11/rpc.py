@@ -6,6 +6,7 @@ from .xdr import Reader, XdrError, words
 
 CALL, REPLY = 0, 1              # types of a message
 ACCEPTED, DENIED = 0, 1         # what becomes of a call
+SUCCESS = 0                     # of one that is accepted: it was executed
 LAST = 0x80000000               # in the mark of a fragment: the record ends with it
 AUTH_MOST = 400                 # bytes that a credential or a verifier may have
 RPC_VERSION = 2
@@ -59,9 +60,14 @@ class AuthenticationRefused(RpcError):
         self.number = number
 
 
+def mark(size: int, last: bool = True) -> bytes:
+    """The mark of a fragment of so many bytes, the last one of its record or not (section 11)."""
+    return words((LAST if last else 0) | size)
+
+
 def record(payload: bytes) -> bytes:
-    """A record of one fragment (section 11)."""
-    return words(LAST | len(payload)) + payload
+    """A record of one fragment."""
+    return mark(len(payload)) + payload
 
 
 @dataclass(frozen=True)
@@ -121,6 +127,15 @@ def encode_call(xid: int, program: int, version: int, procedure: int, arguments:
     return record(words(xid, CALL, RPC_VERSION, program, version, procedure, 0, 0, 0, 0) + arguments)
 
 
+def encode_reply(xid: int, result: bytes = b"") -> bytes:
+    """The reply to a call that was executed, as a record, without verifier."""
+    return record(words(xid, REPLY, ACCEPTED, 0, 0, SUCCESS) + result)
+
+
+# Where the result of such a reply begins, in its record's bytes with its mark.
+RESULT_AT = len(encode_reply(0))
+
+
 @dataclass(frozen=True)
 class CallMessage:
     """A call that came."""
@@ -178,7 +193,7 @@ def _refusal(reader: Reader) -> Optional[RpcError]:
 
 def _accepted(status: int, reader: Reader) -> Optional[RpcError]:
     """What became of a call that was accepted."""
-    if status == 0:
+    if status == SUCCESS:
         return None
     if status == 2:
         return ProgramMismatch(reader.word(), reader.word())

@@ -1,42 +1,40 @@
 """The lines of a replay script: what happens, ticks, and what a scenario brings."""
+from typing import List, Tuple
+
+from ..stimulus import read_scenario
+from .flows import Point
 from .packets import Fault
 
 MOST = 1_000_000        # ticks of a line
 # A line that is refused and changes nothing: it tells how far the replay is.
 MARK, MARKED = "input 0 0", "refused 8"
+Scheduled = Tuple[int, str]
 
 
-def scenario(path):
+def scenario(path: str) -> List[Scheduled]:
     """The entries of a scenario: the tick, and the line of a replay."""
-    entries = []
     try:
-        with open(path, encoding="ascii") as text:
-            for number, line in enumerate(text, 1):
-                words = line.split()
-                if not words:
-                    continue
-                if not words[0].isdigit() or words[1:2] not in (["input"], ["external"]):
-                    raise Fault("%s: line %d is no entry of a scenario" % (path, number))
-                entries.append((int(words[0]), " ".join(words[1:])))
-    except (OSError, UnicodeDecodeError) as error:
+        return [(entry.clock, entry.line.decode().rstrip("\n")) for entry in read_scenario(path)]
+    except ValueError as error:
+        raise Fault(str(error)) from None
+    except OSError as error:
         raise Fault("the scenario can't be read: %s" % error) from None
-    return entries
 
 
 class Clock:
     """Writes ticks, and in front of and behind each what is due of the scenario."""
 
-    def __init__(self, entries):
+    def __init__(self, entries: List[Scheduled]) -> None:
         self.entries = entries
         self.next = 0
         self.ticks = 0
 
-    def due(self, lines):
+    def due(self, lines: List[str]) -> None:
         while self.next < len(self.entries) and self.entries[self.next][0] <= self.ticks:
             lines.append(self.entries[self.next][1])
             self.next += 1
 
-    def reach(self, ticks, lines):
+    def reach(self, ticks: int, lines: List[str]) -> None:
         """Lets the time pass until so many ticks."""
         self.due(lines)
         while self.ticks < ticks:
@@ -48,10 +46,10 @@ class Clock:
             self.due(lines)
 
 
-def script(points, ticks, entries, mark=False):
+def script(points: List[Point], ticks: List[int], entries: List[Scheduled], mark: bool = False) -> List[str]:
     """The lines of these points, with so many ticks in front of each."""
     clock = Clock(entries)
-    lines = []
+    lines: List[str] = []
     for point, count in zip(points, ticks):
         clock.reach(count, lines)
         lines += point.lines

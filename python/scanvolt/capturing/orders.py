@@ -3,41 +3,43 @@
 A call that came while the server swept was taken in the next sweep, behind calls that came later on
 connections of lower numbers. A capture doesn't show that of calls that had to wait, as for the lock.
 """
-from .flows import reply_at
+from typing import Dict, Iterator, List, Optional, Tuple
+
+from .flows import Flow, Point, Reply, reply_at
 
 NEAR = 3_000_000        # how many nanoseconds such calls are apart
 
 
-def turn_of(points, flow, place):
+def turn_of(points: List[Point], flow: Flow, place: int) -> Optional[str]:
     """The line that takes the call of a reply, if it is a call of a connection."""
     return next(("turn " + name[1:] for name, one in points[place].owners.items()
                  if one is flow and name[0] == "c"), None)
 
 
-def ahead(points, found, difference):
+def ahead(points: List[Point], found: Dict[int, bytearray], place: int, own: Flow) -> Iterator[Tuple[Flow, Reply]]:
     """Replies that the replay sent before this point, and the capture has later."""
-    due = {}
-    for point in points[:difference.point + 1]:
+    due: Dict[int, int] = {}
+    for point in points[:place + 1]:
         for flow, count in point.due:
             due[id(flow)] = count
-    flows = {id(one): one for one in points[difference.point].owners.values()}
+    flows = {id(one): one for one in points[place].owners.values()}
     for key, flow in flows.items():
-        if flow is not difference.flow and len(found.get(key, b"")) > due.get(key, 0):
+        if flow is not own and len(found.get(key, b"")) > due.get(key, 0):
             reply = reply_at(flow, due.get(key, 0))
             if reply is not None:
                 yield flow, reply
 
 
-def later(points, found, difference):
-    """Puts a call that the replay answered too early behind the one whose reply differs, one trial
-    after the other; each is undone before the next.
+def later(points: List[Point], found: Dict[int, bytearray], place: int, own: Flow,
+          reply: Optional[Reply]) -> Iterator[None]:
+    """Puts a call that the replay answered too early behind the one of this flow whose reply differs at this
+    point, one trial after the other; each is undone before the next.
     """
-    reply = reply_at(difference.flow, difference.place) if difference.flow else None
-    line = reply and turn_of(points, difference.flow, reply.turn)
-    if not line:
+    line = reply and turn_of(points, own, reply.turn)
+    if reply is None or not line:
         return
     target = points[reply.turn]
-    for flow, other in list(ahead(points, found, difference)):
+    for flow, other in list(ahead(points, found, place, own)):
         source, moved = points[other.turn], turn_of(points, flow, other.turn)
         near = 0 <= target.time - source.time <= NEAR and other.turn <= reply.turn < other.due
         if not near or moved not in source.lines or line not in target.lines:

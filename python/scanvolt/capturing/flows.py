@@ -1,7 +1,9 @@
 """What a session is made of: points in time, connections, and what the server sends on each."""
 from dataclasses import dataclass, field
+from typing import Dict, List, Optional, Tuple
 
-from .rpc import Records, call
+from ..vxi11 import CallMessage, Record, Records, XdrError, name_of, read_call
+from .streams import Stream
 
 ROOM = 16384        # bytes that the server keeps of a connection
 LONGEST = 8192      # bytes of a record
@@ -9,42 +11,45 @@ LONGEST = 8192      # bytes of a record
 
 @dataclass
 class Point:
-    """A moment of the session: how many ticks passed before it, the lines of what happens then, and
-    whose are the names of connections (c0) and interrupt channels (i0) in what the replay prints.
+    """A moment of the session: how many ticks passed before it, the lines of what happens then, and whose are
+    the names of connections (c0) and interrupt channels (i0) in what the replay prints.
     """
+
     time: int
     ticks: int
-    lines: list = field(default_factory=list)
-    owners: dict = field(default_factory=dict)
+    lines: List[str] = field(default_factory=list)
+    owners: "Dict[str, Flow]" = field(default_factory=dict)
     # What has to be there by now: a flow, and how many of its bytes.
-    due: list = field(default_factory=list)
+    due: "List[Tuple[Flow, int]]" = field(default_factory=list)
 
 
 @dataclass
 class Reply:
-    """A reply, or a call on an interrupt channel: where it lies in its flow, the name of the call,
-    the points of its turn and of its reply.
+    """A reply, or a call on an interrupt channel: where it lies in its flow, the name of the call, the points
+    of its turn and of its reply, and the call, where there is one.
     """
+
     start: int
     end: int
     name: str
     turn: int
     due: int
+    call: Optional[CallMessage] = None
 
 
 class Flow:
     """The bytes that the server sends on one stream, as the capture has them."""
 
-    def __init__(self, name, loose=False):
+    def __init__(self, name: str, loose: bool = False) -> None:
         self.name = name
         self.wanted = bytearray()
         self.records = Records()
-        self.replies = []
+        self.replies: List[Reply] = []
         # What comes behind these bytes isn't looked at: the capture doesn't have the stream, or
         # the peer closed it.
         self.loose = loose
 
-    def push(self, data, point):
+    def push(self, data: bytes, point: Point) -> List[Record]:
         """Takes bytes that were sent at this point; the records that are complete now."""
         self.wanted += data
         point.due.append((self, len(self.wanted)))
@@ -54,19 +59,19 @@ class Flow:
 class Connection:
     """A connection that the server has: what came on it, and which of its calls were taken."""
 
-    def __init__(self, stream, number, role):
+    def __init__(self, stream: Stream, number: int, role: str) -> None:
         self.stream = stream
         self.number = number
         self.role = role
         self.flow = Flow(stream.name())
         self.asks = Records()
         self.backlog = b""      # bytes that the server has no room for yet
-        self.records = []
-        self.calls = []
-        self.turns = []         # the point of each turn
-        self.channel = None     # the flow of its interrupt channel
+        self.records: List[Record] = []
+        self.calls: List[CallMessage] = []
+        self.turns: List[int] = []              # the point of each turn
+        self.channel: Optional[Flow] = None     # that of its interrupt channel
 
-    def room(self):
+    def room(self) -> int:
         """How many bytes the server takes of it (docs/DECISIONS.md has the count)."""
         left = self.asks.left
         if left is not None and len(self.asks.body) + left > LONGEST:
@@ -75,7 +80,7 @@ class Connection:
         kept = sum(4 + len(record.body) for record in unanswered)
         return max(0, ROOM - kept - self.asks.held())
 
-    def feed(self, data, lines):
+    def feed(self, data: bytes, lines: List[str]) -> None:
         """Gives the server bytes, as far as it has room; the rest follows later."""
         self.backlog += data
         while self.backlog and self.room():
@@ -83,18 +88,31 @@ class Connection:
             lines.append("bytes %d %s" % (self.number, piece.hex()))
             found = self.asks.push(piece)
             self.records += found
-            self.calls += [call(record.body) for record in found]
+            self.calls += [call_of(record.body) for record in found]
 
-    def is_ready(self):
+    def is_ready(self) -> bool:
         """Whether its next call can be taken: the calls before it have their replies."""
         return len(self.turns) == len(self.flow.replies) < len(self.calls)
 
-    def turn(self, place, lines):
+    def turn(self, place: int, lines: List[str]) -> None:
         """Has its next call taken, at the point of this place."""
         self.turns.append(place)
         lines.append("turn %d" % self.number)
 
 
-def reply_at(flow, place):
+def call_of(body: bytes) -> CallMessage:
+    """The call that a record says; one of no program where it says none."""
+    try:
+        return read_call(body)
+    except XdrError:
+        return CallMessage(0, 0, 0, 0, b"")
+
+
+def name(call: CallMessage) -> str:
+    """The name of a call's procedure."""
+    return name_of(call.program, call.procedure) if call.program else "a call that can't be read"
+
+
+def reply_at(flow: Flow, place: int) -> Optional[Reply]:
     """The reply that has this byte of a flow, if there is one."""
     return next((reply for reply in flow.replies if reply.end > place), None)

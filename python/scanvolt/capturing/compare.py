@@ -3,11 +3,13 @@ import re
 import subprocess
 import time
 from dataclasses import dataclass
+from typing import Dict, Iterable, Iterator, List, Optional, Tuple
 
 from . import orders
-from .flows import reply_at
+from .flows import Flow, Point, reply_at
 from .packets import Fault
-from .script import MARKED, script
+from .script import MARKED, Scheduled, script
+from .session import Session
 
 NEAR = 100              # each start so many milliseconds off is tried
 STARTS = 150            # and so many farther off for each kind of entry of the scenario
@@ -19,17 +21,18 @@ LINE = re.compile(r"refused \d+|[ci]\d+ (?:[0-9a-f]{2})+")
 
 @dataclass
 class Difference:
-    """The first difference: `differs`, `missing`, `more` or `refused`, at a byte of a flow that was
-    met at this point, and what the replay has there.
+    """The first difference: `differs`, `missing`, `more` or `refused`, at a byte of a flow that was met at this
+    point, and what the replay has there.
     """
+
     kind: str
     point: int
-    flow: object = None
+    flow: Optional[Flow] = None
     place: int = 0
     found: bytes = b""
 
 
-def replies(program, lines, count):
+def replies(program: str, lines: List[str], count: int) -> List[List[List[str]]]:
     """What the replay prints behind each of so many points."""
     text = "".join(line + "\n" for line in lines).encode()
     try:
@@ -39,7 +42,7 @@ def replies(program, lines, count):
     if told.returncode != 0:
         raise Fault("%s replay: status %d, %s" % (
             program, told.returncode, told.stderr.decode(errors="replace").strip()))
-    blocks = [[]]
+    blocks: List[List[List[str]]] = [[]]
     for line in told.stdout.decode(errors="replace").splitlines():
         if line == MARKED:
             blocks.append([])
@@ -56,18 +59,18 @@ def replies(program, lines, count):
 class Comparison:
     """A session, and the program that replays it."""
 
-    def __init__(self, session, entries, program):
+    def __init__(self, session: Session, entries: List[Scheduled], program: str) -> None:
         self.points = session.points
         self.told = session.told    # whether the start was told
         self.ending = session.end - session.start - ENDING
         self.entries = entries
         self.program = program
-        self.found = {}
+        self.found: Dict[int, bytearray] = {}
         self.early = 0          # how many milliseconds the start is taken earlier than told
         self.swapped = 0        # calls that are taken later than told
         self.farthest = 0       # how many milliseconds off a start was tried
 
-    def first(self, ticks, last=None):
+    def first(self, ticks: List[int], last: Optional[int] = None) -> Optional[Difference]:
         """The first difference, up to the last point, with so many ticks in front of each."""
         points = self.points if last is None else self.points[:last + 1]
         lines = script(points, ticks, self.entries, mark=True)
@@ -79,7 +82,7 @@ class Comparison:
                 return difference
         return None
 
-    def at(self, number, point, block):
+    def at(self, number: int, point: Point, block: List[List[str]]) -> Optional[Difference]:
         """The first difference at a point."""
         for words in block:
             if words[0] == "refused":
@@ -94,7 +97,7 @@ class Comparison:
                 return Difference("missing", number, flow, len(found))
         return None
 
-    def sent(self, number, flow, data):
+    def sent(self, number: int, flow: Flow, data: bytes) -> Optional[Difference]:
         """The first difference in what is sent on a flow."""
         found = self.found.setdefault(id(flow), bytearray())
         begun = len(found)
@@ -109,7 +112,7 @@ class Comparison:
             return None
         return Difference("more", number, flow, len(flow.wanted), bytes(found))
 
-    def settle(self, slack):
+    def settle(self, slack: int) -> Tuple[Optional[Difference], List[int]]:
         """The first difference that remains where each point may have its ticks up to so many
         earlier or later, and the ticks of each point.
         """
@@ -123,7 +126,7 @@ class Comparison:
                 return difference, ticks
             ticks = trial
 
-    def better(self, ticks, difference, slack):
+    def better(self, ticks: List[int], difference: Difference, slack: int) -> Optional[List[int]]:
         """Ticks with which there is no difference up to this one's point, if some are found: those
         of one point moved, or the start.
         """
@@ -143,7 +146,7 @@ class Comparison:
                 return trial
         return None
 
-    def starts(self, difference):
+    def starts(self, difference: Difference) -> List[int]:
         """How many milliseconds earlier the server may have started, the least first, where a
         scenario tells the time: each that is near, and those at which an entry of the scenario
         comes about the time of the reply that differs. A start that wasn't told was no later than
@@ -159,20 +162,24 @@ class Comparison:
             found.update(self.farther(steps)[:STARTS])
         return self.farther(found)
 
-    def farther(self, steps):
+    def farther(self, steps: Iterable[int]) -> List[int]:
         """Those that are farther off than the start that is taken, the least first."""
         found = [step for step in steps if abs(step) > abs(self.early) and (step > 0 or self.told)]
         return sorted(found, key=lambda step: (abs(step), -step))
 
-    def reorder(self, ticks, difference):
+    def reorder(self, ticks: List[int], difference: Difference) -> bool:
         """Whether the difference is gone once a call is taken behind another connection's."""
-        for _ in orders.later(self.points, dict(self.found), difference):
+        flow = difference.flow
+        if flow is None:
+            return False
+        reply = reply_at(flow, difference.place)
+        for _ in orders.later(self.points, dict(self.found), difference.point, flow, reply):
             if self.first(ticks, difference.point) is None:
                 self.swapped += 1
                 return True
         return False
 
-    def trials(self, ticks, difference, slack):
+    def trials(self, ticks: List[int], difference: Difference, slack: int) -> Iterator[List[int]]:
         """Ticks of which one point has some more or fewer: that of the turn, that of the reply."""
         reply = reply_at(difference.flow, difference.place) if difference.flow else None
         places = [difference.point]
@@ -187,11 +194,11 @@ class Comparison:
                     if trial and self.is_near(trial, slack):
                         yield trial
 
-    def is_near(self, ticks, slack):
+    def is_near(self, ticks: List[int], slack: int) -> bool:
         return all(abs(count - max(0, point.ticks + self.early)) <= slack
                    for count, point in zip(ticks, self.points))
 
-    def moved(self, ticks, place, step):
+    def moved(self, ticks: List[int], place: int, step: int) -> Optional[List[int]]:
         """The ticks with some more or fewer at a point; others give way."""
         count = ticks[place] + step
         if count < 0:

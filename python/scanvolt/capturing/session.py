@@ -5,8 +5,13 @@ whole milliseconds pass that are over, and writes. So a call is taken where its 
 behind the reply of the call before it. Milliseconds that were over when something came have passed
 in front of it: a sweep of their own has them, where the server slept meanwhile.
 """
-from .flows import Connection, Flow, Point, Reply
-from .rpc import CREATE_INTR_CHAN, CREATE_LINK, DESTROY_INTR_CHAN, GETPORT, RESULT, result, word
+from typing import Dict, List, Optional, Set
+
+from ..vxi11 import CallMessage, Reader, Record, RpcError, XdrError, calls, read_reply, words
+from ..vxi11.errors import NOT_ESTABLISHED
+from ..vxi11.rpc import RESULT_AT
+from .flows import Connection, Flow, Point, Reply, name
+from .streams import Happening, Stream
 
 MILLISECOND = 10 ** 6
 WRITING = 100_000       # from the beginning of a sweep to its write
@@ -14,19 +19,22 @@ READING = 50_000        # from a write to the next sweep's reads
 TOGETHER = 500_000      # what comes within so many nanoseconds may have met one sweep
 CONNECTIONS = 16
 TOLD = {"core": 4096, "abort": 4097}     # the ports that the server of a replay tells
+# Where a result has a port: in the words of create_link's, of GETPORT's.
+LINK_PORT, ASKED_PORT = len(words(0, 0)), 0
 
 
 class Session:
     """What happened, point by point."""
 
-    def __init__(self, streams, ports, end, start=None):
+    def __init__(self, streams: List[Stream], ports: Dict[str, Set[int]], end: int,
+                 start: Optional[int] = None) -> None:
         self.ports = ports
-        self.points = []
-        self.numbers = {}       # the connections that are open, by number
-        self.connections = []
+        self.points: List[Point] = []
+        self.numbers: Dict[int, Connection] = {}        # the connections that are open, by number
+        self.connections: List[Connection] = []
         self.dropped = 0        # connections beyond the sixteenth
-        self.by_stream = {}
-        self.channels = {}      # the flows of interrupt channels, by their streams
+        self.by_stream: Dict[int, Connection] = {}
+        self.channels: Dict[int, Flow] = {}             # the flows of interrupt channels, by their streams
         self.unseen = 0         # interrupt channels that the capture doesn't have
         roles = {port: role for role, found in ports.items() for port in found}
         self.roles = {id(one): roles.get(one.callee[1]) for one in streams}
@@ -35,12 +43,12 @@ class Session:
         happenings.sort(key=lambda what: what.number)
         of_server = [what.time for what in happenings if self.roles[id(what.stream)]]
         self.told = start is not None
-        self.start = start if self.told else min(of_server, default=0)
+        self.start = start if start is not None else min(of_server, default=0)
         self.end = end          # the time of the last packet
         self.swept = self.start
         self.play(happenings)
 
-    def point(self, time):
+    def point(self, time: int) -> Point:
         """A new point, when a sweep began."""
         self.swept = max(self.swept, time)
         point = Point(time - self.start, (self.swept - self.start) // MILLISECOND)
@@ -51,12 +59,12 @@ class Session:
         self.points.append(point)
         return point
 
-    def here(self):
+    def here(self) -> int:
         return len(self.points) - 1
 
-    def play(self, happenings):
+    def play(self, happenings: List[Happening]) -> None:
         """Tells the happenings; calls that came together are taken as their replies came."""
-        burst = []
+        burst: List[Happening] = []
         for place, what in enumerate(happenings):
             server = self.roles[id(what.stream)]
             if server and what.kind in ("opened", "sent"):
@@ -70,7 +78,7 @@ class Session:
                 self.one(what, server)
         self.bring(burst, [])
 
-    def one(self, what, server):
+    def one(self, what: Happening, server: Optional[str]) -> None:
         """Tells what the server did, or what happened on an interrupt channel."""
         if not server:
             self.on_channel(what)
@@ -81,7 +89,7 @@ class Session:
             else:
                 self.close(connection, what)
 
-    def bring(self, burst, order):
+    def bring(self, burst: List[Happening], order: List[Stream]) -> None:
         """Connections open and bytes come, and calls are taken."""
         if not burst:
             return
@@ -96,9 +104,9 @@ class Session:
             connection.turn(self.here(), point.lines)
         self.swept = max(self.swept, burst[-1].time)
 
-    def in_order(self, burst):
+    def in_order(self, burst: List[Happening]) -> List[Connection]:
         """The connections on which bytes came, by the last of them."""
-        found = []
+        found: List[Connection] = []
         for what in burst:
             connection = self.by_stream.get(id(what.stream))
             if connection is None:
@@ -108,32 +116,34 @@ class Session:
             found.append(connection)
         return found
 
-    def open(self, stream, point):
+    def open(self, stream: Stream, point: Point) -> None:
         """A connection opens, under the lowest free number; without one it is dropped."""
         free = [number for number in range(CONNECTIONS) if number not in self.numbers]
         if not free:
             self.dropped += 1
             return
-        connection = Connection(stream, free[0], self.roles[id(stream)])
+        role = self.roles[id(stream)]
+        assert role is not None
+        connection = Connection(stream, free[0], role)
         self.numbers[free[0]] = connection
         self.by_stream[id(stream)] = connection
         self.connections.append(connection)
         point.lines.append("open %d %s" % (free[0], connection.role))
         point.owners["c%d" % free[0]] = connection.flow
 
-    def close(self, connection, what):
+    def close(self, connection: Connection, what: Happening) -> None:
         """A connection closes, and with it its interrupt channel."""
         point = self.point(what.time - WRITING)
         point.lines.append("close c%d" % connection.number)
         del self.numbers[connection.number]
         del self.by_stream[id(what.stream)]
 
-    def answer(self, connection, what):
+    def answer(self, connection: Connection, what: Happening) -> None:
         """The server sent bytes; calls that waited behind a reply are taken."""
         point = self.point(what.time - WRITING)
         for record in connection.flow.push(what.data, point):
             self.reply(connection, record, point)
-        lines = []
+        lines: List[str] = []
         connection.feed(b"", lines)
         # A sweep that reads the end of the stream closes it, and takes no call.
         left = connection.stream.left
@@ -144,51 +154,53 @@ class Session:
             if connection.is_ready():
                 connection.turn(self.here(), point.lines)
 
-    def reply(self, connection, record, point):
+    def reply(self, connection: Connection, record: Record, point: Point) -> None:
         """A reply is complete. What it tells of ports and channels is put in."""
-        place = len(connection.flow.replies)
+        place, flow = len(connection.flow.replies), connection.flow
         turn = connection.turns[place] if place < len(connection.turns) else self.here()
-        name, answered = "no call", None
-        if place < len(connection.calls):
-            answered = connection.calls[place]
-            name = answered.name()
-        connection.flow.replies.append(Reply(record.start, record.end, name, turn, self.here()))
-        if answered and connection.role == "core":
-            if answered.procedure == CREATE_LINK:
-                self.tell_port(connection.flow, record.start + RESULT + 8)
-            elif answered.procedure in (CREATE_INTR_CHAN, DESTROY_INTR_CHAN):
-                self.on_dial(connection, answered, word(result(record.body), 0), point)
-        elif answered and connection.role == "portmap" and answered.procedure == GETPORT:
-            self.tell_port(connection.flow, record.start + RESULT)
+        if place >= len(connection.calls):
+            flow.replies.append(Reply(record.start, record.end, "no call", turn, self.here()))
+            return
+        call = connection.calls[place]
+        flow.replies.append(Reply(record.start, record.end, name(call), turn, self.here(), call))
+        kind = (call.program, call.procedure)
+        if kind == (calls.CORE, calls.CREATE_LINK):
+            self.tell_port(flow, record.start + RESULT_AT + LINK_PORT)
+        elif kind == (calls.PORT_MAPPER, calls.GETPORT):
+            self.tell_port(flow, record.start + RESULT_AT + ASKED_PORT)
+        elif kind in ((calls.CORE, calls.CREATE_INTR_CHAN), (calls.CORE, calls.DESTROY_INTR_CHAN)):
+            self.on_dial(connection, call, error_of(record.body, call.xid), point)
 
-    def tell_port(self, flow, place):
+    def tell_port(self, flow: Flow, place: int) -> None:
         """In place of a port of this session, the one that the server of a replay has."""
-        told = word(flow.wanted, place)
         for role, port in TOLD.items():
-            if told in self.ports[role]:
-                flow.wanted[place:place + 4] = port.to_bytes(4, "big")
+            for told in map(words, self.ports[role]):
+                if flow.wanted[place:place + len(told)] == told:
+                    flow.wanted[place:place + len(told)] = words(port)
+                    return
 
-    def on_dial(self, connection, call, error, point):
+    def on_dial(self, connection: Connection, call: CallMessage, error: Optional[int], point: Point) -> None:
         """What became of an interrupt channel, by the reply of a call about it."""
         number = connection.number
         turn = self.points[connection.turns[len(connection.flow.replies) - 1]]
-        opens = call.procedure == CREATE_INTR_CHAN and error == 0
-        if connection.channel and (opens or call.procedure == DESTROY_INTR_CHAN and error == 6):
+        creates = call.procedure == calls.CREATE_INTR_CHAN
+        opens = creates and error == 0
+        if connection.channel and (opens or not creates and error == NOT_ESTABLISHED):
             # The server met a failed write before this call.
             turn.lines.insert(turn.lines.index("turn %d" % number), "close i%d" % number)
         if opens:
             point.lines.append("dialed %d ok" % number)
             connection.channel = self.channel(call, turn)
             point.owners["i%d" % number] = connection.channel
-        elif call.procedure == CREATE_INTR_CHAN and error == 6:
+        elif creates and error == NOT_ESTABLISHED:
             point.lines.append("dialed %d failed" % number)
-        elif call.procedure == DESTROY_INTR_CHAN:
+        elif not creates:
             connection.channel = None
 
-    def channel(self, call, turn):
+    def channel(self, call: CallMessage, turn: Point) -> Flow:
         """The flow of the interrupt channel that a call opened."""
-        address, port = word(call.arguments, 0), word(call.arguments, 4)
-        end = (".".join(str(byte) for byte in address.to_bytes(4, "big")), port)
+        reader = Reader(call.arguments)
+        end = (".".join(map(str, reader.take(4))), reader.word())
         for one in self.others:
             if one.callee == end and one.begun - self.start >= turn.time:
                 self.others.remove(one)
@@ -197,7 +209,7 @@ class Session:
         self.unseen += 1
         return Flow("interrupt channel to %s:%d" % end, loose=True)
 
-    def on_channel(self, what):
+    def on_channel(self, what: Happening) -> None:
         """The server sent bytes on an interrupt channel, or its peer closed it."""
         flow = self.channels[id(what.stream)]
         if what.kind == "sent":
@@ -208,12 +220,20 @@ class Session:
         elif what.kind == "closed":
             flow.loose = True
 
-    def flows(self):
+    def flows(self) -> List[Flow]:
         """The flows of all connections and of the interrupt channels that the capture has."""
         return [one.flow for one in self.connections] + list(self.channels.values())
 
 
-def answers(happenings):
+def error_of(body: bytes, xid: int) -> Optional[int]:
+    """The error that a reply begins its result with, if it has a result."""
+    try:
+        return Reader(read_reply(body, xid)).signed()
+    except (RpcError, XdrError):
+        return None
+
+
+def answers(happenings: List[Happening]) -> List[Stream]:
     """The streams on which the server answers next, before anything else happens."""
     found = []
     for what in happenings:
@@ -223,7 +243,7 @@ def answers(happenings):
     return found
 
 
-def as_answered(ready, order):
+def as_answered(ready: List[Connection], order: List[Stream]) -> List[Connection]:
     """Connections in the order in which they were answered; others keep their places."""
     places = {id(stream): place for place, stream in reversed(list(enumerate(order)))}
     answered = [one for one in ready if id(one.stream) in places]

@@ -1,0 +1,73 @@
+"""The TCP packets of a capture, as tshark reads them."""
+import os
+import subprocess
+from dataclasses import dataclass
+from typing import List, Sequence, Tuple
+
+FIELDS = ("frame.number", "frame.time_epoch", "tcp.stream", "ip.src", "tcp.srcport", "ip.dst", "tcp.dstport",
+          "tcp.seq", "tcp.ack", "tcp.flags", "tcp.len", "frame.len", "frame.cap_len")
+# TCP alone, with sequence numbers that begin with 0.
+PLAIN = ("-o", "tcp.desegment_tcp_streams:FALSE", "-o", "tcp.relative_sequence_numbers:TRUE",
+         "-o", "tcp.analyze_sequence_numbers:TRUE", "--disable-protocol", "rpc")
+FIN, SYN, RST, ACK = 1, 2, 4, 16
+End = Tuple[str, int]
+
+
+class Fault(Exception):
+    """Why a capture, or what else was given, can't be used."""
+
+
+@dataclass(frozen=True)
+class Packet:
+    """A packet. The time is in nanoseconds since 1970; an end is an address and a port; size is how many bytes
+    of the stream it has.
+    """
+
+    number: int
+    time: int
+    stream: int
+    source: End
+    target: End
+    seq: int
+    ack: int
+    flags: int
+    size: int
+
+
+def nanoseconds(text: str) -> int:
+    """Seconds in decimal, as nanoseconds."""
+    whole, _, part = text.partition(".")
+    if not (whole + part).isascii() or not (whole + part).isdigit():
+        raise Fault("not a time in seconds: %r" % text)
+    return int(whole or "0") * 10 ** 9 + int(part[:9].ljust(9, "0"))
+
+
+def tshark(path: str, words: Sequence[str]) -> List[str]:
+    """The lines that tshark prints of a capture."""
+    if not os.path.isfile(path):
+        raise Fault("there is no capture %s" % path)
+    try:
+        told = subprocess.run(["tshark", "-n", "-r", path, *PLAIN, *words], stdin=subprocess.DEVNULL,
+                              capture_output=True, text=True, check=False)
+    except FileNotFoundError:
+        raise Fault("tshark is missing: it is Debian's package tshark") from None
+    if told.returncode != 0:
+        why = [line for line in told.stderr.splitlines() if "dangerous" not in line]
+        raise Fault("tshark can't read it: " + (why[-1] if why else "status %d" % told.returncode))
+    return told.stdout.splitlines()
+
+
+def packet(line: str) -> Packet:
+    """The packet of a line that tshark printed."""
+    number, time, stream, source, from_port, target, to_port, seq, ack, flags, size, length, kept = line.split("\t")
+    if kept != length:
+        raise Fault("packet %s has %s of its %s bytes: capture whole packets" % (number, kept, length))
+    return Packet(int(number), nanoseconds(time), int(stream), (source, int(from_port)), (target, int(to_port)),
+                  int(seq), int(ack or "0"), int(flags, 16), int(size))
+
+
+def packets(path: str) -> List[Packet]:
+    """The TCP packets of a capture, in its order."""
+    words = ["-Y", "tcp && ip", "-T", "fields", "-E", "separator=/t", "-E", "occurrence=f"]
+    words += [word for name in FIELDS for word in ("-e", name)]
+    return [packet(line) for line in tshark(path, words) if line]

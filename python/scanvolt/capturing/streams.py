@@ -1,0 +1,209 @@
+"""TCP streams, whose bytes tshark put together: what happened on each, as the server met it."""
+import base64
+import binascii
+import re
+from collections import defaultdict
+from dataclasses import dataclass, field
+from typing import Dict, Iterable, List, Optional, Set
+
+from .packets import ACK, FIN, RST, SYN, End, Fault, Packet, tshark
+
+AT_ONCE = 200           # streams that one tshark follows
+# What tshark puts in where it has no bytes.
+LACKS = re.compile(rb"\[[0-9]+ bytes missing in capture file\]\0?")
+
+
+@dataclass
+class Happening:
+    """What happened on a stream: it was `opened`, its caller `sent` or its callee `answered` bytes, it was
+    `closed` by its callee, or `reset` by its caller.
+    """
+
+    time: int
+    number: int
+    kind: str
+    stream: "Stream"
+    data: bytes = b""
+
+
+@dataclass
+class Stream:
+    """A stream: who called, whom, and what happened on it; `left` is when its caller sent its end."""
+
+    caller: End
+    callee: End
+    begun: int
+    left: Optional[int] = None
+    happenings: List[Happening] = field(default_factory=list)
+
+    def name(self) -> str:
+        return "%s:%d to %s:%d" % (self.caller + self.callee)
+
+
+@dataclass
+class Piece:
+    """Bytes of the caller or of its callee, in order: the packet that brought them, and what tshark has there."""
+
+    packet: Packet
+    called: bool
+    data: bytes
+
+
+def followed(path: str, packets: Dict[int, Packet], numbers: List[int]) -> Dict[int, List[Piece]]:
+    """The bytes of these streams in both directions, as tshark follows them."""
+    found: Dict[int, List[Piece]] = defaultdict(list)
+    for start in range(0, len(numbers), AT_ONCE):
+        words = ["-q"]
+        for number in numbers[start:start + AT_ONCE]:
+            words += ["-z", "follow,tcp,yaml,%d" % number]
+        for one in pieces(tshark(path, words), packets):
+            found[one.packet.stream].append(one)
+    return found
+
+
+def pieces(lines: Iterable[str], packets: Dict[int, Packet]) -> Iterable[Piece]:
+    """The pieces that the lines of a print say: `packet: NUMBER`, `peer: 0` for the caller, and behind `data:`
+    lines of base64.
+    """
+    packet: Optional[Packet] = None
+    called, text = True, ""
+    for line in [*lines, "peers:"]:
+        if line.startswith("      "):
+            text += line.strip()
+            continue
+        if packet is not None and text:
+            yield Piece(packet, called, decoded(text))
+            packet, text = None, ""
+        head, _, number = line.partition(": ")
+        if head == "  - packet":
+            packet = packets.get(int(number))
+            if packet is None:
+                raise Fault("tshark follows packet %s, which it didn't read before" % number)
+        elif head == "    peer":
+            called = number == "0"
+
+
+def decoded(text: str) -> bytes:
+    """The bytes of a piece."""
+    try:
+        return base64.b64decode(text, validate=True)
+    except binascii.Error:
+        raise Fault("tshark prints what isn't base64: %s" % text[:60]) from None
+
+
+class Direction:
+    """What one side sent: how much of it the capture has, and how much the other side acknowledged."""
+
+    def __init__(self) -> None:
+        self.reached = 0        # the bytes up to the last that a packet had
+        self.known = 0          # the bytes that the other side has
+        self.end: Optional[Packet] = None       # the packet of the end of the direction
+
+    def take(self, packet: Packet) -> None:
+        """Takes a packet of this side. Its bytes are counted from 1: 0 is the beginning of the stream."""
+        if packet.size:
+            self.reached = max(self.reached, packet.seq + packet.size - 1)
+        if packet.flags & FIN and self.end is None:
+            self.end = packet
+
+    def acknowledged(self, packet: Packet) -> None:
+        """Takes a packet of the other side."""
+        if packet.flags & ACK and not packet.flags & RST:
+            self.known = max(self.known, packet.ack - 1)
+
+    def size(self) -> int:
+        """How many bytes there have to be."""
+        return max(self.reached, self.known - (1 if self.end is not None else 0))
+
+
+class Following:
+    """A stream as its packets come."""
+
+    def __init__(self, packet: Packet) -> None:
+        self.stream = Stream(packet.source, packet.target, packet.time)
+        self.sides = {True: Direction(), False: Direction()}
+        self.answered = False
+        self.opened: Optional[Packet] = None
+        self.reset: Optional[Packet] = None
+        self.pieces: List[Piece] = []
+
+    def take(self, packet: Packet) -> None:
+        """Takes a packet."""
+        called = packet.source == self.stream.caller
+        if packet.flags & SYN:
+            self.answered = self.answered or not called
+            return
+        if self.reset is not None or not self.answered:
+            return
+        self.sides[not called].acknowledged(packet)
+        if called and self.opened is None:
+            self.opened = packet
+        if packet.flags & RST:
+            self.reset = packet
+            return
+        self.sides[called].take(packet)
+        if called and packet.flags & FIN and self.stream.left is None:
+            self.stream.left = packet.time
+
+    def play(self, found: List[Piece]) -> None:
+        """What happened, with these bytes. Those of a direction come in order, whatever their packets did."""
+        self.pieces = found
+        if self.opened is None:
+            return
+        self.tell(self.opened, "opened")
+        latest = {True: self.opened, False: self.opened}
+        for one in found:
+            latest[one.called] = later(latest[one.called], one.packet)
+            self.tell(latest[one.called], "sent" if one.called else "answered", one.data)
+        end = self.sides[False].end
+        ends = [] if end is None else [later(end, latest[False])]
+        ends += [] if self.reset is None else [self.reset]
+        if ends:
+            over = min(ends, key=lambda packet: packet.number)
+            kept = [one for one in self.stream.happenings if one.number <= over.number]
+            self.stream.happenings[:] = kept
+            self.tell(over, "reset" if over.source == self.stream.caller else "closed")
+
+    def tell(self, packet: Packet, kind: str, data: bytes = b"") -> None:
+        """Something happened with this packet."""
+        self.stream.happenings.append(Happening(packet.time, packet.number, kind, self.stream, data))
+
+    def whole(self) -> None:
+        """Sees that no byte is missing that the capture or the other side has."""
+        for called, side in self.sides.items():
+            count = 0
+            for one in self.pieces:
+                if one.called == called:
+                    if LACKS.fullmatch(one.data):
+                        break
+                    count += len(one.data)
+            if count < side.size():
+                raise Fault("%s: the capture lacks bytes from %d on that the %s sent" % (
+                    self.stream.name(), count, "caller" if called else "callee"))
+
+
+def later(first: Packet, second: Packet) -> Packet:
+    """Which of two packets came later."""
+    return first if first.number >= second.number else second
+
+
+def streams(path: str, packets: List[Packet], ports: Set[int]) -> List[Stream]:
+    """The streams of a capture, in the order in which they began. Each of the server's ports has to be seen
+    from the beginning.
+    """
+    begun: Dict[int, Following] = {}
+    for packet in packets:
+        if packet.stream not in begun:
+            if packet.flags & (SYN | ACK) != SYN:
+                if packet.target[1] in ports or packet.source[1] in ports:
+                    raise Fault("packet %d: the connection %s:%d to %s:%d began before the capture" % (
+                        (packet.number,) + packet.source + packet.target))
+                continue
+            begun[packet.stream] = Following(packet)
+        begun[packet.stream].take(packet)
+    found = followed(path, {packet.number: packet for packet in packets}, sorted(begun))
+    for number, follow in begun.items():
+        follow.play(found[number])
+        if follow.stream.callee[1] in ports:
+            follow.whole()
+    return [follow.stream for follow in begun.values()]

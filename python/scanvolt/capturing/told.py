@@ -1,0 +1,143 @@
+"""What is told of a comparison."""
+from typing import List, Optional
+
+from ..vxi11 import CallMessage, Reader, XdrError, calls
+from .compare import Comparison, Difference
+from .flows import Connection, Flow, Point, Reply, reply_at
+from .session import Session
+
+ROW = 16        # bytes of a row
+AROUND = 2      # rows that are shown in front of the one that differs, and behind it
+TEXT_MOST = 100         # characters that are shown of a message
+
+
+def counted(count: int, one: str, many: Optional[str] = None) -> str:
+    return "%d %s" % (count, one if count == 1 else many or one + "s")
+
+
+def summary(session: Session) -> str:
+    """What the capture has."""
+    flows = session.flows()
+    count = sum(len(one.calls) for one in session.connections)
+    told = [counted(len(session.connections), "connection"), counted(count, "call"),
+            counted(sum(len(flow.replies) for flow in flows), "reply", "replies"),
+            counted(sum(len(flow.wanted) for flow in flows), "byte") + " of them"]
+    if session.channels:
+        told.insert(1, counted(len(session.channels), "interrupt channel"))
+    if session.dropped:
+        told.append(counted(session.dropped, "connection") + " beyond the sixteenth left out")
+    if session.unseen:
+        told.append(counted(session.unseen, "interrupt channel") + " not in the capture")
+    return ", ".join(told)
+
+
+def moves(comparison: Comparison, ticks: List[int]) -> str:
+    """How many points have other ticks than their times say."""
+    points, early = comparison.points, comparison.early
+    found = [abs(max(0, point.ticks + early) - count) for point, count in zip(points, ticks)]
+    count = sum(1 for one in found if one)
+    start = ""
+    if early:
+        start = " of a start %d ms %s" % (abs(early), "earlier" if early > 0 else "later")
+    if comparison.swapped:
+        start += ", %s behind another connection's" % counted(comparison.swapped, "call")
+    if not count:
+        return "at the ticks of the capture's times" + start
+    return "with the ticks of %d of %d events moved by at most %d ms%s" % (
+        count, len(points), max(found), start)
+
+
+def seconds(points: List[Point], place: int) -> str:
+    return "%.3f s behind the start" % (points[place].time / 1e9)
+
+
+def told(session: Session, difference: Difference) -> List[str]:
+    """The lines that tell a difference."""
+    points, flow = session.points, difference.flow
+    when = seconds(points, difference.point)
+    if flow is None:
+        return ["the replay refuses an event %s: refused %s" % (when, difference.found.decode()),
+                "  of: " + "; ".join(shown_line(line) for line in points[difference.point].lines)]
+    reply = reply_at(flow, difference.place)
+    if reply is None:
+        number, name = len(flow.replies) + 1, "no whole reply in the capture"
+        begin, end = (flow.replies[-1].end if flow.replies else 0), len(flow.wanted)
+    else:
+        number, name = flow.replies.index(reply) + 1, reply.name
+        begin, end = reply.start, reply.end
+    what = {"differs": "differs", "missing": "isn't sent by the replay until then",
+            "more": "isn't in the capture"}[difference.kind]
+    lines = ["reply %d (%s) of %s %s, %s" % (number, name, flow.name, what, when)]
+    lines += messages(session, flow, reply)
+    place = difference.place - begin
+    if difference.kind == "differs":
+        lines.append("  byte %d of the reply: %02x in the capture, %02x in the replay" % (
+            place, flow.wanted[difference.place], difference.found[difference.place]))
+    if end > begin:
+        lines += shown("the capture", bytes(flow.wanted[begin:end]), place)
+    if difference.found:
+        last = end if difference.kind == "differs" else None
+        lines += shown("the replay", bytes(difference.found[begin:last]), place)
+    return lines
+
+
+def shown(where: str, data: bytes, place: int) -> List[str]:
+    """Bytes in rows around a place: each row's first byte by its number, the bytes, and their text."""
+    row = place // ROW
+    starts = range(max(0, row - AROUND) * ROW, min(len(data), (row + AROUND + 1) * ROW), ROW)
+    lines = ["  %d bytes in %s:" % (len(data), where)]
+    for start in starts:
+        piece = data[start:start + ROW]
+        lines.append("  %s %6d  %-35s  %s" % (">" if start == row * ROW else " ", start, piece.hex(" ", -4),
+                                              "".join(map(shown_byte, piece))))
+    return lines
+
+
+def shown_byte(byte: int) -> str:
+    """A byte as text; a point where it is none."""
+    return chr(byte) if 32 <= byte < 127 else "."
+
+
+def messages(session: Session, flow: Flow, reply: Optional[Reply]) -> List[str]:
+    """The line of the message that was last written in front of a reply, on its link where it has one."""
+    connection = next((one for one in session.connections if one.flow is flow), None)
+    if connection is None or reply is None or reply.call is None:
+        return []
+    text = written(connection, reply.call)
+    return [] if not text else ["  behind the message: " + quoted(text)]
+
+
+def written(connection: Connection, call: CallMessage) -> bytes:
+    """The bytes that the last device_write had, this call or one in front of it, on the same link."""
+    place = next(number for number, one in enumerate(connection.calls) if one is call)
+    for one in reversed(connection.calls[:place + 1]):
+        if (one.program, one.procedure) == (calls.CORE, calls.DEVICE_WRITE):
+            try:
+                reader = Reader(one.arguments)
+                link = [reader.word() for _ in range(4)][0]
+                if call.procedure not in ON_A_LINK or Reader(call.arguments).word() == link:
+                    return reader.opaque()
+            except XdrError:
+                continue
+    return b""
+
+
+# Calls whose arguments begin with a link.
+ON_A_LINK = set(calls.NAMES[calls.CORE]) - {calls.CREATE_LINK, calls.CREATE_INTR_CHAN, calls.DESTROY_INTR_CHAN}
+
+
+def quoted(text: bytes) -> str:
+    """A message, whose bytes that are no text are escaped; its end, where it is long."""
+    found = text.decode("latin-1").encode("unicode_escape").decode()
+    return '"%s"' % found if len(found) <= TEXT_MOST else '.."%s"' % found[-TEXT_MOST:]
+
+
+def start_of(comparison: Comparison) -> str:
+    """That the start may be what is wrong."""
+    begin = "--start may be wrong" if comparison.told else (
+        "the start may be wrong: without --start it is the time of the first packet")
+    return "%s; `make serve` tells it. Starts up to %d ms off were tried" % (begin, comparison.farthest)
+
+
+def shown_line(line: str) -> str:
+    return line if len(line) <= 60 else line[:60] + ".."

@@ -1,0 +1,126 @@
+"""The calls of a captured session, done again by `scanvolt.virtual` at the same milliseconds: whether the replies
+are the same bytes, and the service requests the same, in the same order.
+"""
+from collections import deque
+from dataclasses import dataclass
+from typing import Deque, Dict, List, Optional, Tuple
+
+from ..program import Name
+from ..virtual import Connection, Meter, Pending
+from ..vxi11 import Call, CallMessage, RequestStream, calls, record
+from ..vxi11.errors import NOT_ESTABLISHED
+from .flows import Connection as Captured
+from .flows import call_of, name
+from .packets import Fault
+from .session import Session, error_of
+from .told import counted
+
+Requested = Tuple[int, str]         # its xid, and the handle
+
+
+@dataclass(frozen=True)
+class Sent(Call[None]):
+    """A call with the bytes that were captured."""
+
+    data: bytes = b""
+
+    def encode(self, xid: int) -> bytes:
+        return self.data
+
+
+class Again:
+    """A session in virtual time."""
+
+    def __init__(self, session: Session, ticks: List[int], program: Optional[Name], scenario: Optional[Name]) -> None:
+        self.session = session
+        self.ticks = ticks
+        self.open: Dict[int, Connection] = {}
+        self.left: Dict[int, Deque[Tuple[CallMessage, bytes, bool]]] = {}
+        self.done: List[List[Pending[None]]] = []       # the calls of each connection, also of one that ended
+        self.place: Dict[int, int] = {}                 # where those of an open one are
+        self.requests: List[Requested] = []
+        self.captured = iter(session.connections)
+        with Meter(program, scenario) as meter:
+            self.meter = meter
+            for point, clock in zip(session.points, ticks):
+                meter.advance(max(0, clock - meter.clock))
+                for line in point.lines:
+                    self.play(*line.split(" ", 2))
+
+    def play(self, kind: str, where: str, what: str = "") -> None:
+        """An event of the session."""
+        if kind == "open":
+            self.begin(int(where), what)
+        elif kind == "turn":
+            self.turn(int(where))
+        elif kind == "close" and where[0] == "c":
+            self.meter.drop(self.open.pop(int(where[1:])))
+        elif kind == "close":
+            self.meter.drop_channel(self.open[int(where[1:])])
+
+    def begin(self, number: int, role: str) -> None:
+        """A connection opens, with all calls that it has."""
+        connection = self.meter.connect(role)
+        if connection.number != number:
+            raise Fault("in virtual time connection %d is %d" % (number, connection.number))
+        connection.on_service_request(lambda one: self.requests.append((one.xid, one.handle.decode("latin-1"))))
+        captured = next(self.captured)
+        self.open[number], self.left[number] = connection, deque(sent(captured))
+        self.place[number] = len(self.done)
+        self.done.append([])
+
+    def turn(self, number: int) -> None:
+        """The next call of a connection comes, and is begun with."""
+        call, data, dials = self.left[number].popleft()
+        self.meter.dials = dials
+        again = Sent(call.program, call.procedure, call.arguments, lambda _: None, 0, data)
+        self.done[self.place[number]].append(self.open[number].start(again))
+
+    def differences(self) -> List[str]:
+        """What is otherwise than in the capture."""
+        told = []
+        for captured, done in zip(self.session.connections, self.done):
+            flow = captured.flow
+            for place, reply in enumerate(flow.replies):
+                wanted = bytes(flow.wanted[reply.start:reply.end])
+                found = record(done[place].body) if place < len(done) and done[place].body else b""
+                late = place < len(done) and (done[place].clock or 0) > self.ticks[reply.due]
+                if found != wanted or late:
+                    told.append("reply %d (%s) of %s: %s in the capture, %s in virtual time%s" % (
+                        place + 1, reply.name, flow.name, wanted.hex(), found.hex() or "none", " later" * late))
+        if self.requests != requested(self.session):
+            told.append("service requests %s in the capture, %s in virtual time" % (
+                requested(self.session), self.requests))
+        return told
+
+    def summary(self) -> str:
+        """What was the same."""
+        count = sum(len(one.flow.replies) for one in self.session.connections)
+        return "%s and %s are the same in virtual time" % (
+            counted(count, "reply", "replies"), counted(len(self.requests), "service request"))
+
+
+def sent(captured: Captured) -> List[Tuple[CallMessage, bytes, bool]]:
+    """The calls of a connection: each with its bytes, and whether the interrupt channel that it makes is
+    established.
+    """
+    found = []
+    for place, one in enumerate(captured.records):
+        call, dials = call_of(one.body), True
+        if place < len(captured.flow.replies) and name(call) == calls.NAMES[calls.CORE][calls.CREATE_INTR_CHAN]:
+            reply = captured.flow.replies[place]
+            body = bytes(captured.flow.wanted[reply.start:reply.end])[len(record(b"")):]
+            dials = error_of(body, call.xid) != NOT_ESTABLISHED
+        found.append((call, record(one.body), dials))
+    return found
+
+
+def requested(session: Session) -> List[Requested]:
+    """The service requests of a session, in the order in which they came."""
+    found: List[Tuple[int, Requested]] = []
+    for flow in session.channels.values():
+        stream = RequestStream()
+        for reply in flow.replies:
+            for one in stream.push(bytes(flow.wanted[reply.start:reply.end])):
+                found.append((reply.due, (one.xid, one.handle.decode("latin-1"))))
+    return [one for _, one in sorted(found, key=lambda pair: pair[0])]

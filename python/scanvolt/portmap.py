@@ -1,0 +1,140 @@
+"""Registers an instrument's ports with the port mapper of this machine (rpcbind), until it is ended.
+
+    scanvolt-portmap [--core PORT] [--abort PORT]
+
+Clients that ask port 111, as `lxi` and PyVISA-py, find the instrument then, whatever its ports are.
+rpcbind takes registrations over its socket /run/rpcbind.sock, or, begun with -i, from root over
+127.0.0.1. The line `ready` tells that the ports are registered. Ctrl-C and SIGTERM end it, and take
+them back.
+
+Status: 0 it was ended; 1 a program has a port already, by somebody else; 2 it can't be done, as
+where no port mapper answers or it refuses. Standard error has the reason.
+"""
+import argparse
+import errno
+import os
+import signal
+import socket
+import sys
+from typing import Dict, List, Optional, Tuple
+
+from .vxi11 import Channel, RpcError, calls
+from .vxi11.calls import ABORT, CORE, INTERRUPT, PORT
+
+NAME = "scanvolt-portmap"
+LOCAL = "/run/rpcbind.sock"
+PATIENCE = 10.0                         # seconds that the port mapper may take
+RESERVED = range(600, 1024)             # ports that root alone may call from
+ENDING = (signal.SIGINT, signal.SIGTERM, signal.SIGHUP)
+PROGRAMS = (("core", CORE, 4096), ("abort", ABORT, 4097), ("interrupt", INTERRUPT, None))
+
+
+class Fault(Exception):
+    """Why it can't be done, and the status of that."""
+
+    def __init__(self, text: str, status: int = 2) -> None:
+        super().__init__(text)
+        self.status = status
+
+
+def port_of(text: str) -> int:
+    """A port of the command line."""
+    if not (text.isascii() and text.isdigit() and 1 <= int(text) <= 65535):
+        raise argparse.ArgumentTypeError("not a port, 1 to 65535: %s" % text)
+    return int(text)
+
+
+def words(given: Optional[List[str]]) -> argparse.Namespace:
+    """The words of the command line."""
+    parser = argparse.ArgumentParser(
+        prog=NAME, description=__doc__, formatter_class=argparse.RawDescriptionHelpFormatter)
+    for name, _, usual in PROGRAMS:
+        parser.add_argument("--" + name, type=port_of, default=usual, metavar="PORT",
+                            help="its port; %s without it" % (usual or "none is registered"))
+    parser.add_argument("--port", type=port_of, default=PORT, help="that of the port mapper; %d without it" % PORT)
+    return parser.parse_args(given)
+
+
+def mapper(port: int) -> Channel:
+    """A connection to the port mapper: over its own socket, or over 127.0.0.1."""
+    if port == PORT and os.path.exists(LOCAL):
+        local = socket.socket(socket.AF_UNIX)
+        local.settimeout(PATIENCE)
+        try:
+            local.connect(LOCAL)
+            return Channel("", 0, PATIENCE, local)
+        except OSError:                 # one that ended left it
+            local.close()
+    try:
+        return Channel("", 0, PATIENCE, loopback(port))
+    except OSError as fault:
+        raise Fault("no port mapper answers, neither at %s nor at port %d of 127.0.0.1 (%s): is rpcbind there, "
+                    "and does it run?" % (LOCAL, port, fault.strerror or fault)) from None
+
+
+def loopback(port: int) -> socket.socket:
+    """A socket to a port of 127.0.0.1, from a reserved port where that may be had."""
+    for own in RESERVED:
+        try:
+            return socket.create_connection(("127.0.0.1", port), PATIENCE, ("127.0.0.1", own))
+        except OSError as fault:
+            if fault.errno not in (errno.EADDRINUSE, errno.EADDRNOTAVAIL):
+                break
+    return socket.create_connection(("127.0.0.1", port), PATIENCE)
+
+
+def register(port: int, wanted: Dict[int, Tuple[str, int]]) -> List[int]:
+    """Registers programs with their ports; what was registered is taken back where not all can be."""
+    made: List[int] = []
+    try:
+        with mapper(port) as channel:
+            for program, (name, wish) in wanted.items():
+                known = channel.do(calls.getport(program, 1))
+                if known:
+                    raise Fault("the %s program, %d, has port %d already, by somebody else; `rpcinfo -d %d 1`, by "
+                                "whoever registered it, takes that back" % (name, program, known, program), 1)
+                if not channel.do(calls.set_port(program, 1, wish)):
+                    raise Fault("the port mapper refuses port %d of the %s program: run this as root" % (wish, name))
+                made.append(program)
+    except (Fault, RpcError, OSError) as fault:
+        take_back(port, made)
+        raise fault if isinstance(fault, Fault) else told(fault) from None
+    return made
+
+
+def told(fault: Exception) -> Fault:
+    """What went wrong while the port mapper was asked."""
+    return Fault("the port mapper doesn't answer as one: %s" % fault)
+
+
+def take_back(port: int, made: List[int]) -> None:
+    """Takes the ports of programs back."""
+    if not made:
+        return
+    try:
+        with mapper(port) as channel:
+            for program in made:
+                if not channel.do(calls.unset_port(program, 1)):
+                    raise Fault("the port mapper knows no port of program %d any more" % program)
+    except (RpcError, OSError) as fault:
+        raise told(fault) from None
+
+
+def main(given_words: Optional[List[str]] = None) -> int:
+    """The command; its status."""
+    given = words(given_words)
+    wanted = {program: (name, getattr(given, name)) for name, program, _ in PROGRAMS if getattr(given, name)}
+    signal.pthread_sigmask(signal.SIG_BLOCK, ENDING)        # they wait, from here on, until they are looked at
+    try:
+        made = register(given.port, wanted)
+        print("ready: " + ", ".join("%s %d" % pair for pair in wanted.values()), flush=True)
+        signal.sigwait(ENDING)
+        take_back(given.port, made)
+    except Fault as fault:
+        print("%s: %s" % (NAME, fault), file=sys.stderr)
+        return fault.status
+    return 0
+
+
+if __name__ == "__main__":
+    sys.exit(main())

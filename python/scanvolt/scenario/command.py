@@ -1,0 +1,150 @@
+"""scanvolt-scenario [OPTION..] [CHANNELS=SHAPE..] : writes a scenario for `scanvolt serve`, draws or checks it.
+
+CHANNELS is a channel, or a range of them as 1:128, 1 to 128. A shape is one of these. V is a voltage in
+volts, S a time in seconds.
+
+  V                     the same voltage all the time
+  ramp:V:V[:S]          from one voltage to another in S seconds, and again; else once, to the end
+  sine:V:V:S            around a voltage, with an amplitude and a period
+  noise:V:V:SEED        around a voltage, at most so far away; a whole number chooses the values; in a
+                        range each channel has the next one
+  steps:V@S,V@S,..      a voltage from each of these times on
+
+  --seconds S           how long it lasts; 60 seconds if not said
+  --every MS            milliseconds between two values of a channel that changes; 100 if not said
+  --trigger MS          an external trigger every so many milliseconds
+  --csv FILE            values of a table: a line `time,CHANNEL,CHANNEL,..`, and then one line for
+                        each time, in seconds and volts; an empty field changes nothing
+  --of FILE             takes a scenario that exists, instead of shapes
+  --picture             prints a picture of it, 72 columns wide, instead of its lines
+  --check FILE          tells each bad line of a scenario that exists, and why it is one
+
+Status: 0; 1 where --check finds a bad line; 2 where it can't be done, and standard error says why.
+"""
+import getopt
+import signal
+import sys
+from decimal import Decimal
+from typing import Dict, List, Optional, Tuple
+
+from ..stimulus import CHANNELS, checked_scenario, shown
+from .picture import picture
+from .shapes import Pair, Wrong, changes, channels_of, milliseconds, number, whole
+from .table import table
+
+NAME = "scanvolt-scenario"
+MOST = 10 ** 7          # values of a channel
+OPTIONS = ("seconds=", "every=", "trigger=", "csv=", "of=", "check=", "picture", "help")
+Plan = Dict[int, List[Pair]]
+
+
+def parsed(name: str) -> Tuple[Plan, List[int]]:
+    """The channels and the triggers of a scenario that exists."""
+    plan: Plan = {}
+    triggers: List[int] = []
+    try:
+        entries, bad = checked_scenario(name)
+    except OSError as error:
+        raise Wrong("%s can't be read: %s" % (name, error.strerror)) from None
+    if bad:
+        raise Wrong("%s, line %d: %s" % (name, bad[0].number, bad[0].reason))
+    for entry in entries:
+        if entry.channel is None:
+            triggers.append(entry.clock)
+        else:
+            plan.setdefault(entry.channel, []).append((entry.clock, entry.microvolts))
+    return plan, triggers
+
+
+def check(name: str) -> int:
+    """Tells the bad lines of a scenario; the status."""
+    try:
+        entries, bad = checked_scenario(name)
+    except OSError as error:
+        raise Wrong("%s can't be read: %s" % (name, error.strerror)) from None
+    for one in bad:
+        print("%s, line %d: %s: %s" % (name, one.number, shown(one.line), one.reason))
+    if not bad:
+        print("%s: %d entries, up to %.3f s, no bad line" % (
+            name, len(entries), (entries[-1].clock if entries else 0) / 1000))
+    return 1 if bad else 0
+
+
+def lines(plan: Plan, triggers: List[int]) -> List[str]:
+    """The lines of a scenario; a value that doesn't change has none."""
+    events: List[Tuple[int, int, str]] = []
+    for channel, pairs in plan.items():
+        value: Optional[int] = None
+        for tick, new in pairs:
+            if new != value:
+                events.append((tick, channel, "%d input %d %d" % (tick, channel, new)))
+            value = new
+    events += [(tick, CHANNELS + 1, "%d external" % tick) for tick in triggers]
+    return [line for _, _, line in sorted(events, key=lambda event: event[:2])]
+
+
+def words_of(arguments: List[str]) -> Tuple[Dict[str, str], Dict[int, Tuple[str, int]]]:
+    """The options, and for each channel its shape and its place in its range."""
+    try:
+        pairs, words = getopt.gnu_getopt(arguments, "h", list(OPTIONS))
+    except getopt.GetoptError as error:
+        raise Wrong("%s; see --help" % error) from None
+    given: Dict[str, str] = {"--seconds": "60", "--every": "100", **dict(pairs)}
+    shapes: Dict[int, Tuple[str, int]] = {}
+    for word in words:
+        name, equals, shape = word.partition("=")
+        if not equals:
+            raise Wrong("neither an option nor CHANNELS=SHAPE: %s; see --help" % word)
+        for place, channel in enumerate(channels_of(name)):
+            if channel in shapes:
+                raise Wrong("channel %d is there twice" % channel)
+            shapes[channel] = (shape, place)
+    return given, shapes
+
+
+def existing(given: Dict[str, str], shapes: Dict[int, Tuple[str, int]]) -> Tuple[Plan, List[int], int]:
+    """The channels, the triggers and the length of a scenario that exists."""
+    if shapes or "--csv" in given or "--trigger" in given:
+        raise Wrong("--of takes a scenario as it is, without shapes, --csv and --trigger")
+    plan, triggers = parsed(given["--of"])
+    ticks = [tick for pairs in plan.values() for tick, _ in pairs] + triggers
+    return plan, triggers, max(ticks, default=0)
+
+
+def made(given: Dict[str, str], shapes: Dict[int, Tuple[str, int]]) -> Tuple[Plan, List[int], int]:
+    """The channels, the triggers and the length of what is asked for."""
+    if "--of" in given:
+        return existing(given, shapes)
+    length = milliseconds(number(given["--seconds"], "--seconds", Decimal("0.001")))
+    every = whole(given["--every"], "--every", 1, 10 ** 9)
+    period = whole(given["--trigger"], "--trigger", 1, 10 ** 9) if "--trigger" in given else every
+    if length // min(every, period) > MOST:
+        raise Wrong("there would be more than %d values of a channel, or triggers" % MOST)
+    plan = {channel: changes(shape, every, length, place) for channel, (shape, place) in shapes.items()}
+    for channel, pairs in (table(given["--csv"]) if "--csv" in given else {}).items():
+        if channel in plan:
+            raise Wrong("channel %d has a shape and a column" % channel)
+        plan[channel] = pairs
+    triggers = list(range(period, length + 1, period)) if "--trigger" in given else []
+    length = max([length] + [pairs[-1][0] for pairs in plan.values() if pairs])
+    if not plan and not triggers:
+        raise Wrong("there is nothing to write; see --help")
+    return plan, triggers, length
+
+
+def main(arguments: Optional[List[str]] = None) -> int:
+    """The command; its status."""
+    try:
+        given, shapes = words_of(sys.argv[1:] if arguments is None else arguments)
+        if "-h" in given or "--help" in given:
+            print((__doc__ or "").strip())
+            return 0
+        if "--check" in given:
+            return check(given["--check"])
+        plan, triggers, length = made(given, shapes)
+    except Wrong as error:
+        print("%s: %s" % (NAME, error), file=sys.stderr)
+        return 2
+    signal.signal(signal.SIGPIPE, signal.SIG_DFL)
+    print("\n".join(picture(plan, triggers, length) if "--picture" in given else lines(plan, triggers)))
+    return 0

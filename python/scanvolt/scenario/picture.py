@@ -1,0 +1,57 @@
+"""How a scenario looks, 72 columns wide."""
+from typing import Dict, List, Optional, Tuple
+
+from .shapes import Pair
+
+WIDTH, HEIGHT = 72, 5               # of a picture, and of a plot in it
+LABEL, COLUMNS = 14, WIDTH - 14     # of a plot's labels, and of what it shows
+Span = Tuple[int, int]
+
+
+def spans(pairs: List[Pair], length: int, columns: int) -> List[Span]:
+    """For each column of a plot the least and the greatest value that the channel has there."""
+    pairs = [(0, 0)] + pairs if not pairs or pairs[0][0] > 0 else pairs
+    found: List[Optional[Span]] = [None] * columns
+    for (tick, value), (end, _) in zip(pairs, pairs[1:] + [(length + 1, 0)]):
+        if tick > length or end <= tick:
+            continue
+        first, last = tick * columns // (length + 1), (end * columns - 1) // (length + 1)
+        for column in range(first, min(last, columns - 1) + 1):
+            low, high = found[column] or (value, value)
+            found[column] = (min(low, value), max(high, value))
+    return [span for span in found if span is not None]
+
+
+def plot(channel: int, pairs: List[Pair], length: int) -> List[str]:
+    """The lines of a channel."""
+    found = spans(pairs, length, COLUMNS)
+    low, high = min(span[0] for span in found), max(span[1] for span in found)
+    height = 1 if low == high else HEIGHT
+    rows = [[" "] * COLUMNS for _ in range(height)]
+    for column, span in enumerate(found):
+        top, bottom = (round((high - value) * (height - 1) / ((high - low) or 1)) for value in reversed(span))
+        for row in range(top, bottom + 1):
+            rows[row][column] = "*"
+    labels = ["%+.6f" % (high / 1e6)] + [""] * (height - 2) + ["%+.6f" % (low / 1e6)] * (height > 1)
+    return ["channel %d, volts" % channel] + [("%*s |%s" % (LABEL - 2, label, "".join(line))).rstrip()
+                                              for label, line in zip(labels, rows)]
+
+
+def trigger_row(triggers: List[int], length: int) -> List[str]:
+    """The lines of the external triggers."""
+    places = {tick * COLUMNS // (length + 1) for tick in triggers}
+    row = "".join("^" if column in places else " " for column in range(COLUMNS))
+    head = "%d external triggers, from %.3f s to %.3f s" % (
+        len(triggers), triggers[0] / 1000, triggers[-1] / 1000)
+    return [head, ("%*s |%s" % (LABEL - 2, "", row)).rstrip()]
+
+
+def picture(plan: Dict[int, List[Pair]], triggers: List[int], length: int) -> List[str]:
+    """The lines of a scenario's picture."""
+    drawn: List[str] = []
+    for channel in sorted(plan):
+        drawn += plot(channel, plan[channel], length)
+    if triggers:
+        drawn += trigger_row(triggers, length)
+    end = "%.3f s" % (length / 1000)
+    return drawn + [" " * (LABEL - 1) + "0" + end.rjust(COLUMNS)]

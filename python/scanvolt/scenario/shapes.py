@@ -1,0 +1,115 @@
+"""What a channel does: shapes, as pairs of a tick and microvolts."""
+import math
+import random
+import re
+from decimal import ROUND_HALF_UP, Decimal, InvalidOperation
+from typing import Callable, List, Optional, Tuple
+
+from ..stimulus import CHANNELS, MOST_MICROVOLTS
+
+LIMIT = MOST_MICROVOLTS // 10 ** 6      # volts
+Pair = Tuple[int, int]
+
+
+class Wrong(Exception):
+    """What was asked for can't be done."""
+
+
+def number(text: str, what: str, least: Optional[Decimal] = None) -> Decimal:
+    """A number of seconds or volts."""
+    try:
+        value = Decimal(text)
+    except InvalidOperation:
+        value = Decimal("NaN")
+    if not value.is_finite() or abs(value) > 10 ** 12:
+        raise Wrong("%s is no number, or too large a one: %s" % (what, text))
+    if least is not None and value < least:
+        raise Wrong("%s is below %s: %s" % (what, least, text))
+    return value
+
+
+def whole(text: str, what: str, least: int, most: int) -> int:
+    """A whole number between two."""
+    if not (re.fullmatch("[0-9]{1,20}", text) and least <= int(text) <= most):
+        raise Wrong("%s isn't a whole number from %d to %d: %s" % (what, least, most, text))
+    return int(text)
+
+
+def channel_of(text: str) -> int:
+    return whole(text, "a channel", 1, CHANNELS)
+
+
+def channels_of(text: str) -> List[int]:
+    """The channels that a word says: CHANNEL, or FIRST:LAST."""
+    first, colon, last = text.partition(":")
+    begin = channel_of(first)
+    end = channel_of(last) if colon else begin
+    if end < begin:
+        raise Wrong("a range of channels ends before it begins: %s" % text)
+    return list(range(begin, end + 1))
+
+
+def microvolts(volts: Decimal) -> int:
+    """Of volts; rounded to the nearest, halves away from zero."""
+    if abs(volts) > LIMIT:
+        raise Wrong("a voltage is beyond %d V: %s" % (LIMIT, volts))
+    return int((volts * 1000000).quantize(Decimal(1), ROUND_HALF_UP))
+
+
+def milliseconds(seconds: Decimal) -> int:
+    return int((seconds * 1000).quantize(Decimal(1), ROUND_HALF_UP))
+
+
+def fields(words: List[str], least: int, most: int, shape: str) -> List[str]:
+    """The fields of a shape, of which there have to be so many."""
+    if not least <= len(words) <= most:
+        raise Wrong("a shape isn't as --help has it: " + shape)
+    return words
+
+
+def volts(text: str) -> float:
+    return float(number(text, "a voltage"))
+
+
+def function_of(kind: str, words: List[str], shape: str, length: int, place: int) -> Callable[[int], float]:
+    """What gives the voltage at a tick, of a shape that changes all the time; place is that of its channel in a
+    range.
+    """
+    words = fields(words, 2 if kind == "ramp" else 3, 3, shape)
+    first, second = volts(words[0]), volts(words[1])
+    if kind == "noise":
+        source = random.Random(whole(words[2], "a seed", 0, 10 ** 18) + place)
+        return lambda tick: first + second * (2 * source.random() - 1)
+    period = milliseconds(number(words[2], "a time", Decimal("0.001"))) if words[2:] else length
+    if kind == "sine":
+        return lambda tick: first + second * math.sin(2 * math.pi * tick / period)
+    # A ramp that comes again starts anew at its period; one that doesn't arrives at the end.
+    again = bool(words[2:])
+    return lambda tick: first + (second - first) * (tick % period if again else tick) / period
+
+
+def steps(words: List[str], shape: str) -> List[Pair]:
+    """What `steps` does."""
+    pairs: List[Pair] = []
+    for word in fields(words, 1, 1, shape)[0].split(","):
+        height, at, seconds = word.partition("@")
+        if not at:
+            raise Wrong("a step isn't VOLTS@SECONDS: " + word)
+        tick = milliseconds(number(seconds, "a time", Decimal(0)))
+        if pairs and tick < pairs[-1][0]:
+            raise Wrong("a step comes before the one in front of it: " + word)
+        pairs.append((tick, microvolts(number(height, "a voltage"))))
+    return pairs
+
+
+def changes(shape: str, every: int, length: int, place: int = 0) -> List[Pair]:
+    """What a shape does."""
+    kind, *words = shape.split(":")
+    if kind in ("ramp", "sine", "noise"):
+        function = function_of(kind, words, shape, length, place)
+        ticks = range(0, length + 1, every)
+        return [(tick, microvolts(Decimal(round(function(tick), 6)))) for tick in ticks]
+    if kind == "steps":
+        return steps(words, shape)
+    fields(words, 0, 0, shape)
+    return [(0, microvolts(number(kind, "a voltage, or a shape's name,")))]

@@ -1,0 +1,57 @@
+"""A table in CSV, as what its channels do."""
+import csv
+from decimal import Decimal
+from typing import Dict, List, Optional, Tuple
+
+from .shapes import Pair, Wrong, channel_of, microvolts, milliseconds, number
+
+
+def opened(name: str) -> str:
+    """The text of a file."""
+    try:
+        with open(name, newline="", encoding="utf-8") as file:
+            return file.read()
+    except (OSError, UnicodeDecodeError) as error:
+        raise Wrong("%s can't be read: %s" % (name, error)) from None
+
+
+def table_line(row: List[str], names: List[int], last: int) -> Tuple[int, List[Pair]]:
+    """The tick of a table's line, and the channels and microvolts that it has."""
+    if len(row) != 1 + len(names):
+        raise Wrong("it has %d fields and not %d" % (len(row), 1 + len(names)))
+    tick = milliseconds(number(row[0].strip(), "a time", Decimal(0)))
+    if tick < last:
+        raise Wrong("a time before the one in front of it: " + row[0])
+    return tick, [(channel, microvolts(number(text.strip(), "a voltage")))
+                  for channel, text in zip(names, row[1:]) if text.strip()]
+
+
+def table_head(row: List[str]) -> List[int]:
+    """The channels that the first line of a table names."""
+    if row[0].strip() != "time" or len(row) < 2:
+        raise Wrong("it isn't a line time,CHANNEL,..")
+    names = [channel_of(text.strip()) for text in row[1:]]
+    if len(set(names)) < len(names):
+        raise Wrong("a channel is there twice")
+    return names
+
+
+def table(name: str) -> Dict[int, List[Pair]]:
+    """The channels of a table, each with its pairs of a tick and microvolts."""
+    plan: Optional[Dict[int, List[Pair]]] = None
+    names: List[int] = []
+    last, rows = 0, csv.reader(opened(name).splitlines(keepends=True))
+    try:
+        for row in filter(None, rows):
+            if plan is None:
+                names = table_head(row)
+                plan = {channel: [] for channel in names}
+                continue
+            last, values = table_line(row, names, last)
+            for channel, value in values:
+                plan[channel].append((last, value))
+    except (Wrong, csv.Error) as error:
+        raise Wrong("%s, line %d: %s" % (name, rows.line_num, error)) from None
+    if plan is None:
+        raise Wrong("%s has no line time,CHANNEL,.." % name)
+    return plan

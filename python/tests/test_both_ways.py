@@ -1,0 +1,170 @@
+"""The sessions of the clients in examples/, over sockets and in virtual time: they print what is stored there, their
+replies are the same bytes, and the service requests the same ones, each once.
+
+tools/clients does that with the clients themselves, whose sessions it captures.
+"""
+import pathlib
+import queue
+import tempfile
+import time
+import unittest
+from typing import Callable, List, Tuple, Union
+from unittest import mock
+
+from scanvolt.program import Server
+from scanvolt.virtual import Connection, Meter
+from scanvolt.vxi11 import Client, Link, ServiceRequest, calls, words
+
+EXAMPLES = pathlib.Path(__file__).resolve().parents[2] / "examples"
+# The voltages of examples/bench.scenario, and external triggers 20 times a second.
+SCENARIO = "".join("0 input %d %d\n" % pair for pair in ((1, 1250000), (2, -300000), (3, 7500000), (4, 12000000)))
+SCENARIO += "".join("%d external\n" % clock for clock in range(50, 60000, 50))
+REQUEST = 64            # bit 6 of the status byte
+PATIENCE = 20000        # milliseconds
+ABORT_PORT = 4097       # in virtual time
+Carrier = Union[Client, Connection]
+Pause = Callable[[], None]
+
+
+def polled(link: Link, pause: Pause) -> int:
+    """Polls until the instrument requests service; the status byte."""
+    while True:
+        status = link.readstb()
+        if status & REQUEST:
+            return status
+        pause()
+
+
+def begun(link: Link) -> None:
+    """Whatever others left goes."""
+    link.clear()
+    link.write("*RST;*CLS;*ESE 0;*SRE 0;:STAT:PRES\n")
+
+
+def scan(carrier: Carrier, pause: Pause) -> List[str]:
+    """What scan.py does and prints."""
+    link = carrier.create_link()
+    begun(link)
+    told = ["instrument: " + link.query("*IDN?\n")]
+    link.write("CONF:VOLT (@1,4,2);:TRIG:COUN 2;*ESE 1;*SRE 32\n")
+    link.write("INIT;*OPC\n")
+    told.append("scan done, status byte: %d" % polled(link, pause))
+    told.append("standard events: " + link.query("*ESR?\n"))
+    for place, text in enumerate(link.query("FETC?\n").split(",")):
+        shown = "overload" if "E+37" in text else text + " V"
+        told.append("scan %d, channel %d: %s" % (place // 3 + 1, (1, 4, 2)[place % 3], shown))
+    link.write("*CLS;ROUT:MON (@3);:CALC:LIM:UPP 5;STAT ON;:STAT:QUES:ENAB 512;*SRE 8\n")
+    told.append("outside the limits, status byte: %d" % polled(link, pause))
+    told.append("questionable events: " + link.query("STAT:QUES?\n"))
+    told.append("events of the limits: " + link.query("STAT:QUES:LIM?\n"))
+    told.append("channel 3: %s V" % link.query("MEAS:VOLT? (@3)\n"))
+    link.write("VOLT:RANGE:AUTO ON\n")
+    return told + ["error: " + link.query("SYST:ERR?\n") for _ in range(2)]
+
+
+def service_request(carrier: Carrier, pause: Pause) -> List[str]:
+    """What service_request.c does and prints."""
+    link = carrier.create_link()
+    begun(link)
+    requests = carrier.listen()
+    link.enable_srq(b"the scan")
+    told = ["the interrupt channel is open", "*IDN? " + link.query("*IDN?\n")]
+    link.write("CONF:VOLT (@1,4,2);:TRIG:SOUR EXT;*ESE 1;*SRE 32\n")
+    told.append("status byte before: %d" % link.readstb())
+    link.write("INIT;*OPC\n")
+    request: ServiceRequest = requests.wait(PATIENCE)
+    told.append("service request of: " + request.handle.decode())
+    told.append("status byte behind: %d, and once more: %d" % (link.readstb(), link.readstb()))
+    told += ["%s %s" % (query, link.query(query + "\n")) for query in ("*ESR?", "FETC?", "SYST:ERR?")]
+    carrier.destroy_intr_chan()
+    link.destroy()
+    assert isinstance(requests.queue, queue.Queue) and requests.queue.empty(), "a second service request"
+    return told
+
+
+def several_requests(carrier: Carrier, pause: Pause) -> List[str]:
+    """Requests of two links, one after the other: handles and numbers."""
+    links = [carrier.create_link(), carrier.create_link()]
+    begun(links[0])
+    requests = carrier.listen()
+    for number, link in enumerate(links):
+        link.enable_srq(b"link %d" % number)
+    told = []
+    for _ in range(3):
+        links[1].write("*CLS;*SRE 4;UNKNOWN\n")
+        told += ["%r %d" % (one.handle, one.xid) for one in (requests.wait(PATIENCE), requests.wait(PATIENCE))]
+        told.append("%d" % links[0].readstb())
+    assert requests.queue.empty(), "one more service request"
+    return told
+
+
+def identify(carrier: Carrier, pause: Pause) -> List[str]:
+    """What identify.sh does and prints."""
+    link = carrier.create_link()
+    link.write("*RST;*CLS\n")
+    told = [link.query(query + "\n") for query in ("*IDN?", "SYST:VERS?", "MEAS:VOLT? (@1:2)")]
+    link.write("CALC:LIM:UPP 2.5;STAT ON\n")
+    return told + [link.query(query + "\n") for query in ("CALC:LIM:UPP?;STAT?", "SYST:ERR?")]
+
+
+class BothWays(unittest.TestCase):
+
+    def setUp(self) -> None:
+        temporary = tempfile.TemporaryDirectory(prefix="both-ways-")
+        self.addCleanup(temporary.cleanup)
+        self.scenario = pathlib.Path(temporary.name) / "scenario"
+        self.scenario.write_text(SCENARIO)
+
+    def recorded(self, run: Callable[[], List[str]]) -> Tuple[List[str], List[Tuple[str, bytes]]]:
+        """What a session prints, and its replies behind their numbers. Polls that come too early are left out:
+        how many there are is the clock's.
+        """
+        replies: List[Tuple[str, bytes]] = []
+        answer = calls.Call.answer
+
+        def recording(call: "calls.Call[object]", body: bytes, xid: int) -> object:
+            found = answer(call, body, xid)
+            if isinstance(found, calls.Made):           # it tells the port of the abort channel, which is the server's
+                body = body.replace(words(found.abort_port), words(ABORT_PORT))
+            if not (call.procedure == calls.DEVICE_READSTB and found == 0):
+                replies.append((call.name, body[4:]))
+            return found
+
+        with mock.patch.object(calls.Call, "answer", recording):
+            return run(), replies
+
+    def session(self, session: Callable[[Carrier, Pause], List[str]]) -> List[str]:
+        """What a session prints both ways, by the same replies."""
+        def over_sockets() -> List[str]:
+            with Server(self.scenario) as server, Client(port=server.core) as client:
+                return session(client, lambda: time.sleep(0.01))
+
+        def in_virtual_time() -> List[str]:
+            with Meter(scenario=self.scenario) as meter, meter.connect() as connection:
+                return session(connection, lambda: meter.advance(10))
+
+        told, replies = self.recorded(over_sockets)
+        self.assertEqual(self.recorded(in_virtual_time), (told, replies))
+        self.assertGreater(len(replies), len(told))
+        return told
+
+    def is_stored(self, session: Callable[[Carrier, Pause], List[str]]) -> None:
+        stored = (EXAMPLES / (session.__name__ + ".out")).read_text().splitlines()
+        self.assertEqual(self.session(session), stored)
+
+    def test_scan(self) -> None:
+        self.is_stored(scan)
+
+    def test_service_request(self) -> None:
+        self.is_stored(service_request)
+
+    def test_identify(self) -> None:
+        self.is_stored(identify)
+
+    def test_several_requests(self) -> None:
+        self.assertEqual(self.session(several_requests), [
+            "b'link 0' 1", "b'link 1' 2", "68", "b'link 0' 3", "b'link 1' 4", "68", "b'link 0' 5", "b'link 1' 6", "68"])
+
+
+if __name__ == "__main__":
+    unittest.main()

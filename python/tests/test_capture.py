@@ -1,0 +1,230 @@
+"""scanvolt-capture: what is a difference, and what is told of it."""
+import base64
+import unittest
+from typing import Optional, Tuple
+
+from scanvolt.vxi11 import calls, encode_reply, opaque, words
+
+from .captures import START, Capture, Folder, call
+
+
+def told(start: int) -> Tuple[str, str]:
+    """The words that tell a start, in milliseconds since START."""
+    return "--start", "%.3f" % ((START + start) / 1000)
+
+
+class Comparing(unittest.TestCase):
+
+    def setUp(self) -> None:
+        self.folder = Folder()
+        self.addCleanup(self.folder.close)
+
+    def several(self) -> Capture:
+        """Three calls, answered by 0 V."""
+        capture = Capture(10)
+        for xid in (1, 2, 3):
+            capture.asks(100 * xid, xid, words(0))
+        return capture
+
+    def test_equal_replies_are_equal(self) -> None:
+        status, text = self.folder.compare(self.several(), *told(0))
+        self.assertEqual(status, 0, text)
+        self.assertIn("all equal", text)
+
+    def test_a_program_that_prints_nothing_ended_early(self) -> None:
+        for _ in range(12):
+            status, text = self.folder.compare(self.several(), *told(0), program="/bin/true")
+            self.assertEqual(status, 2, text)
+            self.assertIn("ended early", text)
+
+    def test_a_program_that_prints_less_ended_early(self) -> None:
+        shorter = self.folder.write("shorter", "#!/bin/sh\n%s replay | head -3\n" %
+                                    self.folder.replay, 0o755)
+        status, text = self.folder.compare(self.several(), *told(0), program=shorter)
+        self.assertEqual(status, 2, text)
+        self.assertIn("ended early, behind", text)
+
+    def test_a_program_that_reads_nothing_of_a_long_script_ended_early(self) -> None:
+        capture = Capture(10)
+        for xid in range(1, 3000):
+            capture.asks(100 * xid, xid, words(0))
+        status, text = self.folder.compare(capture, *told(0), program="/bin/true")
+        self.assertEqual(status, 2, text)
+        self.assertIn("ended early", text)
+
+    def test_a_reply_that_the_replay_lacks_is_a_difference(self) -> None:
+        marks = self.folder.write("marks", "#!/bin/sh\n%s replay | grep refused\n" %
+                                  self.folder.replay, 0o755)
+        status, text = self.folder.compare(self.several(), *told(0), "--slack", "0", program=marks)
+        self.assertEqual(status, 1, text)
+        self.assertIn("isn't sent by the replay", text)
+
+    def test_a_program_that_prints_something_else_is_told(self) -> None:
+        status, text = self.folder.compare(self.several(), *told(0), program="/bin/echo")
+        self.assertEqual(status, 2, text)
+        self.assertIn("prints what no replay does: replay", text)
+
+    def test_a_reply_is_shown_from_where_it_differs(self) -> None:
+        data = bytes(range(200)) + bytes(range(200))
+        other = data[:300] + b"\xee" + data[301:]
+        capture = Capture(10)
+        capture.asks(20, 1, data)
+        status, text = self.folder.compare(capture, *told(0), "--slack", "0",
+                                           replies=[encode_reply(1, other)])
+        self.assertEqual(status, 1, text)
+        at = len(encode_reply(1)) + 300
+        row = at // 16 * 16
+        for where, data in ("the capture", data), ("the replay", other):
+            whole = encode_reply(1, data)
+            self.assertIn("  %d bytes in %s:" % (len(whole), where), text)
+            self.assertIn("  > %6d  %s  " % (row, whole[row:row + 16].hex(" ", -4)), text)
+        self.assertIn("  byte %d of the reply: 64 in the capture, ee in the replay" % at, text)
+        self.assertNotIn("     %d  " % (row - 48), text)
+
+    def test_the_text_stands_beside_the_bytes(self) -> None:
+        found, other = (words(0, calls.ENDED) + opaque(text) for text in (b"+1.250000\n", b"+1.260000\n"))
+        capture = Capture(10)
+        capture.packet(15, True, calls.device_write(7, b"MEAS:VOLT? (@1)\n", 0).encode(1))
+        capture.packet(16, False, encode_reply(1, words(0, 16)))
+        capture.packet(17, True, calls.device_write(8, b"of another link", 0).encode(2))
+        capture.packet(18, False, encode_reply(2, words(0, 15)))
+        capture.packet(20, True, calls.device_read(7, 100, 0).encode(3))
+        capture.packet(21, False, encode_reply(3, found))
+        status, text = self.folder.compare(capture, *told(0), "--slack", "0", replies=[
+            encode_reply(1, words(0, 16)), encode_reply(2, words(0, 15)), encode_reply(3, other)])
+        self.assertEqual(status, 1, text)
+        self.assertIn("reply 3 (device_read) of 127.0.0.1:50000 to 127.0.0.1:4096 differs", text)
+        self.assertIn('  behind the message: "MEAS:VOLT? (@1)\\n"\n', text)
+        self.assertRegex(text, "bytes in the capture:\n(.*\n)*  > .*  [.]{7}.[+]1.25000\n")
+        self.assertRegex(text, "bytes in the replay:\n(.*\n)*  > .*  [.]{7}.[+]1.26000\n")
+
+    def test_a_capture_may_end_between_a_call_and_its_reply(self) -> None:
+        capture = self.several()
+        capture.packet(400, True, call(4))
+        status, text = self.folder.compare(capture, *told(0))
+        self.assertEqual(status, 0, text)
+
+    def test_a_reply_that_never_came_is_a_difference(self) -> None:
+        capture = self.several()
+        capture.packet(400, True, call(4))
+        capture.packet(1400, True)
+        status, text = self.folder.compare(capture, *told(0))
+        self.assertEqual(status, 1, text)
+        self.assertIn("isn't in the capture", text)
+
+
+class Starts(unittest.TestCase):
+    """The voltage tells whether a line of the scenario was due."""
+
+    def setUp(self) -> None:
+        self.folder = Folder()
+        self.addCleanup(self.folder.close)
+
+    def asked(self, time: int, value: int) -> Capture:
+        """A voltage that is asked for at this time."""
+        capture = Capture(time)
+        capture.asks(time, 1, words(value))
+        return capture
+
+    def test_a_start_that_is_told_59_ms_late_is_found(self) -> None:
+        status, text = self.folder.compare(self.asked(1030, 2), *told(59),
+                                           scenario="0 input 1 1\n1000 input 1 2\n")
+        self.assertEqual(status, 0, text)
+        self.assertIn("earlier", text)
+
+    def test_a_start_that_is_told_too_early_is_found(self) -> None:
+        status, text = self.folder.compare(self.asked(980, 1), *told(-59),
+                                           scenario="0 input 1 1\n1000 input 1 2\n")
+        self.assertEqual(status, 0, text)
+        self.assertIn("later", text)
+
+    def test_a_start_that_is_not_told_is_found(self) -> None:
+        status, text = self.folder.compare(self.asked(20030, 2),
+                                           scenario="0 input 1 1\n20000 input 1 2\n")
+        self.assertEqual(status, 0, text)
+
+    def test_the_start_may_be_what_is_wrong(self) -> None:
+        scenario = "0 input 1 1\n1000 input 1 2\n"
+        status, text = self.folder.compare(self.asked(980, 7), scenario=scenario)
+        self.assertEqual(status, 1, text)
+        self.assertIn("the start may be wrong: without --start", text)
+        status, text = self.folder.compare(self.asked(980, 7), *told(0), scenario=scenario)
+        self.assertEqual(status, 1, text)
+        self.assertIn("--start may be wrong; `make serve` tells it", text)
+
+
+class Faults(unittest.TestCase):
+    """What can't be compared has status 2, and one line that says why."""
+
+    def setUp(self) -> None:
+        self.folder = Folder()
+        self.addCleanup(self.folder.close)
+        self.capture = Capture(10)
+        self.capture.asks(100, 1, words(0))
+
+    def is_fault(self, reason: str, *given: str, path: Optional[str] = None) -> None:
+        """A command has status 2, and this is its reason."""
+        status, text = self.folder.run(*given, path=path)
+        self.assertEqual((status, text.count("\n")), (2, 1), text)
+        self.assertRegex(text, "^scanvolt-capture: " + reason)
+
+    def is_wrong(self, reason: str) -> None:
+        """The capture has status 2, and this is its reason."""
+        status, text = self.folder.compare(self.capture, *told(0))
+        self.assertEqual((status, text.count("\n")), (2, 1), text)
+        self.assertRegex(text, "^scanvolt-capture: " + reason)
+
+    def test_there_is_none(self) -> None:
+        self.is_fault("there is no capture /nonexistent$", "script", "/nonexistent")
+
+    def test_tshark_is_missing(self) -> None:
+        self.is_fault("tshark is missing: it is Debian's package tshark$", "script", __file__, path="/nonexistent")
+
+    def test_tshark_cannot_read_it(self) -> None:
+        self.folder.write("tshark", "#!/bin/sh\necho of no use >&2\necho it is cut short >&2\nexit 2\n", 0o755)
+        self.is_fault("tshark can't read it: it is cut short$", "script", __file__)
+
+    def test_a_packet_that_is_not_whole(self) -> None:
+        self.capture.lines[-1] = self.capture.lines[-1].rpartition("\t")[0] + "\t60"
+        self.is_wrong("packet 5 has 60 of its [0-9]+ bytes: capture whole packets$")
+
+    def test_bytes_that_the_capture_lacks(self) -> None:
+        del self.capture.followed[-4:]
+        self.is_wrong("127.0.0.1:50000 to 127.0.0.1:4096: the capture lacks bytes from 0 on that the callee sent$")
+
+    def test_bytes_in_whose_place_tshark_says_so(self) -> None:
+        place = base64.b64encode(b"[32 bytes missing in capture file]\0").decode()
+        self.capture.followed[-1] = "      " + place
+        self.is_wrong(".*: the capture lacks bytes from 0 on that the callee sent$")
+
+    def test_bytes_that_the_other_side_has(self) -> None:
+        self.capture.sent[0] += 7
+        self.capture.packet(300, False)
+        self.is_wrong(".*: the capture lacks bytes from %d on that the caller sent$" % len(call(1)))
+
+    def test_a_connection_that_began_before(self) -> None:
+        del self.capture.lines[:1]
+        self.is_wrong("packet 2: the connection 127.0.0.1:4096 to .* began before the capture$")
+
+    def test_no_connection_to_the_server(self) -> None:
+        status, text = self.folder.compare(self.capture, "--core", "5096", *told(0))
+        self.assertEqual(status, 2)
+        self.assertIn("the capture has no connection to the ports 111, 4097, 4111, 5096", text)
+
+    def test_a_scenario_with_a_bad_line(self) -> None:
+        status, text = self.folder.compare(self.capture, scenario="0 external\n1 input 1 1.5\n")
+        self.assertEqual(status, 2)
+        self.assertRegex(text, "scanvolt-capture: bad line 2 of the scenario /.*/scenario: a voltage is")
+
+    def test_a_start_that_is_none(self) -> None:
+        status, text = self.folder.compare(self.capture, "--start", "noon")
+        self.assertEqual((status, text), (2, "scanvolt-capture: not a time in seconds: 'noon'\n"))
+
+    def test_a_program_that_cannot_be_run(self) -> None:
+        status, text = self.folder.compare(self.capture, *told(0), program="/nonexistent")
+        self.assertEqual((status, text), (
+            2, "scanvolt-capture: /nonexistent doesn't run: No such file or directory\n"))
+
+
+if __name__ == "__main__":
+    unittest.main()

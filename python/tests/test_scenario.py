@@ -1,0 +1,153 @@
+"""scanvolt-scenario: pictures of short scenarios, lines as `scanvolt serve` takes them, ranges of channels, and
+the lines of faults.
+"""
+import contextlib
+import io
+import tempfile
+import unittest
+from typing import List, Tuple
+from unittest import mock
+
+from scanvolt.scenario.command import main
+
+BAD = ("0 input 1 1.5", "0 input 1 1e3", "0 input 1 +5", "0 input 1 -", "0 input 1 ", "0 input 1",
+       "0 input 1 1000000001", "0 input 1 -1000000001", "0 input 1 0000000000000000005",
+       "0 input 01 5", "0 input 0 5", "0 input 129 5", "0 input 1 5 6", "0 external ",
+       "0  external", " 0 external", "0 external\r", "0 external\v0 external", "-1 external",
+       "1000000000000000000 external", "5 external\n4 external", "0 external" + 65536 * " ")
+GOOD = ("0 input 1 -1000000000", "0 input 128 1000000000", "0 input 1 000000000000000005",
+        "000000000000000007 external", "999999999999999999 external", "5 external\n\n5 external")
+
+
+class Commands(unittest.TestCase):
+    """The command with words."""
+
+    def run_words(self, *words: str) -> Tuple[int, str, str]:
+        """The status, the output and the faults of these words."""
+        told, faults = io.StringIO(), io.StringIO()
+        with mock.patch("signal.signal"), contextlib.redirect_stdout(told), contextlib.redirect_stderr(faults):
+            status = main(list(words))
+        return status, told.getvalue(), faults.getvalue()
+
+    def run_on(self, text: str, *words: str, option: str = "--of") -> Tuple[int, str, str]:
+        """The same on a file with this text."""
+        with tempfile.NamedTemporaryFile("w", newline="", suffix=".text") as file:
+            file.write(text)
+            file.flush()
+            status, told, faults = self.run_words(option, file.name, *words)
+            return status, told.replace(file.name, "FILE"), faults.replace(file.name, "FILE")
+
+
+class Scenarios(Commands):
+    """What is written and drawn."""
+
+    def test_lines_of_one_moment_have_a_picture(self) -> None:
+        status, text, faults = self.run_on("0 input 1 1250000\n0 input 2 -300000\n", "--picture")
+        self.assertEqual((status, faults), (0, ""))
+        self.assertEqual(text.splitlines()[:4], [
+            "channel 1, volts", "   +1.250000 |" + 58 * "*",
+            "channel 2, volts", "   -0.300000 |" + 58 * "*"])
+
+    def test_a_moment_each_has_a_picture(self) -> None:
+        for length in range(1, 70):
+            status, text, faults = self.run_on("0 input 1 1\n%d input 1 2\n" % length, "--picture")
+            self.assertEqual((status, faults), (0, ""), length)
+            row = text.splitlines()[1]
+            self.assertEqual(row[-1], "*", length)
+
+    def test_lines_that_serve_refuses_are_refused(self) -> None:
+        for line in BAD:
+            status, text, faults = self.run_on(line + "\n")
+            self.assertEqual((status, text), (2, ""), line)
+            number = line.count("\n") + 1
+            self.assertTrue(faults.startswith("scanvolt-scenario: FILE, line %d: " % number), faults)
+
+    def test_lines_that_serve_takes_are_taken(self) -> None:
+        for line in GOOD:
+            status, _, faults = self.run_on(line + "\n")
+            self.assertEqual((status, faults), (0, ""), line)
+
+    def test_faults_of_a_table_have_their_lines(self) -> None:
+        for number, text in ((2, "time,1\nx,5\n"), (3, "time,1\n0,5\n1,volts\n"),
+                             (3, "time,1\n2,5\n1,5\n"), (4, "time,1\n\n0,1\n1,1,1\n"),
+                             (3, "time,1\n0,1\n1,2000\n"), (1, "time,200\n0,1\n"),
+                             (1, "1,2\n0,1\n"), (1, "time,1,1\n0,1,1\n"), (4, 'time,1\n"0\n",1\n1,v\n')):
+            status, _, faults = self.run_on(text, option="--csv")
+            self.assertEqual(status, 2, text)
+            self.assertTrue(faults.startswith("scanvolt-scenario: FILE, line %d: " % number), faults)
+
+    def test_a_table_becomes_lines(self) -> None:
+        status, text, faults = self.run_on("time,1,3\n0,1.5,\n0.5,,-2\n", option="--csv")
+        self.assertEqual((status, faults), (0, ""))
+        self.assertEqual(text, "0 input 1 1500000\n500 input 3 -2000000\n")
+
+
+class Checks(Commands):
+    """--check tells each bad line, and why."""
+
+    REASONS = (("x external", "a time is a whole number"), ("4 external", "a time may not be before .*, 5: 4$"),
+               ("5 trigger", "behind the time stands"), ("5  external", "behind the time stands"),
+               ("5 input 0 1", "a channel is .* not `0`$"), ("5 input 129 1", "a channel is .* not `129`$"),
+               ("5 input 1 1.5", "a voltage is .* not `1.5`$"), ("5 input 1 1000000001", "a voltage is "),
+               ("5 external" + 65536 * " ", "it has more than 65536 bytes$"))
+
+    def test_the_reason_of_each_bad_line(self) -> None:
+        for line, reason in self.REASONS:
+            status, told, faults = self.run_on("5 external\n" + line + "\n", option="--check")
+            with self.subTest(line[:20]):
+                self.assertEqual((status, faults), (1, ""))
+                self.assertRegex(told.rstrip("\n"), "^FILE, line 2: `.*`.*: " + reason)
+
+    def test_all_of_them(self) -> None:
+        lines = ["5 external"] + [line for line, _ in self.REASONS] + ["6 external"]
+        status, told, _ = self.run_on("\n".join(lines) + "\n", option="--check")
+        self.assertEqual(status, 1)
+        self.assertEqual([line.split(":")[0] for line in told.splitlines()],
+                         ["FILE, line %d" % number for number in range(2, 2 + len(self.REASONS))])
+
+    def test_what_serve_takes_and_refuses(self) -> None:
+        for bad, texts in (0, GOOD), (1, BAD):
+            for text in texts:
+                status, told, faults = self.run_on(text + "\n", option="--check")
+                self.assertEqual((status, faults), (bad, ""), text)
+        self.assertEqual(self.run_on("0 external\n1500 input 1 2\n", option="--check")[1],
+                         "FILE: 2 entries, up to 1.500 s, no bad line\n")
+
+    def test_what_cannot_be_read(self) -> None:
+        for option in ("--check", "--of", "--csv"):
+            status, told, faults = self.run_words(option, "/nonexistent")
+            self.assertEqual((status, told), (2, ""))
+            self.assertRegex(faults, "^scanvolt-scenario: /nonexistent can't be read: .*No such file")
+
+
+class Ranges(Commands):
+    """CHANNEL:CHANNEL=SHAPE."""
+
+    def lines(self, *words: str) -> List[str]:
+        status, told, faults = self.run_words("--seconds", "1", *words)
+        self.assertEqual((status, faults), (0, ""))
+        return told.splitlines()
+
+    def test_each_channel_has_the_shape(self) -> None:
+        wanted = ["0 input %d 1500000" % channel for channel in range(1, 129)]
+        self.assertEqual(self.lines("1:128=1.5"), wanted)
+        self.assertEqual(self.lines("3:3=1.5"), wanted[2:3])
+        self.assertEqual(self.lines("2:3=steps:1@0,2@0.5", "1=0"), [
+            "0 input 1 0", "0 input 2 1000000", "0 input 3 1000000", "500 input 2 2000000", "500 input 3 2000000"])
+
+    def test_each_channel_has_noise_of_its_own(self) -> None:
+        both = self.lines("1:2=noise:0:1:5")
+        self.assertEqual([line for line in both if " input 1 " in line], self.lines("1=noise:0:1:5"))
+        self.assertEqual([line for line in both if " input 2 " in line], self.lines("2=noise:0:1:6"))
+
+    def test_what_is_no_range(self) -> None:
+        for word, reason in (("5:1=0", "a range of channels ends before it begins: 5:1"),
+                             ("1:129=0", "a channel isn't a whole number from 1 to 128: 129"),
+                             ("0:2=0", "a channel isn't a whole number from 1 to 128: 0"),
+                             ("1:=0", "a channel isn't a whole number from 1 to 128: ")):
+            self.assertEqual(self.run_words(word), (2, "", "scanvolt-scenario: %s\n" % reason))
+        self.assertEqual(self.run_words("1:4=0", "3=1"), (2, "", "scanvolt-scenario: channel 3 is there twice\n"))
+
+
+if __name__ == "__main__":
+    unittest.main()
