@@ -29,7 +29,8 @@ left-admitted before place few room = rw (lt-ltb (length (left before)) most roo
 admit-full : (before : Counted) (place : ℕ) → most ≤ length (left before) → admit before place ≡ before
 admit-full before place full = rw (le-ltb (length (left before)) most full) refl
 
-any_or_none : (places : List ℕ) → (is_some (slice_get places 0) ≡ true) × (1 ≤ length places) ⊎ (is_some (slice_get places 0) ≡ false) × (places ≡ [])
+any_or_none : (places : List ℕ) → (is_some (slice_get places 0) ≡ true) × (1 ≤ length places)
+    ⊎ (is_some (slice_get places 0) ≡ false) × (places ≡ [])
 any_or_none [] = inr (refl, refl)
 any_or_none (place ∷ places) = inl (refl, omega arith)
 

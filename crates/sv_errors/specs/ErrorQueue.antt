@@ -55,7 +55,8 @@ is_overtaken place acts = nat_lt place (length acts) && is_some (reported (up_to
 -- An entry shows its report's code; but the one that made the queue full shows the overflow, once another report came before the next
 -- taking.
 abbrev pub shown : List QueueAct → ℕ → Code
-shown acts place = if is_full (up_to place acts) && is_overtaken place acts then QueueOverflow else unwrap_or (reported (up_to place acts)) NoError
+shown acts place =
+    if is_full (up_to place acts) && is_overtaken place acts then QueueOverflow else unwrap_or (reported (up_to place acts)) NoError
 
 -- what can be taken, oldest first
 abbrev pub queued : List QueueAct → List Code

@@ -47,12 +47,14 @@ enabled_words s true mask acts c r f e h = (h.0, h.1, h.2, refl)
 enabled_words s false mask acts c r f e h = h
 
 rise_words : (s : ℕ) (b : Bool) (mask : ℕ) (acts : List RegisterAct) (c r f e : ℕ) → Words s acts c r f e
-    → Words s (if b then SetFilter mask (register_words.fall acts) ∷ acts else acts) c (unwrap_or (if b then Some (masked mask) else None) r) f e
+    → Words s (if b then SetFilter mask (register_words.fall acts) ∷ acts else acts) c
+    (unwrap_or (if b then Some (masked mask) else None) r) f e
 rise_words s true mask acts c r f e h = (h.0, refl, (filters_masked acts).1 ∙ h.2, h.3)
 rise_words s false mask acts c r f e h = h
 
 fall_words : (s : ℕ) (b : Bool) (mask : ℕ) (acts : List RegisterAct) (c r f e : ℕ) → Words s acts c r f e
-    → Words s (if b then SetFilter (register_words.rise acts) mask ∷ acts else acts) c r (unwrap_or (if b then Some (masked mask) else None) f) e
+    → Words s (if b then SetFilter (register_words.rise acts) mask ∷ acts else acts) c r
+    (unwrap_or (if b then Some (masked mask) else None) f) e
 fall_words s true mask acts c r f e h = (h.0, (filters_masked acts).0 ∙ h.1, refl, h.3)
 fall_words s false mask acts c r f e h = h
 

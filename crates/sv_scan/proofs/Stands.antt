@@ -59,7 +59,8 @@ is_in channel legal = grind (arith, nat_tests)
 -- an input
 input_after : (inputs : List ℤ) (channel other : ℕ) (microvolts before : ℤ) → length inputs ≡ channel_count → is_channel channel ≡ true
     → is_channel other ≡ true → slice_index_or inputs (other - 1) (pos 0) ≡ before
-    → slice_index_or (slice_set inputs (channel - 1) microvolts) (other - 1) (pos 0) ≡ unwrap_or (if channel == other then Some microvolts else None) before
+    → slice_index_or (slice_set inputs (channel - 1) microvolts) (other - 1) (pos 0)
+    ≡ unwrap_or (if channel == other then Some microvolts else None) before
 input_after inputs channel other microvolts before size legal known same =
     let in_range = is_in channel legal in
     let other_in = is_in other known in

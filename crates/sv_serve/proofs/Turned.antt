@@ -44,6 +44,21 @@ pub record Turned (config : Config) (c : ℕ) (history events : List PlainEvent)
   pub untouched : brought c behind ≡ []
   pub takes : Takes config c before turn
 
+-- it has its turn now
+turned_by : (config : Config) (c : ℕ) (now history events turn : List PlainEvent) (log : List Act) → now ≡ events ++ history
+    → IsLogOf config now log → Takes config c log turn → Turned config c history (turn ++ events)
+turned_by config c now history events turn log is was takes = record {
+  first = events;
+  turn = turn;
+  behind = [];
+  before = log;
+  split = refl;
+  was = subst (λ h. IsLogOf config h log) is was;
+  unread = refl;
+  untouched = refl;
+  takes = takes;
+}
+
 pub turned_more : (config : Config) (c : ℕ) (history events more : List PlainEvent) → filter is_bytes more ≡ [] → brought c more ≡ []
     → Turned config c history events → Turned config c history (more ++ events)
 turned_more config c history events more unread untouched t = record {
@@ -179,31 +194,12 @@ pub step_err : {W : Type 0} (hears : W → Heard → W → Type 0) (config : Con
 step_err hears config c NoMemory x between y history events log lt is was ready answers same given = record {
   k = keeps_then hears Nobody config x between y (keeps_none hears Nobody config x between same)
       (inner_by hears Nobody config (Refuse c) (Ok Done) between y refl (λ d. refl) (λ l. refl) given);
-  turned = record {
-    first = events;
-    turn = Refuse c ∷ [];
-    behind = [];
-    before = log;
-    split = refl;
-    was = subst (λ h. IsLogOf config h log) is was;
-    unread = refl;
-    untouched = refl;
-    takes = inr (inl (refl, answers));
-  };
+  turned = turned_by config c x.history history events (Refuse c ∷ []) log is was (inr (inl (refl, answers)));
 }
 step_err hears config c refused x between y history events log lt is was ready (told, tells, says) same to = record {
   k = keeps_none hears Nobody config x y (to ∙ same);
-  turned = record {
-    first = events;
-    turn = [];
-    behind = [];
-    before = log;
-    split = refl;
-    was = subst (λ h. IsLogOf config h log) is was;
-    unread = refl;
-    untouched = refl;
-    takes = inr (inr (refl, inr (short config x.history log c told refused lt was ready says)));
-  };
+  turned = turned_by config c x.history history events [] log is was
+      (inr (inr (refl, inr (short config x.history log c told refused lt was ready says))));
 }
 
 pub step_answer : {W : Type 0} (hears : W → Heard → W → Type 0) (config : Config) (c : ℕ) (result : Result Did Refused)
@@ -214,17 +210,7 @@ step_answer hears config c (Ok did) x between y history events log lt is was rea
   k = keeps_then hears Nobody config x between y
       (inner_by hears Nobody config (Turn c) (Ok did) x between refl (λ d. refl) (λ l. refl) given)
       (keeps_none hears Nobody config between y same);
-  turned = record {
-    first = events;
-    turn = Turn c ∷ [];
-    behind = [];
-    before = log;
-    split = refl;
-    was = subst (λ h. IsLogOf config h log) is was;
-    unread = refl;
-    untouched = refl;
-    takes = inl refl;
-  };
+  turned = turned_by config c x.history history events (Turn c ∷ []) log is was (inl refl);
 }
 step_answer hears config c (Err refused) x between y history events log lt is was ready (other, was_other, says, to) ends =
     let one = one_log config x.history other log was_other was in
@@ -237,17 +223,7 @@ pub step_ready : {W : Type 0} (hears : W → Heard → W → Type 0) (config : C
     → TurnStep hears config c history events x y
 step_ready hears config c false x y history events log lt is was idle same = record {
   k = keeps_none hears Nobody config x y same;
-  turned = record {
-    first = events;
-    turn = [];
-    behind = [];
-    before = log;
-    split = refl;
-    was = subst (λ h. IsLogOf config h log) is was;
-    unread = refl;
-    untouched = refl;
-    takes = inr (inr (refl, inl (idle_so (is_idle (of c log)) idle)));
-  };
+  turned = turned_by config c x.history history events [] log is was (inr (inr (refl, inl (idle_so (is_idle (of c log)) idle))));
 }
 step_ready hears config c true x y history events log lt is was ready (result, (between, given, ends)) =
     step_answer hears config c result x between y history events log lt is was ready given ends

@@ -5,12 +5,14 @@ use Rattle.std.specs.Prelude.{Option, not, ◌||◌}
 use Rattle.sv_history.specs.declared.event.Config.{Config}
 use Rattle.sv_history.specs.declared.event.Port.TheVariants.{Conn}
 use Rattle.sv_history.specs.Act.{Act, of, device_acts}
+use Rattle.sv_history.specs.Event.{PlainEvent}
 use Rattle.sv_history.specs.Connection.{room, waiting}
 use Rattle.sv_history.specs.History.{is_port_shut}
 use Rattle.sv_history.proofs.AlwaysTold.{some_told}
 use Rattle.sv_history.proofs.Unrecorded.{nothing_idle, nothing_faulted, nothing_dialed}
 use Rattle.sv_serve.specs.Heard.{Heard}
-use Rattle.sv_serve.specs.Moment.{Moment, Each}
+use Rattle.sv_server.specs.Server.State.{StandsFor}
+use Rattle.sv_serve.specs.Moment.{Moment, Driving, Each, Goes, moment}
 use Rattle.sv_serve.specs.Asked.{NoneUsed}
 use Rattle.sv_serve.specs.Steps.{called_of, ReadsFrom, Turns, Dials, WritesTo, Ends}
 
@@ -23,6 +25,16 @@ and_rest step config n (suc m) a b le each stays = elim (eq-or-lt_of_le le) [
   | inl same ↦ subst (λ (k : ℕ). Each k step config a b) same each
   | inr less ↦ (let low : n ≤ m = omega (arith, less) in (b, and_rest step config n m a b low each stays, stays m low))
 ]
+
+-- the same of a driver, whatever happened to its server before
+pub goes_rest : {W : Type 0} (step : ℕ → Config → Moment W → Moment W → Type 0) (n m : ℕ) (first last : Driving W) → n ≤ m
+    → Goes (Each n step) first last
+    → ((config : Config) (history : List PlainEvent) → StandsFor last.server config history → (c : ℕ) → n ≤ c
+    → step c config (moment last history) (moment last history))
+    → Goes (Each m step) first last
+goes_rest step n m first last le each stays = λ config history stands.
+    let (h0, s0, p0) = each config history stands in
+    (h0, s0, and_rest step config n m (moment first history) (moment last h0) le p0 (stays config h0 s0))
 
 never_open : (c : ℕ) (log : List Act) → of c log ≡ [] → false ≡ not (is_port_shut (Conn c) log)
 never_open c log none = rw none (shut_by (nat_lt 15 c))

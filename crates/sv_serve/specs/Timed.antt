@@ -5,10 +5,7 @@ use Rattle.sv_replay.specs.Entry.{stimulus_event}
 use Rattle.sv_replay.specs.declared.entry.Entry.{Entry}
 
 abbrev pub is_timed : PlainEvent → Bool
-is_timed (Input channel microvolts) = true
-is_timed External = true
-is_timed Tick = true
-is_timed _ = false
+is_timed = elim [ Input channel microvolts ↦ true | External ↦ true | Tick ↦ true | _ ↦ false ]
 
 -- the events of the entries of this tick, the newest first
 abbrev pub played : ℕ → List Entry → List PlainEvent

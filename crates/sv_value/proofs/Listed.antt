@@ -87,7 +87,8 @@ listed-channels (item ∷ items) before list all most some h =
     item-channels (span item) before list (λ so_far. listed so_far items) all
     (λ so_far a m s e. listed-channels items so_far list a m (omega (arith, s)) e) h
 
-items-channels : (o : Option (List ℕ)) (list : List ℕ) → option_map_or read_items o (Err InvalidExpression) ≡ Ok list → is_channel_list list ≡ true
+items-channels : (o : Option (List ℕ)) (list : List ℕ) → option_map_or read_items o (Err InvalidExpression) ≡ Ok list
+    → is_channel_list list ≡ true
 items-channels None list h = absurd cc
 items-channels (Some text) list h = at (list_all (λ item. is_some (span item)) (cut_at 44 text)) h
   where

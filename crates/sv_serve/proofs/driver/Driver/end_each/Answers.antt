@@ -1,34 +1,25 @@
 use Rattle.std.proofs.Common.{refl, arith, ◌+◌}
 use Rattle.sv_serve.specs.Moment.{moment}
 use Rattle.sv_serve.specs.Steps.{Ends}
-use Rattle.sv_serve.proofs.Joined.{one_more, as_many}
-use Rattle.sv_serve.proofs.Unused.{and_rest, ends_none}
+use Rattle.sv_serve.proofs.Joined.{goes_more, goes_all}
+use Rattle.sv_serve.proofs.Unused.{goes_rest, ends_none}
 use Rattle.sv_serve.proofs.driver.Driver.end_each.Goals as goal
 
 pub loop-conn-init : goal.loop-conn-init
 loop-conn-init g c = λ config history stands. (history, stands, refl)
 
 pub loop-conn-preserved : goal.loop-conn-preserved
-loop-conn-preserved g c = λ config history stands.
-    let (h0, s0, p0) = c.loop-conn.invariant config history stands in
-    let (h1, s1, p1) = c.end.ensures config h0 s0 in (
-      h1,
-      s1,
-      one_more (Ends g.W.Wire.hears) config c.loop-conn.conn (c.loop-conn.conn + 1)
-          _ (moment c.loop-conn.self h0) _ (omega arith) p0 p1,
-    )
+loop-conn-preserved g c =
+    goes_more (Ends g.W.Wire.hears) c.loop-conn.conn (c.loop-conn.conn + 1) c.args.self.now c.loop-conn.self
+    c.end.new.self (omega arith) c.loop-conn.invariant c.end.ensures
 
 pub returns-then-is_unused : goal.returns-then-is_unused
-returns-then-is_unused g c = λ config history stands.
-    let (h0, s0, p0) = c.loop-conn.invariant config history stands in
-    let unused = c.is_unused.ensures c.if-is_unused.true config h0 s0 in (
-      h0,
-      s0,
-      and_rest (Ends g.W.Wire.hears) config c.loop-conn.conn 16 _ (moment c.loop-conn.self h0) (omega arith) p0
-          (ends_none g.W.Wire.hears c.loop-conn.conn config (moment c.loop-conn.self h0) unused),
-    )
+returns-then-is_unused g c =
+    goes_rest (Ends g.W.Wire.hears) c.loop-conn.conn 16 c.args.self.now c.loop-conn.self (omega arith) c.loop-conn.invariant
+    (λ config history stands.
+    ends_none g.W.Wire.hears c.loop-conn.conn config (moment c.loop-conn.self history)
+    (c.is_unused.ensures c.if-is_unused.true config history stands))
 
 pub returns : goal.returns
-returns g c = λ config history stands.
-    let (h0, s0, p0) = c.loop-conn.invariant config history stands in
-    (h0, s0, as_many (Ends g.W.Wire.hears) config c.loop-conn.conn 16 _ (moment c.loop-conn.self h0) (omega arith) p0)
+returns g c =
+    goes_all (Ends g.W.Wire.hears) c.loop-conn.conn 16 c.args.self.now c.loop-conn.self (omega arith) c.loop-conn.invariant

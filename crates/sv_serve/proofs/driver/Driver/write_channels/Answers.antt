@@ -1,28 +1,18 @@
 use Rattle.std.proofs.Common.{refl, arith, ℕ, ◌+◌}
-use Rattle.sv_serve.specs.Moment.{moment}
 use Rattle.sv_history.specs.declared.event.Port.TheVariants.{Intr}
 use Rattle.sv_serve.specs.Steps.{WritesTo}
-use Rattle.sv_serve.proofs.Joined.{one_more, as_many}
+use Rattle.sv_serve.proofs.Joined.{goes_more, goes_all}
 use Rattle.sv_serve.proofs.driver.Driver.write_channels.Goals as goal
 
 pub loop-conn-init : goal.loop-conn-init
 loop-conn-init g c = λ config history stands. (history, stands, refl)
 
 pub loop-conn-preserved : goal.loop-conn-preserved
-loop-conn-preserved g c = λ config history stands.
-    let (h0, s0, p0) = c.loop-conn.invariant config history stands in
-    let (h1, s1, p1) = c.write.ensures config h0 s0 in (
-      h1,
-      s1,
-      one_more (λ (c : ℕ). WritesTo g.W.Wire.hears (Intr c)) config c.loop-conn.conn (c.loop-conn.conn + 1)
-          _ (moment c.loop-conn.self h0) _ (omega arith) p0 p1,
-    )
+loop-conn-preserved g c =
+    goes_more (λ (c : ℕ). WritesTo g.W.Wire.hears (Intr c)) c.loop-conn.conn (c.loop-conn.conn + 1) c.args.self.now c.loop-conn.self
+    c.write.new.self (omega arith) c.loop-conn.invariant c.write.ensures
 
 pub returns : goal.returns
-returns g c = λ config history stands.
-    let (h0, s0, p0) = c.loop-conn.invariant config history stands in (
-      h0,
-      s0,
-      as_many (λ (c : ℕ). WritesTo g.W.Wire.hears (Intr c)) config c.loop-conn.conn 16 _ (moment c.loop-conn.self h0)
-          (omega arith) p0,
-    )
+returns g c =
+    goes_all (λ (c : ℕ). WritesTo g.W.Wire.hears (Intr c)) c.loop-conn.conn 16 c.args.self.now c.loop-conn.self
+    (omega arith) c.loop-conn.invariant
