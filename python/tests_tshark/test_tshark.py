@@ -106,6 +106,15 @@ class Reading(unittest.TestCase):
             self.captured.add(2, called, 3 if called else 0, flags=RST | ACK, ack=0 if called else 3)
             self.assertEqual(self.told(), [(3, "opened", b""), (4, "sent", b"abc"), (5, kind, b"")])
 
+    def test_a_reset_behind_the_end(self) -> None:
+        """The server closed, so a reset is nothing more."""
+        self.captured.add(1, True, 0, b"abc")
+        self.captured.add(2, False, 0, b"def", FIN | ACK, ack=3)
+        self.captured.add(3, True, 3, b"ghi", ack=3)
+        self.captured.add(4, True, 6, flags=RST | ACK, ack=3)
+        self.assertEqual(self.told(), [(3, "opened", b""), (4, "sent", b"abc"), (5, "answered", b"def"),
+                                       (5, "closed", b"")])
+
     def test_what_is_lacking(self) -> None:
         self.captured.add(1, True, 0, b"abc")
         self.captured.add(2, True, 6, b"ghi")
