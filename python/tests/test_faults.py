@@ -157,7 +157,9 @@ class NothingLeft(unittest.TestCase):
                 self.leaves(how)
 
     def leaves(self, how: "signal.Signals | None") -> None:
-        text = ("from scanvolt.virtual import Meter\nmeter = Meter()\n"
+        # Whoever began these tests in the background may have left Ctrl-C ignored.
+        text = ("import signal\nsignal.signal(signal.SIGINT, signal.default_int_handler)\n"
+                "from scanvolt.virtual import Meter\nmeter = Meter()\n"
                 "print(meter.replay.program.process.pid, flush=True)\n") + (
                     "meter.connect()\nmeter.advance(10 ** 12)\n" if how else "")
         child = subprocess.Popen([sys.executable, "-c", text], stdout=subprocess.PIPE,
@@ -167,7 +169,11 @@ class NothingLeft(unittest.TestCase):
         if how is not None:
             self.assertTrue(is_there(number))
             child.send_signal(how)
-        child.communicate(timeout=20)
+        try:
+            child.communicate(timeout=20)
+        finally:
+            child.kill()
+            child.communicate()
         end = time.monotonic() + 20
         while is_there(number) and time.monotonic() < end:
             time.sleep(0.01)

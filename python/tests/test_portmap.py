@@ -16,6 +16,13 @@ from scanvolt.vxi11 import Reader, Records, calls, encode_reply, read_call, word
 PACKAGE = pathlib.Path(portmap.__file__).resolve().parents[1]
 ENVIRONMENT = dict(os.environ, PYTHONPATH=str(PACKAGE), PYTHONDONTWRITEBYTECODE="1")
 PATIENCE = 20       # seconds
+# Whoever began these tests in the background may have left signals ignored.
+COMMAND = """import signal, sys
+from scanvolt import portmap
+for number in portmap.ENDING:
+    signal.signal(number, signal.SIG_DFL)
+sys.exit(portmap.main())
+"""
 
 
 class Mapper(threading.Thread):
@@ -79,7 +86,7 @@ class Registering(unittest.TestCase):
     @contextlib.contextmanager
     def running(self, port: int, *given: str) -> "Iterator[subprocess.Popen[str]]":
         """The command, until it ends; nothing of it stays."""
-        command = [sys.executable, "-m", "scanvolt.portmap", "--port", str(port), *given]
+        command = [sys.executable, "-c", COMMAND, "--port", str(port), *given]
         with subprocess.Popen(command, env=ENVIRONMENT, stdout=subprocess.PIPE, stderr=subprocess.PIPE,
                               text=True) as process:
             try:

@@ -11,6 +11,7 @@ import unittest
 from typing import List, Optional, Tuple
 from unittest import mock
 
+from scanvolt.capturing import virtually
 from scanvolt.capturing.command import main
 from scanvolt.capturing.packets import Fault, packets
 from scanvolt.capturing.streams import Stream, streams
@@ -105,6 +106,15 @@ class Reading(unittest.TestCase):
             self.captured.add(2, called, 3 if called else 0, flags=RST | ACK, ack=0 if called else 3)
             self.assertEqual(self.told(), [(3, "opened", b""), (4, "sent", b"abc"), (5, kind, b"")])
 
+    def test_a_reset_behind_the_end(self) -> None:
+        """The server closed, so a reset is nothing more."""
+        self.captured.add(1, True, 0, b"abc")
+        self.captured.add(2, False, 0, b"def", FIN | ACK, ack=3)
+        self.captured.add(3, True, 3, b"ghi", ack=3)
+        self.captured.add(4, True, 6, flags=RST | ACK, ack=3)
+        self.assertEqual(self.told(), [(3, "opened", b""), (4, "sent", b"abc"), (5, "answered", b"def"),
+                                       (5, "closed", b"")])
+
     def test_what_is_lacking(self) -> None:
         self.captured.add(1, True, 0, b"abc")
         self.captured.add(2, True, 6, b"ghi")
@@ -137,7 +147,8 @@ class Reading(unittest.TestCase):
 class Comparing(unittest.TestCase):
     """A session that the meter itself had, as packets."""
 
-    SESSION = (calls.create_link(), calls.device_write(1, b"*IDN?\n", 0), calls.device_read(1, 99, 0))
+    SESSION = (calls.create_link(), calls.device_write(1, b"*IDN?\n", 0), calls.device_read(1, 99, 0),
+               calls.device_write(1, b"MEAS:VOLT? (@1)\n", 0), calls.device_read(1, 99, 9))
 
     def replies(self) -> List[bytes]:
         """What the meter answers."""
@@ -149,7 +160,7 @@ class Comparing(unittest.TestCase):
                 found.append(encode_reply(pending.xid, pending.body[len(encode_reply(0)) - 4:]))
             return found
 
-    def compared(self, replies: List[bytes]) -> Tuple[int, str]:
+    def compared(self, replies: List[bytes], *given: str, mode: str = "compare") -> Tuple[int, str]:
         """The status and the lines of a comparison, with each segment in two parts, the second one first."""
         captured = Captured()
         counts = [0, 0]
@@ -164,13 +175,27 @@ class Comparing(unittest.TestCase):
             file.flush()
             printed = io.StringIO()
             with mock.patch("signal.signal"), contextlib.redirect_stdout(printed):
-                status = main(["compare", file.name])
+                status = main([mode, file.name, *given])
             return status, printed.getvalue()
 
     def test_a_session_is_equal(self) -> None:
         status, text = self.compared(self.replies())
         self.assertEqual(status, 0, text)
-        self.assertIn("1 connection, 3 calls, 3 replies,", text)
+        self.assertIn("1 connection, 5 calls, 5 replies,", text)
+
+    def test_a_session_again_in_virtual_time(self) -> None:
+        status, text = self.compared(self.replies(), mode="virtual")
+        self.assertEqual(status, 0, text)
+        self.assertIn("capture: 5 replies and 0 service requests are the same in virtual time\n", text)
+
+    def test_what_differs_in_virtual_time(self) -> None:
+        with tempfile.NamedTemporaryFile("w", suffix=".scenario") as scenario:
+            scenario.write("0 input 1 1000000\n")
+            scenario.flush()
+            with mock.patch.object(virtually, "Meter", lambda program, _: Meter(program, scenario.name)):
+                status, text = self.compared(self.replies(), mode="virtual")
+        self.assertEqual(status, 1, text)
+        self.assertRegex(text, "capture: reply 5 \\(device_read\\) of .*: [0-9a-f]+ in the capture, [0-9a-f]+ in virtual")
 
     def test_a_name_that_differs(self) -> None:
         replies = self.replies()
