@@ -1,14 +1,12 @@
 -- Calls for interrupt channels (VXI-11 revision 1.0, section B.6: device_enable_srq, create_intr_chan, destroy_intr_chan).
-use Rattle.std.specs.Prelude.{ℕ, ◌/◌, ◌==◌, not, ◌&&◌, Bool, true, false, List, [], ◌∷◌, length, filter, Option, Some, None, nat_lt, if◌then◌else◌}
-use Rattle.sv_vxi.specs.declared.error_code.ErrorCode.{ErrorCode}
-use Rattle.sv_vxi.specs.declared.error_code.ErrorCode.TheVariants.{NoError, ParameterError, NotEstablished, NotSupported, InvalidAddress, AlreadyEstablished}
+use Rattle.std.specs.Prelude.{ℕ, ◌/◌, ◌==◌, ◌&&◌, Bool, true, false, List, [], ◌∷◌, length, filter, Option, Some, None, nat_lt, if◌then◌else◌}
+use Rattle.sv_vxi.specs.declared.error_code.ErrorCode.TheVariants.{NoError, ParameterError, NotEstablished}
 use Rattle.sv_vxi.specs.Arguments.{Arguments, CreateIntrChan, max_handle}
 use Rattle.sv_vxi.specs.Results.{Plain}
-use Rattle.sv_links.specs.declared.request.Peer.{Peer}
 use Rattle.sv_links.specs.declared.waiting.Wait.{Wait}
 use Rattle.sv_links.specs.declared.waiting.Wait.TheVariants.{Dial as Dialing}
 use Rattle.sv_links.specs.Waiting.{WaitAct, waits, connections}
-use Rattle.sv_links.specs.Channels.{SrqEnabled, SrqDisabled, ChannelOpened, ChannelClosed, is_channel_open}
+use Rattle.sv_links.specs.Channels.{SrqEnabled, SrqDisabled, ChannelOpened, is_channel_open}
 use Rattle.sv_history.specs.declared.event.Dial.{Dial}
 use Rattle.sv_history.specs.Act.{Act, DeviceAct, Channel, of, device_acts, wait_acts, channel_acts}
 use Rattle.sv_history.specs.Connection.{life}

@@ -1,13 +1,12 @@
 -- What a connection's own call comes to is the same in two logs that are alike for it.
-use Rattle.std.proofs.Common.{◌≡◌, ℕ, Bool, true, false, cond, List, [], ◌∷◌, ◌++◌, Option, Some, None, refl, sym, ap, ◌∙◌}
-use Rattle.std.specs.Prelude.{ℤ, pos, negsuc, not, is_some, ◌&&◌}
+use Rattle.std.proofs.Common.{◌≡◌, ℕ, true, false, List, [], ◌∷◌, ◌++◌, Option, Some, None, refl, sym, ap, ◌∙◌}
+use Rattle.std.specs.Prelude.{pos, negsuc}
 use Rattle.sv_logs.proofs.Each.{Each}
-use Rattle.sv_vxi.specs.declared.error_code.ErrorCode.TheVariants.{InvalidLink, ParameterError}
-use Rattle.sv_vxi.specs.declared.arguments.GenericCall.TheVariants.{Readstb, Trigger, Clear, Remote, Local}
-use Rattle.sv_vxi.specs.Arguments.{LinkCall, DeviceAbort, DeviceWrite, DeviceRead, Generic, DeviceLock, DeviceUnlock, DeviceEnableSrq, DeviceDocmd, DestroyLink, Arguments, CreateLink, OnLink, CreateIntrChan, DestroyIntrChan, link, lock_wait, is_create_link}
+use Rattle.sv_vxi.specs.declared.arguments.GenericCall.TheVariants.{Trigger}
+use Rattle.sv_vxi.specs.Arguments.{LinkCall, DeviceWrite, DeviceRead, Generic, DeviceLock, DeviceUnlock, DeviceEnableSrq, Arguments, CreateLink, OnLink, CreateIntrChan, DestroyIntrChan, is_create_link}
 use Rattle.sv_links.specs.declared.waiting.Wait.{Wait}
 use Rattle.sv_links.specs.declared.waiting.Wait.TheVariants.{Lock, Input as ForInput, Response, Dial}
-use Rattle.sv_links.specs.Links.{Made, Destroyed, Locked, Unlocked, holder, is_locked_out}
+use Rattle.sv_links.specs.Links.{Made, Destroyed, Locked, Unlocked, holder}
 use Rattle.sv_links.specs.Waiting.{Left}
 use Rattle.sv_history.specs.declared.event.Config.{Config}
 use Rattle.sv_history.specs.Act.{DeviceAct, Linked, Waited, Channel, Happened, Ticked, link_acts}

@@ -1,12 +1,11 @@
 -- While a link holds the lock, a call of another connection adds nothing of the instrument's, takes no lock, and speaks of its own links.
 use Rattle.std.proofs.Common.{◌≡◌, ◌≢◌, ℕ, Bool, true, false, List, length, nat_lt, Option, Some, None, refl, sym, ap, ◌∙◌, inl, inr}
-use Rattle.std.specs.Prelude.{ℤ, pos, negsuc, not, codes, is_some, ◌==◌}
+use Rattle.std.specs.Prelude.{ℤ, pos, negsuc, codes, is_some, ◌==◌}
 use Rattle.std.specs.Str.{bytes_eq}
 use Rattle.std.proofs.lemmas.Bool.{cases_Bool, ne_eqb}
 use Rattle.sv_logs.proofs.Each.{Each}
-use Rattle.sv_vxi.specs.declared.error_code.ErrorCode.{ErrorCode}
 use Rattle.sv_vxi.specs.declared.arguments.LockWait.{LockWait}
-use Rattle.sv_vxi.specs.Arguments.{LinkCall, DeviceAbort, DeviceWrite, DeviceRead, Generic, DeviceLock, DeviceUnlock, DeviceEnableSrq, DeviceDocmd, DestroyLink, Arguments, CreateLink, OnLink, CreateIntrChan, DestroyIntrChan, lock_wait, max_handle}
+use Rattle.sv_vxi.specs.Arguments.{LinkCall, DeviceAbort, DeviceUnlock, DeviceEnableSrq, DestroyLink, Arguments, CreateLink, OnLink, CreateIntrChan, DestroyIntrChan, lock_wait, max_handle}
 use Rattle.sv_links.specs.Links.{owner, is_of, holder, is_locked_out, lids_left}
 use Rattle.sv_laws.proofs.LinksAlike.{owner_is_of}
 use Rattle.sv_history.specs.declared.event.Config.{Config}
