@@ -67,8 +67,8 @@ device_modest : (call : LinkCall) (acts : List DeviceAct) (wait : Wait) (until n
 device_modest (DeviceWrite io_timeout lock_timeout flags bytes) acts wait until named e = by (has_ended (exchange_acts acts)) wait e
   where
     by : (b : Bool) (wait : Wait)
-        → option_map (λ (wait : Wait × ℕ). Awaits wait.0 (Some wait.1)) (cond b (Some (ForInput, io_timeout)) None) ≡ Some (Awaits wait until)
-        → IsModest wait named
+        → option_map (λ (wait : Wait × ℕ). Awaits wait.0 (Some wait.1)) (cond b (Some (ForInput, io_timeout)) None)
+        ≡ Some (Awaits wait until) → IsModest wait named
     by true Lock e = absurd cc
     by true ForInput e = (refl, refl)
     by true Response e = absurd cc
@@ -78,8 +78,8 @@ device_modest (DeviceRead request_size io_timeout lock_timeout flags term_char) 
     by (is_answerable (instrument_acts acts)) wait e
   where
     by : (b : Bool) (wait : Wait)
-        → option_map (λ (wait : Wait × ℕ). Awaits wait.0 (Some wait.1)) (cond b None (Some (Response, io_timeout))) ≡ Some (Awaits wait until)
-        → IsModest wait named
+        → option_map (λ (wait : Wait × ℕ). Awaits wait.0 (Some wait.1)) (cond b None (Some (Response, io_timeout)))
+        ≡ Some (Awaits wait until) → IsModest wait named
     by false Lock e = absurd cc
     by false ForInput e = absurd cc
     by false Response e = (refl, refl)
@@ -111,7 +111,8 @@ call_modest c named call acts wait until e = by (owns c named acts) (is_too_long
   where
     by : (own long out : Bool) → owns c named acts ≡ own
         → cond (not own) (Some (Fails InvalidLink)) (cond long (Some (Fails ParameterError))
-        (cond out (option_map lock_stop (lock_wait call)) (option_map (λ (wait : Wait × ℕ). Awaits wait.0 (Some wait.1)) (device_wait call acts))))
+        (cond out (option_map lock_stop (lock_wait call))
+        (option_map (λ (wait : Wait × ℕ). Awaits wait.0 (Some wait.1)) (device_wait call acts))))
         ≡ Some (Awaits wait until) → IsModest wait named
     by false long out o e = absurd cc
     by true true out o e = absurd cc

@@ -181,7 +181,8 @@ plain_own config polled c (OnLink (pos n) (DeviceRead request_size io_timeout lo
       | inr k ↦ elim (cases_Bool (is_something (response (exchange_acts acts)))) [ inl e ↦ rw (k, e) tt | inr e ↦ rw (k, e) tt ]
     ]
 plain_own config polled c (OnLink (pos n) (Generic Readstb flags lock_timeout io_timeout)) acts = tt
-plain_own config polled c (OnLink (pos n) (Generic Trigger flags lock_timeout io_timeout)) acts = plain_happened (trigger_acts (instrument_acts acts))
+plain_own config polled c (OnLink (pos n) (Generic Trigger flags lock_timeout io_timeout)) acts =
+    plain_happened (trigger_acts (instrument_acts acts))
 plain_own config polled c (OnLink (pos n) (Generic Clear flags lock_timeout io_timeout)) acts = tt
 plain_own config polled c (OnLink (pos n) (DeviceLock flags lock_timeout)) acts =
     elim (cases_Bool (is_locked_out (holder (link_acts acts)) (Some n))) [ inl e ↦ rw e tt | inr e ↦ rw e tt ]

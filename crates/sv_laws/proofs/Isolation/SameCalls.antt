@@ -104,7 +104,8 @@ pub resumed_same : (config : Config) (polled c lid : ℕ) (wait : Wait) (call : 
     → is_create_link call.arguments ≡ false → View c lid acts other
     → resumed config polled c wait (Some call) acts ≡ resumed config polled c wait (Some call) other
 resumed_same config polled c lid wait call acts other makes view = ap (call_effect call.xid)
-    (ap (λ (next : Option (Wait × ℕ)). continued config polled c call.arguments next acts) (next_same c lid wait call.arguments acts other view)
+    (ap (λ (next : Option (Wait × ℕ)). continued config polled c call.arguments next acts)
+    (next_same c lid wait call.arguments acts other view)
     ∙ continued_by config polled c lid call.arguments (next_wait wait call.arguments other) acts other makes view)
 
 -- ---- its acts make no link

@@ -95,13 +95,14 @@ call_foreign config polled c d lid (CreateLink client_id false lock_timeout devi
       ]
       | inr e ↦ rw e tt
     ]
-call_foreign config polled c d lid (OnLink (pos n) DeviceUnlock) acts held mine ne = elim (cases_Bool (is_of d (owner n (link_acts acts)))) [
-  | inl e ↦
-      let owns = owner_is_of d (owner n (link_acts acts)) e in
-      let apart : lid ≢ n = λ same. ne (some_number d c (sym owns ∙ ap (λ (m : ℕ). owner m (link_acts acts)) (sym same) ∙ mine)) in
-      rw (e, held, ne_eqb lid n apart) tt
-  | inr e ↦ rw e tt
-]
+call_foreign config polled c d lid (OnLink (pos n) DeviceUnlock) acts held mine ne =
+    elim (cases_Bool (is_of d (owner n (link_acts acts)))) [
+      | inl e ↦
+          let owns = owner_is_of d (owner n (link_acts acts)) e in
+          let apart : lid ≢ n = λ same. ne (some_number d c (sym owns ∙ ap (λ (m : ℕ). owner m (link_acts acts)) (sym same) ∙ mine)) in
+          rw (e, held, ne_eqb lid n apart) tt
+      | inr e ↦ rw e tt
+    ]
 call_foreign config polled c d lid (OnLink (pos n) (DeviceEnableSrq true handle)) acts held mine ne =
     elim (cases_Bool (is_of d (owner n (link_acts acts)))) [
       | inl e ↦ elim (cases_Bool (nat_lt max_handle (length handle))) [
@@ -135,4 +136,5 @@ call_foreign config polled c d lid (OnLink (pos n) DeviceAbort) acts held mine n
   | inl e ↦ rw e tt
   | inr e ↦ rw e tt
 ]
-call_foreign config polled c d lid (OnLink named call) acts held mine ne = minds_lock config polled c d lid named call acts refl held mine ne
+call_foreign config polled c d lid (OnLink named call) acts held mine ne =
+    minds_lock config polled c d lid named call acts refl held mine ne
