@@ -1,6 +1,6 @@
 -- What the header of a call decides, apart from what its procedure asks for.
-use Rattle.std.proofs.Common.{◌≡◌, Bool, true, false, cond, List, Option, Some, None, refl}
-use Rattle.std.specs.Prelude.{ℕ, not, ◌==◌, if◌then◌else◌}
+use Rattle.std.proofs.Common.{◌≡◌, Bool, true, false, cond, Option, Some, None, refl}
+use Rattle.std.specs.Prelude.{not, ◌==◌, if◌then◌else◌}
 use Rattle.sv_rpc.specs.declared.reply.Reply.{Reply}
 use Rattle.sv_rpc.specs.declared.reply.Reply.TheVariants.{Success, ProgUnavail, ProgMismatch, ProcUnavail}
 use Rattle.sv_rpc.specs.Call.{PlainCall}

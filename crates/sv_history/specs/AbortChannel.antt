@@ -1,5 +1,5 @@
 -- device_abort (VXI-11 revision 1.0, section B.6): the call that waits and names the link ends with an error.
-use Rattle.std.specs.Prelude.{ℕ, Bool, false, List, Option, Some, None, is_some, ◌&&◌, if◌then◌else◌}
+use Rattle.std.specs.Prelude.{ℕ, List, Option, Some, None, is_some, ◌&&◌, if◌then◌else◌}
 use Rattle.sv_vxi.specs.declared.error_code.ErrorCode.TheVariants.{NoError, InvalidLink}
 use Rattle.sv_vxi.specs.Results.{Outcome, Plain}
 use Rattle.sv_links.specs.Links.{owner, is_this}

@@ -33,9 +33,9 @@ lock_stop wait = if wait.waits then Awaits Lock (Some wait.timeout) else Fails D
 -- what a call waits for that isn't kept out, and how long, in milliseconds: a write until no ended message waits to be finished, a read
 -- until there is something to answer
 abbrev pub device_wait : LinkCall → List DeviceAct → Option (Wait × ℕ)
-device_wait (DeviceWrite io_timeout lock_timeout flags bytes) acts = if has_ended (exchange_acts acts) then Some (Input, io_timeout) else None
-device_wait (DeviceRead request_size io_timeout lock_timeout flags term_char) acts =
-    if is_answerable (instrument_acts acts) then None else Some (Response, io_timeout)
+device_wait (DeviceWrite timeout lock_timeout flags bytes) acts = if has_ended (exchange_acts acts) then Some (Input, timeout) else None
+device_wait (DeviceRead request_size timeout lock_timeout flags term_char) acts =
+    if is_answerable (instrument_acts acts) then None else Some (Response, timeout)
 device_wait _ acts = None
 
 -- What stops a call on a link: the link is looked at first, then how much a write brings, then the lock, and then what it waits for.
@@ -57,7 +57,7 @@ link_stop lock_device timeout device acts =
     else (if not (may_make_more acts) then Some (Fails OutOfResources)
     else (if lock_device && is_locked_out (holder (link_acts acts)) None then Some (Awaits Lock (Some timeout)) else None))
 
--- an interrupt channel can't be opened where one is, not over anything but TCP (0), and not to everywhere; else it is opened once its peer
+-- an interrupt channel can't be opened where one is, over anything but TCP (0), or to anyone but a peer; else it is opened once its peer
 -- was called, for which the call waits without a deadline
 abbrev pub channel_stop : Bool → ℕ → ℕ → ℕ → Stop
 channel_stop there host_addr host_port prog_family =
@@ -65,7 +65,7 @@ channel_stop there host_addr host_port prog_family =
     else (if not (prog_family == 0) then Fails NotSupported
     else (if not (is_peer host_addr host_port) then Fails InvalidAddress else Awaits Dial None))
 
--- what stops a call by what it is
+-- What stops a call.
 abbrev pub stop_of : ℕ → Arguments → List DeviceAct → Option Stop
 stop_of c (CreateLink client_id lock_device lock_timeout device) acts = link_stop lock_device lock_timeout device acts
 stop_of c (OnLink lid call) acts = call_stop c (lid_of (Some lid)) call acts

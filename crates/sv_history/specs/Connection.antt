@@ -12,9 +12,9 @@ use Rattle.sv_history.specs.declared.event.Port.TheVariants.{Conn, Intr}
 use Rattle.sv_history.specs.Act.{Act, ConnAct, Opened, Piece, CallTaken, Faulted, Replied, BytesTaken, PortClosed, of}
 use Rattle.sv_history.specs.Limits.{max_output}
 
--- what the acts since its newest opening say of a connection: what it is open for; all bytes that came on it; the call that was taken and has
--- no answer yet; how many of its records came to their end, by an answer, or since they are no call; whether one that is no call was taken;
--- all bytes of its replies; and how many of these the peer took
+-- what the acts since its newest opening say of a connection: what it is open for; all bytes that came on it; the call that was taken and
+-- has no answer yet; how many of its records came to their end, by an answer, or since they are no call; whether one that is no call was
+-- taken; all bytes of its replies; and how many of these the peer took
 pub record Life : Type 0 where
   pub role : Option Role
   pub stream : List ℕ

@@ -1,5 +1,5 @@
 -- The calls of the core channel (VXI-11 revision 1.0, section B.6), as their arguments say them.
-use Rattle.std.specs.Prelude.{ℕ, ℤ, pos, negsuc, Bool, false, [], length, Option, Some, None, nat_lt}
+use Rattle.std.specs.Prelude.{ℕ, ℤ, pos, Bool, false, [], length, Option, Some, None, nat_lt}
 use Rattle.sv_vxi.specs.declared.error_code.ErrorCode.{ErrorCode}
 use Rattle.sv_vxi.specs.declared.arguments.GenericCall.TheVariants.{Readstb}
 use Rattle.sv_vxi.specs.Arguments.{LinkCall, DeviceWrite, DeviceRead, Generic, DeviceDocmd, Arguments, CreateLink, OnLink, is_create_link}

@@ -73,8 +73,8 @@ device_read most term acts =
     else (if not (is_answerable (instrument_acts acts)) then only (no_bytes IoTimeout)
     else answered (Happened (Reported QueryUnterminated) ∷ Happened (Exchanged TextDropped) ∷ []) (no_bytes IoTimeout))
 
--- A call on a link by what it is, once it needn't wait, where a poll of the status byte would give this; device_remote and device_local do
--- nothing. device_docmd isn't supported; nor, here, is device_abort, which is none of this channel.
+-- A call on a link of this number by what it is, once it needn't wait, where a poll of the status byte would give this. device_remote and
+-- device_local do nothing. device_docmd isn't supported; nor, here, is device_abort, which is none of this channel.
 abbrev pub link_call : ℕ → ℕ → ℕ → LinkCall → List DeviceAct → CallOutcome
 link_call polled c lid (DeviceWrite io_timeout lock_timeout flags bytes) acts = device_write flags bytes acts
 link_call polled c lid (DeviceRead request_size io_timeout lock_timeout flags term_char) acts =
@@ -91,7 +91,7 @@ link_call polled c lid (DeviceEnableSrq enable handle) acts =
 link_call polled c lid DestroyLink acts = answered (Linked (Destroyed lid) ∷ []) (Plain NoError)
 link_call polled c lid call acts = only (failure (OnLink (pos lid) call) NotSupported)
 
--- And any call. A negative number is no link's; create_intr_chan waits until its peer was called (Interrupts), and isn't supported here.
+-- And any call. A negative number is no link's. create_intr_chan, which waits until its peer was called (Interrupts), isn't supported here.
 abbrev pub own_call : Config → ℕ → ℕ → Arguments → List DeviceAct → CallOutcome
 own_call config polled c (CreateLink client_id lock_device lock_timeout device) acts = make_link config c lock_device acts
 own_call config polled c (OnLink (pos lid) call) acts = link_call polled c lid call acts

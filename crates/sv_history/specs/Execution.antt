@@ -3,7 +3,6 @@ use Rattle.std.specs.Prelude.{ℕ, List, [], ◌∷◌, Option, Some, None, Resu
 use Rattle.sv_xdr.specs.declared.garbage.Garbage.{Garbage}
 use Rattle.sv_xdr.specs.Spelling.{Unsigned}
 use Rattle.sv_rpc.specs.declared.reply.Reply.TheVariants.{Success, GarbageArgs}
-use Rattle.sv_rpc.specs.declared.ports.Ports.{Ports}
 use Rattle.sv_rpc.specs.Ports.{port_at}
 use Rattle.sv_history.specs.declared.event.Config.{Config}
 use Rattle.sv_history.specs.Act.{DeviceAct, Faulted}

@@ -1,14 +1,12 @@
 -- Calls for interrupt channels (VXI-11 revision 1.0, section B.6: device_enable_srq, create_intr_chan, destroy_intr_chan).
-use Rattle.std.specs.Prelude.{ℕ, ◌/◌, ◌==◌, not, ◌&&◌, Bool, true, false, List, [], ◌∷◌, length, filter, Option, Some, None, nat_lt, if◌then◌else◌}
-use Rattle.sv_vxi.specs.declared.error_code.ErrorCode.{ErrorCode}
-use Rattle.sv_vxi.specs.declared.error_code.ErrorCode.TheVariants.{NoError, ParameterError, NotEstablished, NotSupported, InvalidAddress, AlreadyEstablished}
+use Rattle.std.specs.Prelude.{ℕ, ◌/◌, ◌==◌, ◌&&◌, Bool, true, false, List, [], ◌∷◌, length, filter, Option, Some, None, nat_lt, if◌then◌else◌}
+use Rattle.sv_vxi.specs.declared.error_code.ErrorCode.TheVariants.{NoError, ParameterError, NotEstablished}
 use Rattle.sv_vxi.specs.Arguments.{Arguments, CreateIntrChan, max_handle}
 use Rattle.sv_vxi.specs.Results.{Plain}
-use Rattle.sv_links.specs.declared.request.Peer.{Peer}
 use Rattle.sv_links.specs.declared.waiting.Wait.{Wait}
 use Rattle.sv_links.specs.declared.waiting.Wait.TheVariants.{Dial as Dialing}
 use Rattle.sv_links.specs.Waiting.{WaitAct, waits, connections}
-use Rattle.sv_links.specs.Channels.{SrqEnabled, SrqDisabled, ChannelOpened, ChannelClosed, is_channel_open}
+use Rattle.sv_links.specs.Channels.{SrqEnabled, SrqDisabled, ChannelOpened, is_channel_open}
 use Rattle.sv_history.specs.declared.event.Dial.{Dial}
 use Rattle.sv_history.specs.Act.{Act, DeviceAct, Channel, of, device_acts, wait_acts, channel_acts}
 use Rattle.sv_history.specs.Connection.{life}
@@ -26,7 +24,7 @@ enable_srq c true lid handle = if nat_lt max_handle (length handle) then only (P
     else answered (Channel (SrqEnabled lid c handle) ∷ []) (Plain NoError)
 enable_srq c false lid handle = answered (Channel (SrqDisabled lid) ∷ []) (Plain NoError)
 
--- whether a channel may be opened to there: an address in 127.0.0.0/8, and a port of 1 to 65535
+-- whether it may be a peer: an address in 127.0.0.0/8, and a port of 1 to 65535
 abbrev pub is_peer : ℕ → ℕ → Bool
 is_peer host_addr host_port = (host_addr / 16777216 == 127) && nat_lt 0 host_port && nat_lt host_port 65536
 

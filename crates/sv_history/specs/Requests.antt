@@ -1,10 +1,10 @@
 -- What is told to interrupt channels (VXI-11 revision 1.0, section B.6, device_intr_srq; IEEE 488.2, 11.3): their own acts, that a link
 -- which is destroyed asks for no more service requests, and a request at each place of the acts at which one is raised.
 use Rattle.std.specs.Prelude.{◌≡◌, ◌↔◌, Bool, true, false, List, [], ◌∷◌}
-use Rattle.sv_links.specs.Links.{LinkAct, Made, Destroyed, Locked, Unlocked}
+use Rattle.sv_links.specs.Links.{LinkAct, Destroyed}
 use Rattle.sv_links.specs.Channels.{ChannelAct, SrqDisabled, Requested}
 use Rattle.sv_layers.specs.StatusByte.{IsRaised}
-use Rattle.sv_history.specs.Act.{DeviceAct, Linked, Waited, Channel, Happened, Ticked, instrument_acts}
+use Rattle.sv_history.specs.Act.{DeviceAct, Linked, Channel, Happened, instrument_acts}
 
 -- what a link's act is to them
 abbrev pub link_told : LinkAct → List ChannelAct → List ChannelAct

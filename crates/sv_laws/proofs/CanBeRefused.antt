@@ -1,12 +1,12 @@
 -- A call that finds no memory can be refused.
 use Rattle.std.proofs.Common.{◌≡◌, ℕ, Bool, true, false, cond, eqb, List, [], ◌∷◌, ◌++◌, Option, Some, None, nat_lt, refl, sym, ap, subst, ◌∙◌, inl, inr, append-nil}
-use Rattle.std.specs.Prelude.{not, is_some, is_none, option_map, ◌&&◌, ℤ, pos, negsuc}
+use Rattle.std.specs.Prelude.{not, is_none, option_map, ◌&&◌}
 use Rattle.std.proofs.lemmas.Bool.{cases_Bool}
 use Rattle.sv_logs.proofs.Each.{Each}
 use Rattle.sv_vxi.specs.declared.error_code.ErrorCode.TheVariants.{Abort, InvalidLink, ParameterError}
 use Rattle.sv_vxi.specs.declared.error_code.ErrorCode.TheVariants.{Locked as DeviceLocked}
 use Rattle.sv_vxi.specs.declared.arguments.LockWait.{LockWait}
-use Rattle.sv_vxi.specs.Arguments.{LinkCall, DeviceAbort, DeviceWrite, DeviceRead, Generic, DeviceLock, DeviceUnlock, DeviceEnableSrq, DeviceDocmd, DestroyLink, Arguments, CreateLink, OnLink, CreateIntrChan, DestroyIntrChan, link, lock_wait, is_create_link}
+use Rattle.sv_vxi.specs.Arguments.{LinkCall, DeviceWrite, DeviceRead, Arguments, CreateLink, OnLink, CreateIntrChan, DestroyIntrChan, link, lock_wait, is_create_link}
 use Rattle.sv_links.specs.declared.waiting.Wait.{Wait}
 use Rattle.sv_links.specs.declared.waiting.Wait.TheVariants.{Lock, Input as ForInput, Response, Dial}
 use Rattle.sv_links.specs.Links.{Made, Destroyed, Locked, Unlocked, made}
@@ -67,8 +67,8 @@ device_modest : (call : LinkCall) (acts : List DeviceAct) (wait : Wait) (until n
 device_modest (DeviceWrite io_timeout lock_timeout flags bytes) acts wait until named e = by (has_ended (exchange_acts acts)) wait e
   where
     by : (b : Bool) (wait : Wait)
-        → option_map (λ (wait : Wait × ℕ). Awaits wait.0 (Some wait.1)) (cond b (Some (ForInput, io_timeout)) None) ≡ Some (Awaits wait until)
-        → IsModest wait named
+        → option_map (λ (wait : Wait × ℕ). Awaits wait.0 (Some wait.1)) (cond b (Some (ForInput, io_timeout)) None)
+        ≡ Some (Awaits wait until) → IsModest wait named
     by true Lock e = absurd cc
     by true ForInput e = (refl, refl)
     by true Response e = absurd cc
@@ -78,8 +78,8 @@ device_modest (DeviceRead request_size io_timeout lock_timeout flags term_char) 
     by (is_answerable (instrument_acts acts)) wait e
   where
     by : (b : Bool) (wait : Wait)
-        → option_map (λ (wait : Wait × ℕ). Awaits wait.0 (Some wait.1)) (cond b None (Some (Response, io_timeout))) ≡ Some (Awaits wait until)
-        → IsModest wait named
+        → option_map (λ (wait : Wait × ℕ). Awaits wait.0 (Some wait.1)) (cond b None (Some (Response, io_timeout)))
+        ≡ Some (Awaits wait until) → IsModest wait named
     by false Lock e = absurd cc
     by false ForInput e = absurd cc
     by false Response e = (refl, refl)
@@ -111,7 +111,8 @@ call_modest c named call acts wait until e = by (owns c named acts) (is_too_long
   where
     by : (own long out : Bool) → owns c named acts ≡ own
         → cond (not own) (Some (Fails InvalidLink)) (cond long (Some (Fails ParameterError))
-        (cond out (option_map lock_stop (lock_wait call)) (option_map (λ (wait : Wait × ℕ). Awaits wait.0 (Some wait.1)) (device_wait call acts))))
+        (cond out (option_map lock_stop (lock_wait call))
+        (option_map (λ (wait : Wait × ℕ). Awaits wait.0 (Some wait.1)) (device_wait call acts))))
         ≡ Some (Awaits wait until) → IsModest wait named
     by false long out o e = absurd cc
     by true true out o e = absurd cc

@@ -12,7 +12,7 @@ use Rattle.sv_history.specs.History.{IsLogOf}
 use Rattle.sv_laws.proofs.EveryLog.BusyWaits.{busy_waits}
 use Rattle.sv_laws.proofs.EveryLog.EachEvent.{fit_log}
 use Rattle.sv_history.proofs.Lives.{is_busy, completed, unanswered}
-use Rattle.sv_laws.specs.Laws.{taken, one_if, IsPaid, EachAnswered}
+use Rattle.sv_laws.specs.Laws.{taken, one_if, EachAnswered}
 use Rattle.sv_laws.proofs.EveryLog.Taken.{free_call}
 use Rattle.sv_laws.proofs.EveryLog.EachAct.{AllCame, all_came}
 

@@ -5,7 +5,7 @@ use Rattle.std.specs.List.{fold}
 use Rattle.std.proofs.lemmas.Bool.{cases_Bool}
 use Rattle.sv_vxi.specs.declared.error_code.ErrorCode.TheVariants.{Abort}
 use Rattle.sv_vxi.specs.declared.arguments.GenericCall.TheVariants.{Readstb, Trigger, Clear, Remote, Local}
-use Rattle.sv_vxi.specs.Arguments.{LinkCall, DeviceAbort, DeviceWrite, DeviceRead, Generic, DeviceLock, DeviceUnlock, DeviceEnableSrq, DeviceDocmd, DestroyLink, Arguments, CreateLink, OnLink, CreateIntrChan, DestroyIntrChan, max_handle}
+use Rattle.sv_vxi.specs.Arguments.{DeviceAbort, DeviceWrite, DeviceRead, Generic, DeviceLock, DeviceUnlock, DeviceEnableSrq, DeviceDocmd, DestroyLink, Arguments, CreateLink, OnLink, CreateIntrChan, DestroyIntrChan, max_handle}
 use Rattle.sv_links.specs.declared.request.Peer.{Peer}
 use Rattle.sv_links.specs.declared.waiting.Wait.{Wait}
 use Rattle.sv_links.specs.Links.{LinkAct, Made, Destroyed, Locked, Unlocked, closing, owner, is_of, holder, is_locked_out, is_this, lids_left}
@@ -181,7 +181,8 @@ plain_own config polled c (OnLink (pos n) (DeviceRead request_size io_timeout lo
       | inr k ↦ elim (cases_Bool (is_something (response (exchange_acts acts)))) [ inl e ↦ rw (k, e) tt | inr e ↦ rw (k, e) tt ]
     ]
 plain_own config polled c (OnLink (pos n) (Generic Readstb flags lock_timeout io_timeout)) acts = tt
-plain_own config polled c (OnLink (pos n) (Generic Trigger flags lock_timeout io_timeout)) acts = plain_happened (trigger_acts (instrument_acts acts))
+plain_own config polled c (OnLink (pos n) (Generic Trigger flags lock_timeout io_timeout)) acts =
+    plain_happened (trigger_acts (instrument_acts acts))
 plain_own config polled c (OnLink (pos n) (Generic Clear flags lock_timeout io_timeout)) acts = tt
 plain_own config polled c (OnLink (pos n) (DeviceLock flags lock_timeout)) acts =
     elim (cases_Bool (is_locked_out (holder (link_acts acts)) (Some n))) [ inl e ↦ rw e tt | inr e ↦ rw e tt ]

@@ -56,11 +56,16 @@ arguments_begin (OnLink lid (DeviceWrite io_timeout lock_timeout flags text)) by
     on_link_begins device_write DeviceWrite lid (io_timeout & lock_timeout & flags & text & tt) bytes after (text_bound _ h.2.2.2.2.1, tt) h
 arguments_begin (OnLink lid (DeviceRead request_size io_timeout lock_timeout flags term_char)) bytes after (bounds, h) =
     on_link_begins device_read DeviceRead lid (request_size & io_timeout & lock_timeout & flags & term_char & tt) bytes after tt h
-arguments_begin (OnLink lid (Generic Readstb flags lock io)) bytes after (bounds, h) = generic_begins Readstb lid flags lock io bytes after h
-arguments_begin (OnLink lid (Generic Trigger flags lock io)) bytes after (bounds, h) = generic_begins Trigger lid flags lock io bytes after h
-arguments_begin (OnLink lid (Generic Clear flags lock io)) bytes after (bounds, h) = generic_begins Clear lid flags lock io bytes after h
-arguments_begin (OnLink lid (Generic Remote flags lock io)) bytes after (bounds, h) = generic_begins Remote lid flags lock io bytes after h
-arguments_begin (OnLink lid (Generic Local flags lock io)) bytes after (bounds, h) = generic_begins Local lid flags lock io bytes after h
+arguments_begin (OnLink lid (Generic Readstb flags lock io)) bytes after (bounds, h) =
+    generic_begins Readstb lid flags lock io bytes after h
+arguments_begin (OnLink lid (Generic Trigger flags lock io)) bytes after (bounds, h) =
+    generic_begins Trigger lid flags lock io bytes after h
+arguments_begin (OnLink lid (Generic Clear flags lock io)) bytes after (bounds, h) =
+    generic_begins Clear lid flags lock io bytes after h
+arguments_begin (OnLink lid (Generic Remote flags lock io)) bytes after (bounds, h) =
+    generic_begins Remote lid flags lock io bytes after h
+arguments_begin (OnLink lid (Generic Local flags lock io)) bytes after (bounds, h) =
+    generic_begins Local lid flags lock io bytes after h
 arguments_begin (OnLink lid (DeviceLock flags lock_timeout)) bytes after (bounds, h) =
     on_link_begins device_lock DeviceLock lid (flags & lock_timeout & tt) bytes after tt h
 arguments_begin (OnLink lid DeviceUnlock) bytes after (bounds, h) = on_link_begins [] DeviceUnlock lid tt bytes after tt h

@@ -1,7 +1,7 @@
 -- No arguments and no result begin others.
 use Rattle.std.proofs.Common.{◌≡◌, ℕ, List, Result, Ok, [], ◌∷◌, sym, ap, subst, ◌∙◌}
 use Rattle.sv_xdr.specs.declared.garbage.Garbage.{Garbage}
-use Rattle.sv_xdr.specs.Spelling.{Field, Unsigned, Signed, Boolean, Opaque, BeginsAll}
+use Rattle.sv_xdr.specs.Spelling.{Field, Unsigned, BeginsAll}
 use Rattle.sv_xdr.specs.Laws.{SameKind}
 use Rattle.sv_xdr.proofs.PrefixFree.{SameKinds, all_fields}
 use Rattle.sv_vxi.specs.Arguments.{Arguments, argument_fields}

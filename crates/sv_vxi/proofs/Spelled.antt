@@ -1,5 +1,5 @@
 -- Arguments that are spelled are read, and what is read is spelled so.
-use Rattle.std.proofs.Common.{◌≡◌, ◌≤◌, ℕ, ℤ, Bool, List, [], ◌∷◌, length, Result, Ok, Err, refl, sym, ap, subst, ◌∙◌, arith}
+use Rattle.std.proofs.Common.{◌≡◌, ◌≤◌, ℕ, ℤ, Bool, List, [], ◌∷◌, length, Result, Ok, Err, refl, ap, ◌∙◌, arith}
 use Rattle.std.specs.Bool.{⊤}
 use Rattle.sv_xdr.specs.declared.fault.XdrFault.{XdrFault}
 use Rattle.sv_xdr.specs.declared.garbage.Garbage.{Garbage}
@@ -46,8 +46,8 @@ pub text_bound : {bytes after : List ℕ} (text : List ℕ) → Begins bytes (Op
 text_bound {bytes} {after} text b = omega (arith, word_fits b.1.0 (length text) b.1.2)
 
 -- fields that are spelled are read
-pub read_begins : {A : Type 0} (kinds : List Kind) (makes : Makes kinds A) (values : Values kinds) (bytes after : List ℕ) → Bounded kinds values
-    → BeginsAll bytes (fields kinds values) after → read kinds makes bytes ≡ Ok (make kinds makes values)
+pub read_begins : {A : Type 0} (kinds : List Kind) (makes : Makes kinds A) (values : Values kinds) (bytes after : List ℕ)
+    → Bounded kinds values → BeginsAll bytes (fields kinds values) after → read kinds makes bytes ≡ Ok (make kinds makes values)
 read_begins [] makes values bytes after bounds h = refl
 read_begins (signed ∷ kinds) makes values bytes after bounds h =
     rw (signed_begins _ _ _ h.1) (read_begins kinds (makes values.0) values.1 h.0 after bounds h.2)

@@ -1,5 +1,5 @@
 -- Reading the arguments of a call from left to right.
-use Rattle.std.specs.Prelude.{ℕ, ℤ, Bool, List, [], ◌∷◌, Result, Ok, Err, ◌==◌, if◌then◌else◌}
+use Rattle.std.specs.Prelude.{ℕ, ℤ, Bool, List, [], ◌∷◌, Result, Ok, ◌==◌, if◌then◌else◌}
 use Rattle.std.specs.Result.{result_map_both}
 use Rattle.sv_xdr.specs.declared.garbage.Garbage.{Garbage}
 use Rattle.sv_xdr.specs.Garbage.{◌>>=◌}

@@ -1,8 +1,8 @@
 -- What all connections share is the same in two logs but for where program text was accepted: a call comes to the same in both.
 use Rattle.std.proofs.Common.{◌≡◌, ℕ, ◌+◌, Bool, true, false, List, [], ◌∷◌, ◌++◌, Option, Some, None, refl, sym, ap, subst, ◌∙◌}
-use Rattle.std.specs.Prelude.{◌↔◌, not, ◌&&◌, ◌||◌, ℤ, pos, negsuc}
-use Rattle.sv_vxi.specs.declared.arguments.GenericCall.TheVariants.{Readstb, Trigger, Clear, Remote, Local}
-use Rattle.sv_vxi.specs.Arguments.{LinkCall, DeviceAbort, DeviceWrite, DeviceRead, Generic, DeviceLock, DeviceUnlock, DeviceEnableSrq, DeviceDocmd, DestroyLink, Arguments, CreateLink, OnLink, CreateIntrChan, DestroyIntrChan}
+use Rattle.std.specs.Prelude.{◌↔◌, not, ◌&&◌, ◌||◌, pos}
+use Rattle.sv_vxi.specs.declared.arguments.GenericCall.TheVariants.{Trigger}
+use Rattle.sv_vxi.specs.Arguments.{LinkCall, DeviceWrite, DeviceRead, Generic, DeviceLock, DeviceUnlock, DeviceEnableSrq, Arguments, CreateLink, OnLink, CreateIntrChan, DestroyIntrChan}
 use Rattle.sv_links.specs.Links.{LinkAct}
 use Rattle.sv_links.specs.Waiting.{WaitAct}
 use Rattle.sv_links.specs.Channels.{ChannelAct}

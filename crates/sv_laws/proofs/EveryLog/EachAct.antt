@@ -1,6 +1,6 @@
 -- In every log each act of a connection came when it could: while the connection is open, each reply for the call that had no answer.
 use Rattle.std.proofs.Common.{◌≡◌, ℕ, Bool, true, false, cond, List, [], ◌∷◌, ◌++◌, nat_lt, Option, Some, None, refl, sym, ap, subst, ◌∙◌, inl, inr, append_assoc}
-use Rattle.std.specs.Prelude.{map, not, ◌||◌, ℤ, ⊤, Result, Ok, Err}
+use Rattle.std.specs.Prelude.{map, not, ◌||◌, ⊤, Result, Ok, Err}
 use Rattle.std.proofs.lemmas.Bool.{cases_eq}
 use Rattle.sv_xdr.specs.declared.garbage.Garbage.{Garbage}
 use Rattle.sv_xdr.specs.Spelling.{Field, Unsigned}
@@ -12,7 +12,7 @@ use Rattle.sv_rpc.specs.declared.call.CallFault.TheVariants.{BadHeader, Version}
 use Rattle.sv_rpc.specs.Ports.{port_at}
 use Rattle.sv_rpc.specs.Call.{PlainCall, call_at}
 use Rattle.sv_vxi.specs.declared.error_code.ErrorCode.TheVariants.{Abort as Aborted, OutOfResources}
-use Rattle.sv_vxi.specs.Arguments.{Arguments, CreateLink, OnLink, CreateIntrChan, DestroyIntrChan}
+use Rattle.sv_vxi.specs.Arguments.{Arguments, OnLink}
 use Rattle.sv_vxi.specs.Reading.{arguments_at}
 use Rattle.sv_vxi.specs.Results.{Outcome, result_fields}
 use Rattle.sv_links.specs.Links.{closing}

@@ -8,7 +8,7 @@ use Rattle.sv_rpc.specs.declared.call.CallFault.TheVariants.{BadHeader, Version}
 use Rattle.sv_rpc.specs.Call.{PlainCall, call_at}
 use Rattle.sv_rpc.specs.Stream.{records_of}
 use Rattle.sv_xdr.specs.declared.garbage.Garbage.{Garbage}
-use Rattle.sv_vxi.specs.Arguments.{Arguments, CreateLink, OnLink, CreateIntrChan, DestroyIntrChan}
+use Rattle.sv_vxi.specs.Arguments.{Arguments, OnLink}
 use Rattle.sv_vxi.specs.Reading.{arguments_at}
 use Rattle.sv_history.specs.declared.event.Role.{Role}
 use Rattle.sv_history.specs.declared.event.Role.TheVariants.{Core, Abort, Portmap}

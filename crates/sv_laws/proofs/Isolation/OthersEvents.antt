@@ -66,7 +66,8 @@ foreign_dialed c d ok call None log ne =
 
 foreign_connected : (c d : ℕ) (ok : Bool) (call : Option CoreCall) (log : List Act) → d ≢ c
     → Each (IsForeignAct c) (acts_of d (connected d ok call)) log
-foreign_connected c d ok (Some call) log ne = rw (dialed_is d ok call.arguments) (foreign_dialed c d ok call (peer_by call.arguments) log ne)
+foreign_connected c d ok (Some call) log ne =
+    rw (dialed_is d ok call.arguments) (foreign_dialed c d ok call (peer_by call.arguments) log ne)
 foreign_connected c d ok None log ne = foreign_effect c d (connected d ok None) log ne (ne, tt)
 
 -- ---- a Turn

@@ -1,13 +1,12 @@
 -- What a connection's own call comes to is the same in two logs that are alike for it.
-use Rattle.std.proofs.Common.{◌≡◌, ℕ, Bool, true, false, cond, List, [], ◌∷◌, ◌++◌, Option, Some, None, refl, sym, ap, ◌∙◌}
-use Rattle.std.specs.Prelude.{ℤ, pos, negsuc, not, is_some, ◌&&◌}
+use Rattle.std.proofs.Common.{◌≡◌, ℕ, true, false, List, [], ◌∷◌, ◌++◌, Option, Some, None, refl, sym, ap, ◌∙◌}
+use Rattle.std.specs.Prelude.{pos, negsuc}
 use Rattle.sv_logs.proofs.Each.{Each}
-use Rattle.sv_vxi.specs.declared.error_code.ErrorCode.TheVariants.{InvalidLink, ParameterError}
-use Rattle.sv_vxi.specs.declared.arguments.GenericCall.TheVariants.{Readstb, Trigger, Clear, Remote, Local}
-use Rattle.sv_vxi.specs.Arguments.{LinkCall, DeviceAbort, DeviceWrite, DeviceRead, Generic, DeviceLock, DeviceUnlock, DeviceEnableSrq, DeviceDocmd, DestroyLink, Arguments, CreateLink, OnLink, CreateIntrChan, DestroyIntrChan, link, lock_wait, is_create_link}
+use Rattle.sv_vxi.specs.declared.arguments.GenericCall.TheVariants.{Trigger}
+use Rattle.sv_vxi.specs.Arguments.{LinkCall, DeviceWrite, DeviceRead, Generic, DeviceLock, DeviceUnlock, DeviceEnableSrq, Arguments, CreateLink, OnLink, CreateIntrChan, DestroyIntrChan, is_create_link}
 use Rattle.sv_links.specs.declared.waiting.Wait.{Wait}
 use Rattle.sv_links.specs.declared.waiting.Wait.TheVariants.{Lock, Input as ForInput, Response, Dial}
-use Rattle.sv_links.specs.Links.{Made, Destroyed, Locked, Unlocked, holder, is_locked_out}
+use Rattle.sv_links.specs.Links.{Made, Destroyed, Locked, Unlocked, holder}
 use Rattle.sv_links.specs.Waiting.{Left}
 use Rattle.sv_history.specs.declared.event.Config.{Config}
 use Rattle.sv_history.specs.Act.{DeviceAct, Linked, Waited, Channel, Happened, Ticked, link_acts}
@@ -105,7 +104,8 @@ pub resumed_same : (config : Config) (polled c lid : ℕ) (wait : Wait) (call : 
     → is_create_link call.arguments ≡ false → View c lid acts other
     → resumed config polled c wait (Some call) acts ≡ resumed config polled c wait (Some call) other
 resumed_same config polled c lid wait call acts other makes view = ap (call_effect call.xid)
-    (ap (λ (next : Option (Wait × ℕ)). continued config polled c call.arguments next acts) (next_same c lid wait call.arguments acts other view)
+    (ap (λ (next : Option (Wait × ℕ)). continued config polled c call.arguments next acts)
+    (next_same c lid wait call.arguments acts other view)
     ∙ continued_by config polled c lid call.arguments (next_wait wait call.arguments other) acts other makes view)
 
 -- ---- its acts make no link

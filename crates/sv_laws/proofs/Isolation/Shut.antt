@@ -1,12 +1,11 @@
 -- While a link holds the lock, a call of another connection adds nothing of the instrument's, takes no lock, and speaks of its own links.
 use Rattle.std.proofs.Common.{◌≡◌, ◌≢◌, ℕ, Bool, true, false, List, length, nat_lt, Option, Some, None, refl, sym, ap, ◌∙◌, inl, inr}
-use Rattle.std.specs.Prelude.{ℤ, pos, negsuc, not, codes, is_some, ◌==◌}
+use Rattle.std.specs.Prelude.{ℤ, pos, negsuc, codes, is_some, ◌==◌}
 use Rattle.std.specs.Str.{bytes_eq}
 use Rattle.std.proofs.lemmas.Bool.{cases_Bool, ne_eqb}
 use Rattle.sv_logs.proofs.Each.{Each}
-use Rattle.sv_vxi.specs.declared.error_code.ErrorCode.{ErrorCode}
 use Rattle.sv_vxi.specs.declared.arguments.LockWait.{LockWait}
-use Rattle.sv_vxi.specs.Arguments.{LinkCall, DeviceAbort, DeviceWrite, DeviceRead, Generic, DeviceLock, DeviceUnlock, DeviceEnableSrq, DeviceDocmd, DestroyLink, Arguments, CreateLink, OnLink, CreateIntrChan, DestroyIntrChan, lock_wait, max_handle}
+use Rattle.sv_vxi.specs.Arguments.{LinkCall, DeviceAbort, DeviceUnlock, DeviceEnableSrq, DestroyLink, Arguments, CreateLink, OnLink, CreateIntrChan, DestroyIntrChan, lock_wait, max_handle}
 use Rattle.sv_links.specs.Links.{owner, is_of, holder, is_locked_out, lids_left}
 use Rattle.sv_laws.proofs.LinksAlike.{owner_is_of}
 use Rattle.sv_history.specs.declared.event.Config.{Config}
@@ -96,13 +95,14 @@ call_foreign config polled c d lid (CreateLink client_id false lock_timeout devi
       ]
       | inr e ↦ rw e tt
     ]
-call_foreign config polled c d lid (OnLink (pos n) DeviceUnlock) acts held mine ne = elim (cases_Bool (is_of d (owner n (link_acts acts)))) [
-  | inl e ↦
-      let owns = owner_is_of d (owner n (link_acts acts)) e in
-      let apart : lid ≢ n = λ same. ne (some_number d c (sym owns ∙ ap (λ (m : ℕ). owner m (link_acts acts)) (sym same) ∙ mine)) in
-      rw (e, held, ne_eqb lid n apart) tt
-  | inr e ↦ rw e tt
-]
+call_foreign config polled c d lid (OnLink (pos n) DeviceUnlock) acts held mine ne =
+    elim (cases_Bool (is_of d (owner n (link_acts acts)))) [
+      | inl e ↦
+          let owns = owner_is_of d (owner n (link_acts acts)) e in
+          let apart : lid ≢ n = λ same. ne (some_number d c (sym owns ∙ ap (λ (m : ℕ). owner m (link_acts acts)) (sym same) ∙ mine)) in
+          rw (e, held, ne_eqb lid n apart) tt
+      | inr e ↦ rw e tt
+    ]
 call_foreign config polled c d lid (OnLink (pos n) (DeviceEnableSrq true handle)) acts held mine ne =
     elim (cases_Bool (is_of d (owner n (link_acts acts)))) [
       | inl e ↦ elim (cases_Bool (nat_lt max_handle (length handle))) [
@@ -136,4 +136,5 @@ call_foreign config polled c d lid (OnLink (pos n) DeviceAbort) acts held mine n
   | inl e ↦ rw e tt
   | inr e ↦ rw e tt
 ]
-call_foreign config polled c d lid (OnLink named call) acts held mine ne = minds_lock config polled c d lid named call acts refl held mine ne
+call_foreign config polled c d lid (OnLink named call) acts held mine ne =
+    minds_lock config polled c d lid named call acts refl held mine ne

@@ -106,7 +106,8 @@ lock_place c (CreateLink client_id lock_device lock_timeout device) acts wait un
 lock_place c (OnLink (pos n) call) acts wait until e both = absurd (let z : false ≡ true = (lock_both wait false both).1 in cc)
 lock_place c (OnLink (negsuc n) call) acts wait until e both = absurd cc
 lock_place c (CreateIntrChan host_addr host_port prog_num prog_vers prog_family) acts wait until e both =
-    absurd (let z : Lock ≡ Dial = sym (lock_both wait _ both).0 ∙ (channel_waits (has_channel c acts) host_addr host_port prog_family wait until (some_stop _ _ e)).1 in cc)
+    let dial = channel_waits (has_channel c acts) host_addr host_port prog_family wait until (some_stop _ _ e) in
+    absurd (let z : Lock ≡ Dial = sym (lock_both wait _ both).0 ∙ dial.1 in cc)
 lock_place c DestroyIntrChan acts wait until e both = absurd cc
 
 -- and a create_link waits for the lock as such
@@ -146,7 +147,8 @@ device_never (DeviceRead request_size timeout lock_timeout flags term_char) acts
     by false e = cc
 device_never _ acts until e = absurd cc
 
-dial_never : (own long out : Bool) (lock : Option LockWait) (device : Option Stop) (until : Option ℕ) → (device ≡ Some (Awaits Dial until) → ⊥)
+dial_never : (own long out : Bool) (lock : Option LockWait) (device : Option Stop) (until : Option ℕ)
+    → (device ≡ Some (Awaits Dial until) → ⊥)
     → cond (not own) (Some (Fails InvalidLink)) (cond long (Some (Fails ParameterError))
     (cond out (option_map lock_stop lock) device)) ≡ Some (Awaits Dial until) → ⊥
 dial_never false long out lock device until never e = cc

@@ -33,7 +33,8 @@ returns-then-is_kept_out g c = λ config acts is.
     let short : is_too_long (plain_call c.args.call.now) ≡ false = sym c.if-is_too_long.ensures in
     let out : (is_some (lock_wait (plain_call c.args.call.now)) && is_locked_out (holder (link_acts acts)) c.lid_of-lid.result) ≡ true =
     sym (c.if-is_kept_out.ensures config acts is) in
-    subst (λ (l : Option ℕ). option_map plain_stop c.lock_stop.result ≡ call_stop c.args.conn.number l (plain_call c.args.call.now) acts) lid
+    subst (λ (l : Option ℕ).
+    option_map plain_stop c.lock_stop.result ≡ call_stop c.args.conn.number l (plain_call c.args.call.now) acts) lid
     (rw (own, short, out) c.lock_stop.ensures)
 
 pub returns : goal.returns
@@ -43,5 +44,6 @@ returns g c = λ config acts is.
     let short : is_too_long (plain_call c.args.call.now) ≡ false = sym c.if-is_too_long.ensures in
     let out : (is_some (lock_wait (plain_call c.args.call.now)) && is_locked_out (holder (link_acts acts)) c.lid_of-lid.result) ≡ false =
     sym (c.if-is_kept_out.ensures config acts is) in
-    subst (λ (l : Option ℕ). option_map plain_stop c.device_stop.result ≡ call_stop c.args.conn.number l (plain_call c.args.call.now) acts) lid
+    subst (λ (l : Option ℕ).
+    option_map plain_stop c.device_stop.result ≡ call_stop c.args.conn.number l (plain_call c.args.call.now) acts) lid
     (rw (own, short, out) (c.device_stop.ensures config acts is))
