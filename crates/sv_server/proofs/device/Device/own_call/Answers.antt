@@ -8,6 +8,6 @@ use Rattle.sv_server.proofs.device.Device.own_call.Goals as goal
 pub returns-in-OnLink-clause-ends : goal.returns-in-OnLink-clause-ends
 returns-in-OnLink-clause-ends g c = λ config polled acts known granted.
     let same : OutcomeIs c.on_link.result c.on_link.new.self config acts
-        (own_call config polled c.args.conn.number (OnLink c.in-OnLink.lid (plain_call c.in-OnLink.call)) acts) =
+    (own_call config polled c.args.conn.number (OnLink c.in-OnLink.lid (plain_call c.in-OnLink.call)) acts) =
     search (rules, c.in-OnLink.is, c.on_link.ensures.ends config polled acts known) in
     rw c.in-OnLink.is same
