@@ -5,7 +5,7 @@ use Rattle.sv_exchange.specs.declared.read.Read.{Read}
 use Rattle.sv_exchange.specs.ReadGiven.{IsReadOf}
 use Rattle.sv_vxi.specs.declared.error_code.ErrorCode.TheVariants.{NoError}
 use Rattle.sv_xdr.specs.declared.garbage.Garbage.{Garbage}
-use Rattle.sv_vxi.specs.Arguments.{Arguments, CreateLink, OnLink, CreateIntrChan, DestroyIntrChan}
+use Rattle.sv_vxi.specs.Arguments.{Arguments, OnLink}
 use Rattle.sv_vxi.specs.Results.{Read as ReadResult}
 use Rattle.sv_history.specs.CoreChannel.{read_of}
 use Rattle.sv_history.specs.declared.event.Config.{Config}

@@ -3,7 +3,7 @@ use Rattle.sv_rpc.specs.declared.ports.Ports.{Ports}
 use Rattle.sv_history.specs.declared.event.Config.{Config}
 use Rattle.sv_server.proofs.device.Device.ports.Goals as goal
 
-ports_of : Config → Ports
+abbrev ports_of : Config → Ports
 ports_of config = record { core = config.core; abort = config.abort }
 
 pub returns : goal.returns
