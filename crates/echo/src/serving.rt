@@ -79,7 +79,7 @@ impl Served {
 
     /// Waits until something comes, at most so long where there is a limit, and gives back what
     /// came; whether anything did.
-    fn look(&mut self, limit: Option<Duration>) -> io::Result<bool> {
+    fn spin(&mut self, limit: Option<Duration>) -> io::Result<bool> {
         self.poll.poll(&mut self.events, limit)?;
         for event in self.events.iter() {
             let Token(number) = event.token();
@@ -103,14 +103,14 @@ pub(crate) fn serve(rt: &HostRuntime, port: u16, looks: u32) -> io::Result<()> {
     for made in 0..looks {
         let now = start.elapsed(rt)?.as_nanos().min(u128::from(u64::MAX)) as u64;
         let _ = pace.ticks(now);
-        let eager = pace.is_eager(now);
-        let limit = if eager {
+        let spinning = pace.is_spinning(now);
+        let limit = if spinning {
             Some(Duration::ZERO)
         } else {
             rest(&pace, now, looks - made)
         };
-        let came = served.look(limit)?;
-        tries = keep(&mut pace, now, tries, eager, came);
+        let came = served.spin(limit)?;
+        tries = keep(&mut pace, now, tries, spinning, came);
     }
     Ok(())
 }
@@ -125,13 +125,13 @@ fn rest(pace: &Pace, now: u64, left: u32) -> Option<Duration> {
 
 /// Keeps what came of a look, and tells how many were made in vain since the last one that ended a
 /// wait.
-fn keep(pace: &mut Pace, now: u64, tries: u32, eager: bool, came: bool) -> u32 {
+fn keep(pace: &mut Pace, now: u64, tries: u32, spinning: bool, came: bool) -> u32 {
     if came {
         pace.work(now);
     }
-    if eager && !came {
+    if spinning && !came {
         return tries.saturating_add(1);
     }
-    pace.end(tries, eager);
+    pace.end(tries, spinning);
     0
 }

@@ -10,7 +10,7 @@ use Rattle.sv_header.specs.declared.command.CommandId.{CommandId}
 use Rattle.sv_header.specs.Arity.{most_parameters}
 use Rattle.sv_command.specs.declared.order.Order.{Order}
 use Rattle.sv_command.specs.Order.{given, order_of}
-use Rattle.sv_command.specs.Unit.{first_parameter, asked}
+use Rattle.sv_command.specs.Unit.{first_parameter, order_of_unit}
 
 -- The first token of a unit, if there is one.
 abbrev pub IsFirst : List ℕ → Option Token → Type 0
@@ -25,5 +25,5 @@ first_is unit (Some token) some =
 -- What a unit asks for whose parameters are spelled as such, and are no more than there may be.
 pub asked_is : (command : CommandId) (unit : List ℕ) (first : Option Token) (outcome : Result Order Code) → parameters_fault unit ≡ None
     → nat_lt (most_parameters command) (count unit) ≡ false → IsFirst unit first → outcome ≡ order_of command (given first)
-    → outcome ≡ asked command unit
+    → outcome ≡ order_of_unit command unit
 asked_is command unit first outcome spelled counted is e = rw (spelled, counted) (e ∙ ap (order_of command) (first_is unit first is))

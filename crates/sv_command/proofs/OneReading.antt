@@ -6,14 +6,14 @@ use Rattle.sv_lexer.specs.Unit.{header}
 use Rattle.sv_header.specs.declared.command.CommandId.{CommandId}
 use Rattle.sv_header.proofs.Clash.{one-command}
 use Rattle.sv_command.specs.declared.order.Order.{Order}
-use Rattle.sv_command.specs.Unit.{IsNamed, asked}
+use Rattle.sv_command.specs.Unit.{IsNamed, order_of_unit}
 use Rattle.sv_command.specs.Laws.{OneReading}
 
 named_once : (path : List (List ℕ)) (unit : List ℕ) (a b : Result Order Code) (p q : List (List ℕ)) → IsNamed path unit a p
     → IsNamed path unit b q → (a ≡ b) × (p ≡ q)
 named_once path unit a b p q (inl x) (inl y) =
     let same = one-command path (header unit) x.0 y.0 x.1 y.1 in
-    (x.2 ∙ ap (λ (command : CommandId). asked command unit) same ∙ sym y.2, x.3 ∙ sym y.3)
+    (x.2 ∙ ap (λ (command : CommandId). order_of_unit command unit) same ∙ sym y.2, x.3 ∙ sym y.3)
 named_once path unit a b p q (inl x) (inr y) = absurd (y.0 x.0 x.1)
 named_once path unit a b p q (inr x) (inl y) = absurd (x.0 y.0 y.1)
 named_once path unit a b p q (inr x) (inr y) = (x.1 ∙ sym y.1, x.2 ∙ sym y.2)

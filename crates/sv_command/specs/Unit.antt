@@ -20,15 +20,16 @@ unless (Some code) outcome = Err code
 unless None outcome = outcome
 
 -- what a command asks for in a unit: the spelling of its parameters is looked at, then whether there are too many, then their values
-abbrev pub asked : CommandId → List ℕ → Result Order Code
-asked command unit =
+abbrev pub order_of_unit : CommandId → List ℕ → Result Order Code
+order_of_unit command unit =
     unless (parameters_fault unit)
     (if nat_lt (most_parameters command) (count unit) then Err ParameterNotAllowed else order_of command (first_parameter unit))
 
 -- The header names a command, or none does.
 abbrev pub IsNamed : List (List ℕ) → List ℕ → Result Order Code → List (List ℕ) → Type 0
 IsNamed path unit outcome behind =
-    ((command : CommandId) × Resolves path (header unit) command × (outcome ≡ asked command unit) × (behind ≡ kept path (header unit)))
+    ((command : CommandId) × Resolves path (header unit) command × (outcome ≡ order_of_unit command unit) × (behind ≡ kept path
+    (header unit)))
     ⊎ (((command : CommandId) → Resolves path (header unit) command → ⊥) × (outcome ≡ Err UndefinedHeader) × (behind ≡ path))
 
 -- A unit behind a path asks for this, and leaves a path: the header follows it where it names a command.

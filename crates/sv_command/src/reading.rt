@@ -2,7 +2,7 @@
 
 ghost use Rattle.std.specs.Prelude.{◌≡◌, ℕ, List};
 ghost use Rattle.sv_lexer.specs.Unit.{IsLexed};
-ghost use Rattle.sv_command.specs.Unit.{IsReadAs, IsNamed, asked as asked_by};
+ghost use Rattle.sv_command.specs.Unit.{IsReadAs, IsNamed, order_of_unit as asked_by};
 
 use crate::filling::order;
 use crate::order::Order;

@@ -105,8 +105,8 @@ text_size true rest later end_pending = rest + (1 + (later + bit end_pending))
 text_size false rest later end_pending = rest
 
 -- how much is left to be done, so that whoever does what is due comes to an end
-abbrev pub work_of : Contents → ℕ
-work_of contents = 3 * text_size contents.ended (length contents.rest) (length contents.later) contents.end_pending +
+abbrev pub exchange_measure : Contents → ℕ
+exchange_measure contents = 3 * text_size contents.ended (length contents.rest) (length contents.later) contents.end_pending +
     (bit (contents.overlong && not contents.overrun_reported) + bit (is_something (shown_by contents)))
 
 -- what is due as plain data

@@ -5,7 +5,7 @@ ghost use Rattle.sv_lexer.specs.Unit.{IsLexed};
 ghost use Rattle.sv_exchange.specs.Exchange.{ExchangeAct, Accepted, TextDropped, Overran, UnitDone, UnitDue, Answered, AnswersDropped, Finished, Interrupted, ResponseRead, OverrunDue, InterruptDue, FinishDue, due, has_ended, answers, response, fits_response, is_something};
 ghost use Rattle.sv_exchange.specs.Limits.{max_message, max_response};
 ghost use Rattle.sv_exchange.specs.ReadGiven.{IsReadOf};
-ghost use Rattle.sv_exchange.specs.Contents.{Contents, StandsFor, empty, is_open, shown_by, next_of, IsUnitDue, may_respond, work_of, plain_next};
+ghost use Rattle.sv_exchange.specs.Contents.{Contents, StandsFor, empty, is_open, shown_by, next_of, IsUnitDue, may_respond, exchange_measure, plain_next};
 ghost use Rattle.sv_exchange.specs.Fields.{after_accept, after_finish, after_answer, with_answer};
 
 use crate::ahead::Ahead;
@@ -122,7 +122,8 @@ impl<A: Allocator> Exchange<A> {
         requires open { IsTrue (is_open self.old) }
         requires short { length bytes.now ≤ max_message }
         ensures value { self.new ≡ after_accept self.old bytes.now ended }
-        ensures bounded { work_of self.new ≤ work_of self.old + 3 * length bytes.now + 4 }
+        ensures bounded { exchange_measure self.new ≤ exchange_measure self.old
+            + 3 * length bytes.now + 4 }
         ensures stands { (acts : List ExchangeAct) → StandsFor self.old acts
             → StandsFor self.new (Accepted bytes.now ended ∷ acts) }
     {
@@ -182,7 +183,7 @@ impl<A: Allocator> Exchange<A> {
     pub fn done(&mut self)
         requires { IsUnitDue (next_of self.old) }
         ensures value { self.new ≡ record self.old { rest = self.new.rest } }
-        ensures measure { work_of self.new < work_of self.old }
+        ensures measure { exchange_measure self.new < exchange_measure self.old }
         ensures stays_open { is_open self.new ≡ is_open self.old }
         ensures may_respond { IsTrue (may_respond self.new) }
         ensures stands { (acts : List ExchangeAct) → StandsFor self.old acts
@@ -198,7 +199,7 @@ impl<A: Allocator> Exchange<A> {
     pub fn overran(&mut self)
         requires { next_of self.old ≡ OverrunDue }
         ensures value { self.new ≡ record self.old { overrun_reported = true } }
-        ensures measure { work_of self.new < work_of self.old }
+        ensures measure { exchange_measure self.new < exchange_measure self.old }
         ensures stays_open { is_open self.new ≡ is_open self.old }
         ensures stands { (acts : List ExchangeAct) → StandsFor self.old acts
             → StandsFor self.new (Overran ∷ acts) }
@@ -210,7 +211,7 @@ impl<A: Allocator> Exchange<A> {
     pub fn drop_response(&mut self)
         requires { next_of self.old ≡ InterruptDue }
         ensures value { self.new ≡ record self.old { output = [] } }
-        ensures measure { work_of self.new < work_of self.old }
+        ensures measure { exchange_measure self.new < exchange_measure self.old }
         ensures stays_open { is_open self.new ≡ is_open self.old }
         ensures next { IsUnitDue (next_of self.new) }
         ensures stands { (acts : List ExchangeAct) → StandsFor self.old acts
@@ -224,7 +225,7 @@ impl<A: Allocator> Exchange<A> {
     pub fn finish(&mut self)
         requires { next_of self.old ≡ FinishDue }
         ensures value { self.new ≡ after_finish self.old }
-        ensures measure { work_of self.new < work_of self.old }
+        ensures measure { exchange_measure self.new < exchange_measure self.old }
         ensures stands { (acts : List ExchangeAct) → StandsFor self.old acts
             → StandsFor self.new (Finished ∷ acts) }
     {
@@ -251,7 +252,7 @@ impl<A: Allocator> Exchange<A> {
         ensures value { self.new ≡ after_answer self.old answer.now result }
         ensures fits { result ≡ nat_lt
             (length (with_answer self.old.answering self.old.output answer.now)) max_response }
-        ensures measure { work_of self.new ≤ work_of self.old }
+        ensures measure { exchange_measure self.new ≤ exchange_measure self.old }
         ensures stays_open { is_open self.new ≡ is_open self.old }
         ensures stands { (acts : List ExchangeAct) → StandsFor self.old acts
             → (result ≡ fits_response (answers acts) answer.now)

@@ -107,8 +107,11 @@ macro_rules! register_nodes {
 pub(crate) static OPERATION_REGISTER: [Branch; 6] = register_nodes!(OPERATION, 5, Operation);
 
 /// The questionable register; the register of limits stands behind these nodes.
-pub(crate) static QUESTIONABLE_REGISTER: [Branch; 6] =
-    register_nodes!(QUESTIONABLE, 11, Questionable);
+pub(crate) static QUESTIONABLE_REGISTER: [Branch; 6] = register_nodes!(
+    QUESTIONABLE,
+    11,
+    Questionable
+);
 
 /// The register of limits, which stands below the questionable one.
 pub(crate) static LIMIT_REGISTER: [Branch; 6] = register_nodes!(LIMIT, 5, Limit);

@@ -8,10 +8,10 @@ use Rattle.sv_logs.proofs.Since.{since_empty, since_step, then_same, both_true, 
 use Rattle.sv_status.proofs.Words.{both_bits, either_bit, not_zero, rose}
 use Rattle.sv_links.specs.Channels.{ChannelAct}
 use Rattle.sv_layers.specs.Act.{Act as InstrumentAct, Polled}
-use Rattle.sv_layers.specs.StatusByte.{SummaryBit, service, Asks, Master, Reason, Lasts, Request, IsRaised, PolledBit}
+use Rattle.sv_layers.specs.StatusByte.{SummaryBit, service, ServiceRequested, Master, Reason, Lasts, Request, IsRaised, PolledBit}
 use Rattle.sv_layers.proofs.SameSummaries.{same_summaries, no_summary}
 use Rattle.sv_layers.proofs.AlwaysTold.{one_account}
-use Rattle.sv_history.specs.Act.{DeviceAct, Linked, Waited, Channel, Happened, Ticked, instrument_acts}
+use Rattle.sv_history.specs.Act.{DeviceAct, Linked, Waited, Channel, Applied, Ticked, instrument_acts}
 use Rattle.sv_history.specs.Requests.{HearsOf, link_told, request_told}
 use Rattle.sv_history.specs.PolledStatus.{IsPolled}
 
@@ -55,7 +55,7 @@ summary_word : (log : List InstrumentAct) → (word : ℕ) × ((k : ℕ) → (bi
 summary_word [] = (0, same_summaries 0 [] no_summary)
 summary_word (act ∷ log) = let told = one_account (act ∷ log) in (told.1.0, same_summaries told.1.0 (act ∷ log) told.1.2)
 
-asking_word : (log : List InstrumentAct) → (word : ℕ) × ((k : ℕ) → (bit_at word k ≡ 1) ↔ Asks k log)
+asking_word : (log : List InstrumentAct) → (word : ℕ) × ((k : ℕ) → (bit_at word k ≡ 1) ↔ ServiceRequested k log)
 asking_word log =
     let summary = summary_word log in (
       bit_and summary.0 (service log),
@@ -150,7 +150,7 @@ pub some_told : (acts : List DeviceAct) → (told : List ChannelAct) × HearsOf 
 some_told [] = ([], refl)
 some_told (Channel act ∷ acts) = let before = some_told acts in (act ∷ before.0, (before.0, before.1, refl))
 some_told (Linked act ∷ acts) = let before = some_told acts in (link_told act before.0, (before.0, before.1, refl))
-some_told (Happened act ∷ acts) =
+some_told (Applied act ∷ acts) =
     let before = some_told acts in
     let raised = raised_test act (instrument_acts acts) in
     (request_told raised.0 before.0, (before.0, raised.0, before.1, raised.1, refl))

@@ -12,7 +12,7 @@ use Rattle.sv_instrument.specs.Stimulus.{IsFired}
 use Rattle.sv_instrument.specs.Step.{IsStep}
 use Rattle.sv_instrument.proofs.OneStep.{one_step}
 use Rattle.sv_history.specs.declared.event.Config.{Config}
-use Rattle.sv_history.specs.Act.{Act, DeviceAct, Happened, OnDevice, of, device_acts, wait_acts, instrument_acts, ticks}
+use Rattle.sv_history.specs.Act.{Act, DeviceAct, Applied, OnDevice, of, device_acts, wait_acts, instrument_acts, ticks}
 use Rattle.sv_history.specs.PolledStatus.{IsPolled}
 use Rattle.sv_history.specs.Settling.{First, InstrumentDoes, CanResume, Resumes, TimesOut, IsNext}
 use Rattle.sv_history.proofs.Lives.{unanswered}
@@ -35,7 +35,7 @@ happens_once : (IsSuch : List InstrumentAct → List InstrumentAct → Type 0)
     → (log x y : List Act) → InstrumentDoes IsSuch log x → InstrumentDoes IsSuch log y → x ≡ y
 happens_once IsSuch once log x y (first, a, is) (second, b, same) =
     let one = append_cancel_right first second (instrument_acts (device_acts log)) (once (instrument_acts (device_acts log)) _ _ a b) in
-    is ∙ ap (λ (adds : List InstrumentAct). map OnDevice (map Happened adds) ++ log) one ∙ sym same
+    is ∙ ap (λ (adds : List InstrumentAct). map OnDevice (map Applied adds) ++ log) one ∙ sym same
 
 -- what a step of a call leaves
 abbrev pub went_on : Config → List Act → ℕ → ℕ → Wait → List Act

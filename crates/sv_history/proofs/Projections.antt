@@ -4,7 +4,7 @@ use Rattle.std.specs.Prelude.{map}
 use Rattle.std.proofs.lemmas.Bool.{ne_eqb}
 use Rattle.sv_links.specs.Links.{LinkAct}
 use Rattle.sv_layers.specs.Act.{Act as InstrumentAct}
-use Rattle.sv_history.specs.Act.{Act, ConnAct, DeviceAct, Linked, Happened, On, OnDevice, of, device_acts, link_acts, wait_acts, instrument_acts, ticks}
+use Rattle.sv_history.specs.Act.{Act, ConnAct, DeviceAct, Linked, Applied, On, OnDevice, of, device_acts, link_acts, wait_acts, instrument_acts, ticks}
 use Rattle.sv_history.specs.Effect.{Effect, acts_of}
 
 -- an act of the connection itself, and of another
@@ -67,20 +67,20 @@ pub ticks-links : (links : List LinkAct) (acts : List DeviceAct) → ticks (map 
 ticks-links [] acts = refl
 ticks-links (act ∷ links) acts = ticks-links links acts
 
-pub link_acts-happened : (adds : List InstrumentAct) (acts : List DeviceAct) → link_acts (map Happened adds ++ acts) ≡ link_acts acts
+pub link_acts-happened : (adds : List InstrumentAct) (acts : List DeviceAct) → link_acts (map Applied adds ++ acts) ≡ link_acts acts
 link_acts-happened [] acts = refl
 link_acts-happened (act ∷ adds) acts = link_acts-happened adds acts
 
 pub instrument_acts-happened : (adds : List InstrumentAct) (acts : List DeviceAct)
-    → instrument_acts (map Happened adds ++ acts) ≡ adds ++ instrument_acts acts
+    → instrument_acts (map Applied adds ++ acts) ≡ adds ++ instrument_acts acts
 instrument_acts-happened [] acts = refl
 instrument_acts-happened (act ∷ adds) acts = ap (λ (xs : List InstrumentAct). act ∷ xs) (instrument_acts-happened adds acts)
 
-pub ticks-happened : (adds : List InstrumentAct) (acts : List DeviceAct) → ticks (map Happened adds ++ acts) ≡ ticks acts
+pub ticks-happened : (adds : List InstrumentAct) (acts : List DeviceAct) → ticks (map Applied adds ++ acts) ≡ ticks acts
 ticks-happened [] acts = refl
 ticks-happened (act ∷ adds) acts = ticks-happened adds acts
 
-pub wait_acts-happened : (adds : List InstrumentAct) (acts : List DeviceAct) → wait_acts (map Happened adds ++ acts) ≡ wait_acts acts
+pub wait_acts-happened : (adds : List InstrumentAct) (acts : List DeviceAct) → wait_acts (map Applied adds ++ acts) ≡ wait_acts acts
 wait_acts-happened [] acts = refl
 wait_acts-happened (act ∷ adds) acts = wait_acts-happened adds acts
 

@@ -7,7 +7,7 @@ use Rattle.sv_layers.specs.Act.{Act as InstrumentAct}
 use Rattle.sv_instrument.specs.Stimulus.{IsFired}
 use Rattle.sv_instrument.specs.Step.{IsStep}
 use Rattle.sv_history.specs.declared.event.Config.{Config}
-use Rattle.sv_history.specs.Act.{Act, ConnAct, DeviceAct, Channel, Happened, On, OnDevice, device_acts, wait_acts, instrument_acts, ticks}
+use Rattle.sv_history.specs.Act.{Act, ConnAct, DeviceAct, Channel, Applied, On, OnDevice, device_acts, wait_acts, instrument_acts, ticks}
 use Rattle.sv_history.specs.PolledStatus.{IsPolled}
 use Rattle.sv_history.specs.Settling.{First, InstrumentDoes, CanResume, Resumes, TimesOut, IsNext, IsSettled}
 use Rattle.sv_history.proofs.OneStep.{went_on, gave_up}
@@ -15,7 +15,7 @@ use Rattle.sv_history.proofs.OneStep.{went_on, gave_up}
 happens_back : (IsSuch : List InstrumentAct → List InstrumentAct → Type 0) (log other new : List Act) → device_acts other ≡ device_acts log
     → InstrumentDoes IsSuch other new → (there : List Act) × InstrumentDoes IsSuch log there
 happens_back IsSuch log other new same (adds, such, is) = (
-  map OnDevice (map Happened adds) ++ log,
+  map OnDevice (map Applied adds) ++ log,
   (adds, subst (λ (acts : List DeviceAct). IsSuch (instrument_acts acts) (adds ++ instrument_acts acts)) same such, refl),
 )
 
@@ -71,11 +71,11 @@ still_settled c act config log none = λ new next.
 -- nor does an act of an interrupt channel
 channel_happens : (act : ChannelAct) (IsSuch : List InstrumentAct → List InstrumentAct → Type 0) (log new : List Act)
     → InstrumentDoes IsSuch (OnDevice (Channel act) ∷ log) new → (there : List Act) × InstrumentDoes IsSuch log there
-channel_happens act IsSuch log new (adds, such, is) = (map OnDevice (map Happened adds) ++ log, (adds, such, refl))
+channel_happens act IsSuch log new (adds, such, is) = (map OnDevice (map Applied adds) ++ log, (adds, such, refl))
 
 happens_channel : (act : ChannelAct) (IsSuch : List InstrumentAct → List InstrumentAct → Type 0) (log new : List Act)
     → InstrumentDoes IsSuch log new → (there : List Act) × InstrumentDoes IsSuch (OnDevice (Channel act) ∷ log) there
-happens_channel act IsSuch log new (adds, such, is) = (map OnDevice (map Happened adds) ++ OnDevice (Channel act) ∷ log, (adds, such, refl))
+happens_channel act IsSuch log new (adds, such, is) = (map OnDevice (map Applied adds) ++ OnDevice (Channel act) ∷ log, (adds, such, refl))
 
 channel_goes : (act : ChannelAct) (config : Config) (log new : List Act) → Resumes config (OnDevice (Channel act) ∷ log) new
     → (there : List Act) × Resumes config log there

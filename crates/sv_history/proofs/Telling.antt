@@ -8,7 +8,7 @@ use Rattle.sv_links.specs.Channels.{ChannelAct, ChannelOpened, ChannelClosed, Re
 use Rattle.sv_layers.specs.Act.{Act as InstrumentAct}
 use Rattle.sv_layers.specs.StatusByte.{IsRaised}
 use Rattle.sv_instrument.specs.RequestCount.{Raise}
-use Rattle.sv_history.specs.Act.{DeviceAct, Linked, Waited, Channel, Happened, Ticked, channel_acts, instrument_acts}
+use Rattle.sv_history.specs.Act.{DeviceAct, Linked, Waited, Channel, Applied, Ticked, channel_acts, instrument_acts}
 use Rattle.sv_history.specs.Requests.{HearsOf, link_told, request_told}
 use Rattle.sv_history.specs.Interrupts.{has_channel}
 use Rattle.sv_history.proofs.Projections.{instrument_acts-happened}
@@ -26,7 +26,7 @@ tells_once (Channel act ∷ acts) a b (s, told, x) (t, other, y) =
     x ∙ ap (λ (l : List ChannelAct). act ∷ l) (tells_once acts s t told other) ∙ sym y
 tells_once (Linked act ∷ acts) a b (s, told, x) (t, other, y) =
     x ∙ ap (link_told act) (tells_once acts s t told other) ∙ sym y
-tells_once (Happened act ∷ acts) a b (s, p, told, so, x) (t, q, other, also, y) =
+tells_once (Applied act ∷ acts) a b (s, p, told, so, x) (t, q, other, also, y) =
     x ∙ ap (request_told p) (tells_once acts s t told other)
     ∙ ap (λ (r : Bool). request_told r t) (same_flag p q (IsRaised (act ∷ instrument_acts acts)) so also) ∙ sym y
 tells_once (Waited act ∷ acts) a b x y = tells_once acts a b x y
@@ -52,7 +52,7 @@ peer_told c [] told x = ap (peer c) x
 peer_told c (Channel act ∷ acts) told (before, is, x) =
     ap (peer c) x ∙ peer_more c act before (channel_acts acts) (peer_told c acts before is)
 peer_told c (Linked act ∷ acts) told (before, is, x) = ap (peer c) x ∙ peer_linked c act before ∙ peer_told c acts before is
-peer_told c (Happened act ∷ acts) told (before, raised, is, so, x) =
+peer_told c (Applied act ∷ acts) told (before, raised, is, so, x) =
     ap (peer c) x ∙ peer_requested c raised before ∙ peer_told c acts before is
 peer_told c (Waited act ∷ acts) told x = peer_told c acts told x
 peer_told c (Ticked ∷ acts) told x = peer_told c acts told x
@@ -74,7 +74,7 @@ requests_one n true told = ap (λ (m : ℕ). requests m told) (let e : n + 1 ≡
 requests_one n false told = ap (λ (m : ℕ). requests m told) (let e : n + 0 ≡ n = omega arith in e)
 
 pub tells_raised : (adds : List InstrumentAct) (acts : List DeviceAct) (told : List ChannelAct) (n : ℕ)
-    → Raise adds (instrument_acts acts) n → HearsOf acts told → HearsOf (map Happened adds ++ acts) (requests n told)
+    → Raise adds (instrument_acts acts) n → HearsOf acts told → HearsOf (map Applied adds ++ acts) (requests n told)
 tells_raised [] acts told n raise tells = subst (λ (m : ℕ). HearsOf acts (requests m told)) (sym raise) tells
 tells_raised (act ∷ adds) acts told n (raised, before, so, rest, is) tells = (
   requests before told,

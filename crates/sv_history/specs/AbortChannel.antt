@@ -12,10 +12,10 @@ owner_of (Some lid) acts = owner lid (link_acts acts)
 owner_of None acts = None
 
 -- the connection whose call is ended: this one, where its call waits and names this link
-abbrev pub where_waiting : Option ℕ → Option ℕ → List DeviceAct → Option ℕ
-where_waiting (Some c) (Some lid) acts =
+abbrev pub if_waiting : Option ℕ → Option ℕ → List DeviceAct → Option ℕ
+if_waiting (Some c) (Some lid) acts =
     if is_some (waits c (wait_acts acts)) && is_this lid (link c (wait_acts acts)) then Some c else None
-where_waiting _ _ acts = None
+if_waiting _ _ acts = None
 
 abbrev pub abort_result : Option ℕ → List DeviceAct → Outcome
 abort_result lid acts = Plain (if is_some (owner_of lid acts) then NoError else InvalidLink)

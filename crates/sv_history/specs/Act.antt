@@ -24,7 +24,7 @@ pub data DeviceAct : Type 0 where
   Linked : (act : LinkAct) → DeviceAct
   Waited : (act : WaitAct) → DeviceAct
   Channel : (act : ChannelAct) → DeviceAct
-  Happened : (act : InstrumentAct) → DeviceAct
+  Applied : (act : InstrumentAct) → DeviceAct
   Ticked : DeviceAct
 
 pub data Act : Type 0 where
@@ -61,7 +61,7 @@ channel_acts (_ ∷ acts) = channel_acts acts
 
 abbrev pub instrument_acts : List DeviceAct → List InstrumentAct
 instrument_acts [] = []
-instrument_acts (Happened act ∷ acts) = act ∷ instrument_acts acts
+instrument_acts (Applied act ∷ acts) = act ∷ instrument_acts acts
 instrument_acts (_ ∷ acts) = instrument_acts acts
 
 -- what of it happens to messages

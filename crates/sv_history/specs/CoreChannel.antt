@@ -17,7 +17,7 @@ use Rattle.sv_history.specs.declared.event.Config.{Config}
 use Rattle.sv_layers.specs.Act.{Exchanged, Reported, Purged, Polled}
 use Rattle.sv_instrument.specs.Step.{is_answerable}
 use Rattle.sv_instrument.specs.Stimulus.{trigger_acts}
-use Rattle.sv_history.specs.Act.{DeviceAct, Linked, Channel, Happened, link_acts, instrument_acts, exchange_acts}
+use Rattle.sv_history.specs.Act.{DeviceAct, Linked, Channel, Applied, link_acts, instrument_acts, exchange_acts}
 use Rattle.sv_history.specs.CallOutcome.{CallOutcome, answered, only}
 use Rattle.sv_history.specs.CoreCall.{no_bytes, failure}
 use Rattle.sv_history.specs.Interrupts.{has_channel, enable_srq}
@@ -50,7 +50,7 @@ abbrev pub device_write : ℕ → List ℕ → List DeviceAct → CallOutcome
 device_write flags bytes acts =
     if nat_lt max_message (length bytes) then only (Size ParameterError 0)
     else (if has_ended (exchange_acts acts) then only (Size IoTimeout 0)
-    else answered (Happened (Exchanged (Accepted bytes (bit_at flags 3 == 1))) ∷ []) (Size NoError (length bytes)))
+    else answered (Applied (Exchanged (Accepted bytes (bit_at flags 3 == 1))) ∷ []) (Size NoError (length bytes)))
 
 -- the termination character, where the flag for it is set: the low eight bits
 abbrev pub term_of : ℕ → ℕ → Option ℕ
@@ -64,14 +64,14 @@ read_of bytes most term =
     (take count bytes)
 
 abbrev pub reads : List ℕ → ℕ → Option ℕ → CallOutcome
-reads bytes most term = answered (Happened (Exchanged (ResponseRead (read_count bytes most term))) ∷ []) (read_of bytes most term)
+reads bytes most term = answered (Applied (Exchanged (ResponseRead (read_count bytes most term))) ∷ []) (read_of bytes most term)
 
 -- a read gives what stands of the response; without one, where none can come, the unfinished text is dropped, and that is reported
 abbrev pub device_read : ℕ → Option ℕ → List DeviceAct → CallOutcome
 device_read most term acts =
     if is_something (response (exchange_acts acts)) then reads (response (exchange_acts acts)) most term
     else (if not (is_answerable (instrument_acts acts)) then only (no_bytes IoTimeout)
-    else answered (Happened (Reported QueryUnterminated) ∷ Happened (Exchanged TextDropped) ∷ []) (no_bytes IoTimeout))
+    else answered (Applied (Reported QueryUnterminated) ∷ Applied (Exchanged TextDropped) ∷ []) (no_bytes IoTimeout))
 
 -- A call on a link of this number by what it is, once it needn't wait, where a poll of the status byte would give this. device_remote and
 -- device_local do nothing. device_docmd isn't supported; nor, here, is device_abort, which is none of this channel.
@@ -79,10 +79,10 @@ abbrev pub link_call : ℕ → ℕ → ℕ → LinkCall → List DeviceAct → C
 link_call polled c lid (DeviceWrite io_timeout lock_timeout flags bytes) acts = device_write flags bytes acts
 link_call polled c lid (DeviceRead request_size io_timeout lock_timeout flags term_char) acts =
     device_read request_size (term_of flags term_char) acts
-link_call polled c lid (Generic Readstb flags lock_timeout io_timeout) acts = answered (Happened Polled ∷ []) (Status NoError polled)
+link_call polled c lid (Generic Readstb flags lock_timeout io_timeout) acts = answered (Applied Polled ∷ []) (Status NoError polled)
 link_call polled c lid (Generic Trigger flags lock_timeout io_timeout) acts =
-    answered (map Happened (trigger_acts (instrument_acts acts))) (Plain NoError)
-link_call polled c lid (Generic Clear flags lock_timeout io_timeout) acts = answered (Happened Purged ∷ []) (Plain NoError)
+    answered (map Applied (trigger_acts (instrument_acts acts))) (Plain NoError)
+link_call polled c lid (Generic Clear flags lock_timeout io_timeout) acts = answered (Applied Purged ∷ []) (Plain NoError)
 link_call polled c lid (Generic _ flags lock_timeout io_timeout) acts = only (Plain NoError)
 link_call polled c lid (DeviceLock flags lock_timeout) acts = device_lock lid acts
 link_call polled c lid DeviceUnlock acts = device_unlock lid acts

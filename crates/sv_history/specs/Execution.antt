@@ -11,7 +11,7 @@ use Rattle.sv_history.specs.Effect.{Effect, result_reply, call_effect, replied}
 use Rattle.sv_history.specs.Request.{Request, NoCall, Decided, CoreRequest, AbortRequest, PortRequest}
 use Rattle.sv_history.specs.CoreCall.{lid_of}
 use Rattle.sv_history.specs.Admission.{stop_of, admitted}
-use Rattle.sv_history.specs.AbortChannel.{owner_of, where_waiting, abort_result}
+use Rattle.sv_history.specs.AbortChannel.{owner_of, if_waiting, abort_result}
 
 -- what the port mapper tells (RFC 1833, section 3)
 abbrev pub port_reply : ℕ → Result ℕ Garbage → List ℕ
@@ -30,5 +30,5 @@ request_effect config polled c (PortRequest xid args) acts =
 
 -- the connection whose suspended call it ends beside
 abbrev pub aborts : Request → List DeviceAct → Option ℕ
-aborts (AbortRequest xid lid) acts = where_waiting (owner_of (lid_of (Some lid)) acts) (lid_of (Some lid)) acts
+aborts (AbortRequest xid lid) acts = if_waiting (owner_of (lid_of (Some lid)) acts) (lid_of (Some lid)) acts
 aborts _ acts = None

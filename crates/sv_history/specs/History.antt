@@ -16,7 +16,7 @@ use Rattle.sv_history.specs.declared.event.Did.TheVariants.{Done, Idle}
 use Rattle.sv_history.specs.declared.event.Refused.{Refused}
 use Rattle.sv_history.specs.declared.event.Refused.TheVariants.{NoMemory, ConnInUse, NoConn, NoRoom, NotSent, NoDial, NotRefusable, BadChannel, BadInput, TimeOver}
 use Rattle.sv_history.specs.Event.{IsEvent, IsConfig, PlainEvent, Open, Bytes, Turn, Refuse, Took, Close, Dialed, Input, External, Tick}
-use Rattle.sv_history.specs.Act.{Act, ConnAct, DeviceAct, Opened, Piece, CallTaken, Replied, BytesTaken, PortClosed, Linked, Waited, Channel, Happened, Ticked, On, OnDevice, of, device_acts, link_acts, wait_acts, instrument_acts, ticks}
+use Rattle.sv_history.specs.Act.{Act, ConnAct, DeviceAct, Opened, Piece, CallTaken, Replied, BytesTaken, PortClosed, Linked, Waited, Channel, Applied, Ticked, On, OnDevice, of, device_acts, link_acts, wait_acts, instrument_acts, ticks}
 use Rattle.sv_history.specs.Connection.{life, is_open, waiting, next_call, is_idle, room, free}
 use Rattle.sv_history.specs.CoreCall.{CoreCall}
 use Rattle.sv_history.specs.Request.{Request, core_call_in, next_request}
@@ -65,9 +65,9 @@ own_acts config polled (Close (Conn c)) log =
     ++ On c PortClosed ∷ []
 own_acts config polled (Close (Intr c)) log = OnDevice (Channel (ChannelClosed c)) ∷ []
 own_acts config polled (Dialed c ok) log = acts_of c (connected c ok (core_call_in (life (of c log)).unanswered))
-own_acts config polled (Input channel microvolts) log = OnDevice (Happened (Scanned (InputTo channel microvolts))) ∷ []
-own_acts config polled External log = map OnDevice (map Happened (external_acts (instrument_acts (device_acts log))))
-own_acts config polled Tick log = map OnDevice (map Happened (tick_acts (instrument_acts (device_acts log)))) ++ OnDevice Ticked ∷ []
+own_acts config polled (Input channel microvolts) log = OnDevice (Applied (Scanned (InputTo channel microvolts))) ∷ []
+own_acts config polled External log = map OnDevice (map Applied (external_acts (instrument_acts (device_acts log))))
+own_acts config polled Tick log = map OnDevice (map Applied (tick_acts (instrument_acts (device_acts log)))) ++ OnDevice Ticked ∷ []
 
 -- whether a number isn't that of an open connection
 abbrev pub is_shut : ℕ → List Act → Bool

@@ -59,12 +59,12 @@ request_of role (Err (Version xid)) = Decided xid Mismatch
 request_of role (Err BadHeader) = NoCall
 
 -- what the next call of a connection asks for, where there is one
-abbrev pub asked : Option Role → Option (List ℕ) → Option Request
-asked (Some role) (Some bytes) = Some (request_of role (call_at bytes))
-asked _ _ = None
+abbrev pub request_for : Option Role → Option (List ℕ) → Option Request
+request_for (Some role) (Some bytes) = Some (request_of role (call_at bytes))
+request_for _ _ = None
 
 abbrev pub next_request : List ConnAct → Option Request
-next_request acts = asked (life acts).role (next_call acts)
+next_request acts = request_for (life acts).role (next_call acts)
 
 -- the call of the core channel that a record is, where it is one
 abbrev pub core_call_of : Request → Option CoreCall

@@ -4,7 +4,7 @@ use Rattle.std.specs.Prelude.{◌≡◌, ◌↔◌, Bool, true, false, List, [],
 use Rattle.sv_links.specs.Links.{LinkAct, Destroyed}
 use Rattle.sv_links.specs.Channels.{ChannelAct, SrqDisabled, Requested}
 use Rattle.sv_layers.specs.StatusByte.{IsRaised}
-use Rattle.sv_history.specs.Act.{DeviceAct, Linked, Channel, Happened, instrument_acts}
+use Rattle.sv_history.specs.Act.{DeviceAct, Linked, Channel, Applied, instrument_acts}
 
 -- what a link's act is to them
 abbrev pub link_told : LinkAct → List ChannelAct → List ChannelAct
@@ -21,6 +21,6 @@ abbrev pub HearsOf : List DeviceAct → List ChannelAct → Type 0
 HearsOf [] told = told ≡ []
 HearsOf (Channel act ∷ acts) told = (before : List ChannelAct) × HearsOf acts before × (told ≡ act ∷ before)
 HearsOf (Linked act ∷ acts) told = (before : List ChannelAct) × HearsOf acts before × (told ≡ link_told act before)
-HearsOf (Happened act ∷ acts) told = (before : List ChannelAct) × (raised : Bool) × HearsOf acts before
+HearsOf (Applied act ∷ acts) told = (before : List ChannelAct) × (raised : Bool) × HearsOf acts before
     × ((raised ≡ true) ↔ IsRaised (act ∷ instrument_acts acts)) × (told ≡ request_told raised before)
 HearsOf (_ ∷ acts) told = HearsOf acts told

@@ -2,7 +2,7 @@
 use Rattle.std.proofs.Common.{◌≡◌, ℕ, ◌+◌, ◌≤◌, min, Bool, true, false, List, [], ◌∷◌, length, length-append, refl, ap, subst, ◌∙◌, arith}
 use Rattle.sv_scan.specs.Condition.{bit}
 use Rattle.sv_layers.specs.Act.{Act, Polled}
-use Rattle.sv_layers.specs.Inside.Kept.{Layered, AllRead, Happens, StandsFor as Layers, max_count}
+use Rattle.sv_layers.specs.Inside.Representation.{LayerState, AllRead, IsApplied, StandsFor as Layers, max_count}
 use Rattle.sv_layers.proofs.NothingAtPoll.{unraised}
 use Rattle.sv_instrument.specs.RequestCount.{Raise, Raises}
 use Rattle.sv_instrument.specs.Representation.{Kept, StandsFor}
@@ -23,30 +23,30 @@ runs_none {kept} {log} s = record {
 still_most : (n more : ℕ) → min (min n max_count + more) max_count ≡ min (n + more) max_count
 still_most n more = grind arith
 
-pub counted : {start log : List Act} {before after : Layered} {act : Act} → Happens before.requests after (act ∷ log)
+pub counted : {start log : List Act} {before after : LayerState} {act : Act} → IsApplied before.requests after (act ∷ log)
     → Counts start before log → Counts start after (act ∷ log)
-counted {start} {log} {before} {after} {act} happens h = record {
-  stands = happens.stands;
-  raised = h.raised + bit 0 happens.raised;
+counted {start} {log} {before} {after} {act} applied h = record {
+  stands = applied.stands;
+  raised = h.raised + bit 0 applied.raised;
   raises = record {
     acts = act ∷ h.raises.acts;
     new_is = ap (λ (acts : List Act). act ∷ acts) h.raises.new_is;
     count_is = (
-      happens.raised,
+      applied.raised,
       h.raised,
-      rw h.raises.new_is at happens.requests,
+      rw h.raises.new_is at applied.requests,
       h.raises.count_is,
       refl,
     );
   };
-  count = happens.count ∙ ap (λ (n : ℕ). min (n + bit 0 happens.raised) max_count) h.count ∙ still_most h.raised (bit 0 happens.raised);
+  count = applied.count ∙ ap (λ (n : ℕ). min (n + bit 0 applied.raised) max_count) h.count ∙ still_most h.raised (bit 0 applied.raised);
 }
 
 -- what a call does, wherever the count began
-pub counts : {start log : List Act} {before after : Layered} {act : Act}
-    → ((log : List Act) → Layers before log → Happens before.requests after (act ∷ log)) → Counts start before log
+pub counts : {start log : List Act} {before after : LayerState} {act : Act}
+    → ((log : List Act) → Layers before log → IsApplied before.requests after (act ∷ log)) → Counts start before log
     → Counts start after (act ∷ log)
-counts {start} {log} happens h = counted (happens log h.stands) h
+counts {start} {log} applied h = counted (applied log h.stands) h
 
 -- an act raises one at most
 raise_few : (acts log : List Act) (n : ℕ) → Raise acts log n → n ≤ length acts
@@ -55,7 +55,7 @@ raise_few (act ∷ acts) log n (true, before, up, others, is) = let few = raise_
 raise_few (act ∷ acts) log n (false, before, up, others, is) = let few = raise_few acts log before others in omega arith
 
 -- so the count of few acts is exact
-pub count_exact : {start log : List Act} {layers : Layered} → Counts start layers log → IsCountable start log
+pub count_exact : {start log : List Act} {layers : LayerState} → Counts start layers log → IsCountable start log
     → Raises start log layers.requests
 count_exact {start} {log} {layers} h few =
     let most = raise_few h.raises.acts start h.raised h.raises.count_is in
@@ -68,12 +68,12 @@ none_raised : (raised : Bool) → (raised ≡ true → ⊥) → bit 0 raised ≡
 none_raised true never = absurd (never refl)
 none_raised false never = refl
 
-pub polled : {before after : Layered} {log : List Act} → AllRead before log → Happens before.requests after (Polled ∷ log)
+pub polled : {before after : LayerState} {log : List Act} → AllRead before log → IsApplied before.requests after (Polled ∷ log)
     → AllRead after (Polled ∷ log) × Raises log (Polled ∷ log) 0
-polled {before} {after} {log} h happens =
-    let zero = none_raised happens.raised (λ is. unraised log (happens.requests.0 is)) in
+polled {before} {after} {log} h applied =
+    let zero = none_raised applied.raised (λ is. unraised log (applied.requests.0 is)) in
     let before_none = h.none in
-    let count = happens.count in (
-      record { stands = happens.stands; none = grind arith },
-      record { acts = Polled ∷ []; new_is = refl; count_is = (happens.raised, 0, happens.requests, refl, omega (arith, zero)) },
+    let count = applied.count in (
+      record { stands = applied.stands; none = grind arith },
+      record { acts = Polled ∷ []; new_is = refl; count_is = (applied.raised, 0, applied.requests, refl, omega (arith, zero)) },
     )

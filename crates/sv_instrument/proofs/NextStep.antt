@@ -4,12 +4,12 @@ use Rattle.std.specs.Prelude.{Option, Some, None}
 use Rattle.sv_errors.specs.declared.code.Code.{Code}
 use Rattle.sv_scan.specs.declared.setting.State.TheVariants.{Waiting, Scanning}
 use Rattle.sv_exchange.specs.Exchange.{Due, NothingDue, UnitDue, due, next_unit, is_something}
-use Rattle.sv_exchange.specs.Contents.{Contents, IsUnitDue, next_of, shown_by, work_of}
+use Rattle.sv_exchange.specs.Contents.{Contents, IsUnitDue, next_of, shown_by, exchange_measure}
 use Rattle.sv_exchange.proofs.Dues.{at_unit}
 use Rattle.sv_layers.specs.declared.change.Awaited.{Awaited}
 use Rattle.sv_layers.specs.Act.{Act, exchange_acts}
 use Rattle.sv_layers.specs.Condition.{is_idle}
-use Rattle.sv_layers.specs.Inside.Kept.{Layered, state_by}
+use Rattle.sv_layers.specs.Inside.Representation.{LayerState, state_by}
 use Rattle.sv_instrument.specs.HeldUnit.{held}
 use Rattle.sv_instrument.specs.Path.{IsPath}
 use Rattle.sv_instrument.specs.Step.{StepOf, IsStep, Starts}
@@ -73,12 +73,12 @@ started start log unit path kept free next here b =
     }
 
 -- a trigger that was waited for leaves less
-pub fired_less : (new old : Layered) (kept : Option Awaited) → new.exchange ≡ old.exchange → state_by old ≡ Waiting
+pub fired_less : (new old : LayerState) (kept : Option Awaited) → new.exchange ≡ old.exchange → state_by old ≡ Waiting
     → state_by new ≡ Scanning
-    → 2 * (2 * work_of new.exchange + unheld kept) + waits (state_by new)
-    < 2 * (2 * work_of old.exchange + unheld kept) + waits (state_by old)
+    → 2 * (2 * exchange_measure new.exchange + unheld kept) + waits (state_by new)
+    < 2 * (2 * exchange_measure old.exchange + unheld kept) + waits (state_by old)
 fired_less new old kept exchange waiting scanning =
-    let work : work_of new.exchange ≡ work_of old.exchange = ap (λ (c : Contents). work_of c) exchange in
+    let work : exchange_measure new.exchange ≡ exchange_measure old.exchange = ap (λ (c : Contents). exchange_measure c) exchange in
     let before : waits (state_by old) ≡ 1 = ap waits waiting in
     let after : waits (state_by new) ≡ 0 = ap waits scanning in
     omega (arith, work, before, after)
@@ -88,7 +88,7 @@ shown_nothing : (bytes : List ℕ) (count : ℕ) → is_something bytes ≡ fals
 shown_nothing [] count nothing within = omega (arith, within)
 shown_nothing (b ∷ bytes) count nothing within = absurd cc
 
-pub take_right : (kept : Option Awaited) (old new : Layered) (count : ℕ) → IsHeldRight kept old
+pub take_right : (kept : Option Awaited) (old new : LayerState) (count : ℕ) → IsHeldRight kept old
     → count ≤ length (shown_by old.exchange) → new.exchange ≡ record old.exchange { output = drop count old.exchange.output }
     → IsHeldRight kept new
 take_right None old new count right within value = tt

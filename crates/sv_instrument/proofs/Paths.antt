@@ -12,7 +12,7 @@ use Rattle.sv_command.specs.declared.order.Order.{Order}
 use Rattle.sv_command.specs.Unit.{IsReadAs}
 use Rattle.sv_layers.specs.declared.change.Awaited.{Awaited}
 use Rattle.sv_layers.specs.Act.{Act, Exchanged, exchange_acts}
-use Rattle.sv_layers.specs.Inside.Kept.{Layered}
+use Rattle.sv_layers.specs.Inside.Representation.{LayerState}
 use Rattle.sv_layers.proofs.Projected.{projected}
 use Rattle.sv_instrument.specs.HeldUnit.{held}
 use Rattle.sv_instrument.specs.Path.{IsPath, Leaves, units_begun, one_if_held}
@@ -30,7 +30,7 @@ none_done : (contents : Contents) (acts : List ExchangeAct) → Exchanges conten
 none_done contents acts s unended = sym s.count ∙ ap length (s.unbegun unended)
 
 -- and none of it is held
-none_held : (kept : Option Awaited) (layers : Layered) → IsHeldRight kept layers → layers.exchange.ended ≡ false → one_if_held kept ≡ 0
+none_held : (kept : Option Awaited) (layers : LayerState) → IsHeldRight kept layers → layers.exchange.ended ≡ false → one_if_held kept ≡ 0
 none_held None layers right unended = refl
 none_held (Some awaited) layers right unended =
     let z : true ≡ false = sym (at_unit layers.exchange right).ended ∙ unended in absurd cc

@@ -13,7 +13,7 @@ use Rattle.sv_layers.specs.declared.change.Change.{Change}
 use Rattle.sv_layers.specs.declared.change.Change.TheVariants as changes
 use Rattle.sv_layers.specs.Act.{Act, Exchanged, Held, Reported, exchange_acts}
 use Rattle.sv_layers.specs.Change.{act_of}
-use Rattle.sv_layers.specs.Inside.Kept.{Layered}
+use Rattle.sv_layers.specs.Inside.Representation.{LayerState}
 use Rattle.sv_instrument.specs.HeldUnit.{held}
 use Rattle.sv_instrument.specs.CommandEffect.{done, answered, unless, configured, taken, Replies}
 use Rattle.sv_instrument.specs.QueryResponse.{Says}
@@ -35,7 +35,7 @@ configured_apart None log = refl
 configured_apart (Some channels) log = refl
 
 -- what a unit makes behind acts that the exchange doesn't see
-pub behaves_apart : {Makes : List Act → Type 0} {start log behind : List Act} {layers : Layered} {awaited : Option Awaited}
+pub behaves_apart : {Makes : List Act → Type 0} {start log behind : List Act} {layers : LayerState} {awaited : Option Awaited}
     → IsApart log behind → Behaves Makes start layers awaited behind → Behaves Makes start layers awaited log
 behaves_apart apart b = record {
   new = b.new;
@@ -60,7 +60,7 @@ held_begins awaited log = record { message = refl; begun = refl }
 abbrev told : Bool → List ℕ → List Act → List Act
 told fits text log = if fits then Exchanged (Answered text) ∷ log else Reported QueryDeadlocked ∷ Exchanged AnswersDropped ∷ log
 
-pub counts_told : {start : List Act} {layers : Layered} (fits : Bool) (text : List ℕ) (log : List Act)
+pub counts_told : {start : List Act} {layers : LayerState} (fits : Bool) (text : List ℕ) (log : List Act)
     → fits ≡ fits_response (answers (exchange_acts log)) text → Counts start layers (told fits text log)
     → Counts start layers (answered text log)
 counts_told {start} {layers} fits text log same = subst (λ (b : Bool). Counts start layers (told b text log)) same
@@ -73,17 +73,17 @@ told_held : (fits : Bool) (text : List ℕ) (log : List Act) → None ≡ held (
 told_held true text log = refl
 told_held false text log = refl
 
-pub behaves_done : (start log : List Act) (layers : Layered) → Counts start layers (done log)
+pub behaves_done : (start log : List Act) (layers : LayerState) → Counts start layers (done log)
     → Behaves (λ new. new ≡ done log) start layers None log
 behaves_done start log layers counts =
     record { new = done log; makes = refl; counts = counts; held = refl; begins = done_begins log }
 
-pub behaves_held : (start log : List Act) (awaited : Awaited) (layers : Layered) → Counts start layers (Held awaited ∷ log)
+pub behaves_held : (start log : List Act) (awaited : Awaited) (layers : LayerState) → Counts start layers (Held awaited ∷ log)
     → Behaves (λ new. new ≡ Held awaited ∷ log) start layers (Some awaited) log
 behaves_held start log awaited layers counts =
     record { new = Held awaited ∷ log; makes = refl; counts = counts; held = refl; begins = held_begins awaited log }
 
-pub behaves_answered : (start log : List Act) (text : List ℕ) (layers : Layered) → Counts start layers (answered text (done log))
+pub behaves_answered : (start log : List Act) (text : List ℕ) (layers : LayerState) → Counts start layers (answered text (done log))
     → Behaves (λ new. new ≡ answered text (done log)) start layers None log
 behaves_answered start log text layers counts =
     let fits = fits_response (answers (exchange_acts (done log))) text in
@@ -96,14 +96,14 @@ behaves_answered start log text layers counts =
     }
 
 -- what the state may refuse
-pub behaves_unless : {start : List Act} {layers : Layered} {awaited : Option Awaited} {fault given : Option Code} {log : List Act}
+pub behaves_unless : {start : List Act} {layers : LayerState} {awaited : Option Awaited} {fault given : Option Code} {log : List Act}
     (acts : List Act) → fault ≡ given → Behaves (λ new. new ≡ unless given acts log) start layers awaited log
     → Behaves (λ new. new ≡ unless fault acts log) start layers awaited log
 behaves_unless {start} {layers} {awaited} {fault} {given} {log} acts is =
     subst (λ (f : Option Code). Behaves (λ new. new ≡ unless f acts log) start layers awaited log) (sym is)
 
 -- an answer
-pub behaves_replied : {start : List Act} {layers : Layered} {awaited : Option Awaited} {fault : Option Code} (asked : Question)
+pub behaves_replied : {start : List Act} {layers : LayerState} {awaited : Option Awaited} {fault : Option Code} (asked : Question)
     (text : List ℕ) (log : List Act) → fault ≡ None → Says asked log text
     → Behaves (λ new. new ≡ answered text (done (taken asked log))) start layers awaited log
     → Behaves (Replies fault asked log) start layers awaited log
@@ -117,7 +117,7 @@ behaves_replied {start} {layers} {awaited} {fault} asked text log is says b =
     })
 
 -- a unit that was read
-pub behaves_follows : {start : List Act} {layers : Layered} {awaited : Option Awaited} (unit : List ℕ) (front behind : List (List ℕ))
+pub behaves_follows : {start : List Act} {layers : LayerState} {awaited : Option Awaited} (unit : List ℕ) (front behind : List (List ℕ))
     (outcome : Result Order Code) (log : List Act) → IsReadAs front unit outcome behind
     → Behaves (Does outcome log) start layers awaited log
     → Behaves (Follows unit front behind log) start layers awaited log
@@ -125,7 +125,7 @@ behaves_follows unit front behind outcome log read b =
     record { new = b.new; makes = (outcome, read, b.makes); counts = b.counts; held = b.held; begins = b.begins }
 
 -- what it made, said otherwise
-pub behaves_made : {start log made wanted : List Act} {layers : Layered} {awaited : Option Awaited} → made ≡ wanted
+pub behaves_made : {start log made wanted : List Act} {layers : LayerState} {awaited : Option Awaited} → made ≡ wanted
     → Behaves (λ new. new ≡ made) start layers awaited log → Behaves (λ new. new ≡ wanted) start layers awaited log
 behaves_made {start} {log} {made} {wanted} {layers} {awaited} =
     subst (λ (acts : List Act). Behaves (λ new. new ≡ acts) start layers awaited log)

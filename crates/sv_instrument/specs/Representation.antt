@@ -2,16 +2,16 @@
 use Rattle.std.specs.Prelude.{◌≡◌, ℕ, ◌+◌, ◌*◌, ⊤, List, Option, Some, None}
 use Rattle.sv_scan.specs.declared.setting.State.{State}
 use Rattle.sv_scan.specs.declared.setting.State.TheVariants.{Idle, Waiting, Scanning}
-use Rattle.sv_exchange.specs.Contents.{IsUnitDue, next_of, work_of}
+use Rattle.sv_exchange.specs.Contents.{IsUnitDue, next_of, exchange_measure}
 use Rattle.sv_layers.specs.declared.change.Awaited.{Awaited}
 use Rattle.sv_layers.specs.Act.{Act}
-use Rattle.sv_layers.specs.Inside.Kept.{Layered, AllRead as Layers, state_by}
+use Rattle.sv_layers.specs.Inside.Representation.{LayerState, AllRead as Layers, state_by}
 use Rattle.sv_instrument.specs.HeldUnit.{held}
 use Rattle.sv_instrument.specs.Path.{IsPath}
 use Rattle.sv_instrument.specs.RequestCount.{Raises}
 
 pub record Kept : Type 0 where
-  pub layers : Layered
+  pub layers : LayerState
   pub held : Option Awaited
   pub path : List (List ℕ)
 
@@ -43,11 +43,11 @@ waits Idle = 0
 waits Scanning = 0
 
 -- how much is left to be done, so that whoever triggers and steps comes to an end
-abbrev pub left_of : Kept → ℕ
-left_of kept = 2 * (2 * work_of kept.layers.exchange + unheld kept.held)
+abbrev pub instrument_measure : Kept → ℕ
+instrument_measure kept = 2 * (2 * exchange_measure kept.layers.exchange + unheld kept.held)
     + waits (state_by kept.layers)
 
 -- Where a unit is held, it is the one that is due.
-abbrev pub IsHeldRight : Option Awaited → Layered → Type 0
+abbrev pub IsHeldRight : Option Awaited → LayerState → Type 0
 IsHeldRight None layers = ⊤
 IsHeldRight (Some awaited) layers = IsUnitDue (next_of layers.exchange)

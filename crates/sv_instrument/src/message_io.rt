@@ -90,7 +90,7 @@ impl<A: Allocator> Instrument<A> {
         self.held = None;
         self.path = Path::root();
         self.layers.drop_unfinished();
-        self.layers.happen(Change::Report(Code::QueryUnterminated));
+        self.layers.apply(Change::Report(Code::QueryUnterminated));
         self.take_requests()
     }
 

@@ -4,7 +4,7 @@ ghost use Rattle.std.specs.Prelude.{◌≡◌, ◌≤◌, List, [], vec_capacity
 ghost use Rattle.sv_exchange.specs.Contents.{IsUnitDue, next_of};
 ghost use Rattle.sv_exchange.specs.Limits.{max_response};
 ghost use Rattle.sv_layers.specs.Act.{Act};
-ghost use Rattle.sv_layers.specs.Inside.Kept.{StandsFor as Stands};
+ghost use Rattle.sv_layers.specs.Inside.Representation.{StandsFor as Stands};
 ghost use Rattle.sv_instrument.specs.CommandEffect.{question_fault, taken, Replies};
 ghost use Rattle.sv_instrument.specs.Inside.Acted.{Counts, Behaves, Advances};
 ghost use Rattle.sv_instrument.specs.QueryResponse.{Says, value_text};
@@ -59,9 +59,9 @@ fn take<A: Allocator>(layers: &mut Layers<A>, question: Question)
     ensures exchange { layers.new.exchange ≡ layers.old.exchange }
 {
     match question {
-        Question::StandardEvents => layers.happen(Change::ReadStandard),
-        Question::Error => layers.happen(Change::TakeEntry),
-        Question::Events(name) => layers.happen(Change::ReadEvent(name)),
+        Question::StandardEvents => layers.apply(Change::ReadStandard),
+        Question::Error => layers.apply(Change::TakeEntry),
+        Question::Events(name) => layers.apply(Change::ReadEvent(name)),
         _ => (),
     }
 }

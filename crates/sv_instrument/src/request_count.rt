@@ -2,7 +2,7 @@
 
 ghost use Rattle.std.specs.Prelude.{◌≡◌, List};
 ghost use Rattle.sv_layers.specs.Act.{Act};
-ghost use Rattle.sv_instrument.specs.Representation.{Ran, left_of};
+ghost use Rattle.sv_instrument.specs.Representation.{Ran, instrument_measure};
 ghost use Rattle.sv_instrument.specs.Inside.Acted.{IsCountable, Runs};
 
 use crate::instrument::Instrument;
@@ -14,7 +14,7 @@ impl<A: Allocator> Instrument<A> {
     pub(crate) fn take_requests(&mut self) -> u8
         ensures ran { (start log : List Act) → Runs start self.old log → IsCountable start log
             → Ran self.new result start log }
-        ensures measure { left_of self.new ≡ left_of self.old }
+        ensures measure { instrument_measure self.new ≡ instrument_measure self.old }
     {
         self.layers.take_requests()
     }

@@ -77,10 +77,10 @@ pub(crate) fn configure<A: Allocator>(layers: &mut Layers<A>, list: Option<ScanL
         → Counts start layers.new (configured list log) }
     ensures exchange { layers.new.exchange ≡ layers.old.exchange }
 {
-    layers.happen(Change::Scan(ScanAct::Abort));
-    layers.happen(Change::Scan(ScanAct::Configure(Setting::Range(RANGE))));
-    layers.happen(Change::Scan(ScanAct::Configure(Setting::Source(Source::Immediate))));
-    layers.happen(Change::Scan(ScanAct::Configure(Setting::Count(1))));
+    layers.apply(Change::Scan(ScanAct::Abort));
+    layers.apply(Change::Scan(ScanAct::Configure(Setting::Range(RANGE))));
+    layers.apply(Change::Scan(ScanAct::Configure(Setting::Source(Source::Immediate))));
+    layers.apply(Change::Scan(ScanAct::Configure(Setting::Count(1))));
     set_list(layers, list);
 }
 
@@ -91,7 +91,7 @@ fn set_list<A: Allocator>(layers: &mut Layers<A>, list: Option<ScanList>)
     ensures exchange { layers.new.exchange ≡ layers.old.exchange }
 {
     match list {
-        Some(list) => layers.happen(Change::Scan(ScanAct::Configure(Setting::List(list)))),
+        Some(list) => layers.apply(Change::Scan(ScanAct::Configure(Setting::List(list)))),
         None => (),
     }
 }
@@ -106,8 +106,8 @@ pub(crate) fn read<A: Allocator>(layers: &mut Layers<A>) -> Option<Awaited>
 {
     match layers.scanner().may_read() {
         Ok(()) => {
-            layers.happen(Change::Scan(ScanAct::Abort));
-            layers.happen(Change::Scan(ScanAct::Init));
+            layers.apply(Change::Scan(ScanAct::Abort));
+            layers.apply(Change::Scan(ScanAct::Init));
             hold(layers, Awaited::Readings)
         }
         Err(deadlock) => carry_out(layers, Change::Report(deadlock)),
@@ -125,6 +125,6 @@ pub(crate) fn measure<A: Allocator>(
     ensures advances { Advances layers.old layers.new result }
 {
     configure(layers, list);
-    layers.happen(Change::Scan(ScanAct::Init));
+    layers.apply(Change::Scan(ScanAct::Init));
     hold(layers, Awaited::Readings)
 }

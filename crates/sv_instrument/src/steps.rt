@@ -7,7 +7,7 @@ ghost use Rattle.sv_exchange.specs.Contents.{IsUnitDue, next_of};
 ghost use Rattle.sv_layers.specs.Act.{Act, Exchanged, Reported};
 ghost use Rattle.sv_instrument.specs.Stimulus.{IsFired};
 ghost use Rattle.sv_instrument.specs.Step.{IsStep, interrupted};
-ghost use Rattle.sv_instrument.specs.Representation.{StandsFor, Takes, left_of};
+ghost use Rattle.sv_instrument.specs.Representation.{StandsFor, Takes, instrument_measure};
 ghost use Rattle.sv_instrument.specs.Inside.Acted.{Runs, StartsUnit, Steps};
 
 use crate::instrument::Instrument;
@@ -26,7 +26,8 @@ impl<A: Allocator> Instrument<A> {
     pub fn fire(&mut self) -> Option<u8>
         ensures fires { (log : List Act) → StandsFor self.old log
             → Takes IsFired self.new result log }
-        ensures measure { OnSome result (left_of self.new < left_of self.old) }
+        ensures measure { OnSome result (instrument_measure self.new
+            < instrument_measure self.old) }
         ensures idle { IfNone result (self.new ≡ self.old) }
     {
         match self.layers.trigger(Source::Immediate) {
@@ -42,7 +43,8 @@ impl<A: Allocator> Instrument<A> {
     pub fn step(&mut self) -> Option<u8>
         ensures steps { (log : List Act) → StandsFor self.old log
             → Takes IsStep self.new result log }
-        ensures measure { OnSome result (left_of self.new < left_of self.old) }
+        ensures measure { OnSome result (instrument_measure self.new
+            < instrument_measure self.old) }
         ensures idle { IfNone result (self.new ≡ self.old) }
     {
         if self.take_step() {
@@ -99,10 +101,10 @@ impl<A: Allocator> Instrument<A> {
         requires due { next_of self.old.layers.exchange ≡ OverrunDue }
         ensures runs { (start log : List Act) → Runs start self.old log → Runs start self.new
             (Reported InputBufferOverrun ∷ Exchanged Overran ∷ log) }
-        ensures measure { left_of self.new < left_of self.old }
+        ensures measure { instrument_measure self.new < instrument_measure self.old }
     {
         self.layers.overran();
-        self.layers.happen(Change::Report(Code::InputBufferOverrun));
+        self.layers.apply(Change::Report(Code::InputBufferOverrun));
     }
 
     /// The response is interrupted, and the unit that is due starts.
@@ -111,10 +113,10 @@ impl<A: Allocator> Instrument<A> {
         requires due { next_of self.old.layers.exchange ≡ InterruptDue }
         ensures starts { (start log : List Act) → Runs start self.old log
             → StartsUnit start (interrupted log) self.new }
-        ensures measure { left_of self.new < left_of self.old }
+        ensures measure { instrument_measure self.new < instrument_measure self.old }
     {
         self.layers.interrupt();
-        self.layers.happen(Change::Report(Code::QueryInterrupted));
+        self.layers.apply(Change::Report(Code::QueryInterrupted));
         self.start();
     }
 
@@ -124,7 +126,7 @@ impl<A: Allocator> Instrument<A> {
         requires due { IsUnitDue (next_of self.old.layers.exchange) }
         ensures starts { (start log : List Act) → Runs start self.old log
             → StartsUnit start log self.new }
-        ensures measure { left_of self.new < left_of self.old }
+        ensures measure { instrument_measure self.new < instrument_measure self.old }
     {
         self.held = unit_start::start(
             &self.table,
@@ -140,7 +142,7 @@ impl<A: Allocator> Instrument<A> {
         requires due { next_of self.old.layers.exchange ≡ FinishDue }
         ensures runs { (start log : List Act) → Runs start self.old log
             → Runs start self.new (Exchanged Finished ∷ log) }
-        ensures measure { left_of self.new < left_of self.old }
+        ensures measure { instrument_measure self.new < instrument_measure self.old }
     {
         self.path = Path::root();
         self.layers.finish();

@@ -24,7 +24,7 @@ impl<A: Allocator> Instrument<A> {
             → Ran self.new result log (Scanned (Input channel microvolts) ∷ log) }
     {
         self.layers
-            .happen(Change::Scan(ScanAct::Input(channel, microvolts)));
+            .apply(Change::Scan(ScanAct::Input(channel, microvolts)));
         self.take_requests()
     }
 
@@ -48,7 +48,7 @@ impl<A: Allocator> Instrument<A> {
     {
         match self.layers.trigger(Source::Bus) {
             Ok(()) => (),
-            Err(ignored) => self.layers.happen(Change::Report(ignored)),
+            Err(ignored) => self.layers.apply(Change::Report(ignored)),
         }
         self.take_requests()
     }
@@ -60,7 +60,7 @@ impl<A: Allocator> Instrument<A> {
     {
         match self.layers.scanner().state() {
             State::Scanning => {
-                self.layers.happen(Change::Scan(ScanAct::Sample));
+                self.layers.apply(Change::Scan(ScanAct::Sample));
                 self.take_requests()
             }
             State::Idle => 0,

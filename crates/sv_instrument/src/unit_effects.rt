@@ -1,7 +1,7 @@
 //! One act after the other.
 
 ghost use Rattle.std.specs.Prelude.{◌≡◌, ◌≤◌, List, ◌∷◌, None, IsTrue};
-ghost use Rattle.sv_exchange.specs.Contents.{IsUnitDue, next_of, may_respond, work_of};
+ghost use Rattle.sv_exchange.specs.Contents.{IsUnitDue, next_of, may_respond, exchange_measure};
 ghost use Rattle.sv_layers.specs.Act.{Act, Held as HeldAct};
 ghost use Rattle.sv_layers.specs.Change.{act_of};
 ghost use Rattle.sv_instrument.specs.CommandEffect.{done as done_of, answered};
@@ -29,7 +29,7 @@ pub(crate) fn carry_out<A: Allocator>(layers: &mut Layers<A>, change: Change) ->
         → Behaves (λ new. new ≡ done_of (act_of change ∷ log)) start layers.new result log }
     ensures advances { Advances layers.old layers.new result }
 {
-    layers.happen(change);
+    layers.apply(change);
     end(layers);
     None
 }
@@ -41,7 +41,7 @@ pub(crate) fn hold<A: Allocator>(layers: &mut Layers<A>, awaited: Awaited) -> Op
         → Behaves (λ new. new ≡ HeldAct awaited ∷ log) start layers.new result log }
     ensures advances { Advances layers.old layers.new result }
 {
-    layers.happen(Change::Hold(awaited));
+    layers.apply(Change::Hold(awaited));
     Some(awaited)
 }
 
@@ -51,10 +51,10 @@ fn respond<A: Allocator>(layers: &mut Layers<A>, text: &[u8])
     requires { IsTrue (may_respond layers.old.exchange) }
     ensures counts { (start log : List Act) → Counts start layers.old log
         → Counts start layers.new (answered text.now log) }
-    ensures measure { work_of layers.new.exchange ≤ work_of layers.old.exchange }
+    ensures measure { exchange_measure layers.new.exchange ≤ exchange_measure layers.old.exchange }
 {
     if !layers.respond(text) {
-        layers.happen(Change::Report(Code::QueryDeadlocked));
+        layers.apply(Change::Report(Code::QueryDeadlocked));
     }
 }
 

@@ -16,7 +16,7 @@ use Rattle.sv_instrument.specs.Step.{is_answerable}
 use Rattle.sv_history.specs.declared.event.Config.{Config}
 use Rattle.sv_history.specs.declared.event.Refused.TheVariants.{NoConn, NoRoom, NotRefusable}
 use Rattle.sv_history.specs.Event.{Refuse}
-use Rattle.sv_history.specs.Act.{Act, DeviceAct, CallTaken, Replied, Linked, Waited, Channel, Happened, Ticked, On, of, device_acts, link_acts, wait_acts, instrument_acts, exchange_acts}
+use Rattle.sv_history.specs.Act.{Act, DeviceAct, CallTaken, Replied, Linked, Waited, Channel, Applied, Ticked, On, of, device_acts, link_acts, wait_acts, instrument_acts, exchange_acts}
 use Rattle.sv_history.specs.Connection.{next_call, is_idle, free}
 use Rattle.sv_history.proofs.Lives.{unanswered}
 use Rattle.sv_history.specs.Limits.{longest_reply}
@@ -46,7 +46,7 @@ done_made c arguments (Linked (Locked lid) ∷ adds) acts other h = done_made c 
 done_made c arguments (Linked (Unlocked lid) ∷ adds) acts other h = done_made c arguments adds acts other h.1
 done_made c arguments (Waited act ∷ adds) acts other h = absurd h.0
 done_made c arguments (Channel act ∷ adds) acts other h = done_made c arguments adds acts other h.1
-done_made c arguments (Happened act ∷ adds) acts other h = done_made c arguments adds acts other h.1
+done_made c arguments (Applied act ∷ adds) acts other h = done_made c arguments adds acts other h.1
 done_made c arguments (Ticked ∷ adds) acts other h = done_made c arguments adds acts other h.1
 
 creates_not : (arguments : Arguments) → takes_memory arguments ≡ false → is_create_link arguments ≡ false

@@ -4,7 +4,7 @@ use Rattle.std.specs.Prelude.{filter, not}
 use Rattle.std.specs.List.{AllByRecursion, cons_option}
 use Rattle.std.proofs.lemmas.Bool.{cases_Bool, eqb-true, ne_eqb, lt-ltb, le-ltb, ltb-false, ltb-true}
 use Rattle.sv_links.specs.declared.enabled.Enabled.{Enabled}
-use Rattle.sv_links.specs.Channels.{ChannelAct, SrqEnabled, SrqDisabled, ChannelOpened, ChannelClosed, Requested, ChannelTaken, asked, past, enabled, peer, taken, calls, all_calls}
+use Rattle.sv_links.specs.Channels.{ChannelAct, SrqEnabled, SrqDisabled, ChannelOpened, ChannelClosed, Requested, ChannelTaken, srq_enabled, past, enabled, peer, taken, calls, all_calls}
 use Rattle.sv_links.specs.ChannelRepresentation.{IsSorted}
 use Rattle.sv_links.proofs.Asking.{below, above, other_links, none_below, sorted-filter}
 use Rattle.sv_links.proofs.Rising.{among, asked-at, with_link, enabled-enabled, enabled-disabled, enabled-sorted}
@@ -22,7 +22,7 @@ pub record SameChannel (c : ℕ) (acts other : List ChannelAct) : Type 0 where
 
 -- If a link of this number asks, it is of another connection.
 abbrev pub AsksElsewhere : ℕ → ℕ → List ChannelAct → Type 0
-AsksElsewhere c lid acts = (link : Enabled) → asked lid acts ≡ Some link → link.conn ≢ c
+AsksElsewhere c lid acts = (link : Enabled) → srq_enabled lid acts ≡ Some link → link.conn ≢ c
 
 -- an act of others, on links whose numbers are none of this connection's that ask
 abbrev pub IsForeignChannel : ℕ → ChannelAct → List ChannelAct → Type 0
@@ -57,27 +57,27 @@ filter_join p (x ∷ xs) ys = elim (cases_Bool (p x)) [
 
 -- each link that asks is the one of its number
 
-with_asked : (acts : List ChannelAct) (n : ℕ) (first : Option Enabled) (xs : List Enabled) → asked n acts ≡ first
-    → ((x : Enabled) → first ≡ Some x → x.lid ≡ n) → AllByRecursion (λ link. asked link.lid acts ≡ Some link) xs
-    → AllByRecursion (λ link. asked link.lid acts ≡ Some link) (cons_option first xs)
+with_asked : (acts : List ChannelAct) (n : ℕ) (first : Option Enabled) (xs : List Enabled) → srq_enabled n acts ≡ first
+    → ((x : Enabled) → first ≡ Some x → x.lid ≡ n) → AllByRecursion (λ link. srq_enabled link.lid acts ≡ Some link) xs
+    → AllByRecursion (λ link. srq_enabled link.lid acts ≡ Some link) (cons_option first xs)
 with_asked acts n None xs is at all = all
-with_asked acts n (Some x) xs is at all = (ap (λ (m : ℕ). asked m acts) (at x refl) ∙ is, all)
+with_asked acts n (Some x) xs is at all = (ap (λ (m : ℕ). srq_enabled m acts) (at x refl) ∙ is, all)
 
-among_asked : (a n : ℕ) (acts : List ChannelAct) → AllByRecursion (λ link. asked link.lid acts ≡ Some link) (among a n acts)
+among_asked : (a n : ℕ) (acts : List ChannelAct) → AllByRecursion (λ link. srq_enabled link.lid acts ≡ Some link) (among a n acts)
 among_asked a zero acts = tt
 among_asked a (suc n) acts =
-    with_asked acts a (asked a acts) (among (a + 1) n acts) refl (asked-at a acts) (among_asked (a + 1) n acts)
+    with_asked acts a (srq_enabled a acts) (among (a + 1) n acts) refl (asked-at a acts) (among_asked (a + 1) n acts)
 
 -- so none of this connection's has a number that is asked elsewhere
 abbrev Differ : ℕ → List Enabled → Type 0
 Differ lid links = AllByRecursion (λ link. link.lid ≢ lid) links
 
 differ : (c lid : ℕ) (acts : List ChannelAct) (xs : List Enabled) → AsksElsewhere c lid acts
-    → AllByRecursion (λ link. asked link.lid acts ≡ Some link) xs → Differ lid (own_links c xs)
+    → AllByRecursion (λ link. srq_enabled link.lid acts ≡ Some link) xs → Differ lid (own_links c xs)
 differ c lid acts [] none all = tt
 differ c lid acts (x ∷ xs) none all = elim (cases_Bool (eqb x.conn c)) [
   | inl e ↦ rw e (
-    (λ (same : x.lid ≡ lid). none x (ap (λ (m : ℕ). asked m acts) (sym same) ∙ all.0) (eqb-true x.conn c e)),
+    (λ (same : x.lid ≡ lid). none x (ap (λ (m : ℕ). srq_enabled m acts) (sym same) ∙ all.0) (eqb-true x.conn c e)),
     differ c lid acts xs none all.1,
   )
   | inr e ↦ rw e (differ c lid acts xs none all.1)

@@ -20,7 +20,7 @@ use Rattle.sv_history.specs.declared.event.Did.TheVariants.{Done}
 use Rattle.sv_history.specs.declared.event.Refused.{Refused}
 use Rattle.sv_history.specs.declared.event.Refused.TheVariants.{NoMemory, ConnInUse, NoConn, NoRoom, NotSent, NoDial, NotRefusable, BadChannel, BadInput, TimeOver}
 use Rattle.sv_history.specs.Event.{PlainEvent, Open, Bytes, Turn, Refuse, Took, Close, Dialed, Input, External, Tick}
-use Rattle.sv_history.specs.Act.{Act, ConnAct, DeviceAct, Linked, Waited, Channel, Happened, Ticked, PortClosed, On, OnDevice, of, device_acts, link_acts, wait_acts, instrument_acts}
+use Rattle.sv_history.specs.Act.{Act, ConnAct, DeviceAct, Linked, Waited, Channel, Applied, Ticked, PortClosed, On, OnDevice, of, device_acts, link_acts, wait_acts, instrument_acts}
 use Rattle.sv_history.specs.Connection.{is_open, room, waiting}
 use Rattle.sv_history.proofs.Lives.{open_role, unanswered}
 use Rattle.sv_history.specs.CoreCall.{CoreCall}
@@ -113,7 +113,7 @@ dialed_modest c ok call =
     by (Some call) = rw (dialed_is c ok call.arguments) (at_peer ok call (peer_by call.arguments))
     by None = left_modest c (Waited (Left c) ∷ []) refl refl
 
-happened_none : (adds : List InstrumentAct) → (link_acts (map Happened adds) ≡ []) × (wait_acts (map Happened adds) ≡ [])
+happened_none : (adds : List InstrumentAct) → (link_acts (map Applied adds) ≡ []) × (wait_acts (map Applied adds) ≡ [])
 happened_none [] = (refl, refl)
 happened_none (act ∷ adds) = happened_none adds
 
@@ -123,24 +123,24 @@ none_wanted acts none still =
     let b : creating (wait_acts acts) ≡ 0 = ap creating still in
     let c : dialing (wait_acts acts) ≡ 0 = ap dialing still in rw (a, b, c) refl
 
-pub happened_modest : (adds : List InstrumentAct) → wants_memory (device_acts (map OnDevice (map Happened adds))) ≡ false
+pub happened_modest : (adds : List InstrumentAct) → wants_memory (device_acts (map OnDevice (map Applied adds))) ≡ false
 happened_modest adds =
-    let is : device_acts (map OnDevice (map Happened adds)) ≡ map Happened adds =
-    ap device_acts (sym (append-nil (map OnDevice (map Happened adds)))) ∙ device_shared (map Happened adds) []
-    ∙ append-nil (map Happened adds) in
+    let is : device_acts (map OnDevice (map Applied adds)) ≡ map Applied adds =
+    ap device_acts (sym (append-nil (map OnDevice (map Applied adds)))) ∙ device_shared (map Applied adds) []
+    ∙ append-nil (map Applied adds) in
     subst (λ (acts : List DeviceAct). wants_memory acts ≡ false) (sym is)
-    (none_wanted (map Happened adds) (happened_none adds).0 (happened_none adds).1)
+    (none_wanted (map Applied adds) (happened_none adds).0 (happened_none adds).1)
 
 happened_ticked : (adds : List InstrumentAct)
-    → (link_acts (map Happened adds ++ Ticked ∷ []) ≡ []) × (wait_acts (map Happened adds ++ Ticked ∷ []) ≡ [])
+    → (link_acts (map Applied adds ++ Ticked ∷ []) ≡ []) × (wait_acts (map Applied adds ++ Ticked ∷ []) ≡ [])
 happened_ticked [] = (refl, refl)
 happened_ticked (act ∷ adds) = happened_ticked adds
 
 pub happened_wants : (adds : List InstrumentAct)
-    → wants_memory (device_acts (map OnDevice (map Happened adds) ++ OnDevice Ticked ∷ [])) ≡ false
+    → wants_memory (device_acts (map OnDevice (map Applied adds) ++ OnDevice Ticked ∷ [])) ≡ false
 happened_wants adds = subst (λ (acts : List DeviceAct). wants_memory acts ≡ false)
-    (sym (device_shared (map Happened adds) (OnDevice Ticked ∷ [])))
-    (none_wanted (map Happened adds ++ Ticked ∷ []) (happened_ticked adds).0 (happened_ticked adds).1)
+    (sym (device_shared (map Applied adds) (OnDevice Ticked ∷ [])))
+    (none_wanted (map Applied adds ++ Ticked ∷ []) (happened_ticked adds).0 (happened_ticked adds).1)
 
 -- ---- which are of an open one
 

@@ -14,7 +14,7 @@ use Rattle.sv_instrument.specs.Stimulus.{external_acts, tick_acts}
 use Rattle.sv_history.specs.declared.event.Config.{Config}
 use Rattle.sv_history.specs.declared.event.Port.TheVariants.{Conn, Intr}
 use Rattle.sv_history.specs.Event.{PlainEvent, Open, Bytes, Turn, Refuse, Took, Close, Dialed, Input, External, Tick}
-use Rattle.sv_history.specs.Act.{Act, ConnAct, DeviceAct, Opened, Piece, CallTaken, Faulted, Replied, BytesTaken, PortClosed, Linked, Waited, Channel, Happened, Ticked, On, OnDevice, of, device_acts, link_acts, instrument_acts}
+use Rattle.sv_history.specs.Act.{Act, ConnAct, DeviceAct, Opened, Piece, CallTaken, Faulted, Replied, BytesTaken, PortClosed, Linked, Waited, Channel, Applied, Ticked, On, OnDevice, of, device_acts, link_acts, instrument_acts}
 use Rattle.sv_history.specs.Connection.{next_call}
 use Rattle.sv_history.proofs.Lives.{unanswered}
 use Rattle.sv_history.specs.CallOutcome.{CallOutcome, only}
@@ -85,12 +85,12 @@ behind_ended base c does (Some call) log =
 behind_ended base c does None log = behind_effect base c (effect_of c does None) log tt
 
 behind_step : (base : ℕ → List ConnAct) (config : Config) (log new : List Act) → Behind base log → IsNext config log new → Behind base new
-behind_step base config log new all (inl fires) = subst (Behind base) (sym fires.2) (behind_shared base (map Happened fires.0) log all)
+behind_step base config log new all (inl fires) = subst (Behind base) (sym fires.2) (behind_shared base (map Applied fires.0) log all)
 behind_step base config log new all (inr (none, inl (c, wait, polled, oldest, for, said, is))) =
     subst (Behind base) (sym is) (behind_ended base c (λ arguments. continued config polled c arguments
     (next_wait wait arguments (device_acts log)) (device_acts log)) (core_call_in (unanswered (of c log))) log all)
 behind_step base config log new all (inr (none, inr (still, inl step))) =
-    subst (Behind base) (sym step.2) (behind_shared base (map Happened step.0) log all)
+    subst (Behind base) (sym step.2) (behind_shared base (map Applied step.0) log all)
 behind_step base config log new all (inr (none, inr (still, inr (idle, (c, wait, oldest, for, is))))) =
     subst (Behind base) (sym is) (behind_ended base c (λ arguments. leaving c (only (failure arguments (late wait))))
     (core_call_in (unanswered (of c log))) log all)
@@ -164,11 +164,11 @@ behind_event config (Dialed c ok) polled log =
     behind_ended (λ c. of c log) c (λ arguments. leaving c (dialed c ok arguments)) (core_call_in (unanswered (of c log))) log
     (behind_none log)
 behind_event config (Input channel microvolts) polled log =
-    behind_shared (λ c. of c log) (Happened (Scanned (InputTo channel microvolts)) ∷ []) log (behind_none log)
+    behind_shared (λ c. of c log) (Applied (Scanned (InputTo channel microvolts)) ∷ []) log (behind_none log)
 behind_event config External polled log =
-    behind_shared (λ c. of c log) (map Happened (external_acts (instrument_acts (device_acts log)))) log (behind_none log)
+    behind_shared (λ c. of c log) (map Applied (external_acts (instrument_acts (device_acts log)))) log (behind_none log)
 behind_event config Tick polled log =
-    let adds = map Happened (tick_acts (instrument_acts (device_acts log))) in
+    let adds = map Applied (tick_acts (instrument_acts (device_acts log))) in
     subst (Behind (λ c. of c log)) (sym (append_assoc (map OnDevice adds) (OnDevice Ticked ∷ []) log))
     (behind_shared (λ c. of c log) adds (OnDevice Ticked ∷ log) (behind_shared (λ c. of c log) (Ticked ∷ []) log (behind_none log)))
 

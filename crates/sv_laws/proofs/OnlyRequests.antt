@@ -20,7 +20,7 @@ use Rattle.sv_instrument.specs.Stimulus.{external_acts, tick_acts, trigger_acts}
 use Rattle.sv_history.specs.declared.event.Config.{Config}
 use Rattle.sv_history.specs.declared.event.Port.TheVariants.{Conn, Intr}
 use Rattle.sv_history.specs.Event.{PlainEvent, Open, Bytes, Turn, Refuse, Took, Close, Dialed, Input, External, Tick}
-use Rattle.sv_history.specs.Act.{Act, DeviceAct, CallTaken, PortClosed, Linked, Waited, Channel, Happened, Ticked, On, OnDevice, of, device_acts, link_acts, instrument_acts, exchange_acts, ticks}
+use Rattle.sv_history.specs.Act.{Act, DeviceAct, CallTaken, PortClosed, Linked, Waited, Channel, Applied, Ticked, On, OnDevice, of, device_acts, link_acts, instrument_acts, exchange_acts, ticks}
 use Rattle.sv_history.specs.Connection.{next_call}
 use Rattle.sv_history.proofs.Lives.{unanswered}
 use Rattle.sv_history.specs.CallOutcome.{CallOutcome, only}
@@ -63,10 +63,10 @@ plain_join (Channel (ChannelClosed conn) ∷ one) other h k = plain_join one oth
 plain_join (Channel Requested ∷ one) other h k = plain_join one other h k
 plain_join (Linked act ∷ one) other h k = plain_join one other h k
 plain_join (Waited act ∷ one) other h k = plain_join one other h k
-plain_join (Happened act ∷ one) other h k = plain_join one other h k
+plain_join (Applied act ∷ one) other h k = plain_join one other h k
 plain_join (Ticked ∷ one) other h k = absurd h
 
-plain_happened : (adds : List InstrumentAct) → ArePlain (map Happened adds)
+plain_happened : (adds : List InstrumentAct) → ArePlain (map Applied adds)
 plain_happened [] = tt
 plain_happened (act ∷ adds) = plain_happened adds
 
@@ -139,7 +139,7 @@ plain_tells c (Channel Requested ∷ adds) acts told later h x (before, y, is) =
 plain_tells c (Linked act ∷ adds) acts told later h x (before, y, is) =
     subst (OnlyAdds c told) (sym is) (adds_then c told before (link_told act before) (plain_tells c adds acts told before h x y)
     (adds_linked c act before))
-plain_tells c (Happened act ∷ adds) acts told later h x (before, raised, y, so, is) =
+plain_tells c (Applied act ∷ adds) acts told later h x (before, raised, y, so, is) =
     subst (OnlyAdds c told) (sym is) (adds_then c told before (request_told raised before) (plain_tells c adds acts told before h x y)
     (adds_requested c raised before))
 plain_tells c (Waited act ∷ adds) acts told later h x y = plain_tells c adds acts told later h x y
@@ -155,7 +155,7 @@ plain_ticks (Channel (ChannelClosed conn) ∷ adds) acts h = plain_ticks adds ac
 plain_ticks (Channel Requested ∷ adds) acts h = plain_ticks adds acts h
 plain_ticks (Linked act ∷ adds) acts h = plain_ticks adds acts h
 plain_ticks (Waited act ∷ adds) acts h = plain_ticks adds acts h
-plain_ticks (Happened act ∷ adds) acts h = plain_ticks adds acts h
+plain_ticks (Applied act ∷ adds) acts h = plain_ticks adds acts h
 plain_ticks (Ticked ∷ adds) acts h = absurd h
 
 -- ---- calls of the core channel
@@ -255,13 +255,13 @@ behind_ended base c does call log h = behind_effect base c (effect_of c does cal
 
 behind_step : (base : List DeviceAct) (config : Config) (log new : List Act) → Behind base log → IsNext config log new → Behind base new
 behind_step base config log new all (inl fires) =
-    subst (Behind base) (sym fires.2) (behind_shared base (map Happened fires.0) log (plain_happened fires.0) all)
+    subst (Behind base) (sym fires.2) (behind_shared base (map Applied fires.0) log (plain_happened fires.0) all)
 behind_step base config log new all (inr (none, inl (c, wait, polled, oldest, for, said, is))) =
     subst (Behind base) (sym is) (behind_ended base c (λ arguments. continued config polled c arguments
     (next_wait wait arguments (device_acts log)) (device_acts log)) (core_call_in (unanswered (of c log))) log
     (λ arguments. plain_continued config polled c arguments (next_wait wait arguments (device_acts log)) (device_acts log)) all)
 behind_step base config log new all (inr (none, inr (still, inl step))) =
-    subst (Behind base) (sym step.2) (behind_shared base (map Happened step.0) log (plain_happened step.0) all)
+    subst (Behind base) (sym step.2) (behind_shared base (map Applied step.0) log (plain_happened step.0) all)
 behind_step base config log new all (inr (none, inr (still, inr (idle, (c, wait, oldest, for, is))))) =
     subst (Behind base) (sym is) (behind_ended base c (λ arguments. leaving c (only (failure arguments (late wait))))
     (core_call_in (unanswered (of c log))) log (λ arguments. tt) all)
@@ -379,20 +379,20 @@ begins config (Dialed c true) polled log = begins_dialed c true (core_call_in (u
 begins config (Dialed c false) polled log = begins_dialed c false (core_call_in (unanswered (of c log))) log refl
 begins config (Input channel microvolts) polled log = (
   device_acts log,
-  (behind_shared (device_acts log) (Happened (Scanned (InputTo channel microvolts)) ∷ []) log tt (behind_none log)),
+  (behind_shared (device_acts log) (Applied (Scanned (InputTo channel microvolts)) ∷ []) log tt (behind_none log)),
   (λ told x. x),
   no_tick log,
 )
 begins config External polled log = (
   device_acts log,
   (behind_shared (device_acts log)
-      (map Happened (external_acts (instrument_acts (device_acts log)))) log
+      (map Applied (external_acts (instrument_acts (device_acts log)))) log
       (plain_happened (external_acts (instrument_acts (device_acts log)))) (behind_none log)),
   (λ told x. x),
   no_tick log,
 )
 begins config Tick polled log =
-    let adds = map Happened (tick_acts (instrument_acts (device_acts log))) in (
+    let adds = map Applied (tick_acts (instrument_acts (device_acts log))) in (
       Ticked ∷ device_acts log,
       subst (Behind (Ticked ∷ device_acts log)) (sym (append_assoc (map OnDevice adds) (OnDevice Ticked ∷ []) log))
           (behind_shared (Ticked ∷ device_acts log) adds (OnDevice Ticked ∷ log)

@@ -13,7 +13,7 @@ use Rattle.sv_instrument.specs.Stimulus.{IsFired, where_scanning, tick_acts}
 use Rattle.sv_instrument.specs.Step.{IsStep}
 use Rattle.sv_history.specs.declared.event.Config.{Config}
 use Rattle.sv_history.specs.Event.{PlainEvent, Tick}
-use Rattle.sv_history.specs.Act.{Act, DeviceAct, Happened, Ticked, OnDevice, device_acts, wait_acts, instrument_acts, ticks}
+use Rattle.sv_history.specs.Act.{Act, DeviceAct, Applied, Ticked, OnDevice, device_acts, wait_acts, instrument_acts, ticks}
 use Rattle.sv_history.specs.Settling.{InstrumentDoes, Resumes, TimesOut, IsSettled, Settles}
 use Rattle.sv_history.specs.History.{IsLogOf, last_clock, refusal}
 use Rattle.sv_history.specs.Still.{IsUnhurried, IsStill}
@@ -27,11 +27,11 @@ use Rattle.sv_history.proofs.AlwaysTold.{some_polled, some_told}
 
 tick_happens : (IsSuch : List InstrumentAct → List InstrumentAct → Type 0) (log new : List Act)
     → InstrumentDoes IsSuch (OnDevice Ticked ∷ log) new → (there : List Act) × InstrumentDoes IsSuch log there
-tick_happens IsSuch log new (adds, such, is) = (map OnDevice (map Happened adds) ++ log, (adds, such, refl))
+tick_happens IsSuch log new (adds, such, is) = (map OnDevice (map Applied adds) ++ log, (adds, such, refl))
 
 happens_tick : (IsSuch : List InstrumentAct → List InstrumentAct → Type 0) (log new : List Act)
     → InstrumentDoes IsSuch log new → (there : List Act) × InstrumentDoes IsSuch (OnDevice Ticked ∷ log) there
-happens_tick IsSuch log new (adds, such, is) = (map OnDevice (map Happened adds) ++ OnDevice Ticked ∷ log, (adds, such, refl))
+happens_tick IsSuch log new (adds, such, is) = (map OnDevice (map Applied adds) ++ OnDevice Ticked ∷ log, (adds, such, refl))
 
 tick_goes : (config : Config) (log new : List Act) → Resumes config (OnDevice Ticked ∷ log) new
     → (there : List Act) × Resumes config log there
@@ -91,7 +91,7 @@ one_tick m config history log was (idle, still) before =
       free,
       polled.1,
       subst (λ (adds : List InstrumentAct).
-          Settles config ((map OnDevice (map Happened adds) ++ OnDevice Ticked ∷ []) ++ log) (OnDevice Ticked ∷ log)) (sym none)
+          Settles config ((map OnDevice (map Applied adds) ++ OnDevice Ticked ∷ []) ++ log) (OnDevice Ticked ∷ log)) (sym none)
           (zero, (settled, refl)),
     )
 

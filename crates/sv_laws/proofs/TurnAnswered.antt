@@ -12,13 +12,13 @@ use Rattle.sv_links.specs.Waiting.{waits}
 use Rattle.sv_history.specs.declared.event.Config.{Config}
 use Rattle.sv_history.specs.declared.event.Role.{Role}
 use Rattle.sv_history.specs.Event.{PlainEvent, Turn}
-use Rattle.sv_history.specs.Act.{Act, ConnAct, DeviceAct, CallTaken, Faulted, Replied, Happened, On, OnDevice, of, device_acts, wait_acts}
+use Rattle.sv_history.specs.Act.{Act, ConnAct, DeviceAct, CallTaken, Faulted, Replied, Applied, On, OnDevice, of, device_acts, wait_acts}
 use Rattle.sv_history.specs.Connection.{is_open, next_call}
 use Rattle.sv_history.proofs.Lives.{open_role, unanswered}
 use Rattle.sv_history.specs.CallOutcome.{CallOutcome, only}
 use Rattle.sv_history.specs.CoreCall.{CoreCall, failure}
 use Rattle.sv_history.specs.Effect.{acts_of, replies, result_reply}
-use Rattle.sv_history.specs.Request.{Request, NoCall, Decided, CoreRequest, AbortRequest, PortRequest, core_call_in, request_of, asked, next_request}
+use Rattle.sv_history.specs.Request.{Request, NoCall, Decided, CoreRequest, AbortRequest, PortRequest, core_call_in, request_of, request_for, next_request}
 use Rattle.sv_history.specs.Execution.{request_effect, aborts}
 use Rattle.sv_history.specs.Resuming.{effect_of, leaving, next_wait, continued, late}
 use Rattle.sv_history.specs.Settling.{IsNext}
@@ -82,12 +82,12 @@ in_ended c call before d does log h =
 in_step : (c : ℕ) (call : List ℕ) (before : List ConnAct) (config : Config) (log new : List Act) → StandsIn c call before log
     → IsNext config log new → StandsIn c call before new
 in_step c call before config log new h (inl fires) =
-    subst (StandsIn c call before) (sym fires.2) (in_shared c call before (map Happened fires.0) log h)
+    subst (StandsIn c call before) (sym fires.2) (in_shared c call before (map Applied fires.0) log h)
 in_step c call before config log new h (inr (none, inl (d, wait, polled, oldest, for, said, is))) =
     subst (StandsIn c call before) (sym is) (in_ended c call before d (λ arguments. continued config polled d arguments
     (next_wait wait arguments (device_acts log)) (device_acts log)) log h)
 in_step c call before config log new h (inr (none, inr (still, inl step))) =
-    subst (StandsIn c call before) (sym step.2) (in_shared c call before (map Happened step.0) log h)
+    subst (StandsIn c call before) (sym step.2) (in_shared c call before (map Applied step.0) log h)
 in_step c call before config log new h (inr (none, inr (still, inr (idle, (d, wait, oldest, for, is))))) =
     subst (StandsIn c call before) (sym is) (in_ended c call before d (λ arguments. leaving d (only (failure arguments (late wait)))) log h)
 
@@ -104,8 +104,8 @@ stands_request : (config : Config) (polled c : ℕ) (call : List ℕ) (before : 
     → Stands call before ((request_effect config polled c request acts).own ++ CallTaken call ∷ before)
 stands_request config polled c call before NoCall acts is = inr (inl (refl, none_bad (call_at call) is))
 stands_request config polled c call before (Decided xid reply) acts is = inl (_, refl)
-stands_request config polled c call before (CoreRequest asked) acts is =
-    stands_replies asked.xid _ call before (CallTaken call ∷ before) refl
+stands_request config polled c call before (CoreRequest request_for) acts is =
+    stands_replies request_for.xid _ call before (CallTaken call ∷ before) refl
 stands_request config polled c call before (AbortRequest xid lid) acts is = inl (_, refl)
 stands_request config polled c call before (PortRequest xid args) acts is = inl (_, refl)
 
@@ -124,7 +124,7 @@ asks_some : (acts : List ConnAct) (call : List ℕ) → is_open acts ≡ true �
 asks_some acts call opened next = by (open_role acts) (next_call acts) opened next
   where
     by : (role : Option Role) (found : Option (List ℕ)) → is_some role ≡ true → found ≡ Some call
-        → (request : Request) × (asked role found ≡ Some request)
+        → (request : Request) × (request_for role found ≡ Some request)
     by (Some role) (Some bytes) o e = (request_of role (call_at bytes), refl)
     by (Some role) None o e = absurd cc
     by None found o e = absurd cc
@@ -143,7 +143,8 @@ turn_answered config history before log c call was now next =
     let same = one_log config history now.0 before now.4 was in
     let first : next_call (of c now.0) ≡ Some call = ap (λ (l : List Act). next_call (of c l)) same ∙ next in
     let request = asks_some (of c now.0) call (open_unless c now.0 _ now.6) first in
-    let asks : asked (open_role (of c now.0)) (Some call) ≡ Some request.0 = ap (asked (open_role (of c now.0))) (sym first) ∙ request.1 in
+    let asks : request_for (open_role (of c now.0)) (Some call) ≡ Some request.0 = ap (request_for (open_role (of c now.0))) (sym first)
+    ∙ request.1 in
     let begins : StandsIn c call (of c now.0) (own_acts config now.1 (Turn c) now.0 ++ now.0) =
     rw (first, asks) (in_turn config now.1 c call request.0 now.0 first request.1) in
     let ends = each_settled config (StandsIn c call (of c now.0)) (in_step c call (of c now.0) config) now.8.0

@@ -52,8 +52,8 @@ pub record Feeds (c : ℕ) (config : Config) (past events : List PlainEvent) (be
   pub none_left : drop (life (of c log)).completed (records_of (life (of c log)).stream) ≡ []
 
 -- No read or write waits for input or output.
-abbrev pub AllRest : List WaitAct → Type 0
-AllRest acts = (c : ℕ) → (waits c acts ≢ Some ForInput) × (waits c acts ≢ Some ForResponse)
+abbrev pub NoneWaits : List WaitAct → Type 0
+NoneWaits acts = (c : ℕ) → (waits c acts ≢ Some ForInput) × (waits c acts ≢ Some ForResponse)
 
 -- Behind a history the one events are a write of x and y, and the other events a write of x without the END flag, and then one of y; both
 -- leave the same unfinished record.
@@ -63,7 +63,7 @@ pub record AreCut (c lid : ℕ) (x y : List ℕ) (ended : Bool) (config : Config
   pub cut : List Act
   pub middle : List ConnAct
   pub no_line : AllByRecursion (λ b. b ≢ 10) x
-  pub rest : AllRest (wait_acts (device_acts before))
+  pub rest : NoneWaits (wait_acts (device_acts before))
   pub one_feeds : Feeds c config past one before whole
   pub two_feeds : Feeds c config past two before cut
   pub same_tail : tail_of (life (of c whole)).stream ≡ tail_of (life (of c cut)).stream

@@ -42,11 +42,11 @@ makes_link (Some (CoreRequest call)) = is_create_link call.arguments
 makes_link _ = false
 
 -- The event takes no device_abort that names a link of this connection, and neither takes nor refuses a create_link on it.
-abbrev pub IsMild : ℕ → PlainEvent → List Act → Type 0
-IsMild c (Turn d) log = (owner_of (aborted_link (next_request (of d log))) (device_acts log) ≢ Some c)
+abbrev pub LeavesLinksAlone : ℕ → PlainEvent → List Act → Type 0
+LeavesLinksAlone c (Turn d) log = (owner_of (aborted_link (next_request (of d log))) (device_acts log) ≢ Some c)
     × (d ≡ c → makes_link (next_request (of d log)) ≡ false)
-IsMild c (Refuse d) log = d ≡ c → makes_link (next_request (of d log)) ≡ false
-IsMild c _ log = ⊤
+LeavesLinksAlone c (Refuse d) log = d ≡ c → makes_link (next_request (of d log)) ≡ false
+LeavesLinksAlone c _ log = ⊤
 
 -- Behind a history each of these events is such, in the log of what is in front of it.
 abbrev pub EachIs : (PlainEvent → List Act → Type 0) → Config → List PlainEvent → List PlainEvent → Type 0
@@ -60,8 +60,8 @@ HoldsFrom lid before log = (later since : List Act) → log ≡ later ++ (since 
     → holder (link_acts (device_acts (since ++ before))) ≡ Some lid
 
 -- No read or write of another connection waits for input or output.
-abbrev pub OthersRest : ℕ → List WaitAct → Type 0
-OthersRest c acts = (d : ℕ) → d ≢ c → (waits d acts ≢ Some ForInput) × (waits d acts ≢ Some ForResponse)
+abbrev pub NoOtherWaits : ℕ → List WaitAct → Type 0
+NoOtherWaits c acts = (d : ℕ) → d ≢ c → (waits d acts ≢ Some ForInput) × (waits d acts ≢ Some ForResponse)
 
 -- Behind a history these events come, through which a link of this connection holds the lock.
 pub record IsLocked (c lid : ℕ) (config : Config) (past events : List PlainEvent) : Type 0 where
@@ -71,8 +71,8 @@ pub record IsLocked (c lid : ℕ) (config : Config) (past events : List PlainEve
   pub is_log : IsLogOf config (events ++ past) log
   pub owns : owner lid (link_acts (device_acts before)) ≡ Some c
   pub holds : HoldsFrom lid before log
-  pub rest : OthersRest c (wait_acts (device_acts before))
-  pub mild : EachIs (IsMild c) config past events
+  pub rest : NoOtherWaits c (wait_acts (device_acts before))
+  pub left_alone : EachIs (LeavesLinksAlone c) config past events
 
 -- Then the events without those of other connections make a history too, and both add the same bytes to the connection and to its interrupt
 -- channel.

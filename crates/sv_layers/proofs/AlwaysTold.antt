@@ -14,8 +14,8 @@ use Rattle.sv_status.proofs.StandardEvents as events
 use Rattle.sv_status.specs.declared.register_name.RegisterName.TheVariants.{Operation, Questionable}
 use Rattle.sv_layers.specs.Act.{Act}
 use Rattle.sv_layers.specs.Filter.{start as start_of}
-use Rattle.sv_layers.specs.Inside.Seen.{Seen, seen}
-use Rattle.sv_layers.specs.Inside.Kept.{IsSummary, IsStatus}
+use Rattle.sv_layers.specs.Inside.LayerLogs.{LayerLogs, seen}
+use Rattle.sv_layers.specs.Inside.Representation.{IsSummary, IsStatus}
 use Rattle.sv_layers.specs.Laws.{OneAccount, SameRaising}
 use Rattle.sv_layers.proofs.OneStatus.{one_status}
 use Rattle.sv_layers.proofs.SameRequests.{told_raised}
@@ -58,7 +58,7 @@ standard_test acts = let h = standard_kept acts in
     (not (eqb (bit_and h.0.event h.0.enable) 0), enabled_is _ _ _ h.1.enable h.1.event)
 
 -- a word has the summary bits
-some_summary : (at : Seen) → (word : ℕ) × IsSummary word at
+some_summary : (at : LayerLogs) → (word : ℕ) × IsSummary word at
 some_summary at = (
   _,
   record {

@@ -9,7 +9,7 @@ use Rattle.sv_scan.specs.Counted.{kept, is_idle as idle_state}
 use Rattle.sv_layers.specs.Act.{Act, Purged, Scanned, Cleared, OpcAsked}
 use Rattle.sv_layers.specs.Condition.{is_idle}
 use Rattle.sv_layers.specs.Standard.{IsAsked, IsPending, Completes, cancels}
-use Rattle.sv_layers.specs.Inside.Seen.{Seen, begun, resets, idles, seen}
+use Rattle.sv_layers.specs.Inside.LayerLogs.{LayerLogs, begun, resets, idles, seen}
 use Rattle.sv_layers.specs.Laws.{SameWaiting, SameCompletion}
 use Rattle.sv_layers.proofs.Either.{unchanged}
 use Rattle.sv_layers.proofs.Booleans.{and_both, and_not}
@@ -22,7 +22,7 @@ scanned_waits Reset log b = step_ended (λ e. absurd cc) (λ e. absurd (let h = 
 scanned_waits _ log b = step_same refl (λ none. none) (then_same (and_not b false) ((λ h. h.1), (λ e. (refl, e))))
 
 -- where an act began; and an `*OPC` cancels none
-begun_waits : (act : Act) (log : List Act) (at : Seen)
+begun_waits : (act : Act) (log : List Act) (at : LayerLogs)
     → (((begun act at).waits ≡ true) ↔ ((cancels act ≡ false) × (IsAsked (act ∷ log) ⊎ (at.waits ≡ true))))
     × (IsAsked (act ∷ log) → cancels act ≡ false)
 begun_waits Purged log at = (step_ended (λ e. absurd cc) (λ e. absurd cc), λ asked. absurd asked)

@@ -18,7 +18,7 @@ use Rattle.sv_scan.specs.Touched.{IsTouched}
 use Rattle.sv_layers.specs.Act.{Act, Exchanged, Scanned, scan_acts}
 use Rattle.sv_layers.specs.Filter.{start}
 use Rattle.sv_layers.specs.Condition.{counted, condition}
-use Rattle.sv_layers.specs.Inside.Seen.{own, begun, register_acts, seen}
+use Rattle.sv_layers.specs.Inside.LayerLogs.{own, begun, register_acts, seen}
 use Rattle.sv_layers.proofs.Projected.{begun_scanner, begun_register}
 use Rattle.sv_layers.proofs.Registered.{seen_register}
 

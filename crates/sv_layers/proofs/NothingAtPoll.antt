@@ -12,7 +12,7 @@ use Rattle.sv_layers.specs.Filter.{rise, fall, enable, has_bit, passes, leaves}
 use Rattle.sv_layers.specs.Condition.{counted, limit, limit_summary, condition}
 use Rattle.sv_layers.specs.Event.{Summary}
 use Rattle.sv_layers.specs.Standard.{IsAsked, IsPending, Completes, Occurs, NotCleared as StandardNotCleared, Summary as StandardSummary}
-use Rattle.sv_layers.specs.StatusByte.{Asks, IsRaised, Lasts, Reason, Request}
+use Rattle.sv_layers.specs.StatusByte.{ServiceRequested, IsRaised, Lasts, Reason, Request}
 use Rattle.sv_layers.proofs.Transitions.{Passes, NotCleared, changes, no_change}
 use Rattle.sv_layers.proofs.LimitSummary.{some_same}
 
@@ -55,7 +55,7 @@ some_of_five : {A B C D E P Q R : Type 0} → (A → P) → (B → Q) → (D →
 some_of_five a b d h = grind (arith, a, b, d, h)
 
 -- What asks behind a poll asked before it.
-pub polled_asks : (k : ℕ) (log : List Act) → Asks k (Polled ∷ log) → Asks k log
+pub polled_asks : (k : ℕ) (log : List Act) → ServiceRequested k (Polled ∷ log) → ServiceRequested k log
 polled_asks k log asks =
     let bit = some_of_five (λ h. (h.0, polled_summary Operation log h.1)) (λ h. (h.0, polled_standard log h.1))
     (λ h. (h.0, polled_summary Questionable log h.1)) asks.0 in

@@ -6,16 +6,16 @@ use Rattle.sv_status.specs.declared.status_byte.StatusAct.TheVariants.{Update}
 use Rattle.sv_scan.specs.Condition.{bit}
 use Rattle.sv_exchange.specs.Exchange.{response, is_something}
 use Rattle.sv_layers.specs.Act.{Act}
-use Rattle.sv_layers.specs.Inside.Seen.{Seen, seen}
-use Rattle.sv_layers.specs.Inside.Kept.{IsSummary, IsStatus, own_status}
+use Rattle.sv_layers.specs.Inside.LayerLogs.{LayerLogs, seen}
+use Rattle.sv_layers.specs.Inside.Representation.{IsSummary, IsStatus, own_status}
 use Rattle.sv_layers.proofs.Booleans.{same_bool}
 
 -- the word of the summary bits
-abbrev summary_word : Seen → Bool → Bool → Bool → ℕ
+abbrev summary_word : LayerLogs → Bool → Bool → Bool → ℕ
 summary_word at operates happened questioned = bit 7 operates + bit 5 happened + bit 4 (is_something (response at.exchange))
     + bit 3 questioned + bit 2 (is_something (entries at.errors))
 
-one_summary : (a b : ℕ) (at : Seen) → IsSummary a at → IsSummary b at → a ≡ b
+one_summary : (a b : ℕ) (at : LayerLogs) → IsSummary a at → IsSummary b at → a ≡ b
 one_summary a b at s t =
     let operates = same_bool s.operates t.operates s.operation t.operation in
     let happened = same_bool s.happened t.happened s.standard t.standard in

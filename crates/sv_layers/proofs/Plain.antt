@@ -4,7 +4,7 @@ use Rattle.sv_status.specs.declared.register_name.RegisterName.{RegisterName}
 use Rattle.sv_status.specs.declared.register.RegisterAct.{RegisterAct}
 use Rattle.sv_status.specs.declared.standard_event.StandardAct.{StandardAct}
 use Rattle.sv_layers.specs.Act.{Act, Cleared, Preset, StandardRead, StandardEnabled, EventRead, Enabled, RiseSet, FallSet}
-use Rattle.sv_layers.specs.Inside.Seen.{own, own_standard, is_plain}
+use Rattle.sv_layers.specs.Inside.LayerLogs.{own, own_standard, is_plain}
 
 pub plain_leaves : (act : Act) → is_plain act ≡ true → ((name : RegisterName) (acts : List RegisterAct) → acts ≡ own name act acts)
     × ((acts : List StandardAct) → acts ≡ own_standard act acts)

@@ -12,8 +12,8 @@ use Rattle.sv_scan.specs.Condition.{bit}
 use Rattle.sv_exchange.specs.Exchange.{response, is_something}
 use Rattle.sv_layers.specs.Act.{Act}
 use Rattle.sv_layers.specs.StatusByte.{PolledBit}
-use Rattle.sv_layers.specs.Inside.Seen.{Seen, seen}
-use Rattle.sv_layers.specs.Inside.Kept.{Layered, IsSummary, IsStatus, StandsFor}
+use Rattle.sv_layers.specs.Inside.LayerLogs.{LayerLogs, seen}
+use Rattle.sv_layers.specs.Inside.Representation.{LayerState, IsSummary, IsStatus, StandsFor}
 use Rattle.sv_layers.proofs.SameRequests.{same_status}
 
 bit_small : (k : ℕ) (b : Bool) (most : ℕ) → bit k true ≤ most → bit k b ≤ most
@@ -21,7 +21,7 @@ bit_small k true most le = le
 bit_small k false most le = omega arith
 
 -- the summary bits have room in a byte
-summary_small : (word : ℕ) (at : Seen) → IsSummary word at → word < 256
+summary_small : (word : ℕ) (at : LayerLogs) → IsSummary word at → word < 256
 summary_small word at s =
     let seven : bit 7 s.operates ≤ 128 = bit_small 7 s.operates 128 (omega arith) in
     let five : bit 5 s.happened ≤ 32 = bit_small 5 s.happened 32 (omega arith) in
@@ -36,7 +36,7 @@ told_small : (log : List Act) (told : List StatusAct) → IsStatus log told → 
 told_small [] told is = rw is (omega arith)
 told_small (act ∷ log) told (word, before, summary, earlier, is) = rw is (summary_small word (seen (act ∷ log)) summary)
 
-pub polled_byte : (layered : Layered) (log : List Act) → StandsFor layered log
+pub polled_byte : (layered : LayerState) (log : List Act) → StandsFor layered log
     → (word : ℕ) × ((k : ℕ) → (bit_at word k ≡ 1) ↔ PolledBit k log)
 polled_byte layered log s =
     let small : layered.status.bits < 256 = rw s.joined.status.bits (told_small log s.told s.are) in (

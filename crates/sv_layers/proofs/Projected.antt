@@ -8,20 +8,20 @@ use Rattle.sv_scan.specs.declared.acts.ScanAct.{ScanAct}
 use Rattle.sv_exchange.specs.Exchange.{ExchangeAct, TextDropped, Interrupted}
 use Rattle.sv_layers.specs.Act.{Act, Exchanged, Purged, Scanned, Reported, EntryTaken, Cleared, ServiceEnabled, exchange_acts, queue_acts, scan_acts}
 use Rattle.sv_layers.specs.StatusByte.{service}
-use Rattle.sv_layers.specs.Inside.Seen.{Seen, begun, register_acts, seen}
+use Rattle.sv_layers.specs.Inside.LayerLogs.{LayerLogs, begun, register_acts, seen}
 use Rattle.sv_layers.specs.Laws.{OwnActs}
 
 -- these layers see what is theirs of the log
-abbrev Projects : Seen → List Act → Type 0
+abbrev Projects : LayerLogs → List Act → Type 0
 Projects at log = (at.exchange ≡ exchange_acts log) × (at.errors ≡ queue_acts log) × (at.scanner ≡ scan_acts log)
     × (at.service ≡ service log)
 
 -- It begins in these layers, and in no register.
-abbrev Begins : Act → List Act → Seen → Type 0
+abbrev Begins : Act → List Act → LayerLogs → Type 0
 Begins act log at = Projects at log → Projects (begun act at) (act ∷ log)
     × ((begun act at).operation ≡ at.operation) × ((begun act at).questionable ≡ at.questionable) × ((begun act at).limit ≡ at.limit)
 
-begins : (act : Act) (log : List Act) (at : Seen) → Begins act log at
+begins : (act : Act) (log : List Act) (at : LayerLogs) → Begins act log at
 begins (Exchanged act) log at h = ((ap (λ (acts : List ExchangeAct). act ∷ acts) h.0, h.1, h.2, h.3), refl, refl, refl)
 begins Purged log at h = ((ap (λ (acts : List ExchangeAct). Interrupted ∷ TextDropped ∷ acts) h.0, h.1, h.2, h.3), refl, refl, refl)
 begins (Scanned act) log at h = ((h.0, h.1, ap (λ (acts : List ScanAct). act ∷ acts) h.2, h.3), refl, refl, refl)

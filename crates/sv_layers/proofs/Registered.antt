@@ -5,7 +5,7 @@ use Rattle.sv_status.specs.declared.register_name.RegisterName.TheVariants.{Oper
 use Rattle.sv_status.specs.declared.register.RegisterAct.TheVariants as register
 use Rattle.sv_layers.specs.Act.{Act}
 use Rattle.sv_layers.specs.Condition.{condition}
-use Rattle.sv_layers.specs.Inside.Seen.{own, register_acts, seen}
+use Rattle.sv_layers.specs.Inside.LayerLogs.{own, register_acts, seen}
 use Rattle.sv_layers.proofs.Projected.{begun_register}
 
 pub seen_register : (name : RegisterName) (act : Act) (log : List Act) → register_acts name (seen (act ∷ log))

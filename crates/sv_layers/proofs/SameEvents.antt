@@ -11,7 +11,7 @@ use Rattle.sv_status.proofs.Registers.{event-none, event-condition, event-read, 
 use Rattle.sv_layers.specs.Act.{Act, Cleared, Preset, EventRead, Enabled, RiseSet, FallSet}
 use Rattle.sv_layers.specs.Condition.{condition}
 use Rattle.sv_layers.specs.Filter.{is_same, rise, fall}
-use Rattle.sv_layers.specs.Inside.Seen.{own, seen, register_acts}
+use Rattle.sv_layers.specs.Inside.LayerLogs.{own, seen, register_acts}
 use Rattle.sv_layers.specs.Laws.{SameEvents}
 use Rattle.sv_layers.proofs.Registered.{seen_register}
 use Rattle.sv_layers.proofs.Either.{unchanged, either_same}

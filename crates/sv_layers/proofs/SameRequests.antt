@@ -8,9 +8,9 @@ use Rattle.sv_status.specs.declared.status_byte.StatusAct.TheVariants.{Update, P
 use Rattle.sv_status.specs.StatusByte as status
 use Rattle.sv_status.proofs.StatusBytes.{request-none, request-updated, request-polled}
 use Rattle.sv_layers.specs.Act.{Act, Polled}
-use Rattle.sv_layers.specs.StatusByte.{SummaryBit, service, Asks, Master, Reason, Lasts, Request, IsRaised}
-use Rattle.sv_layers.specs.Inside.Seen.{seen}
-use Rattle.sv_layers.specs.Inside.Kept.{IsSummary, IsStatus, own_status}
+use Rattle.sv_layers.specs.StatusByte.{SummaryBit, service, ServiceRequested, Master, Reason, Lasts, Request, IsRaised}
+use Rattle.sv_layers.specs.Inside.LayerLogs.{seen}
+use Rattle.sv_layers.specs.Inside.Representation.{IsSummary, IsStatus, own_status}
 use Rattle.sv_layers.specs.Laws.{SameRequests, SameStatus}
 use Rattle.sv_layers.proofs.Projected.{projected}
 use Rattle.sv_layers.proofs.SameSummaries.{same_summaries, no_summary}
@@ -38,7 +38,8 @@ told_enable (act ∷ log) told (word, before, summary, is, made) = rw made (proj
 not_six : (k : ℕ) (log : List Act) → SummaryBit k log → k ≢ 6
 not_six k log bit six = grind (arith, bit, six)
 
-told_asks : (log : List Act) (told : List StatusAct) → IsStatus log told → (k : ℕ) → status.AsksAt k told ↔ Asks k log
+told_asks : (log : List Act) (told : List StatusAct) → IsStatus log told → (k : ℕ)
+    → status.ServiceRequestedAt k told ↔ ServiceRequested k log
 told_asks log told is k =
     let bits = told_bits log told is k in
     let enable = told_enable log told is in (

@@ -13,7 +13,7 @@ use Rattle.sv_status.proofs.StandardEvents.{stands-none, stands-occurred, stands
 use Rattle.sv_scan.specs.Condition.{bit}
 use Rattle.sv_layers.specs.Act.{Act, Reported, Cleared, StandardRead, StandardEnabled}
 use Rattle.sv_layers.specs.Standard.{Completes, Occurs, NotCleared, enable}
-use Rattle.sv_layers.specs.Inside.Seen.{report_bits, seen}
+use Rattle.sv_layers.specs.Inside.LayerLogs.{report_bits, seen}
 use Rattle.sv_layers.specs.Laws.{SameEnable, SameStandardEvents}
 use Rattle.sv_layers.proofs.Bits.{bit_of}
 use Rattle.sv_layers.proofs.Either.{unchanged, either_same, both_same, equal_same, four_same}

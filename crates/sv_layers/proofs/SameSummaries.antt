@@ -17,8 +17,8 @@ use Rattle.sv_layers.specs.Act.{Act}
 use Rattle.sv_layers.specs.Filter.{start}
 use Rattle.sv_layers.specs.Event.{Summary}
 use Rattle.sv_layers.specs.Standard.{Summary as StandardSummary}
-use Rattle.sv_layers.specs.Inside.Seen.{seen, register_acts}
-use Rattle.sv_layers.specs.Inside.Kept.{IsSummary}
+use Rattle.sv_layers.specs.Inside.LayerLogs.{seen, register_acts}
+use Rattle.sv_layers.specs.Inside.Representation.{IsSummary}
 use Rattle.sv_layers.specs.Laws.{SameSummaries}
 use Rattle.sv_layers.proofs.Either.{either_same, both_same, equal_same}
 use Rattle.sv_layers.proofs.Bits.{bit-le, bit_of, top_bit}

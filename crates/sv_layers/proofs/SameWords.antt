@@ -12,7 +12,7 @@ use Rattle.sv_status.specs.Register.{masked}
 use Rattle.sv_layers.specs.Act.{Act, Preset, EventRead, Enabled, RiseSet, FallSet}
 use Rattle.sv_layers.specs.Condition.{condition}
 use Rattle.sv_layers.specs.Filter.{is_same, start, rise, fall, enable}
-use Rattle.sv_layers.specs.Inside.Seen.{own, seen, register_acts}
+use Rattle.sv_layers.specs.Inside.LayerLogs.{own, seen, register_acts}
 use Rattle.sv_layers.specs.Laws.{SameWords}
 use Rattle.sv_layers.proofs.Registered.{seen_register}
 

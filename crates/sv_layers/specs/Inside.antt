@@ -1,3 +1,3 @@
 -- How the acts of each layer are drawn from those of the instrument. The laws tie this to the definitions beside it.
-pub mod Seen
-pub mod Kept
+pub mod LayerLogs
+pub mod Representation

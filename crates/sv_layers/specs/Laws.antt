@@ -14,8 +14,8 @@ use Rattle.sv_layers.specs.Filter.{start, rise, fall, enable}
 use Rattle.sv_layers.specs.Event.{EventStands}
 use Rattle.sv_layers.specs.Standard.{Waits, Completes, Stands, enable as standard_enable}
 use Rattle.sv_layers.specs.StatusByte.{service, SummaryBit, Request, IsRaised, PolledBit, MasterBit}
-use Rattle.sv_layers.specs.Inside.Seen.{seen, begun, completed, register_acts}
-use Rattle.sv_layers.specs.Inside.Kept.{IsSummary, IsStatus, RaisedAt}
+use Rattle.sv_layers.specs.Inside.LayerLogs.{seen, begun, completed, register_acts}
+use Rattle.sv_layers.specs.Inside.Representation.{IsSummary, IsStatus, RaisedAt}
 
 -- Exchange, error queue and scanner see the acts that are theirs, and the service request enable is the one that was set last.
 abbrev pub OwnActs : Type 0

@@ -21,17 +21,17 @@ abbrev pub service : List Act → ℕ
 service = last_given (elim [ ServiceEnabled mask ↦ Some mask | _ ↦ None ]) 0
 
 -- A summary bit stands and is enabled.
-abbrev pub Asks : ℕ → List Act → Type 0
-Asks k log = SummaryBit k log × (bit_at (service log) k ≡ 1)
+abbrev pub ServiceRequested : ℕ → List Act → Type 0
+ServiceRequested k log = SummaryBit k log × (bit_at (service log) k ≡ 1)
 
 -- the master summary
 abbrev pub Master : List Act → Type 0
-Master log = (k : ℕ) × Asks k log
+Master log = (k : ℕ) × ServiceRequested k log
 
 -- A reason arises at the newest act: some bit asks that didn't before.
 abbrev pub Reason : List Act → Type 0
 Reason [] = ⊥
-Reason (act ∷ before) = (k : ℕ) × Asks k (act ∷ before) × (Asks k before → ⊥)
+Reason (act ∷ before) = (k : ℕ) × ServiceRequested k (act ∷ before) × (ServiceRequested k before → ⊥)
 
 -- The newest act leaves a request: it is no poll, and the master summary stands.
 abbrev pub Lasts : List Act → Type 0

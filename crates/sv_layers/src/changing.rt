@@ -8,12 +8,12 @@ ghost use Rattle.sv_scan.specs.Counted.{trigger_fault};
 ghost use Rattle.sv_layers.specs.Condition.{counted};
 ghost use Rattle.sv_layers.specs.Act.{Act, Scanned, Reported};
 ghost use Rattle.sv_layers.specs.Change.{act_of};
-ghost use Rattle.sv_layers.specs.Inside.Seen.{Seen, begun, resets};
-ghost use Rattle.sv_layers.specs.Inside.Kept.{StandsFor, Happens, Joined, state_by};
+ghost use Rattle.sv_layers.specs.Inside.LayerLogs.{LayerLogs, begun, resets};
+ghost use Rattle.sv_layers.specs.Inside.Representation.{StandsFor, IsApplied, Represents, state_by};
 
 use crate::change::Change;
 use crate::layers::Layers;
-use crate::status::mask_where;
+use crate::status::mask_if;
 use std::alloc::Allocator;
 use sv_errors::{Code, Layer, Source};
 use sv_scan::ScanAct;
@@ -23,9 +23,9 @@ const DEVICE: u8 = 1 << 3;
 
 impl<A: Allocator> Layers<A> {
     /// Lets a change happen.
-    pub fn happen(&mut self, change: Change)
-        ensures happens { (log : List Act) → StandsFor self.old log
-            → Happens self.old.requests self.new (act_of change ∷ log) }
+    pub fn apply(&mut self, change: Change)
+        ensures applied { (log : List Act) → StandsFor self.old log
+            → IsApplied self.old.requests self.new (act_of change ∷ log) }
         ensures exchange { self.new.exchange ≡ self.old.exchange }
     {
         self.begin(&change);
@@ -35,8 +35,8 @@ impl<A: Allocator> Layers<A> {
 
     /// Begins a change: what it does to its own layer.
     fn begin(&mut self, change: &Change)
-        ensures stands { (at : Seen) (told : List StatusAct) → Joined self.old at told
-            → Joined self.new (begun (act_of change.now) at) told }
+        ensures stands { (at : LayerLogs) (told : List StatusAct) → Represents self.old at told
+            → Represents self.new (begun (act_of change.now) at) told }
         ensures exchange { self.new.exchange ≡ self.old.exchange }
         ensures requests { self.new.requests ≡ self.old.requests }
     {
@@ -65,8 +65,8 @@ impl<A: Allocator> Layers<A> {
 
     /// Something happens to the scanner; a reset cancels an `*OPC`.
     fn scan(&mut self, act: ScanAct)
-        ensures stands { (at : Seen) (told : List StatusAct) → Joined self.old at told
-            → Joined self.new (begun (Scanned act) at) told }
+        ensures stands { (at : LayerLogs) (told : List StatusAct) → Represents self.old at told
+            → Represents self.new (begun (Scanned act) at) told }
         ensures exchange { self.new.exchange ≡ self.old.exchange }
         ensures requests { self.new.requests ≡ self.old.requests }
     {
@@ -76,14 +76,14 @@ impl<A: Allocator> Layers<A> {
 
     /// An error is reported, with the standard event of its class, and that of an overflow.
     fn report(&mut self, code: Code)
-        ensures stands { (at : Seen) (told : List StatusAct) → Joined self.old at told
-            → Joined self.new (begun (Reported code) at) told }
+        ensures stands { (at : LayerLogs) (told : List StatusAct) → Represents self.old at told
+            → Represents self.new (begun (Reported code) at) told }
         ensures exchange { self.new.exchange ≡ self.old.exchange }
         ensures requests { self.new.requests ≡ self.old.requests }
     {
         let overflows = self.errors.report(code);
         self.standard.occur(code.standard_event());
-        self.standard.occur(mask_where(DEVICE, overflows));
+        self.standard.occur(mask_if(DEVICE, overflows));
     }
 
     /// A trigger from this source, where one from there is waited for.
@@ -92,9 +92,9 @@ impl<A: Allocator> Layers<A> {
     /// [`Code::TriggerIgnored`] where none is waited for, or one from another source; then nothing
     /// happens.
     pub fn trigger(&mut self, source: Source) -> Result<(), Code>
-        ensures happens { (log : List Act) → StandsFor self.old log
+        ensures applied { (log : List Act) → StandsFor self.old log
             → MatchResult result (λ done. (trigger_fault (counted log) source ≡ None)
-            × Happens self.old.requests self.new (Scanned (Trigger source) ∷ log))
+            × IsApplied self.old.requests self.new (Scanned (Trigger source) ∷ log))
             (λ code. trigger_fault (counted log) source ≡ Some code) }
         ensures exchange { self.new.exchange ≡ self.old.exchange }
         ensures scanning { OnOk result ((state_by self.old ≡ Waiting)
@@ -103,7 +103,7 @@ impl<A: Allocator> Layers<A> {
     {
         match self.scanner.trigger(source) {
             Ok(()) => {
-                self.settle();
+                self.update_status();
                 Ok(())
             }
             Err(ignored) => Err(ignored),

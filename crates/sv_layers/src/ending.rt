@@ -10,12 +10,12 @@ ghost use Rattle.sv_scan.specs.Condition.{bit};
 ghost use Rattle.sv_layers.specs.Act.{Act};
 ghost use Rattle.sv_layers.specs.Change.{act_of};
 ghost use Rattle.sv_layers.specs.Filter.{is_same as same_register};
-ghost use Rattle.sv_layers.specs.Inside.Seen.{Seen, EndsAs, begun, completed, own, own_standard, seen};
-ghost use Rattle.sv_layers.specs.Inside.Kept.{Joined};
+ghost use Rattle.sv_layers.specs.Inside.LayerLogs.{LayerLogs, EndsAs, begun, completed, own, own_standard, seen};
+ghost use Rattle.sv_layers.specs.Inside.Representation.{Represents};
 
 use crate::change::Change;
 use crate::layers::Layers;
-use crate::status::mask_where;
+use crate::status::mask_if;
 use std::alloc::Allocator;
 use sv_status::{Register, RegisterName, StandardEvent};
 
@@ -32,8 +32,8 @@ impl<A: Allocator> Layers<A> {
     /// the questionable register is told its condition.
     pub(crate) fn end(&mut self, change: &Change)
         ensures stands { (log : List Act) (act : Act) (told : List StatusAct)
-            → EndsAs (act_of change.now) act → Joined self.old (begun act (seen log)) told
-            → Joined self.new (seen (act ∷ log)) told }
+            → EndsAs (act_of change.now) act → Represents self.old (begun act (seen log)) told
+            → Represents self.new (seen (act ∷ log)) told }
         ensures exchange { self.new.exchange ≡ self.old.exchange }
         ensures scanner { self.new.scanner ≡ self.old.scanner }
         ensures requests { self.new.requests ≡ self.old.requests }
@@ -56,14 +56,14 @@ impl<A: Allocator> Layers<A> {
 
     /// An `*OPC` is complete where no measurement is under way.
     fn complete(&mut self)
-        ensures stands { (at : Seen) (told : List StatusAct) → Joined self.old at told
-            → Joined self.new (completed at) told }
+        ensures stands { (at : LayerLogs) (told : List StatusAct) → Represents self.old at told
+            → Represents self.new (completed at) told }
         ensures exchange { self.new.exchange ≡ self.old.exchange }
         ensures scanner { self.new.scanner ≡ self.old.scanner }
         ensures requests { self.new.requests ≡ self.old.requests }
     {
         let idle = self.scanner.state().is_idle();
-        self.standard.occur(mask_where(COMPLETE, self.waits & idle));
+        self.standard.occur(mask_if(COMPLETE, self.waits & idle));
         self.waits &= !idle;
     }
 }

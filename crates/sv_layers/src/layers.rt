@@ -8,8 +8,8 @@ ghost use Rattle.sv_scan.specs.Stands.{StandsFor as Scans};
 ghost use Rattle.sv_exchange.specs.Contents.{StandsFor as Exchanges};
 ghost use Rattle.sv_layers.specs.Act.{Act, exchange_acts, queue_acts, scan_acts};
 ghost use Rattle.sv_layers.specs.Filter.{start};
-ghost use Rattle.sv_layers.specs.Inside.Seen.{Seen, register_acts};
-ghost use Rattle.sv_layers.specs.Inside.Kept.{StandsFor, AllRead, Joined};
+ghost use Rattle.sv_layers.specs.Inside.LayerLogs.{LayerLogs, register_acts};
+ghost use Rattle.sv_layers.specs.Inside.Representation.{StandsFor, AllRead, Represents};
 
 use std::alloc::{AllocError, Allocator, Global};
 use std::marker::Model;
@@ -46,9 +46,9 @@ pub struct Layers<A: Allocator = Global> {
 }
 
 impl<A: Allocator> Model for Layers<A> {
-    ghost use Rattle.sv_layers.specs.Inside.Kept.{Layered};
+    ghost use Rattle.sv_layers.specs.Inside.Representation.{LayerState};
 
-    ghost Value = { Layered };
+    ghost Value = { LayerState };
 
     ghost view = { λ a. record {
       exchange = a.exchange;
@@ -117,7 +117,7 @@ impl<A: Allocator> Layers<A> {
 
     /// One of the status registers.
     pub(crate) fn register(&self, name: RegisterName) -> &Register
-        ensures { (at : Seen) (told : List StatusAct) → Joined self.now at told
+        ensures { (at : LayerLogs) (told : List StatusAct) → Represents self.now at told
             → Registers (start name) result.now (register_acts name at) }
     {
         match name {

@@ -2,10 +2,10 @@
 
 ghost use Rattle.std.specs.Prelude.{◌≡◌, ◌+◌, ◌*◌, ◌<◌, ◌≤◌, List, ◌∷◌, drop, length, IsTrue, if◌then◌else◌};
 ghost use Rattle.sv_exchange.specs.Exchange.{Accepted, TextDropped, Overran, UnitDone, Answered, AnswersDropped, Finished, Interrupted, ResponseRead, OverrunDue, InterruptDue, FinishDue, answers, fits_response};
-ghost use Rattle.sv_exchange.specs.Contents.{empty, is_open, shown_by, next_of, IsUnitDue, may_respond, work_of};
+ghost use Rattle.sv_exchange.specs.Contents.{empty, is_open, shown_by, next_of, IsUnitDue, may_respond, exchange_measure};
 ghost use Rattle.sv_exchange.specs.Limits.{max_message};
 ghost use Rattle.sv_layers.specs.Act.{Act, Exchanged, Purged, exchange_acts};
-ghost use Rattle.sv_layers.specs.Inside.Kept.{StandsFor, Happens};
+ghost use Rattle.sv_layers.specs.Inside.Representation.{StandsFor, IsApplied};
 
 use crate::layers::Layers;
 use std::alloc::Allocator;
@@ -16,62 +16,62 @@ impl<A: Allocator> Layers<A> {
     pub fn accept(&mut self, bytes: &[u8], ended: bool)
         requires open { IsTrue (is_open self.old.exchange) }
         requires short { length bytes.now ≤ max_message }
-        ensures happens { (log : List Act) → StandsFor self.old log
-            → Happens self.old.requests self.new (Exchanged (Accepted bytes.now ended) ∷ log) }
-        ensures bounded { work_of self.new.exchange
-            ≤ work_of self.old.exchange + 3 * length bytes.now + 4 }
+        ensures applied { (log : List Act) → StandsFor self.old log
+            → IsApplied self.old.requests self.new (Exchanged (Accepted bytes.now ended) ∷ log) }
+        ensures bounded { exchange_measure self.new.exchange
+            ≤ exchange_measure self.old.exchange + 3 * length bytes.now + 4 }
     {
         self.exchange.accept(bytes, ended);
-        self.settle();
+        self.update_status();
     }
 
     /// Steps over the unit that was due, which was executed.
     pub fn done(&mut self)
         requires { IsUnitDue (next_of self.old.exchange) }
-        ensures happens { (log : List Act) → StandsFor self.old log
-            → Happens self.old.requests self.new (Exchanged UnitDone ∷ log) }
-        ensures measure { work_of self.new.exchange < work_of self.old.exchange }
+        ensures applied { (log : List Act) → StandsFor self.old log
+            → IsApplied self.old.requests self.new (Exchanged UnitDone ∷ log) }
+        ensures measure { exchange_measure self.new.exchange < exchange_measure self.old.exchange }
         ensures stays_open { is_open self.new.exchange ≡ is_open self.old.exchange }
         ensures may_respond { IsTrue (may_respond self.new.exchange) }
     {
         self.exchange.done();
-        self.settle();
+        self.update_status();
     }
 
     /// The message that is too long was told.
     pub fn overran(&mut self)
         requires { next_of self.old.exchange ≡ OverrunDue }
-        ensures happens { (log : List Act) → StandsFor self.old log
-            → Happens self.old.requests self.new (Exchanged Overran ∷ log) }
-        ensures measure { work_of self.new.exchange < work_of self.old.exchange }
+        ensures applied { (log : List Act) → StandsFor self.old log
+            → IsApplied self.old.requests self.new (Exchanged Overran ∷ log) }
+        ensures measure { exchange_measure self.new.exchange < exchange_measure self.old.exchange }
         ensures stays_open { is_open self.new.exchange ≡ is_open self.old.exchange }
     {
         self.exchange.overran();
-        self.settle();
+        self.update_status();
     }
 
     /// Drops the response, which is interrupted by a new message.
     pub fn interrupt(&mut self)
         requires { next_of self.old.exchange ≡ InterruptDue }
-        ensures happens { (log : List Act) → StandsFor self.old log
-            → Happens self.old.requests self.new (Exchanged Interrupted ∷ log) }
-        ensures measure { work_of self.new.exchange < work_of self.old.exchange }
+        ensures applied { (log : List Act) → StandsFor self.old log
+            → IsApplied self.old.requests self.new (Exchanged Interrupted ∷ log) }
+        ensures measure { exchange_measure self.new.exchange < exchange_measure self.old.exchange }
         ensures stays_open { is_open self.new.exchange ≡ is_open self.old.exchange }
         ensures next { IsUnitDue (next_of self.new.exchange) }
     {
         self.exchange.drop_response();
-        self.settle();
+        self.update_status();
     }
 
     /// Goes on to the next message; the answers become the response.
     pub fn finish(&mut self)
         requires { next_of self.old.exchange ≡ FinishDue }
-        ensures happens { (log : List Act) → StandsFor self.old log
-            → Happens self.old.requests self.new (Exchanged Finished ∷ log) }
-        ensures measure { work_of self.new.exchange < work_of self.old.exchange }
+        ensures applied { (log : List Act) → StandsFor self.old log
+            → IsApplied self.old.requests self.new (Exchanged Finished ∷ log) }
+        ensures measure { exchange_measure self.new.exchange < exchange_measure self.old.exchange }
     {
         self.exchange.finish();
-        self.settle();
+        self.update_status();
     }
 
     /// Puts an answer behind those of the units before, and tells whether it has room; where it has
@@ -80,49 +80,49 @@ impl<A: Allocator> Layers<A> {
         requires { IsTrue (may_respond self.old.exchange) }
         ensures fits { (log : List Act) → StandsFor self.old log
             → result ≡ fits_response (answers (exchange_acts log)) answer.now }
-        ensures happens { (log : List Act) → StandsFor self.old log
-            → Happens self.old.requests self.new (Exchanged
+        ensures applied { (log : List Act) → StandsFor self.old log
+            → IsApplied self.old.requests self.new (Exchanged
             (if result then Answered answer.now else AnswersDropped) ∷ log) }
-        ensures measure { work_of self.new.exchange ≤ work_of self.old.exchange }
+        ensures measure { exchange_measure self.new.exchange ≤ exchange_measure self.old.exchange }
         ensures stays_open { is_open self.new.exchange ≡ is_open self.old.exchange }
     {
         let fits = self.exchange.respond(answer);
-        self.settle();
+        self.update_status();
         fits
     }
 
     /// Drops so many bytes of the response, which were read.
     pub fn take(&mut self, count: usize)
         requires { count ≤ length (shown_by self.old.exchange) }
-        ensures happens { (log : List Act) → StandsFor self.old log
-            → Happens self.old.requests self.new (Exchanged (ResponseRead count) ∷ log) }
+        ensures applied { (log : List Act) → StandsFor self.old log
+            → IsApplied self.old.requests self.new (Exchanged (ResponseRead count) ∷ log) }
         ensures value { self.new.exchange ≡ record self.old.exchange {
           output = drop count self.old.exchange.output;
         } }
     {
         self.exchange.take(count);
-        self.settle();
+        self.update_status();
     }
 
     /// Drops the text of the current message, which must not have ended.
     pub fn drop_unfinished(&mut self)
         requires { IsTrue (is_open self.old.exchange) }
-        ensures happens { (log : List Act) → StandsFor self.old log
-            → Happens self.old.requests self.new (Exchanged TextDropped ∷ log) }
+        ensures applied { (log : List Act) → StandsFor self.old log
+            → IsApplied self.old.requests self.new (Exchanged TextDropped ∷ log) }
         ensures stays_open { IsTrue (is_open self.new.exchange) }
     {
         self.exchange.drop_unfinished();
-        self.settle();
+        self.update_status();
     }
 
     /// Drops program text, answers and response, and cancels an `*OPC`, as a device clear does.
     pub fn purge(&mut self)
-        ensures happens { (log : List Act) → StandsFor self.old log
-            → Happens self.old.requests self.new (Purged ∷ log) }
+        ensures applied { (log : List Act) → StandsFor self.old log
+            → IsApplied self.old.requests self.new (Purged ∷ log) }
         ensures value { self.new.exchange ≡ empty }
     {
         self.waits = false;
         self.exchange.clear();
-        self.settle();
+        self.update_status();
     }
 }

@@ -4,7 +4,7 @@ ghost use Rattle.std.specs.Prelude.{◌≡◌, ◌↔◌, ℕ, List, ◌∷◌};
 ghost use Rattle.std.specs.Int.{bit_at};
 ghost use Rattle.sv_layers.specs.Act.{Act, Polled};
 ghost use Rattle.sv_layers.specs.StatusByte.{PolledBit};
-ghost use Rattle.sv_layers.specs.Inside.Kept.{StandsFor, Happens};
+ghost use Rattle.sv_layers.specs.Inside.Representation.{StandsFor, IsApplied};
 
 use crate::layers::Layers;
 use std::alloc::Allocator;
@@ -15,12 +15,12 @@ impl<A: Allocator> Layers<A> {
     pub fn poll(&mut self) -> u8
         ensures status { (log : List Act) → StandsFor self.old log
             → (k : ℕ) → (bit_at result k ≡ 1) ↔ PolledBit k log }
-        ensures happens { (log : List Act) → StandsFor self.old log
-            → Happens self.old.requests self.new (Polled ∷ log) }
+        ensures applied { (log : List Act) → StandsFor self.old log
+            → IsApplied self.old.requests self.new (Polled ∷ log) }
         ensures exchange { self.new.exchange ≡ self.old.exchange }
     {
         let status = self.status.poll();
-        self.settle();
+        self.update_status();
         status
     }
 }

@@ -3,8 +3,8 @@
 ghost use Rattle.std.specs.Prelude.{◌≡◌, true, List, ◌∷◌, if◌then◌else◌};
 ghost use Rattle.sv_status.specs.declared.status_byte.StatusAct.{StatusAct};
 ghost use Rattle.sv_layers.specs.Act.{Act};
-ghost use Rattle.sv_layers.specs.Inside.Seen.{Seen, seen, is_plain};
-ghost use Rattle.sv_layers.specs.Inside.Kept.{IsSummary, IsStatus, AllRead, Joined, Begun, Happens, StandsFor, own_status};
+ghost use Rattle.sv_layers.specs.Inside.LayerLogs.{LayerLogs, seen, is_plain};
+ghost use Rattle.sv_layers.specs.Inside.Representation.{IsSummary, IsStatus, AllRead, Represents, Begun, IsApplied, StandsFor, own_status};
 
 use crate::change::{Awaited, Change};
 use crate::layers::Layers;
@@ -24,21 +24,21 @@ const ERRORS: u8 = 1 << 2;
 impl<A: Allocator> Layers<A> {
     /// The summary bits as they are now.
     fn summary(&self) -> u8
-        ensures { (at : Seen) (told : List StatusAct) → Joined self.now at told
+        ensures { (at : LayerLogs) (told : List StatusAct) → Represents self.now at told
             → IsSummary result at }
     {
-        mask_where(OPERATION, self.operation.summary())
-            + mask_where(STANDARD, self.standard.summary())
-            + mask_where(AVAILABLE, self.exchange.readable())
-            + mask_where(QUESTIONABLE, self.questionable.summary())
-            + mask_where(ERRORS, self.errors.count() > 0)
+        mask_if(OPERATION, self.operation.summary())
+            + mask_if(STANDARD, self.standard.summary())
+            + mask_if(AVAILABLE, self.exchange.readable())
+            + mask_if(QUESTIONABLE, self.questionable.summary())
+            + mask_if(ERRORS, self.errors.count() > 0)
     }
 
     /// Tells the status byte, and counts the request for service that this raises, if it does.
     pub(crate) fn tell(&mut self)
-        ensures happens { (log : List Act) (act : Act) (before : List StatusAct)
-            → IsStatus log before → Joined self.old (seen (act ∷ log)) (own_status act before)
-            → Happens self.old.requests self.new (act ∷ log) }
+        ensures applied { (log : List Act) (act : Act) (before : List StatusAct)
+            → IsStatus log before → Represents self.old (seen (act ∷ log)) (own_status act before)
+            → IsApplied self.old.requests self.new (act ∷ log) }
         ensures exchange { self.new.exchange ≡ self.old.exchange }
         ensures scanner { self.new.scanner ≡ self.old.scanner }
     {
@@ -61,9 +61,9 @@ impl<A: Allocator> Layers<A> {
 
     /// What follows an act that does nothing to a register itself: it ends, and the status byte is
     /// told.
-    pub(crate) fn settle(&mut self)
-        ensures happens { (log : List Act) (act : Act) → Begun self.old act log
-            → is_plain act ≡ true → Happens self.old.requests self.new (act ∷ log) }
+    pub(crate) fn update_status(&mut self)
+        ensures applied { (log : List Act) (act : Act) → Begun self.old act log
+            → is_plain act ≡ true → IsApplied self.old.requests self.new (act ∷ log) }
         ensures exchange { self.new.exchange ≡ self.old.exchange }
         ensures scanner { self.new.scanner ≡ self.old.scanner }
     {
@@ -73,7 +73,7 @@ impl<A: Allocator> Layers<A> {
 }
 
 /// A mask where its condition holds, else nothing.
-pub(crate) fn mask_where(mask: u8, holds: bool) -> u8
+pub(crate) fn mask_if(mask: u8, holds: bool) -> u8
     ensures { result ≡ (if holds then mask else 0) }
 {
     if holds { mask } else { 0 }

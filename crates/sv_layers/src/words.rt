@@ -8,7 +8,7 @@ ghost use Rattle.sv_layers.specs.Filter.{rise as rise_of, fall as fall_of, enabl
 ghost use Rattle.sv_layers.specs.Event.{EventStands};
 ghost use Rattle.sv_layers.specs.Standard.{Stands, enable as standard_enable_of};
 ghost use Rattle.sv_layers.specs.StatusByte.{MasterBit, service as service_of};
-ghost use Rattle.sv_layers.specs.Inside.Kept.{StandsFor};
+ghost use Rattle.sv_layers.specs.Inside.Representation.{StandsFor};
 
 use crate::layers::Layers;
 use std::alloc::Allocator;

@@ -6,11 +6,11 @@ use Rattle.sv_links.specs.declared.waiting.Entry.{Entry}
 use Rattle.sv_links.specs.declared.waiting.Wait.{Wait}
 use Rattle.sv_links.specs.declared.waiting.Wait.TheVariants.{Lock}
 use Rattle.sv_links.specs.Waiting.{is_lock}
-use Rattle.sv_links.specs.Queue.{IsFree, IsOnce, anew, creates, creations, without, rank, rank_of}
+use Rattle.sv_links.specs.Queue.{IsFree, IsOnce, anew, creates, creations, without, queue_measure, wait_measure}
 use Rattle.sv_links.proofs.Queues.{anew_none, kept_free}
 
 pub rank-anew : (conn : ℕ) (wait : Wait) (last : Option ℕ) (xs : List Entry) → IsOnce xs
-    → rank (map (anew conn wait last) xs) ≤ rank (without conn xs) + rank_of wait
+    → queue_measure (map (anew conn wait last) xs) ≤ queue_measure (without conn xs) + wait_measure wait
 rank-anew conn wait last [] once = omega arith
 rank-anew conn wait last (x ∷ xs) once = elim (cases_Bool (eqb x.conn conn)) [
   | inl e ↦

@@ -5,7 +5,7 @@ use Rattle.std.specs.List.{AllByRecursion}
 use Rattle.std.proofs.lemmas.Bool.{cases_Bool, eqb-true, ne_eqb}
 use Rattle.sv_links.specs.declared.waiting.Entry.{Entry}
 use Rattle.sv_links.specs.Waiting.{WaitAct, waits}
-use Rattle.sv_links.specs.Queue.{IsQueue, IsEntry, IsOnce, IsBelow, creates, creations, without, entry_of, rank, rank_of}
+use Rattle.sv_links.specs.Queue.{IsQueue, IsEntry, IsOnce, IsBelow, creates, creations, without, entry_of, queue_measure, wait_measure}
 use Rattle.sv_links.proofs.Counted.{creations-without}
 
 -- it passes the test, and what holds of each holds of it
@@ -55,25 +55,26 @@ entry_waits conn acts xs is =
 
 -- ---- what its leaving takes
 
-pub rank-without : (c : ℕ) (xs : List Entry) → rank (without c xs) ≤ rank xs
+pub rank-without : (c : ℕ) (xs : List Entry) → queue_measure (without c xs) ≤ queue_measure xs
 rank-without c [] = omega arith
 rank-without c (x ∷ xs) = elim (cases_Bool (eqb x.conn c)) [
   | inl e ↦ rw e (omega (arith, rank-without c xs))
   | inr e ↦ rw e (omega (arith, rank-without c xs))
 ]
 
-rank-cons : (c : ℕ) (x : Entry) (xs : List Entry) → rank (without c (x ∷ xs)) ≤ rank_of x.wait + rank (without c xs)
+rank-cons : (c : ℕ) (x : Entry) (xs : List Entry) → queue_measure (without c (x ∷ xs)) ≤ wait_measure x.wait + queue_measure (without c xs)
 rank-cons c x xs = elim (cases_Bool (eqb x.conn c)) [ inl e ↦ rw e (omega arith) | inr e ↦ rw e (omega arith) ]
 
-rank-itself : (x : Entry) (xs : List Entry) → rank (without x.conn (x ∷ xs)) ≤ rank xs
+rank-itself : (x : Entry) (xs : List Entry) → queue_measure (without x.conn (x ∷ xs)) ≤ queue_measure xs
 rank-itself x xs = rw (eq-eqb x.conn x.conn refl) (rank-without x.conn xs)
 
-pub found-rank : (test : Entry → Bool) (xs : List Entry) → IfSome (find test xs) (λ x. rank (without x.conn xs) + rank_of x.wait ≤ rank xs)
+pub found-rank : (test : Entry → Bool) (xs : List Entry) → IfSome (find test xs) (λ x. queue_measure (without x.conn xs)
+    + wait_measure x.wait ≤ queue_measure xs)
 found-rank test [] = tt
 found-rank test (x ∷ xs) = elim (cases_Bool (test x)) [
   | inl e ↦ rw e (omega (arith, rank-itself x xs))
-  | inr e ↦ rw e (weaker (λ y. rank (without y.conn xs) + rank_of y.wait ≤ rank xs)
-      (λ y. rank (without y.conn (x ∷ xs)) + rank_of y.wait ≤ rank (x ∷ xs))
+  | inr e ↦ rw e (weaker (λ y. queue_measure (without y.conn xs) + wait_measure y.wait ≤ queue_measure xs)
+      (λ y. queue_measure (without y.conn (x ∷ xs)) + wait_measure y.wait ≤ queue_measure (x ∷ xs))
       (λ y h. omega (arith, h, rank-cons y.conn x xs)) (find test xs) (found-rank test xs))
 ]
 

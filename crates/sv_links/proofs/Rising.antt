@@ -4,13 +4,13 @@ use Rattle.std.specs.Prelude.{max}
 use Rattle.std.specs.List.{AllByRecursion, filter_map, range_with_len, cons_option}
 use Rattle.std.proofs.lemmas.Bool.{cases_Bool, cases_eq, cond_both, ne_eqb, lt-ltb, le-ltb}
 use Rattle.sv_links.specs.declared.enabled.Enabled.{Enabled}
-use Rattle.sv_links.specs.Channels.{ChannelAct, SrqEnabled, SrqDisabled, asked, past, enabled}
+use Rattle.sv_links.specs.Channels.{ChannelAct, SrqEnabled, SrqDisabled, srq_enabled, past, enabled}
 use Rattle.sv_links.specs.ChannelRepresentation.{IsSorted}
 use Rattle.sv_links.proofs.Asking.{below, above, other_links, none_below, all_above}
 
 -- those of n numbers, from a on
 abbrev pub among : ℕ → ℕ → List ChannelAct → List Enabled
-among a n acts = filter_map (λ lid. asked lid acts) (range_with_len a n)
+among a n acts = filter_map (λ lid. srq_enabled lid acts) (range_with_len a n)
 
 -- ---- one number
 
@@ -21,7 +21,7 @@ IsAt a link = (x : Enabled) → link ≡ Some x → x.lid ≡ a
 some_is : (x y : Enabled) → Some x ≡ Some y → x ≡ y
 some_is x y e = cc
 
-pub asked-at : (lid : ℕ) (acts : List ChannelAct) → IsAt lid (asked lid acts)
+pub asked-at : (lid : ℕ) (acts : List ChannelAct) → IsAt lid (srq_enabled lid acts)
 asked-at lid [] x h = absurd cc
 asked-at lid (SrqEnabled other conn handle ∷ acts) x h = elim (cases_Bool (eqb other lid)) [
   | inl e ↦
@@ -36,11 +36,11 @@ asked-at lid (SrqDisabled other ∷ acts) x h = elim (cases_Bool (eqb other lid)
 asked-at lid (_ ∷ acts) x h = asked-at lid acts x h
 
 -- none past all numbers asks
-asked-past : (lid : ℕ) (acts : List ChannelAct) → past acts ≤ lid → asked lid acts ≡ None
+asked-past : (lid : ℕ) (acts : List ChannelAct) → past acts ≤ lid → srq_enabled lid acts ≡ None
 asked-past lid [] h = refl
 asked-past lid (SrqEnabled other conn handle ∷ acts) h =
     rw (ne_eqb other lid (λ e. absurd (omega (arith, e, h)))) (asked-past lid acts (omega (arith, h)))
-asked-past lid (SrqDisabled other ∷ acts) h = cond_both (eqb other lid) None (asked lid acts) (λ link. link ≡ None)
+asked-past lid (SrqDisabled other ∷ acts) h = cond_both (eqb other lid) None (srq_enabled lid acts) (λ link. link ≡ None)
     (λ _. refl) (λ _. asked-past lid acts h)
 asked-past lid (_ ∷ acts) h = asked-past lid acts h
 
@@ -54,7 +54,7 @@ all_behind k a (Some x) xs is lt h = (rw (is x refl) lt, h)
 behind : (k a n : ℕ) (acts : List ChannelAct) → k < a → AllByRecursion (λ x. k < x.lid) (among a n acts)
 behind k a zero acts lt = tt
 behind k a (suc n) acts lt =
-    all_behind k a (asked a acts) (among (a + 1) n acts) (asked-at a acts) lt (behind k (a + 1) n acts (omega (arith, lt)))
+    all_behind k a (srq_enabled a acts) (among (a + 1) n acts) (asked-at a acts) lt (behind k (a + 1) n acts (omega (arith, lt)))
 
 sorted_with : (a : ℕ) (first : Option Enabled) (xs : List Enabled) → IsAt a first → AllByRecursion (λ x. a < x.lid) xs → IsSorted xs
     → IsSorted (cons_option first xs)
@@ -64,7 +64,8 @@ sorted_with a (Some x) xs is h sorted = (rw (is x refl) h, sorted)
 sorted : (a n : ℕ) (acts : List ChannelAct) → IsSorted (among a n acts)
 sorted a zero acts = tt
 sorted a (suc n) acts =
-    sorted_with a (asked a acts) (among (a + 1) n acts) (asked-at a acts) (behind a (a + 1) n acts (omega arith)) (sorted (a + 1) n acts)
+    sorted_with a (srq_enabled a acts) (among (a + 1) n acts) (asked-at a acts) (behind a (a + 1) n acts (omega arith)) (sorted (a
+    + 1) n acts)
 
 pub enabled-sorted : (acts : List ChannelAct) → IsSorted (enabled acts)
 enabled-sorted acts = sorted 0 (past acts) acts
@@ -86,10 +87,10 @@ less lid a zero acts = refl
 less lid a (suc n) acts =
     let rest = among (a + 1) n acts in
     elim (cases_eq lid a) [
-      | inl e ↦ rw (eq-eqb lid a e) (less lid (a + 1) n acts ∙ without_it lid a (asked a acts) rest (asked-at a acts) e)
+      | inl e ↦ rw (eq-eqb lid a e) (less lid (a + 1) n acts ∙ without_it lid a (srq_enabled a acts) rest (asked-at a acts) e)
       | inr e ↦
-          rw (ne_eqb lid a e) (ap (cons_option (asked a acts)) (less lid (a + 1) n acts)
-          ∙ with_other lid a (asked a acts) rest (asked-at a acts) e)
+          rw (ne_eqb lid a e) (ap (cons_option (srq_enabled a acts)) (less lid (a + 1) n acts)
+          ∙ with_other lid a (srq_enabled a acts) rest (asked-at a acts) e)
     ]
 
 pub enabled-disabled : (lid : ℕ) (acts : List ChannelAct) → enabled (SrqDisabled lid ∷ acts) ≡ other_links lid (enabled acts)
@@ -127,7 +128,7 @@ same : (link : Enabled) (a n : ℕ) (acts : List ChannelAct) → link.lid < a
 same link a zero acts lt = refl
 same link a (suc n) acts lt =
     rw (ne_eqb link.lid a (λ e. absurd (omega (arith, e, lt))))
-    (ap (cons_option (asked a acts)) (same link (a + 1) n acts (omega (arith, lt))))
+    (ap (cons_option (srq_enabled a acts)) (same link (a + 1) n acts (omega (arith, lt))))
 
 more : (link : Enabled) (a n : ℕ) (acts : List ChannelAct) → a ≤ link.lid → link.lid < a + n
     → among a n (SrqEnabled link.lid link.conn link.handle ∷ acts) ≡ with_link link (among a n acts)
@@ -135,11 +136,11 @@ more link a zero acts le lt = absurd (omega (arith, le, lt))
 more link a (suc n) acts le lt = elim (cases_eq link.lid a) [
   | inl e ↦ subst (λ a. among a (suc n) (SrqEnabled link.lid link.conn link.handle ∷ acts) ≡ with_link link (among a (suc n) acts)) e
       (rw (eq-eqb link.lid link.lid refl) (ap (λ (xs : List Enabled). link ∷ xs) (same link (link.lid + 1) n acts (omega arith))
-      ∙ in_front link (asked link.lid acts) (among (link.lid + 1) n acts) (asked-at link.lid acts)
+      ∙ in_front link (srq_enabled link.lid acts) (among (link.lid + 1) n acts) (asked-at link.lid acts)
       (behind link.lid (link.lid + 1) n acts (omega arith))))
-  | inr e ↦ rw (ne_eqb link.lid a e) (ap (cons_option (asked a acts))
+  | inr e ↦ rw (ne_eqb link.lid a e) (ap (cons_option (srq_enabled a acts))
       (more link (a + 1) n acts (omega (arith, e, le)) (omega (arith, lt)))
-      ∙ further link a (asked a acts) (among (a + 1) n acts) (asked-at a acts) (omega (arith, e, le)))
+      ∙ further link a (srq_enabled a acts) (among (a + 1) n acts) (asked-at a acts) (omega (arith, e, le)))
 ]
 
 -- more numbers bring no link more
@@ -149,7 +150,7 @@ longer a zero (suc m) acts all le =
     rw (asked-past a acts (omega (arith, all))) (longer (a + 1) zero m acts (omega (arith, all)) (omega arith))
 longer a (suc n) zero acts all le = absurd (omega (arith, le))
 longer a (suc n) (suc m) acts all le =
-    ap (cons_option (asked a acts)) (longer (a + 1) n m acts (omega (arith, all)) (omega (arith, le)))
+    ap (cons_option (srq_enabled a acts)) (longer (a + 1) n m acts (omega (arith, all)) (omega (arith, le)))
 
 pub enabled-enabled : (link : Enabled) (acts : List ChannelAct)
     → enabled (SrqEnabled link.lid link.conn link.handle ∷ acts) ≡ with_link link (enabled acts)

@@ -6,7 +6,7 @@ use Rattle.sv_links.specs.declared.request.Peer.{Peer}
 use Rattle.sv_links.specs.declared.channel.Stage.{Stage}
 use Rattle.sv_links.specs.declared.channel.Stage.TheVariants.{Closed, Prepared, Open}
 use Rattle.sv_links.specs.Limits.{max_connections, max_enabled}
-use Rattle.sv_links.specs.Channels.{ChannelAct, enabled, peer, taken, calls, left_of}
+use Rattle.sv_links.specs.Channels.{ChannelAct, enabled, peer, taken, calls, untaken}
 
 -- how far it is; how many calls were sent on it; the bytes that wait, and of each call that isn't taken to its end how many they are
 pub record Channel : Type 0 where
@@ -37,8 +37,8 @@ left_in count (size ∷ sizes) = if nat_lt count size then (size - count) ∷ si
 
 -- It keeps these calls, of which the peer took so many bytes, no more than there are.
 abbrev pub IsQueued : Channel → ℕ → List (List ℕ) → Type 0
-IsQueued kept count calls = (kept.made ≡ length calls) × (kept.sizes ≡ map length (left_of count calls))
-    × (kept.bytes ≡ concat (left_of count calls)) × (count ≤ length (concat calls))
+IsQueued kept count calls = (kept.made ≡ length calls) × (kept.sizes ≡ map length (untaken count calls))
+    × (kept.bytes ≡ concat (untaken count calls)) × (count ≤ length (concat calls))
 
 -- It keeps what the acts say of the channel of a connection.
 abbrev pub IsChannelFor : Option Peer → Channel → ℕ → List (List ℕ) → Type 0

@@ -18,12 +18,12 @@ pub data ChannelAct : Type 0 where
   ChannelTaken : (conn count : ℕ) → ChannelAct
 
 -- how a link asks for service requests, if it does: the newest act counts that says whether it asks
-abbrev pub asked : ℕ → List ChannelAct → Option Enabled
-asked lid [] = None
-asked lid (SrqEnabled other conn handle ∷ acts) =
-    if other == lid then Some (record { lid = lid; conn = conn; handle = handle }) else asked lid acts
-asked lid (SrqDisabled other ∷ acts) = if other == lid then None else asked lid acts
-asked lid (_ ∷ acts) = asked lid acts
+abbrev pub srq_enabled : ℕ → List ChannelAct → Option Enabled
+srq_enabled lid [] = None
+srq_enabled lid (SrqEnabled other conn handle ∷ acts) =
+    if other == lid then Some (record { lid = lid; conn = conn; handle = handle }) else srq_enabled lid acts
+srq_enabled lid (SrqDisabled other ∷ acts) = if other == lid then None else srq_enabled lid acts
+srq_enabled lid (_ ∷ acts) = srq_enabled lid acts
 
 -- a number above those of all links that ever asked
 abbrev pub past : List ChannelAct → ℕ
@@ -33,7 +33,7 @@ past (_ ∷ acts) = past acts
 
 -- the links that ask for service requests, by rising number, each with the handle that it gave last
 abbrev pub enabled : List ChannelAct → List Enabled
-enabled acts = filter_map (λ lid. asked lid acts) (range_with_len 0 (past acts))
+enabled acts = filter_map (λ lid. srq_enabled lid acts) (range_with_len 0 (past acts))
 
 -- the handles of those of a connection
 abbrev pub handles_of : ℕ → List Enabled → List (List ℕ)
@@ -58,13 +58,13 @@ taken c (ChannelTaken conn count ∷ acts) = if conn == c then taken c acts + co
 taken c (_ ∷ acts) = taken c acts
 
 -- what the peer didn't take of calls, from the first that it didn't take to its end
-abbrev pub left_of : ℕ → List (List ℕ) → List (List ℕ)
-left_of count [] = []
-left_of count (call ∷ calls) = if nat_lt count (length call) then drop count call ∷ calls else left_of (count - length call) calls
+abbrev pub untaken : ℕ → List (List ℕ) → List (List ℕ)
+untaken count [] = []
+untaken count (call ∷ calls) = if nat_lt count (length call) then drop count call ∷ calls else untaken (count - length call) calls
 
 -- whether a call more may be sent behind these: while fewer than max_calls aren't taken to their end, and while there are numbers
 abbrev pub may_call : ℕ → List (List ℕ) → Bool
-may_call count calls = nat_lt (length (left_of count calls)) max_calls && nat_lt (length calls) 4294967295
+may_call count calls = nat_lt (length (untaken count calls)) max_calls && nat_lt (length calls) 4294967295
 
 -- these calls with one more behind them, for a handle, if it may be sent; its number is how many were sent so far, and one
 abbrev pub called : Option Peer → ℕ → List (List ℕ) → List ℕ → List (List ℕ)
@@ -88,4 +88,4 @@ all_calls c (_ ∷ acts) = all_calls c acts
 
 -- the bytes that wait to be sent on it; none where it isn't open
 abbrev pub waiting : ℕ → List ChannelAct → List ℕ
-waiting c acts = if is_channel_open c acts then concat (left_of (taken c acts) (calls c acts)) else []
+waiting c acts = if is_channel_open c acts then concat (untaken (taken c acts) (calls c acts)) else []

@@ -62,12 +62,12 @@ abbrev pub without : ℕ → List Entry → List Entry
 without conn entries = filter (λ entry. not (entry.conn == conn)) entries
 
 -- how often a call may still begin to wait or end: one that waits for the lock may wait once more
-abbrev pub rank_of : Wait → ℕ
-rank_of Lock = 2
-rank_of Input = 1
-rank_of Response = 1
-rank_of Dial = 1
+abbrev pub wait_measure : Wait → ℕ
+wait_measure Lock = 2
+wait_measure Input = 1
+wait_measure Response = 1
+wait_measure Dial = 1
 
-abbrev pub rank : List Entry → ℕ
-rank [] = 0
-rank (entry ∷ entries) = rank_of entry.wait + rank entries
+abbrev pub queue_measure : List Entry → ℕ
+queue_measure [] = 0
+queue_measure (entry ∷ entries) = wait_measure entry.wait + queue_measure entries

@@ -4,7 +4,7 @@ ghost use Rattle.std.specs.Prelude.{◌≡◌, ◌<◌, ◌≤◌, ◌++◌, ℕ
 ghost use Rattle.sv_links.specs.Limits.{max_connections, max_waiting};
 ghost use Rattle.sv_links.specs.Links.{is_locked_out as locked_out};
 ghost use Rattle.sv_links.specs.Waiting.{WaitAct, Entered, Again, Left, waits as waits_for, is_there, creating, IsAble, IsExpired, IsOldest};
-ghost use Rattle.sv_links.specs.Queue.{entry_of, IsQueue, IsEntry, anew, without, creates, creations, rank_of, rank, is_past};
+ghost use Rattle.sv_links.specs.Queue.{entry_of, IsQueue, IsEntry, anew, without, creates, creations, wait_measure, queue_measure, is_past};
 
 use crate::limits::MAX_WAITING;
 use std::alloc::{AllocError, Allocator, Global};
@@ -176,7 +176,8 @@ impl<A: Allocator> Waiting<A> {
         ensures value { self.new ≡ map (anew conn wait deadline) self.old }
         ensures stands { (acts : List WaitAct) → IsQueue self.old acts
             → IsQueue self.new (Again conn wait deadline ∷ acts) }
-        ensures measure { rank self.new ≤ rank (without conn self.old) + rank_of wait }
+        ensures measure { queue_measure self.new ≤ queue_measure (without conn self.old)
+            + wait_measure wait }
         ensures fewer { (wait ≡ Wait.Lock → ⊥)
             → creations self.new ≤ creations (without conn self.old) }
     {
@@ -204,8 +205,8 @@ impl<A: Allocator> Waiting<A> {
             → IfSome result (λ entry. IsEntry acts entry) }
         ensures within { IfSome result (λ entry. (entry.conn < max_connections)
             × (entry_of entry.conn self.now ≡ Some entry)) }
-        ensures measure { IfSome result (λ entry. rank (without entry.conn self.now)
-            + rank_of entry.wait ≤ rank self.now) }
+        ensures measure { IfSome result (λ entry. queue_measure (without entry.conn self.now)
+            + wait_measure entry.wait ≤ queue_measure self.now) }
         ensures fewer { IfSome result (λ entry. creates entry ≡ true
             → creations (without entry.conn self.now) + 1 ≤ creations self.now) }
     {
@@ -223,8 +224,8 @@ impl<A: Allocator> Waiting<A> {
             → IfSome result (λ entry. IsEntry acts entry) }
         ensures within { IfSome result (λ entry. (entry.conn < max_connections)
             × (entry_of entry.conn self.now ≡ Some entry)) }
-        ensures measure { IfSome result (λ entry. rank (without entry.conn self.now)
-            + rank_of entry.wait ≤ rank self.now) }
+        ensures measure { IfSome result (λ entry. queue_measure (without entry.conn self.now)
+            + wait_measure entry.wait ≤ queue_measure self.now) }
     {
         self.entries
             .iter()

@@ -4,7 +4,7 @@ use Rattle.std.specs.Prelude.{Option, Result, Ok, Err, IfOk}
 use Rattle.std.specs.Duration.{as_nanos}
 use Rattle.std.specs.declared.time.Duration.{Duration}
 use Rattle.sv_serve.specs.Heard.{Heard}
-use Rattle.sv_serve.specs.Moment.{Driving}
+use Rattle.sv_serve.specs.DriverView.{DriverState}
 use Rattle.sv_net.specs.Sleep.{MaySleep}
 use Rattle.sv_net.specs.Serving.{Doing, MadeSweep, Waited, Told, is_fresh, is_told}
 use Rattle.sv_net.specs.Inside.Pausing.{is_quiet, Running, Pauses}
@@ -22,8 +22,8 @@ fresh_where_quiet (MadeSweep ∷ doings) quiet = quiet
 fresh_where_quiet (Waited limit reported ended ∷ doings) quiet = refl
 fresh_where_quiet (Told wire ∷ doings) quiet = quiet
 
-module _ {W M : Type 0} (hears : W → Heard → W → Type 0) (answers : M → Doing W → M → Type 0) (driver : Driving W) where
-  also : {is_so is_such : List (Doing W) → Bool} {many swept time : ℕ} {start : Driving W} {first now : M}
+module _ {W M : Type 0} (hears : W → Heard → W → Type 0) (answers : M → Doing W → M → Type 0) (driver : DriverState W) where
+  also : {is_so is_such : List (Doing W) → Bool} {many swept time : ℕ} {start : DriverState W} {first now : M}
       → ((doings : List (Doing W)) → is_so doings ≡ true → is_such doings ≡ true)
       → Running hears answers is_so many swept time start driver first now
       → Running hears answers is_such many swept time start driver first now
@@ -76,20 +76,20 @@ module _ {W M : Type 0} (hears : W → Heard → W → Type 0) (answers : M → 
   pub no_wait : (swept time : ℕ) (now : M) → Pauses hears answers driver is_quiet is_quiet swept time time now now
   no_wait swept time now = record { goes = λ many start first r. r }
 
-pub from_quiet : {W M : Type 0} {hears : W → Heard → W → Type 0} {answers : M → Doing W → M → Type 0} {driver : Driving W}
+pub from_quiet : {W M : Type 0} {hears : W → Heard → W → Type 0} {answers : M → Doing W → M → Type 0} {driver : DriverState W}
     {is_so : List (Doing W) → Bool} {swept began time : ℕ} {old now : M}
     → Pauses hears answers driver is_told is_so swept began time old now
     → Pauses hears answers driver is_quiet is_so swept began time old now
 from_quiet {hears = hears} {answers = answers} {driver = driver} pauses =
     record { goes = λ many start first r. pauses.goes many start first (also hears answers driver told_where_quiet r) }
 
-pub to_fresh : {W M : Type 0} {hears : W → Heard → W → Type 0} {answers : M → Doing W → M → Type 0} {driver : Driving W}
+pub to_fresh : {W M : Type 0} {hears : W → Heard → W → Type 0} {answers : M → Doing W → M → Type 0} {driver : DriverState W}
     {was : List (Doing W) → Bool} {swept began time : ℕ} {old now : M} → Pauses hears answers driver was is_quiet swept began time old now
     → Pauses hears answers driver was is_fresh swept began time old now
 to_fresh {hears = hears} {answers = answers} {driver = driver} pauses =
     record { goes = λ many start first r. also hears answers driver fresh_where_quiet (pauses.goes many start first r) }
 
-pub and_then : {W M : Type 0} {hears : W → Heard → W → Type 0} {answers : M → Doing W → M → Type 0} {driver : Driving W}
+pub and_then : {W M : Type 0} {hears : W → Heard → W → Type 0} {answers : M → Doing W → M → Type 0} {driver : DriverState W}
     {was between is_so : List (Doing W) → Bool} {swept began at time : ℕ} {old mid now : M}
     → Pauses hears answers driver was between swept began at old mid → Pauses hears answers driver between is_so swept at time mid now
     → Pauses hears answers driver was is_so swept began time old now

@@ -2,13 +2,13 @@
 use Rattle.std.proofs.Common.{◌≡◌, ℕ, ◌<◌, Bool, List, [], ◌∷◌, refl, sym, arith}
 use Rattle.sv_serve.specs.Carried.{Swept}
 use Rattle.sv_serve.specs.Heard.{Heard}
-use Rattle.sv_serve.specs.Moment.{Driving, Goes}
+use Rattle.sv_serve.specs.DriverView.{DriverState, Steps}
 use Rattle.sv_serve.specs.Sweep.{Sweeps}
 use Rattle.sv_net.specs.Serving.{Doing, MadeSweep, Waited, Told, handed_in, Serves, Served}
 use Rattle.sv_net.specs.Inside.Pausing.{Running, Rounds}
 
 -- the sweeps alone
-pub swept_alone : {W : Type 0} (hears : W → Heard → W → Type 0) (doings : List (Doing W)) (start now : Driving W)
+pub swept_alone : {W : Type 0} (hears : W → Heard → W → Type 0) (doings : List (Doing W)) (start now : DriverState W)
     → Serves hears doings start now → Swept hears (handed_in doings) start now
 swept_alone hears [] start now same = same
 swept_alone hears (MadeSweep ∷ doings) start now (between, serves, goes, front) =
@@ -17,7 +17,7 @@ swept_alone hears (Waited limit reported ended ∷ doings) start now (serves, ma
 swept_alone hears (Told wire ∷ doings) start now (serves, same) = swept_alone hears doings start now serves
 
 pub served_by : {W M : Type 0} {hears : W → Heard → W → Type 0} {answers : M → Doing W → M → Type 0} {is_so : List (Doing W) → Bool}
-    {many swept time : ℕ} {old new : Driving W} {first now : M} (IsCount : ℕ → Type 0)
+    {many swept time : ℕ} {old new : DriverState W} {first now : M} (IsCount : ℕ → Type 0)
     → Running hears answers is_so many swept time old new first now → IsCount many → Served hears IsCount old new
 served_by {hears = hears} {old = old} {new = new} IsCount r is =
     (r.doings, rw r.sweeps is, r.serves, swept_alone hears r.doings old new r.serves)
@@ -26,8 +26,8 @@ not_any : {P : Type 0} {ticks : ℕ} → ticks ≡ 0 → 0 < ticks → P
 not_any none some = absurd (omega (arith, none, some))
 
 -- no whole millisecond passed: what was reported comes first
-pub told_first : {W M : Type 0} (hears : W → Heard → W → Type 0) (answers : M → Doing W → M → Type 0) (ticks : ℕ) (old new : Driving W)
-    (first now : M) → ticks ≡ 0 → answers first (Told old.wire) now → Goes (Sweeps hears ticks) old new
+pub told_first : {W M : Type 0} (hears : W → Heard → W → Type 0) (answers : M → Doing W → M → Type 0) (ticks : ℕ) (old new : DriverState W)
+    (first now : M) → ticks ≡ 0 → answers first (Told old.wire) now → Steps (Sweeps hears ticks) old new
     → Rounds hears answers ticks old new first now
 told_first hears answers ticks old new first now none told goes = record {
   goes = λ many swept time start machine is r. record {
@@ -42,8 +42,8 @@ told_first hears answers ticks old new first now none told goes = record {
 }
 
 -- milliseconds pass in front of what was reported
-pub swept_first : {W M : Type 0} (hears : W → Heard → W → Type 0) (answers : M → Doing W → M → Type 0) (ticks : ℕ) (old new : Driving W)
-    (first now : M) → answers first (Told new.wire) now → Goes (Sweeps hears ticks) old new → Rounds hears answers ticks old new first now
+pub swept_first : {W M : Type 0} (hears : W → Heard → W → Type 0) (answers : M → Doing W → M → Type 0) (ticks : ℕ) (old new : DriverState W)
+    (first now : M) → answers first (Told new.wire) now → Steps (Sweeps hears ticks) old new → Rounds hears answers ticks old new first now
 swept_first hears answers ticks old new first now told goes = record {
   goes = λ many swept time start machine is r. record {
     doings = Told new.wire ∷ MadeSweep ∷ r.doings;

@@ -4,7 +4,7 @@ use Rattle.std.specs.declared.time.Duration.{Duration}
 use Rattle.sv_logs.specs.Since.{last_given}
 use Rattle.sv_serve.specs.Carried.{Swept}
 use Rattle.sv_serve.specs.Heard.{Heard}
-use Rattle.sv_serve.specs.Moment.{Driving, Goes}
+use Rattle.sv_serve.specs.DriverView.{DriverState, Steps}
 use Rattle.sv_serve.specs.Sweep.{Sweeps}
 use Rattle.sv_net.specs.Sleep.{MaySleep}
 
@@ -44,10 +44,11 @@ is_told = last_given (elim [ Waited limit true ended ↦ Some false | Told wire 
 
 -- Doings lead from one driver to another: each sweep is handed its milliseconds, which pass in front of what was reported meanwhile; no
 -- wait is longer than it may be, and none comes before all was told.
-abbrev pub Serves : {W : Type 0} → (W → Heard → W → Type 0) → List (Doing W) → Driving W → Driving W → Type 0
+abbrev pub Serves : {W : Type 0} → (W → Heard → W → Type 0) → List (Doing W) → DriverState W → DriverState W → Type 0
 Serves hears [] start now = now ≡ start
 Serves hears (MadeSweep ∷ doings) start now = let ticks = ticks_between (swept_at doings) (time_of doings) in
-    (between : Driving _) × Serves hears doings start between × Goes (Sweeps hears ticks) between now × (0 < ticks → is_fresh doings ≡ true)
+    (between : DriverState _) × Serves hears doings start between × Steps (Sweeps hears ticks) between now × (0 < ticks → is_fresh doings
+    ≡ true)
 Serves hears (Waited limit reported ended ∷ doings) start now =
     Serves hears doings start now × MaySleep (swept_at doings) (time_of doings) limit now × (is_told doings ≡ true)
 Serves hears (Told wire ∷ doings) start now = Serves hears doings start now × (wire ≡ now.wire)
@@ -59,6 +60,6 @@ Waits answers (MadeSweep ∷ doings) start now = Waits answers doings start now
 Waits answers (doing ∷ doings) start now = (between : _) × Waits answers doings start between × answers between doing now
 
 -- Doings with such a number of sweeps lead from one driver to another, and so do sweeps that were handed those milliseconds.
-abbrev pub Served : {W : Type 0} → (W → Heard → W → Type 0) → (ℕ → Type 0) → Driving W → Driving W → Type 0
+abbrev pub Served : {W : Type 0} → (W → Heard → W → Type 0) → (ℕ → Type 0) → DriverState W → DriverState W → Type 0
 Served hears IsCount old new = (doings : List (Doing _)) × IsCount (length (handed_in doings)) × Serves hears doings old new
     × Swept hears (handed_in doings) old new

@@ -16,7 +16,7 @@ fn is_ready<N: Network + Drop, A: Allocator, S: Stream>(driver: &Driver<Net<N, A
     ensures { result ≡ false → NoneReady driver.now }
 {
     let server = driver.server();
-    for conn in 0..server.used() {
+    for conn in 0..server.connections_used() {
         if server.ready(conn) {
             return true;
         }

@@ -114,21 +114,21 @@ fn pause<M: Machine<S>, N: Network + Drop, A: Allocator, S: Stream>(
         driver.now is_told is_fresh pace.old.swept began ended machine.old machine.new) }
     ensures swept { pace.new.swept ≡ pace.old.swept }
 {
-    let eager = pace.is_eager(began);
-    if !eager && !has_work(driver) {
+    let spinning = pace.is_spinning(began);
+    if !spinning && !has_work(driver) {
         pace.end(0, false);
         return sleep(machine, driver, pace, began, left);
     }
     let (reported, now) = wait(machine, pace, Some(Duration::ZERO))?;
-    if !eager || reported || has_work(driver) {
+    if !spinning || reported || has_work(driver) {
         return Ok(now);
     }
-    look(machine, driver, pace, now, left)
+    spin(machine, driver, pace, now, left)
 }
 
 /// Looks again until something is reported, or looking isn't worth it any more; then it sleeps.
 /// Tells when that ended.
-fn look<M: Machine<S>, N: Network + Drop, A: Allocator, S: Stream>(
+fn spin<M: Machine<S>, N: Network + Drop, A: Allocator, S: Stream>(
     machine: &mut M,
     driver: &Driver<Net<N, A, S>, A>,
     pace: &mut Pace,
@@ -141,7 +141,7 @@ fn look<M: Machine<S>, N: Network + Drop, A: Allocator, S: Stream>(
 {
     let mut now = began;
     for looks in 1..LOOKS {
-        if !pace.is_eager(now) {
+        if !pace.is_spinning(now) {
             pace.end(looks, false);
             return sleep(machine, driver, pace, now, left);
         }

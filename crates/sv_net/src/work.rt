@@ -55,6 +55,6 @@ fn has_work_for<N: Network + Drop, A: Allocator, S: Stream>(
 pub(crate) fn has_work<N: Network + Drop, A: Allocator, S: Stream>(
     driver: &Driver<Net<N, A, S>, A>,
 ) -> bool {
-    let used = driver.server().used();
-    driver.wire().is_called() || (0..used).any(|conn| has_work_on(driver, conn))
+    let connections_used = driver.server().connections_used();
+    driver.wire().is_called() || (0..connections_used).any(|conn| has_work_on(driver, conn))
 }

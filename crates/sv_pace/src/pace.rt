@@ -101,7 +101,7 @@ impl Pace {
 
     /// Whether it looks again without sleeping: something was reported less than 50 microseconds
     /// ago, and looking earned its keep of late, or is to be tried again.
-    pub fn is_eager(&self, now: u64) -> bool
+    pub fn is_spinning(&self, now: u64) -> bool
         ensures { (waits : List Wait) → StandsFor self.now waits
             → (result ≡ true) ↔ ((now - self.now.worked < 50000) × IsDue waits) }
     {
@@ -117,8 +117,8 @@ impl Pace {
         match (looks, found) {
             (0, true) => {}
             (0, false) => self.sleep(),
-            (_, true) => self.earn(),
-            (_, false) => self.miss(),
+            (_, true) => self.spin_hit(),
+            (_, false) => self.spin_miss(),
         }
     }
 
@@ -132,7 +132,7 @@ impl Pace {
     }
 
     /// Looking found something.
-    fn earn(&mut self)
+    fn spin_hit(&mut self)
         ensures times { (self.new.swept ≡ self.old.swept) × (self.new.worked ≡ self.old.worked) }
         ensures stands { (waits : List Wait) → StandsFor self.new (Wait.Found ∷ waits) }
     {
@@ -142,7 +142,7 @@ impl Pace {
     }
 
     /// Looking found nothing.
-    fn miss(&mut self)
+    fn spin_miss(&mut self)
         ensures times { (self.new.swept ≡ self.old.swept) × (self.new.worked ≡ self.old.worked) }
         ensures stands { (waits : List Wait) → StandsFor self.old waits
             → StandsFor self.new (Wait.Missed ∷ waits) }

@@ -49,7 +49,7 @@ pub(crate) fn operation_word(state: State) -> u16
 pub(crate) fn questionable_word(overload: bool) -> u16
     ensures { result ≡ bit 0 overload }
 {
-    mask_where(OVERLOAD, overload)
+    mask_if(OVERLOAD, overload)
 }
 
 /// The condition word of the register of limits: where the limits count, whether the last reading
@@ -59,14 +59,14 @@ pub(crate) fn limit_word(limits: bool, below: bool, above: bool, outside: bool) 
         (limits && outside) }
 {
     if limits {
-        mask_where(BELOW, below) + mask_where(ABOVE, above) + mask_where(OUTSIDE, outside)
+        mask_if(BELOW, below) + mask_if(ABOVE, above) + mask_if(OUTSIDE, outside)
     } else {
         0
     }
 }
 
 /// A mask where its condition holds, else nothing.
-fn mask_where(mask: u16, holds: bool) -> u16
+fn mask_if(mask: u16, holds: bool) -> u16
     ensures { result ≡ (if holds then mask else 0) }
 {
     if holds { mask } else { 0 }

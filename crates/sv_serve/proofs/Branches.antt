@@ -9,30 +9,31 @@ use Rattle.sv_history.specs.Print.{is_no_memory}
 use Rattle.sv_serve.specs.declared.wire.Answer.{Answer}
 use Rattle.sv_serve.specs.declared.wire.Answer.TheVariants.{Failed}
 use Rattle.sv_serve.specs.Heard.{Heard}
-use Rattle.sv_serve.specs.Moment.{Moment}
+use Rattle.sv_serve.specs.DriverView.{DriverView}
 use Rattle.sv_serve.specs.Steps.{ProbesIf, RefusesIf, EndsTurn, CallsFor, BreaksOff, EndsWrite}
 
 pub write_failed : {W : Type 0} (hears : W → Heard → W
-    → Type 0) (port other : Port) (answer : Answer ℕ) (config : Config) (before after : Moment W)
+    → Type 0) (port other : Port) (answer : Answer ℕ) (config : Config) (before after : DriverView W)
     → answer ≡ Failed → port ≡ other → BreaksOff hears other config before after → EndsWrite hears port answer config before after
 write_failed hears port other answer config before after failed same h =
     subst (λ (a : Answer ℕ). EndsWrite hears port a config before after) (sym failed)
     (subst (λ (p : Port). BreaksOff hears p config before after) (sym same) h)
 
 pub turn_refused : {W : Type 0} (c : ℕ) (answer : Result Did Refused) (refused : Refused) (so : Bool) (config : Config)
-    (before after : Moment W)
+    (before after : DriverView W)
     → answer ≡ Err refused → so ≡ is_no_memory refused → RefusesIf c so config before after → EndsTurn c answer config before after
 turn_refused c answer refused so config before after is same h =
     subst (λ (r : Result Did Refused). EndsTurn c r config before after) (sym is) (subst (λ
     (b : Bool). RefusesIf c b config before after) same h)
 
 pub calls_as : {W : Type 0} (hears : W → Heard → W → Type 0) (c : ℕ) (wanted called other before_call : Option Dial) (config : Config)
-    (before after : Moment W) → wanted ≡ other → called ≡ before_call → CallsFor hears c other before_call config before after
+    (before after : DriverView W) → wanted ≡ other → called ≡ before_call → CallsFor hears c other before_call config before after
     → CallsFor hears c wanted called config before after
 calls_as hears c wanted called other before_call config before after is same h =
     subst (λ (d : Option Dial). CallsFor hears c d called config before after) (sym is)
     (subst (λ (d : Option Dial). CallsFor hears c other d config before after) (sym same) h)
 
-pub probes_so : {W : Type 0} (hears : W → Heard → W → Type 0) (c : ℕ) (so : Bool) (config : Config) (before after : Moment W) → so ≡ true
+pub probes_so : {W : Type 0} (hears : W → Heard → W → Type 0) (c : ℕ) (so : Bool) (config : Config) (before after : DriverView W) → so
+    ≡ true
     → ProbesIf hears c true config before after → ProbesIf hears c so config before after
 probes_so hears c so config before after is h = subst (λ (b : Bool). ProbesIf hears c b config before after) (sym is) h

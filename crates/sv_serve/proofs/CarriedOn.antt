@@ -19,7 +19,7 @@ use Rattle.sv_server.specs.Server.State.{StandsFor}
 use Rattle.sv_serve.specs.Timed.{handed}
 use Rattle.sv_serve.proofs.Timing.{Played, begins, behind}
 use Rattle.sv_serve.specs.Heard.{Heard}
-use Rattle.sv_serve.specs.Moment.{Driving, moment}
+use Rattle.sv_serve.specs.DriverView.{DriverState, driver_view}
 use Rattle.sv_serve.specs.Served.{Through, event_of, is_outer}
 use Rattle.sv_serve.specs.Carried.{Swept, ClosesAtOnce, IsCarried, InSweeps, Carried}
 use Rattle.sv_serve.proofs.Ports.{Holds, Both, Keeping, came, went, left_bytes}
@@ -34,7 +34,7 @@ keeping_none c log told none hears_of =
     let untold : told ≡ [] = rw none at hears_of in
     rw (none, untold) ((refl, (λ opened. absurd cc)), (λ opened. absurd cc))
 
-record Over {W : Type 0} (hears : W → Heard → W → Type 0) (config : Config) (passed : List ℕ) (start now : Driving W)
+record Over {W : Type 0} (hears : W → Heard → W → Type 0) (config : Config) (passed : List ℕ) (start now : DriverState W)
     (swept : Swept hears passed start now) : Type 0 where
   pub trace : List Heard
   pub history : List PlainEvent
@@ -48,7 +48,7 @@ record Over {W : Type 0} (hears : W → Heard → W → Type 0) (config : Config
   pub lets : LetsGoRightly config history trace
   pub parts : InSweeps hears config start passed now swept history trace
   pub time : config.clock ≤ last_clock → start.ticks ≡ 0 → IsScenario 0 start.ahead
-      → Played config start.ahead (handed passed) (moment now history)
+      → Played config start.ahead (handed passed) (driver_view now history)
 
 open_by : (far opened : Bool) → (far || not opened) ≡ false → opened ≡ true
 open_by true opened e = absurd cc
@@ -68,7 +68,7 @@ sends_all (Intr c) log told trace tells all free =
     ∙ open_by (nat_lt 15 c) (has_channel c (device_acts log)) free in
     rw (opened, left_bytes (channel_taken c told) (calls c told)) ((all c).1 opened).0
 
-is_carried : {W : Type 0} (hears : W → Heard → W → Type 0) (config : Config) (passed : List ℕ) (start now : Driving W)
+is_carried : {W : Type 0} (hears : W → Heard → W → Type 0) (config : Config) (passed : List ℕ) (start now : DriverState W)
     (swept : Swept hears passed start now) (all : Over hears config passed start now swept) → IsCarried config all.history all.trace
 is_carried hears config passed start now swept all =
     let log = all.stands.log in
@@ -82,7 +82,7 @@ is_carried hears config passed start now swept all =
       lets_go = all.lets;
     }
 
-over : {W : Type 0} (hears : W → Heard → W → Type 0) (config : Config) (passed : List ℕ) (start now : Driving W)
+over : {W : Type 0} (hears : W → Heard → W → Type 0) (config : Config) (passed : List ℕ) (start now : DriverState W)
     → StandsFor start.server config [] → (swept : Swept hears passed start now) → Over hears config passed start now swept
 over hears config [] start now stands is = record {
   trace = [];
@@ -96,12 +96,12 @@ over hears config [] start now stands is = record {
   hands = tt;
   lets = tt;
   parts = (refl, refl);
-  time = λ clock zero rising. subst (λ d. Played config start.ahead 0 (moment d [])) (sym is) (begins config start clock zero rising);
+  time = λ clock zero rising. subst (λ d. Played config start.ahead 0 (driver_view d [])) (sym is) (begins config start clock zero rising);
 }
 over hears config (ticks ∷ passed) start now stands (between, swept, goes) =
     let was = over hears config passed start between stands swept in
     let now_so = goes config was.history was.stands in
-    let s = sweep_once hears config ticks (moment between was.history) (moment now now_so.0) now_so.2 in
+    let s = sweep_once hears config ticks (driver_view between was.history) (driver_view now now_so.0) now_so.2 in
     record {
       trace = s.k.piece ++ was.trace;
       history = now_so.0;
@@ -130,10 +130,12 @@ over hears config (ticks ∷ passed) start now stands (between, swept, goes) =
           λ c lt. serves config c was.history s.k.events s.k.piece now_so.1.log
               (subst (λ h. IsLogOf config h now_so.1.log) s.k.grown now_so.1.is_log) (s.offered c lt),
         ),
-        λ clock zero rising. (behind hears config start.ahead passed ticks (moment between was.history) (moment now now_so.0) now_so.2
+        λ clock zero rising. (behind hears config start.ahead passed ticks (driver_view between was.history)
+            (driver_view now now_so.0) now_so.2
             (was.time clock zero rising)).1,
       );
-      time = λ clock zero rising. (behind hears config start.ahead passed ticks (moment between was.history) (moment now now_so.0) now_so.2
+      time = λ clock zero rising. (behind hears config start.ahead passed ticks (driver_view between was.history)
+          (driver_view now now_so.0) now_so.2
           (was.time clock zero rising)).0;
     }
 

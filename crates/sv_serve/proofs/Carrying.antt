@@ -22,7 +22,7 @@ use Rattle.sv_history.proofs.AlwaysTold.{some_told}
 use Rattle.sv_serve.specs.declared.wire.Answer.{Answer}
 use Rattle.sv_serve.specs.declared.wire.Answer.TheVariants.{Got, Pending, Failed}
 use Rattle.sv_serve.specs.Heard.{Heard, WasAccepted, WasRead, WasProbed, WasWritten, WasClosed, IsWithin}
-use Rattle.sv_serve.specs.Moment.{Moment}
+use Rattle.sv_serve.specs.DriverView.{DriverView}
 use Rattle.sv_serve.specs.Asked.{IsLowest}
 use Rattle.sv_serve.specs.Steps.{Opens, Accepts, Closes, ClosesIf, Comes, Drops, ProbesIf, ReadsFrom, RefusesIf, EndsTurn, TurnsIf, Turns, EndsWrite, WritesTo, EndsIf, Ends}
 use Rattle.sv_serve.specs.Served.{Through}
@@ -39,7 +39,8 @@ use Rattle.sv_serve.proofs.Peers.{step_else}
 
 pub accept_by : {W : Type 0} (hears : W → Heard → W → Type 0) (May : Subject → Type 0) (config : Config) (may : (n : Subject)
     → May n) (role : Role) (number : Option ℕ) (answer : Answer ⊤)
-    (wire : W) (before between after : Moment W) → IsLowest number config before → hears before.wire (WasAccepted role number answer) wire
+    (wire : W) (before between after : DriverView W) → IsLowest number config before → hears before.wire
+    (WasAccepted role number answer) wire
     → between ≡ record before { wire = wire } → Opens role number answer config between after → Keeps hears May config before after
 accept_by hears May config may role (Some c) (Got all) wire before between after (lt, (log, was, answer), lower) heard is opens =
     let told = some_told (device_acts log) in
@@ -59,7 +60,7 @@ accept_by hears May config may role None answer wire before between after low he
     (refl, (λ port. refl), (λ port. refl), (λ port. refl)) (λ d. refl) (λ p b a e. absurd cc) (λ n e. absurd cc) same
 
 pub accepts : {W : Type 0} (hears : W → Heard → W → Type 0) (May : Subject → Type 0) (config : Config) (may : (n : Subject)
-    → May n) (role : Role) (before after : Moment W)
+    → May n) (role : Role) (before after : DriverView W)
     → Accepts hears role config before after → Keeps hears May config before after
 accepts hears May config may role before after (number, answer, low, (between, (wire, heard, is), opens)) =
     accept_by hears May config may role number answer wire before between after low heard is opens
@@ -68,7 +69,8 @@ accepts hears May config may role before after (number, answer, low, (between, (
 
 abbrev pub closes : {W : Type 0} (hears : W → Heard → W → Type 0) (May : Subject
     → Type 0) (config : Config) (c : ℕ) (may : May OfNone × May (OfConn c)) (older : List Heard)
-    (before between after : Moment W) → Through hears older before.wire between.wire → between.history ≡ before.history → AreSilent older
+    (before between after : DriverView W) → Through hears older before.wire between.wire → between.history ≡ before.history
+    → AreSilent older
     → AllFit config before.history older → NoneHung older → AllMay May older → ClosesAtOnce (Some (WasClosed (Conn c))) older
     → Reasons config (Close (Conn c) ∷ before.history) before.history (WasClosed (Conn c)) older → Closes hears c config between after
     → Keeps hears May config before after
@@ -115,13 +117,13 @@ failed_next c d e = ap (λ (n : ℕ). Some (WasClosed (Conn n))) (eqb-true c d e
 
 pub read_by : {W : Type 0} (hears : W → Heard → W → Type 0) (May : Subject
     → Type 0) (config : Config) (c : ℕ) (may : May OfNone × May (OfConn c)) (read_may : May (OfRead c)) (most : ℕ)
-    (answer : Answer (List ℕ)) (wire : W) (before between after : Moment W) (log : List Act) → IsLogOf config before.history log
+    (answer : Answer (List ℕ)) (wire : W) (before between after : DriverView W) (log : List Act) → IsLogOf config before.history log
     → hears before.wire (WasRead c most answer) wire → between ≡ record before { wire = wire }
     → Comes hears c answer config between after → Keeps hears May config before after
-read_by hears May config c may read_may most (Got bytes) wire before between after log was heard is happens =
+read_by hears May config c may read_may most (Got bytes) wire before between after log was heard is applied =
     let told = some_told (device_acts log) in
     answer_keeps hears May config (WasRead c most (Got bytes)) read_may (Bytes c bytes) wire before between after told.0 log was told.1
-    heard (ap (λ m. m.wire) is) (ap (λ m. m.history) is) happens refl refl (λ d. refl) (λ p b a e. absurd cc) (λ n e. absurd cc)
+    heard (ap (λ m. m.wire) is) (ap (λ m. m.history) is) applied refl refl (λ d. refl) (λ p b a e. absurd cc) (λ n e. absurd cc)
     (λ d e. absurd cc)
     (λ trace d. step_read c most bytes trace d (of d log) told.0)
 read_by hears May config c may read_may most Pending wire before between after log was heard is same =
@@ -136,7 +138,7 @@ read_by hears May config c may read_may most Failed wire before between after lo
 
 pub drops_gone : {W : Type 0} (hears : W → Heard → W → Type 0) (May : Subject
     → Type 0) (config : Config) (c : ℕ) (may : May OfNone × May (OfConn c)) (drops : Bool)
-    (answer : Answer ⊤) (wire : W) (before between after : Moment W) → hears before.wire (WasProbed c drops answer) wire
+    (answer : Answer ⊤) (wire : W) (before between after : DriverView W) → hears before.wire (WasProbed c drops answer) wire
     → between ≡ record before { wire = wire } → Drops hears c answer config between after → Keeps hears May config before after
 drops_gone hears May config c may drops (Got all) wire before between after heard is same =
     only_heard hears May config (WasProbed c drops (Got all)) may.1 wire before between after heard is
@@ -154,14 +156,14 @@ drops_gone hears May config c may drops Failed wire before between after heard i
 
 pub probes_if : {W : Type 0} (hears : W → Heard → W → Type 0) (May : Subject
     → Type 0) (config : Config) (c : ℕ) (may : May OfNone × May (OfConn c)) (opened : Bool)
-    (before after : Moment W) → ProbesIf hears c opened config before after → Keeps hears May config before after
+    (before after : DriverView W) → ProbesIf hears c opened config before after → Keeps hears May config before after
 probes_if hears May config c may false before after same = keeps_none hears May config before after same
 probes_if hears May config c may true before after (drops, answer, overlong, (between, (wire, heard, is), gone)) =
     drops_gone hears May config c may drops answer wire before between after heard is gone
 
 pub reads : {W : Type 0} (hears : W → Heard → W → Type 0) (May : Subject
     → Type 0) (config : Config) (c : ℕ) (may : May OfNone × May (OfConn c)) (read_may : May (OfRead c))
-    (before after : Moment W) → ReadsFrom hears c config before after → Keeps hears May config before after
+    (before after : DriverView W) → ReadsFrom hears c config before after → Keeps hears May config before after
 reads hears May config c may read_may before after (room, (log, was, is), inl (none, (opened, is_open, probes))) =
     probes_if hears May config c may opened before after probes
 reads hears May config c may read_may before after (
@@ -183,7 +185,7 @@ reads hears May config c may read_may before after (
 -- ---- calls are taken
 
 abbrev pub refuses_if : {W : Type 0} (hears : W → Heard → W → Type 0) (May : Subject
-    → Type 0) (config : Config) (c : ℕ) (so : Bool) (before after : Moment W)
+    → Type 0) (config : Config) (c : ℕ) (so : Bool) (before after : DriverView W)
     → RefusesIf c so config before after → Keeps hears May config before after
 refuses_if hears May config c true before after given =
     inner_by hears May config (Refuse c) (Ok Done) before after refl (λ d. refl) (λ l. refl) given
@@ -191,12 +193,12 @@ refuses_if hears May config c false before after same = keeps_none hears May con
 
 abbrev pub ends_turn : {W : Type 0} (hears : W → Heard → W → Type 0) (May : Subject
     → Type 0) (config : Config) (c : ℕ) (result : Result Did Refused)
-    (before after : Moment W) → EndsTurn c result config before after → Keeps hears May config before after
+    (before after : DriverView W) → EndsTurn c result config before after → Keeps hears May config before after
 ends_turn hears May config c (Ok did) before after same = keeps_none hears May config before after same
 ends_turn hears May config c (Err refused) before after h = refuses_if hears May config c (is_no_memory refused) before after h
 
 abbrev pub turns_if : {W : Type 0} (hears : W → Heard → W → Type 0) (May : Subject
-    → Type 0) (config : Config) (c : ℕ) (ready : Bool) (before after : Moment W)
+    → Type 0) (config : Config) (c : ℕ) (ready : Bool) (before after : DriverView W)
     → TurnsIf c ready config before after → Keeps hears May config before after
 turns_if hears May config c false before after same = keeps_none hears May config before after same
 turns_if hears May config c true before after (result, (between, given, ends)) = keeps_then hears May config before between after
@@ -204,7 +206,7 @@ turns_if hears May config c true before after (result, (between, given, ends)) =
     (ends_turn hears May config c result between after ends)
 
 abbrev pub turns : {W : Type 0} (hears : W → Heard → W → Type 0) (May : Subject
-    → Type 0) (config : Config) (c : ℕ) (before after : Moment W)
+    → Type 0) (config : Config) (c : ℕ) (before after : DriverView W)
     → Turns c config before after → Keeps hears May config before after
 turns hears May config c before after (ready, is, h) = turns_if hears May config c ready before after h
 
@@ -224,7 +226,7 @@ written_fits port bytes answer config history waits other more also e =
 
 abbrev pub pending_keeps : {W : Type 0} (hears : W → Heard → W → Type 0) (May : Subject
     → Type 0) (config : Config) (port : Port) (bytes : List ℕ)
-    (may : May (about (WasWritten port bytes Pending))) (wire : W) (before between after : Moment W)
+    (may : May (about (WasWritten port bytes Pending))) (wire : W) (before between after : DriverView W)
     → hears before.wire (WasWritten port bytes Pending) wire → between ≡ record before { wire = wire }
     → IsSilent (WasWritten port bytes Pending)
     → IsCalm (WasWritten port bytes Pending) → WaitOn port config before.history bytes → after ≡ between
@@ -254,21 +256,21 @@ pending_keeps hears May config port bytes may wire before between after was is s
 
 abbrev pub write_by : {W : Type 0} (hears : W → Heard → W → Type 0) (May : Subject
     → Type 0) (config : Config) (port : Port) (may : May OfNone × May (OfConn (port_number port))) (bytes : List ℕ)
-    (answer : Answer ℕ) (wire : W) (before between after : Moment W) (log : List Act) (told : List ChannelAct)
+    (answer : Answer ℕ) (wire : W) (before between after : DriverView W) (log : List Act) (told : List ChannelAct)
     → IsLogOf config before.history log → HearsOf (device_acts log) told → bytes ≡ waiting_on told port log
     → IsWithin answer (length bytes) → hears before.wire (WasWritten port bytes answer) wire → between ≡ record before { wire = wire }
     → EndsWrite hears port answer config between after → Keeps hears May config before after
-write_by hears May config (Conn c) may bytes (Got n) wire before between after log told was tells_so waits few heard is happens =
+write_by hears May config (Conn c) may bytes (Got n) wire before between after log told was tells_so waits few heard is applied =
     answer_keeps hears May config (WasWritten (Conn c) bytes (Got n)) may.1 (Took
     (Conn c) n) wire before between after told log was tells_so
-    heard (ap (λ m. m.wire) is) (ap (λ m. m.history) is) happens refl refl (λ d. refl) (written_fits (Conn c) bytes
+    heard (ap (λ m. m.wire) is) (ap (λ m. m.history) is) applied refl refl (λ d. refl) (written_fits (Conn c) bytes
     (Got n) config before.history (log, told, was, tells_so, waits)) (λ n e. absurd cc) (λ d e. written_else (Conn c) bytes (Got n) d e)
     (λ trace d. step_took c n bytes trace d (of d log) told few
     (λ e. waits ∙ ap (λ (m : ℕ). waiting (of m log)) (eqb-true c d e)))
-write_by hears May config (Intr c) may bytes (Got n) wire before between after log told was tells_so waits few heard is happens =
+write_by hears May config (Intr c) may bytes (Got n) wire before between after log told was tells_so waits few heard is applied =
     answer_keeps hears May config (WasWritten (Intr c) bytes (Got n)) may.0 (Took
     (Intr c) n) wire before between after told log was tells_so
-    heard (ap (λ m. m.wire) is) (ap (λ m. m.history) is) happens refl refl (λ d. refl) (written_fits (Intr c) bytes
+    heard (ap (λ m. m.wire) is) (ap (λ m. m.history) is) applied refl refl (λ d. refl) (written_fits (Intr c) bytes
     (Got n) config before.history (log, told, was, tells_so, waits)) (λ n e. absurd cc) (λ d e. written_else (Intr c) bytes (Got n) d e)
     (λ trace d. step_sent c n bytes trace d (of d log) told few
     (λ e. waits ∙ ap (λ (m : ℕ). channel_waiting m told) (eqb-true c d e)))
@@ -287,10 +289,10 @@ write_by hears May config (Conn c) may bytes Failed wire before between after lo
     (λ trace so d e. inl (WasWritten (Conn c) bytes Failed, trace, refl, eq-eqb c d (closed_same c d e)))
     shuts
 write_by hears May config (Intr c) may bytes Failed wire before between after log told was tells_so waits few heard is
-    (hung, hangs, happens) =
+    (hung, hangs, applied) =
     let q = hangs_up hears May config may.0 c between hung hangs in
     let same : hung.history ≡ before.history = q.same ∙ ap (λ m. m.history) is in
-    let done = happened (Close (Intr c)) config hung after happens in
+    let done = happened (Close (Intr c)) config hung after applied in
     event_keeps hears May config (WasWritten (Intr c) bytes Failed) (Close (Intr c)) q.piece [] before after (record {
       hung = Some c;
       newer_adds = q.adds;
@@ -327,7 +329,7 @@ write_by hears May config (Intr c) may bytes Failed wire before between after lo
 
 abbrev pub writes : {W : Type 0} (hears : W → Heard → W → Type 0) (May : Subject
     → Type 0) (config : Config) (port : Port) (may : May OfNone × May (OfConn (port_number port)))
-    (before after : Moment W) → WritesTo hears port config before after → Keeps hears May config before after
+    (before after : DriverView W) → WritesTo hears port config before after → Keeps hears May config before after
 writes hears May config port may before after (bytes, (log, told, was, tells_so, waits), inl (none, same)) =
     keeps_none hears May config before after same
 writes hears May config port may before after
@@ -337,7 +339,7 @@ writes hears May config port may before after
 -- ---- and faulted connections end
 
 pub closes_if : {W : Type 0} (hears : W → Heard → W → Type 0) (May : Subject
-    → Type 0) (config : Config) (c : ℕ) (may : May OfNone × May (OfConn c)) (so : Bool) (before after : Moment W)
+    → Type 0) (config : Config) (c : ℕ) (may : May OfNone × May (OfConn c)) (so : Bool) (before after : DriverView W)
     (log : List Act) → IsLogOf config before.history log → is_faulted (of c log) ≡ true → (so ≡ true → waiting (of c log) ≡ [])
     → ClosesIf hears c so config before after → Keeps hears May config before after
 closes_if hears May config c may true before after log was faulted none h =
@@ -347,7 +349,7 @@ closes_if hears May config c may true before after log was faulted none h =
 closes_if hears May config c may false before after log was faulted none same = keeps_none hears May config before after same
 
 pub ends_if : {W : Type 0} (hears : W → Heard → W → Type 0) (May : Subject
-    → Type 0) (config : Config) (c : ℕ) (may : May OfNone × May (OfConn c)) (faulted : Bool) (before after : Moment W)
+    → Type 0) (config : Config) (c : ℕ) (may : May OfNone × May (OfConn c)) (faulted : Bool) (before after : DriverView W)
     (log : List Act) → IsLogOf config before.history log → faulted ≡ is_faulted (of c log)
     → EndsIf hears c faulted config before after → Keeps hears May config before after
 ends_if hears May config c may false before after log was is same = keeps_none hears May config before after same
@@ -357,6 +359,6 @@ ends_if hears May config c may true before after log was is (bytes, (other, told
     (λ e. sym (waits ∙ ap (λ (l : List Act). waiting (of c l)) one) ∙ nil_from_length bytes (eqb-true (length bytes) 0 e)) h
 
 pub ends : {W : Type 0} (hears : W → Heard → W → Type 0) (May : Subject
-    → Type 0) (config : Config) (c : ℕ) (may : May OfNone × May (OfConn c)) (before after : Moment W)
+    → Type 0) (config : Config) (c : ℕ) (may : May OfNone × May (OfConn c)) (before after : DriverView W)
     → Ends hears c config before after → Keeps hears May config before after
 ends hears May config c may before after (faulted, (log, was, is), h) = ends_if hears May config c may faulted before after log was is h

@@ -15,38 +15,39 @@ use Rattle.sv_laws.proofs.Brought.{is_tick}
 use Rattle.sv_serve.specs.declared.wire.Answer.{Answer}
 use Rattle.sv_serve.specs.declared.wire.Answer.TheVariants.{Got, Pending, Failed}
 use Rattle.sv_serve.specs.Heard.{Heard, WasClosed}
-use Rattle.sv_serve.specs.Moment.{Moment, Each}
-use Rattle.sv_serve.specs.Steps.{Hears, Given, Happens, Notes, called_of, Opens, Accepts, HangsUpOn, Closes, ClosesIf, Comes, Drops, ProbesIf, ReadsFrom, RefusesIf, EndsTurn, TurnsIf, Turns, KeepsCall, LetsGoOf, Rings, Picks, CallsFor, Dials, EndsWrite, WritesTo, EndsIf, Ends}
+use Rattle.sv_serve.specs.DriverView.{DriverView, ForEach}
+use Rattle.sv_serve.specs.Steps.{Hears, Given, Applies, Remembers, called_of, Opens, Accepts, ClosesChannelOn, Closes, ClosesIf, Comes, Drops, ProbesIf, ReadsFrom, RefusesIf, EndsTurn, TurnsIf, Turns, KeepsCall, CancelsUnwanted, ConnectResult, PollResult, CallsFor, Dials, EndsWrite, WritesTo, EndsIf, Ends}
 use Rattle.sv_serve.specs.Timed.{is_timed}
 
 -- what is to come, how many milliseconds passed, and what time brought, is as before
-abbrev pub Idles : {W : Type 0} → Moment W → Moment W → Type 0
+abbrev pub Idles : {W : Type 0} → DriverView W → DriverView W → Type 0
 Idles a b = (b.ahead ≡ a.ahead) × (b.ticks ≡ a.ticks) × (filter is_timed b.history ≡ filter is_timed a.history)
     × (filter is_tick b.history ≡ filter is_tick a.history)
 
-pub idles_same : {W : Type 0} (a b : Moment W) → b ≡ a → Idles a b
+pub idles_same : {W : Type 0} (a b : DriverView W) → b ≡ a → Idles a b
 idles_same a b is =
     (ap (λ m. m.ahead) is, ap (λ m. m.ticks) is, ap (λ m. filter is_timed m.history) is, ap (λ m. filter is_tick m.history) is)
 
-pub idles_then : {W : Type 0} (a b c : Moment W) → Idles a b → Idles b c → Idles a c
+pub idles_then : {W : Type 0} (a b c : DriverView W) → Idles a b → Idles b c → Idles a c
 idles_then a b c x y = (y.0 ∙ x.0, y.1 ∙ x.1, y.2 ∙ x.2, y.3 ∙ x.3)
 
-pub idles_each : {W : Type 0} (config : Config) (step : ℕ → Config → Moment W → Moment W → Type 0) (n : ℕ)
-    → ((c : ℕ) (a b : Moment W) → step c config a b → Idles a b) → (a b : Moment W) → Each n step config a b → Idles a b
+pub idles_each : {W : Type 0} (config : Config) (step : ℕ → Config → DriverView W → DriverView W → Type 0) (n : ℕ)
+    → ((c : ℕ) (a b : DriverView W) → step c config a b → Idles a b) → (a b : DriverView W) → ForEach n step config a b → Idles a b
 idles_each config step zero each a b is = idles_same a b is
 idles_each config step (suc n) each a b (m, front, last) = idles_then a m b (idles_each config step n each a m front) (each n m b last)
 
-hears_idles : {W : Type 0} (hears : W → Heard → W → Type 0) (heard : Heard) (config : Config) (a b : Moment W)
+hears_idles : {W : Type 0} (hears : W → Heard → W → Type 0) (heard : Heard) (config : Config) (a b : DriverView W)
     → Hears hears heard config a b
     → Idles a b
 hears_idles hears heard config a b (wire, was, is) =
     (ap (λ m. m.ahead) is, ap (λ m. m.ticks) is, ap (λ m. filter is_timed m.history) is, ap (λ m. filter is_tick m.history) is)
 
-notes_idles : {W : Type 0} (c : ℕ) (dial : Option Dial) (config : Config) (a b : Moment W) → Notes c dial config a b → Idles a b
+notes_idles : {W : Type 0} (c : ℕ) (dial : Option Dial) (config : Config) (a b : DriverView W) → Remembers c dial config a b → Idles a b
 notes_idles c dial config a b is =
     (ap (λ m. m.ahead) is, ap (λ m. m.ticks) is, ap (λ m. filter is_timed m.history) is, ap (λ m. filter is_tick m.history) is)
 
-given_idles : {W : Type 0} (event : PlainEvent) (result : Result Did Refused) (config : Config) (a b : Moment W) → is_timed event ≡ false
+given_idles : {W : Type 0} (event : PlainEvent) (result : Result Did Refused) (config : Config) (a b : DriverView W) → is_timed event
+    ≡ false
     → is_tick event ≡ false → Given event result config a b → Idles a b
 given_idles event (Err refused) config a b e k (log, was, answers, is) = idles_same a b is
 given_idles event (Ok what) config a b e k (log, was, answers, is) = (
@@ -56,40 +57,40 @@ given_idles event (Ok what) config a b e k (log, was, answers, is) = (
   ap (λ m. filter is_tick m.history) is ∙ rw k refl,
 )
 
-happens_idles : {W : Type 0} (event : PlainEvent) (config : Config) (a b : Moment W) → is_timed event ≡ false → is_tick event ≡ false
-    → Happens event config a b → Idles a b
+happens_idles : {W : Type 0} (event : PlainEvent) (config : Config) (a b : DriverView W) → is_timed event ≡ false → is_tick event ≡ false
+    → Applies event config a b → Idles a b
 happens_idles event config a b e k given = given_idles event (Ok Done) config a b e k given
 
-opens_idles : {W : Type 0} (role : Role) (number : Option ℕ) (answer : Answer ⊤) (config : Config) (a b : Moment W)
+opens_idles : {W : Type 0} (role : Role) (number : Option ℕ) (answer : Answer ⊤) (config : Config) (a b : DriverView W)
     → Opens role number answer config a b → Idles a b
 opens_idles role (Some c) (Got all) config a b h = happens_idles (Open c role) config a b refl refl h
 opens_idles role (Some c) Pending config a b is = idles_same a b is
 opens_idles role (Some c) Failed config a b is = idles_same a b is
 opens_idles role None answer config a b is = idles_same a b is
 
-pub accepts_idles : {W : Type 0} (hears : W → Heard → W → Type 0) (role : Role) (config : Config) (a b : Moment W)
+pub accepts_idles : {W : Type 0} (hears : W → Heard → W → Type 0) (role : Role) (config : Config) (a b : DriverView W)
     → Accepts hears role config a b → Idles a b
 accepts_idles hears role config a b (number, answer, low, (m, heard, opens)) =
     idles_then a m b (hears_idles hears _ config a m heard) (opens_idles role number answer config m b opens)
 
-hangs_idles : {W : Type 0} (hears : W → Heard → W → Type 0) (c : ℕ) (found : Option Dial) (config : Config) (a b : Moment W)
-    → HangsUpOn hears c found config a b → Idles a b
+hangs_idles : {W : Type 0} (hears : W → Heard → W → Type 0) (c : ℕ) (found : Option Dial) (config : Config) (a b : DriverView W)
+    → ClosesChannelOn hears c found config a b → Idles a b
 hangs_idles hears c None config a b is = idles_same a b is
 hangs_idles hears c (Some dial) config a b (m, heard, notes) =
     idles_then a m b (hears_idles hears (WasClosed (Intr c)) config a m heard) (notes_idles c None config m b notes)
 
-closes_idles : {W : Type 0} (hears : W → Heard → W → Type 0) (c : ℕ) (config : Config) (a b : Moment W) → Closes hears c config a b
+closes_idles : {W : Type 0} (hears : W → Heard → W → Type 0) (c : ℕ) (config : Config) (a b : DriverView W) → Closes hears c config a b
     → Idles a b
 closes_idles hears c config a b (m, heard, (n, hangs, applies)) = idles_then a m b (hears_idles hears (WasClosed (Conn c)) config a m heard)
     (idles_then m n b (hangs_idles hears c (called_of c m) config m n hangs) (happens_idles (Close (Conn c)) config n b refl refl applies))
 
-comes_idles : {W : Type 0} (hears : W → Heard → W → Type 0) (c : ℕ) (answer : Answer (List ℕ)) (config : Config) (a b : Moment W)
+comes_idles : {W : Type 0} (hears : W → Heard → W → Type 0) (c : ℕ) (answer : Answer (List ℕ)) (config : Config) (a b : DriverView W)
     → Comes hears c answer config a b → Idles a b
 comes_idles hears c (Got bytes) config a b h = happens_idles (Bytes c bytes) config a b refl refl h
 comes_idles hears c Pending config a b is = idles_same a b is
 comes_idles hears c Failed config a b h = closes_idles hears c config a b h
 
-probes_idles : {W : Type 0} (hears : W → Heard → W → Type 0) (c : ℕ) (opened : Bool) (config : Config) (a b : Moment W)
+probes_idles : {W : Type 0} (hears : W → Heard → W → Type 0) (c : ℕ) (opened : Bool) (config : Config) (a b : DriverView W)
     → ProbesIf hears c opened config a b → Idles a b
 probes_idles hears c false config a b is = idles_same a b is
 probes_idles hears c true config a b (drops, answer, overlong, (m, heard, gone)) =
@@ -100,54 +101,55 @@ probes_idles hears c true config a b (drops, answer, overlong, (m, heard, gone))
     by Pending is = idles_same m b is
     by Failed h = closes_idles hears c config m b h
 
-pub reads_idles : {W : Type 0} (hears : W → Heard → W → Type 0) (c : ℕ) (config : Config) (a b : Moment W) → ReadsFrom hears c config a b
+pub reads_idles : {W : Type 0} (hears : W → Heard → W → Type 0) (c : ℕ) (config : Config) (a b : DriverView W)
+    → ReadsFrom hears c config a b
     → Idles a b
 reads_idles hears c config a b (most, room, inl (none, (opened, is_open, probes))) = probes_idles hears c opened config a b probes
 reads_idles hears c config a b (most, room, inr (some, answer, few, (m, heard, comes))) =
     idles_then a m b (hears_idles hears _ config a m heard) (comes_idles hears c answer config m b comes)
 
-refuses_idles : {W : Type 0} (c : ℕ) (so : Bool) (config : Config) (a b : Moment W) → RefusesIf c so config a b → Idles a b
+refuses_idles : {W : Type 0} (c : ℕ) (so : Bool) (config : Config) (a b : DriverView W) → RefusesIf c so config a b → Idles a b
 refuses_idles c true config a b h = happens_idles (Refuse c) config a b refl refl h
 refuses_idles c false config a b is = idles_same a b is
 
-ends_turn_idles : {W : Type 0} (c : ℕ) (result : Result Did Refused) (config : Config) (a b : Moment W) → EndsTurn c result config a b
+ends_turn_idles : {W : Type 0} (c : ℕ) (result : Result Did Refused) (config : Config) (a b : DriverView W) → EndsTurn c result config a b
     → Idles a b
 ends_turn_idles c (Ok did) config a b is = idles_same a b is
 ends_turn_idles c (Err refused) config a b h = refuses_idles c (is_no_memory refused) config a b h
 
-turns_if_idles : {W : Type 0} (c : ℕ) (ready : Bool) (config : Config) (a b : Moment W) → TurnsIf c ready config a b → Idles a b
+turns_if_idles : {W : Type 0} (c : ℕ) (ready : Bool) (config : Config) (a b : DriverView W) → TurnsIf c ready config a b → Idles a b
 turns_if_idles c false config a b is = idles_same a b is
 turns_if_idles c true config a b (result, (m, given, ends)) =
     idles_then a m b (given_idles (Turn c) result config a m refl refl given) (ends_turn_idles c result config m b ends)
 
-pub turns_idles : {W : Type 0} (c : ℕ) (config : Config) (a b : Moment W) → Turns c config a b → Idles a b
+pub turns_idles : {W : Type 0} (c : ℕ) (config : Config) (a b : DriverView W) → Turns c config a b → Idles a b
 turns_idles c config a b (ready, is, h) = turns_if_idles c ready config a b h
 
-keeps_call_idles : {W : Type 0} (hears : W → Heard → W → Type 0) (c : ℕ) (so : Bool) (config : Config) (a b : Moment W)
+keeps_call_idles : {W : Type 0} (hears : W → Heard → W → Type 0) (c : ℕ) (so : Bool) (config : Config) (a b : DriverView W)
     → KeepsCall hears c so config a b → Idles a b
 keeps_call_idles hears c true config a b is = idles_same a b is
 keeps_call_idles hears c false config a b h = hangs_idles hears c (called_of c a) config a b h
 
-lets_go_idles : {W : Type 0} (hears : W → Heard → W → Type 0) (c : ℕ) (called : Option Dial) (config : Config) (a b : Moment W)
-    → LetsGoOf hears c called config a b → Idles a b
+lets_go_idles : {W : Type 0} (hears : W → Heard → W → Type 0) (c : ℕ) (called : Option Dial) (config : Config) (a b : DriverView W)
+    → CancelsUnwanted hears c called config a b → Idles a b
 lets_go_idles hears c None config a b is = idles_same a b is
 lets_go_idles hears c (Some called) config a b (channel, wanted, opened, wants, h) = keeps_call_idles hears c _ config a b h
 
-rings_idles : {W : Type 0} (c : ℕ) (dial : Dial) (answer : Answer ⊤) (config : Config) (a b : Moment W)
-    → Rings c dial answer config a b → Idles a b
+rings_idles : {W : Type 0} (c : ℕ) (dial : Dial) (answer : Answer ⊤) (config : Config) (a b : DriverView W)
+    → ConnectResult c dial answer config a b → Idles a b
 rings_idles c dial (Got all) config a b (m, notes, applies) =
     idles_then a m b (notes_idles c (Some dial) config a m notes) (happens_idles (Dialed c true) config m b refl refl applies)
 rings_idles c dial Pending config a b notes = notes_idles c (Some dial) config a b notes
 rings_idles c dial Failed config a b applies = happens_idles (Dialed c false) config a b refl refl applies
 
-picks_idles : {W : Type 0} (hears : W → Heard → W → Type 0) (c : ℕ) (answer : Answer ⊤) (config : Config) (a b : Moment W)
-    → Picks hears c answer config a b → Idles a b
+picks_idles : {W : Type 0} (hears : W → Heard → W → Type 0) (c : ℕ) (answer : Answer ⊤) (config : Config) (a b : DriverView W)
+    → PollResult hears c answer config a b → Idles a b
 picks_idles hears c (Got all) config a b applies = happens_idles (Dialed c true) config a b refl refl applies
 picks_idles hears c Pending config a b is = idles_same a b is
 picks_idles hears c Failed config a b (m, hangs, applies) =
     idles_then a m b (hangs_idles hears c (called_of c a) config a m hangs) (happens_idles (Dialed c false) config m b refl refl applies)
 
-calls_idles : {W : Type 0} (hears : W → Heard → W → Type 0) (c : ℕ) (wanted called : Option Dial) (config : Config) (a b : Moment W)
+calls_idles : {W : Type 0} (hears : W → Heard → W → Type 0) (c : ℕ) (wanted called : Option Dial) (config : Config) (a b : DriverView W)
     → CallsFor hears c wanted called config a b → Idles a b
 calls_idles hears c None called config a b is = idles_same a b is
 calls_idles hears c (Some dial) None config a b (answer, (m, heard, h)) =
@@ -155,12 +157,12 @@ calls_idles hears c (Some dial) None config a b (answer, (m, heard, h)) =
 calls_idles hears c (Some dial) (Some called) config a b (answer, (m, heard, h)) =
     idles_then a m b (hears_idles hears _ config a m heard) (picks_idles hears c answer config m b h)
 
-pub dials_idles : {W : Type 0} (hears : W → Heard → W → Type 0) (c : ℕ) (config : Config) (a b : Moment W) → Dials hears c config a b
+pub dials_idles : {W : Type 0} (hears : W → Heard → W → Type 0) (c : ℕ) (config : Config) (a b : DriverView W) → Dials hears c config a b
     → Idles a b
 dials_idles hears c config a b (m, goes, (wanted, wants, h)) = idles_then a m b (lets_go_idles hears c (called_of c a) config a m goes)
     (calls_idles hears c wanted (called_of c m) config m b h)
 
-ends_write_idles : {W : Type 0} (hears : W → Heard → W → Type 0) (port : Port) (answer : Answer ℕ) (config : Config) (a b : Moment W)
+ends_write_idles : {W : Type 0} (hears : W → Heard → W → Type 0) (port : Port) (answer : Answer ℕ) (config : Config) (a b : DriverView W)
     → EndsWrite hears port answer config a b → Idles a b
 ends_write_idles hears port (Got n) config a b h = happens_idles (Took port n) config a b refl refl h
 ends_write_idles hears port Pending config a b is = idles_same a b is
@@ -168,23 +170,23 @@ ends_write_idles hears (Conn c) Failed config a b h = closes_idles hears c confi
 ends_write_idles hears (Intr c) Failed config a b (m, hangs, applies) =
     idles_then a m b (hangs_idles hears c (called_of c a) config a m hangs) (happens_idles (Close (Intr c)) config m b refl refl applies)
 
-pub writes_idles : {W : Type 0} (hears : W → Heard → W → Type 0) (port : Port) (config : Config) (a b : Moment W)
+pub writes_idles : {W : Type 0} (hears : W → Heard → W → Type 0) (port : Port) (config : Config) (a b : DriverView W)
     → WritesTo hears port config a b
     → Idles a b
 writes_idles hears port config a b (bytes, waits, inl (none, is)) = idles_same a b is
 writes_idles hears port config a b (bytes, waits, inr (some, answer, few, (m, heard, ends))) =
     idles_then a m b (hears_idles hears _ config a m heard) (ends_write_idles hears port answer config m b ends)
 
-closes_if_idles : {W : Type 0} (hears : W → Heard → W → Type 0) (c : ℕ) (so : Bool) (config : Config) (a b : Moment W)
+closes_if_idles : {W : Type 0} (hears : W → Heard → W → Type 0) (c : ℕ) (so : Bool) (config : Config) (a b : DriverView W)
     → ClosesIf hears c so config a b → Idles a b
 closes_if_idles hears c true config a b h = closes_idles hears c config a b h
 closes_if_idles hears c false config a b is = idles_same a b is
 
-ends_if_idles : {W : Type 0} (hears : W → Heard → W → Type 0) (c : ℕ) (so : Bool) (config : Config) (a b : Moment W)
+ends_if_idles : {W : Type 0} (hears : W → Heard → W → Type 0) (c : ℕ) (so : Bool) (config : Config) (a b : DriverView W)
     → EndsIf hears c so config a b → Idles a b
 ends_if_idles hears c false config a b is = idles_same a b is
 ends_if_idles hears c true config a b (bytes, waits, h) = closes_if_idles hears c (length bytes == 0) config a b h
 
-pub ends_idles : {W : Type 0} (hears : W → Heard → W → Type 0) (c : ℕ) (config : Config) (a b : Moment W) → Ends hears c config a b
+pub ends_idles : {W : Type 0} (hears : W → Heard → W → Type 0) (c : ℕ) (config : Config) (a b : DriverView W) → Ends hears c config a b
     → Idles a b
 ends_idles hears c config a b (faulted, is, h) = ends_if_idles hears c faulted config a b h

@@ -18,8 +18,8 @@ use Rattle.sv_history.proofs.AlwaysTold.{some_told}
 use Rattle.sv_laws.specs.Laws.{Suits}
 use Rattle.sv_laws.proofs.Brought.{brings, tells}
 use Rattle.sv_serve.specs.Heard.{Heard, WasAccepted, WasRead, WasProbed, WasWritten, WasClosed}
-use Rattle.sv_serve.specs.Moment.{Moment, Each}
-use Rattle.sv_serve.specs.Steps.{Given, Happens, called_of, HangsUpOn, HangsUp}
+use Rattle.sv_serve.specs.DriverView.{DriverView, ForEach}
+use Rattle.sv_serve.specs.Steps.{Given, Applies, called_of, ClosesChannelOn, ClosesChannel}
 use Rattle.sv_serve.specs.Sweep.{Applies}
 use Rattle.sv_serve.specs.Served.{Through, event_of, is_outer}
 use Rattle.sv_serve.specs.Carried.{ClosesAtOnce}
@@ -56,7 +56,7 @@ may_join May (heard ∷ one) other h k = (h.0, may_join May one other h.1 k)
 
 -- From one moment to another one: what was heard, what happened, and what it keeps.
 pub record Keeps {W : Type 0} (hears : W → Heard → W → Type 0) (May : Subject
-    → Type 0) (config : Config) (before after : Moment W) : Type 0 where
+    → Type 0) (config : Config) (before after : DriverView W) : Type 0 where
   pub piece : List Heard
   pub events : List PlainEvent
   pub through : Through hears piece before.wire after.wire
@@ -76,7 +76,7 @@ through_join hears one [] a b c x y = subst (λ w. Through hears one a w) (sym y
 through_join hears one (heard ∷ other) a b c x (between, y, z) = (between, through_join hears one other a b between x y, z)
 
 abbrev pub keeps_none : {W : Type 0} (hears : W → Heard → W → Type 0) (May : Subject
-    → Type 0) (config : Config) (before after : Moment W) → after ≡ before
+    → Type 0) (config : Config) (before after : DriverView W) → after ≡ before
     → Keeps hears May config before after
 keeps_none hears May config before after is = record {
   piece = [];
@@ -91,7 +91,7 @@ keeps_none hears May config before after is = record {
   lets = λ trace so h. subst (λ l. LetsGoRightly config l trace) (sym (ap (λ m. m.history) is)) h;
 }
 
-abbrev pub keeps_then : {W : Type 0} (hears : W → Heard → W → Type 0) (May : Subject → Type 0) (config : Config) (a b c : Moment W)
+abbrev pub keeps_then : {W : Type 0} (hears : W → Heard → W → Type 0) (May : Subject → Type 0) (config : Config) (a b c : DriverView W)
     → Keeps hears May config a b
     → Keeps hears May config b c → Keeps hears May config a c
 keeps_then hears May config a b c x y = record {
@@ -111,10 +111,10 @@ keeps_then hears May config a b c x y = record {
       (y.lets (x.piece ++ trace) (ap (filter is_outer) x.grown ∙ told_more x.events a.history x.piece trace x.told so) (x.lets trace so h));
 }
 
-pub keeps_each : {W : Type 0} (hears : W → Heard → W → Type 0) (May : Subject → Type 0) (config : Config) (step : ℕ → Config → Moment W
-    → Moment W → Type 0) (n : ℕ)
-    → ((c : ℕ) (a b : Moment W) → c < n → step c config a b → Keeps hears May config a b)
-    → (before after : Moment W) → Each n step config before after → Keeps hears May config before after
+pub keeps_each : {W : Type 0} (hears : W → Heard → W → Type 0) (May : Subject → Type 0) (config : Config) (step : ℕ → Config → DriverView W
+    → DriverView W → Type 0) (n : ℕ)
+    → ((c : ℕ) (a b : DriverView W) → c < n → step c config a b → Keeps hears May config a b)
+    → (before after : DriverView W) → ForEach n step config before after → Keeps hears May config before after
 keeps_each hears May config step zero each before after is = keeps_none hears May config before after is
 keeps_each hears May config step (suc n) each before after (between, front, last) =
     keeps_then hears May config before between after
@@ -128,7 +128,7 @@ silent_events [] silent = refl
 silent_events (heard ∷ piece) silent = rw silent.0.0 (silent_events piece silent.1)
 
 pub record Quiet {W : Type 0} (hears : W → Heard → W → Type 0) (May : Subject
-    → Type 0) (hung : Option ℕ) (before after : Moment W) : Type 0 where
+    → Type 0) (hung : Option ℕ) (before after : DriverView W) : Type 0 where
   pub piece : List Heard
   pub through : Through hears piece before.wire after.wire
   pub same : after.history ≡ before.history
@@ -139,7 +139,7 @@ pub record Quiet {W : Type 0} (hears : W → Heard → W → Type 0) (May : Subj
   pub may : AllMay May piece
 
 abbrev pub quiet_keeps : {W : Type 0} (hears : W → Heard → W → Type 0) (May : Subject
-    → Type 0) (config : Config) (hung : Option ℕ) (before after : Moment W) → Quiet hears May hung before after
+    → Type 0) (config : Config) (hung : Option ℕ) (before after : DriverView W) → Quiet hears May hung before after
     → ((trace : List Heard) → filter is_outer before.history ≡ flat_map event_of trace → (d : ℕ) → hung ≡ Some d
     → IsEnd d config before.history trace)
     → Keeps hears May config before after
@@ -159,7 +159,7 @@ quiet_keeps hears May config hung before after q reason = record {
       (q.adds config before.history trace (reason trace so) h);
 }
 
-pub quiet_none : {W : Type 0} (hears : W → Heard → W → Type 0) (May : Subject → Type 0) (hung : Option ℕ) (before after : Moment W)
+pub quiet_none : {W : Type 0} (hears : W → Heard → W → Type 0) (May : Subject → Type 0) (hung : Option ℕ) (before after : DriverView W)
     → after ≡ before → Quiet hears May hung before after
 quiet_none hears May hung before after is =
     record {
@@ -175,7 +175,7 @@ quiet_none hears May hung before after is =
     }
 
 abbrev pub quiet_one : {W : Type 0} (hears : W → Heard → W → Type 0) (May : Subject
-    → Type 0) (hung : Option ℕ) (heard : Heard) (may : May (about heard)) (wire : W) (before after : Moment W)
+    → Type 0) (hung : Option ℕ) (heard : Heard) (may : May (about heard)) (wire : W) (before after : DriverView W)
     → hears before.wire heard wire
     → after.wire ≡ wire → after.history ≡ before.history → IsSilent heard → IsCalm heard → IsNoWrite heard
     → ((d : ℕ) → heard ≡ WasClosed (Intr d) → hung ≡ Some d) → Quiet hears May hung before after
@@ -192,7 +192,7 @@ quiet_one hears May hung heard may wire before after was there same silent calm 
 
 -- the wire was asked, and nothing came of it
 abbrev pub only_heard : {W : Type 0} (hears : W → Heard → W → Type 0) (May : Subject
-    → Type 0) (config : Config) (heard : Heard) (may : May (about heard)) (wire : W) (before between after : Moment W)
+    → Type 0) (config : Config) (heard : Heard) (may : May (about heard)) (wire : W) (before between after : DriverView W)
     → hears before.wire heard wire → between ≡ record before { wire = wire } → IsSilent heard → IsCalm heard → IsNoWrite heard
     → IsNoHang heard → after ≡ between
     → Keeps hears May config before after
@@ -205,8 +205,8 @@ pub hung_is : (c d : ℕ) → WasClosed (Intr c) ≡ WasClosed (Intr d) → Some
 hung_is c d e = cc
 
 pub hangs_on : {W : Type 0} (hears : W → Heard → W → Type 0) (May : Subject
-    → Type 0) (config : Config) (may : May OfNone) (c : ℕ) (found : Option Dial) (before after : Moment W)
-    → HangsUpOn hears c found config before after → Quiet hears May (Some c) before after
+    → Type 0) (config : Config) (may : May OfNone) (c : ℕ) (found : Option Dial) (before after : DriverView W)
+    → ClosesChannelOn hears c found config before after → Quiet hears May (Some c) before after
 hangs_on hears May config may c None before after is = quiet_none hears May (Some c) before after is
 hangs_on hears May config may c (Some dial) before after (between, (wire, was, is), notes) = quiet_one hears May (Some c) (WasClosed
     (Intr c)) may wire before after was
@@ -214,28 +214,28 @@ hangs_on hears May config may c (Some dial) before after (between, (wire, was, i
     (refl, (λ port. refl), (λ port. refl), (λ port. refl)) (λ d. refl) (λ p b a e. absurd cc) (λ d e. hung_is c d e)
 
 pub hangs_up : {W : Type 0} (hears : W → Heard → W → Type 0) (May : Subject
-    → Type 0) (config : Config) (may : May OfNone) (c : ℕ) (before after : Moment W)
-    → HangsUp hears c config before after → Quiet hears May (Some c) before after
+    → Type 0) (config : Config) (may : May OfNone) (c : ℕ) (before after : DriverView W)
+    → ClosesChannel hears c config before after → Quiet hears May (Some c) before after
 hangs_up hears May config may c before after h = hangs_on hears May config may c (called_of c before) before after h
 
 -- ---- an event of the wire
 
 -- what suits is done
-pub applied : {W : Type 0} (config : Config) (event : PlainEvent) (before after : Moment W) (told : List ChannelAct) (log : List Act)
+pub applied : {W : Type 0} (config : Config) (event : PlainEvent) (before after : DriverView W) (told : List ChannelAct) (log : List Act)
     → IsLogOf config before.history log → HearsOf (device_acts log) told → Suits event told log → Applies event config before after
     → after ≡ record before { history = event ∷ before.history }
 applied config event before after told log was tells_so suits (result, (also, is_log, answers, is)) =
     is ∙ ap (λ (r : Result Did Refused). record before { history = history_after event r before.history })
     (suited config event before also result is_log answers (log, told, was, tells_so, suits))
 
-pub happened : {W : Type 0} (event : PlainEvent) (config : Config) (before after : Moment W) → Happens event config before after
+pub happened : {W : Type 0} (event : PlainEvent) (config : Config) (before after : DriverView W) → Applies event config before after
     → after ≡ record before { history = event ∷ before.history }
 happened event config before after (log, was, answers, is) = is
 
 -- the event of what was heard, with what is silent in front of it and behind it
 pub record Heeds {W : Type 0} (hears : W → Heard → W → Type 0) (May : Subject
     → Type 0) (config : Config) (heard : Heard) (event : PlainEvent)
-    (newer older : List Heard) (before after : Moment W) : Type 0 where
+    (newer older : List Heard) (before after : DriverView W) : Type 0 where
   pub hung : Option ℕ
   pub newer_adds : Adds hung newer
   pub newer_ends : (c : ℕ) → hung ≡ Some c → ends_port (Intr c) heard ≡ true
@@ -264,7 +264,7 @@ pub record Heeds {W : Type 0} (hears : W → Heard → W → Type 0) (May : Subj
 
 abbrev pub event_keeps : {W : Type 0} (hears : W → Heard → W → Type 0) (May : Subject
     → Type 0) (config : Config) (heard : Heard) (event : PlainEvent)
-    (newer older : List Heard) (before after : Moment W) → Heeds hears May config heard event newer older before after
+    (newer older : List Heard) (before after : DriverView W) → Heeds hears May config heard event newer older before after
     → Keeps hears May config before after
 event_keeps hears May config heard event newer older before after e = record {
   piece = newer ++ heard ∷ older;
@@ -291,17 +291,17 @@ event_keeps hears May config heard event newer older before after e = record {
 -- asked and answered: the event that it is happens
 abbrev pub answer_keeps : {W : Type 0} (hears : W → Heard → W → Type 0) (May : Subject
     → Type 0) (config : Config) (heard : Heard) (may : May (about heard)) (event : PlainEvent) (wire : W)
-    (before between after : Moment W) (told : List ChannelAct) (log : List Act) → IsLogOf config before.history log
+    (before between after : DriverView W) (told : List ChannelAct) (log : List Act) → IsLogOf config before.history log
     → HearsOf (device_acts log) told → hears before.wire heard wire
-    → between.wire ≡ wire → between.history ≡ before.history → Happens event config between after
+    → between.wire ≡ wire → between.history ≡ before.history → Applies event config between after
     → is_outer event ≡ true → event_of heard ≡ event ∷ [] → IsCalm heard → Fits config before.history heard → IsNoHang heard → ((c : ℕ)
     → heard ≡ WasClosed (Conn c) → ⊥)
     → ((trace : List Heard) (c : ℕ) → Both c (of c log) told trace
     → Both c (brings c event ++ of c log) (tells event log ++ told) (heard ∷ trace))
     → Keeps hears May config before after
-answer_keeps hears May config heard may event wire before between after told log was tells_so heard_so there same happens outer is calm
+answer_keeps hears May config heard may event wire before between after told log was tells_so heard_so there same applied outer is calm
     fits unhung stays step =
-    let done = happened event config between after happens in
+    let done = happened event config between after applied in
     event_keeps hears May config heard event [] [] before after (record {
       hung = None;
       newer_adds = adds_nothing None;
@@ -333,7 +333,7 @@ answer_keeps hears May config heard may event wire before between after told log
 
 abbrev pub inner_by : {W : Type 0} (hears : W → Heard → W → Type 0) (May : Subject
     → Type 0) (config : Config) (event : PlainEvent) (result : Result Did Refused)
-    (before after : Moment W) → is_outer event ≡ false → ((c : ℕ) → brings c event ≡ []) → ((log : List Act) → tells event log ≡ [])
+    (before after : DriverView W) → is_outer event ≡ false → ((c : ℕ) → brings c event ≡ []) → ((log : List Act) → tells event log ≡ [])
     → Given event result config before after
     → Keeps hears May config before after
 inner_by hears May config event (Err refused) before after inner none untold
@@ -357,7 +357,7 @@ inner_by hears May config event (Ok what) before after inner none untold (log, w
 }
 
 abbrev pub inner_applies : {W : Type 0} (hears : W → Heard → W → Type 0) (May : Subject
-    → Type 0) (config : Config) (event : PlainEvent) (before after : Moment W)
+    → Type 0) (config : Config) (event : PlainEvent) (before after : DriverView W)
     → is_outer event ≡ false → ((c : ℕ) → brings c event ≡ []) → ((log : List Act) → tells event log ≡ [])
     → Applies event config before after → Keeps hears May config before after
 inner_applies hears May config event before after inner none untold (result, given) =

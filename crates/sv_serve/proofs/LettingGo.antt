@@ -79,9 +79,9 @@ shut_by : (shut : Bool) → false ≡ not shut → shut ≡ true
 shut_by true e = refl
 shut_by false e = absurd cc
 
-pub let_go : (channel wanted shut : Bool) → (channel || wanted) ≡ false → channel ≡ not shut → shut ≡ true
-let_go true wanted shut e is = absurd cc
-let_go false wanted shut e is = shut_by shut is
+pub cancel_unwanted : (channel wanted shut : Bool) → (channel || wanted) ≡ false → channel ≡ not shut → shut ≡ true
+cancel_unwanted true wanted shut e is = absurd cc
+cancel_unwanted false wanted shut e is = shut_by shut is
 
 pub lets_event : (config : Config) (before after : List PlainEvent) (event : PlainEvent) (heard : Heard)
     (newer older trace : List Heard) (hung : Option ℕ)

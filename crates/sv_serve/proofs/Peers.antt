@@ -27,13 +27,13 @@ use Rattle.sv_laws.proofs.Brought.{brings, tells, peer_in, opened_to}
 use Rattle.sv_serve.specs.declared.wire.Answer.{Answer}
 use Rattle.sv_serve.specs.declared.wire.Answer.TheVariants.{Got, Pending, Failed}
 use Rattle.sv_serve.specs.Heard.{Heard, WasDialed, PeerAnswered, WasClosed}
-use Rattle.sv_serve.specs.Moment.{Moment, ◌then◌}
-use Rattle.sv_serve.specs.Steps.{Happens, called_of, is_wanted, KeepsCall, LetsGoOf, Rings, Picks, CallsFor, Dials}
+use Rattle.sv_serve.specs.DriverView.{DriverView, ◌then◌}
+use Rattle.sv_serve.specs.Steps.{Applies, called_of, is_wanted, KeepsCall, CancelsUnwanted, ConnectResult, PollResult, CallsFor, Dials}
 use Rattle.sv_serve.specs.Sweep.{PlaysOne, Plays, Counts, TicksOnce, Passes}
 use Rattle.sv_serve.specs.Served.{Through, event_of, is_outer}
 use Rattle.sv_serve.specs.Carried.{begins, read, taken}
 use Rattle.sv_serve.specs.Carried.{ends_port}
-use Rattle.sv_serve.proofs.LettingGo.{LetsGoRightly, IsNoHang, Adds, adds_nothing, none_hung, end_shut, let_go, hung_same}
+use Rattle.sv_serve.proofs.LettingGo.{LetsGoRightly, IsNoHang, Adds, adds_nothing, none_hung, end_shut, cancel_unwanted, hung_same}
 use Rattle.sv_serve.proofs.Handing.{HandsOver, IsNoWrite, NoneWritten, fits_none}
 use Rattle.sv_serve.proofs.Reasons.{IsCalm, AreCalm, closing_silent}
 use Rattle.sv_serve.proofs.Ports.{Both, AreSilent, holds_silent, step_opened, Keeping}
@@ -76,7 +76,7 @@ step_dialed c dial heard log told wanted still unread untaken opens trace d h =
 -- whoever is wanted is called for a call that waits
 pub dialed_keeps : {W : Type 0} (hears : W → Heard → W → Type 0) (May : Subject
     → Type 0) (config : Config) (c : ℕ) (may : May OfNone) (ok : Bool) (heard : Heard)
-    (mine : about heard ≡ OfNone) (newer : List Heard) (all_may : AllMay May newer) (before between after : Moment W) (log : List Act)
+    (mine : about heard ≡ OfNone) (newer : List Heard) (all_may : AllMay May newer) (before between after : DriverView W) (log : List Act)
     → IsLogOf config before.history log → Through hears (newer ++ heard ∷ []) before.wire between.wire
     → AreSilent newer → AreCalm newer → NoneWritten newer → IsNoWrite heard → (hung : Option ℕ) → Adds hung newer
     → ((n : ℕ) → hung ≡ Some n → ends_port (Intr n) heard ≡ true) → IsNoHang heard → between.history ≡ before.history
@@ -84,11 +84,11 @@ pub dialed_keeps : {W : Type 0} (hears : W → Heard → W → Type 0) (May : Su
     → ((d : ℕ) → heard ≡ WasClosed (Conn d) → ⊥)
     → ((told : List ChannelAct) (trace : List Heard) (d : ℕ) → Both d (of d log) told trace
     → Both d (brings d (Dialed c ok) ++ of d log) (tells (Dialed c ok) log ++ told) (heard ∷ trace))
-    → Happens (Dialed c ok) config between after → Keeps hears May config before after
+    → Applies (Dialed c ok) config between after → Keeps hears May config before after
 dialed_keeps hears May config c may ok heard mine newer all_may before between after log was through silent calm unwritten none hung adds
-    ends unhung same event itself stays step happens =
+    ends unhung same event itself stays step applied =
     let told = some_told (device_acts log) in
-    let done = happened (Dialed c ok) config between after happens in
+    let done = happened (Dialed c ok) config between after applied in
     event_keeps hears May config heard (Dialed c ok) newer [] before after (record {
       hung = hung;
       newer_adds = adds;
@@ -118,10 +118,11 @@ dialed_keeps hears May config c may ok heard mine newer all_may before between a
 
 pub rings : {W : Type 0} (hears : W → Heard → W → Type 0) (May : Subject
     → Type 0) (config : Config) (c : ℕ) (may : May OfNone) (dial : Dial) (answer : Answer ⊤) (wire : W)
-    (before between after : Moment W) (log : List Act) → IsLogOf config before.history log → Some dial ≡ dial_of c log
-    → hears before.wire (WasDialed c dial answer) wire → between ≡ record before { wire = wire } → Rings c dial answer config between after
+    (before between after : DriverView W) (log : List Act) → IsLogOf config before.history log → Some dial ≡ dial_of c log
+    → hears before.wire (WasDialed c dial answer) wire → between ≡ record before { wire = wire }
+    → ConnectResult c dial answer config between after
     → Keeps hears May config before after
-rings hears May config c may dial (Got all) wire before between after log was wanted heard is (noted, notes, happens) =
+rings hears May config c may dial (Got all) wire before between after log was wanted heard is (noted, notes, applied) =
     dialed_keeps hears May config c may true (WasDialed c dial (Got all)) refl [] tt before noted after log was (
       before.wire,
       refl,
@@ -130,46 +131,47 @@ rings hears May config c may dial (Got all) wire before between after log was wa
     )
     tt tt tt (λ p b a e. absurd cc) None (adds_nothing None) (λ n e. none_hung n e) (λ n e. absurd cc) (ap (λ m. m.history) notes ∙ ap
     (λ m. m.history) is) refl (λ d. refl) (λ d e. absurd cc)
-    (λ told. step_dialed c dial (WasDialed c dial (Got all)) log told wanted (λ d. refl) (λ d. refl) (λ port. refl) (λ d. refl)) happens
+    (λ told. step_dialed c dial (WasDialed c dial (Got all)) log told wanted (λ d. refl) (λ d. refl) (λ port. refl) (λ d. refl)) applied
 rings hears May config c may dial Pending wire before between after log was wanted heard is notes =
     quiet_keeps hears May config None before after (quiet_one hears May None (WasDialed c dial Pending) may wire before after heard
     (ap (λ m. m.wire) notes ∙ ap (λ m. m.wire) is) (ap (λ m. m.history) notes ∙ ap (λ m. m.history) is)
     (refl, (λ port. refl), (λ port. refl), (λ port. refl)) (λ d. refl) (λ p b a e. absurd cc) (λ d e. absurd cc))
     (λ trace so d e. none_hung d e)
-rings hears May config c may dial Failed wire before between after log was wanted heard is happens =
+rings hears May config c may dial Failed wire before between after log was wanted heard is applied =
     dialed_keeps hears May config c may false (WasDialed c dial Failed) refl [] tt before between after log was
     (before.wire, refl, subst (λ w. hears before.wire (WasDialed c dial Failed) w) (sym (ap (λ m. m.wire) is)) heard)
     tt tt tt (λ p b a e. absurd cc) None (adds_nothing None) (λ n e. none_hung n e) (λ n e. absurd cc) (ap (λ m. m.history) is) refl
     (λ d. refl) (λ d e. absurd cc)
     (λ told. step_else (Dialed c false) (WasDialed c dial Failed) log told (λ d. refl) refl (λ port. refl) (λ d. refl)
-    (λ port. refl)) happens
+    (λ port. refl)) applied
 
 pub picks : {W : Type 0} (hears : W → Heard → W → Type 0) (May : Subject
     → Type 0) (config : Config) (c : ℕ) (may : May OfNone) (dial : Dial) (answer : Answer ⊤) (wire : W)
-    (before between after : Moment W) (log : List Act) → IsLogOf config before.history log → Some dial ≡ dial_of c log
-    → hears before.wire (PeerAnswered c answer) wire → between ≡ record before { wire = wire } → Picks hears c answer config between after
+    (before between after : DriverView W) (log : List Act) → IsLogOf config before.history log → Some dial ≡ dial_of c log
+    → hears before.wire (PeerAnswered c answer) wire → between ≡ record before { wire = wire }
+    → PollResult hears c answer config between after
     → Keeps hears May config before after
-picks hears May config c may dial (Got all) wire before between after log was wanted heard is happens =
+picks hears May config c may dial (Got all) wire before between after log was wanted heard is applied =
     dialed_keeps hears May config c may true (PeerAnswered c (Got all)) refl [] tt before between after log was
     (before.wire, refl, subst (λ w. hears before.wire (PeerAnswered c (Got all)) w) (sym (ap (λ m. m.wire) is)) heard)
     tt tt tt (λ p b a e. absurd cc) None (adds_nothing None) (λ n e. none_hung n e) (λ n e. absurd cc) (ap (λ m. m.history) is) refl
     (λ d. refl) (λ d e. absurd cc)
-    (λ told. step_dialed c dial (PeerAnswered c (Got all)) log told wanted (λ d. refl) (λ d. refl) (λ port. refl) (λ d. refl)) happens
+    (λ told. step_dialed c dial (PeerAnswered c (Got all)) log told wanted (λ d. refl) (λ d. refl) (λ port. refl) (λ d. refl)) applied
 picks hears May config c may dial Pending wire before between after log was wanted heard is same =
     only_heard hears May config (PeerAnswered c Pending) may wire before between after heard is
     (refl, (λ port. refl), (λ port. refl), (λ port. refl)) (λ d. refl) (λ p b a e. absurd cc) (λ n e. absurd cc) same
-picks hears May config c may dial Failed wire before between after log was wanted heard is (hung, hangs, happens) =
+picks hears May config c may dial Failed wire before between after log was wanted heard is (hung, hangs, applied) =
     let q = hangs_up hears May config may c between hung hangs in
     dialed_keeps hears May config c may false (PeerAnswered c Failed) refl q.piece q.may before hung after log was
     (through_join hears (PeerAnswered c Failed ∷ []) q.piece before.wire between.wire hung.wire
     (before.wire, refl, subst (λ w. hears before.wire (PeerAnswered c Failed) w) (sym (ap (λ m. m.wire) is)) heard) q.through)
     q.silent q.calm q.unwritten (λ p b a e. absurd cc) (Some c) q.adds (λ n e. eq-eqb c n (hung_same c n e)) (λ n e. absurd cc)
     (q.same ∙ ap (λ m. m.history) is) refl (λ d. refl) (λ d e. absurd cc)
-    (λ told. step_else (Dialed c false) (PeerAnswered c Failed) log told (λ d. refl) refl (λ port. refl) (λ d. refl) (λ port. refl)) happens
+    (λ told. step_else (Dialed c false) (PeerAnswered c Failed) log told (λ d. refl) refl (λ port. refl) (λ d. refl) (λ port. refl)) applied
 
 pub calls_for : {W : Type 0} (hears : W → Heard → W → Type 0) (May : Subject
     → Type 0) (config : Config) (c : ℕ) (may : May OfNone) (wanted called : Option Dial)
-    (before after : Moment W) (log : List Act) → IsLogOf config before.history log → wanted ≡ dial_of c log
+    (before after : DriverView W) (log : List Act) → IsLogOf config before.history log → wanted ≡ dial_of c log
     → CallsFor hears c wanted called config before after → Keeps hears May config before after
 calls_for hears May config c may None called before after log was wants same = keeps_none hears May config before after same
 calls_for hears May config c may (Some dial) None before after log was wants (answer, (between, (wire, heard, is), h)) =
@@ -178,7 +180,7 @@ calls_for hears May config c may (Some dial) (Some called) before after log was 
     picks hears May config c may dial answer wire before between after log was wants heard is h
 
 pub keeps_call : {W : Type 0} (hears : W → Heard → W → Type 0) (May : Subject
-    → Type 0) (config : Config) (c : ℕ) (may : May OfNone) (so : Bool) (before after : Moment W)
+    → Type 0) (config : Config) (c : ℕ) (may : May OfNone) (so : Bool) (before after : DriverView W)
     → (so ≡ false → (log : List Act) × IsLogOf config before.history log × (is_port_shut (Intr c) log ≡ true))
     → KeepsCall hears c so config before after → Keeps hears May config before after
 keeps_call hears May config c may true before after shut same = keeps_none hears May config before after same
@@ -187,15 +189,15 @@ keeps_call hears May config c may false before after shut hangs =
     (λ trace so d e. end_shut c d config before.history trace at.0 at.1 at.2 so e)
 
 pub lets_go_of : {W : Type 0} (hears : W → Heard → W → Type 0) (May : Subject
-    → Type 0) (config : Config) (c : ℕ) (may : May OfNone) (called : Option Dial) (before after : Moment W)
-    → LetsGoOf hears c called config before after → Keeps hears May config before after
+    → Type 0) (config : Config) (c : ℕ) (may : May OfNone) (called : Option Dial) (before after : DriverView W)
+    → CancelsUnwanted hears c called config before after → Keeps hears May config before after
 lets_go_of hears May config c may None before after same = keeps_none hears May config before after same
 lets_go_of hears May config c may (Some called) before after (channel, wanted, is_open, wants, h) =
     keeps_call hears May config c may _ before after
-    (λ e. (is_open.0, is_open.1, let_go channel (is_wanted called wanted) (is_port_shut (Intr c) is_open.0) e is_open.2)) h
+    (λ e. (is_open.0, is_open.1, cancel_unwanted channel (is_wanted called wanted) (is_port_shut (Intr c) is_open.0) e is_open.2)) h
 
 pub dials : {W : Type 0} (hears : W → Heard → W → Type 0) (May : Subject
-    → Type 0) (config : Config) (c : ℕ) (may : May OfNone) (before after : Moment W)
+    → Type 0) (config : Config) (c : ℕ) (may : May OfNone) (before after : DriverView W)
     → Dials hears c config before after → Keeps hears May config before after
 dials hears May config c may before after (between, goes, (wanted, (log, was, wants), h)) = keeps_then hears May config before between after
     (lets_go_of hears May config c may (called_of c before) before between goes)
@@ -216,7 +218,7 @@ stimulus_untold (stimuli.Input channel microvolts) log = refl
 stimulus_untold stimuli.External log = refl
 
 -- what changes neither the wire nor the history
-pub keeps_else : {W : Type 0} (hears : W → Heard → W → Type 0) (May : Subject → Type 0) (config : Config) (before after : Moment W)
+pub keeps_else : {W : Type 0} (hears : W → Heard → W → Type 0) (May : Subject → Type 0) (config : Config) (before after : DriverView W)
     → after.wire ≡ before.wire
     → after.history ≡ before.history → Keeps hears May config before after
 keeps_else hears May config before after there same = record {
@@ -232,31 +234,32 @@ keeps_else hears May config before after there same = record {
   lets = λ trace so h. subst (λ l. LetsGoRightly config l trace) (sym same) h;
 }
 
-pub plays_one : {W : Type 0} (hears : W → Heard → W → Type 0) (May : Subject → Type 0) (config : Config) (before after : Moment W)
+pub plays_one : {W : Type 0} (hears : W → Heard → W → Type 0) (May : Subject → Type 0) (config : Config) (before after : DriverView W)
     → PlaysOne config before after → Keeps hears May config before after
 plays_one hears May config before after (entry, others, between, first, due, applies, is) = keeps_then hears May config before between after
     (inner_applies hears May config (stimulus_event entry.stimulus) before between (stimulus_inner entry.stimulus)
     (stimulus_none entry.stimulus) (stimulus_untold entry.stimulus) applies)
     (keeps_else hears May config between after (ap (λ m. m.wire) is) (ap (λ m. m.history) is))
 
-pub plays : {W : Type 0} (hears : W → Heard → W → Type 0) (May : Subject → Type 0) (config : Config) (before after : Moment W)
+pub plays : {W : Type 0} (hears : W → Heard → W → Type 0) (May : Subject → Type 0) (config : Config) (before after : DriverView W)
     → Plays config before after → Keeps hears May config before after
 plays hears May config before after (n, each, none) =
     keeps_each hears May config (λ i. PlaysOne) n (λ c a b lt h. plays_one hears May config a b h) before after each
 
 pub counts : {W : Type 0} (hears : W → Heard → W → Type 0) (May : Subject
-    → Type 0) (config : Config) (result : Result Did Refused) (before after : Moment W)
+    → Type 0) (config : Config) (result : Result Did Refused) (before after : DriverView W)
     → Counts result config before after → Keeps hears May config before after
 counts hears May config (Ok did) before after is = keeps_else hears May config before after (ap (λ m. m.wire) is) (ap (λ m. m.history) is)
 counts hears May config (Err refused) before after is = keeps_none hears May config before after is
 
-pub ticks_once : {W : Type 0} (hears : W → Heard → W → Type 0) (May : Subject → Type 0) (config : Config) (before after : Moment W)
+pub ticks_once : {W : Type 0} (hears : W → Heard → W → Type 0) (May : Subject → Type 0) (config : Config) (before after : DriverView W)
     → TicksOnce config before after → Keeps hears May config before after
 ticks_once hears May config before after (result, (between, given, h)) = keeps_then hears May config before between after
     (inner_by hears May config Tick result before between refl (λ c. refl) (λ l. refl) given)
     (counts hears May config result between after h)
 
-pub passes : {W : Type 0} (hears : W → Heard → W → Type 0) (May : Subject → Type 0) (config : Config) (ticks : ℕ) (before after : Moment W)
+pub passes : {W : Type 0} (hears : W → Heard → W → Type 0) (May : Subject → Type 0) (config : Config) (ticks : ℕ)
+    (before after : DriverView W)
     → Passes ticks config before after → Keeps hears May config before after
 passes hears May config ticks before after (between, each, last) = keeps_then hears May config before between after
     (keeps_each hears May config (λ i. Plays then TicksOnce) ticks (λ c a b lt h. keeps_then hears May config a h.0 b

@@ -5,7 +5,7 @@ use Rattle.sv_serve.specs.declared.wire.Answer.{Answer}
 use Rattle.sv_serve.specs.declared.wire.Answer.TheVariants.{Got, Pending, Failed}
 use Rattle.sv_history.specs.declared.event.Config.{Config}
 use Rattle.sv_serve.specs.Heard.{Heard, WasRead, bytes_of, IsWithin, IsPiece}
-use Rattle.sv_serve.specs.Moment.{Moment}
+use Rattle.sv_serve.specs.DriverView.{DriverView}
 use Rattle.sv_serve.specs.Steps.{Comes, ReadsUpTo}
 
 -- the buffer is what was read into, and what was behind that stays
@@ -30,7 +30,7 @@ asked_for len room size is long = grind (arith, is, long)
 
 -- as many bytes are asked for as there is room for, and what comes of them follows
 pub read_so : {W : Type 0} (hears : W → Heard → W → Type 0) (config : Config) (conn room size : ℕ) (answer : Answer ℕ) (buffer : List ℕ)
-    (before after : Moment W) (wire : W) → 0 < room → size ≡ min room 16384 → IsWithin answer size
+    (before after : DriverView W) (wire : W) → 0 < room → size ≡ min room 16384 → IsWithin answer size
     → hears before.wire (WasRead conn size (bytes_of answer buffer)) wire
     → Comes hears conn (bytes_of answer buffer) config (record before { wire = wire }) after
     → ReadsUpTo hears room conn config before after

@@ -16,7 +16,7 @@ use Rattle.sv_server.specs.Server.State.{StandsFor}
 use Rattle.sv_serve.specs.declared.wire.Answer.{Answer}
 use Rattle.sv_serve.specs.declared.wire.Answer.TheVariants.{Got, Pending, Failed}
 use Rattle.sv_serve.specs.Heard.{Heard, WasWritten, WasClosed, IsWithin as IsWithinMost}
-use Rattle.sv_serve.specs.Moment.{Moment, moment, Each}
+use Rattle.sv_serve.specs.DriverView.{DriverView, driver_view, ForEach}
 use Rattle.sv_serve.specs.Steps.{ReadsFrom, Dials, EndsWrite, WritesTo, Ends}
 use Rattle.sv_serve.specs.Sweep.{Sweeps}
 use Rattle.sv_serve.specs.Served.{Serves, Served}
@@ -43,13 +43,14 @@ mine_elsewhere c d lt (OfRead e) h = absurd h
 mine_elsewhere c d lt (OfConn e) h = λ same. absurd (omega (arith, lt, h, same))
 mine_elsewhere c d lt OfNone h = tt
 
-pub record Written {W : Type 0} (hears : W → Heard → W → Type 0) (config : Config) (c : ℕ) (heard : Heard) (x y : Moment W) : Type 0 where
+pub record Written {W : Type 0} (hears : W → Heard → W → Type 0) (config : Config) (c : ℕ) (heard : Heard)
+    (x y : DriverView W) : Type 0 where
   pub k : Keeps hears (Mine c) config x y
   pub newer : List Heard
   pub is : k.piece ≡ newer ++ heard ∷ []
 
 pub written : {W : Type 0} (hears : W → Heard → W → Type 0) (config : Config) (c : ℕ) (bytes : List ℕ) (answer : Answer ℕ) (wire : W)
-    (x between y : Moment W) (log : List Act) (told : List ChannelAct)
+    (x between y : DriverView W) (log : List Act) (told : List ChannelAct)
     → IsLogOf config x.history log → HearsOf (device_acts log) told → bytes ≡ waiting (of c log)
     → IsWithinMost answer (length bytes) → hears x.wire (WasWritten (Conn c) bytes answer) wire → between ≡ record x { wire = wire }
     → EndsWrite hears (Conn c) answer config between y → Written hears config c (WasWritten (Conn c) bytes answer) x y
@@ -73,7 +74,7 @@ written hears config c bytes Failed wire x between y log told was tells_so waits
 
 pub record WriteStep {W : Type 0} (hears : W → Heard → W
     → Type 0) (config : Config) (c : ℕ) (history events : List PlainEvent) (piece : List Heard)
-    (x y : Moment W) : Type 0 where
+    (x y : DriverView W) : Type 0 where
   pub k : Keeps hears (Mine c) config x y
   pub offered : Offered config c history (k.events ++ events) (k.piece ++ piece)
 
@@ -94,7 +95,7 @@ still_waits config c history events log after t is was =
     let waits = waits_calls grown.0 (of c after) grown.1 (within_log config (t.turn ++ (t.first ++ history)) after c was) in
     (waits.0, ap waiting grown.2 ∙ waits.1)
 
-pub write_step : {W : Type 0} (hears : W → Heard → W → Type 0) (config : Config) (c : ℕ) (x y : Moment W)
+pub write_step : {W : Type 0} (hears : W → Heard → W → Type 0) (config : Config) (c : ℕ) (x y : DriverView W)
     (history events : List PlainEvent) (piece : List Heard) → c < 16 → x.history ≡ events ++ history → Turned config c history events
     → WritesTo hears (Conn c) config x y → WriteStep hears config c history events piece x y
 write_step hears config c x y history events piece lt is t (bytes, (log, told, was, tells_so, waits), inl (none, same)) = record {
@@ -142,12 +143,12 @@ write_step hears config c x y history events piece lt is t
 
 pub record WritePhase {W : Type 0} (hears : W → Heard → W
     → Type 0) (config : Config) (n : ℕ) (history events : List PlainEvent) (piece : List Heard)
-    (x y : Moment W) : Type 0 where
+    (x y : DriverView W) : Type 0 where
   pub k : Keeps hears Unread config x y
   pub offered : (c : ℕ) → c < n → Offered config c history (k.events ++ events) (k.piece ++ piece)
   pub turned : (c : ℕ) → n ≤ c → c < 16 → Turned config c history (k.events ++ events)
 
-abbrev pub keeps_may : {W : Type 0} (hears : W → Heard → W → Type 0) (May Can : Subject → Type 0) (config : Config) (x y : Moment W)
+abbrev pub keeps_may : {W : Type 0} (hears : W → Heard → W → Type 0) (May Can : Subject → Type 0) (config : Config) (x y : DriverView W)
     → ((s : Subject) → May s → Can s) → Keeps hears May config x y → Keeps hears Can config x y
 keeps_may hears May Can config x y so k = record {
   piece = k.piece;
@@ -162,9 +163,9 @@ keeps_may hears May Can config x y so k = record {
   lets = k.lets;
 }
 
-pub write_phase : {W : Type 0} (hears : W → Heard → W → Type 0) (config : Config) (n : ℕ) (x y : Moment W)
+pub write_phase : {W : Type 0} (hears : W → Heard → W → Type 0) (config : Config) (n : ℕ) (x y : DriverView W)
     (history events : List PlainEvent) (piece : List Heard) → n ≤ 16 → x.history ≡ events ++ history
-    → ((c : ℕ) → c < 16 → Turned config c history events) → Each n (λ c. WritesTo hears (Conn c)) config x y
+    → ((c : ℕ) → c < 16 → Turned config c history events) → ForEach n (λ c. WritesTo hears (Conn c)) config x y
     → WritePhase hears config n history events piece x y
 write_phase hears config zero x y history events piece le is turned same = record {
   k = keeps_none hears Unread config x y same;
@@ -214,11 +215,11 @@ peers_elsewhere c OfNone h = tt
 abbrev pub Any : Subject → Type 0
 Any s = ⊤
 
-pub record SweptOnce {W : Type 0} (hears : W → Heard → W → Type 0) (config : Config) (x y : Moment W) : Type 0 where
+pub record SweptOnce {W : Type 0} (hears : W → Heard → W → Type 0) (config : Config) (x y : DriverView W) : Type 0 where
   pub k : Keeps hears Any config x y
   pub offered : (c : ℕ) → c < 16 → Offered config c x.history k.events k.piece
 
-pub sweep_once : {W : Type 0} (hears : W → Heard → W → Type 0) (config : Config) (ticks : ℕ) (x y : Moment W)
+pub sweep_once : {W : Type 0} (hears : W → Heard → W → Type 0) (config : Config) (ticks : ℕ) (x y : DriverView W)
     → Sweeps hears ticks config x y → SweptOnce hears config x y
 sweep_once hears config ticks m0 m10 (m1, s1, (m2, s2, (m3, s3, (m4, s4, (m5, s5, (m6, s6, (m7, s7, (m8, s8, (m9, s9, s10))))))))) =
     let k3 = keeps_then hears Any config m0 m2 m3 (keeps_then hears Any config m0 m1 m2
@@ -269,7 +270,7 @@ serves config c history events piece log is t =
 pub served : {W : Type 0} (hears : W → Heard → W → Type 0) → Served hears
 served hears config ticks history old new stands goes =
     let now = goes config history stands in
-    let s = sweep_once hears config ticks (moment old history) (moment new now.0) now.2 in
+    let s = sweep_once hears config ticks (driver_view old history) (driver_view new now.0) now.2 in
     let there : StandsFor new.server config (s.k.events ++ history) = subst (λ h. StandsFor new.server config h) s.k.grown now.1 in (
       s.k.events,
       s.k.piece,

@@ -31,20 +31,20 @@ use Rattle.sv_laws.proofs.ShutIsClear.{shut_is_clear}
 use Rattle.sv_serve.specs.declared.wire.Answer.{Answer}
 use Rattle.sv_serve.specs.declared.wire.Answer.TheVariants.{Got}
 use Rattle.sv_serve.specs.Heard.{Heard}
-use Rattle.sv_serve.specs.Moment.{Moment}
-use Rattle.sv_serve.specs.Steps.{Given, HangsUpOn, HangsUp, called_of, longest_piece}
+use Rattle.sv_serve.specs.DriverView.{DriverView}
+use Rattle.sv_serve.specs.Steps.{Given, ClosesChannelOn, ClosesChannel, called_of, longest_piece}
 use Rattle.sv_serve.specs.Asked.{IsOpen, HasRoom, IsFaulted, Wants, Waits, IsLowest}
 use Rattle.sv_serve.specs.Premises.{IsSuited, Handed, FoundNone, MayFindNone, FindsNoneIf}
 
 -- ---- what suits is done
 
-pub suited : {W : Type 0} (config : Config) (event : PlainEvent) (at : Moment W) (log : List Act) (result : Result Did Refused)
+pub suited : {W : Type 0} (config : Config) (event : PlainEvent) (at : DriverView W) (log : List Act) (result : Result Did Refused)
     → IsLogOf config at.history log → Answers config event log result → IsSuited event config at → result ≡ Ok Done
 suited config event at log result was answers (other, told, also, tells, suits) =
     nothing_lost config at.history event told other result also tells suits
     (subst (λ (l : List Act). Answers config event l result) (one_log config at.history log other was also) answers)
 
-pub refused : {W : Type 0} (config : Config) (c : ℕ) (at : Moment W) (log : List Act) (result : Result Did Refused)
+pub refused : {W : Type 0} (config : Config) (c : ℕ) (at : DriverView W) (log : List Act) (result : Result Did Refused)
     → IsLogOf config at.history log → Answers config (Refuse c) log result → FoundNone c config at → result ≡ Ok Done
 refused config c at log result was answers (other, also, none) = can_be_refused config at.history c other result also none
     (subst (λ (l : List Act). Answers config (Refuse c) l result) (one_log config at.history log other was also) answers)
@@ -54,7 +54,7 @@ refused config c at log result was answers (other, also, none) = can_be_refused 
 pub not_shut : (c : ℕ) (log : List Act) → c < 16 → is_open (of c log) ≡ true → is_port_shut (Conn c) log ≡ false
 not_shut c log lt opened = ap (λ (b : Bool). b || not (is_open (of c log))) (le-ltb 15 c (omega (arith, lt))) ∙ ap not opened
 
-open_by : {W : Type 0} (c : ℕ) (config : Config) (at : Moment W) (log : List Act) → c < 16 → IsLogOf config at.history log
+open_by : {W : Type 0} (c : ℕ) (config : Config) (at : DriverView W) (log : List Act) → c < 16 → IsLogOf config at.history log
     → is_open (of c log) ≡ true → IsOpen (Conn c) config at true
 open_by c config at log lt was opened = (log, was, sym (ap not (not_shut c log lt opened)))
 
@@ -70,12 +70,12 @@ has_waiting acts lt = elim (cases_Bool (is_open acts)) [
   | inr e ↦ absurd (let none : length (waiting acts) ≡ 0 = rw e refl in omega (arith, lt, none))
 ]
 
-pub room_open : {W : Type 0} (c room : ℕ) (config : Config) (at : Moment W) → c < 16 → 0 < room → HasRoom c config at room
+pub room_open : {W : Type 0} (c room : ℕ) (config : Config) (at : DriverView W) → c < 16 → 0 < room → HasRoom c config at room
     → IsOpen (Conn c) config at true
 room_open c room config at lt some (log, was, is) =
     open_by c config at log lt was (has_room (of c log) (subst (λ (n : ℕ). 0 < n) is some))
 
-pub waits_open : {W : Type 0} (c : ℕ) (bytes : List ℕ) (config : Config) (at : Moment W) → c < 16 → 0 < length bytes
+pub waits_open : {W : Type 0} (c : ℕ) (bytes : List ℕ) (config : Config) (at : DriverView W) → c < 16 → 0 < length bytes
     → Waits (Conn c) config at bytes → IsOpen (Conn c) config at true
 waits_open c bytes config at lt some (log, told, was, tells, is) =
     open_by c config at log lt was (has_waiting (of c log) (subst (λ (l : List ℕ). 0 < length l) is some))
@@ -94,7 +94,7 @@ some_role : (found : Option Role) → (found ≡ None → ⊥) → is_some found
 some_role (Some role) h = refl
 some_role None h = absurd (h refl)
 
-pub faulted_open : {W : Type 0} (c : ℕ) (config : Config) (at : Moment W) → c < 16 → IsFaulted c config at true
+pub faulted_open : {W : Type 0} (c : ℕ) (config : Config) (at : DriverView W) → c < 16 → IsFaulted c config at true
     → IsOpen (Conn c) config at true
 faulted_open c config at lt (log, was, is) = open_by c config at log lt was (some_role (open_role (of c log)) (λ none.
     let z : true ≡ false = is ∙ sym (clear_faulted (of c log) (shut_is_clear config at.history log c was none)) in cc))
@@ -119,81 +119,81 @@ shut_so : (b : Bool) → true ≡ not b → b ≡ false
 shut_so true e = absurd cc
 shut_so false e = refl
 
-pub open_suits : {W : Type 0} (c : ℕ) (role : Role) (config : Config) (at : Moment W) → IsLowest (Some c) config at
+pub open_suits : {W : Type 0} (c : ℕ) (role : Role) (config : Config) (at : DriverView W) → IsLowest (Some c) config at
     → IsSuited (Open c role) config at
 open_suits c role config at (lt, (log, was, is), lower) =
     let told = some_told (device_acts log) in
     (log, told.0, was, told.1, (lt, not_not (is_open (of c log)) (is ∙ rw (le-ltb 15 c (omega (arith, lt))) refl)))
 
-pub bytes_suit : {W : Type 0} (c room : ℕ) (bytes : List ℕ) (config : Config) (at : Moment W) → c < 16 → 0 < room
+pub bytes_suit : {W : Type 0} (c room : ℕ) (bytes : List ℕ) (config : Config) (at : DriverView W) → c < 16 → 0 < room
     → length bytes ≤ min room longest_piece → HasRoom c config at room → IsSuited (Bytes c bytes) config at
 bytes_suit c n bytes config at lt some few (log, was, is) =
     let told = some_told (device_acts log) in
     (log, told.0, was, told.1, (lt, subst (λ (m : ℕ). 0 < m) is some, subst (λ (m : ℕ). length bytes ≤ m) is (grind (arith, few))))
 
-pub close_suits : {W : Type 0} (port : Port) (config : Config) (at : Moment W) → IsOpen port config at true
+pub close_suits : {W : Type 0} (port : Port) (config : Config) (at : DriverView W) → IsOpen port config at true
     → IsSuited (Close port) config at
 close_suits port config at (log, was, is) =
     let told = some_told (device_acts log) in (log, told.0, was, told.1, shut_so (is_port_shut port log) is)
 
-pub took_suits : {W : Type 0} (port : Port) (n : ℕ) (config : Config) (at : Moment W) → port_number port < 16
+pub took_suits : {W : Type 0} (port : Port) (n : ℕ) (config : Config) (at : DriverView W) → port_number port < 16
     → Handed port (Got n) config at → IsSuited (Took port n) config at
 took_suits port n config at lt (bytes, (log, told, was, tells, is), some, few) =
     (log, told, was, tells, (lt, subst (λ (l : List ℕ). 0 < length l) is some, subst (λ (l : List ℕ). n ≤ length l) is few))
 
-channel_closes : {W : Type 0} (c : ℕ) (answer : Answer ℕ) (config : Config) (at : Moment W) → c < 16
+channel_closes : {W : Type 0} (c : ℕ) (answer : Answer ℕ) (config : Config) (at : DriverView W) → c < 16
     → Handed (Intr c) answer config at → IsSuited (Close (Intr c)) config at
 channel_closes c answer config at lt (bytes, (log, told, was, tells, is), some, few) =
     (log, told, was, tells, channel_open c told log lt tells (subst (λ (l : List ℕ). 0 < length l) is some))
 
-pub channel_suits : {W : Type 0} (port : Port) (c : ℕ) (answer : Answer ℕ) (config : Config) (at : Moment W) → port ≡ Intr c
+pub channel_suits : {W : Type 0} (port : Port) (c : ℕ) (answer : Answer ℕ) (config : Config) (at : DriverView W) → port ≡ Intr c
     → port_number port < 16 → Handed port answer config at → IsSuited (Close (Intr c)) config at
 channel_suits port c answer config at is lt handed = channel_closes c answer config at (subst (λ p. port_number p < 16) is lt)
     (subst (λ p. Handed p answer config at) is handed)
 
-conn_open : {W : Type 0} (c : ℕ) (answer : Answer ℕ) (config : Config) (at : Moment W) → c < 16
+conn_open : {W : Type 0} (c : ℕ) (answer : Answer ℕ) (config : Config) (at : DriverView W) → c < 16
     → Handed (Conn c) answer config at → IsOpen (Conn c) config at true
 conn_open c answer config at lt (bytes, waits, some, few) = waits_open c bytes config at lt some waits
 
-pub handed_open : {W : Type 0} (port : Port) (c : ℕ) (answer : Answer ℕ) (config : Config) (at : Moment W) → port ≡ Conn c
+pub handed_open : {W : Type 0} (port : Port) (c : ℕ) (answer : Answer ℕ) (config : Config) (at : DriverView W) → port ≡ Conn c
     → port_number port < 16 → Handed port answer config at → IsOpen (Conn c) config at true
 handed_open port c answer config at is lt handed = conn_open c answer config at (subst (λ p. port_number p < 16) is lt)
     (subst (λ p. Handed p answer config at) is handed)
 
-pub dialed_suits : {W : Type 0} (c : ℕ) (dial : Dial) (ok : Bool) (config : Config) (at : Moment W) → c < 16
+pub dialed_suits : {W : Type 0} (c : ℕ) (dial : Dial) (ok : Bool) (config : Config) (at : DriverView W) → c < 16
     → Wants c config at (Some dial) → IsSuited (Dialed c ok) config at
 dialed_suits c dial ok config at lt (log, was, is) =
     let told = some_told (device_acts log) in (log, told.0, was, told.1, (lt, dial, sym is))
 
 -- ---- what was so stays so while no event comes
 
-hung_on : {W : Type 0} (hears : W → Heard → W → Type 0) (c : ℕ) (found : Option Dial) (config : Config) (before after : Moment W)
-    → HangsUpOn hears c found config before after → after.history ≡ before.history
+hung_on : {W : Type 0} (hears : W → Heard → W → Type 0) (c : ℕ) (found : Option Dial) (config : Config) (before after : DriverView W)
+    → ClosesChannelOn hears c found config before after → after.history ≡ before.history
 hung_on hears c None config before after is = ap (λ m. m.history) is
 hung_on hears c (Some dial) config before after (between, (wire, was, is), notes) = ap (λ m. m.history) notes ∙ ap (λ m. m.history) is
 
-pub hung_same : {W : Type 0} (hears : W → Heard → W → Type 0) (c : ℕ) (config : Config) (before after : Moment W)
-    → HangsUp hears c config before after → after.history ≡ before.history
+pub hung_same : {W : Type 0} (hears : W → Heard → W → Type 0) (c : ℕ) (config : Config) (before after : DriverView W)
+    → ClosesChannel hears c config before after → after.history ≡ before.history
 hung_same hears c config before after h = hung_on hears c (called_of c before) config before after h
 
-pub still_suited : {W : Type 0} (event : PlainEvent) (config : Config) (before after : Moment W) → after.history ≡ before.history
+pub still_suited : {W : Type 0} (event : PlainEvent) (config : Config) (before after : DriverView W) → after.history ≡ before.history
     → IsSuited event config before → IsSuited event config after
 still_suited event config before after same (log, told, was, tells, suits) =
     (log, told, subst (λ (h : List PlainEvent). IsLogOf config h log) (sym same) was, tells, suits)
 
-pub still_wants : {W : Type 0} (c : ℕ) (found dial : Option Dial) (config : Config) (before after : Moment W)
+pub still_wants : {W : Type 0} (c : ℕ) (found dial : Option Dial) (config : Config) (before after : DriverView W)
     → after.history ≡ before.history
     → found ≡ dial → Wants c config before found → Wants c config after dial
 still_wants c found dial config before after same is (log, was, wants) =
     (log, subst (λ (h : List PlainEvent). IsLogOf config h log) (sym same) was, sym is ∙ wants)
 
-pub still_open : {W : Type 0} (port : Port) (found answer : Bool) (config : Config) (before after : Moment W)
+pub still_open : {W : Type 0} (port : Port) (found answer : Bool) (config : Config) (before after : DriverView W)
     → after.history ≡ before.history
     → found ≡ answer → IsOpen port config before found → IsOpen port config after answer
 still_open port found answer config before after same equal (log, was, is) =
     (log, subst (λ (h : List PlainEvent). IsLogOf config h log) (sym same) was, sym equal ∙ is)
 
-pub still_lowest : {W : Type 0} (number : Option ℕ) (config : Config) (before after : Moment W) → after.history ≡ before.history
+pub still_lowest : {W : Type 0} (number : Option ℕ) (config : Config) (before after : DriverView W) → after.history ≡ before.history
     → IsLowest number config before → IsLowest number config after
 still_lowest (Some c) config before after same (lt, free, lower) = (
   lt,
@@ -205,7 +205,7 @@ still_lowest None config before after same all = λ d less. still_open (Conn d) 
 -- ---- want of memory
 
 -- a Turn that finds none changes nothing
-pub may_find_none : {W : Type 0} (c : ℕ) (result : Result Did Refused) (config : Config) (before after : Moment W)
+pub may_find_none : {W : Type 0} (c : ℕ) (result : Result Did Refused) (config : Config) (before after : DriverView W)
     → Given (Turn c) result config before after → MayFindNone c result config after
 may_find_none c result config before after (log, was, answers, is) none =
     let same : after.history ≡ before.history =
@@ -228,6 +228,6 @@ no_memory BadChannel e = absurd cc
 no_memory BadInput e = absurd cc
 no_memory TimeOver e = absurd cc
 
-pub finds_none : {W : Type 0} (c : ℕ) (answer : Result Did Refused) (refused : Refused) (so : Bool) (config : Config) (at : Moment W)
+pub finds_none : {W : Type 0} (c : ℕ) (answer : Result Did Refused) (refused : Refused) (so : Bool) (config : Config) (at : DriverView W)
     → answer ≡ Err refused → so ≡ is_no_memory refused → MayFindNone c answer config at → FindsNoneIf c so config at
 finds_none c answer refused so config at is same may told = may (is ∙ ap Err (no_memory refused (sym same ∙ told)))

@@ -23,7 +23,7 @@ use Rattle.sv_laws.specs.Laws.{Suits}
 use Rattle.sv_laws.proofs.Brought.{is_tick}
 use Rattle.sv_laws.proofs.TicksTaken.{ticks_taken}
 use Rattle.sv_serve.specs.Heard.{Heard}
-use Rattle.sv_serve.specs.Moment.{Driving, Moment, moment, Each, ◌then◌}
+use Rattle.sv_serve.specs.DriverView.{DriverState, DriverView, driver_view, ForEach, ◌then◌}
 use Rattle.sv_serve.specs.Steps.{ReadsFrom, Turns, Dials, WritesTo, Ends}
 use Rattle.sv_serve.specs.Sweep.{PlaysOne, IsNoneDue, Plays, most_ticks, Counts, TicksOnce, Passes, Sweeps}
 use Rattle.sv_serve.specs.Timed.{is_timed, played, timed, handed}
@@ -82,7 +82,7 @@ timed_base (suc n) s = refl
 
 -- ---- what holds while a scenario is played
 
-pub record InPlay {W : Type 0} (config : Config) (s : List Entry) (n k : ℕ) (a : Moment W) : Type 0 where
+pub record InPlay {W : Type 0} (config : Config) (s : List Entry) (n k : ℕ) (a : DriverView W) : Type 0 where
   pub past : List Entry
   pub split : s ≡ past ++ a.ahead
   pub rising : IsScenario n a.ahead
@@ -93,7 +93,7 @@ pub record InPlay {W : Type 0} (config : Config) (s : List Entry) (n k : ℕ) (a
   pub within : config.clock + n ≤ last_clock
   pub reached : n ≡ min k (last_clock - config.clock)
 
-idle_play : {W : Type 0} (config : Config) (s : List Entry) (n k : ℕ) (a b : Moment W) → Idles a b → InPlay config s n k a
+idle_play : {W : Type 0} (config : Config) (s : List Entry) (n k : ℕ) (a b : DriverView W) → Idles a b → InPlay config s n k a
     → InPlay config s n k b
 idle_play config s n k a b idle p = record {
   past = p.past;
@@ -107,7 +107,7 @@ idle_play config s n k a b idle p = record {
   reached = p.reached;
 }
 
-timed_here : {W : Type 0} (config : Config) (s : List Entry) (n k : ℕ) (a : Moment W) → InPlay config s n k a → IsNoneDue n a.ahead
+timed_here : {W : Type 0} (config : Config) (s : List Entry) (n k : ℕ) (a : DriverView W) → InPlay config s n k a → IsNoneDue n a.ahead
     → filter is_timed a.history ≡ timed n s
 timed_here config s n k a p none =
     let later : played n a.ahead ≡ [] = played_later n (suc n) a.ahead (omega arith) (none_due n a.ahead p.rising none) in
@@ -126,7 +126,7 @@ stimulus_suits : (stimulus : Stimulus) (told : List ChannelAct) (log : List Act)
 stimulus_suits (stimuli.Input channel microvolts) told log h = h
 stimulus_suits stimuli.External told log h = tt
 
-play_one : {W : Type 0} (config : Config) (s : List Entry) (n k : ℕ) (a b : Moment W) → PlaysOne config a b → InPlay config s n k a
+play_one : {W : Type 0} (config : Config) (s : List Entry) (n k : ℕ) (a b : DriverView W) → PlaysOne config a b → InPlay config s n k a
     → InPlay config s n k b
 play_one config s n k a b (entry, others, m, first, due, (result, (log, was, answers, to)), is) p =
     let event = stimulus_event entry.stimulus in
@@ -154,19 +154,19 @@ play_one config s n k a b (entry, others, m, first, due, (result, (log, was, ans
       reached = p.reached;
     }
 
-play_each : {W : Type 0} (config : Config) (s : List Entry) (n k i : ℕ) (a b : Moment W) → Each i (λ j. PlaysOne) config a b
+play_each : {W : Type 0} (config : Config) (s : List Entry) (n k i : ℕ) (a b : DriverView W) → ForEach i (λ j. PlaysOne) config a b
     → InPlay config s n k a → InPlay config s n k b
 play_each config s n k zero a b is p = idle_play config s n k a b (idles_same a b is) p
 play_each config s n k (suc i) a b (m, front, last) p =
     play_one config s n k m b last (play_each config s n k i a m front p)
 
 -- with what is due played
-record Rests {W : Type 0} (config : Config) (s : List Entry) (k : ℕ) (a : Moment W) : Type 0 where
+record Rests {W : Type 0} (config : Config) (s : List Entry) (k : ℕ) (a : DriverView W) : Type 0 where
   pub n : ℕ
   pub play : InPlay config s n k a
   pub none : IsNoneDue n a.ahead
 
-plays : {W : Type 0} (config : Config) (s : List Entry) (n k : ℕ) (a b : Moment W) → Plays config a b → InPlay config s n k a
+plays : {W : Type 0} (config : Config) (s : List Entry) (n k : ℕ) (a b : DriverView W) → Plays config a b → InPlay config s n k a
     → Rests config s k b
 plays config s n k a b (i, each, none) p =
     let q = play_each config s n k i a b each p in
@@ -174,14 +174,14 @@ plays config s n k a b (i, each, none) p =
 
 -- ---- a millisecond passes
 
-pub record Played {W : Type 0} (config : Config) (s : List Entry) (k : ℕ) (a : Moment W) : Type 0 where
+pub record Played {W : Type 0} (config : Config) (s : List Entry) (k : ℕ) (a : DriverView W) : Type 0 where
   pub n : ℕ
   pub play : InPlay config s n k a
 
 no_longer : {A : Type 0} (event : PlainEvent) (history : List PlainEvent) → event ∷ history ≡ history → A
 no_longer event history e = absurd (let same = ap length e in omega (arith, same))
 
-tick_full : {W : Type 0} (config : Config) (s : List Entry) (k : ℕ) (a m b : Moment W) (result : Result Did Refused)
+tick_full : {W : Type 0} (config : Config) (s : List Entry) (k : ℕ) (a m b : DriverView W) (result : Result Did Refused)
     → (r : Rests config s k a)
     → config.clock + r.n ≡ last_clock → history_after Tick result a.history ≡ a.history
     → m ≡ record a { history = history_after Tick result a.history } → Counts result config m b → Played config s (k + 1) b
@@ -203,7 +203,7 @@ tick_full config s k a m b (Err refused) r full same is counts =
       };
     }
 
-tick_more : {W : Type 0} (config : Config) (s : List Entry) (k : ℕ) (a m b : Moment W) → (r : Rests config s k a)
+tick_more : {W : Type 0} (config : Config) (s : List Entry) (k : ℕ) (a m b : DriverView W) → (r : Rests config s k a)
     → config.clock + r.n < last_clock → m ≡ record a { history = Tick ∷ a.history } → Counts (Ok Done) config m b
     → Played config s (k + 1) b
 tick_more config s k a m b r lt is counts =
@@ -231,7 +231,7 @@ tick_more config s k a m b r lt is counts =
       };
     }
 
-tick : {W : Type 0} (config : Config) (s : List Entry) (k : ℕ) (a b : Moment W) → TicksOnce config a b → Rests config s k a
+tick : {W : Type 0} (config : Config) (s : List Entry) (k : ℕ) (a b : DriverView W) → TicksOnce config a b → Rests config s k a
     → Played config s (k + 1) b
 tick config s k a b (result, (m, (log, was, answers, is), counts)) r =
     let both = ticks_taken config a.history log result was answers in
@@ -246,8 +246,8 @@ tick config s k a b (result, (m, (log, was, answers, is), counts)) r =
           (subst (λ (x : Result Did Refused). Counts x config m b) done counts)
     ]
 
-pass_each : {W : Type 0} (config : Config) (s : List Entry) (k i : ℕ) (a b : Moment W)
-    → Each i (λ j. Plays then TicksOnce) config a b → Played config s k a → Played config s (k + i) b
+pass_each : {W : Type 0} (config : Config) (s : List Entry) (k i : ℕ) (a b : DriverView W)
+    → ForEach i (λ j. Plays then TicksOnce) config a b → Played config s k a → Played config s (k + i) b
 pass_each config s k zero a b is p =
     subst (λ (j : ℕ). Played config s j b) (let e : k ≡ k + 0 = omega arith in e)
     (record { n = p.n; play = idle_play config s p.n k a b (idles_same a b is) p.play })
@@ -256,7 +256,7 @@ pass_each config s k (suc i) a b (m, front, (x, played_so, ticked)) p =
     subst (λ (j : ℕ). Played config s j b) (let e : k + i + 1 ≡ k + suc i = omega arith in e)
     (tick config s (k + i) x b ticked (plays config s q.n (k + i) m x played_so q.play))
 
-passes : {W : Type 0} (config : Config) (s : List Entry) (k ticks : ℕ) (a b : Moment W) → Passes ticks config a b
+passes : {W : Type 0} (config : Config) (s : List Entry) (k ticks : ℕ) (a b : DriverView W) → Passes ticks config a b
     → Played config s k a → Rests config s (k + ticks) b
 passes config s k ticks a b (m, each, last) p =
     let q = pass_each config s k ticks a m each p in plays config s q.n (k + ticks) m b last q.play
@@ -264,7 +264,7 @@ passes config s k ticks a b (m, each, last) p =
 -- ---- sweeps
 
 sweep_timed : {W : Type 0} (hears : W → Heard → W → Type 0) (config : Config) (s : List Entry) (k ticks : ℕ)
-    (a b : Moment W) → Sweeps hears ticks config a b → Played config s k a → Rests config s (k + ticks) b
+    (a b : DriverView W) → Sweeps hears ticks config a b → Played config s k a → Rests config s (k + ticks) b
 sweep_timed hears config s k ticks m0 m10
     (m1, s1, (m2, s2, (m3, s3, (m4, s4, (m5, s5, (m6, s6, (m7, s7, (m8, s8, (m9, s9, s10))))))))) p =
     let front = idles_then m0 m1 m6 (accepts_idles hears Core config m0 m1 s1) (idles_then m1 m2 m6
@@ -284,8 +284,8 @@ sweep_timed hears config s k ticks m0 m10
     }
 
 -- in front of the first sweep
-pub begins : {W : Type 0} (config : Config) (start : Driving W) → config.clock ≤ last_clock → start.ticks ≡ 0 → IsScenario 0 start.ahead
-    → Played config start.ahead 0 (moment start [])
+pub begins : {W : Type 0} (config : Config) (start : DriverState W) → config.clock ≤ last_clock → start.ticks ≡ 0 → IsScenario 0 start.ahead
+    → Played config start.ahead 0 (driver_view start [])
 begins config start clock zero_ticks rising = record {
   n = 0;
   play = record {
@@ -303,7 +303,7 @@ begins config start clock zero_ticks rising = record {
 
 -- and behind one
 pub behind : {W : Type 0} (hears : W → Heard → W → Type 0) (config : Config) (s : List Entry) (passed : List ℕ) (ticks : ℕ)
-    (a b : Moment W) → Sweeps hears ticks config a b → Played config s (handed passed) a
+    (a b : DriverView W) → Sweeps hears ticks config a b → Played config s (handed passed) a
     → Played config s (handed (ticks ∷ passed)) b × (filter is_timed b.history ≡ timed (min (handed (ticks ∷ passed))
     (last_clock - config.clock)) s)
 behind hears config s passed ticks a b sweeps p =

@@ -24,7 +24,7 @@ use Rattle.sv_laws.proofs.Brought.{brings, IsClear}
 use Rattle.sv_laws.proofs.OneLog.{one_log}
 use Rattle.sv_laws.proofs.ShutIsClear.{shut_is_clear}
 use Rattle.sv_serve.specs.Heard.{Heard, WasWritten}
-use Rattle.sv_serve.specs.Moment.{Moment, Each}
+use Rattle.sv_serve.specs.DriverView.{DriverView, ForEach}
 use Rattle.sv_serve.specs.Steps.{Given, EndsTurn, TurnsIf, Turns}
 use Rattle.sv_serve.specs.Served.{Takes, Offers}
 use Rattle.sv_serve.proofs.Keeps.{Subject, Keeps, keeps_none, keeps_then, inner_by}
@@ -122,24 +122,24 @@ pub nobody_unread : (s : Subject) → Nobody s → Unread s
 nobody_unread s h = absurd h
 
 -- what events of such steps are
-pub keeps_unread : {W : Type 0} (hears : W → Heard → W → Type 0) (May : Subject → Type 0) (config : Config) (a b : Moment W)
+pub keeps_unread : {W : Type 0} (hears : W → Heard → W → Type 0) (May : Subject → Type 0) (config : Config) (a b : DriverView W)
     → ((s : Subject) → May s → Unread s) → (k : Keeps hears May config a b) → filter is_bytes k.events ≡ []
 keeps_unread hears May config a b so k = bytes_outer k.events ∙ ap (filter is_bytes) k.told
     ∙ bytes_piece k.piece (may_all May Unread k.piece so k.may)
 
-pub keeps_elsewhere : {W : Type 0} (hears : W → Heard → W → Type 0) (May : Subject → Type 0) (config : Config) (a b : Moment W) (c : ℕ)
+pub keeps_elsewhere : {W : Type 0} (hears : W → Heard → W → Type 0) (May : Subject → Type 0) (config : Config) (a b : DriverView W) (c : ℕ)
     → ((s : Subject) → May s → Elsewhere c s) → (k : Keeps hears May config a b) → brought c k.events ≡ []
 keeps_elsewhere hears May config a b c so k = brought_outer c k.events ∙ ap (brought c) k.told
     ∙ brought_piece c k.piece (may_all May (Elsewhere c) k.piece so k.may)
 
-pub turned_keeps : {W : Type 0} (hears : W → Heard → W → Type 0) (May : Subject → Type 0) (config : Config) (a b : Moment W) (c : ℕ)
+pub turned_keeps : {W : Type 0} (hears : W → Heard → W → Type 0) (May : Subject → Type 0) (config : Config) (a b : DriverView W) (c : ℕ)
     (history events : List PlainEvent) → ((s : Subject) → May s → Unread s) → ((s : Subject) → May s → Elsewhere c s)
     → (k : Keeps hears May config a b) → Turned config c history events → Turned config c history (k.events ++ events)
 turned_keeps hears May config a b c history events so also k t = turned_more config c history events k.events
     (keeps_unread hears May config a b so k) (keeps_elsewhere hears May config a b c also k) t
 
 pub record TurnStep {W : Type 0} (hears : W → Heard → W
-    → Type 0) (config : Config) (c : ℕ) (history events : List PlainEvent) (x y : Moment W) : Type 0 where
+    → Type 0) (config : Config) (c : ℕ) (history events : List PlainEvent) (x y : DriverView W) : Type 0 where
   pub k : Keeps hears Nobody config x y
   pub turned : Turned config c history (k.events ++ events)
 
@@ -188,7 +188,7 @@ short config history log c told refused lt was ready h =
     let z : true ≡ false = sym idle ∙ busy in cc))
 
 pub step_err : {W : Type 0} (hears : W → Heard → W → Type 0) (config : Config) (c : ℕ) (refused : Refused)
-    (x between y : Moment W) (history events : List PlainEvent) (log : List Act) → c < 16 → x.history ≡ events ++ history
+    (x between y : DriverView W) (history events : List PlainEvent) (log : List Act) → c < 16 → x.history ≡ events ++ history
     → IsLogOf config x.history log → true ≡ not (is_idle (of c log)) → Answers config (Turn c) log (Err refused) → between ≡ x
     → EndsTurn c (Err refused) config between y → TurnStep hears config c history events x y
 step_err hears config c NoMemory x between y history events log lt is was ready answers same given = record {
@@ -203,7 +203,7 @@ step_err hears config c refused x between y history events log lt is was ready (
 }
 
 pub step_answer : {W : Type 0} (hears : W → Heard → W → Type 0) (config : Config) (c : ℕ) (result : Result Did Refused)
-    (x between y : Moment W) (history events : List PlainEvent) (log : List Act) → c < 16 → x.history ≡ events ++ history
+    (x between y : DriverView W) (history events : List PlainEvent) (log : List Act) → c < 16 → x.history ≡ events ++ history
     → IsLogOf config x.history log → true ≡ not (is_idle (of c log)) → Given (Turn c) result config x between
     → EndsTurn c result config between y → TurnStep hears config c history events x y
 step_answer hears config c (Ok did) x between y history events log lt is was ready given same = record {
@@ -218,7 +218,7 @@ step_answer hears config c (Err refused) x between y history events log lt is wa
     (subst (λ (l : List Act). Answers config (Turn c) l (Err refused)) one says) to ends
 
 pub step_ready : {W : Type 0} (hears : W → Heard → W → Type 0) (config : Config) (c : ℕ) (ready : Bool)
-    (x y : Moment W) (history events : List PlainEvent) (log : List Act) → c < 16 → x.history ≡ events ++ history
+    (x y : DriverView W) (history events : List PlainEvent) (log : List Act) → c < 16 → x.history ≡ events ++ history
     → IsLogOf config x.history log → ready ≡ not (is_idle (of c log)) → TurnsIf c ready config x y
     → TurnStep hears config c history events x y
 step_ready hears config c false x y history events log lt is was idle same = record {
@@ -231,12 +231,12 @@ step_ready hears config c true x y history events log lt is was ready (result, (
 -- ---- all turns
 
 pub record TurnPhase {W : Type 0} (hears : W → Heard → W
-    → Type 0) (config : Config) (n : ℕ) (history events : List PlainEvent) (x y : Moment W) : Type 0 where
+    → Type 0) (config : Config) (n : ℕ) (history events : List PlainEvent) (x y : DriverView W) : Type 0 where
   pub k : Keeps hears Nobody config x y
   pub turned : (c : ℕ) → c < n → Turned config c history (k.events ++ events)
 
-pub turn_phase : {W : Type 0} (hears : W → Heard → W → Type 0) (config : Config) (n : ℕ) (x y : Moment W)
-    (history events : List PlainEvent) → n ≤ 16 → x.history ≡ events ++ history → Each n Turns config x y
+pub turn_phase : {W : Type 0} (hears : W → Heard → W → Type 0) (config : Config) (n : ℕ) (x y : DriverView W)
+    (history events : List PlainEvent) → n ≤ 16 → x.history ≡ events ++ history → ForEach n Turns config x y
     → TurnPhase hears config n history events x y
 turn_phase hears config zero x y history events le is same = record {
   k = keeps_none hears Nobody config x y same;

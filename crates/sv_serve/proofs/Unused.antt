@@ -12,29 +12,30 @@ use Rattle.sv_history.proofs.AlwaysTold.{some_told}
 use Rattle.sv_history.proofs.Unrecorded.{nothing_idle, nothing_faulted, nothing_dialed}
 use Rattle.sv_serve.specs.Heard.{Heard}
 use Rattle.sv_server.specs.Server.State.{StandsFor}
-use Rattle.sv_serve.specs.Moment.{Moment, Driving, Each, Goes, moment}
+use Rattle.sv_serve.specs.DriverView.{DriverView, DriverState, ForEach, Steps, driver_view}
 use Rattle.sv_serve.specs.Asked.{NoneUsed}
 use Rattle.sv_serve.specs.Steps.{called_of, ReadsFrom, Turns, Dials, WritesTo, Ends}
 
 -- steps that change nothing behind those that were taken
-pub and_rest : {W : Type 0} (step : ℕ → Config → Moment W → Moment W → Type 0) (config : Config) (n m : ℕ) (a b : Moment W) → n ≤ m
-    → Each n step config a b → ((c : ℕ) → n ≤ c → step c config b b) → Each m step config a b
+pub and_rest : {W : Type 0} (step : ℕ → Config → DriverView W → DriverView W → Type 0) (config : Config) (n m : ℕ) (a b : DriverView W) → n
+    ≤ m
+    → ForEach n step config a b → ((c : ℕ) → n ≤ c → step c config b b) → ForEach m step config a b
 and_rest step config n zero a b le each stays =
-    let none : n ≡ zero = omega (arith, le) in subst (λ (k : ℕ). Each k step config a b) none each
+    let none : n ≡ zero = omega (arith, le) in subst (λ (k : ℕ). ForEach k step config a b) none each
 and_rest step config n (suc m) a b le each stays = elim (eq-or-lt_of_le le) [
-  | inl same ↦ subst (λ (k : ℕ). Each k step config a b) same each
+  | inl same ↦ subst (λ (k : ℕ). ForEach k step config a b) same each
   | inr less ↦ (let low : n ≤ m = omega (arith, less) in (b, and_rest step config n m a b low each stays, stays m low))
 ]
 
 -- the same of a driver, whatever happened to its server before
-pub goes_rest : {W : Type 0} (step : ℕ → Config → Moment W → Moment W → Type 0) (n m : ℕ) (first last : Driving W) → n ≤ m
-    → Goes (Each n step) first last
+pub goes_rest : {W : Type 0} (step : ℕ → Config → DriverView W → DriverView W → Type 0) (n m : ℕ) (first last : DriverState W) → n ≤ m
+    → Steps (ForEach n step) first last
     → ((config : Config) (history : List PlainEvent) → StandsFor last.server config history → (c : ℕ) → n ≤ c
-    → step c config (moment last history) (moment last history))
-    → Goes (Each m step) first last
+    → step c config (driver_view last history) (driver_view last history))
+    → Steps (ForEach m step) first last
 goes_rest step n m first last le each stays = λ config history stands.
     let (h0, s0, p0) = each config history stands in
-    (h0, s0, and_rest step config n m (moment first history) (moment last h0) le p0 (stays config h0 s0))
+    (h0, s0, and_rest step config n m (driver_view first history) (driver_view last h0) le p0 (stays config h0 s0))
 
 never_open : (c : ℕ) (log : List Act) → of c log ≡ [] → false ≡ not (is_port_shut (Conn c) log)
 never_open c log none = rw none (shut_by (nat_lt 15 c))
@@ -43,23 +44,23 @@ never_open c log none = rw none (shut_by (nat_lt 15 c))
     shut_by true = refl
     shut_by false = refl
 
-pub reads_none : {W : Type 0} (hears : W → Heard → W → Type 0) (n : ℕ) (config : Config) (at : Moment W) → NoneUsed n config at
+pub reads_none : {W : Type 0} (hears : W → Heard → W → Type 0) (n : ℕ) (config : Config) (at : DriverView W) → NoneUsed n config at
     → (c : ℕ) → n ≤ c → ReadsFrom hears c config at at
 reads_none hears n config at (log, is_log, none) c le =
     (0, (log, is_log, ap room (sym (none c le))), inl (refl, (false, (log, is_log, never_open c log (none c le)), refl)))
 
-pub turns_none : {W : Type 0} (n : ℕ) (config : Config) (at : Moment W) → NoneUsed n config at → (c : ℕ) → n ≤ c
+pub turns_none : {W : Type 0} (n : ℕ) (config : Config) (at : DriverView W) → NoneUsed n config at → (c : ℕ) → n ≤ c
     → Turns c config at at
 turns_none n config at (log, is_log, none) c le =
     (false, (log, is_log, nothing_idle _ (none c le)), refl)
 
-pub writes_none : {W : Type 0} (hears : W → Heard → W → Type 0) (n : ℕ) (config : Config) (at : Moment W) → NoneUsed n config at
+pub writes_none : {W : Type 0} (hears : W → Heard → W → Type 0) (n : ℕ) (config : Config) (at : DriverView W) → NoneUsed n config at
     → (c : ℕ) → n ≤ c → WritesTo hears (Conn c) config at at
 writes_none hears n config at (log, is_log, none) c le =
     let (told, tells) = some_told (device_acts log) in
     ([], (log, told, is_log, tells, ap waiting (sym (none c le))), inl (refl, refl))
 
-pub ends_none : {W : Type 0} (hears : W → Heard → W → Type 0) (n : ℕ) (config : Config) (at : Moment W) → NoneUsed n config at
+pub ends_none : {W : Type 0} (hears : W → Heard → W → Type 0) (n : ℕ) (config : Config) (at : DriverView W) → NoneUsed n config at
     → (c : ℕ) → n ≤ c → Ends hears c config at at
 ends_none hears n config at (log, is_log, none) c le = (false, (log, is_log, nothing_faulted _ (none c le)), refl)
 
@@ -69,7 +70,7 @@ nobody zero c = refl
 nobody (suc n) zero = refl
 nobody (suc n) (suc c) = nobody n c
 
-pub dials_none : {W : Type 0} (hears : W → Heard → W → Type 0) (n : ℕ) (config : Config) (at : Moment W) → NoneUsed n config at
+pub dials_none : {W : Type 0} (hears : W → Heard → W → Type 0) (n : ℕ) (config : Config) (at : DriverView W) → NoneUsed n config at
     → ((c : ℕ) → n ≤ c → called_of c at ≡ None) → (c : ℕ) → n ≤ c → Dials hears c config at at
 dials_none hears n config at (log, is_log, none) uncalled c le =
     let nobody = uncalled c le in (

@@ -16,15 +16,16 @@ use Rattle.sv_history.specs.Queries.{WaitOn, Answered}
 use Rattle.sv_serve.specs.declared.wire.Answer.{Answer}
 use Rattle.sv_serve.specs.declared.wire.Answer.TheVariants.{Got, Failed}
 use Rattle.sv_serve.specs.Heard.{Heard, WasAccepted, WasRead, WasProbed, WasWritten, WasDialed, PeerAnswered, WasClosed}
-use Rattle.sv_serve.specs.Moment.{Driving, Goes}
+use Rattle.sv_serve.specs.DriverView.{DriverState, Steps}
 use Rattle.sv_serve.specs.Sweep.{Sweeps}
 use Rattle.sv_serve.specs.Timed.{is_timed, timed, handed}
 use Rattle.sv_serve.specs.Served.{Through, event_of, is_outer, IsServed}
 
 -- Sweeps lead from one driver to another, each with the milliseconds that it was handed.
-abbrev pub Swept : {W : Type 0} → (W → Heard → W → Type 0) → List ℕ → Driving W → Driving W → Type 0
+abbrev pub Swept : {W : Type 0} → (W → Heard → W → Type 0) → List ℕ → DriverState W → DriverState W → Type 0
 Swept hears [] start now = now ≡ start
-Swept hears (ticks ∷ passed) start now = (between : Driving _) × Swept hears passed start between × Goes (Sweeps hears ticks) between now
+Swept hears (ticks ∷ passed) start now = (between : DriverState _) × Swept hears passed start between × Steps
+    (Sweeps hears ticks) between now
 
 abbrev pub is_same : Port → Port → Bool
 is_same (Conn c) (Conn d) = d == c
@@ -103,7 +104,8 @@ pub record IsCarried (config : Config) (history : List PlainEvent) (trace : List
 -- Each sweep goes on from what was carried before it, with its own part of the history and of the trace, and serves each connection there.
 -- Behind it time has brought the milliseconds that were handed in, up to the end of the clock, and what of the scenario was due before each
 -- and after the last one: no more, no less. The clock is to be within its range, no millisecond counted at the start.
-abbrev pub InSweeps : {W : Type 0} (hears : W → Heard → W → Type 0) → Config → (start : Driving W) (passed : List ℕ) (now : Driving W)
+abbrev pub InSweeps : {W : Type 0} (hears : W → Heard → W → Type 0) → Config → (start : DriverState W) (passed : List ℕ)
+    (now : DriverState W)
     → Swept hears passed start now → List PlainEvent → List Heard → Type 0
 InSweeps hears config start [] now swept history trace = (history ≡ []) × (trace ≡ [])
 InSweeps hears config start (ticks ∷ passed) now (between, swept, goes) history trace = (earlier events : List PlainEvent)
@@ -114,6 +116,6 @@ InSweeps hears config start (ticks ∷ passed) now (between, swept, goes) histor
 
 -- So it is after any number of sweeps of a driver whose server is new, over every wire.
 abbrev pub Carried : {W : Type 0} → (W → Heard → W → Type 0) → Type 0
-Carried hears = (config : Config) (passed : List ℕ) (start now : Driving _) → StandsFor start.server config []
+Carried hears = (config : Config) (passed : List ℕ) (start now : DriverState _) → StandsFor start.server config []
     → (swept : Swept hears passed start now) → (trace : List Heard) × (history : List PlainEvent) × Through hears trace start.wire now.wire
     × StandsFor now.server config history × IsCarried config history trace × InSweeps hears config start passed now swept history trace

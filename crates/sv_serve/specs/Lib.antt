@@ -1,5 +1,5 @@
 pub mod Heard
-pub mod Moment
+pub mod DriverView
 pub mod Asked
 pub mod Steps
 pub mod Sweep

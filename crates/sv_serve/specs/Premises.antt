@@ -15,35 +15,36 @@ use Rattle.sv_laws.specs.Laws.{Suits}
 use Rattle.sv_server.specs.Server.State.{StandsFor}
 use Rattle.sv_serve.specs.declared.wire.Answer.{Answer}
 use Rattle.sv_serve.specs.Heard.{IsWithin}
-use Rattle.sv_serve.specs.Moment.{Driving, Moment, moment}
+use Rattle.sv_serve.specs.DriverView.{DriverState, DriverView, driver_view}
 use Rattle.sv_serve.specs.Asked.{Wants, Waits}
 
 -- Wherever this is so, the driver goes on by this step.
-abbrev pub From : {W : Type 0} → (Config → Moment W → Type 0) → (Config → Moment W → Moment W → Type 0) → Driving W → Driving W → Type 0
+abbrev pub From : {W : Type 0} → (Config → DriverView W → Type 0) → (Config → DriverView W → DriverView W → Type 0) → DriverState W
+    → DriverState W → Type 0
 From IsSo step old new = (config : Config) (history : List PlainEvent) → StandsFor old.server config history
-    → IsSo config (moment old history)
-    → (after : List PlainEvent) × StandsFor new.server config after × step config (moment old history) (moment new after)
+    → IsSo config (driver_view old history)
+    → (after : List PlainEvent) × StandsFor new.server config after × step config (driver_view old history) (driver_view new after)
 
 -- the event suits what the server answers
-abbrev pub IsSuited : {W : Type 0} → PlainEvent → Config → Moment W → Type 0
+abbrev pub IsSuited : {W : Type 0} → PlainEvent → Config → DriverView W → Type 0
 IsSuited event config at = (log : List Act) × (told : List ChannelAct) × IsLogOf config at.history log × HearsOf (device_acts log) told
     × Suits event told log
 
 -- a peer is wanted for a call that waits
-abbrev pub IsAwaited : {W : Type 0} → ℕ → Config → Moment W → Type 0
+abbrev pub IsAwaited : {W : Type 0} → ℕ → Config → DriverView W → Type 0
 IsAwaited c config at = (dial : Dial) × Wants c config at (Some dial)
 
 -- these bytes waited, and some of them were handed to the wire
-abbrev pub Handed : {W : Type 0} → Port → Answer ℕ → Config → Moment W → Type 0
+abbrev pub Handed : {W : Type 0} → Port → Answer ℕ → Config → DriverView W → Type 0
 Handed port answer config at = (bytes : List ℕ) × Waits port config at bytes × (0 < length bytes) × IsWithin answer (length bytes)
 
 -- a call was to be taken, and found no memory
-abbrev pub FoundNone : {W : Type 0} → ℕ → Config → Moment W → Type 0
+abbrev pub FoundNone : {W : Type 0} → ℕ → Config → DriverView W → Type 0
 FoundNone c config at = (log : List Act) × IsLogOf config at.history log × Answers config (Turn c) log (Err NoMemory)
 
 -- if this is its answer
-abbrev pub MayFindNone : {W : Type 0} → ℕ → Result Did Refused → Config → Moment W → Type 0
+abbrev pub MayFindNone : {W : Type 0} → ℕ → Result Did Refused → Config → DriverView W → Type 0
 MayFindNone c answer config at = answer ≡ Err NoMemory → FoundNone c config at
 
-abbrev pub FindsNoneIf : {W : Type 0} → ℕ → Bool → Config → Moment W → Type 0
+abbrev pub FindsNoneIf : {W : Type 0} → ℕ → Bool → Config → DriverView W → Type 0
 FindsNoneIf c so config at = so ≡ true → FoundNone c config at

@@ -13,7 +13,7 @@ use Rattle.sv_server.specs.Server.State.{StandsFor}
 use Rattle.sv_serve.specs.declared.wire.Answer.{Answer}
 use Rattle.sv_serve.specs.declared.wire.Answer.TheVariants.{Got, Failed}
 use Rattle.sv_serve.specs.Heard.{Heard, WasAccepted, WasRead, WasWritten, WasDialed, PeerAnswered, WasClosed}
-use Rattle.sv_serve.specs.Moment.{Driving, Goes}
+use Rattle.sv_serve.specs.DriverView.{DriverState, Steps}
 use Rattle.sv_serve.specs.Sweep.{Sweeps}
 use Rattle.sv_serve.specs.Timed.{is_timed}
 
@@ -59,7 +59,7 @@ Serves config c history events piece = (first turn behind : List PlainEvent) × 
     × Takes config c before turn × Offers c after piece
 
 -- A sweep has these events and these answers of the wire, which are one, and serves each connection.
-abbrev pub IsServed : {W : Type 0} → (W → Heard → W → Type 0) → Config → Driving W → Driving W → List PlainEvent → List PlainEvent
+abbrev pub IsServed : {W : Type 0} → (W → Heard → W → Type 0) → Config → DriverState W → DriverState W → List PlainEvent → List PlainEvent
     → List Heard → Type 0
 IsServed hears config old new history events piece = StandsFor old.server config history × StandsFor new.server config (events ++ history)
     × Through hears piece old.wire new.wire × (filter is_outer events ≡ flat_map event_of piece)
@@ -67,5 +67,6 @@ IsServed hears config old new history events piece = StandsFor old.server config
 
 -- So it is of every sweep, whatever happened before.
 abbrev pub Served : {W : Type 0} → (W → Heard → W → Type 0) → Type 0
-Served hears = (config : Config) (ticks : ℕ) (history : List PlainEvent) (old new : Driving _) → StandsFor old.server config history
-    → Goes (Sweeps hears ticks) old new → (done : List PlainEvent) × (piece : List Heard) × IsServed hears config old new history done piece
+Served hears = (config : Config) (ticks : ℕ) (history : List PlainEvent) (old new : DriverState _) → StandsFor old.server config history
+    → Steps (Sweeps hears ticks) old new → (done : List PlainEvent) × (piece : List Heard)
+    × IsServed hears config old new history done piece

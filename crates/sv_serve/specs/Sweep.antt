@@ -9,16 +9,16 @@ use Rattle.sv_history.specs.Event.{PlainEvent, Tick}
 use Rattle.sv_replay.specs.Entry.{stimulus_event}
 use Rattle.sv_replay.specs.declared.entry.Entry.{Entry}
 use Rattle.sv_serve.specs.Heard.{Heard}
-use Rattle.sv_serve.specs.Moment.{Moment, ◌then◌, Each}
+use Rattle.sv_serve.specs.DriverView.{DriverView, ◌then◌, ForEach}
 use Rattle.sv_serve.specs.Steps.{Given, Accepts, ReadsFrom, Turns, Dials, WritesTo, Ends}
 
 -- the server was given an event, whatever it answered
-abbrev pub Applies : {W : Type 0} → PlainEvent → Config → Moment W → Moment W → Type 0
+abbrev pub Applies : {W : Type 0} → PlainEvent → Config → DriverView W → DriverView W → Type 0
 Applies event config before after = (result : Result Did Refused) × Given event result config before after
 
 -- The first entry of the scenario is due, and happens.
-abbrev pub PlaysOne : {W : Type 0} → Config → Moment W → Moment W → Type 0
-PlaysOne config before after = (entry : Entry) × (others : List Entry) × (between : Moment _) × (before.ahead ≡ entry ∷ others)
+abbrev pub PlaysOne : {W : Type 0} → Config → DriverView W → DriverView W → Type 0
+PlaysOne config before after = (entry : Entry) × (others : List Entry) × (between : DriverView _) × (before.ahead ≡ entry ∷ others)
     × (entry.tick ≤ before.ticks) × Applies (stimulus_event entry.stimulus) config before between
     × (after ≡ record between { ahead = others })
 
@@ -28,34 +28,34 @@ IsNoneDue ticks [] = ⊤
 IsNoneDue ticks (entry ∷ entries) = ticks < entry.tick
 
 -- the first entry happens, or none is due
-abbrev pub PlaysIf : {W : Type 0} → Bool → Config → Moment W → Moment W → Type 0
+abbrev pub PlaysIf : {W : Type 0} → Bool → Config → DriverView W → DriverView W → Type 0
 PlaysIf true config before after = PlaysOne config before after
 PlaysIf false config before after = (after ≡ before) × IsNoneDue after.ticks after.ahead
 
 -- all that are due happen
-abbrev pub Plays : {W : Type 0} → Config → Moment W → Moment W → Type 0
-Plays config before after = (n : ℕ) × Each n (λ i. PlaysOne) config before after × IsNoneDue after.ticks after.ahead
+abbrev pub Plays : {W : Type 0} → Config → DriverView W → DriverView W → Type 0
+Plays config before after = (n : ℕ) × ForEach n (λ i. PlaysOne) config before after × IsNoneDue after.ticks after.ahead
 
 -- Ticks are counted up to this.
 abbrev pub most_ticks : ℕ
 most_ticks = 18446744073709551615
 
 -- one more millisecond is counted, if it wasn't refused
-abbrev pub Counts : {W : Type 0} → Result Did Refused → Config → Moment W → Moment W → Type 0
+abbrev pub Counts : {W : Type 0} → Result Did Refused → Config → DriverView W → DriverView W → Type 0
 Counts (Ok did) config before after =
     after ≡ record before { ticks = (if before.ticks == most_ticks then before.ticks else before.ticks + 1) }
 Counts (Err refused) config before after = after ≡ before
 
-abbrev pub TicksOnce : {W : Type 0} → Config → Moment W → Moment W → Type 0
+abbrev pub TicksOnce : {W : Type 0} → Config → DriverView W → DriverView W → Type 0
 TicksOnce config before after = (result : Result Did Refused) × (Given Tick result then Counts result) config before after
 
 -- so many milliseconds pass, with what is due before each and after the last one
-abbrev pub Passes : {W : Type 0} → ℕ → Config → Moment W → Moment W → Type 0
-Passes ticks = Each ticks (λ i. Plays then TicksOnce) then Plays
+abbrev pub Passes : {W : Type 0} → ℕ → Config → DriverView W → DriverView W → Type 0
+Passes ticks = ForEach ticks (λ i. Plays then TicksOnce) then Plays
 
 -- The wire is asked for connections of each purpose; then each connection is read, then each takes a call, then peers are called; time
 -- passes; then what waits is written, on connections first; and then those that only wait to be closed are.
-abbrev pub Sweeps : {W : Type 0} → (W → Heard → W → Type 0) → ℕ → Config → Moment W → Moment W → Type 0
-Sweeps hears ticks = Accepts hears Core then Accepts hears Abort then Accepts hears Portmap then Each 16 (ReadsFrom hears)
-    then Each 16 Turns then Each 16 (Dials hears) then Passes ticks then Each 16 (λ c. WritesTo hears (Conn c))
-    then Each 16 (λ c. WritesTo hears (Intr c)) then Each 16 (Ends hears)
+abbrev pub Sweeps : {W : Type 0} → (W → Heard → W → Type 0) → ℕ → Config → DriverView W → DriverView W → Type 0
+Sweeps hears ticks = Accepts hears Core then Accepts hears Abort then Accepts hears Portmap then ForEach 16 (ReadsFrom hears)
+    then ForEach 16 Turns then ForEach 16 (Dials hears) then Passes ticks then ForEach 16 (λ c. WritesTo hears (Conn c))
+    then ForEach 16 (λ c. WritesTo hears (Intr c)) then ForEach 16 (Ends hears)

@@ -6,7 +6,7 @@ ghost use Rattle.sv_history.specs.Event.{PlainEvent};
 ghost use Rattle.sv_server.specs.Server.State.{StandsFor};
 ghost use Rattle.sv_serve.specs.Asked.{IsLowest};
 ghost use Rattle.sv_serve.specs.Heard.{WasAccepted};
-ghost use Rattle.sv_serve.specs.Moment.{Goes, moment};
+ghost use Rattle.sv_serve.specs.DriverView.{Steps, driver_view};
 ghost use Rattle.sv_serve.specs.Steps.{Hears, Accepts, Opens};
 ghost use Rattle.sv_serve.specs.Premises.{From};
 
@@ -18,7 +18,7 @@ use sv_server::{Event, Port, Role};
 impl<W: Wire + Drop, A: Allocator> Driver<W, A> {
     /// Takes a connection for this purpose, if one comes; without a free number it is dropped.
     pub(crate) fn accept(&mut self, role: Role)
-        ensures { Goes (Accepts W.hears role) self.old self.new }
+        ensures { Steps (Accepts W.hears role) self.old self.new }
     {
         let conn = self.lowest();
         let answer = self.greet(role, conn);
@@ -27,7 +27,7 @@ impl<W: Wire + Drop, A: Allocator> Driver<W, A> {
 
     /// Takes a connection under this number.
     fn greet(&mut self, role: Role, conn: Option<u8>) -> Answer<()>
-        ensures { Goes (Hears W.hears (WasAccepted role conn result)) self.old self.new }
+        ensures { Steps (Hears W.hears (WasAccepted role conn result)) self.old self.new }
     {
         self.wire.accept(role, conn)
     }
@@ -36,7 +36,7 @@ impl<W: Wire + Drop, A: Allocator> Driver<W, A> {
     fn lowest(&self) -> Option<u8>
         ensures { (config : Config) (history : List PlainEvent)
             → StandsFor self.now.server config history
-            → IsLowest result config (moment self.now history) }
+            → IsLowest result config (driver_view self.now history) }
     {
         for conn in 0..CONNECTIONS {
             if !self.server.is_open(Port::Conn(conn)) {
@@ -52,7 +52,7 @@ impl<W: Wire + Drop, A: Allocator> Driver<W, A> {
     {
         match (conn, answer) {
             (Some(conn), Answer::Got(())) => {
-                self.happen(Event::Open { conn, role });
+                self.apply(Event::Open { conn, role });
             }
             (Some(_), Answer::Pending) => {}
             (Some(_), Answer::Failed) => {}

@@ -3,10 +3,10 @@
 ghost use Rattle.std.specs.Prelude.{◌≡◌, ◌<◌, slice_index_or, Some, None};
 ghost use Rattle.sv_history.specs.declared.event.Config.{Config};
 ghost use Rattle.sv_serve.specs.Heard.{WasDialed, PeerAnswered};
-ghost use Rattle.sv_serve.specs.Moment.{Moment, Goes, Each};
+ghost use Rattle.sv_serve.specs.DriverView.{DriverView, Steps, ForEach};
 ghost use Rattle.sv_serve.specs.Asked.{Wants};
 ghost use Rattle.sv_serve.specs.Premises.{From, IsAwaited};
-ghost use Rattle.sv_serve.specs.Steps.{Hears, is_wanted, LetsGoOf, LetsGo, KeepsCall, Rings, Picks, CallsFor, Calls, Dials, Notes};
+ghost use Rattle.sv_serve.specs.Steps.{Hears, is_wanted, CancelsUnwanted, LetsGo, KeepsCall, ConnectResult, PollResult, CallsFor, Calls, Dials, Remembers};
 
 use crate::driver::{CONNECTIONS, Driver};
 use crate::wire::{Answer, Wire};
@@ -26,7 +26,7 @@ fn is_wanted(called: Dial, wanted: Option<Dial>) -> bool
 impl<W: Wire + Drop, A: Allocator> Driver<W, A> {
     /// Calls each peer that is wanted, and lets go each that isn't any more.
     pub(crate) fn dial_each(&mut self)
-        ensures { Goes (Each 16 (Dials W.hears)) self.old self.new }
+        ensures { Steps (ForEach 16 (Dials W.hears)) self.old self.new }
     {
         for conn in 0..CONNECTIONS {
             if self.is_uncalled(conn) {
@@ -39,25 +39,25 @@ impl<W: Wire + Drop, A: Allocator> Driver<W, A> {
     /// Calls the peer of a connection, or lets it go.
     fn dial(&mut self, conn: u8)
         requires { conn < 16 }
-        ensures { Goes (Dials W.hears conn) self.old self.new }
+        ensures { Steps (Dials W.hears conn) self.old self.new }
     {
-        self.let_go(conn);
+        self.cancel_unwanted(conn);
         self.call(conn);
     }
 
     /// Lets the peer of a connection go, unless its channel is open or it is still wanted.
-    fn let_go(&mut self, conn: u8)
+    fn cancel_unwanted(&mut self, conn: u8)
         requires { conn < 16 }
-        ensures { Goes (LetsGo W.hears conn) self.old self.new }
+        ensures { Steps (LetsGo W.hears conn) self.old self.new }
     {
         let called = self.called[usize::from(conn)];
-        self.let_go_of(conn, called);
+        self.cancel_if_unwanted(conn, called);
     }
 
     /// Lets a peer go that was called.
-    fn let_go_of(&mut self, conn: u8, called: Option<Dial>)
+    fn cancel_if_unwanted(&mut self, conn: u8, called: Option<Dial>)
         requires { conn < 16 }
-        ensures { Goes (LetsGoOf W.hears conn called) self.old self.new }
+        ensures { Steps (CancelsUnwanted W.hears conn called) self.old self.new }
     {
         match called {
             None => {}
@@ -72,18 +72,18 @@ impl<W: Wire + Drop, A: Allocator> Driver<W, A> {
     /// Hangs up, unless this is so.
     fn keep_call(&mut self, conn: u8, keeps: bool)
         requires { conn < 16 }
-        ensures { Goes (KeepsCall W.hears conn keeps) self.old self.new }
+        ensures { Steps (KeepsCall W.hears conn keeps) self.old self.new }
     {
         if keeps {
             return;
         }
-        self.hang_up(conn);
+        self.close_channel(conn);
     }
 
     /// Calls the peer that is wanted, or asks whether it answered.
     fn call(&mut self, conn: u8)
         requires { conn < 16 }
-        ensures { Goes (Calls W.hears conn) self.old self.new }
+        ensures { Steps (Calls W.hears conn) self.old self.new }
     {
         let wanted = self.server.dial(conn);
         let called = self.called[usize::from(conn)];
@@ -93,76 +93,76 @@ impl<W: Wire + Drop, A: Allocator> Driver<W, A> {
     /// Calls a peer that wasn't called, or asks whether it answered.
     fn call_for(&mut self, conn: u8, wanted: Option<Dial>, called: Option<Dial>)
         requires { conn < 16 }
-        ensures { From (λ (config : Config) (at : Moment W). Wants conn config at wanted)
+        ensures { From (λ (config : Config) (at : DriverView W). Wants conn config at wanted)
             (CallsFor W.hears conn wanted called) self.old self.new }
     {
         match (wanted, called) {
             (None, _) => {}
             (Some(dial), None) => {
-                let answer = self.ring_up(conn, dial);
-                self.ring(conn, dial, answer);
+                let answer = self.start_connect(conn, dial);
+                self.connect_result(conn, dial, answer);
             }
             (Some(_), Some(_)) => {
-                let answer = self.listen(conn);
-                self.pick(conn, answer);
+                let answer = self.poll_connect(conn);
+                self.poll_result(conn, answer);
             }
         }
     }
 
     /// Calls a peer.
-    fn ring_up(&mut self, conn: u8, dial: Dial) -> Answer<()>
-        ensures { Goes (Hears W.hears (WasDialed conn dial result)) self.old self.new }
+    fn start_connect(&mut self, conn: u8, dial: Dial) -> Answer<()>
+        ensures { Steps (Hears W.hears (WasDialed conn dial result)) self.old self.new }
     {
         self.wire.dial(conn, dial)
     }
 
     /// Asks whether a peer answered.
-    fn listen(&mut self, conn: u8) -> Answer<()>
-        ensures { Goes (Hears W.hears (PeerAnswered conn result)) self.old self.new }
+    fn poll_connect(&mut self, conn: u8) -> Answer<()>
+        ensures { Steps (Hears W.hears (PeerAnswered conn result)) self.old self.new }
     {
         self.wire.dialed(conn)
     }
 
     /// What came of calling a peer happens.
-    fn ring(&mut self, conn: u8, dial: Dial, answer: Answer<()>)
+    fn connect_result(&mut self, conn: u8, dial: Dial, answer: Answer<()>)
         requires { conn < 16 }
-        ensures { From (λ (config : Config) (at : Moment W). Wants conn config at (Some dial))
-            (Rings conn dial answer) self.old self.new }
+        ensures { From (λ (config : Config) (at : DriverView W). Wants conn config at (Some dial))
+            (ConnectResult conn dial answer) self.old self.new }
     {
         match answer {
             Answer::Got(()) => {
-                self.note(conn, dial);
-                self.happen(Event::Dialed { conn, ok: true });
+                self.remember(conn, dial);
+                self.apply(Event::Dialed { conn, ok: true });
             }
-            Answer::Pending => self.note(conn, dial),
+            Answer::Pending => self.remember(conn, dial),
             Answer::Failed => {
-                self.happen(Event::Dialed { conn, ok: false });
+                self.apply(Event::Dialed { conn, ok: false });
             }
         }
     }
 
     /// Keeps whom it called for a connection.
-    fn note(&mut self, conn: u8, dial: Dial)
+    fn remember(&mut self, conn: u8, dial: Dial)
         requires { conn < 16 }
-        ensures { Goes (Notes conn (Some dial)) self.old self.new }
+        ensures { Steps (Remembers conn (Some dial)) self.old self.new }
     {
         self.called[usize::from(conn)] = Some(dial);
-        self.callers = self.callers.max(conn + 1);
+        self.dial_limit = self.dial_limit.max(conn + 1);
     }
 
     /// What came of waiting for a peer happens.
-    fn pick(&mut self, conn: u8, answer: Answer<()>)
+    fn poll_result(&mut self, conn: u8, answer: Answer<()>)
         requires { conn < 16 }
-        ensures { From (IsAwaited conn) (Picks W.hears conn answer) self.old self.new }
+        ensures { From (IsAwaited conn) (PollResult W.hears conn answer) self.old self.new }
     {
         match answer {
             Answer::Got(()) => {
-                self.happen(Event::Dialed { conn, ok: true });
+                self.apply(Event::Dialed { conn, ok: true });
             }
             Answer::Pending => {}
             Answer::Failed => {
-                self.hang_up(conn);
-                self.happen(Event::Dialed { conn, ok: false });
+                self.close_channel(conn);
+                self.apply(Event::Dialed { conn, ok: false });
             }
         }
     }

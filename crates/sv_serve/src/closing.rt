@@ -4,10 +4,10 @@ ghost use Rattle.std.specs.Prelude.{◌<◌, true, None};
 ghost use Rattle.sv_history.specs.declared.event.Config.{Config};
 ghost use Rattle.sv_history.specs.declared.event.Port.TheVariants.{Conn};
 ghost use Rattle.sv_serve.specs.Heard.{WasClosed};
-ghost use Rattle.sv_serve.specs.Moment.{Moment, Goes, Each};
+ghost use Rattle.sv_serve.specs.DriverView.{DriverView, Steps, ForEach};
 ghost use Rattle.sv_serve.specs.Asked.{IsOpen, IsFaulted};
 ghost use Rattle.sv_serve.specs.Premises.{From};
-ghost use Rattle.sv_serve.specs.Steps.{Hears, Notes, HangsUp, Closes, ClosesIf, EndsIf, Ends};
+ghost use Rattle.sv_serve.specs.Steps.{Hears, Remembers, ClosesChannel, Closes, ClosesIf, EndsIf, Ends};
 
 use crate::driver::{CONNECTIONS, Driver};
 use crate::wire::Wire;
@@ -16,9 +16,9 @@ use sv_server::{Event, Port};
 
 impl<W: Wire + Drop, A: Allocator> Driver<W, A> {
     /// Closes the socket of a connection's interrupt channel, where a peer was called.
-    pub(crate) fn hang_up(&mut self, conn: u8)
+    pub(crate) fn close_channel(&mut self, conn: u8)
         requires { conn < 16 }
-        ensures { Goes (HangsUp W.hears conn) self.old self.new }
+        ensures { Steps (ClosesChannel W.hears conn) self.old self.new }
     {
         match self.called[usize::from(conn)] {
             None => {}
@@ -31,7 +31,7 @@ impl<W: Wire + Drop, A: Allocator> Driver<W, A> {
 
     /// Closes a socket.
     fn shut(&mut self, port: Port)
-        ensures { Goes (Hears W.hears (WasClosed port)) self.old self.new }
+        ensures { Steps (Hears W.hears (WasClosed port)) self.old self.new }
     {
         self.wire.close(port);
     }
@@ -39,7 +39,7 @@ impl<W: Wire + Drop, A: Allocator> Driver<W, A> {
     /// Keeps no longer whom it called for a connection.
     fn forget(&mut self, conn: u8)
         requires { conn < 16 }
-        ensures { Goes (Notes conn None) self.old self.new }
+        ensures { Steps (Remembers conn None) self.old self.new }
     {
         self.called[usize::from(conn)] = None;
     }
@@ -47,18 +47,18 @@ impl<W: Wire + Drop, A: Allocator> Driver<W, A> {
     /// Closes a connection, and its interrupt channel.
     pub(crate) fn close(&mut self, conn: u8)
         requires { conn < 16 }
-        ensures { From (λ (config : Config) (at : Moment W). IsOpen (Conn conn) config at true)
+        ensures { From (λ (config : Config) (at : DriverView W). IsOpen (Conn conn) config at true)
             (Closes W.hears conn) self.old self.new }
     {
         self.shut(Port::Conn(conn));
-        self.hang_up(conn);
+        self.close_channel(conn);
         let port = Port::Conn(conn);
-        self.happen(Event::Close { port });
+        self.apply(Event::Close { port });
     }
 
     /// Closes each connection that only waits for it, once nothing waits on it.
     pub(crate) fn end_each(&mut self)
-        ensures { Goes (Each 16 (Ends W.hears)) self.old self.new }
+        ensures { Steps (ForEach 16 (Ends W.hears)) self.old self.new }
     {
         for conn in 0..CONNECTIONS {
             if self.is_unused(conn) {
@@ -71,7 +71,7 @@ impl<W: Wire + Drop, A: Allocator> Driver<W, A> {
     /// Closes a connection that only waits for it, once nothing waits on it.
     fn end(&mut self, conn: u8)
         requires { conn < 16 }
-        ensures { Goes (Ends W.hears conn) self.old self.new }
+        ensures { Steps (Ends W.hears conn) self.old self.new }
     {
         let faulted = self.server.faulted(conn);
         self.end_if(conn, faulted);
@@ -80,7 +80,7 @@ impl<W: Wire + Drop, A: Allocator> Driver<W, A> {
     /// Closes a connection on which nothing waits, if this is so.
     fn end_if(&mut self, conn: u8, so: bool)
         requires { conn < 16 }
-        ensures { From (λ (config : Config) (at : Moment W). IsFaulted conn config at so)
+        ensures { From (λ (config : Config) (at : DriverView W). IsFaulted conn config at so)
             (EndsIf W.hears conn so) self.old self.new }
     {
         if so {
@@ -92,7 +92,7 @@ impl<W: Wire + Drop, A: Allocator> Driver<W, A> {
     /// Closes a connection, if this is so.
     fn close_if(&mut self, conn: u8, so: bool)
         requires { conn < 16 }
-        ensures { From (λ (config : Config) (at : Moment W). IsOpen (Conn conn) config at true)
+        ensures { From (λ (config : Config) (at : DriverView W). IsOpen (Conn conn) config at true)
             (ClosesIf W.hears conn so) self.old self.new }
     {
         if so {

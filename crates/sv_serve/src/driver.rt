@@ -5,8 +5,8 @@ ghost use Rattle.sv_history.specs.declared.event.Config.{Config};
 ghost use Rattle.sv_history.specs.Event.{PlainEvent, plain};
 ghost use Rattle.sv_server.specs.Server.State.{StandsFor};
 ghost use Rattle.sv_serve.specs.Asked.{NoneUsed};
-ghost use Rattle.sv_serve.specs.Moment.{Goes, moment};
-ghost use Rattle.sv_serve.specs.Steps.{Given, Happens, called_of};
+ghost use Rattle.sv_serve.specs.DriverView.{Steps, driver_view};
+ghost use Rattle.sv_serve.specs.Steps.{Given, Applies, called_of};
 ghost use Rattle.sv_serve.specs.Premises.{From, IsSuited};
 
 use crate::wire::Wire;
@@ -28,7 +28,7 @@ pub struct Driver<W: Wire + Drop, A: Allocator = Global> {
     /// Whom it called for the interrupt channel of each connection.
     pub(crate) called: [Option<Dial>; 16],
     /// For no connection of this number or above it ever called anybody.
-    pub(crate) callers: u8,
+    pub(crate) dial_limit: u8,
     pub(crate) scenario: Vec<Entry, A>,
     /// How many entries of the scenario were played.
     pub(crate) next: usize,
@@ -39,10 +39,10 @@ pub struct Driver<W: Wire + Drop, A: Allocator = Global> {
 }
 
 impl<W: Wire + Drop, A: Allocator> Model for Driver<W, A> {
-    ghost use Rattle.sv_serve.specs.Moment.{Driving};
+    ghost use Rattle.sv_serve.specs.DriverView.{DriverState};
     ghost use Rattle.std.specs.Prelude.{◌≡◌, ◌≤◌, ℕ, drop, length, slice_index_or, None};
 
-    ghost Value = { Driving W };
+    ghost Value = { DriverState W };
 
     ghost view = { λ a. record {
       server = a.server;
@@ -53,7 +53,7 @@ impl<W: Wire + Drop, A: Allocator> Model for Driver<W, A> {
     } };
 
     ghost invariant = { λ a. (length a.called ≡ 16) × (a.next ≤ length a.scenario.items)
-        × ((c : ℕ) → a.callers ≤ c → slice_index_or a.called c None ≡ None)
+        × ((c : ℕ) → a.dial_limit ≤ c → slice_index_or a.called c None ≡ None)
         × (length a.buffer.items ≡ 16384) };
 }
 
@@ -81,7 +81,7 @@ impl<W: Wire + Drop, A: Allocator> Driver<W, A> {
             server,
             wire,
             called: [None; 16],
-            callers: 0,
+            dial_limit: 0,
             scenario,
             next: 0,
             ticks: 0,
@@ -107,24 +107,24 @@ impl<W: Wire + Drop, A: Allocator> Driver<W, A> {
     pub(crate) fn is_unused(&self, conn: u8) -> bool
         ensures { result ≡ true → (config : Config) (history : List PlainEvent)
             → StandsFor self.now.server config history
-            → NoneUsed conn config (moment self.now history) }
+            → NoneUsed conn config (driver_view self.now history) }
     {
-        conn >= self.server.used()
+        conn >= self.server.connections_used()
     }
 
     /// Whether nobody is to be called or let go for a connection of this number or above.
     pub(crate) fn is_uncalled(&self, conn: u8) -> bool
         ensures { result ≡ true → (config : Config) (history : List PlainEvent)
             → StandsFor self.now.server config history
-            → NoneUsed conn config (moment self.now history)
-            × ((c : ℕ) → conn ≤ c → called_of c (moment self.now history) ≡ None) }
+            → NoneUsed conn config (driver_view self.now history)
+            × ((c : ℕ) → conn ≤ c → called_of c (driver_view self.now history) ≡ None) }
     {
-        self.is_unused(conn) && conn >= self.callers
+        self.is_unused(conn) && conn >= self.dial_limit
     }
 
     /// Gives an event to the server that suits what it answers when it is asked: it is done.
-    pub(crate) fn happen(&mut self, event: Event<'_>)
-        ensures { From (IsSuited (plain event.entry)) (Happens (plain event.entry))
+    pub(crate) fn apply(&mut self, event: Event<'_>)
+        ensures { From (IsSuited (plain event.entry)) (Applies (plain event.entry))
             self.old self.new }
     {
         let _ = self.server.apply(event);
@@ -132,7 +132,7 @@ impl<W: Wire + Drop, A: Allocator> Driver<W, A> {
 
     /// Gives an event to the server that it may refuse.
     pub(crate) fn give(&mut self, event: Event<'_>) -> Result<Did, Refused>
-        ensures { Goes (Given (plain event.entry) result) self.old self.new }
+        ensures { Steps (Given (plain event.entry) result) self.old self.new }
     {
         self.server.apply(event)
     }

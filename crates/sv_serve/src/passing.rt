@@ -1,7 +1,7 @@
 //! Time passes, and the scenario is played.
 
 ghost use Rattle.std.specs.Prelude.{◌≡◌, ◌<◌, length, true};
-ghost use Rattle.sv_serve.specs.Moment.{Goes};
+ghost use Rattle.sv_serve.specs.DriverView.{Steps};
 ghost use Rattle.sv_serve.specs.Sweep.{PlaysIf, Plays, TicksOnce, Counts, Passes};
 
 use crate::driver::Driver;
@@ -12,7 +12,7 @@ use sv_server::{Did, Event, Refused};
 impl<W: Wire + Drop, A: Allocator> Driver<W, A> {
     /// Lets so many milliseconds pass, with what is due before each of them and after the last one.
     pub(crate) fn pass(&mut self, ticks: u32)
-        ensures { Goes (Passes ticks) self.old self.new }
+        ensures { Steps (Passes ticks) self.old self.new }
     {
         for _ in 0..ticks {
             self.play();
@@ -23,14 +23,14 @@ impl<W: Wire + Drop, A: Allocator> Driver<W, A> {
 
     /// Plays what is due.
     fn play(&mut self)
-        ensures { Goes Plays self.old self.new }
+        ensures { Steps Plays self.old self.new }
     {
         while self.play_one() {}
     }
 
     /// Plays the next entry, if it is due; false where it isn't.
     fn play_one(&mut self) -> bool
-        ensures goes { Goes (PlaysIf result) self.old self.new }
+        ensures goes { Steps (PlaysIf result) self.old self.new }
         ensures measure { result ≡ true → length self.new.ahead < length self.old.ahead }
     {
         let Some(entry) = self.scenario.get(self.next) else {
@@ -47,7 +47,7 @@ impl<W: Wire + Drop, A: Allocator> Driver<W, A> {
 
     /// Lets a millisecond pass.
     fn tick(&mut self)
-        ensures { Goes TicksOnce self.old self.new }
+        ensures { Steps TicksOnce self.old self.new }
     {
         let answer = self.give(Event::Tick);
         self.count(answer);
@@ -55,7 +55,7 @@ impl<W: Wire + Drop, A: Allocator> Driver<W, A> {
 
     /// Counts a millisecond, if it wasn't refused.
     fn count(&mut self, answer: Result<Did, Refused>)
-        ensures { Goes (Counts answer) self.old self.new }
+        ensures { Steps (Counts answer) self.old self.new }
     {
         match answer {
             Ok(_) => {

@@ -4,7 +4,7 @@ ghost use Rattle.std.specs.Prelude.{◌<◌, ◌≤◌, true, length};
 ghost use Rattle.sv_history.specs.declared.event.Config.{Config};
 ghost use Rattle.sv_history.specs.declared.event.Port.TheVariants.{Conn};
 ghost use Rattle.sv_serve.specs.Heard.{WasRead, WasProbed, bytes_of, IsWithin};
-ghost use Rattle.sv_serve.specs.Moment.{Moment, Goes, Each};
+ghost use Rattle.sv_serve.specs.DriverView.{DriverView, Steps, ForEach};
 ghost use Rattle.sv_serve.specs.Asked.{HasRoom, IsOpen};
 ghost use Rattle.sv_serve.specs.Premises.{From};
 ghost use Rattle.sv_serve.specs.Steps.{Hears, ReadsFrom, ReadsUpTo, Probes, ProbesIf, Drops};
@@ -26,7 +26,7 @@ fn read_into<W: Wire>(wire: &mut W, conn: u8, buffer: &mut [u8], size: usize) ->
 impl<W: Wire + Drop, A: Allocator> Driver<W, A> {
     /// Reads each connection once.
     pub(crate) fn read_each(&mut self)
-        ensures { Goes (Each 16 (ReadsFrom W.hears)) self.old self.new }
+        ensures { Steps (ForEach 16 (ReadsFrom W.hears)) self.old self.new }
     {
         for conn in 0..CONNECTIONS {
             if self.is_unused(conn) {
@@ -39,7 +39,7 @@ impl<W: Wire + Drop, A: Allocator> Driver<W, A> {
     /// Reads a connection once, if it has room.
     fn read(&mut self, conn: u8)
         requires { conn < 16 }
-        ensures { Goes (ReadsFrom W.hears conn) self.old self.new }
+        ensures { Steps (ReadsFrom W.hears conn) self.old self.new }
     {
         let room = self.server.room(conn);
         self.read_up_to(room, conn);
@@ -48,7 +48,7 @@ impl<W: Wire + Drop, A: Allocator> Driver<W, A> {
     /// Reads a connection that has room for so many bytes.
     fn read_up_to(&mut self, room: u32, conn: u8)
         requires { conn < 16 }
-        ensures { From (λ (config : Config) (at : Moment W). HasRoom conn config at room)
+        ensures { From (λ (config : Config) (at : DriverView W). HasRoom conn config at room)
             (ReadsUpTo W.hears room conn) self.old self.new }
     {
         if room == 0 {
@@ -69,7 +69,7 @@ impl<W: Wire + Drop, A: Allocator> Driver<W, A> {
     /// Asks whether a connection that has no room is gone, if it is open.
     fn probe(&mut self, conn: u8)
         requires { conn < 16 }
-        ensures { Goes (Probes W.hears conn) self.old self.new }
+        ensures { Steps (Probes W.hears conn) self.old self.new }
     {
         let opened = self.server.is_open(Port::Conn(conn));
         self.probe_if(conn, opened);
@@ -78,7 +78,8 @@ impl<W: Wire + Drop, A: Allocator> Driver<W, A> {
     /// Asks whether a connection is gone, if this is so.
     fn probe_if(&mut self, conn: u8, opened: bool)
         requires { conn < 16 }
-        ensures { From (λ (config : Config) (at : Moment W). IsOpen (Conn conn) config at opened)
+        ensures { From (λ (config : Config) (at : DriverView W). IsOpen
+            (Conn conn) config at opened)
             (ProbesIf W.hears conn opened) self.old self.new }
     {
         if opened {
@@ -90,7 +91,7 @@ impl<W: Wire + Drop, A: Allocator> Driver<W, A> {
 
     /// Asks the wire whether a connection is gone.
     fn ask(&mut self, conn: u8, drops: bool) -> Answer<()>
-        ensures { Goes (Hears W.hears (WasProbed conn drops result)) self.old self.new }
+        ensures { Steps (Hears W.hears (WasProbed conn drops result)) self.old self.new }
     {
         self.wire.probe(conn, drops)
     }
@@ -98,7 +99,7 @@ impl<W: Wire + Drop, A: Allocator> Driver<W, A> {
     /// Closes a connection that is gone.
     fn drop_gone(&mut self, conn: u8, answer: Answer<()>)
         requires { conn < 16 }
-        ensures { From (λ (config : Config) (at : Moment W). IsOpen (Conn conn) config at true)
+        ensures { From (λ (config : Config) (at : DriverView W). IsOpen (Conn conn) config at true)
             (Drops W.hears conn answer) self.old self.new }
     {
         match answer {

@@ -4,7 +4,7 @@ ghost use Rattle.std.specs.Prelude.{◌≡◌, ◌↔◌, ◌+◌, true, false, 
 ghost use Rattle.sv_history.specs.declared.event.Config.{Config};
 ghost use Rattle.sv_history.specs.Event.{PlainEvent};
 ghost use Rattle.sv_server.specs.Server.State.{StandsFor};
-ghost use Rattle.sv_serve.specs.Moment.{moment};
+ghost use Rattle.sv_serve.specs.DriverView.{driver_view};
 ghost use Rattle.sv_serve.specs.Sweep.{IsNoneDue};
 ghost use Rattle.sv_serve.specs.Still.{StaysStill};
 
@@ -19,7 +19,7 @@ impl<W: Wire + Drop, A: Allocator> Driver<W, A> {
     pub fn is_still(&self, ticks: u32) -> bool
         ensures { (config : Config) (history : List PlainEvent)
             → StandsFor self.now.server config history
-            → StaysStill ticks config (moment self.now history) result }
+            → StaysStill ticks config (driver_view self.now history) result }
     {
         self.server.is_still(ticks) && !self.is_due_within(ticks)
     }

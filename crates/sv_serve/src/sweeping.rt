@@ -1,6 +1,6 @@
 //! A sweep.
 
-ghost use Rattle.sv_serve.specs.Moment.{Goes};
+ghost use Rattle.sv_serve.specs.DriverView.{Steps};
 ghost use Rattle.sv_serve.specs.Sweep.{Sweeps};
 
 use crate::driver::Driver;
@@ -22,7 +22,7 @@ impl<W: Wire + Drop, A: Allocator> Driver<W, A> {
     /// Where reading or writing fails, the connection or the channel is closed. Where a call finds
     /// no memory, it is refused: it is answered so, and its connection stays.
     pub fn sweep(&mut self, ticks: u32)
-        ensures { Goes (Sweeps W.hears ticks) self.old self.new }
+        ensures { Steps (Sweeps W.hears ticks) self.old self.new }
     {
         self.accept(Role::Core);
         self.accept(Role::Abort);

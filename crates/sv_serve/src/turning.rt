@@ -2,7 +2,7 @@
 
 ghost use Rattle.std.specs.Prelude.{◌≡◌, ◌<◌};
 ghost use Rattle.sv_history.specs.Print.{is_no_memory};
-ghost use Rattle.sv_serve.specs.Moment.{Goes, Each};
+ghost use Rattle.sv_serve.specs.DriverView.{Steps, ForEach};
 ghost use Rattle.sv_serve.specs.Steps.{Turns, TurnsIf, EndsTurn, RefusesIf};
 ghost use Rattle.sv_serve.specs.Premises.{From, MayFindNone, FindsNoneIf};
 
@@ -21,7 +21,7 @@ fn is_no_memory(refused: Refused) -> bool
 impl<W: Wire + Drop, A: Allocator> Driver<W, A> {
     /// Takes a call of each connection that has one.
     pub(crate) fn turn_each(&mut self)
-        ensures { Goes (Each 16 Turns) self.old self.new }
+        ensures { Steps (ForEach 16 Turns) self.old self.new }
     {
         for conn in 0..CONNECTIONS {
             if self.is_unused(conn) {
@@ -34,7 +34,7 @@ impl<W: Wire + Drop, A: Allocator> Driver<W, A> {
     /// Takes a call of a connection, if it has one.
     fn turn(&mut self, conn: u8)
         requires { conn < 16 }
-        ensures { Goes (Turns conn) self.old self.new }
+        ensures { Steps (Turns conn) self.old self.new }
     {
         let ready = self.server.ready(conn);
         self.take(conn, ready);
@@ -43,7 +43,7 @@ impl<W: Wire + Drop, A: Allocator> Driver<W, A> {
     /// Takes a call of a connection, if this is so.
     fn take(&mut self, conn: u8, ready: bool)
         requires { conn < 16 }
-        ensures { Goes (TurnsIf conn ready) self.old self.new }
+        ensures { Steps (TurnsIf conn ready) self.old self.new }
     {
         if ready {
             let answer = self.give(Event::Turn { conn });

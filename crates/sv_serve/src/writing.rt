@@ -3,7 +3,7 @@
 ghost use Rattle.std.specs.Prelude.{◌≡◌, ◌<◌, ◌≤◌, ℕ};
 ghost use Rattle.sv_history.specs.declared.event.Port.TheVariants.{Conn, Intr};
 ghost use Rattle.sv_history.specs.Event.{port_number};
-ghost use Rattle.sv_serve.specs.Moment.{Goes, Each};
+ghost use Rattle.sv_serve.specs.DriverView.{Steps, ForEach};
 ghost use Rattle.sv_serve.specs.Steps.{WritesTo, EndsWrite};
 ghost use Rattle.sv_serve.specs.Premises.{From, Handed};
 
@@ -15,7 +15,7 @@ use sv_server::{Event, Port};
 impl<W: Wire + Drop, A: Allocator> Driver<W, A> {
     /// Writes what waits on each connection.
     pub(crate) fn write_connections(&mut self)
-        ensures { Goes (Each 16 (λ (c : ℕ). WritesTo W.hears (Conn c))) self.old self.new }
+        ensures { Steps (ForEach 16 (λ (c : ℕ). WritesTo W.hears (Conn c))) self.old self.new }
     {
         for conn in 0..CONNECTIONS {
             if self.is_unused(conn) {
@@ -27,7 +27,7 @@ impl<W: Wire + Drop, A: Allocator> Driver<W, A> {
 
     /// Writes what waits on each interrupt channel.
     pub(crate) fn write_channels(&mut self)
-        ensures { Goes (Each 16 (λ (c : ℕ). WritesTo W.hears (Intr c))) self.old self.new }
+        ensures { Steps (ForEach 16 (λ (c : ℕ). WritesTo W.hears (Intr c))) self.old self.new }
     {
         for conn in 0..CONNECTIONS {
             self.write(Port::Intr(conn));
@@ -38,7 +38,7 @@ impl<W: Wire + Drop, A: Allocator> Driver<W, A> {
     #[inline(always)]
     fn write(&mut self, port: Port)
         requires { port_number port < 16 }
-        ensures { Goes (WritesTo W.hears port) self.old self.new }
+        ensures { Steps (WritesTo W.hears port) self.old self.new }
     {
         let bytes = self.server.waiting(port);
         if bytes.is_empty() {
@@ -57,14 +57,14 @@ impl<W: Wire + Drop, A: Allocator> Driver<W, A> {
         match (answer, port) {
             (Answer::Got(count), _) => {
                 let count = count as u32;
-                self.happen(Event::Took { port, count });
+                self.apply(Event::Took { port, count });
             }
             (Answer::Pending, _) => {}
             (Answer::Failed, Port::Conn(conn)) => self.close(conn),
             (Answer::Failed, Port::Intr(conn)) => {
-                self.hang_up(conn);
+                self.close_channel(conn);
                 let port = Port::Intr(conn);
-                self.happen(Event::Close { port });
+                self.apply(Event::Close { port });
             }
         }
     }

@@ -260,7 +260,8 @@ impl<A: Allocator> Connection<A> {
     /// Answers the call that was taken, where there is one.
     pub fn answer(&mut self, xid: u32, answer: &Answer<'_>)
         requires { IsShort answer.now }
-        ensures { (acts : List ConnAct) → IsConnection self.old acts → is_some (life acts).unanswered ≡ true
+        ensures { (acts : List ConnAct) → IsConnection self.old acts → is_some
+            (life acts).unanswered ≡ true
             → IsConnection self.new (Replied (answer_bytes xid answer.now) ∷ acts) }
     {
         if !self.busy {
@@ -273,7 +274,8 @@ impl<A: Allocator> Connection<A> {
 
     /// The record that was taken, where there is one, is no call.
     pub fn fault(&mut self)
-        ensures { (acts : List ConnAct) → IsConnection self.old acts → is_some (life acts).unanswered ≡ true
+        ensures { (acts : List ConnAct) → IsConnection self.old acts → is_some
+            (life acts).unanswered ≡ true
             → IsConnection self.new (Faulted ∷ acts) }
     {
         if !self.busy {

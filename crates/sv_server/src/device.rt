@@ -10,10 +10,10 @@ ghost use Rattle.sv_scan.specs.declared.acts.ScanAct.TheVariants.{Input};
 ghost use Rattle.sv_layers.specs.Act.{Scanned};
 ghost use Rattle.sv_instrument.specs.Stimulus.{IsFired, external_acts, tick_acts};
 ghost use Rattle.sv_instrument.specs.Step.{IsStep};
-ghost use Rattle.sv_instrument.specs.Representation.{left_of};
+ghost use Rattle.sv_instrument.specs.Representation.{instrument_measure};
 ghost use Rattle.sv_history.specs.declared.event.Config.{Config};
 ghost use Rattle.sv_links.specs.Channels.{ChannelClosed};
-ghost use Rattle.sv_history.specs.Act.{DeviceAct, Linked, Waited, Channel, Happened, Ticked, link_acts, wait_acts, instrument_acts, ticks};
+ghost use Rattle.sv_history.specs.Act.{DeviceAct, Linked, Waited, Channel, Applied, Ticked, link_acts, wait_acts, instrument_acts, ticks};
 ghost use Rattle.sv_history.specs.Settling.{CanResume};
 ghost use Rattle.sv_history.specs.Still.{IsStill};
 ghost use Rattle.sv_server.specs.Device.Inside.WaitingCall.{IsKept};
@@ -122,7 +122,7 @@ impl<A: Allocator> Device<A> {
         requires { (self.old.clock == 9223372036854775807) ≡ false }
         ensures stands { (config : Config) (acts : List DeviceAct) → IsDevice self.old config acts
             → IsDevice self.new config
-            (map Happened (tick_acts (instrument_acts acts)) ++ Ticked ∷ acts) }
+            (map Applied (tick_acts (instrument_acts acts)) ++ Ticked ∷ acts) }
         ensures waiting { self.new.waiting ≡ self.old.waiting }
     {
         self.clock += 1;
@@ -133,7 +133,7 @@ impl<A: Allocator> Device<A> {
     /// The voltage of a channel's input is another from now on.
     pub fn input(&mut self, channel: u8, microvolts: i64)
         ensures stands { (config : Config) (acts : List DeviceAct) → IsDevice self.old config acts
-            → IsDevice self.new config (Happened (Scanned (Input channel microvolts)) ∷ acts) }
+            → IsDevice self.new config (Applied (Scanned (Input channel microvolts)) ∷ acts) }
         ensures waiting { self.new.waiting ≡ self.old.waiting }
     {
         let raised = self.instrument.input(channel, microvolts);
@@ -144,7 +144,7 @@ impl<A: Allocator> Device<A> {
     pub fn external(&mut self)
         ensures stands { (config : Config) (acts : List DeviceAct) → IsDevice self.old config acts
             → IsDevice self.new config
-            (map Happened (external_acts (instrument_acts acts)) ++ acts) }
+            (map Applied (external_acts (instrument_acts acts)) ++ acts) }
         ensures waiting { self.new.waiting ≡ self.old.waiting }
     {
         let raised = self.instrument.external();
@@ -219,7 +219,7 @@ impl<A: Allocator> Device<A> {
     fn raise(&mut self, raised: u8)
         ensures stands { (config : Config) (acts : List DeviceAct) (adds : List InstrumentAct)
             → HasDone adds self.old config acts → Raise adds (instrument_acts acts) raised
-            → IsDevice self.new config (map Happened adds ++ acts) }
+            → IsDevice self.new config (map Applied adds ++ acts) }
         ensures waiting { self.new.waiting ≡ self.old.waiting }
         ensures instrument { self.new.instrument ≡ self.old.instrument }
     {
@@ -229,11 +229,11 @@ impl<A: Allocator> Device<A> {
     }
 
     /// The same, where the instrument did something; tells whether it did.
-    fn raise_where(&mut self, raised: Option<u8>) -> bool
+    fn raise_if(&mut self, raised: Option<u8>) -> bool
         ensures some { (count : ℕ) → raised ≡ Some count → (config : Config)
             (acts : List DeviceAct) (adds : List InstrumentAct)
             → HasDone adds self.old config acts → Raise adds (instrument_acts acts) count
-            → IsDevice self.new config (map Happened adds ++ acts) }
+            → IsDevice self.new config (map Applied adds ++ acts) }
         ensures none { raised ≡ None → self.new ≡ self.old }
         ensures answer { result ≡ is_some raised }
         ensures waiting { self.new.waiting ≡ self.old.waiting }
@@ -254,11 +254,11 @@ impl<A: Allocator> Device<A> {
             → InstrumentSteps IsFired result config acts self.old self.new }
         ensures idle { result ≡ false → self.new ≡ self.old }
         ensures measure { IsTrue result
-            → left_of self.new.instrument < left_of self.old.instrument }
+            → instrument_measure self.new.instrument < instrument_measure self.old.instrument }
         ensures waiting { self.new.waiting ≡ self.old.waiting }
     {
         let fired = self.instrument.fire();
-        self.raise_where(fired)
+        self.raise_if(fired)
     }
 
     /// A step of message exchange, where one is due; tells whether one was.
@@ -267,10 +267,10 @@ impl<A: Allocator> Device<A> {
             → InstrumentSteps IsStep result config acts self.old self.new }
         ensures idle { result ≡ false → self.new ≡ self.old }
         ensures measure { IsTrue result
-            → left_of self.new.instrument < left_of self.old.instrument }
+            → instrument_measure self.new.instrument < instrument_measure self.old.instrument }
         ensures waiting { self.new.waiting ≡ self.old.waiting }
     {
         let stepped = self.instrument.step();
-        self.raise_where(stepped)
+        self.raise_if(stepped)
     }
 }

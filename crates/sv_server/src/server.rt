@@ -43,7 +43,7 @@ pub struct Server<A: Allocator = Global> {
     pub(crate) connections: Vec<Connection<A>, A>,
     pub(crate) device: Device<A>,
     /// No connection of this number or above was ever opened.
-    used: u8,
+    connections_used: u8,
 }
 
 impl<A: Allocator> Model for Server<A> {
@@ -56,7 +56,7 @@ impl<A: Allocator> Model for Server<A> {
     ghost view = { λ a. record {
       connections = a.connections.items;
       device = a.device;
-      used = a.used;
+      connections_used = a.connections_used;
     } };
 
     ghost invariant = { λ a. length a.connections.items ≡ 16 };
@@ -87,7 +87,7 @@ impl<A: Allocator> Server<A> {
         Ok(Server {
             connections: connections(alloc)?,
             device: Device::new(alloc, config)?,
-            used: 0,
+            connections_used: 0,
         })
     }
 
@@ -187,11 +187,11 @@ impl<A: Allocator> Server<A> {
 
     /// How many numbers were used: one more than the highest number of a connection that was ever
     /// opened; 0 where none was. Nothing is to do on those that weren't.
-    pub fn used(&self) -> u8
+    pub fn connections_used(&self) -> u8
         ensures { (config : Config) (history : List PlainEvent) → StandsFor self.now config history
             → (log : List Act) × IsLogOf config history log × IsUsed result log }
     {
-        self.used
+        self.connections_used
     }
 
     /// Whether nothing waits for one of the next so many milliseconds: no scan is under way, and no
@@ -246,7 +246,7 @@ impl<A: Allocator> Server<A> {
             return Err(Refused::ConnInUse);
         }
         connection.open(role);
-        self.used = self.used.max(conn.number + 1);
+        self.connections_used = self.connections_used.max(conn.number + 1);
         Ok(Did::Done)
     }
 

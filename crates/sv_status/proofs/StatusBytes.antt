@@ -8,7 +8,7 @@ use Rattle.std.proofs.lemmas.Nat.Bits.{bit_at-lt, bit_at-pow_other}
 use Rattle.sv_logs.proofs.Since.{since_empty, since_step, since_ended}
 use Rattle.sv_status.specs.declared.status_byte.StatusAct.{StatusAct}
 use Rattle.sv_status.specs.declared.status_byte.StatusAct.TheVariants.{Update, Poll}
-use Rattle.sv_status.specs.StatusByte.{Latches, StandsFor, Asks, AsksAt, Master, Reason, Lasts, Request, IsRaised, StatusBit, MasterBit, bits, enable}
+use Rattle.sv_status.specs.StatusByte.{Latches, StandsFor, ServiceRequested, ServiceRequestedAt, Master, Reason, Lasts, Request, IsRaised, StatusBit, MasterBit, bits, enable}
 use Rattle.sv_status.proofs.Words.{not_zero, rose, either_bit, without_six}
 
 -- ---- whether a request stands
@@ -40,15 +40,15 @@ raised-updated word mask acts =
 
 -- The word has these summary bits that ask.
 abbrev pub HasAsking : ℕ → ℕ → ℕ → Type 0
-HasAsking word bits enable = (k : ℕ) → (bit_at word k ≡ 1) ↔ Asks k bits enable
+HasAsking word bits enable = (k : ℕ) → (bit_at word k ≡ 1) ↔ ServiceRequested k bits enable
 
 -- some bit asks
 pub master_is : (word : ℕ) (latches : Latches) (acts : List StatusAct) → StandsFor latches acts → HasAsking word latches.bits latches.enable
     → (not (eqb word 0) ≡ true) ↔ Master acts
 master_is word latches acts is asks =
     let zero = not_zero word in
-    let to : (k : ℕ) → Asks k latches.bits latches.enable → AsksAt k acts = λ k h. rw (is.bits, is.enable) at h in
-    let from : (k : ℕ) → AsksAt k acts → Asks k latches.bits latches.enable = λ k h. rw (is.bits, is.enable) h in (
+    let to : (k : ℕ) → ServiceRequested k latches.bits latches.enable → ServiceRequestedAt k acts = λ k h. rw (is.bits, is.enable) at h in
+    let from : (k : ℕ) → ServiceRequestedAt k acts → ServiceRequested k latches.bits latches.enable = λ k h. rw (is.bits, is.enable) h in (
       (λ h. let some = zero.0 h in (some.0, to some.0 ((asks some.0).0 some.1))),
       (λ m. zero.1 (m.0, (asks m.0).1 (from m.0 m.1))),
     )

@@ -13,20 +13,20 @@ abbrev pub enable : List StatusAct → ℕ
 enable = last_given (elim [ Update word mask ↦ Some mask | _ ↦ None ]) 0
 
 -- A summary bit stands and is enabled; bit 6 is no summary bit.
-abbrev pub Asks : ℕ → ℕ → ℕ → Type 0
-Asks k word mask = (k ≢ 6) × (bit_at word k ≡ 1) × (bit_at mask k ≡ 1)
+abbrev pub ServiceRequested : ℕ → ℕ → ℕ → Type 0
+ServiceRequested k word mask = (k ≢ 6) × (bit_at word k ≡ 1) × (bit_at mask k ≡ 1)
 
-abbrev pub AsksAt : ℕ → List StatusAct → Type 0
-AsksAt k acts = Asks k (bits acts) (enable acts)
+abbrev pub ServiceRequestedAt : ℕ → List StatusAct → Type 0
+ServiceRequestedAt k acts = ServiceRequested k (bits acts) (enable acts)
 
 -- the master summary
 abbrev pub Master : List StatusAct → Type 0
-Master acts = (k : ℕ) × AsksAt k acts
+Master acts = (k : ℕ) × ServiceRequestedAt k acts
 
 -- A reason arises at the newest act: some bit asks that didn't before.
 abbrev pub Reason : List StatusAct → Type 0
 Reason [] = ⊥
-Reason (act ∷ before) = (k : ℕ) × AsksAt k (act ∷ before) × (AsksAt k before → ⊥)
+Reason (act ∷ before) = (k : ℕ) × ServiceRequestedAt k (act ∷ before) × (ServiceRequestedAt k before → ⊥)
 
 -- A request lasts at the newest act: it is no poll, and the master summary stands.
 abbrev pub Lasts : List StatusAct → Type 0

@@ -2,7 +2,7 @@
 
 ghost use Rattle.std.specs.Prelude.{◌≡◌, ◌≢◌, ◌↔◌, ◌⊎◌, ℕ, true, [], ◌∷◌, List};
 ghost use Rattle.std.specs.Int.{bit_at};
-ghost use Rattle.sv_status.specs.StatusByte.{StandsFor, Asks, StatusBit, MasterBit, IsRaised, Master, Request, enable as enable_of};
+ghost use Rattle.sv_status.specs.StatusByte.{StandsFor, ServiceRequested, StatusBit, MasterBit, IsRaised, Master, Request, enable as enable_of};
 
 use std::marker::Model;
 use sv_errors::Layer;
@@ -127,7 +127,7 @@ impl StatusByte {
 
 /// The summary bits that stand and are enabled.
 fn asking(bits: u8, enable: u8) -> u8
-    ensures { (k : ℕ) → (bit_at result k ≡ 1) ↔ Asks k bits enable }
+    ensures { (k : ℕ) → (bit_at result k ≡ 1) ↔ ServiceRequested k bits enable }
 {
     bits & enable & !REQUEST
 }

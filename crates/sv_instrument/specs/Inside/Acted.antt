@@ -2,20 +2,20 @@
 use Rattle.std.specs.Prelude.{◌≡◌, ℕ, ◌+◌, ◌*◌, ◌<◌, ◌≤◌, min, Bool, true, false, List, length, Option, Some, Result}
 use Rattle.sv_errors.specs.declared.code.Code.{Code}
 use Rattle.sv_exchange.specs.Exchange.{units_done, current, message, next_unit}
-use Rattle.sv_exchange.specs.Contents.{work_of}
+use Rattle.sv_exchange.specs.Contents.{exchange_measure}
 use Rattle.sv_command.specs.declared.order.Order.{Order}
 use Rattle.sv_command.specs.Unit.{IsReadAs}
 use Rattle.sv_layers.specs.declared.change.Awaited.{Awaited}
 use Rattle.sv_layers.specs.Act.{Act, exchange_acts}
-use Rattle.sv_layers.specs.Inside.Kept.{Layered, StandsFor as Layers, max_count}
+use Rattle.sv_layers.specs.Inside.Representation.{LayerState, StandsFor as Layers, max_count}
 use Rattle.sv_instrument.specs.HeldUnit.{held}
 use Rattle.sv_instrument.specs.Path.{IsPath, units_begun}
 use Rattle.sv_instrument.specs.RequestCount.{Raises}
 use Rattle.sv_instrument.specs.Step.{Does, Starts, IsStep}
-use Rattle.sv_instrument.specs.Representation.{Kept, StandsFor, unheld, left_of, IsHeldRight}
+use Rattle.sv_instrument.specs.Representation.{Kept, StandsFor, unheld, instrument_measure, IsHeldRight}
 
 -- The layers stand for the log, and have counted the requests for service that were raised from another log on.
-pub record Counts (start : List Act) (layers : Layered) (log : List Act) : Type 0 where
+pub record Counts (start : List Act) (layers : LayerState) (log : List Act) : Type 0 where
   pub stands : Layers layers log
   pub raised : ℕ
   pub raises : Raises start log raised
@@ -41,7 +41,7 @@ pub record BeginsOne (log new : List Act) : Type 0 where
   pub begun : units_begun new ≡ units_done (current (exchange_acts log)) + 1
 
 -- A unit made this of a log, behind a place from which requests are counted; what it will answer is told, if it is held.
-pub record Behaves (Makes : List Act → Type 0) (start : List Act) (layers : Layered) (awaited : Option Awaited) (log : List Act)
+pub record Behaves (Makes : List Act → Type 0) (start : List Act) (layers : LayerState) (awaited : Option Awaited) (log : List Act)
     : Type 0 where
   pub new : List Act
   pub makes : Makes new
@@ -54,8 +54,8 @@ abbrev pub Follows : List ℕ → List (List ℕ) → List (List ℕ) → List A
 Follows unit front behind log new = (outcome : Result Order Code) × IsReadAs front unit outcome behind × Does outcome log new
 
 -- Less is left to be done, and where a unit is held, it is the one that is due.
-pub record Advances (before after : Layered) (held : Option Awaited) : Type 0 where
-  pub less : 2 * work_of after.exchange + unheld held < 2 * work_of before.exchange + 1
+pub record Advances (before after : LayerState) (held : Option Awaited) : Type 0 where
+  pub less : 2 * exchange_measure after.exchange + unheld held < 2 * exchange_measure before.exchange + 1
   pub right : IsHeldRight held after
 
 -- The next unit of a log started.
@@ -69,5 +69,5 @@ pub record StartsUnit (start log : List Act) (kept : Kept) : Type 0 where
 -- The step that is due was taken, so that less is left to be done; or none is due, and nothing changed.
 abbrev pub Steps : Bool → Kept → Kept → Type 0
 Steps true before after = ((log : List Act) → StandsFor before log → (new : List Act) × IsStep log new × Runs log after new)
-    × (left_of after < left_of before)
+    × (instrument_measure after < instrument_measure before)
 Steps false before after = ((log : List Act) → StandsFor before log → (new : List Act) → IsStep log new → ⊥) × (after ≡ before)

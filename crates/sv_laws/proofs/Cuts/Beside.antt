@@ -5,7 +5,7 @@ use Rattle.std.proofs.lemmas.Bool.{cases_eq}
 use Rattle.sv_errors.specs.declared.code.Code.TheVariants.{InputBufferOverrun}
 use Rattle.sv_exchange.specs.Exchange.{Overran}
 use Rattle.sv_layers.specs.Act.{Act as InstrumentAct, Exchanged, Reported, exchange_acts as exchanged}
-use Rattle.sv_history.specs.Act.{Act, ConnAct, DeviceAct, CallTaken, Replied, Happened, On, OnDevice, of, device_acts, instrument_acts}
+use Rattle.sv_history.specs.Act.{Act, ConnAct, DeviceAct, CallTaken, Replied, Applied, On, OnDevice, of, device_acts, instrument_acts}
 use Rattle.sv_history.proofs.Lives.{unanswered}
 use Rattle.sv_history.proofs.Projections.{of_mine, of_other}
 use Rattle.sv_laws.proofs.Cuts.SameExchange.{text_cut}
@@ -41,7 +41,7 @@ told_accepts bytes ended acts other v = record {
 }
 
 told_happened : (act : InstrumentAct) (acts other : List DeviceAct) → SameTold acts other
-    → SameTold (Happened act ∷ acts) (Happened act ∷ other)
+    → SameTold (Applied act ∷ acts) (Applied act ∷ other)
 told_happened act acts other v = record {
   status = status_act act (instrument_acts acts) (instrument_acts other) v.status;
   tells = tells_happened act acts other v.status v.tells;
@@ -75,11 +75,11 @@ parts_shared x y ended acts =
 
 -- and where it is reported behind the first part, and behind the whole, that the message is too long
 abbrev pub reports : List DeviceAct → List DeviceAct
-reports acts = Happened (Reported InputBufferOverrun) ∷ Happened (Exchanged Overran) ∷ acts
+reports acts = Applied (Reported InputBufferOverrun) ∷ Applied (Exchanged Overran) ∷ acts
 
 told_reports : (acts other : List DeviceAct) → SameTold acts other → SameTold (reports acts) (reports other)
-told_reports acts other v = told_happened (Reported InputBufferOverrun) (Happened (Exchanged Overran) ∷ acts)
-    (Happened (Exchanged Overran) ∷ other) (told_happened (Exchanged Overran) acts other v)
+told_reports acts other v = told_happened (Reported InputBufferOverrun) (Applied (Exchanged Overran) ∷ acts)
+    (Applied (Exchanged Overran) ∷ other) (told_happened (Exchanged Overran) acts other v)
 
 pub long_shared : (x y : List ℕ) (ended : Bool) (acts : List DeviceAct)
     → SameShared (reports (accepts (x ++ y) ended ∷ acts)) (accepts y ended ∷ reports (accepts x false ∷ acts))

@@ -24,10 +24,10 @@ use Rattle.sv_instrument.specs.CommandEffect.{answered}
 use Rattle.sv_instrument.specs.Stimulus.{IsFired}
 use Rattle.sv_instrument.specs.Step.{released, StepOf, IsStep, is_answerable}
 use Rattle.sv_history.specs.declared.event.Config.{Config}
-use Rattle.sv_history.specs.Act.{Act, DeviceAct, Happened, OnDevice, device_acts, link_acts, wait_acts, instrument_acts, exchange_acts, ticks}
+use Rattle.sv_history.specs.Act.{Act, DeviceAct, Applied, OnDevice, device_acts, link_acts, wait_acts, instrument_acts, exchange_acts, ticks}
 use Rattle.sv_history.specs.PolledStatus.{IsPolled}
 use Rattle.sv_history.specs.Settling.{InstrumentDoes, Resumes, TimesOut, IsNext, SettlesIn}
-use Rattle.sv_laws.specs.Cuts.{AllRest}
+use Rattle.sv_laws.specs.Cuts.{NoneWaits}
 use Rattle.sv_history.proofs.OneStep.{went_on, gave_up}
 use Rattle.sv_laws.proofs.Cuts.LongerText.{ends_none, long_too}
 use Rattle.sv_laws.proofs.Cuts.Suspended.{Rested}
@@ -44,7 +44,7 @@ record Calm (acts base : List DeviceAct) : Type 0 where
 -- What was settled: nothing is due, no read or write waits, and a poll would give this.
 pub record Resting (config : Config) (log : List Act) : Type 0 where
   pub rests : Rested config log
-  pub none : AllRest (wait_acts (device_acts log))
+  pub none : NoneWaits (wait_acts (device_acts log))
   pub polled : ℕ
   pub said : IsPolled polled (device_acts log)
 
@@ -60,7 +60,7 @@ abbrev may_resume : List DeviceAct → ℕ → Bool
 may_resume acts c = is_there (holder (link_acts acts)) (not (has_ended (exchange_acts acts))) (is_answerable (instrument_acts acts))
     (link c (wait_acts acts)) (waits c (wait_acts acts))
 
-able_same : (acts base : List DeviceAct) (c : ℕ) → AllRest (wait_acts base) → Calm acts base → may_resume acts c ≡ may_resume base c
+able_same : (acts base : List DeviceAct) (c : ℕ) → NoneWaits (wait_acts base) → Calm acts base → may_resume acts c ≡ may_resume base c
 able_same acts base c rest v =
     let writes = not (has_ended (exchange_acts acts)) in
     let reads = is_answerable (instrument_acts acts) in
@@ -72,7 +72,7 @@ able_same acts base c rest v =
 no_fire : (config : Config) (log base new : List Act) → Rested config base → Calm (device_acts log) (device_acts base)
     → InstrumentDoes IsFired log new → ⊥
 no_fire config log base new rest v (adds, fired, is) =
-    rest.fires (map OnDevice (map Happened (Scanned (Trigger Immediate) ∷ [])) ++ base) (
+    rest.fires (map OnDevice (map Applied (Scanned (Trigger Immediate) ∷ [])) ++ base) (
       Scanned (Trigger Immediate) ∷ [],
       (ap (λ (l : List ScanAct). trigger_fault (kept l) Immediate) (sym v.scans) ∙ fired.0, refl),
       refl,
@@ -147,7 +147,7 @@ held_waits : (config : Config) (base : List Act) (what : Awaited) → Rested con
 held_waits config base what rest holds idle =
     let log = instrument_acts (device_acts base) in
     let so = released_adds what log in
-    rest.steps (map OnDevice (map Happened so.0) ++ base) (
+    rest.steps (map OnDevice (map Applied so.0) ++ base) (
       so.0,
       subst (λ (o : Option Awaited). StepOf o (due (exchanged log)) log (so.0 ++ log)) (sym holds) (idle, sym so.1),
       refl,
@@ -179,7 +179,7 @@ step_long log new unended none step =
 
 -- a message that is too long is reported
 abbrev pub reported : List Act → List Act
-reported log = OnDevice (Happened (Reported InputBufferOverrun)) ∷ OnDevice (Happened (Exchanged Overran)) ∷ log
+reported log = OnDevice (Applied (Reported InputBufferOverrun)) ∷ OnDevice (Applied (Exchanged Overran)) ∷ log
 
 -- No unit is held, and with these bytes the message becomes too long.
 abbrev pub BecomesLong : List ℕ → List DeviceAct → Type 0
@@ -221,7 +221,7 @@ first_step config c call reply bytes base mid log steps None rest line unended h
     let long = step_long acts (adds ++ acts) (ends_none bytes (exchange_acts (device_acts base)) line ∙ unended) holds step in
     let same : adds ≡ Reported InputBufferOverrun ∷ Exchanged Overran ∷ [] =
     append_cancel_right adds (Reported InputBufferOverrun ∷ Exchanged Overran ∷ []) acts long.1 in
-    let there : mid ≡ reported now = is ∙ ap (λ (l : List InstrumentAct). map OnDevice (map Happened l) ++ now) same in
+    let there : mid ≡ reported now = is ∙ ap (λ (l : List InstrumentAct). map OnDevice (map Applied l) ++ now) same in
     inr (
       reported_once config c call reply bytes base log steps rest line unended holds
           (subst (λ (l : List Act). SettlesIn steps config l log) there more),

@@ -9,7 +9,7 @@ use Rattle.sv_vxi.specs.declared.error_code.ErrorCode.TheVariants.{Abort}
 use Rattle.sv_vxi.specs.Arguments.{Arguments}
 use Rattle.sv_vxi.specs.Results.{Outcome}
 use Rattle.sv_history.specs.declared.event.Config.{Config}
-use Rattle.sv_history.specs.Act.{Act, ConnAct, DeviceAct, Opened, Piece, CallTaken, Faulted, Replied, BytesTaken, PortClosed, Happened, On, OnDevice, of, device_acts}
+use Rattle.sv_history.specs.Act.{Act, ConnAct, DeviceAct, Opened, Piece, CallTaken, Faulted, Replied, BytesTaken, PortClosed, Applied, On, OnDevice, of, device_acts}
 use Rattle.sv_history.proofs.Lives.{unanswered}
 use Rattle.sv_history.specs.CallOutcome.{CallOutcome, only}
 use Rattle.sv_history.specs.CoreCall.{CoreCall, failure}
@@ -80,7 +80,7 @@ adds_then log mid new one other = (
 )
 
 next_none : (config : Config) (log new : List Act) → IsNext config log new → AddsNoCall log new
-next_none config log new (inl fires) = (map OnDevice (map Happened fires.0), fires.2, none_shared (map Happened fires.0))
+next_none config log new (inl fires) = (map OnDevice (map Applied fires.0), fires.2, none_shared (map Applied fires.0))
 next_none config log new (inr (none, inl (c, wait, polled, oldest, for, said, is))) =
     let call = core_call_in (unanswered (of c log)) in
     let acts = device_acts log in
@@ -90,7 +90,7 @@ next_none config log new (inr (none, inl (c, wait, polled, oldest, for, said, is
       none_effect c effect (none_ended c (λ arguments. continued config polled c arguments (next_wait wait arguments acts) acts) call),
     )
 next_none config log new (inr (none, inr (still, inl step))) =
-    (map OnDevice (map Happened step.0), step.2, none_shared (map Happened step.0))
+    (map OnDevice (map Applied step.0), step.2, none_shared (map Applied step.0))
 next_none config log new (inr (none, inr (still, inr (idle, (c, wait, oldest, for, is))))) =
     (acts_of c (failed (late wait) c (core_call_in (unanswered (of c log)))), is, none_failed (late wait) c log)
 

@@ -7,7 +7,7 @@ use Rattle.sv_history.specs.declared.event.Role.{Role}
 use Rattle.sv_history.specs.Act.{Act, ConnAct, Opened, Piece, CallTaken, Faulted, Replied, BytesTaken, PortClosed, On, OnDevice, of}
 use Rattle.sv_history.specs.Connection.{next_call}
 use Rattle.sv_history.proofs.Lives.{open_role, unanswered, completed, took_no_call, stream}
-use Rattle.sv_history.specs.Request.{asked, next_request}
+use Rattle.sv_history.specs.Request.{request_for, next_request}
 use Rattle.sv_laws.specs.Adding.{all_replies}
 
 -- Behind these bytes of replies both sent the same.
@@ -137,8 +137,8 @@ next_call_ahead first second acts others v =
 pub next_request_ahead : (first second : List ℕ) (acts others : List ConnAct) → SameAhead first second acts others
     → next_request acts ≡ next_request others
 next_request_ahead first second acts others v =
-    ap (λ (o : Option (List ℕ)). asked (open_role acts) o) (next_call_ahead first second acts others v)
-    ∙ ap (λ (r : Option Role). asked r (next_call others)) v.role
+    ap (λ (o : Option (List ℕ)). request_for (open_role acts) o) (next_call_ahead first second acts others v)
+    ∙ ap (λ (r : Option Role). request_for r (next_call others)) v.role
 
 -- ---- the same acts in front of two logs
 

@@ -13,7 +13,7 @@ use Rattle.sv_instrument.specs.HeldUnit.{held}
 use Rattle.sv_instrument.specs.Step.{is_held, is_answerable}
 use Rattle.sv_layers.specs.declared.change.Awaited.{Awaited}
 use Rattle.sv_history.specs.declared.event.Config.{Config}
-use Rattle.sv_history.specs.Act.{DeviceAct, Linked, Waited, Channel, Happened, Ticked, link_acts, wait_acts, channel_acts, instrument_acts, ticks}
+use Rattle.sv_history.specs.Act.{DeviceAct, Linked, Waited, Channel, Applied, Ticked, link_acts, wait_acts, channel_acts, instrument_acts, ticks}
 use Rattle.sv_history.specs.PolledStatus.{IsPolled}
 use Rattle.sv_history.specs.Requests.{HearsOf, request_told}
 use Rattle.sv_history.specs.CoreCall.{lid_of}
@@ -53,7 +53,7 @@ device_act (Channel act) acts other v = record {
   instrument = v.instrument;
   clock = v.clock;
 }
-device_act (Happened act) acts other v = record {
+device_act (Applied act) acts other v = record {
   links = v.links;
   waits = v.waits;
   channels = v.channels;
@@ -79,7 +79,7 @@ abbrev pub Tells : List DeviceAct → List DeviceAct → Type 0
 Tells acts other = (told : List ChannelAct) → HearsOf acts told → HearsOf other told
 
 pub tells_happened : (act : InstrumentAct) (acts other : List DeviceAct) → SameStatus (instrument_acts acts) (instrument_acts other)
-    → Tells acts other → Tells (Happened act ∷ acts) (Happened act ∷ other)
+    → Tells acts other → Tells (Applied act ∷ acts) (Applied act ∷ other)
 tells_happened act acts other v tells told (before, raised, hears, so, is) =
     let same = raised_same act (instrument_acts acts) (instrument_acts other) v in
     (before, raised, tells before hears, ((λ e. same.0 (so.0 e)), (λ r. so.1 (same.1 r))), is)
@@ -89,13 +89,13 @@ pub tells_act : (act : DeviceAct) (acts other : List DeviceAct) → SameDevice a
 tells_act (Linked act) acts other v tells told (before, hears, is) = (before, tells before hears, is)
 tells_act (Waited act) acts other v tells told hears = tells told hears
 tells_act (Channel act) acts other v tells told (before, hears, is) = (before, tells before hears, is)
-tells_act (Happened act) acts other v tells told hears =
+tells_act (Applied act) acts other v tells told hears =
     tells_happened act acts other v.instrument.status tells told hears
 tells_act Ticked acts other v tells told hears = tells told hears
 
 -- what is accepted tells nothing
 abbrev pub accepts : List ℕ → Bool → DeviceAct
-accepts bytes ended = Happened (Exchanged (Accepted bytes ended))
+accepts bytes ended = Applied (Exchanged (Accepted bytes ended))
 
 raised_not : (raised : Bool) (P : Type 0) → (P → ⊥) → ((raised ≡ true) ↔ P) → raised ≡ false
 raised_not true P none so = absurd (none (so.0 refl))

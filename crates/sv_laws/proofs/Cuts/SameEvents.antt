@@ -15,7 +15,7 @@ use Rattle.sv_instrument.specs.Stimulus.{external_acts, tick_acts}
 use Rattle.sv_history.specs.declared.event.Port.TheVariants.{Conn, Intr}
 use Rattle.sv_history.specs.declared.event.Config.{Config}
 use Rattle.sv_history.specs.Event.{IsEvent, PlainEvent, Open, Bytes, Turn, Refuse, Took, Close, Dialed, Input, External, Tick}
-use Rattle.sv_history.specs.Act.{Act, DeviceAct, Opened, Piece, CallTaken, Replied, BytesTaken, PortClosed, Linked, Waited, Channel, Happened, Ticked, On, OnDevice, of, device_acts, link_acts, instrument_acts}
+use Rattle.sv_history.specs.Act.{Act, DeviceAct, Opened, Piece, CallTaken, Replied, BytesTaken, PortClosed, Linked, Waited, Channel, Applied, Ticked, On, OnDevice, of, device_acts, link_acts, instrument_acts}
 use Rattle.sv_history.specs.Connection.{next_call}
 use Rattle.sv_history.proofs.Lives.{unanswered}
 use Rattle.sv_history.specs.CoreCall.{CoreCall}
@@ -115,15 +115,15 @@ close_alike c log other alike =
 -- ---- time
 
 tick_alike : (log other : List Act) → Alike log other
-    → Alike ((map OnDevice (map Happened (tick_acts (instrument_acts (device_acts log)))) ++ OnDevice Ticked ∷ []) ++ log)
-    ((map OnDevice (map Happened (tick_acts (instrument_acts (device_acts other)))) ++ OnDevice Ticked ∷ []) ++ other)
+    → Alike ((map OnDevice (map Applied (tick_acts (instrument_acts (device_acts log)))) ++ OnDevice Ticked ∷ []) ++ log)
+    ((map OnDevice (map Applied (tick_acts (instrument_acts (device_acts other)))) ++ OnDevice Ticked ∷ []) ++ other)
 tick_alike log other alike =
     let ticked = OnDevice Ticked ∷ [] in
-    let adds = map Happened (tick_acts (instrument_acts (device_acts log))) in
+    let adds = map Applied (tick_acts (instrument_acts (device_acts log))) in
     alike_moved (map OnDevice adds ++ (ticked ++ log)) (map OnDevice adds ++ (ticked ++ other)) _ _
     (append_assoc (map OnDevice adds) ticked log)
-    (append_assoc (map OnDevice (map Happened (tick_acts (instrument_acts (device_acts other))))) ticked other
-    ∙ ap (λ (l : List DeviceAct). map OnDevice (map Happened (tick_acts (instrument_acts l))) ++ (ticked ++ other)) (sym alike.device))
+    (append_assoc (map OnDevice (map Applied (tick_acts (instrument_acts (device_acts other))))) ticked other
+    ∙ ap (λ (l : List DeviceAct). map OnDevice (map Applied (tick_acts (instrument_acts l))) ++ (ticked ++ other)) (sym alike.device))
     (alike_shared adds (ticked ++ log) (ticked ++ other) (alike_shared (Ticked ∷ []) log other alike))
 
 -- ---- each event
@@ -160,11 +160,11 @@ own_alike config polled (Dialed c ok) log other is alike =
     (ap (λ (o : Option (List ℕ)). acts_of c (connected c ok (core_call_in o)) ++ other) (sym (alike.each c).call))
     (alike_effect c effect log other (connected_fits c ok (core_call_in (unanswered (of c log)))) alike)
 own_alike config polled (Input channel microvolts) log other is alike =
-    alike_shared (Happened (Scanned (InputTo channel microvolts)) ∷ []) log other alike
+    alike_shared (Applied (Scanned (InputTo channel microvolts)) ∷ []) log other alike
 own_alike config polled External log other is alike =
-    let adds = map Happened (external_acts (instrument_acts (device_acts log))) in
+    let adds = map Applied (external_acts (instrument_acts (device_acts log))) in
     alike_moved (map OnDevice adds ++ log) (map OnDevice adds ++ other) _ _ refl
-    (ap (λ (l : List DeviceAct). map OnDevice (map Happened (external_acts (instrument_acts l))) ++ other) (sym alike.device))
+    (ap (λ (l : List DeviceAct). map OnDevice (map Applied (external_acts (instrument_acts l))) ++ other) (sym alike.device))
     (alike_shared adds log other alike)
 own_alike config polled Tick log other is alike = tick_alike log other alike
 

@@ -17,7 +17,7 @@ use Rattle.sv_layers.specs.Filter.{is_same, mask_for, rise, fall, enable, has_bi
 use Rattle.sv_layers.specs.Condition.{limit_summary, condition, counted, is_idle}
 use Rattle.sv_layers.specs.Event.{EventStands, Summary}
 use Rattle.sv_layers.specs.Standard as standard
-use Rattle.sv_layers.specs.StatusByte.{SummaryBit, service, Asks, Master, Reason, Lasts, Request, IsRaised, PolledBit, MasterBit}
+use Rattle.sv_layers.specs.StatusByte.{SummaryBit, service, ServiceRequested, Master, Reason, Lasts, Request, IsRaised, PolledBit, MasterBit}
 use Rattle.sv_layers.proofs.Booleans.{same_bool}
 use Rattle.sv_layers.proofs.Transitions.{Passes, NotCleared, changes, no_change}
 use Rattle.sv_layers.proofs.LimitSummary.{limit_summary_is}
@@ -214,7 +214,7 @@ bits_back log other v = record {
   serves = sym v.serves;
 }
 
-asks_to : (k : ℕ) (log other : List Act) → SameBits log other → Asks k log → Asks k other
+asks_to : (k : ℕ) (log other : List Act) → SameBits log other → ServiceRequested k log → ServiceRequested k other
 asks_to k log other v h = (summary_to k log other v h.0, ap (λ (w : ℕ). bit_at w k) (sym v.serves) ∙ h.1)
 
 master_to : (log other : List Act) → SameBits log other → Master log → Master other

@@ -10,7 +10,7 @@ use Rattle.sv_layers.specs.Act.{Act as InstrumentAct}
 use Rattle.sv_instrument.specs.Stimulus.{IsFired}
 use Rattle.sv_instrument.specs.Step.{IsStep}
 use Rattle.sv_history.specs.declared.event.Config.{Config}
-use Rattle.sv_history.specs.Act.{Act, DeviceAct, Happened, OnDevice, of, device_acts, wait_acts, instrument_acts, ticks}
+use Rattle.sv_history.specs.Act.{Act, DeviceAct, Applied, OnDevice, of, device_acts, wait_acts, instrument_acts, ticks}
 use Rattle.sv_history.proofs.Lives.{unanswered}
 use Rattle.sv_history.specs.CoreCall.{CoreCall}
 use Rattle.sv_history.specs.Request.{core_call_in}
@@ -58,14 +58,14 @@ first_alike A B C D to from on new (inr b) =
 does_alike : (IsSuch : List InstrumentAct → List InstrumentAct → Type 0) (log other : List Act) → Alike log other
     → Follow (InstrumentDoes IsSuch log) (InstrumentDoes IsSuch other)
 does_alike IsSuch log other alike new (adds, such, is) =
-    let acts = map OnDevice (map Happened adds) in (
+    let acts = map OnDevice (map Applied adds) in (
       acts ++ other,
       (
         adds,
         subst (λ (l : List DeviceAct). IsSuch (instrument_acts l) (adds ++ instrument_acts l)) alike.device such,
         refl,
       ),
-      subst (λ (l : List Act). Alike l (acts ++ other)) (sym is) (alike_shared (map Happened adds) log other alike),
+      subst (λ (l : List Act). Alike l (acts ++ other)) (sym is) (alike_shared (map Applied adds) log other alike),
     )
 
 resumes_alike : (config : Config) (log other : List Act) → Alike log other → Follow (Resumes config log) (Resumes config other)

@@ -10,7 +10,7 @@ use Rattle.sv_history.specs.declared.event.Role.{Role}
 use Rattle.sv_history.specs.Act.{Act, ConnAct, DeviceAct, Opened, Piece, CallTaken, Faulted, Replied, BytesTaken, PortClosed, On, OnDevice, of, device_acts}
 use Rattle.sv_history.specs.Connection.{next_call}
 use Rattle.sv_history.proofs.Lives.{open_role, unanswered, completed, took_no_call, stream}
-use Rattle.sv_history.specs.Request.{Request, asked, next_request}
+use Rattle.sv_history.specs.Request.{Request, request_for, next_request}
 use Rattle.sv_history.specs.Refusing.{refusable_call, refusable}
 use Rattle.sv_history.specs.Effect.{Effect, acts_of}
 use Rattle.sv_laws.specs.Adding.{all_replies}
@@ -145,8 +145,8 @@ next_call_same acts others v =
 
 pub next_request_same : (acts others : List ConnAct) → SameConnection acts others → next_request acts ≡ next_request others
 next_request_same acts others v =
-    ap (λ (o : Option (List ℕ)). asked (open_role acts) o) (next_call_same acts others v)
-    ∙ ap (λ (r : Option Role). asked r (next_call others)) v.role
+    ap (λ (o : Option (List ℕ)). request_for (open_role acts) o) (next_call_same acts others v)
+    ∙ ap (λ (r : Option Role). request_for r (next_call others)) v.role
 
 pub refusable_same : (acts others : List ConnAct) → SameConnection acts others → refusable acts ≡ refusable others
 refusable_same acts others v = ap (λ (o : Option Request). refusable_call o) (next_request_same acts others v)

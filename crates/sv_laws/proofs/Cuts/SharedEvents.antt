@@ -13,7 +13,7 @@ use Rattle.sv_instrument.specs.Stimulus.{or_nothing, where_scanning}
 use Rattle.sv_history.specs.declared.event.Port.TheVariants.{Conn, Intr}
 use Rattle.sv_history.specs.declared.event.Config.{Config}
 use Rattle.sv_history.specs.Event.{PlainEvent, Open, Bytes, Turn, Refuse, Took, Close, Dialed, Input, External, Tick}
-use Rattle.sv_history.specs.Act.{Act, ConnAct, Opened, Piece, CallTaken, Faulted, Replied, BytesTaken, PortClosed, Linked, Waited, Channel, Happened, Ticked, On, OnDevice, of, device_acts}
+use Rattle.sv_history.specs.Act.{Act, ConnAct, Opened, Piece, CallTaken, Faulted, Replied, BytesTaken, PortClosed, Linked, Waited, Channel, Applied, Ticked, On, OnDevice, of, device_acts}
 use Rattle.sv_history.specs.Connection.{next_call}
 use Rattle.sv_history.proofs.Lives.{unanswered}
 use Rattle.sv_history.specs.Request.{Request, core_call_in, next_request}
@@ -91,8 +91,8 @@ own_shared config polled (Dialed c ok) log other v =
     ap (λ (o : Option (List ℕ)). acts_of c (connected c ok (core_call_in o))) (v.now.calls c)
 own_shared config polled (Input channel microvolts) log other v = refl
 own_shared config polled External log other v =
-    ap (λ (l : List ScanAct). map OnDevice (map Happened (or_nothing (trigger_fault (kept l) ByInput))))
+    ap (λ (l : List ScanAct). map OnDevice (map Applied (or_nothing (trigger_fault (kept l) ByInput))))
     v.now.device.instrument.status.scanned
 own_shared config polled Tick log other v =
-    ap (λ (l : List ScanAct). map OnDevice (map Happened (where_scanning (state (kept l)))) ++ OnDevice Ticked ∷ [])
+    ap (λ (l : List ScanAct). map OnDevice (map Applied (where_scanning (state (kept l)))) ++ OnDevice Ticked ∷ [])
     v.now.device.instrument.status.scanned

@@ -16,14 +16,14 @@ use Rattle.sv_layers.specs.Act.{Act as InstrumentAct, Scanned}
 use Rattle.sv_instrument.specs.Stimulus.{IsFired}
 use Rattle.sv_instrument.specs.Step.{IsStep, is_answerable}
 use Rattle.sv_history.specs.declared.event.Config.{Config}
-use Rattle.sv_history.specs.Act.{Act, DeviceAct, Waited, Happened, OnDevice, of, device_acts, link_acts, wait_acts, instrument_acts, exchange_acts, ticks}
+use Rattle.sv_history.specs.Act.{Act, DeviceAct, Waited, Applied, OnDevice, of, device_acts, link_acts, wait_acts, instrument_acts, exchange_acts, ticks}
 use Rattle.sv_history.proofs.Lives.{unanswered}
 use Rattle.sv_history.specs.CallOutcome.{CallOutcome, suspended}
 use Rattle.sv_history.specs.CoreCall.{CoreCall, lid_of}
 use Rattle.sv_history.specs.Request.{Request, NoCall, Decided, CoreRequest, AbortRequest, PortRequest, core_call_in}
 use Rattle.sv_history.specs.Effect.{Effect, acts_of, call_effect}
 use Rattle.sv_history.specs.Admission.{Stop, Fails, Awaits, deadline, admitted, stop_of}
-use Rattle.sv_history.specs.AbortChannel.{owner_of, where_waiting}
+use Rattle.sv_history.specs.AbortChannel.{owner_of, if_waiting}
 use Rattle.sv_history.specs.Execution.{request_effect, aborts}
 use Rattle.sv_history.specs.Resuming.{leaving, next_wait, continued, resumed, failed, late}
 use Rattle.sv_history.specs.Settling.{First, InstrumentDoes, CanResume, Resumes, TimesOut, IsNext}
@@ -58,14 +58,14 @@ request_alike config polled c (Decided xid reply) acts other v = refl
 request_alike config polled c (PortRequest xid args) acts other v = refl
 
 where_alike : (found : Option ℕ) (n : ℕ) (acts other : List DeviceAct) → SameDevice acts other
-    → where_waiting found (Some n) acts ≡ where_waiting found (Some n) other
+    → if_waiting found (Some n) acts ≡ if_waiting found (Some n) other
 where_alike None n acts other v = refl
 where_alike (Some d) n acts other v = rw v.waits refl
 
 pub aborts_alike : (request : Request) (acts other : List DeviceAct) → SameDevice acts other → aborts request acts ≡ aborts request other
 aborts_alike (AbortRequest xid (pos n)) acts other v =
     where_alike (owner_of (Some n) acts) n acts other v
-    ∙ ap (λ (l : List LinkAct). where_waiting (owner n l) (Some n) other) v.links
+    ∙ ap (λ (l : List LinkAct). if_waiting (owner n l) (Some n) other) v.links
 aborts_alike (AbortRequest xid (negsuc n)) acts other v = refl
 aborts_alike _ acts other v = refl
 
@@ -124,7 +124,7 @@ does_shared IsSuch log other moves new (adds, such, is) =
     let there = instrument_acts (device_acts other) in
     let so = moves (adds ++ instrument_acts (device_acts log)) such in
     let same : adds ≡ so.0 = append_cancel_right adds so.0 (instrument_acts (device_acts log)) so.1 in (
-      map OnDevice (map Happened adds),
+      map OnDevice (map Applied adds),
       is,
       (adds, subst (λ (l : List InstrumentAct). IsSuch there (l ++ there)) (sym same) so.2, refl),
     )

@@ -10,7 +10,7 @@ use Rattle.sv_instrument.specs.Stimulus.{IsFired}
 use Rattle.sv_instrument.specs.Step.{IsStep, is_answerable}
 use Rattle.sv_exchange.specs.Exchange.{has_ended}
 use Rattle.sv_history.specs.declared.event.Config.{Config}
-use Rattle.sv_history.specs.Act.{Act, CallTaken, Waited, Happened, On, OnDevice, device_acts, link_acts, wait_acts, instrument_acts, exchange_acts, ticks}
+use Rattle.sv_history.specs.Act.{Act, CallTaken, Waited, Applied, On, OnDevice, device_acts, link_acts, wait_acts, instrument_acts, exchange_acts, ticks}
 use Rattle.sv_history.specs.Settling.{InstrumentDoes, CanResume, Resumes, TimesOut, IsNext, IsSettled}
 use Rattle.sv_history.proofs.OneStep.{went_on, gave_up}
 
@@ -61,7 +61,7 @@ is_there_in named wait log = is_there (holder (link_acts (device_acts log))) (no
 does_before : (IsSuch : List InstrumentAct → List InstrumentAct → Type 0) (c : ℕ) (call : List ℕ) (named : Option ℕ) (wait : Wait)
     (last : Option ℕ) (base new : List Act) → InstrumentDoes IsSuch (suspends c call named wait last base) new
     → (there : List Act) × InstrumentDoes IsSuch base there
-does_before IsSuch c call named wait last base new (adds, such, is) = (map OnDevice (map Happened adds) ++ base, (adds, such, refl))
+does_before IsSuch c call named wait last base new (adds, such, is) = (map OnDevice (map Applied adds) ++ base, (adds, such, refl))
 
 -- no call can resume that couldn't
 none_resumes : (config : Config) (c : ℕ) (call : List ℕ) (named : Option ℕ) (wait : Wait) (last : Option ℕ) (base new : List Act)

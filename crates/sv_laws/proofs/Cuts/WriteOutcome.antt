@@ -25,10 +25,10 @@ use Rattle.sv_instrument.specs.Step.{is_answerable}
 use Rattle.sv_history.specs.declared.event.Config.{Config}
 use Rattle.sv_history.specs.declared.event.Role.{Role}
 use Rattle.sv_history.specs.declared.event.Role.TheVariants.{Core, Abort, Portmap}
-use Rattle.sv_history.specs.Act.{DeviceAct, Happened, link_acts, instrument_acts, exchange_acts}
+use Rattle.sv_history.specs.Act.{DeviceAct, Applied, link_acts, instrument_acts, exchange_acts}
 use Rattle.sv_history.specs.CallOutcome.{CallOutcome, answered, only, suspended}
 use Rattle.sv_history.specs.CoreCall.{CoreCall}
-use Rattle.sv_history.specs.Request.{Request, NoCall, Decided, CoreRequest, AbortRequest, PortRequest, program_of, request_of, core_call_of, core_call, asked}
+use Rattle.sv_history.specs.Request.{Request, NoCall, Decided, CoreRequest, AbortRequest, PortRequest, program_of, request_of, core_call_of, core_call, request_for}
 use Rattle.sv_history.proofs.Deciding.{header_reply, unless_decided, request_is}
 use Rattle.sv_history.specs.CoreChannel.{device_write}
 use Rattle.sv_history.specs.Admission.{stop_of, admitted}
@@ -70,7 +70,7 @@ core_in Portmap (Err (Version xid)) call is = absurd cc
 core_in Abort (Err BadHeader) call is = absurd cc
 core_in Portmap (Err BadHeader) call is = absurd cc
 
-pub core_asked : (role : Option Role) (bytes : List ℕ) (request : Request) (call : CoreCall) → asked role (Some bytes) ≡ Some request
+pub core_asked : (role : Option Role) (bytes : List ℕ) (request : Request) (call : CoreCall) → request_for role (Some bytes) ≡ Some request
     → core_call bytes ≡ Some call → IsCore request call
 core_asked None bytes request call asks is = absurd cc
 core_asked (Some role) bytes request call asks is =
@@ -88,14 +88,14 @@ WriteCase c lid flags bytes acts outcome =
     (Some wait) ≡ false)
     × (outcome ≡ suspended (Entered c (Some lid) wait last)))
     ⊎ ((has_ended (exchange_acts acts) ≡ false)
-    × (outcome ≡ answered (Happened (Exchanged (Accepted bytes (bit_at flags 3 == 1))) ∷ []) (Size NoError (length bytes)))))
+    × (outcome ≡ answered (Applied (Exchanged (Accepted bytes (bit_at flags 3 == 1))) ∷ []) (Size NoError (length bytes)))))
 
 some_error : (error : ErrorCode) (n : ℕ) → error_number error ≡ suc n → error_number error ≢ 0
 some_error error n is none = omega (arith, is, none)
 
 accepts_write : (flags : ℕ) (bytes : List ℕ) (acts : List DeviceAct) → nat_lt max_message (length bytes) ≡ false
     → has_ended (exchange_acts acts) ≡ false → device_write flags bytes acts
-    ≡ answered (Happened (Exchanged (Accepted bytes (bit_at flags 3 == 1))) ∷ []) (Size NoError (length bytes))
+    ≡ answered (Applied (Exchanged (Accepted bytes (bit_at flags 3 == 1))) ∷ []) (Size NoError (length bytes))
 accepts_write flags bytes acts short free = rw (short, free) refl
 
 pub write_case : (config : Config) (polled c lid io_timeout lock_timeout flags : ℕ) (bytes : List ℕ) (acts : List DeviceAct)

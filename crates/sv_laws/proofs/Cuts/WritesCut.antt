@@ -21,7 +21,7 @@ use Rattle.sv_history.specs.Requests.{HearsOf}
 use Rattle.sv_history.specs.Settling.{IsNext, SettlesIn}
 use Rattle.sv_history.specs.History.{IsLogOf}
 use Rattle.sv_laws.specs.Adding.{all_replies, all_sent, Adds}
-use Rattle.sv_laws.specs.Cuts.{without_pieces, AllRest, AreCut, WritesCut}
+use Rattle.sv_laws.specs.Cuts.{without_pieces, NoneWaits, AreCut, WritesCut}
 use Rattle.sv_laws.proofs.OneLog.{one_log}
 use Rattle.sv_history.proofs.OneStep.{next_once}
 use Rattle.sv_laws.proofs.EveryLog.EachEvent.{fit_log, idle_free}
@@ -170,11 +170,11 @@ wrote_by c lid config past log bytes ended xid io_timeout lock_timeout flags cal
     (idle_free c f.base call (fit_log config (f.earlier ++ past) f.base f.was) f.taking.next) f.acts f.taking
 
 resting : (config : Config) (history : List PlainEvent) (before base : List Act) (polled : ℕ) → IsLogOf config history base
-    → device_acts base ≡ device_acts before → AllRest (wait_acts (device_acts before)) → IsPolled polled (device_acts base)
+    → device_acts base ≡ device_acts before → NoneWaits (wait_acts (device_acts before)) → IsPolled polled (device_acts base)
     → Resting config base
 resting config history before base polled was same none said = record {
   rests = rested config base (log_settled config history base was);
-  none = subst (λ (l : List DeviceAct). AllRest (wait_acts l)) (sym same) none;
+  none = subst (λ (l : List DeviceAct). NoneWaits (wait_acts l)) (sym same) none;
   polled = polled;
   said = said;
 }

@@ -18,7 +18,7 @@ use Rattle.sv_history.specs.Connection.{next_call}
 use Rattle.sv_history.proofs.Lives.{open_role, unanswered}
 use Rattle.sv_history.specs.CallOutcome.{CallOutcome}
 use Rattle.sv_history.specs.CoreCall.{CoreCall}
-use Rattle.sv_history.specs.Request.{Request, core_call, core_call_in, asked}
+use Rattle.sv_history.specs.Request.{Request, core_call, core_call_in, request_for}
 use Rattle.sv_history.specs.Reply.{reply_record}
 use Rattle.sv_history.specs.Effect.{result_reply, acts_of, call_effect}
 use Rattle.sv_history.specs.Admission.{stop_of, admitted}
@@ -146,7 +146,7 @@ module _ (c lid : ℕ) (bytes : List ℕ) (ended : Bool) (config : Config) (base
   pub written : Taking c config call base log → Wrote c bytes ended config base log
   written taking =
       let role = open_role (of c base) in
-      let asks = ap (asked role) (sym taking.next) ∙ taking.asks in
+      let asks = ap (request_for role) (sym taking.next) ∙ taking.asks in
       elim (core_asked role call taking.request (record { xid = xid; arguments = arguments }) asks is) [
         | inl core ↦ by_case taking.polled taking.steps
             (admitted config taking.polled c arguments (stop_of c arguments (device_acts base)) (device_acts base)) taking.next taking.said

@@ -22,7 +22,7 @@ use Rattle.sv_instrument.specs.Stimulus.{external_acts, tick_acts}
 use Rattle.sv_history.specs.declared.event.Config.{Config}
 use Rattle.sv_history.specs.declared.event.Port.TheVariants.{Conn, Intr}
 use Rattle.sv_history.specs.Event.{PlainEvent, Open, Bytes, Turn, Refuse, Took, Close, Dialed, Input, External, Tick}
-use Rattle.sv_history.specs.Act.{Act, ConnAct, DeviceAct, Opened, Piece, CallTaken, Replied, BytesTaken, PortClosed, Waited, Channel, Happened, Ticked, On, OnDevice, of, device_acts, link_acts, wait_acts, instrument_acts, exchange_acts}
+use Rattle.sv_history.specs.Act.{Act, ConnAct, DeviceAct, Opened, Piece, CallTaken, Replied, BytesTaken, PortClosed, Waited, Channel, Applied, Ticked, On, OnDevice, of, device_acts, link_acts, wait_acts, instrument_acts, exchange_acts}
 use Rattle.sv_history.specs.Connection.{next_call}
 use Rattle.sv_history.proofs.Lives.{unanswered}
 use Rattle.sv_history.specs.CallOutcome.{CallOutcome, only}
@@ -124,8 +124,8 @@ all_shared : (adds : List DeviceAct) (log : List Act) → AllWait log → wait_a
 all_shared adds log all same d none = ap unanswered (of_shared d adds log)
     ∙ all d (ap (waits d) (sym same ∙ ap wait_acts (sym (device_shared adds log))) ∙ none)
 
-all_happened : (adds : List InstrumentAct) (log : List Act) → AllWait log → AllWait (map OnDevice (map Happened adds) ++ log)
-all_happened adds log all = all_shared (map Happened adds) log all (wait_acts-happened adds (device_acts log))
+all_happened : (adds : List InstrumentAct) (log : List Act) → AllWait log → AllWait (map OnDevice (map Applied adds) ++ log)
+all_happened adds log all = all_shared (map Applied adds) log all (wait_acts-happened adds (device_acts log))
 
 -- ---- a suspended call ends, or waits anew
 
@@ -306,7 +306,7 @@ all_event config (Input channel microvolts) polled told log free fit all = all_h
 all_event config External polled told log free fit all = all_happened (external_acts (instrument_acts (device_acts log))) log all
 all_event config Tick polled told log free fit all =
     let adds = tick_acts (instrument_acts (device_acts log)) in
-    subst AllWait (sym (append_assoc (map OnDevice (map Happened adds)) (OnDevice Ticked ∷ []) log))
+    subst AllWait (sym (append_assoc (map OnDevice (map Applied adds)) (OnDevice Ticked ∷ []) log))
     (all_happened adds (OnDevice Ticked ∷ log) (all_shared (Ticked ∷ []) log all refl))
 
 -- in every log of a history

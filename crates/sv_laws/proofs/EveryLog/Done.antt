@@ -15,7 +15,7 @@ use Rattle.sv_exchange.specs.Exchange.{has_ended, response, is_something}
 use Rattle.sv_exchange.specs.Limits.{max_message}
 use Rattle.sv_instrument.specs.Step.{is_answerable}
 use Rattle.sv_history.specs.declared.event.Config.{Config}
-use Rattle.sv_history.specs.Act.{DeviceAct, Linked, Waited, Channel, Happened, Ticked, link_acts, instrument_acts, exchange_acts}
+use Rattle.sv_history.specs.Act.{DeviceAct, Linked, Waited, Channel, Applied, Ticked, link_acts, instrument_acts, exchange_acts}
 use Rattle.sv_history.specs.CoreCall.{lid_of}
 use Rattle.sv_history.specs.CoreChannel.{owns, own_call}
 use Rattle.sv_history.specs.Interrupts.{has_channel}
@@ -29,7 +29,7 @@ IsDone c arguments acts (Linked act) = ⊤
 IsDone c arguments acts (Waited act) = ⊥
 IsDone c arguments acts (Channel (SrqEnabled lid conn handle)) = (conn ≡ c) × (owner lid (link_acts acts) ≡ Some conn)
 IsDone c arguments acts (Channel act) = ⊤
-IsDone c arguments acts (Happened act) = ⊤
+IsDone c arguments acts (Applied act) = ⊤
 IsDone c arguments acts Ticked = ⊤
 
 abbrev AreDone : Config → ℕ → ℕ → Arguments → List DeviceAct → Type 0

@@ -28,14 +28,14 @@ use Rattle.sv_history.specs.declared.event.Role.{Role}
 use Rattle.sv_history.specs.declared.event.Role.TheVariants.{Core, Abort, Portmap}
 use Rattle.sv_history.specs.declared.event.Port.TheVariants.{Conn, Intr}
 use Rattle.sv_history.specs.Event.{PlainEvent, Open, Bytes, Turn, Refuse, Took, Close, Dialed, Input, External, Tick, IsEvent}
-use Rattle.sv_history.specs.Act.{Act, ConnAct, DeviceAct, Opened, Piece, CallTaken, Faulted, Replied, BytesTaken, PortClosed, Linked, Waited, Channel, Happened, Ticked, On, OnDevice, of, device_acts, link_acts, instrument_acts}
+use Rattle.sv_history.specs.Act.{Act, ConnAct, DeviceAct, Opened, Piece, CallTaken, Faulted, Replied, BytesTaken, PortClosed, Linked, Waited, Channel, Applied, Ticked, On, OnDevice, of, device_acts, link_acts, instrument_acts}
 use Rattle.sv_history.specs.Connection.{is_open, next_call}
 use Rattle.sv_history.proofs.Lives.{open_role, unanswered}
 use Rattle.sv_history.specs.CallOutcome.{CallOutcome, only}
 use Rattle.sv_history.specs.CoreCall.{CoreCall, lid_of, failure}
 use Rattle.sv_history.specs.Reply.{reply_record}
 use Rattle.sv_history.specs.Effect.{Effect, acts_of, replies, result_reply}
-use Rattle.sv_history.specs.Request.{Request, NoCall, Decided, CoreRequest, AbortRequest, PortRequest, core_request, abort_request, procedure_request, request_of, core_call_of, core_call_in, asked, next_request}
+use Rattle.sv_history.specs.Request.{Request, NoCall, Decided, CoreRequest, AbortRequest, PortRequest, core_request, abort_request, procedure_request, request_of, core_call_of, core_call_in, request_for, next_request}
 use Rattle.sv_history.proofs.Deciding.{unless_decided, header_reply, request_is}
 use Rattle.sv_history.specs.AbortChannel.{abort_result}
 use Rattle.sv_history.specs.Execution.{port_reply, request_effect, aborts}
@@ -113,7 +113,7 @@ none_bad (Err (Version xid)) e = absurd cc
 none_bad (Err BadHeader) e = refl
 
 -- that of a connection's next call
-xid_asked : (role : Option Role) (bytes : List ℕ) (request : Request) → asked role (Some bytes) ≡ Some request
+xid_asked : (role : Option Role) (bytes : List ℕ) (request : Request) → request_for role (Some bytes) ≡ Some request
     → xid_of (call_at bytes) ≡ xid_in request
 xid_asked (Some role) bytes request e = sym (xid_requested role (call_at bytes)) ∙ ap xid_in (same _ request e)
   where
@@ -123,7 +123,7 @@ xid_asked None bytes request e = absurd cc
 
 pub xid_next : (acts : List ConnAct) (bytes : List ℕ) (request : Request) → next_call acts ≡ Some bytes
     → next_request acts ≡ Some request → xid_of (call_at bytes) ≡ xid_in request
-xid_next acts bytes request next asks = xid_asked (open_role acts) bytes request (ap (asked (open_role acts)) (sym next) ∙ asks)
+xid_next acts bytes request next asks = xid_asked (open_role acts) bytes request (ap (request_for (open_role acts)) (sym next) ∙ asks)
 
 -- that of a call of the core channel
 xid_call : (request : Request) (call : CoreCall) → core_call_of request ≡ Some call → xid_in request ≡ Some call.xid
@@ -181,12 +181,12 @@ all_ended c does (Some call) log e all =
 all_ended c does None log e all = all_effect c (effect_of c does None) log all (all c)
 
 all_step : (config : Config) (log new : List Act) → Everywhere log → IsNext config log new → Everywhere new
-all_step config log new all (inl fires) = subst Everywhere (sym fires.2) (all_shared (map Happened fires.0) log all)
+all_step config log new all (inl fires) = subst Everywhere (sym fires.2) (all_shared (map Applied fires.0) log all)
 all_step config log new all (inr (none, inl (c, wait, polled, oldest, for, said, is))) =
     subst Everywhere (sym is) (all_ended c (λ arguments. continued config polled c arguments (next_wait wait arguments (device_acts log))
     (device_acts log)) (core_call_in (unanswered (of c log))) log refl all)
 all_step config log new all (inr (none, inr (still, inl step))) =
-    subst Everywhere (sym step.2) (all_shared (map Happened step.0) log all)
+    subst Everywhere (sym step.2) (all_shared (map Applied step.0) log all)
 all_step config log new all (inr (none, inr (still, inr (idle, (c, wait, oldest, for, is))))) =
     subst Everywhere (sym is) (all_ended c (λ arguments. leaving c (only (failure arguments (late wait))))
     (core_call_in (unanswered (of c log))) log refl all)
@@ -283,11 +283,11 @@ all_event config (Close (Intr c)) polled told log is free all = all_shared (Chan
 all_event config (Dialed c ok) polled told log is free all =
     all_ended c (λ arguments. leaving c (dialed c ok arguments)) (core_call_in (unanswered (of c log))) log refl all
 all_event config (Input channel microvolts) polled told log is free all =
-    all_shared (Happened (Scanned (InputTo channel microvolts)) ∷ []) log all
+    all_shared (Applied (Scanned (InputTo channel microvolts)) ∷ []) log all
 all_event config External polled told log is free all =
-    all_shared (map Happened (external_acts (instrument_acts (device_acts log)))) log all
+    all_shared (map Applied (external_acts (instrument_acts (device_acts log)))) log all
 all_event config Tick polled told log is free all =
-    let adds = map Happened (tick_acts (instrument_acts (device_acts log))) in
+    let adds = map Applied (tick_acts (instrument_acts (device_acts log))) in
     subst Everywhere (sym (append_assoc (map OnDevice adds) (OnDevice Ticked ∷ []) log))
     (all_shared adds (OnDevice Ticked ∷ log) (all_shared (Ticked ∷ []) log all))
 

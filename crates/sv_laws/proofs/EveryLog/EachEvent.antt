@@ -25,7 +25,7 @@ use Rattle.sv_history.specs.declared.event.Refused.TheVariants.{NoConn, ConnInUs
 use Rattle.sv_history.specs.declared.event.Role.{Role}
 use Rattle.sv_history.specs.declared.event.Role.TheVariants.{Core}
 use Rattle.sv_history.specs.Event.{PlainEvent, Open, Bytes, Turn, Refuse, Took, Close, Dialed, Input, External, Tick, IsEvent}
-use Rattle.sv_history.specs.Act.{Act, ConnAct, DeviceAct, Opened, Piece, CallTaken, Replied, BytesTaken, PortClosed, Linked, Waited, Channel, Happened, Ticked, On, OnDevice, of, device_acts, link_acts, wait_acts, instrument_acts}
+use Rattle.sv_history.specs.Act.{Act, ConnAct, DeviceAct, Opened, Piece, CallTaken, Replied, BytesTaken, PortClosed, Linked, Waited, Channel, Applied, Ticked, On, OnDevice, of, device_acts, link_acts, wait_acts, instrument_acts}
 use Rattle.sv_history.specs.Connection.{next_call}
 use Rattle.sv_history.proofs.Lives.{open_role, unanswered}
 use Rattle.sv_history.specs.CoreCall.{CoreCall, lid_of}
@@ -80,7 +80,7 @@ done_by c May arguments (act ∷ adds) acts may h = (one act (adds ++ acts) h.0,
     one (Waited act) acts h = absurd h
     one (Channel (SrqEnabled lid conn handle)) acts h = h.1
     one (Channel _) acts h = tt
-    one (Happened act) acts h = tt
+    one (Applied act) acts h = tt
     one Ticked acts h = tt
 
 pub done_waits : (c : ℕ) (arguments : Arguments) (adds acts : List DeviceAct) → Each (IsDone c arguments) adds acts
@@ -89,7 +89,7 @@ done_waits c arguments [] acts h = refl
 done_waits c arguments (Linked act ∷ adds) acts h = done_waits c arguments adds acts h.1
 done_waits c arguments (Waited act ∷ adds) acts h = absurd h.0
 done_waits c arguments (Channel act ∷ adds) acts h = done_waits c arguments adds acts h.1
-done_waits c arguments (Happened act ∷ adds) acts h = done_waits c arguments adds acts h.1
+done_waits c arguments (Applied act ∷ adds) acts h = done_waits c arguments adds acts h.1
 done_waits c arguments (Ticked ∷ adds) acts h = done_waits c arguments adds acts h.1
 
 replies_role : (xid : ℕ) (result : Option Outcome) (own : List ConnAct) → open_role (replies xid result ++ own) ≡ open_role own
@@ -170,12 +170,12 @@ fit_resumed config polled c wait log fit for =
 
 -- ---- what happens to the instrument
 
-suits_happened : (adds : List InstrumentAct) (acts : List DeviceAct) → AllSuit acts → AllSuit (map Happened adds ++ acts)
+suits_happened : (adds : List InstrumentAct) (acts : List DeviceAct) → AllSuit acts → AllSuit (map Applied adds ++ acts)
 suits_happened [] acts all = all
 suits_happened (act ∷ adds) acts all = (tt, suits_happened adds acts all)
 
-fit_happened : (adds : List InstrumentAct) (log : List Act) → Fit log → Fit (map OnDevice (map Happened adds) ++ log)
-fit_happened adds log fit = fit_shared (map Happened adds) log fit (suits_happened adds (device_acts log) fit.suits)
+fit_happened : (adds : List InstrumentAct) (log : List Act) → Fit log → Fit (map OnDevice (map Applied adds) ++ log)
+fit_happened adds log fit = fit_shared (map Applied adds) log fit (suits_happened adds (device_acts log) fit.suits)
     (link_acts-happened adds (device_acts log)) (wait_acts-happened adds (device_acts log))
 
 fit_does : (IsSuch : List InstrumentAct → List InstrumentAct → Type 0) (log new : List Act) → Fit log → InstrumentDoes IsSuch log new
@@ -401,7 +401,7 @@ fit_event config (Dialed c ok) polled told log free fit = fit_connected c ok (co
 fit_event config (Input channel microvolts) polled told log free fit = fit_happened (_ ∷ []) log fit
 fit_event config External polled told log free fit = fit_happened (external_acts (instrument_acts (device_acts log))) log fit
 fit_event config Tick polled told log free fit =
-    subst Fit (sym (append_assoc (map OnDevice (map Happened (tick_acts (instrument_acts (device_acts log))))) (OnDevice Ticked ∷ []) log))
+    subst Fit (sym (append_assoc (map OnDevice (map Applied (tick_acts (instrument_acts (device_acts log))))) (OnDevice Ticked ∷ []) log))
     (fit_happened (tick_acts (instrument_acts (device_acts log))) (OnDevice Ticked ∷ log)
     (fit_shared (Ticked ∷ []) log fit (tt, fit.suits) refl refl))
 

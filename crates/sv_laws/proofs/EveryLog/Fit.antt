@@ -12,7 +12,7 @@ use Rattle.sv_links.specs.Channels.{SrqEnabled}
 use Rattle.sv_laws.proofs.LinksAlike.{owner_before, owner_of_made}
 use Rattle.sv_laws.proofs.CallsAlike.{SameCall, conn_of, call_foreign}
 use Rattle.sv_history.specs.declared.event.Role.TheVariants.{Core}
-use Rattle.sv_history.specs.Act.{Act, ConnAct, DeviceAct, Linked, Waited, Channel, Happened, Ticked, On, OnDevice, of, device_acts, link_acts, wait_acts}
+use Rattle.sv_history.specs.Act.{Act, ConnAct, DeviceAct, Linked, Waited, Channel, Applied, Ticked, On, OnDevice, of, device_acts, link_acts, wait_acts}
 use Rattle.sv_history.proofs.Lives.{open_role, unanswered}
 use Rattle.sv_history.specs.CoreCall.{CoreCall}
 use Rattle.sv_history.specs.Request.{core_call_in}
@@ -76,7 +76,7 @@ by_suits c May (act ∷ adds) acts h = (one act (adds ++ acts) h.0, by_suits c M
     one (Waited _) acts h = tt
     one (Channel (SrqEnabled lid conn handle)) acts h = h
     one (Channel _) acts h = tt
-    one (Happened act) acts h = tt
+    one (Applied act) acts h = tt
     one Ticked acts h = tt
 
 same_none : (c : ℕ) (acts : List WaitAct) → SameCall c acts acts
@@ -96,7 +96,7 @@ by_others c d May (Waited (Again conn wait last) ∷ adds) acts ne h =
 by_others c d May (Waited (Left conn) ∷ adds) acts ne h =
     call_foreign d (Left conn) (wait_acts (adds ++ acts)) (wait_acts acts) (λ e. ne (sym e ∙ h.0)) (by_others c d May adds acts ne h.1)
 by_others c d May (Channel act ∷ adds) acts ne h = by_others c d May adds acts ne h.1
-by_others c d May (Happened act ∷ adds) acts ne h = by_others c d May adds acts ne h.1
+by_others c d May (Applied act ∷ adds) acts ne h = by_others c d May adds acts ne h.1
 by_others c d May (Ticked ∷ adds) acts ne h = by_others c d May adds acts ne h.1
 
 -- an owner was one before, or is this connection
@@ -113,7 +113,7 @@ by_owner c n d May (Linked (Locked lid) ∷ adds) acts h is = by_owner c n d May
 by_owner c n d May (Linked (Unlocked lid) ∷ adds) acts h is = by_owner c n d May adds acts h.1 is
 by_owner c n d May (Waited act ∷ adds) acts h is = by_owner c n d May adds acts h.1 is
 by_owner c n d May (Channel act ∷ adds) acts h is = by_owner c n d May adds acts h.1 is
-by_owner c n d May (Happened act ∷ adds) acts h is = by_owner c n d May adds acts h.1 is
+by_owner c n d May (Applied act ∷ adds) acts h is = by_owner c n d May adds acts h.1 is
 by_owner c n d May (Ticked ∷ adds) acts h is = by_owner c n d May adds acts h.1 is
 
 -- a call that waits as before

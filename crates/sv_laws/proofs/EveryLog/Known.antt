@@ -9,14 +9,14 @@ use Rattle.sv_links.specs.declared.waiting.Wait.TheVariants.{Lock, Input as ForI
 use Rattle.sv_links.specs.Links.{LinkAct, Made, Destroyed, Locked, Unlocked, made, live, owner, is_of, holder}
 use Rattle.sv_links.specs.Table.{IsRising}
 use Rattle.sv_links.specs.Waiting.{Entered, Again, Left, waits, link, is_there}
-use Rattle.sv_links.specs.Channels.{ChannelAct, SrqEnabled, SrqDisabled, ChannelOpened, ChannelClosed, Requested, ChannelTaken, asked}
+use Rattle.sv_links.specs.Channels.{ChannelAct, SrqEnabled, SrqDisabled, ChannelOpened, ChannelClosed, Requested, ChannelTaken, srq_enabled}
 use Rattle.sv_links.proofs.Tables.{rising-push, rising-filter, other_than}
 use Rattle.sv_laws.proofs.LinksAlike.{owner_made, owner_made_other, owner_destroyed_other, owner_before, is_of_owner}
 use Rattle.sv_laws.proofs.ChannelsAlike.{AsksElsewhere}
-use Rattle.sv_history.specs.Act.{DeviceAct, Linked, Waited, Channel, Happened, Ticked, link_acts, wait_acts}
+use Rattle.sv_history.specs.Act.{DeviceAct, Linked, Waited, Channel, Applied, Ticked, link_acts, wait_acts}
 use Rattle.sv_history.specs.Requests.{HearsOf}
 use Rattle.sv_history.specs.Settling.{CanResume}
-use Rattle.sv_laws.specs.Isolation.{OthersRest}
+use Rattle.sv_laws.specs.Isolation.{NoOtherWaits}
 use Rattle.sv_laws.proofs.EveryLog.Fit.{AllSuit}
 
 some_number : (a b : ℕ) → Some a ≡ Some b → a ≡ b
@@ -34,7 +34,7 @@ rises (Linked (Locked lid) ∷ acts) all = rises acts all.1
 rises (Linked (Unlocked lid) ∷ acts) all = rises acts all.1
 rises (Waited act ∷ acts) all = rises acts all.1
 rises (Channel act ∷ acts) all = rises acts all.1
-rises (Happened act ∷ acts) all = rises acts all.1
+rises (Applied act ∷ acts) all = rises acts all.1
 rises (Ticked ∷ acts) all = rises acts all.1
 
 rising_owner : (n c last : ℕ) (xs : List Link) → IsRising xs last
@@ -81,7 +81,7 @@ wait_link (Waited (Entered conn named wait last) ∷ acts) all d n h = elim (cas
 wait_link (Waited (Again conn wait last) ∷ acts) all d n h = wait_link acts all.1 d n h
 wait_link (Waited (Left conn) ∷ acts) all d n h = wait_link acts all.1 d n h
 wait_link (Channel act ∷ acts) all d n h = wait_link acts all.1 d n h
-wait_link (Happened act ∷ acts) all d n h = wait_link acts all.1 d n h
+wait_link (Applied act ∷ acts) all d n h = wait_link acts all.1 d n h
 wait_link (Ticked ∷ acts) all d n h = wait_link acts all.1 d n h
 
 -- ---- a call that waits is of one of sixteen connections
@@ -108,14 +108,14 @@ waits_within (Waited (Left conn) ∷ acts) all d wait h = elim (cases_Bool (eqb 
 ]
 waits_within (Linked act ∷ acts) all d wait h = waits_within acts all.1 d wait h
 waits_within (Channel act ∷ acts) all d wait h = waits_within acts all.1 d wait h
-waits_within (Happened act ∷ acts) all d wait h = waits_within acts all.1 d wait h
+waits_within (Applied act ∷ acts) all d wait h = waits_within acts all.1 d wait h
 waits_within (Ticked ∷ acts) all d wait h = waits_within acts all.1 d wait h
 
 -- ---- a link that asks for service requests lives, on the connection that it is of
 
 -- Those of these lists are owned.
 abbrev AskOwned : List DeviceAct → List ChannelAct → Type 0
-AskOwned acts told = (lid : ℕ) (one : Enabled) → asked lid told ≡ Some one → owner lid (link_acts acts) ≡ Some one.conn
+AskOwned acts told = (lid : ℕ) (one : Enabled) → srq_enabled lid told ≡ Some one → owner lid (link_acts acts) ≡ Some one.conn
 
 some_enabled : (a b : Enabled) → Some a ≡ Some b → a ≡ b
 some_enabled a b e = cc
@@ -131,7 +131,7 @@ enabled_owned acts before other conn handle owns owned lid one h = elim (cases_B
 ]
 
 disabled_owned : (acts : List DeviceAct) (before : List ChannelAct) (other : ℕ)
-    → ((lid : ℕ) (one : Enabled) → other ≢ lid → asked lid before ≡ Some one → owner lid (link_acts acts) ≡ Some one.conn)
+    → ((lid : ℕ) (one : Enabled) → other ≢ lid → srq_enabled lid before ≡ Some one → owner lid (link_acts acts) ≡ Some one.conn)
     → AskOwned acts (SrqDisabled other ∷ before)
 disabled_owned acts before other owned lid one h = elim (cases_eq other lid) [
   | inl e ↦ absurd (let z : None ≡ Some one = rw (eq-eqb other lid e) at h in cc)
@@ -160,9 +160,9 @@ asks_own (Linked (Locked lid) ∷ acts) told all (before, hears, is) =
     subst (AskOwned acts) (sym is) (asks_own acts before all.1 hears)
 asks_own (Linked (Unlocked lid) ∷ acts) told all (before, hears, is) =
     subst (AskOwned acts) (sym is) (asks_own acts before all.1 hears)
-asks_own (Happened act ∷ acts) told all (before, true, hears, so, is) =
+asks_own (Applied act ∷ acts) told all (before, true, hears, so, is) =
     subst (AskOwned acts) (sym is) (asks_own acts before all.1 hears)
-asks_own (Happened act ∷ acts) told all (before, false, hears, so, is) =
+asks_own (Applied act ∷ acts) told all (before, false, hears, so, is) =
     subst (AskOwned acts) (sym is) (asks_own acts before all.1 hears)
 asks_own (Waited act ∷ acts) told all hears = asks_own acts told all.1 hears
 asks_own (Ticked ∷ acts) told all hears = asks_own acts told all.1 hears
@@ -187,7 +187,7 @@ not_there lid named (Some Dial) writes reads input response other h = absurd cc
 not_there lid named None writes reads input response other h = absurd cc
 
 pub not_able : (c lid : ℕ) (acts : List DeviceAct) → AllSuit acts → holder (link_acts acts) ≡ Some lid → owner lid (link_acts acts) ≡ Some c
-    → OthersRest c (wait_acts acts)
+    → NoOtherWaits c (wait_acts acts)
     → (d : ℕ) → d ≢ c → CanResume acts d → ⊥
 not_able c lid acts all held owns rest d ne able =
     not_there lid (link d (wait_acts acts)) (waits d (wait_acts acts)) _ _ (rest d ne).0 (rest d ne).1

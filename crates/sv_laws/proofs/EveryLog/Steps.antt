@@ -3,7 +3,7 @@ use Rattle.std.proofs.Common.{◌≡◌, ℕ, zero, suc, List, [], ◌∷◌, �
 use Rattle.std.specs.Prelude.{map}
 use Rattle.sv_history.specs.declared.event.Config.{Config}
 use Rattle.sv_history.specs.Event.{PlainEvent}
-use Rattle.sv_history.specs.Act.{Act, OnDevice, Happened}
+use Rattle.sv_history.specs.Act.{Act, OnDevice, Applied}
 use Rattle.sv_history.specs.Settling.{IsNext, IsSettled, SettlesIn}
 use Rattle.sv_history.specs.History.{IsLogOf}
 
@@ -13,9 +13,9 @@ abbrev pub Extends : List Act → List Act → Type 0
 Extends log new = (adds : List Act) × (new ≡ adds ++ log)
 
 pub next_extends : (config : Config) (log new : List Act) → IsNext config log new → Extends log new
-next_extends config log new (inl fires) = (map OnDevice (map Happened fires.0), fires.2)
+next_extends config log new (inl fires) = (map OnDevice (map Applied fires.0), fires.2)
 next_extends config log new (inr (none, inl resumes)) = (_, resumes.6)
-next_extends config log new (inr (none, inr (still, inl step))) = (map OnDevice (map Happened step.0), step.2)
+next_extends config log new (inr (none, inr (still, inl step))) = (map OnDevice (map Applied step.0), step.2)
 next_extends config log new (inr (none, inr (still, inr (idle, times)))) = (_, times.4)
 
 pub extends_then : (log mid new : List Act) → Extends log mid → Extends mid new → Extends log new

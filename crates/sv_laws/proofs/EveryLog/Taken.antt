@@ -18,7 +18,7 @@ use Rattle.sv_history.specs.Act.{Act, ConnAct}
 use Rattle.sv_history.specs.Connection.{next_call}
 use Rattle.sv_history.proofs.Lives.{open_role, unanswered, took_no_call, stream, completed}
 use Rattle.sv_history.specs.CoreCall.{CoreCall}
-use Rattle.sv_history.specs.Request.{Request, CoreRequest, AbortRequest, core_request, abort_request, request_of, core_call_of, core_call, asked, next_request}
+use Rattle.sv_history.specs.Request.{Request, CoreRequest, AbortRequest, core_request, abort_request, request_of, core_call_of, core_call, request_for, next_request}
 use Rattle.sv_history.proofs.Deciding.{unless_decided, header_reply, request_is}
 use Rattle.sv_history.specs.History.{unless_shut}
 
@@ -60,7 +60,7 @@ portmap_call (Err BadHeader) = refl
 some_request : (a b : Request) → Some a ≡ Some b → a ≡ b
 some_request a b e = cc
 
-core_asked : (role : Option Role) (bytes : List ℕ) (call : CoreCall) → asked role (Some bytes) ≡ Some (CoreRequest call)
+core_asked : (role : Option Role) (bytes : List ℕ) (call : CoreCall) → request_for role (Some bytes) ≡ Some (CoreRequest call)
     → (role ≡ Some Core) × (core_call bytes ≡ Some call)
 core_asked None bytes call e = absurd cc
 core_asked (Some Core) bytes call e = (refl, ap core_call_of (some_request (request_of Core (call_at bytes)) (CoreRequest call) e))
@@ -74,7 +74,7 @@ core_asked (Some Portmap) bytes call e =
 pub core_taken : (acts : List ConnAct) (bytes : List ℕ) (call : CoreCall) → next_call acts ≡ Some bytes
     → next_request acts ≡ Some (CoreRequest call) → (open_role acts ≡ Some Core) × (core_call bytes ≡ Some call)
 core_taken acts bytes call next request =
-    core_asked (open_role acts) bytes call (ap (asked (open_role acts)) (sym next) ∙ request)
+    core_asked (open_role acts) bytes call (ap (request_for (open_role acts)) (sym next) ∙ request)
 
 -- ---- a device_abort isn't taken on a core channel
 
@@ -95,14 +95,14 @@ core_aborts (Ok call) = ap (λ (r : Request). is_abort (Some r)) (request_is Cor
 core_aborts (Err (Version xid)) = refl
 core_aborts (Err BadHeader) = refl
 
-asked_abort : (next : Option (List ℕ)) → is_abort (asked (Some Core) next) ≡ false
+asked_abort : (next : Option (List ℕ)) → is_abort (request_for (Some Core) next) ≡ false
 asked_abort None = refl
 asked_abort (Some bytes) = core_aborts (call_at bytes)
 
 pub no_abort : (acts : List ConnAct) (xid : ℕ) (lid : ℤ) → open_role acts ≡ Some Core → next_request acts ≡ Some (AbortRequest xid lid) → ⊥
 no_abort acts xid lid core is =
-    let none : is_abort (asked (open_role acts) (next_call acts)) ≡ false =
-    ap (λ (role : Option Role). is_abort (asked role (next_call acts))) core ∙ asked_abort (next_call acts) in
+    let none : is_abort (request_for (open_role acts) (next_call acts)) ≡ false =
+    ap (λ (role : Option Role). is_abort (request_for role (next_call acts))) core ∙ asked_abort (next_call acts) in
     let z : true ≡ false = sym (ap is_abort is) ∙ none in cc
 
 -- ---- an event that isn't refused is of one of sixteen connections

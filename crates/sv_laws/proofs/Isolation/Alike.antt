@@ -13,9 +13,9 @@ use Rattle.sv_laws.proofs.CallsAlike.{SameCall, conn_of, call_foreign, call_sym,
 use Rattle.sv_laws.proofs.ChannelsAlike.{SameChannel, IsForeignChannel, channel_foreign, channel_same, channel_sym}
 use Rattle.sv_layers.specs.Act.{Act as InstrumentAct}
 use Rattle.sv_layers.specs.StatusByte.{IsRaised}
-use Rattle.sv_history.specs.Act.{Act, ConnAct, DeviceAct, Linked, Waited, Channel, Happened, Ticked, On, OnDevice, of, device_acts, link_acts, wait_acts, channel_acts, instrument_acts, ticks}
+use Rattle.sv_history.specs.Act.{Act, ConnAct, DeviceAct, Linked, Waited, Channel, Applied, Ticked, On, OnDevice, of, device_acts, link_acts, wait_acts, channel_acts, instrument_acts, ticks}
 use Rattle.sv_history.specs.Requests.{HearsOf, link_told, request_told}
-use Rattle.sv_laws.specs.Isolation.{OthersRest}
+use Rattle.sv_laws.specs.Isolation.{NoOtherWaits}
 use Rattle.sv_history.proofs.Projections.{of_other}
 use Rattle.sv_history.proofs.Telling.{peer_more}
 use Rattle.sv_laws.proofs.EveryLog.Fit.{AllSuit}
@@ -33,8 +33,8 @@ pub record View (c lid : ℕ) (acts other : List DeviceAct) : Type 0 where
   pub held : holder (link_acts acts) ≡ Some lid
   pub also : holder (link_acts other) ≡ Some lid
   pub mine : owner lid (link_acts acts) ≡ Some c
-  pub rests : OthersRest c (wait_acts acts)
-  pub rest : OthersRest c (wait_acts other)
+  pub rests : NoOtherWaits c (wait_acts acts)
+  pub rest : NoOtherWaits c (wait_acts other)
 
 pub mine_also : (c lid : ℕ) (acts other : List DeviceAct) → View c lid acts other → owner lid (link_acts other) ≡ Some c
 mine_also c lid acts other view = owner_is_of c (owner lid (link_acts other))
@@ -52,7 +52,7 @@ IsForeign c acts (Channel (ChannelOpened conn what)) = conn ≢ c
 IsForeign c acts (Channel (ChannelClosed conn)) = conn ≢ c
 IsForeign c acts (Channel Requested) = ⊥
 IsForeign c acts (Channel (ChannelTaken conn count)) = conn ≢ c
-IsForeign c acts (Happened act) = ⊥
+IsForeign c acts (Applied act) = ⊥
 IsForeign c acts Ticked = ⊥
 
 -- an act of this connection, or of none, that makes no link
@@ -60,7 +60,7 @@ abbrev pub IsOwn : ℕ → DeviceAct → Type 0
 IsOwn c (Linked act) = MakesNone act
 IsOwn c (Waited act) = conn_of act ≡ c
 IsOwn c (Channel act) = ⊤
-IsOwn c (Happened act) = ⊤
+IsOwn c (Applied act) = ⊤
 IsOwn c Ticked = ⊤
 
 -- ---- no other connection waits for the device
@@ -69,19 +69,19 @@ some_wait : (a b : Wait) → Some a ≡ Some b → a ≡ b
 some_wait a b e = cc
 
 rest_entered : (c conn : ℕ) (named : Option ℕ) (wait : Wait) (last : Option ℕ) (acts : List WaitAct) → wait ≢ ForInput → wait ≢ Response
-    → OthersRest c acts → OthersRest c (Entered conn named wait last ∷ acts)
+    → NoOtherWaits c acts → NoOtherWaits c (Entered conn named wait last ∷ acts)
 rest_entered c conn named wait last acts input response rest d ne = elim (cases_Bool (eqb conn d)) [
   | inl e ↦ rw e ((λ is. input (some_wait wait ForInput is)), (λ is. response (some_wait wait Response is)))
   | inr e ↦ rw e (rest d ne)
 ]
 
-rest_left : (c conn : ℕ) (acts : List WaitAct) → OthersRest c acts → OthersRest c (Left conn ∷ acts)
+rest_left : (c conn : ℕ) (acts : List WaitAct) → NoOtherWaits c acts → NoOtherWaits c (Left conn ∷ acts)
 rest_left c conn acts rest d ne = elim (cases_Bool (eqb conn d)) [
   | inl e ↦ rw e ((λ is. absurd cc), (λ is. absurd cc))
   | inr e ↦ rw e (rest d ne)
 ]
 
-rest_own : (c : ℕ) (act : WaitAct) (acts : List WaitAct) → conn_of act ≡ c → OthersRest c acts → OthersRest c (act ∷ acts)
+rest_own : (c : ℕ) (act : WaitAct) (acts : List WaitAct) → conn_of act ≡ c → NoOtherWaits c acts → NoOtherWaits c (act ∷ acts)
 rest_own c (Entered conn named wait last) acts same rest d ne = rw (ne_eqb conn d (λ e. ne (sym e ∙ same))) (rest d ne)
 rest_own c (Again conn wait last) acts same rest d ne = rw (ne_eqb conn d (λ e. ne (sym e ∙ same))) (rest d ne)
 rest_own c (Left conn) acts same rest d ne = rw (ne_eqb conn d (λ e. ne (sym e ∙ same))) (rest d ne)
@@ -98,7 +98,7 @@ peer_foreign c acts Requested more h = absurd h
 peer_foreign c acts (ChannelTaken conn count) more h = refl
 
 foreign_waits : (c lid : ℕ) (act : WaitAct) (acts other : List DeviceAct) → View c lid acts other → conn_of act ≢ c
-    → OthersRest c (act ∷ wait_acts acts) → View c lid (Waited act ∷ acts) other
+    → NoOtherWaits c (act ∷ wait_acts acts) → View c lid (Waited act ∷ acts) other
 foreign_waits c lid act acts other view ne rests = record {
   instrument = view.instrument;
   clock = view.clock;
@@ -144,7 +144,7 @@ view_foreign c lid (Channel act) acts other h now view = record {
   rests = view.rests;
   rest = view.rest;
 }
-view_foreign c lid (Happened act) acts other h now view = absurd h
+view_foreign c lid (Applied act) acts other h now view = absurd h
 view_foreign c lid Ticked acts other h now view = absurd h
 
 -- in the other log, the call of another connection ends to wait
@@ -202,7 +202,7 @@ view_same c lid (Channel act) acts other h now view = record {
   rests = view.rests;
   rest = view.rest;
 }
-view_same c lid (Happened act) acts other h now view = record {
+view_same c lid (Applied act) acts other h now view = record {
   instrument = ap (λ (l : List InstrumentAct). act ∷ l) view.instrument;
   clock = view.clock;
   owns = view.owns;
@@ -264,7 +264,7 @@ tells_foreign c (Channel act) acts other all h tells = λ told (before, hears, i
       subst (λ (l : List ChannelAct). SameChannel c l so.0) (sym is)
           (channel_foreign c act before so.0 (foreign_told c acts before act all hears h) so.2),
     )
-tells_foreign c (Happened act) acts other all h tells = absurd h
+tells_foreign c (Applied act) acts other all h tells = absurd h
 tells_foreign c Ticked acts other all h tells = absurd h
 
 -- and what the other tells is the same as what this one tells
@@ -284,7 +284,7 @@ tells_back c (Channel act) acts other all h tells = λ told hears.
       channel_sym c (act ∷ so.0) told
           (channel_foreign c act so.0 told (foreign_told c acts so.0 act all so.1 h) (channel_sym c told so.0 so.2)),
     )
-tells_back c (Happened act) acts other all h tells = absurd h
+tells_back c (Applied act) acts other all h tells = absurd h
 tells_back c Ticked acts other all h tells = absurd h
 
 same_link : (c : ℕ) (told also : List ChannelAct) (act : LinkAct) → SameChannel c told also
@@ -315,7 +315,7 @@ tells_same c (Channel act) acts other instrument tells = λ told (before, hears,
       (so.0, so.1, refl),
       subst (λ (l : List ChannelAct). SameChannel c l (act ∷ so.0)) (sym is) (channel_same c act before so.0 so.2),
     )
-tells_same c (Happened act) acts other instrument tells = λ told (before, raised, hears, raises, is).
+tells_same c (Applied act) acts other instrument tells = λ told (before, raised, hears, raises, is).
     let so = tells before hears in (
       request_told raised so.0,
       (so.0, raised, so.1, subst (λ (l : List InstrumentAct). (raised ≡ true) ↔ IsRaised (act ∷ l)) instrument raises, refl),

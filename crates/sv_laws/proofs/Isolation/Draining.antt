@@ -12,7 +12,7 @@ use Rattle.sv_layers.specs.StatusByte.{PolledBit}
 use Rattle.sv_instrument.specs.Stimulus.{IsFired}
 use Rattle.sv_instrument.specs.Step.{IsStep}
 use Rattle.sv_history.specs.declared.event.Config.{Config}
-use Rattle.sv_history.specs.Act.{Act, DeviceAct, Waited, Happened, OnDevice, of, device_acts, wait_acts, instrument_acts, ticks}
+use Rattle.sv_history.specs.Act.{Act, DeviceAct, Waited, Applied, OnDevice, of, device_acts, wait_acts, instrument_acts, ticks}
 use Rattle.sv_history.proofs.Lives.{unanswered}
 use Rattle.sv_history.specs.CoreCall.{CoreCall}
 use Rattle.sv_history.specs.Request.{core_call_in}
@@ -39,7 +39,7 @@ pub does_to : (IsSuch : List InstrumentAct → List InstrumentAct → Type 0) (l
     → instrument_acts (device_acts log) ≡ instrument_acts (device_acts other) → InstrumentDoes IsSuch log new
     → (there : List Act) × InstrumentDoes IsSuch other there
 does_to IsSuch log other new same (adds, such, is) = (
-  map OnDevice (map Happened adds) ++ other,
+  map OnDevice (map Applied adds) ++ other,
   (adds, subst (λ (l : List InstrumentAct). IsSuch l (adds ++ l)) same such, refl),
 )
 

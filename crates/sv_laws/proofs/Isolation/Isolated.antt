@@ -16,7 +16,7 @@ use Rattle.sv_history.specs.PolledStatus.{IsPolled}
 use Rattle.sv_history.specs.Settling.{SettlesIn}
 use Rattle.sv_history.specs.History.{IsLogOf, own_acts, refusal}
 use Rattle.sv_laws.specs.Adding.{all_replies, all_sent, Adds}
-use Rattle.sv_laws.specs.Isolation.{is_foreign, own_events, IsMild, EachIs, HoldsFrom, IsLocked, Isolation}
+use Rattle.sv_laws.specs.Isolation.{is_foreign, own_events, LeavesLinksAlone, EachIs, HoldsFrom, IsLocked, Isolation}
 use Rattle.sv_laws.proofs.OneLog.{one_log}
 use Rattle.sv_laws.proofs.EveryLog.Fit.{Fit}
 use Rattle.sv_laws.proofs.EveryLog.EachEvent.{fit_log, fit_event}
@@ -81,16 +81,16 @@ own_with c event events e = rw e refl
 
 -- an event of another connection is left out
 left_out : (c lid : ℕ) (config : Config) (past events : List PlainEvent) (event : PlainEvent) (polled n : ℕ)
-    (whole later before log : List Act) → is_foreign c event ≡ true → IsMild c event before → Fit before
+    (whole later before log : List Act) → is_foreign c event ≡ true → LeavesLinksAlone c event before → Fit before
     → Fit (own_acts config polled event before ++ before) → SettlesIn n config (own_acts config polled event before ++ before) log
     → whole ≡ later ++ log → Alone c lid config past events before whole → Alone c lid config past (event ∷ events) log whole
-left_out c lid config past events event polled n whole later before log foreign mild fit next settles is alone =
+left_out c lid config past events event polled n whole later before log foreign left_alone fit next settles is alone =
     let acts = own_acts config polled event before in
     let rest = settles_extends n config (acts ++ before) log settles in
     let reach : whole ≡ (later ++ rest.0) ++ (acts ++ before) =
     is ∙ ap (λ (l : List Act). later ++ l) rest.1 ∙ sym (append_assoc later rest.0 (acts ++ before)) in
     let pair = pair_foreign c lid acts before alone.other
-    (foreign_event config polled c lid event before fit alone.pair.view.held alone.pair.view.mine foreign mild)
+    (foreign_event config polled c lid event before fit alone.pair.view.held alone.pair.view.mine foreign left_alone)
     (alone.holds (later ++ rest.0) acts reach) next.suits alone.pair in
     let further = holds_further lid before whole acts alone.holds in
     let also = fit_log config (own_events c events ++ past) alone.other alone.is_log in
@@ -107,11 +107,11 @@ left_out c lid config past events event polled n whole later before log foreign 
 
 -- one of the connection, or of none, is in both
 in_both : (c lid : ℕ) (config : Config) (past events : List PlainEvent) (event : PlainEvent) (polled n : ℕ) (told : List ChannelAct)
-    (whole later before log : List Act) → is_foreign c event ≡ false → IsMild c event before → IsEvent event → Fit before
+    (whole later before log : List Act) → is_foreign c event ≡ false → LeavesLinksAlone c event before → IsEvent event → Fit before
     → HearsOf (device_acts before) told → refusal config told event before ≡ None → IsPolled polled (device_acts before)
     → SettlesIn n config (own_acts config polled event before ++ before) log → whole ≡ later ++ log
     → Alone c lid config past events before whole → Alone c lid config past (event ∷ events) log whole
-in_both c lid config past events event polled n told whole later before log own mild is_event fit hears free said settles is alone =
+in_both c lid config past events event polled n told whole later before log own left_alone is_event fit hears free said settles is alone =
     let acts = own_acts config polled event before in
     let other = alone.other in
     let rest = settles_extends n config (acts ++ before) log settles in
@@ -122,7 +122,7 @@ in_both c lid config past events event polled n told whole later before log own 
     let tells = alone.pair.tells told hears in
     let none : refusal config tells.0 event other ≡ None =
     sym (refusal_same config c lid told tells.0 before other event alone.pair tells.2 own) ∙ free in
-    let ours = own_event config polled c lid before other event fit alone.pair own mild locks in
+    let ours = own_event config polled c lid before other event fit alone.pair own left_alone locks in
     let pair = pair_same c lid acts before other ours.1 locks alone.pair in
     let further = holds_further lid before whole acts alone.holds in
     let next = fit_event config event polled told before free fit in
@@ -147,9 +147,10 @@ in_both c lid config past events event polled n told whole later before log own 
     }
 
 alone_from : (c lid : ℕ) (config : Config) (past all events : List PlainEvent) (locked : IsLocked c lid config past all)
-    (later log : List Act) → locked.log ≡ later ++ log → EachIs (IsMild c) config past events → IsLogOf config (events ++ past) log
+    (later log : List Act) → locked.log ≡ later ++ log → EachIs (LeavesLinksAlone c) config past events → IsLogOf config
+    (events ++ past) log
     → Alone c lid config past events log locked.log
-alone_from c lid config past all [] locked later log is mild is_log =
+alone_from c lid config past all [] locked later log is left_alone is_log =
     let same : log ≡ locked.before = one_log config past log locked.before is_log locked.was in
     subst (λ (l : List Act). Alone c lid config past [] l locked.log) (sym same) (record {
       other = locked.before;
@@ -157,16 +158,16 @@ alone_from c lid config past all [] locked later log is mild is_log =
       pair = starts c lid config past all locked later (is ∙ ap (λ (l : List Act). later ++ l) same);
       holds = holds_from lid locked.before locked.log locked.holds;
     })
-alone_from c lid config past all (event ∷ events) locked later log is mild
+alone_from c lid config past all (event ∷ events) locked later log is left_alone
     (before, polled, told, is_event, was, hears, free, said, (n, settles)) =
     let acts = own_acts config polled event before in
     let rest = settles_extends n config (acts ++ before) log settles in
     let reach : locked.log ≡ ((later ++ rest.0) ++ acts) ++ before =
     is ∙ ap (λ (l : List Act). later ++ l) rest.1 ∙ sym (append_assoc later rest.0 (acts ++ before))
     ∙ sym (append_assoc (later ++ rest.0) acts before) in
-    let alone = alone_from c lid config past all events locked ((later ++ rest.0) ++ acts) before reach mild.0 was in
+    let alone = alone_from c lid config past all events locked ((later ++ rest.0) ++ acts) before reach left_alone.0 was in
     let fit = fit_log config (events ++ past) before was in
-    let so = mild.1 before was in
+    let so = left_alone.1 before was in
     elim (cases_Bool (is_foreign c event)) [
       | inl e ↦ left_out c lid config past events event polled n locked.log later before log e so fit
           (fit_event config event polled told before free fit) settles is alone
@@ -219,7 +220,7 @@ adds_all c lid config past events locked alone port bytes mine (before, first, (
 
 pub isolation : Isolation
 isolation c lid config past events locked =
-    let alone = alone_from c lid config past events events locked [] locked.log refl locked.mild locked.is_log in (
+    let alone = alone_from c lid config past events events locked [] locked.log refl locked.left_alone locked.is_log in (
       (alone.other, alone.is_log),
       (λ port bytes mine. (
         adds_alone c lid config past events locked alone port bytes mine,

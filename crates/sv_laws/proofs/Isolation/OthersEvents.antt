@@ -20,12 +20,12 @@ use Rattle.sv_history.specs.CoreCall.{CoreCall, lid_of}
 use Rattle.sv_history.specs.Effect.{Effect, acts_of, call_effect}
 use Rattle.sv_history.specs.Request.{Request, NoCall, Decided, CoreRequest, AbortRequest, PortRequest, core_call_in, next_request}
 use Rattle.sv_history.proofs.Dialing.{peer_by, dialed_to, dialed_is}
-use Rattle.sv_history.specs.AbortChannel.{owner_of, where_waiting}
+use Rattle.sv_history.specs.AbortChannel.{owner_of, if_waiting}
 use Rattle.sv_history.specs.Execution.{request_effect, aborts}
 use Rattle.sv_history.specs.Refusing.{refusable}
 use Rattle.sv_history.specs.Resuming.{leaving, failed, connected}
 use Rattle.sv_history.specs.History.{abort_acts, turn_acts, refuse_acts, own_acts}
-use Rattle.sv_laws.specs.Isolation.{is_foreign, aborted_link, IsMild}
+use Rattle.sv_laws.specs.Isolation.{is_foreign, aborted_link, LeavesLinksAlone}
 use Rattle.sv_history.proofs.Projections.{device_shared, link_acts-links}
 use Rattle.sv_laws.proofs.EveryLog.Fit.{Fit}
 use Rattle.sv_laws.proofs.EveryLog.EachEvent.{close_adds}
@@ -72,7 +72,7 @@ foreign_connected c d ok None log ne = foreign_effect c d (connected d ok None) 
 
 -- ---- a Turn
 
-where_owner : (found lid : Option ℕ) (acts : List DeviceAct) (e : ℕ) → where_waiting found lid acts ≡ Some e → found ≡ Some e
+where_owner : (found lid : Option ℕ) (acts : List DeviceAct) (e : ℕ) → if_waiting found lid acts ≡ Some e → found ≡ Some e
 where_owner None lid acts e h = absurd cc
 where_owner (Some d) None acts e h = absurd cc
 where_owner (Some d) (Some n) acts e h = elim (cases_Bool (is_some (waits d (wait_acts acts)) && is_this n (link d (wait_acts acts)))) [
@@ -106,18 +106,18 @@ foreign_request config polled c d lid (PortRequest xid args) acts held mine ne =
 foreign_turn : (config : Config) (polled c d lid : ℕ) (found : Option (List ℕ)) (request : Option Request) (log : List Act)
     → holder (link_acts (device_acts log)) ≡ Some lid → owner lid (link_acts (device_acts log)) ≡ Some c → d ≢ c
     → owner_of (aborted_link request) (device_acts log) ≢ Some c → Each (IsForeignAct c) (turn_acts config polled d found request log) log
-foreign_turn config polled c d lid (Some bytes) (Some request) log held mine ne mild =
+foreign_turn config polled c d lid (Some bytes) (Some request) log held mine ne left_alone =
     let effect = request_effect config polled d request (device_acts log) in
     let acts = acts_of d effect ++ On d (CallTaken bytes) ∷ [] in
     let ends = aborts request (device_acts log) in
     each_join (IsForeignAct c) (abort_acts ends (acts ++ log)) acts log
-    (foreign_abort c ends (acts ++ log) (λ is. mild (aborts_owner request (device_acts log) c is)))
+    (foreign_abort c ends (acts ++ log) (λ is. left_alone (aborts_owner request (device_acts log) c is)))
     (each_join (IsForeignAct c) (acts_of d effect) (On d (CallTaken bytes) ∷ []) log
     (foreign_effect c d effect (On d (CallTaken bytes) ∷ log) ne
     (foreign_request config polled c d lid request (device_acts log) held mine ne)) (ne, tt))
-foreign_turn config polled c d lid (Some bytes) None log held mine ne mild = tt
-foreign_turn config polled c d lid None (Some request) log held mine ne mild = tt
-foreign_turn config polled c d lid None None log held mine ne mild = tt
+foreign_turn config polled c d lid (Some bytes) None log held mine ne left_alone = tt
+foreign_turn config polled c d lid None (Some request) log held mine ne left_alone = tt
+foreign_turn config polled c d lid None None log held mine ne left_alone = tt
 
 foreign_refuse : (c d : ℕ) (found : Option (List ℕ)) (call : Option CoreCall) (log : List Act) → d ≢ c
     → Each (IsForeignAct c) (refuse_acts d found call) log
@@ -156,19 +156,19 @@ other_number d c h same = absurd (let z : not true ≡ true = rw (eq-eqb d c sam
 
 pub foreign_event : (config : Config) (polled c lid : ℕ) (event : PlainEvent) (log : List Act) → Fit log
     → holder (link_acts (device_acts log)) ≡ Some lid → owner lid (link_acts (device_acts log)) ≡ Some c → is_foreign c event ≡ true
-    → IsMild c event log → Each (IsForeignAct c) (own_acts config polled event log) log
-foreign_event config polled c lid (Open d role) log fit held mine other mild = (other_number d c other, tt)
-foreign_event config polled c lid (Bytes d piece) log fit held mine other mild = (other_number d c other, tt)
-foreign_event config polled c lid (Turn d) log fit held mine other mild =
-    foreign_turn config polled c d lid (next_call (of d log)) (next_request (of d log)) log held mine (other_number d c other) mild.0
-foreign_event config polled c lid (Refuse d) log fit held mine other mild =
+    → LeavesLinksAlone c event log → Each (IsForeignAct c) (own_acts config polled event log) log
+foreign_event config polled c lid (Open d role) log fit held mine other left_alone = (other_number d c other, tt)
+foreign_event config polled c lid (Bytes d piece) log fit held mine other left_alone = (other_number d c other, tt)
+foreign_event config polled c lid (Turn d) log fit held mine other left_alone =
+    foreign_turn config polled c d lid (next_call (of d log)) (next_request (of d log)) log held mine (other_number d c other) left_alone.0
+foreign_event config polled c lid (Refuse d) log fit held mine other left_alone =
     foreign_refuse c d (next_call (of d log)) (refusable (of d log)) log (other_number d c other)
-foreign_event config polled c lid (Took (Conn d) count) log fit held mine other mild = (other_number d c other, tt)
-foreign_event config polled c lid (Took (Intr d) count) log fit held mine other mild = (other_number d c other, tt)
-foreign_event config polled c lid (Close (Conn d)) log fit held mine other mild = foreign_close c d log fit (other_number d c other)
-foreign_event config polled c lid (Close (Intr d)) log fit held mine other mild = (other_number d c other, tt)
-foreign_event config polled c lid (Dialed d ok) log fit held mine other mild =
+foreign_event config polled c lid (Took (Conn d) count) log fit held mine other left_alone = (other_number d c other, tt)
+foreign_event config polled c lid (Took (Intr d) count) log fit held mine other left_alone = (other_number d c other, tt)
+foreign_event config polled c lid (Close (Conn d)) log fit held mine other left_alone = foreign_close c d log fit (other_number d c other)
+foreign_event config polled c lid (Close (Intr d)) log fit held mine other left_alone = (other_number d c other, tt)
+foreign_event config polled c lid (Dialed d ok) log fit held mine other left_alone =
     foreign_connected c d ok (core_call_in (unanswered (of d log))) log (other_number d c other)
-foreign_event config polled c lid (Input channel microvolts) log fit held mine other mild = absurd cc
-foreign_event config polled c lid External log fit held mine other mild = absurd cc
-foreign_event config polled c lid Tick log fit held mine other mild = absurd cc
+foreign_event config polled c lid (Input channel microvolts) log fit held mine other left_alone = absurd cc
+foreign_event config polled c lid External log fit held mine other left_alone = absurd cc
+foreign_event config polled c lid Tick log fit held mine other left_alone = absurd cc

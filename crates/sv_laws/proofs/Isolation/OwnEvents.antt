@@ -18,7 +18,7 @@ use Rattle.sv_history.specs.declared.event.Config.{Config}
 use Rattle.sv_history.specs.declared.event.Port.TheVariants.{Conn, Intr}
 use Rattle.sv_history.specs.declared.event.Role.TheVariants.{Core}
 use Rattle.sv_history.specs.Event.{PlainEvent, Open, Bytes, Turn, Refuse, Took, Close, Dialed, Input, External, Tick}
-use Rattle.sv_history.specs.Act.{Act, ConnAct, DeviceAct, CallTaken, PortClosed, Waited, Happened, Ticked, On, OnDevice, of, device_acts, link_acts, instrument_acts}
+use Rattle.sv_history.specs.Act.{Act, ConnAct, DeviceAct, CallTaken, PortClosed, Waited, Applied, Ticked, On, OnDevice, of, device_acts, link_acts, instrument_acts}
 use Rattle.sv_history.specs.Connection.{next_call}
 use Rattle.sv_history.proofs.Lives.{open_role, unanswered}
 use Rattle.sv_history.specs.CallOutcome.{CallOutcome}
@@ -30,7 +30,7 @@ use Rattle.sv_history.specs.Admission.{Stop, Fails, Awaits, stop_of, admitted}
 use Rattle.sv_history.specs.Refusing.{refusable}
 use Rattle.sv_history.specs.Resuming.{leaving, failed, connected}
 use Rattle.sv_history.specs.History.{turn_acts, refuse_acts, own_acts, refusal, taken_acts}
-use Rattle.sv_laws.specs.Isolation.{is_foreign, makes_link, IsMild}
+use Rattle.sv_laws.specs.Isolation.{is_foreign, makes_link, LeavesLinksAlone}
 use Rattle.sv_history.proofs.Projections.{link_acts-links}
 use Rattle.sv_laws.proofs.EveryLog.Fit.{Fit}
 use Rattle.sv_laws.proofs.EveryLog.EachEvent.{close_adds, device_closed}
@@ -114,7 +114,7 @@ own_connected : (c : ℕ) (ok : Bool) (call : Option CoreCall) (log : List Act) 
 own_connected c ok (Some call) log = rw (dialed_is c ok call.arguments) (own_dialed c ok call (peer_by call.arguments) log)
 own_connected c ok None log = own_effect c (connected c ok None) [] log (refl, tt)
 
-pub own_happened : (c : ℕ) (adds : List InstrumentAct) (log : List Act) → Each (IsOwnAct c) (map OnDevice (map Happened adds)) log
+pub own_happened : (c : ℕ) (adds : List InstrumentAct) (log : List Act) → Each (IsOwnAct c) (map OnDevice (map Applied adds)) log
 own_happened c [] log = tt
 own_happened c (act ∷ adds) log = (tt, own_happened c adds log)
 
@@ -186,40 +186,40 @@ no_close c lid log mine locks =
 -- ---- an event
 
 pub own_event : (config : Config) (polled c lid : ℕ) (log other : List Act) (event : PlainEvent) → Fit log → Pair c lid log other
-    → is_foreign c event ≡ false → IsMild c event log → Each (Locks lid) (own_acts config polled event log) log
+    → is_foreign c event ≡ false → LeavesLinksAlone c event log → Each (Locks lid) (own_acts config polled event log) log
     → OwnActs config polled c log other event
-own_event config polled c lid log other (Open d role) fit pair own mild locks = (refl, (tt, tt))
-own_event config polled c lid log other (Bytes d piece) fit pair own mild locks = (refl, (tt, tt))
-own_event config polled c lid log other (Turn d) fit pair own mild locks =
+own_event config polled c lid log other (Open d role) fit pair own left_alone locks = (refl, (tt, tt))
+own_event config polled c lid log other (Bytes d piece) fit pair own left_alone locks = (refl, (tt, tt))
+own_event config polled c lid log other (Turn d) fit pair own left_alone locks =
     let same = own_number d c own in
     subst (λ (n : ℕ). OwnActs config polled c log other (Turn n)) (sym same)
     (own_turn config polled c lid log other fit pair
-    (ap (λ (n : ℕ). makes_link (next_request (of n log))) (sym same) ∙ mild.1 same))
-own_event config polled c lid log other (Refuse d) fit pair own mild locks =
+    (ap (λ (n : ℕ). makes_link (next_request (of n log))) (sym same) ∙ left_alone.1 same))
+own_event config polled c lid log other (Refuse d) fit pair own left_alone locks =
     subst (λ (n : ℕ). OwnActs config polled c log other (Refuse n)) (sym (own_number d c own)) (
       ap (λ (l : List ConnAct). refuse_acts c (next_call l) (refusable l)) pair.own,
       own_refuse c (next_call (of c log)) (refusable (of c log)) log,
     )
-own_event config polled c lid log other (Took (Conn d) count) fit pair own mild locks = (refl, (tt, tt))
-own_event config polled c lid log other (Took (Intr d) count) fit pair own mild locks = (refl, (tt, tt))
-own_event config polled c lid log other (Close (Conn d)) fit pair own mild locks =
+own_event config polled c lid log other (Took (Conn d) count) fit pair own left_alone locks = (refl, (tt, tt))
+own_event config polled c lid log other (Took (Intr d) count) fit pair own left_alone locks = (refl, (tt, tt))
+own_event config polled c lid log other (Close (Conn d)) fit pair own left_alone locks =
     let same = own_number d c own in
     absurd (no_close c lid log pair.view.mine
     (subst (λ (n : ℕ). Each (Locks lid) (map OnDevice (close_adds n (device_acts log)) ++ On n PortClosed ∷ []) log) same locks))
-own_event config polled c lid log other (Close (Intr d)) fit pair own mild locks = (refl, (tt, tt))
-own_event config polled c lid log other (Dialed d ok) fit pair own mild locks =
+own_event config polled c lid log other (Close (Intr d)) fit pair own left_alone locks = (refl, (tt, tt))
+own_event config polled c lid log other (Dialed d ok) fit pair own left_alone locks =
     subst (λ (n : ℕ). OwnActs config polled c log other (Dialed n ok)) (sym (own_number d c own)) (
       ap (λ (l : List ConnAct). acts_of c (connected c ok (core_call_in (unanswered l)))) pair.own,
       own_connected c ok (core_call_in (unanswered (of c log))) log,
     )
-own_event config polled c lid log other (Input channel microvolts) fit pair own mild locks = (refl, (tt, tt))
-own_event config polled c lid log other External fit pair own mild locks = (
-  ap (λ (l : List InstrumentAct). map OnDevice (map Happened (external_acts l))) pair.view.instrument,
+own_event config polled c lid log other (Input channel microvolts) fit pair own left_alone locks = (refl, (tt, tt))
+own_event config polled c lid log other External fit pair own left_alone locks = (
+  ap (λ (l : List InstrumentAct). map OnDevice (map Applied (external_acts l))) pair.view.instrument,
   own_happened c (external_acts (instrument_acts (device_acts log))) log,
 )
-own_event config polled c lid log other Tick fit pair own mild locks =
-    let adds = map OnDevice (map Happened (tick_acts (instrument_acts (device_acts log)))) in (
-      ap (λ (l : List InstrumentAct). map OnDevice (map Happened (tick_acts l)) ++ OnDevice Ticked ∷ []) pair.view.instrument,
+own_event config polled c lid log other Tick fit pair own left_alone locks =
+    let adds = map OnDevice (map Applied (tick_acts (instrument_acts (device_acts log)))) in (
+      ap (λ (l : List InstrumentAct). map OnDevice (map Applied (tick_acts l)) ++ OnDevice Ticked ∷ []) pair.view.instrument,
       each_join (IsOwnAct c) adds (OnDevice Ticked ∷ []) log
           (own_happened c (tick_acts (instrument_acts (device_acts log))) (OnDevice Ticked ∷ log)) (tt, tt),
     )

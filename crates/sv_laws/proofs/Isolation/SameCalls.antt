@@ -9,7 +9,7 @@ use Rattle.sv_links.specs.declared.waiting.Wait.TheVariants.{Lock, Input as ForI
 use Rattle.sv_links.specs.Links.{Made, Destroyed, Locked, Unlocked, holder}
 use Rattle.sv_links.specs.Waiting.{Left}
 use Rattle.sv_history.specs.declared.event.Config.{Config}
-use Rattle.sv_history.specs.Act.{DeviceAct, Linked, Waited, Channel, Happened, Ticked, link_acts}
+use Rattle.sv_history.specs.Act.{DeviceAct, Linked, Waited, Channel, Applied, Ticked, link_acts}
 use Rattle.sv_history.specs.CallOutcome.{CallOutcome}
 use Rattle.sv_history.specs.CoreCall.{CoreCall, lid_of}
 use Rattle.sv_history.specs.CoreChannel.{owns, link_call, own_call}
@@ -122,5 +122,5 @@ done_own c arguments (act ∷ adds) acts makes h = (one act (adds ++ acts) h.0, 
     one (Linked (Unlocked lid)) acts h = tt
     one (Waited act) acts h = absurd h
     one (Channel act) acts h = tt
-    one (Happened act) acts h = tt
+    one (Applied act) acts h = tt
     one Ticked acts h = tt

@@ -12,7 +12,7 @@ use Rattle.sv_layers.specs.Act.{Act as InstrumentAct}
 use Rattle.sv_instrument.specs.Stimulus.{IsFired}
 use Rattle.sv_instrument.specs.Step.{IsStep}
 use Rattle.sv_history.specs.declared.event.Config.{Config}
-use Rattle.sv_history.specs.Act.{Act, ConnAct, DeviceAct, Waited, Happened, OnDevice, of, device_acts, link_acts, wait_acts, ticks}
+use Rattle.sv_history.specs.Act.{Act, ConnAct, DeviceAct, Waited, Applied, OnDevice, of, device_acts, link_acts, wait_acts, ticks}
 use Rattle.sv_history.proofs.Lives.{unanswered}
 use Rattle.sv_history.specs.CoreCall.{CoreCall}
 use Rattle.sv_history.specs.CoreChannel.{own_call}
@@ -49,7 +49,7 @@ does_alike : (config : Config) (c lid : ℕ) (IsSuch : List InstrumentAct → Li
     → Pair c lid log other → LocksOver lid log middle → InstrumentDoes IsSuch log middle
     → ((after : List Act) → InstrumentDoes IsSuch other after → IsNext config other after) → Advanced config c lid middle other
 does_alike config c lid IsSuch log middle other also pair locks (adds, such, is) due =
-    let new = map OnDevice (map Happened adds) in
+    let new = map OnDevice (map Applied adds) in
     let next = due (new ++ other) (adds, subst (λ (l : List InstrumentAct). IsSuch l (adds ++ l)) pair.view.instrument such, refl) in
     record {
       after = new ++ other;

@@ -1,7 +1,7 @@
 -- What the parts of a loop of sweeps do.
 use Rattle.std.specs.Prelude.{◌≡◌, ℕ, ◌+◌, Bool, true, false, List, ◌∷◌, length}
 use Rattle.sv_serve.specs.Heard.{Heard}
-use Rattle.sv_serve.specs.Moment.{Driving}
+use Rattle.sv_serve.specs.DriverView.{DriverState}
 use Rattle.sv_net.specs.Serving.{Doing, Waited, time_of, swept_at, ticks_between, handed_in, is_fresh, is_told, Serves, Waits}
 
 -- whether the last thing was a wait in which nothing was reported, so all is told
@@ -11,7 +11,7 @@ is_quiet _ = false
 
 -- So many sweeps were made, and waits, as the machine answered: the last sweep began at `swept`, it is `time`, and this is so.
 pub record Running {W M : Type 0} (hears : W → Heard → W → Type 0) (answers : M → Doing W → M → Type 0) (is_so : List (Doing W) → Bool)
-    (many swept time : ℕ) (old new : Driving W) (first now : M) : Type 0 where
+    (many swept time : ℕ) (old new : DriverState W) (first now : M) : Type 0 where
   pub doings : List (Doing W)
   pub sweeps : length (handed_in doings) ≡ many
   pub last : swept_at doings ≡ swept
@@ -21,19 +21,19 @@ pub record Running {W M : Type 0} (hears : W → Heard → W → Type 0) (answer
   pub waits : Waits answers doings first now
 
 -- A sweep is made, with so many milliseconds.
-pub record Rounds {W M : Type 0} (hears : W → Heard → W → Type 0) (answers : M → Doing W → M → Type 0) (ticks : ℕ) (old new : Driving W)
+pub record Rounds {W M : Type 0} (hears : W → Heard → W → Type 0) (answers : M → Doing W → M → Type 0) (ticks : ℕ) (old new : DriverState W)
     (first now : M) : Type 0 where
-  pub goes : (many swept time : ℕ) (start : Driving W) (machine : M) → ticks ≡ ticks_between swept time
+  pub goes : (many swept time : ℕ) (start : DriverState W) (machine : M) → ticks ≡ ticks_between swept time
       → Running hears answers is_fresh many swept time start old machine first
       → Running hears answers is_told (many + 1) time time start new machine now
 
 -- Behind a sweep waits follow alone: it was `began`, and this was so; and it is `time`, and that is so.
-pub record Pauses {W M : Type 0} (hears : W → Heard → W → Type 0) (answers : M → Doing W → M → Type 0) (driver : Driving W)
+pub record Pauses {W M : Type 0} (hears : W → Heard → W → Type 0) (answers : M → Doing W → M → Type 0) (driver : DriverState W)
     (was is_so : List (Doing W) → Bool) (swept began time : ℕ) (old now : M) : Type 0 where
-  pub goes : (many : ℕ) (start : Driving W) (first : M) → Running hears answers was many swept began start driver first old
+  pub goes : (many : ℕ) (start : DriverState W) (first : M) → Running hears answers was many swept began start driver first old
       → Running hears answers is_so many swept time start driver first now
 
 -- It ran so many sweeps, at some times.
-abbrev pub Ran : {W M : Type 0} → (W → Heard → W → Type 0) → (M → Doing W → M → Type 0) → ℕ → Driving W → Driving W → M → M → Type 0
+abbrev pub Ran : {W M : Type 0} → (W → Heard → W → Type 0) → (M → Doing W → M → Type 0) → ℕ → DriverState W → DriverState W → M → M → Type 0
 Ran hears answers many old new first now =
     (swept : ℕ) × (time : ℕ) × Running hears answers is_fresh many swept time old new first now

@@ -10,7 +10,7 @@ use Rattle.sv_exchange.specs.Limits.{max_message}
 use Rattle.sv_layers.specs.Act.{Exchanged, Reported}
 use Rattle.sv_instrument.specs.Step.{is_answerable}
 use Rattle.sv_history.specs.declared.event.Config.{Config}
-use Rattle.sv_history.specs.Act.{DeviceAct, Happened, instrument_acts, exchange_acts}
+use Rattle.sv_history.specs.Act.{DeviceAct, Applied, instrument_acts, exchange_acts}
 use Rattle.sv_history.specs.CoreCall.{no_bytes}
 use Rattle.sv_history.specs.CoreChannel.{device_write, device_read}
 use Rattle.sv_server.specs.Device.Representation.{IsDevice, Device}
@@ -18,13 +18,13 @@ use Rattle.sv_server.specs.Device.Inside.Outcome.{IsResult}
 
 pub written_ends : (config : Config) (acts : List DeviceAct) (new : Device) (flags : ℕ) (bytes : List ℕ) (ended : Bool) (told : VxiOutcome)
     → nat_lt max_message (length bytes) ≡ false → has_ended (exchange_acts acts) ≡ false → ended ≡ (bit_at flags 3 == 1)
-    → told ≡ Size NoError (length bytes) → IsDevice new config (Happened (Exchanged (Accepted bytes ended)) ∷ acts)
+    → told ≡ Size NoError (length bytes) → IsDevice new config (Applied (Exchanged (Accepted bytes ended)) ∷ acts)
     → IsResult (device_write flags bytes acts).result told × IsDevice new config ((device_write flags bytes acts).adds ++ acts)
 written_ends config acts new flags bytes ended told short unended end tells stands = rw (short, unended)
-    (sym tells, subst (λ (b : Bool). IsDevice new config (Happened (Exchanged (Accepted bytes b)) ∷ acts)) end stands)
+    (sym tells, subst (λ (b : Bool). IsDevice new config (Applied (Exchanged (Accepted bytes b)) ∷ acts)) end stands)
 
 pub unread_ends : (config : Config) (acts : List DeviceAct) (new : Device) (most : ℕ) (term : Option ℕ) (told : VxiOutcome)
     → is_something (response (exchange_acts acts)) ≡ false → is_answerable (instrument_acts acts) ≡ true → told ≡ no_bytes IoTimeout
-    → IsDevice new config (Happened (Reported QueryUnterminated) ∷ Happened (Exchanged TextDropped) ∷ acts)
+    → IsDevice new config (Applied (Reported QueryUnterminated) ∷ Applied (Exchanged TextDropped) ∷ acts)
     → IsResult (device_read most term acts).result told × IsDevice new config ((device_read most term acts).adds ++ acts)
 unread_ends config acts new most term told nothing none tells stands = rw (none, nothing) (sym tells, stands)

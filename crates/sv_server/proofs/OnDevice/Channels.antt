@@ -4,7 +4,7 @@ use Rattle.std.specs.Prelude.{◌||◌, is_some, nat_lt}
 use Rattle.std.specs.List.{concat}
 use Rattle.std.proofs.lemmas.Bool.{lt-ltb, le-ltb, ne_eqb, cases_lt}
 use Rattle.sv_links.specs.declared.request.Peer.{Peer}
-use Rattle.sv_links.specs.Channels.{ChannelAct, ChannelTaken, is_channel_open, taken, calls, left_of, waiting as channel_waiting}
+use Rattle.sv_links.specs.Channels.{ChannelAct, ChannelTaken, is_channel_open, taken, calls, untaken, waiting as channel_waiting}
 use Rattle.sv_links.specs.ChannelRepresentation.{AreChannels}
 use Rattle.sv_history.specs.declared.event.Config.{Config}
 use Rattle.sv_history.specs.Act.{Act, DeviceAct, of, device_acts, wait_acts}
@@ -34,7 +34,7 @@ waits_nowhere : (open_now : Bool) (bytes : List ℕ) → open_now ≡ false → 
 waits_nowhere open_now bytes shut = ap (λ (b : Bool). cond b bytes []) shut
 
 pub channel_open : (c : ℕ) (told : List ChannelAct) → 0 < length (channel_waiting c told) → is_channel_open c told ≡ true
-channel_open c told some = waits_where (is_channel_open c told) (concat (left_of (taken c told) (calls c told))) some
+channel_open c told some = waits_where (is_channel_open c told) (concat (untaken (taken c told) (calls c told))) some
 
 -- and none is open whose number is above 15
 beyond_shut : (kept : KeptDevice) (config : Config) (acts : List DeviceAct) (told : List ChannelAct) (c : ℕ) → IsDevice kept config acts
@@ -45,7 +45,7 @@ beyond_shut kept config acts told c is tells above =
 pub none_beyond : (kept : KeptDevice) (config : Config) (acts : List DeviceAct) (told : List ChannelAct) (c : ℕ) → IsDevice kept config acts
     → HearsOf acts told → 16 ≤ c → channel_waiting c told ≡ []
 none_beyond kept config acts told c is tells above =
-    waits_nowhere (is_channel_open c told) (concat (left_of (taken c told) (calls c told)))
+    waits_nowhere (is_channel_open c told) (concat (untaken (taken c told) (calls c told)))
     (beyond_shut kept config acts told c is tells above)
 
 pub channel_within : (kept : KeptDevice) (config : Config) (acts : List DeviceAct) (told : List ChannelAct) (c : ℕ)

@@ -10,7 +10,7 @@ use Rattle.sv_links.specs.declared.waiting.Wait.{Wait}
 use Rattle.sv_links.specs.declared.waiting.Wait.TheVariants.{Lock, Input, Response, Dial}
 use Rattle.sv_links.specs.Links.{holder, is_locked_out, is_this, lids_left}
 use Rattle.sv_links.specs.Waiting.{Entered, Left, creating, waits, link as link_of_wait, is_lock}
-use Rattle.sv_links.specs.Queue.{IsEntry, creations, without, rank_of}
+use Rattle.sv_links.specs.Queue.{IsEntry, creations, without, wait_measure}
 use Rattle.sv_history.specs.declared.event.Config.{Config}
 use Rattle.sv_history.specs.Act.{DeviceAct, Waited, link_acts, wait_acts, instrument_acts, exchange_acts}
 use Rattle.sv_history.specs.CallOutcome.{only}
@@ -213,11 +213,11 @@ may_make_link (CreateLink client_id lock_device lock_timeout device) kept acts c
 may_make_link _ kept acts c may = tt
 
 -- what isn't waited for once more
-pub rank_other : (wait : Wait) → rank_of wait ≡ 1 → wait ≡ Lock → ⊥
+pub rank_other : (wait : Wait) → wait_measure wait ≡ 1 → wait ≡ Lock → ⊥
 rank_other Lock e same = absurd cc
 rank_other _ e same = cc
 
-pub not_lock : (wait : Wait) (b : Bool) → rank_of wait ≡ 1 → (is_lock (Some wait) && b) ≡ true → ⊥
+pub not_lock : (wait : Wait) (b : Bool) → wait_measure wait ≡ 1 → (is_lock (Some wait) && b) ≡ true → ⊥
 not_lock Lock b e both = cc
 not_lock _ b e both = cc
 

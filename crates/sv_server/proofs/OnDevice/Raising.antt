@@ -8,7 +8,7 @@ use Rattle.sv_layers.specs.Act.{Act as InstrumentAct}
 use Rattle.sv_instrument.specs.Representation.{Kept, StandsFor, Ran, Takes}
 use Rattle.sv_instrument.specs.RequestCount.{Raise}
 use Rattle.sv_history.specs.declared.event.Config.{Config}
-use Rattle.sv_history.specs.Act.{DeviceAct, Happened, instrument_acts}
+use Rattle.sv_history.specs.Act.{DeviceAct, Applied, instrument_acts}
 use Rattle.sv_server.specs.Device.Representation.{Device, IsDevice, HasDone}
 use Rattle.sv_history.proofs.Projections.{link_acts-happened, instrument_acts-happened, ticks-happened, wait_acts-happened}
 use Rattle.sv_server.proofs.OnDevice.Effects.{device_done}
@@ -23,7 +23,7 @@ Tolls old new n = (told : List ChannelAct) → AreChannels old told → AreChann
 pub device_raised : (kept : Device) (intr : Channels) (config : Config) (acts : List DeviceAct) (adds : List InstrumentAct) (n : ℕ)
     → HasDone adds kept config acts → Raise adds (instrument_acts acts) n → Tolls kept.intr intr n → intr.enabled ≡ kept.intr.enabled
     → ((c : ℕ) → IsReady kept.intr c → IsReady intr c)
-    → IsDevice (record kept { intr = intr }) config (map Happened adds ++ acts)
+    → IsDevice (record kept { intr = intr }) config (map Applied adds ++ acts)
 device_raised kept intr config acts adds n (links, instrument, set_up, clock, waiting, reserved, was, ready) raise tolls same still = (
   rw (link_acts-happened adds acts) links,
   rw (instrument_acts-happened adds acts) instrument,
@@ -46,12 +46,12 @@ ran_raised kept n log adds ran = raise_of log adds ran.raises.acts n ran.raises.
 -- what is told after the instrument ran
 abbrev pub RaisesInto : Device → Device → ℕ → Type 0
 RaisesInto old new n = (config : Config) (acts : List DeviceAct) (adds : List InstrumentAct)
-    → HasDone adds old config acts → Raise adds (instrument_acts acts) n → IsDevice new config (map Happened adds ++ acts)
+    → HasDone adds old config acts → Raise adds (instrument_acts acts) n → IsDevice new config (map Applied adds ++ acts)
 
 pub device_ran : (kept : Device) (instrument : Kept) (new : Device) (config : Config) (acts : List DeviceAct) (adds : List InstrumentAct)
     (n : ℕ) → IsDevice kept config acts → Ran instrument n (instrument_acts acts) (adds ++ instrument_acts acts)
     → RaisesInto (record kept { instrument = instrument }) new n
-    → IsDevice new config (map Happened adds ++ acts)
+    → IsDevice new config (map Applied adds ++ acts)
 device_ran kept instrument new config acts adds n is ran raises = raises config acts adds
     (device_done kept instrument config acts adds is ran.stands) (ran_raised instrument n (instrument_acts acts) adds ran)
 

@@ -7,7 +7,7 @@ use Rattle.sv_history.specs.declared.event.Config.{Config}
 use Rattle.sv_history.specs.Act.{DeviceAct, wait_acts}
 use Rattle.sv_history.specs.CoreCall.{lid_of}
 use Rattle.sv_history.specs.Request.{Request, AbortRequest}
-use Rattle.sv_history.specs.AbortChannel.{owner_of, where_waiting}
+use Rattle.sv_history.specs.AbortChannel.{owner_of, if_waiting}
 use Rattle.sv_history.specs.Execution.{request_effect, aborts}
 
 some_waits : (b : Bool) (lid : ℕ) (named : Option ℕ) → (b && is_this lid named) ≡ true → b ≡ true
@@ -24,7 +24,7 @@ if_waiting : (b : Bool) (c d : ℕ) → cond b (Some c) None ≡ Some d → (b �
 if_waiting true c d e = (refl, cc)
 if_waiting false c d e = absurd cc
 
-where_aborted : (owner lid : Option ℕ) (acts : List DeviceAct) (d : ℕ) → where_waiting owner lid acts ≡ Some d
+where_aborted : (owner lid : Option ℕ) (acts : List DeviceAct) (d : ℕ) → if_waiting owner lid acts ≡ Some d
     → waits d (wait_acts acts) ≡ None → ⊥
 where_aborted None lid acts d e none = cc
 where_aborted (Some c) None acts d e none = cc

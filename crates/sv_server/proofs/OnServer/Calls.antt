@@ -14,7 +14,7 @@ use Rattle.sv_server.specs.Device.Representation.{Device, IsDevice}
 use Rattle.sv_vxi.specs.Arguments.{Arguments, is_create_link}
 use Rattle.sv_links.specs.declared.waiting.Wait.{Wait}
 use Rattle.sv_links.specs.declared.waiting.Wait.TheVariants.{Lock, Input, Response, Dial}
-use Rattle.sv_links.specs.Queue.{without, rank}
+use Rattle.sv_links.specs.Queue.{without, queue_measure}
 use Rattle.sv_links.specs.declared.waiting.Entry.{Entry}
 use Rattle.sv_links.specs.Waiting.{Left}
 use Rattle.sv_history.specs.Act.{ConnAct, Waited}
@@ -126,7 +126,7 @@ none_goes (causes.Failed error) config polled c acts before old connection new m
 
 -- and is nearer to its end
 pub none_nearer : (cause : Cause) (c : ℕ) (old new : List Entry) → IsNearer cause c old → new ≡ without c old → is_able cause ≡ true
-    → rank new < rank old
+    → queue_measure new < queue_measure old
 none_nearer (causes.Able Lock) c old new nearer left able = rw left (omega (arith, nearer))
 none_nearer (causes.Able Input) c old new nearer left able = rw left (omega (arith, nearer))
 none_nearer (causes.Able Response) c old new nearer left able = rw left (omega (arith, nearer))

@@ -11,7 +11,7 @@ use Rattle.sv_links.specs.Waiting.{WaitAct, waits, is_there, is_lock}
 use Rattle.sv_links.specs.Queue.{IsEntry, entry_of, creates, creations, without}
 use Rattle.sv_layers.specs.Act.{Act as InstrumentAct}
 use Rattle.sv_history.specs.declared.event.Config.{Config}
-use Rattle.sv_history.specs.Act.{Act, Happened, OnDevice, of, device_acts, link_acts, wait_acts, instrument_acts}
+use Rattle.sv_history.specs.Act.{Act, Applied, OnDevice, of, device_acts, link_acts, wait_acts, instrument_acts}
 use Rattle.sv_history.proofs.Lives.{unanswered}
 use Rattle.sv_history.specs.Request.{core_call}
 use Rattle.sv_history.specs.Effect.{Effect, acts_of}
@@ -151,4 +151,4 @@ pub happens_step : (IsSuch : List InstrumentAct → List InstrumentAct → Type 
 happens_step IsSuch state device config log false rep (none, same) kept =
     (happens_none IsSuch log none, ap (λ (b : KeptDevice). record state { device = b }) same)
 happens_step IsSuch state device config log true rep (adds, such, held) kept =
-    (map OnDevice (map Happened adds) ++ log, (adds, such, refl), shared_acts state config log device (map Happened adds) rep held kept)
+    (map OnDevice (map Applied adds) ++ log, (adds, such, refl), shared_acts state config log device (map Applied adds) rep held kept)

@@ -58,8 +58,8 @@ pub acted : (state : State) (config : Config) (log new : List Act) (c : ℕ) (ke
     → Represents state config log → length state.connections ≡ 16 → c < 16
     → IsConnection kept (of c new) → IsDevice device config (device_acts new) → ((d : ℕ) → d ≢ c → of d new ≡ of d log)
     → AllByRecursion (IsTaken new) device.waiting → (n : ℕ) → IsUsed n new
-    → Represents (record { connections = set state.connections c kept; device = device; used = n }) config new
-acted state config log new c kept device rep sixteen lt mine all others taken n used = record {
+    → Represents (record { connections = set state.connections c kept; device = device; connections_used = n }) config new
+acted state config log new c kept device rep sixteen lt mine all others taken n connections_used = record {
   each = λ d other below. elim (cases_eq d c) [
     | inl e ↦
         let at : get_or (set state.connections c kept) d other ≡ kept =
@@ -71,7 +71,7 @@ acted state config log new c kept device rep sixteen lt mine all others taken n 
         rw (at, others d ne) (rep.each d other below)
   ];
   beyond = λ d h. others d (λ e. absurd (omega arith)) ∙ rep.beyond d h;
-  used = used;
+  connections_used = connections_used;
   device = all;
   taken = taken;
 }
@@ -82,12 +82,12 @@ pub one_act : (state : State) (config : Config) (log : List Act) (c : ℕ) (old 
     → (IsConnection old (of c log) → IsConnection new (act ∷ of c log))
     → ((call : List ℕ) → unanswered (of c log) ≡ Some call → unanswered (act ∷ of c log) ≡ Some call)
     → (n : ℕ) → IsUsed n (On c act ∷ log)
-    → Represents (record state { connections = set state.connections c new; used = n }) config (On c act ∷ log)
-one_act state config log c old new act rep sixteen lt e goes known n used =
+    → Represents (record state { connections = set state.connections c new; connections_used = n }) config (On c act ∷ log)
+one_act state config log c old new act rep sixteen lt e goes known n connections_used =
     acted state config log (On c act ∷ log) c new state.device rep sixteen lt
     (rw of_mine (goes (connection_of state config log c old rep lt e))) rep.device (λ d ne. of_other c d act log ne)
     (taken_acted c log (On c act ∷ log) state.device.waiting (λ d ne. of_other c d act log ne)
-    (λ call h. ap unanswered (of_mine c act log) ∙ known call h) rep.taken) n used
+    (λ call h. ap unanswered (of_mine c act log) ∙ known call h) rep.taken) n connections_used
 
 -- no call of a connection that is shut waits
 pub none_taken : (kept : Connection) (acts : List ConnAct) (call : List ℕ) → IsConnection kept acts → kept.busy ≡ false
@@ -101,7 +101,7 @@ pub shared_acts : (state : State) (config : Config) (log : List Act) (device : K
 shared_acts state config log device adds rep all same = record {
   each = λ c other below. rw (of_shared c adds log) (rep.each c other below);
   beyond = λ c above. of_shared c adds log ∙ rep.beyond c above;
-  used = used_same state.used log (map OnDevice adds ++ log) rep.used (λ c. of_shared c adds log);
+  connections_used = used_same state.connections_used log (map OnDevice adds ++ log) rep.connections_used (λ c. of_shared c adds log);
   device = rw (device_shared adds log) all;
   taken = rw same (taken_acted 0 log (map OnDevice adds ++ log) state.device.waiting (λ d ne. of_shared d adds log)
       (λ call known. ap unanswered (of_shared 0 adds log) ∙ known) rep.taken);
@@ -141,9 +141,9 @@ closes state config log c old new device rep sixteen lt e goes freed left there 
     ∙ append_assoc (Channel (ChannelClosed c) ∷ links) (Waited (Left c) ∷ []) (device_acts log))) (freed (device_acts log) rep.device))
     others
     (rw left (taken_without c log (map OnDevice adds ++ On c PortClosed ∷ log) state.device.waiting others rep.taken))
-    state.used
-    (used_same state.used (On c PortClosed ∷ log) (map OnDevice adds ++ On c PortClosed ∷ log)
-    (used_act state.used c PortClosed log rep.used there) (λ d. of_shared d adds (On c PortClosed ∷ log))))
+    state.connections_used
+    (used_same state.connections_used (On c PortClosed ∷ log) (map OnDevice adds ++ On c PortClosed ∷ log)
+    (used_act state.connections_used c PortClosed log rep.connections_used there) (λ d. of_shared d adds (On c PortClosed ∷ log))))
 
 -- the same, of the number that an event names
 pub closes_named : (state : State) (config : Config) (log : List Act) (c named : ℕ) (old new : Connection) (device : KeptDevice)
@@ -187,8 +187,8 @@ pub turned : (state : State) (config : Config) (log : List Act) (c : ℕ) (call 
 turned state config log c call effect kept device rep sixteen lt idle (mine, all) held there =
     acted state config log _ c kept device rep sixteen lt (rw (of_taken c effect call log) mine) (rw (device_taken c effect call log) all)
     (λ d ne. others_taken c d effect call log ne)
-    (held_taken c log call effect state.device.waiting device.waiting idle rep.taken held) state.used
-    (used_acted state.used c log ((acts_of c effect ++ On c (CallTaken call) ∷ []) ++ log) rep.used there
+    (held_taken c log call effect state.device.waiting device.waiting idle rep.taken held) state.connections_used
+    (used_acted state.connections_used c log ((acts_of c effect ++ On c (CallTaken call) ∷ []) ++ log) rep.connections_used there
     (λ z. behind effect.own (CallTaken call ∷ of c log) (λ y. absurd cc) (sym (of_taken c effect call log) ∙ z))
     (λ d ne. others_taken c d effect call log ne))
 
@@ -200,6 +200,6 @@ pub resumed : (state : State) (config : Config) (log : List Act) (c : ℕ) (effe
     → Represents (record state { connections = set state.connections c kept; device = device }) config (acts_of c effect ++ log)
 resumed state config log c effect kept device rep sixteen lt (mine, all) taken there =
     acted state config log _ c kept device rep sixteen lt (rw (of_effect c effect log) mine) (rw (device_effect c effect log) all)
-    (λ d ne. others_effect c d effect log ne) taken state.used
-    (used_acted state.used c log (acts_of c effect ++ log) rep.used there
+    (λ d ne. others_effect c d effect log ne) taken state.connections_used
+    (used_acted state.connections_used c log (acts_of c effect ++ log) rep.connections_used there
     (λ z. behind effect.own (of c log) there (sym (of_effect c effect log) ∙ z)) (λ d ne. others_effect c d effect log ne))

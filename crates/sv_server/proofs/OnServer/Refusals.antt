@@ -13,7 +13,7 @@ use Rattle.sv_history.specs.Connection.{next_call, free}
 use Rattle.sv_history.proofs.Lives.{open_role}
 use Rattle.sv_history.specs.CoreCall.{CoreCall}
 use Rattle.sv_history.specs.Refusing.{refusable, refusable_call, refused_reply}
-use Rattle.sv_history.specs.Request.{asked}
+use Rattle.sv_history.specs.Request.{request_for}
 use Rattle.sv_history.specs.History.{refuse_refusal, refuse_acts, is_shut, is_beyond}
 use Rattle.sv_server.specs.Connection.Representation.{Connection}
 use Rattle.sv_server.specs.Server.State.{State, Represents}
@@ -27,9 +27,9 @@ use Rattle.sv_server.proofs.OnServer.Turning.{not_busy}
 
 -- of an open connection, by its next call
 pub refusable_is : (acts : List ConnAct) (role : Role) (found : Option (List ℕ)) → open_role acts ≡ Some role → next_call acts ≡ found
-    → refusable acts ≡ refusable_call (asked (Some role) found)
-refusable_is acts role found opened next = ap (λ (r : Option Role). refusable_call (asked r (next_call acts))) opened
-    ∙ ap (λ (bytes : Option (List ℕ)). refusable_call (asked (Some role) bytes)) next
+    → refusable acts ≡ refusable_call (request_for (Some role) found)
+refusable_is acts role found opened next = ap (λ (r : Option Role). refusable_call (request_for r (next_call acts))) opened
+    ∙ ap (λ (bytes : Option (List ℕ)). refusable_call (request_for (Some role) bytes)) next
 
 -- why it is refused
 pub refused_none : (acts : List ConnAct) → refusable acts ≡ None → refuse_refusal acts ≡ Some NotRefusable
@@ -69,8 +69,8 @@ refuse_done state config log c kept rep sixteen lt open_now (none, bytes, call, 
           (sym (ap (λ (found : Option (List ℕ)). refuse_acts c found (refusable (of c log))) next ∙ ap (refuse_acts c (Some bytes)) known))
           (acted state config log (On c answered ∷ mid) c kept state.device rep sixteen lt (rw here mine) rep.device others
           (taken_acted c log (On c answered ∷ mid) state.device.waiting others
-          (λ other waits. absurd {0} (busy_idle (of c log) other waits (not_busy c log bytes next))) rep.taken) state.used
-          (used_acted state.used c log (On c answered ∷ mid) rep.used (unshut_used c log open_now)
+          (λ other waits. absurd {0} (busy_idle (of c log) other waits (not_busy c log bytes next))) rep.taken) state.connections_used
+          (used_acted state.connections_used c log (On c answered ∷ mid) rep.connections_used (unshut_used c log open_now)
           (λ z. let e : answered ∷ CallTaken bytes ∷ of c log ≡ [] = sym here ∙ z in absurd cc) others)),
     )
 

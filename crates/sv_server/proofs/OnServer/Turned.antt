@@ -21,7 +21,7 @@ use Rattle.sv_server.specs.Server.Inside.Ending.{EndsAs, Holds, HeldAs}
 use Rattle.sv_server.specs.Connection.Inside.Requests.{xid_of}
 use Rattle.sv_server.specs.declared.server.execution.Executed.{Executed}
 use Rattle.sv_history.specs.Effect.{Effect}
-use Rattle.sv_history.specs.Request.{Request, NoCall, Decided, CoreRequest, PortRequest, abort_request, request_of, core_call_of, core_call, asked, next_request}
+use Rattle.sv_history.specs.Request.{Request, NoCall, Decided, CoreRequest, PortRequest, abort_request, request_of, core_call_of, core_call, request_for, next_request}
 use Rattle.sv_history.proofs.Deciding.{unless_decided, header_reply, request_is}
 use Rattle.sv_history.specs.declared.event.Role.{Role}
 use Rattle.sv_history.specs.declared.event.Role.TheVariants.{Core, Abort, Portmap}
@@ -84,5 +84,5 @@ refusal_none acts roomy = if_none (is_idle acts) (nat_lt (free acts) longest_rep
 -- what its next call asks for
 pub asks_for : (acts : List ConnAct) (role : Role) (bytes : List ℕ) (request : Request) → open_role acts ≡ Some role
     → next_call acts ≡ Some bytes → request ≡ request_of role (call_at bytes) → next_request acts ≡ Some request
-asks_for acts role bytes request opened next is = ap (λ (r : Option Role). asked r (next_call acts)) opened
-    ∙ ap (λ (found : Option (List ℕ)). asked (Some role) found) next ∙ ap (λ (r : Request). Some r) (sym is)
+asks_for acts role bytes request opened next is = ap (λ (r : Option Role). request_for r (next_call acts)) opened
+    ∙ ap (λ (found : Option (List ℕ)). request_for (Some role) found) next ∙ ap (λ (r : Request). Some r) (sym is)

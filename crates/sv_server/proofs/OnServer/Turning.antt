@@ -62,7 +62,8 @@ turn_idle state config log c kept device rep sixteen lt open_now (none, idle, mi
   λ told tells. rw open_now none,
   rw idle refl,
   λ polled said. rw (none_next (next_call (of c log)) idle)
-      (acted state config log log c kept device rep sixteen lt mine all (λ d ne. refl) (rw same rep.taken) state.used rep.used),
+      (acted state config log log c kept device rep sixteen lt mine all (λ d ne. refl)
+      (rw same rep.taken) state.connections_used rep.connections_used),
 )
 
 -- ---- a Turn that takes one

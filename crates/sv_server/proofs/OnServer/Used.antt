@@ -48,7 +48,7 @@ used_acted n c log new (none, some) there still others = (
 )
 
 pub used_act : (n c : ℕ) (act : ConnAct) (log : List Act) → IsUsed n log → of c log ≢ [] → IsUsed n (On c act ∷ log)
-used_act n c act log used there = used_acted n c log (On c act ∷ log) used there
+used_act n c act log connections_used there = used_acted n c log (On c act ∷ log) connections_used there
     (λ z. let e : act ∷ of c log ≡ [] = sym (of_mine c act log) ∙ z in absurd cc) (λ d ne. of_other c d act log ne)
 
 -- no connection acts

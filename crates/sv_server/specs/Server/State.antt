@@ -18,7 +18,7 @@ use Rattle.sv_history.specs.History.{IsLogOf}
 pub record State : Type 0 where
   pub connections : List Connection
   pub device : Device
-  pub used : ℕ
+  pub connections_used : ℕ
 
 -- A call that waits was taken and isn't answered; a create_link waits for the lock.
 abbrev pub IsTaken : List Act → Entry → Type 0
@@ -29,7 +29,7 @@ IsTaken log entry = (call : List ℕ) × ((life (of entry.conn log)).unanswered 
 pub record Represents (state : State) (config : Config) (log : List Act) : Type 0 where
   pub each : (c : ℕ) (other : Connection) → c < 16 → IsConnection (slice_index_or state.connections c other) (of c log)
   pub beyond : (c : ℕ) → 16 ≤ c → of c log ≡ []
-  pub used : IsUsed state.used log
+  pub connections_used : IsUsed state.connections_used log
   pub device : IsDevice state.device config (device_acts log)
   pub taken : AllByRecursion (IsTaken log) state.device.waiting
 

@@ -8,7 +8,7 @@ ghost use Rattle.sv_links.specs.Waiting.{waits, link};
 ghost use Rattle.sv_history.specs.Act.{DeviceAct, wait_acts};
 ghost use Rattle.sv_server.specs.Device.Representation.{IsDevice};
 ghost use Rattle.sv_history.specs.CoreCall.{lid_of as lid_for};
-ghost use Rattle.sv_history.specs.AbortChannel.{owner_of as owner_for, where_waiting as where_waiting_with, abort_result as result_of};
+ghost use Rattle.sv_history.specs.AbortChannel.{owner_of as owner_for, if_waiting as where_waiting_with, abort_result as result_of};
 
 use crate::device::Device;
 use crate::device::arguments::lid_of;
@@ -76,7 +76,7 @@ impl<A: Allocator> Device<A> {
     }
 
     /// The connection, where its call waits and names this link.
-    fn where_waiting(&self, conn: u8, lid: Option<u32>) -> Option<u8>
+    fn if_waiting(&self, conn: u8, lid: Option<u32>) -> Option<u8>
         ensures { (config : Config) (acts : List DeviceAct) → IsDevice self.now config acts
             → result ≡ where_waiting_with (Some conn) lid acts }
     {
@@ -96,7 +96,7 @@ impl<A: Allocator> Device<A> {
             → result ≡ where_waiting_with (owner_for lid acts) lid acts }
     {
         match self.owner_of(lid) {
-            Some(conn) => self.where_waiting(conn, lid),
+            Some(conn) => self.if_waiting(conn, lid),
             None => None,
         }
     }

@@ -6,7 +6,7 @@ ghost use Rattle.sv_vxi.specs.Arguments.{is_create_link as makes_link, lock_wait
 ghost use Rattle.sv_vxi.specs.Reading.{plain_call, plain_arguments};
 ghost use Rattle.sv_links.specs.Links.{holder, is_locked_out as is_out};
 ghost use Rattle.sv_links.specs.Waiting.{Entered, is_lock};
-ghost use Rattle.sv_links.specs.Queue.{rank_of};
+ghost use Rattle.sv_links.specs.Queue.{wait_measure};
 ghost use Rattle.sv_exchange.specs.Exchange.{has_ended};
 ghost use Rattle.sv_instrument.specs.Step.{is_answerable};
 ghost use Rattle.sv_history.specs.declared.event.Config.{Config as Configured};
@@ -101,7 +101,7 @@ impl<A: Allocator> Device<A> {
         ensures answer { (config : Configured) (acts : List DeviceAct)
             → IsDevice self.now config acts
             → result ≡ device_wait (plain_call call.now) acts }
-        ensures measure { IfSome result (λ wait. rank_of wait.0 ≡ 1) }
+        ensures measure { IfSome result (λ wait. wait_measure wait.0 ≡ 1) }
         ensures plain { IfSome result (λ wait. is_dial (Some wait.0) ≡ false) }
     {
         match *call {
@@ -117,7 +117,7 @@ impl<A: Allocator> Device<A> {
             → IsDevice self.now config acts
             → result ≡ (if has_ended (exchange_acts acts)
             then Some (Wait.Input, timeout) else None) }
-        ensures measure { IfSome result (λ wait. rank_of wait.0 ≡ 1) }
+        ensures measure { IfSome result (λ wait. wait_measure wait.0 ≡ 1) }
         ensures plain { IfSome result (λ wait. is_dial (Some wait.0) ≡ false) }
     {
         if self.instrument.can_write() {
@@ -132,7 +132,7 @@ impl<A: Allocator> Device<A> {
             → IsDevice self.now config acts
             → result ≡ (if is_answerable (instrument_acts acts)
             then None else Some (Wait.Response, timeout)) }
-        ensures measure { IfSome result (λ wait. rank_of wait.0 ≡ 1) }
+        ensures measure { IfSome result (λ wait. wait_measure wait.0 ≡ 1) }
         ensures plain { IfSome result (λ wait. is_dial (Some wait.0) ≡ false) }
     {
         if self.instrument.can_read() {
@@ -173,7 +173,8 @@ impl<A: Allocator> Device<A> {
     /// What stops a call that has to wait for the device.
     fn device_stop(&self, call: &LinkCall<'_>) -> Option<Stop>
         ensures { (config : Configured) (acts : List DeviceAct) → IsDevice self.now config acts
-            → option_map plain_stop result ≡ option_map (λ (wait : Wait × ℕ). Awaits wait.0 (Some wait.1))
+            → option_map plain_stop result ≡ option_map (λ (wait : Wait × ℕ). Awaits wait.0
+            (Some wait.1))
             (device_wait (plain_call call.now) acts) }
     {
         match self.device_wait(call) {

@@ -13,7 +13,7 @@ ghost use Rattle.sv_instrument.specs.Stimulus.{trigger_acts};
 ghost use Rattle.sv_history.specs.declared.event.Config.{Config as Configured};
 ghost use Rattle.sv_links.specs.Links.{Destroyed, holder, is_locked_out};
 ghost use Rattle.sv_exchange.specs.Limits.{max_message, max_read};
-ghost use Rattle.sv_history.specs.Act.{DeviceAct, Linked, Happened, link_acts, instrument_acts, exchange_acts};
+ghost use Rattle.sv_history.specs.Act.{DeviceAct, Linked, Applied, link_acts, instrument_acts, exchange_acts};
 ghost use Rattle.sv_history.specs.CallOutcome.{answered};
 ghost use Rattle.sv_server.specs.Device.Representation.{IsDevice, HasPlace};
 ghost use Rattle.sv_history.specs.CoreChannel.{owns, make_link, device_lock, device_unlock, device_write, device_read, link_call, own_call};
@@ -193,7 +193,7 @@ impl<A: Allocator> Device<A> {
         requires { count ≤ length (shown_by self.old.instrument.layers.exchange) }
         ensures stands { (config : Configured) (acts : List DeviceAct)
             → IsDevice self.old config acts
-            → IsDevice self.new config (Happened (Exchanged (ResponseRead count)) ∷ acts) }
+            → IsDevice self.new config (Applied (Exchanged (ResponseRead count)) ∷ acts) }
         ensures waiting { self.new.waiting ≡ self.old.waiting }
     {
         let raised = self.instrument.take(count);
@@ -205,7 +205,7 @@ impl<A: Allocator> Device<A> {
         ensures ends { (config : Configured) (polled : ℕ) (acts : List DeviceAct)
             → IsDeviceAt self.old config polled acts
             → OutcomeIs result self.new config acts
-            (answered (Happened Polled ∷ []) (Status NoError polled)) }
+            (answered (Applied Polled ∷ []) (Status NoError polled)) }
         ensures short { IsBrief result }
         ensures waiting { self.new.waiting ≡ self.old.waiting }
     {
@@ -219,7 +219,7 @@ impl<A: Allocator> Device<A> {
     fn device_trigger(&mut self) -> CallOutcome
         ensures ends { (config : Configured) (acts : List DeviceAct) → IsDevice self.old config acts
             → OutcomeIs result self.new config acts
-            (answered (map Happened (trigger_acts (instrument_acts acts))) (Plain NoError)) }
+            (answered (map Applied (trigger_acts (instrument_acts acts))) (Plain NoError)) }
         ensures short { IsBrief result }
         ensures waiting { self.new.waiting ≡ self.old.waiting }
     {
@@ -232,7 +232,7 @@ impl<A: Allocator> Device<A> {
     fn device_clear(&mut self) -> CallOutcome
         ensures ends { (config : Configured) (acts : List DeviceAct) → IsDevice self.old config acts
             → OutcomeIs result self.new config acts
-            (answered (Happened Purged ∷ []) (Plain NoError)) }
+            (answered (Applied Purged ∷ []) (Plain NoError)) }
         ensures short { IsBrief result }
         ensures waiting { self.new.waiting ≡ self.old.waiting }
     {

@@ -4,7 +4,7 @@ ghost use Rattle.std.specs.Prelude.{◌≡◌, ◌+◌, ◌<◌, ◌≤◌, ℕ,
 ghost use Rattle.sv_vxi.specs.Arguments.{is_create_link as makes_link};
 ghost use Rattle.sv_vxi.specs.Reading.{plain_arguments};
 ghost use Rattle.sv_links.specs.Waiting.{Left, waits};
-ghost use Rattle.sv_links.specs.Queue.{without, rank, rank_of};
+ghost use Rattle.sv_links.specs.Queue.{without, queue_measure, wait_measure};
 ghost use Rattle.sv_history.specs.declared.event.Config.{Config};
 ghost use Rattle.sv_history.specs.Act.{DeviceAct, Waited, wait_acts};
 ghost use Rattle.sv_history.specs.CallOutcome.{only};
@@ -47,7 +47,8 @@ impl<A: Allocator> Device<A> {
             self.old.waiting self.new.waiting }
         ensures left { is_able cause ≡ false
             → self.new.waiting ≡ without conn.number self.old.waiting }
-        ensures measure { is_able cause ≡ true → rank self.new.waiting < rank self.old.waiting }
+        ensures measure { is_able cause ≡ true → queue_measure self.new.waiting
+            < queue_measure self.old.waiting }
     {
         match cause {
             Cause::Able(wait) => self.resume(conn, wait, args),
@@ -59,8 +60,8 @@ impl<A: Allocator> Device<A> {
     /// A call that waited for this is done; or, where it waited for the lock and the device isn't
     /// there for it, it waits anew, with its place kept, from now on.
     fn resume(&mut self, conn: Conn, wait: Wait, args: &Args<'_>) -> CallOutcome
-        requires { rank (without conn.number self.old.waiting) + rank_of wait
-            ≤ rank self.old.waiting }
+        requires { queue_measure (without conn.number self.old.waiting) + wait_measure wait
+            ≤ queue_measure self.old.waiting }
         ensures resumes { (config : Config) (polled : ℕ) (acts : List DeviceAct)
             → IsDeviceAt self.old config polled acts
             → (waits conn.number (wait_acts acts) ≡ None → ⊥)
@@ -70,7 +71,7 @@ impl<A: Allocator> Device<A> {
         ensures short { IsBrief result }
         ensures waiting { Resumes result conn.number (makes_link (plain_arguments args.now))
             self.old.waiting self.new.waiting }
-        ensures measure { rank self.new.waiting < rank self.old.waiting }
+        ensures measure { queue_measure self.new.waiting < queue_measure self.old.waiting }
     {
         match wait {
             Wait::Lock => self.pass_lock(conn, args),
@@ -82,7 +83,7 @@ impl<A: Allocator> Device<A> {
     fn next_wait(&self, args: &Args<'_>) -> Option<(Wait, u32)>
         ensures answer { (config : Config) (acts : List DeviceAct) → IsDevice self.now config acts
             → result ≡ next_wait Wait.Lock (plain_arguments args.now) acts }
-        ensures measure { IfSome result (λ wait. rank_of wait.0 ≡ 1) }
+        ensures measure { IfSome result (λ wait. wait_measure wait.0 ≡ 1) }
         ensures plain { IfSome result (λ wait. is_dial (Some wait.0) ≡ false) }
         ensures other { IfSome result (λ wait. makes_link (plain_arguments args.now) ≡ false) }
     {
@@ -94,7 +95,8 @@ impl<A: Allocator> Device<A> {
 
     /// A call that waited for the lock.
     fn pass_lock(&mut self, conn: Conn, args: &Args<'_>) -> CallOutcome
-        requires { rank (without conn.number self.old.waiting) + 2 ≤ rank self.old.waiting }
+        requires { queue_measure (without conn.number self.old.waiting) + 2
+            ≤ queue_measure self.old.waiting }
         ensures resumes { (config : Config) (polled : ℕ) (acts : List DeviceAct)
             → IsDeviceAt self.old config polled acts
             → (waits conn.number (wait_acts acts) ≡ None → ⊥)
@@ -104,7 +106,7 @@ impl<A: Allocator> Device<A> {
         ensures short { IsBrief result }
         ensures waiting { Resumes result conn.number (makes_link (plain_arguments args.now))
             self.old.waiting self.new.waiting }
-        ensures measure { rank self.new.waiting < rank self.old.waiting }
+        ensures measure { queue_measure self.new.waiting < queue_measure self.old.waiting }
     {
         if let Some((wait, timeout)) = self.next_wait(args) {
             let deadline = self.deadline(Some(timeout));

@@ -1,7 +1,7 @@
 //! The record of a suspended call is read once more, and the call is taken up again.
 
 ghost use Rattle.std.specs.Prelude.{◌≡◌, ◌<◌, ℕ, List, true, false, is_some};
-ghost use Rattle.sv_links.specs.Queue.{without, rank};
+ghost use Rattle.sv_links.specs.Queue.{without, queue_measure};
 ghost use Rattle.sv_history.specs.declared.event.Config.{Config};
 ghost use Rattle.sv_history.specs.Act.{ConnAct, DeviceAct};
 ghost use Rattle.sv_history.specs.Connection.{life};
@@ -27,15 +27,18 @@ pub fn take_up<A: Allocator>(
 )
     requires { IsNearer cause conn.number device.old.waiting }
     ensures concludes { (config : Config) (polled : ℕ) (acts : List ConnAct)
-        (before : List DeviceAct) → IsConnection connection.old acts → is_some (life acts).unanswered ≡ true
+        (before : List DeviceAct) → IsConnection connection.old acts → is_some
+        (life acts).unanswered ≡ true
         → IsDeviceAt device.old config polled before
         → MayTakeUp cause conn.number (core_call_in (life acts).unanswered) device.old before
-        → WentOn (taken_up cause config polled conn.number (core_call_in (life acts).unanswered) before)
+        → WentOn (taken_up cause config polled conn.number (core_call_in
+        (life acts).unanswered) before)
         conn.number (core_call_in (life acts).unanswered) config acts before device.old.waiting
         connection.new device.new }
     ensures left { is_able cause ≡ false
         → device.new.waiting ≡ without conn.number device.old.waiting }
-    ensures measure { is_able cause ≡ true → rank device.new.waiting < rank device.old.waiting }
+    ensures measure { is_able cause ≡ true → queue_measure device.new.waiting
+        < queue_measure device.old.waiting }
 {
     let Some(call) = connection.taken_call() else {
         device.end_wait(conn);

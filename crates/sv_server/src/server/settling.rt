@@ -2,10 +2,10 @@
 
 ghost use Rattle.std.specs.Prelude.{◌≡◌, ◌≢◌, ◌<◌, ◌≤◌, ◌++◌, ℕ, List, Some, None, true, false, IsTrue};
 ghost use Rattle.sv_links.specs.Waiting.{waits};
-ghost use Rattle.sv_links.specs.Queue.{IsEntry, creates, creations, without, rank};
+ghost use Rattle.sv_links.specs.Queue.{IsEntry, creates, creations, without, queue_measure};
 ghost use Rattle.sv_instrument.specs.Stimulus.{IsFired};
 ghost use Rattle.sv_instrument.specs.Step.{IsStep};
-ghost use Rattle.sv_instrument.specs.Representation.{left_of};
+ghost use Rattle.sv_instrument.specs.Representation.{instrument_measure};
 ghost use Rattle.sv_history.specs.declared.event.Config.{Config};
 ghost use Rattle.sv_history.specs.Event.{plain};
 ghost use Rattle.sv_history.specs.Act.{Act, of, device_acts, wait_acts};
@@ -70,8 +70,10 @@ impl<A: Allocator> Server<A> {
             → (creates entry ≡ true → creations (without entry.conn self.old.device.waiting)
             < creations self.old.device.waiting)
             → Represents self.new config (acts_of entry.conn (resumed config polled entry.conn
-            entry.wait (core_call_in (life (of entry.conn log)).unanswered) (device_acts log)) ++ log) }
-        ensures measure { rank self.new.device.waiting < rank self.old.device.waiting }
+            entry.wait (core_call_in (life (of entry.conn log)).unanswered)
+            (device_acts log)) ++ log) }
+        ensures measure { queue_measure self.new.device.waiting
+            < queue_measure self.old.device.waiting }
     {
         let conn = Conn { number: entry.conn };
         let connection = &mut self.connections[conn.index()];
@@ -83,7 +85,8 @@ impl<A: Allocator> Server<A> {
         ensures stands { (config : Config) (log : List Act) → Represents self.old config log
             → (waits conn.number (wait_acts (device_acts log)) ≡ None → ⊥)
             → Represents self.new config (acts_of conn.number
-            (failed error conn.number (core_call_in (life (of conn.number log)).unanswered)) ++ log) }
+            (failed error conn.number (core_call_in (life
+            (of conn.number log)).unanswered)) ++ log) }
         ensures waiting { self.new.device.waiting ≡ without conn.number self.old.device.waiting }
     {
         let connection = &mut self.connections[conn.index()];
@@ -96,7 +99,8 @@ impl<A: Allocator> Server<A> {
             → TakesStep (λ config. InstrumentDoes IsFired) result config log self.old self.new }
         ensures idle { result ≡ false → self.new ≡ self.old }
         ensures measure { IsTrue result
-            → left_of self.new.device.instrument < left_of self.old.device.instrument }
+            → instrument_measure self.new.device.instrument
+            < instrument_measure self.old.device.instrument }
         ensures waiting { self.new.device.waiting ≡ self.old.device.waiting }
     {
         self.device.fire()
@@ -108,7 +112,8 @@ impl<A: Allocator> Server<A> {
             → TakesStep (λ config. InstrumentDoes IsStep) result config log self.old self.new }
         ensures idle { result ≡ false → self.new ≡ self.old }
         ensures measure { IsTrue result
-            → left_of self.new.device.instrument < left_of self.old.device.instrument }
+            → instrument_measure self.new.device.instrument
+            < instrument_measure self.old.device.instrument }
         ensures waiting { self.new.device.waiting ≡ self.old.device.waiting }
     {
         self.device.exchange()
@@ -120,7 +125,7 @@ impl<A: Allocator> Server<A> {
             → TakesStep Resumes result config log self.old self.new }
         ensures idle { result ≡ false → self.new ≡ self.old }
         ensures measure { IsTrue result
-            → rank self.new.device.waiting < rank self.old.device.waiting }
+            → queue_measure self.new.device.waiting < queue_measure self.old.device.waiting }
     {
         match self.device.oldest_able() {
             Some(entry) => {
@@ -137,7 +142,7 @@ impl<A: Allocator> Server<A> {
             → TakesStep TimesOut result config log self.old self.new }
         ensures idle { result ≡ false → self.new ≡ self.old }
         ensures measure { IsTrue result
-            → rank self.new.device.waiting < rank self.old.device.waiting }
+            → queue_measure self.new.device.waiting < queue_measure self.old.device.waiting }
     {
         match self.device.expired() {
             Some(entry) => {
@@ -153,11 +158,12 @@ impl<A: Allocator> Server<A> {
         ensures steps { (config : Config) (log : List Act) → Represents self.old config log
             → Steps result config log self.new }
         ensures instrument { result ≡ Stepped.Instrument
-            → left_of self.new.device.instrument < left_of self.old.device.instrument }
+            → instrument_measure self.new.device.instrument
+            < instrument_measure self.old.device.instrument }
         ensures waiting { (result ≡ Stepped.Call → ⊥)
             → self.new.device.waiting ≡ self.old.device.waiting }
         ensures call { result ≡ Stepped.Call
-            → rank self.new.device.waiting < rank self.old.device.waiting }
+            → queue_measure self.new.device.waiting < queue_measure self.old.device.waiting }
     {
         if self.fire() {
             return Stepped::Instrument;
@@ -179,7 +185,7 @@ impl<A: Allocator> Server<A> {
         ensures goes { (config : Config) (log : List Act) → Represents self.old config log
             → GoesTo config log (λ mid. result ≡ false → IsSettled config mid) self.new }
         ensures measure { IsTrue result
-            → rank self.new.device.waiting < rank self.old.device.waiting }
+            → queue_measure self.new.device.waiting < queue_measure self.old.device.waiting }
     {
         loop {
             match self.step() {

@@ -1,5 +1,5 @@
 use Rattle.std.proofs.Common.{arith, ap}
-use Rattle.sv_exchange.specs.Contents.{work_of}
+use Rattle.sv_exchange.specs.Contents.{exchange_measure}
 use Rattle.sv_instrument.proofs.Units.{behaves_apart, configured_apart}
 use Rattle.sv_instrument.proofs.orders.perform.Goals.{in-EnableStandard, in-EnableService, in-Enable, in-SetRise, in-SetFall}
 use Rattle.sv_instrument.proofs.orders.perform.Goals as goal
@@ -50,7 +50,7 @@ returns-in-Ask-clause-capacity g c = c.ask.ensures.capacity
 
 pub returns-in-Configure-clause-advances : goal.returns-in-Configure-clause-advances
 returns-in-Configure-clause-advances g c = record {
-  less = omega (arith, c.end.ensures.advances.less, ap work_of c.configure.ensures.exchange);
+  less = omega (arith, c.end.ensures.advances.less, ap exchange_measure c.configure.ensures.exchange);
   right = c.end.ensures.advances.right;
 }
 

@@ -1,4 +1,4 @@
-use Rattle.sv_exchange.specs.Contents.{Contents, IsUnitDue, next_of, work_of}
+use Rattle.sv_exchange.specs.Contents.{Contents, IsUnitDue, next_of, exchange_measure}
 use Rattle.std.proofs.Common.{sym, arith, ap, subst}
 use Rattle.sv_instrument.proofs.Units.{behaves_apart, behaves_replied, taken_apart}
 use Rattle.sv_instrument.proofs.queries.ask.Goals as goal
@@ -27,7 +27,7 @@ returns-in-Some-clause-capacity g c = c.requires.room
 
 pub returns-in-None-clause-advances : goal.returns-in-None-clause-advances
 returns-in-None-clause-advances g c = record {
-  less = omega (arith, c.reply.ensures.advances.less, ap work_of c.take.ensures.exchange);
+  less = omega (arith, c.reply.ensures.advances.less, ap exchange_measure c.take.ensures.exchange);
   right = c.reply.ensures.advances.right;
 }
 

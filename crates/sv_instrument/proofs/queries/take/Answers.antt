@@ -8,22 +8,22 @@ use Rattle.sv_instrument.proofs.Counting.{counts}
 use Rattle.sv_instrument.proofs.queries.take.Goals as goal
 
 pub returns-in-StandardEvents-clause-counts : goal.returns-in-StandardEvents-clause-counts
-returns-in-StandardEvents-clause-counts g c = λ start log h. rw c.in-StandardEvents.is (counts c.happen.ensures.happens h)
+returns-in-StandardEvents-clause-counts g c = λ start log h. rw c.in-StandardEvents.is (counts c.apply.ensures.applied h)
 
 pub returns-in-StandardEvents-clause-exchange : goal.returns-in-StandardEvents-clause-exchange
-returns-in-StandardEvents-clause-exchange g c = c.happen.ensures.exchange
+returns-in-StandardEvents-clause-exchange g c = c.apply.ensures.exchange
 
 pub returns-in-Error-clause-counts : goal.returns-in-Error-clause-counts
-returns-in-Error-clause-counts g c = λ start log h. rw c.in-Error.is (counts c.happen-in-Error.ensures.happens h)
+returns-in-Error-clause-counts g c = λ start log h. rw c.in-Error.is (counts c.apply-in-Error.ensures.applied h)
 
 pub returns-in-Error-clause-exchange : goal.returns-in-Error-clause-exchange
-returns-in-Error-clause-exchange g c = c.happen-in-Error.ensures.exchange
+returns-in-Error-clause-exchange g c = c.apply-in-Error.ensures.exchange
 
 pub returns-in-Events-clause-counts : goal.returns-in-Events-clause-counts
-returns-in-Events-clause-counts g c = λ start log h. rw c.in-Events.is (counts c.happen-in-Events.ensures.happens h)
+returns-in-Events-clause-counts g c = λ start log h. rw c.in-Events.is (counts c.apply-in-Events.ensures.applied h)
 
 pub returns-in-Events-clause-exchange : goal.returns-in-Events-clause-exchange
-returns-in-Events-clause-exchange g c = c.happen-in-Events.ensures.exchange
+returns-in-Events-clause-exchange g c = c.apply-in-Events.ensures.exchange
 
 -- no other query takes anything
 untaken : (asked : Question) (log : List Act) → (asked ≡ StandardEvents → ⊥) → (asked ≡ Error → ⊥)

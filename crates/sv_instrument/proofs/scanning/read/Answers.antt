@@ -1,4 +1,4 @@
-use Rattle.sv_exchange.specs.Contents.{work_of}
+use Rattle.sv_exchange.specs.Contents.{exchange_measure}
 use Rattle.std.proofs.Common.{refl, arith, ap}
 use Rattle.sv_layers.specs.Act.{scan_acts}
 use Rattle.sv_layers.proofs.Refusals.{no_fault, the_fault}
@@ -9,7 +9,7 @@ use Rattle.sv_instrument.proofs.scanning.read.Goals as goal
 pub returns-in-Ok-clause-behaves : goal.returns-in-Ok-clause-behaves
 returns-in-Ok-clause-behaves g c = λ start log h.
     let fault = no_fault _ (c.in-Ok.ensures (scan_acts log) (c.scanner.ensures.stands log h.stands)) in
-    let begun = counts c.happen-in-Ok.ensures.happens (counts c.happen.ensures.happens h) in
+    let begun = counts c.apply-in-Ok.ensures.applied (counts c.apply.ensures.applied h) in
     behaves_unless _ fault (behaves_apart refl (c.hold.ensures.behaves start _ begun))
 
 pub returns-in-Err-clause-behaves : goal.returns-in-Err-clause-behaves
@@ -19,7 +19,12 @@ returns-in-Err-clause-behaves g c = λ start log h.
 
 pub returns-in-Ok-clause-advances : goal.returns-in-Ok-clause-advances
 returns-in-Ok-clause-advances g c = record {
-  less = omega (arith, c.hold.ensures.advances.less, ap work_of c.happen.ensures.exchange, ap work_of c.happen-in-Ok.ensures.exchange);
+  less = omega (
+    arith,
+    c.hold.ensures.advances.less,
+    ap exchange_measure c.apply.ensures.exchange,
+    ap exchange_measure c.apply-in-Ok.ensures.exchange,
+  );
   right = c.hold.ensures.advances.right;
 }
 

@@ -4,4 +4,4 @@ use Rattle.sv_instrument.proofs.unit_effects.carry_out.Goals as goal
 
 pub returns-clause-behaves : goal.returns-clause-behaves
 returns-clause-behaves g c = λ start log h.
-    behaves_apart (change_apart c.args.change log) (c.end.ensures.behaves start _ (counts c.happen.ensures.happens h))
+    behaves_apart (change_apart c.args.change log) (c.end.ensures.behaves start _ (counts c.apply.ensures.applied h))

@@ -6,10 +6,10 @@ use Rattle.sv_instrument.proofs.unit_effects.respond.Goals as goal
 pub returns-then-not-respond-clause-counts : goal.returns-then-not-respond-clause-counts
 returns-then-not-respond-clause-counts g c = λ start log h.
     let fits = sym c.if-not-respond.true ∙ c.respond.ensures.fits log h.stands in
-    let dropped = rw c.if-not-respond.true at (c.respond.ensures.happens log h.stands) in
-    counts_told false c.args.text.now log fits (counts c.happen.ensures.happens (counted dropped h))
+    let dropped = rw c.if-not-respond.true at (c.respond.ensures.applied log h.stands) in
+    counts_told false c.args.text.now log fits (counts c.apply.ensures.applied (counted dropped h))
 
 pub returns-else-not-respond-clause-counts : goal.returns-else-not-respond-clause-counts
 returns-else-not-respond-clause-counts g c = λ start log h.
     let fits = sym c.if-not-respond.false ∙ c.respond.ensures.fits log h.stands in
-    counts_told true c.args.text.now log fits (counted (rw c.if-not-respond.false at (c.respond.ensures.happens log h.stands)) h)
+    counts_told true c.args.text.now log fits (counted (rw c.if-not-respond.false at (c.respond.ensures.applied log h.stands)) h)

@@ -5,9 +5,9 @@ use Rattle.sv_net.proofs.serving.pause.Goals as goal
 pub returns-then-not-has_work-clause-pauses : goal.returns-then-not-has_work-clause-pauses
 returns-then-not-has_work-clause-pauses g c = rw c.end.ensures.times.0 at c.sleep.ensures.pauses
 
-pub returns-then-not-eager-2-clause-pauses : goal.returns-then-not-eager-2-clause-pauses
-returns-then-not-eager-2-clause-pauses g c = one_look _ _ _ _ _ _ _ _ _ _ refl c.in_ok-reported.ensures.answers
+pub returns-then-not-spinning-2-clause-pauses : goal.returns-then-not-spinning-2-clause-pauses
+returns-then-not-spinning-2-clause-pauses g c = one_look _ _ _ _ _ _ _ _ _ _ refl c.in_ok-reported.ensures.answers
 
 pub returns-clause-pauses : goal.returns-clause-pauses
-returns-clause-pauses g c = if_ok c.look.result (rw c.in_ok-reported.ensures.swept at c.look.ensures.pauses)
+returns-clause-pauses g c = if_ok c.spin.result (rw c.in_ok-reported.ensures.swept at c.spin.ensures.pauses)
     (λ ended more. and_then (in_vain _ _ _ _ _ _ _ _ _ refl (rw c.if-reported.false at c.in_ok-reported.ensures.answers)) more)

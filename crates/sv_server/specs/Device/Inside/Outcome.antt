@@ -6,11 +6,11 @@ use Rattle.sv_links.specs.declared.waiting.Entry.{Entry}
 use Rattle.sv_links.specs.declared.waiting.Wait.{Wait}
 use Rattle.sv_links.specs.Links.{holder, is_locked_out}
 use Rattle.sv_links.specs.Waiting.{Left, waits}
-use Rattle.sv_links.specs.Queue.{creates, creations, without, anew, rank, rank_of}
+use Rattle.sv_links.specs.Queue.{creates, creations, without, anew, queue_measure, wait_measure}
 use Rattle.sv_exchange.specs.Exchange.{response}
 use Rattle.sv_layers.specs.Act.{Act as InstrumentAct}
 use Rattle.sv_history.specs.declared.event.Config.{Config}
-use Rattle.sv_history.specs.Act.{DeviceAct, Waited, Happened, link_acts, wait_acts, instrument_acts, exchange_acts}
+use Rattle.sv_history.specs.Act.{DeviceAct, Waited, Applied, link_acts, wait_acts, instrument_acts, exchange_acts}
 use Rattle.sv_history.specs.CallOutcome.{CallOutcome, only}
 use Rattle.sv_history.specs.CoreCall.{failure}
 use Rattle.sv_history.specs.Interrupts.{is_dialing, dialed}
@@ -124,7 +124,7 @@ is_able _ = false
 
 -- One that can go on comes nearer to its end.
 abbrev pub IsNearer : Cause → ℕ → List Entry → Type 0
-IsNearer (causes.Able wait) c old = rank (without c old) + rank_of wait ≤ rank old
+IsNearer (causes.Able wait) c old = queue_measure (without c old) + wait_measure wait ≤ queue_measure old
 IsNearer _ c old = ⊤
 
 abbrev pub MayGoOn : Cause → ℕ → Arguments → Device → List DeviceAct → Type 0
@@ -145,6 +145,6 @@ GoesOnAs (causes.Failed error) outcome device config polled c arguments acts =
 -- A step of this kind is taken, or there is none and nothing changes.
 abbrev pub InstrumentSteps : (List InstrumentAct → List InstrumentAct → Type 0) → Bool → Config → List DeviceAct → Device → Device → Type 0
 InstrumentSteps IsSuch true config acts old new = (adds : List InstrumentAct)
-    × IsSuch (instrument_acts acts) (adds ++ instrument_acts acts) × IsDevice new config (map Happened adds ++ acts)
+    × IsSuch (instrument_acts acts) (adds ++ instrument_acts acts) × IsDevice new config (map Applied adds ++ acts)
 InstrumentSteps IsSuch false config acts old new =
     ((next : List InstrumentAct) → IsSuch (instrument_acts acts) next → ⊥) × (new ≡ old)

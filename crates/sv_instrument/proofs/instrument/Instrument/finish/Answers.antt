@@ -7,4 +7,4 @@ pub returns-clause-runs : goal.returns-clause-runs
 returns-clause-runs g c = λ start log h.
     let s = rw (← c.self.view_is) at h in
     let path = finished_path log (sym c.requires.free ∙ h.held) in
-    record { layers = counts c.finish.ensures.happens s.layers; held = s.held; path = rw c.root-self-inside.ensures path }
+    record { layers = counts c.finish.ensures.applied s.layers; held = s.held; path = rw c.root-self-inside.ensures path }

@@ -6,5 +6,5 @@ use Rattle.sv_instrument.proofs.instrument.Instrument.input.Goals as goal
 pub returns : goal.returns
 returns g c = λ log h.
     let s = runs_none (rw (← c.self.view_is) at h) in
-    let put = rw (to_z-of_z c.ranges.microvolts) at (counts c.happen.ensures.happens s.layers) in
+    let put = rw (to_z-of_z c.ranges.microvolts) at (counts c.apply.ensures.applied s.layers) in
     c.take_requests.ensures.ran log _ (record { layers = put; held = s.held; path = s.path }) (omega arith)

@@ -7,9 +7,9 @@ use Rattle.sv_instrument.proofs.instrument.Instrument.interrupt.Goals as goal
 pub returns-clause-starts : goal.returns-clause-starts
 returns-clause-starts g c = λ start log h.
     let s = rw (← c.self.view_is) at h in
-    let told = counts c.happen.ensures.happens (counts c.interrupt.ensures.happens s.layers) in
+    let told = counts c.apply.ensures.applied (counts c.interrupt.ensures.applied s.layers) in
     c.start.ensures.starts start (interrupted log) (record { layers = told; held = s.held; path = s.path })
 
 pub start-requires-clause-due : goal.start-requires-clause-due
 start-requires-clause-due g c =
-    subst (λ (held : Contents). IsUnitDue (next_of held)) (sym c.happen.ensures.exchange) c.interrupt.ensures.next
+    subst (λ (held : Contents). IsUnitDue (next_of held)) (sym c.apply.ensures.exchange) c.interrupt.ensures.next

@@ -5,7 +5,7 @@ pub returns-clause-runs : goal.returns-clause-runs
 returns-clause-runs g c = λ start log h.
     let s = rw (← c.self.view_is) at h in
     record {
-      layers = counts c.happen.ensures.happens (counts c.overran.ensures.happens s.layers);
+      layers = counts c.apply.ensures.applied (counts c.overran.ensures.applied s.layers);
       held = s.held;
       path = s.path;
     }

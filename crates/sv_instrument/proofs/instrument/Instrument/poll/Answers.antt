@@ -9,5 +9,5 @@ returns-clause-status g c = λ log h.
 pub returns-clause-ran : goal.returns-clause-ran
 returns-clause-ran g c = λ log h.
     let s = rw (← c.self.view_is) at h in
-    let did = polled s.layers (c.poll.ensures.happens log s.layers.stands) in
+    let did = polled s.layers (c.poll.ensures.applied log s.layers.stands) in
     record { stands = record { layers = did.0; held = s.held; path = s.path }; raises = did.1 }

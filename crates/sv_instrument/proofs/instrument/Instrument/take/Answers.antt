@@ -10,5 +10,5 @@ invariant_of-self g c =
 pub returns : goal.returns
 returns g c = λ log h.
     let s = runs_none (rw (← c.self.view_is) at h) in
-    let taken = counts c.take.ensures.happens s.layers in
+    let taken = counts c.take.ensures.applied s.layers in
     c.take_requests.ensures.ran log _ (record { layers = taken; held = s.held; path = s.path }) (omega arith)

@@ -7,7 +7,7 @@ pub returns-in-Scanning : goal.returns-in-Scanning
 returns-in-Scanning g c = λ log h.
     let s = rw (← c.self.view_is) at h in
     let is = c.in-Scanning.ensures.answer (scan_acts log) (c.scanner.ensures.stands log s.layers.stands) in
-    let sampled = counts c.happen.ensures.happens (runs_none s).layers in
+    let sampled = counts c.apply.ensures.applied (runs_none s).layers in
     rw (← is) (c.take_requests.ensures.ran log _ (record { layers = sampled; held = s.held; path = s.path }) (omega arith))
 
 pub returns-in-Idle : goal.returns-in-Idle

@@ -5,5 +5,5 @@ use Rattle.sv_instrument.proofs.instrument.Instrument.unterminated.Goals as goal
 pub returns : goal.returns
 returns g c = λ log h.
     let s = runs_none (rw (← c.self.view_is) at h) in
-    let told = counts c.happen.ensures.happens (counts c.drop_unfinished.ensures.happens s.layers) in
+    let told = counts c.apply.ensures.applied (counts c.drop_unfinished.ensures.applied s.layers) in
     c.take_requests.ensures.ran log _ (record { layers = told; held = refl; path = c.root-self-inside.ensures }) (omega arith)

@@ -7,7 +7,7 @@ use Rattle.sv_logs.proofs.Since.{then_same}
 use Rattle.sv_layers.specs.Act.{scan_acts}
 use Rattle.sv_layers.specs.Change.{act_of}
 use Rattle.sv_layers.specs.Condition.{counted, limit_summary}
-use Rattle.sv_layers.specs.Inside.Seen.{begun, register_acts, seen}
+use Rattle.sv_layers.specs.Inside.LayerLogs.{begun, register_acts, seen}
 use Rattle.sv_layers.proofs.Booleans.{same_bool, neither}
 use Rattle.sv_layers.proofs.SameWords.{same_words}
 use Rattle.sv_layers.proofs.SameSummaries.{same_summary}

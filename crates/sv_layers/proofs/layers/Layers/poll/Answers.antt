@@ -9,10 +9,10 @@ returns-clause-status g c = λ log h k.
     let j = rw (← c.self.view_is) at h.joined in
     then_same (c.poll-status.ensures.answer h.told j.status k) (same_status log h.told h.are k).0
 
-pub returns-clause-happens : goal.returns-clause-happens
-returns-clause-happens g c = λ log h.
+pub returns-clause-applied : goal.returns-clause-applied
+returns-clause-applied g c = λ log h.
     let j = rw (← c.self.view_is) at h.joined in
-    rw (← c.self.view_is) (c.settle.ensures.happens log Polled (record {
+    rw (← c.self.view_is) (c.update_status.ensures.applied log Polled (record {
       told = h.told;
       are = h.are;
       joined = record {

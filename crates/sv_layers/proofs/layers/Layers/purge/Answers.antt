@@ -2,10 +2,10 @@ use Rattle.std.proofs.Common.{refl}
 use Rattle.sv_layers.specs.Act.{Purged}
 use Rattle.sv_layers.proofs.layers.Layers.purge.Goals as goal
 
-pub returns-clause-happens : goal.returns-clause-happens
-returns-clause-happens g c = λ log h.
+pub returns-clause-applied : goal.returns-clause-applied
+returns-clause-applied g c = λ log h.
     let j = rw (← c.self.view_is) at h.joined in
-    rw (← c.self.view_is) (c.settle.ensures.happens log Purged (record {
+    rw (← c.self.view_is) (c.update_status.ensures.applied log Purged (record {
       told = h.told;
       are = h.are;
       joined = record {

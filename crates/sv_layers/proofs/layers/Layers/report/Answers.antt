@@ -10,8 +10,8 @@ use Rattle.sv_layers.proofs.layers.Layers.report.Goals as goal
 pub returns-clause-stands : goal.returns-clause-stands
 returns-clause-stands g c = λ at told h.
     let j = rw (← c.self.view_is) at h in
-    let overflow : c.mask_where.result ≡ bit 3 (is_full at.errors) =
-    c.mask_where.ensures ∙ bit_is 3 c.report-overflows.result ∙ ap (bit 3) (c.report-overflows.ensures.answer at.errors j.errors) in
+    let overflow : c.mask_if.result ≡ bit 3 (is_full at.errors) =
+    c.mask_if.ensures ∙ bit_is 3 c.report-overflows.result ∙ ap (bit 3) (c.report-overflows.ensures.answer at.errors j.errors) in
     let class = subst (λ (w : ℕ). Standards c.occur.new.self (Occur w ∷ at.standard)) c.standard_event.ensures
     (c.occur.ensures _ j.standard) in
     let both = subst (λ (w : ℕ). Standards c.occur-2.new.self (Occur w ∷ Occur (standard_event_of c.args.code) ∷ at.standard))

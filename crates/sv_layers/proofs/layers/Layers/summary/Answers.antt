@@ -8,10 +8,10 @@ use Rattle.sv_layers.proofs.layers.Layers.summary.Goals as goal
 pub returns : goal.returns
 returns g c = λ at told h.
     let j = rw (← c.self.view_is) at h in
-    let available : c.mask_where-3.result ≡ bit 4 (is_something (response at.exchange)) =
-    c.mask_where-3.ensures ∙ bit_is 4 c.readable.result ∙ ap (bit 4) (c.readable.ensures.answer at.exchange j.exchange) in
-    let errors : c.mask_where-5.result ≡ bit 2 (is_something (entries at.errors)) =
-    c.mask_where-5.ensures ∙ bit_is 2 (nat_lt 0 c.count.result)
+    let available : c.mask_if-3.result ≡ bit 4 (is_something (response at.exchange)) =
+    c.mask_if-3.ensures ∙ bit_is 4 c.readable.result ∙ ap (bit 4) (c.readable.ensures.answer at.exchange j.exchange) in
+    let errors : c.mask_if-5.result ≡ bit 2 (is_something (entries at.errors)) =
+    c.mask_if-5.ensures ∙ bit_is 2 (nat_lt 0 c.count.result)
     ∙ ap (λ (n : ℕ). bit 2 (nat_lt 0 n)) (c.count.ensures.answer at.errors j.errors) ∙ ap (bit 2) (any_is (entries at.errors)) in
     record {
       operates = c.summary.result;
@@ -21,10 +21,10 @@ returns g c = λ at told h.
       standard = c.summary-2.ensures at.standard j.standard;
       questionable = c.summary-3.ensures _ at.questionable j.questionable;
       word_is = rw (
-        c.mask_where.ensures ∙ bit_is 7 c.summary.result,
-        c.mask_where-2.ensures ∙ bit_is 5 c.summary-2.result,
+        c.mask_if.ensures ∙ bit_is 7 c.summary.result,
+        c.mask_if-2.ensures ∙ bit_is 5 c.summary-2.result,
         available,
-        c.mask_where-4.ensures ∙ bit_is 3 c.summary-3.result,
+        c.mask_if-4.ensures ∙ bit_is 3 c.summary-3.result,
         errors,
       ) refl;
     }

@@ -3,15 +3,15 @@ use Rattle.std.specs.Prelude.{◌↔◌}
 use Rattle.sv_status.specs.declared.status_byte.StatusAct.{StatusAct}
 use Rattle.sv_status.specs.declared.status_byte.StatusAct.TheVariants.{Update}
 use Rattle.sv_status.specs.StatusByte.{StandsFor as Statuses, IsRaised}
-use Rattle.sv_layers.specs.Inside.Seen.{seen}
-use Rattle.sv_layers.specs.Inside.Kept.{IsStatus, max_count, own_status}
+use Rattle.sv_layers.specs.Inside.LayerLogs.{seen}
+use Rattle.sv_layers.specs.Inside.Representation.{IsStatus, max_count, own_status}
 use Rattle.sv_logs.proofs.Since.{then_same}
 use Rattle.sv_layers.proofs.Booleans.{byte_is}
 use Rattle.sv_layers.proofs.SameRequests.{told_raised}
 use Rattle.sv_layers.proofs.layers.Layers.tell.Goals as goal
 
-pub returns-clause-happens : goal.returns-clause-happens
-returns-clause-happens g c = λ log act before is h.
+pub returns-clause-applied : goal.returns-clause-applied
+returns-clause-applied g c = λ log act before is h.
     let j = rw (← c.self.view_is) at h in
     let told : List StatusAct = Update c.summary-bits.result (seen (act ∷ log)).service ∷ own_status act before in
     let are : IsStatus (act ∷ log) told = (c.summary-bits.result, before, c.summary-bits.ensures _ _ h, is, refl) in

@@ -7,11 +7,11 @@ use Rattle.sv_layers.proofs.Lent.{lent_scanner}
 use Rattle.sv_layers.proofs.Refusals.{no_fault, the_fault}
 use Rattle.sv_layers.proofs.layers.Layers.trigger.Goals as goal
 
-pub returns-in-Ok-clause-happens : goal.returns-in-Ok-clause-happens
-returns-in-Ok-clause-happens g c = λ log h.
+pub returns-in-Ok-clause-applied : goal.returns-in-Ok-clause-applied
+returns-in-Ok-clause-applied g c = λ log h.
     let j = rw (← c.self.view_is) at h.joined in (
       no_fault _ (c.in-Ok.ensures.answer (scan_acts log) (lent_scanner _ log (rw (← c.self.view_is) at h))),
-      rw (← c.self.view_is) (c.settle.ensures.happens log (Scanned (Trigger c.args.source)) (record {
+      rw (← c.self.view_is) (c.update_status.ensures.applied log (Scanned (Trigger c.args.source)) (record {
         told = h.told;
         are = h.are;
         joined = record {
@@ -32,9 +32,9 @@ returns-in-Ok-clause-happens g c = λ log h.
 pub returns-in-Ok-clause-scanning : goal.returns-in-Ok-clause-scanning
 returns-in-Ok-clause-scanning g c = (
   rw (← c.self.view_is) c.in-Ok.ensures.scanning.0,
-  ap (λ (held : Contents). run_state held.run (length held.readings)) c.settle.ensures.scanner ∙ c.in-Ok.ensures.scanning.1,
+  ap (λ (held : Contents). run_state held.run (length held.readings)) c.update_status.ensures.scanner ∙ c.in-Ok.ensures.scanning.1,
 )
 
-pub returns-in-Err-clause-happens : goal.returns-in-Err-clause-happens
-returns-in-Err-clause-happens g c = λ log h.
+pub returns-in-Err-clause-applied : goal.returns-in-Err-clause-applied
+returns-in-Err-clause-applied g c = λ log h.
     the_fault _ _ (c.in-Err.ensures.answer (scan_acts log) (lent_scanner _ log (rw (← c.self.view_is) at h)))

@@ -10,8 +10,8 @@ returns-in-0-false-clause-stands c = λ waits stands. rw (c.in-0-false.is-0, c.i
 
 pub returns-in_default-true-clause-stands : goal.returns-in_default-true-clause-stands
 returns-in_default-true-clause-stands c = λ waits stands.
-    rw c.in_default-true.is-1 (some_look c.args.looks true waits _ c.in_default-true.is-0.1 (c.earn.ensures.stands waits))
+    rw c.in_default-true.is-1 (some_look c.args.looks true waits _ c.in_default-true.is-0.1 (c.spin_hit.ensures.stands waits))
 
 pub returns-in_default-false-clause-stands : goal.returns-in_default-false-clause-stands
 returns-in_default-false-clause-stands c = λ waits stands.
-    rw c.in_default-false.is-1 (some_look c.args.looks false waits _ c.in_default-false.is-0.1 (c.miss.ensures.stands waits stands))
+    rw c.in_default-false.is-1 (some_look c.args.looks false waits _ c.in_default-false.is-0.1 (c.spin_miss.ensures.stands waits stands))

@@ -1,5 +1,5 @@
 use Rattle.std.proofs.Common.{ap}
-use Rattle.sv_serve.specs.Moment.{moment}
+use Rattle.sv_serve.specs.DriverView.{driver_view}
 use Rattle.sv_serve.proofs.Suited.{still_lowest}
 use Rattle.sv_serve.proofs.driver.Driver.accept.Goals as goal
 
@@ -7,7 +7,7 @@ pub returns : goal.returns
 returns g c = λ config history stands.
     let low = c.lowest-conn.ensures config history stands in
     let (h0, s0, p0) = c.greet-answer.ensures config history stands in
-    let still = still_lowest c.lowest-conn.result config (moment c.args.self.now history) (moment c.greet-answer.new.self h0)
+    let still = still_lowest c.lowest-conn.result config (driver_view c.args.self.now history) (driver_view c.greet-answer.new.self h0)
     (ap (λ m. m.history) p0.2) low in
     let (h1, s1, p1) = c.«open».ensures config h0 s0 still in
-    (h1, s1, (c.lowest-conn.result, c.greet-answer.result, low, (moment c.greet-answer.new.self h0, p0, p1)))
+    (h1, s1, (c.lowest-conn.result, c.greet-answer.result, low, (driver_view c.greet-answer.new.self h0, p0, p1)))

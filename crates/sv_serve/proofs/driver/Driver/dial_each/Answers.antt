@@ -1,5 +1,5 @@
 use Rattle.std.proofs.Common.{refl, arith, ◌+◌}
-use Rattle.sv_serve.specs.Moment.{moment}
+use Rattle.sv_serve.specs.DriverView.{driver_view}
 use Rattle.sv_serve.specs.Steps.{Dials}
 use Rattle.sv_serve.proofs.Joined.{goes_more, goes_all}
 use Rattle.sv_serve.proofs.Unused.{goes_rest, dials_none}
@@ -18,7 +18,7 @@ returns-then-is_uncalled g c =
     goes_rest (Dials g.W.Wire.hears) c.loop-conn.conn 16 c.args.self.now c.loop-conn.self (omega arith) c.loop-conn.invariant
     (λ config history stands.
     let unused = c.is_uncalled.ensures c.if-is_uncalled.true config history stands in
-    dials_none g.W.Wire.hears c.loop-conn.conn config (moment c.loop-conn.self history) unused.0 unused.1)
+    dials_none g.W.Wire.hears c.loop-conn.conn config (driver_view c.loop-conn.self history) unused.0 unused.1)
 
 pub returns : goal.returns
 returns g c =

@@ -1,11 +1,11 @@
-use Rattle.sv_serve.specs.Moment.{moment}
+use Rattle.sv_serve.specs.DriverView.{driver_view}
 use Rattle.sv_serve.proofs.Suited.{faulted_open}
 use Rattle.sv_serve.proofs.driver.Driver.end_if.Goals as goal
 
 pub returns-then-so : goal.returns-then-so
 returns-then-so g c = λ config history stands faulted.
     let kept = rw (← c.self.view_is) at stands in
-    let is_open = faulted_open c.args.conn config (moment c.args.self.now history) c.requires (rw c.if-so.true at faulted) in
+    let is_open = faulted_open c.args.conn config (driver_view c.args.self.now history) c.requires (rw c.if-so.true at faulted) in
     let (h0, s0, p0) = c.close_if.ensures config history stands is_open in (
       h0,
       s0,

@@ -1,6 +1,6 @@
 use Rattle.std.proofs.Common.{refl, arith, ℕ, ◌+◌}
-use Rattle.sv_serve.specs.Moment.{moment}
-use Rattle.sv_serve.specs.Moment.{◌then◌}
+use Rattle.sv_serve.specs.DriverView.{driver_view}
+use Rattle.sv_serve.specs.DriverView.{◌then◌}
 use Rattle.sv_serve.specs.Sweep.{Plays, TicksOnce}
 use Rattle.sv_serve.proofs.Joined.{one_more, as_many}
 use Rattle.sv_serve.proofs.driver.Driver.pass.Goals as goal
@@ -15,8 +15,8 @@ loop-preserved g c = λ config history stands.
     let (h2, s2, p2) = c.tick.ensures config h1 s1 in (
       h2,
       s2,
-      one_more (λ (i : ℕ). Plays then TicksOnce) config c.loop.counter (c.loop.counter + 1) _ (moment c.loop.self h0) _ (omega arith)
-          p0 (moment c.play.new.self h1, p1, p2),
+      one_more (λ (i : ℕ). Plays then TicksOnce) config c.loop.counter (c.loop.counter + 1) _ (driver_view c.loop.self h0) _ (omega arith)
+          p0 (driver_view c.play.new.self h1, p1, p2),
     )
 
 pub returns : goal.returns
@@ -26,8 +26,8 @@ returns g c = λ config history stands.
       h1,
       s1,
       (
-        moment c.loop.self h0,
-        as_many (λ (i : ℕ). Plays then TicksOnce) config c.loop.counter c.args.ticks _ (moment c.loop.self h0) (omega arith) p0,
+        driver_view c.loop.self h0,
+        as_many (λ (i : ℕ). Plays then TicksOnce) config c.loop.counter c.args.ticks _ (driver_view c.loop.self h0) (omega arith) p0,
         p1,
       ),
     )

@@ -1,7 +1,7 @@
-use Rattle.sv_serve.specs.Moment.{Goes, Each, ◌then◌}
+use Rattle.sv_serve.specs.DriverView.{Steps, ForEach, ◌then◌}
 use Rattle.sv_serve.specs.Sweep.{Plays, TicksOnce}
 use Rattle.sv_serve.proofs.driver.Driver.pass.Given as goal
 
 -- so many milliseconds passed
 abbrev pub invariant-loop : goal.invariant-loop
-invariant-loop g l = Goes (Each l.counter (λ i. Plays then TicksOnce)) l.fn.self l.self
+invariant-loop g l = Steps (ForEach l.counter (λ i. Plays then TicksOnce)) l.fn.self l.self

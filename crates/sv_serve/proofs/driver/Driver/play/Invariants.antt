@@ -1,11 +1,11 @@
 use Rattle.std.proofs.Common.{ℕ, length}
-use Rattle.sv_serve.specs.Moment.{Goes, Each}
+use Rattle.sv_serve.specs.DriverView.{Steps, ForEach}
 use Rattle.sv_serve.specs.Sweep.{PlaysOne}
 use Rattle.sv_serve.proofs.driver.Driver.play.Given as goal
 
 -- some entries were played
 abbrev pub invariant-loop : goal.invariant-loop
-invariant-loop g l = Goes (λ config before after. (n : ℕ) × Each n (λ i. PlaysOne) config before after) l.fn.self l.self
+invariant-loop g l = Steps (λ config before after. (n : ℕ) × ForEach n (λ i. PlaysOne) config before after) l.fn.self l.self
 
 abbrev pub decreases-loop : goal.decreases-loop
 decreases-loop g l = length l.self.ahead

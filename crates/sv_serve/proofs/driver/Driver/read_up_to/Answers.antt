@@ -3,7 +3,7 @@ use Rattle.sv_history.specs.Event.{Bytes}
 use Rattle.sv_history.specs.History.{Answers, history_after}
 use Rattle.sv_server.specs.Server.State.{StandsFor}
 use Rattle.sv_serve.specs.Heard.{IsWithin}
-use Rattle.sv_serve.specs.Moment.{moment}
+use Rattle.sv_serve.specs.DriverView.{driver_view}
 use Rattle.sv_serve.proofs.Suited.{suited, bytes_suit, room_open}
 use Rattle.sv_serve.proofs.Pieces.{within_piece, again, asked_for, read_so}
 use Rattle.sv_serve.proofs.driver.Driver.read_up_to.Goals as goal
@@ -55,8 +55,8 @@ returns-in-Got g c = rw (← c.self.view_is) (λ config history stands has.
     let (log, is_log, says) = c.apply.ensures.answers config history stands in
     let answers = subst (λ l. Answers config (Bytes c.args.conn l) log c.apply.result) same says in
     let few : length bytes ≤ min c.args.room 16384 = rw c.in-Got.is at piece in
-    let done = suited config (Bytes c.args.conn bytes) (moment c.args.self.now history) log c.apply.result is_log answers
-    (bytes_suit c.args.conn c.args.room bytes config (moment c.args.self.now history) c.requires some few has) in (
+    let done = suited config (Bytes c.args.conn bytes) (driver_view c.args.self.now history) log c.apply.result is_log answers
+    (bytes_suit c.args.conn c.args.room bytes config (driver_view c.args.self.now history) c.requires some few has) in (
       Bytes c.args.conn bytes ∷ history,
       subst (λ r. StandsFor c.apply.new.self config (history_after (Bytes c.args.conn bytes) r history)) done
           (subst (λ l. StandsFor c.apply.new.self config (history_after (Bytes c.args.conn l) c.apply.result history)) same
@@ -82,7 +82,7 @@ returns-in-Failed g c = rw (← c.self.view_is) (λ config history stands has.
     let some : 0 < c.args.room = search rules in
     let asked : c.min-size.result ≡ min c.args.room 16384 = asked_for c.len.result c.args.room c.min-size.result c.min-size.ensures
     (c.len.ensures ∙ sym c.deref_mut.ensures.len ∙ ap length c.deref_mut.ensures.value ∙ c.self.invariant.3) in
-    let is_open = room_open c.args.conn c.args.room config (moment c.args.self.now history) c.requires some has in
+    let is_open = room_open c.args.conn c.args.room config (driver_view c.args.self.now history) c.requires some has in
     let (h0, s0, p0) = c.close.ensures config history stands is_open in (
       h0,
       s0,

@@ -1,4 +1,4 @@
-use Rattle.sv_serve.specs.Moment.{moment}
+use Rattle.sv_serve.specs.DriverView.{driver_view}
 use Rattle.sv_serve.proofs.Suited.{refused}
 use Rattle.sv_serve.proofs.driver.Driver.refuse_if.Goals as goal
 
@@ -6,5 +6,5 @@ pub returns-then-so : goal.returns-then-so
 returns-then-so g c = λ config history stands none.
     let (h0, s0, p0) = c.give.ensures config history stands in
     let (log, was, answers, is) = p0 in
-    let done = refused config c.args.conn (moment c.args.self.now history) log c.give.result was answers (none c.if-so.true) in
+    let done = refused config c.args.conn (driver_view c.args.self.now history) log c.give.result was answers (none c.if-so.true) in
     (h0, s0, rw c.if-so.true (rw done at p0))

@@ -1,4 +1,4 @@
-use Rattle.sv_serve.specs.Moment.{moment}
+use Rattle.sv_serve.specs.DriverView.{driver_view}
 use Rattle.sv_serve.proofs.driver.Driver.sweep.Goals as goal
 
 pub returns : goal.returns
@@ -16,30 +16,30 @@ returns g c = λ config history stands.
       h9,
       s9,
       (
-        moment c.accept.new.self h0,
+        driver_view c.accept.new.self h0,
         p0,
         (
-          moment c.accept-2.new.self h1,
+          driver_view c.accept-2.new.self h1,
           p1,
           (
-            moment c.accept-3.new.self h2,
+            driver_view c.accept-3.new.self h2,
             p2,
             (
-              moment c.read_each.new.self h3,
+              driver_view c.read_each.new.self h3,
               p3,
               (
-                moment c.turn_each.new.self h4,
+                driver_view c.turn_each.new.self h4,
                 p4,
                 (
-                  moment c.dial_each.new.self h5,
+                  driver_view c.dial_each.new.self h5,
                   p5,
                   (
-                    moment c.pass.new.self h6,
+                    driver_view c.pass.new.self h6,
                     p6,
                     (
-                      moment c.write_connections.new.self h7,
+                      driver_view c.write_connections.new.self h7,
                       p7,
-                      (moment c.write_channels.new.self h8, p8, p9),
+                      (driver_view c.write_channels.new.self h8, p8, p9),
                     ),
                   ),
                 ),

@@ -1,5 +1,5 @@
 use Rattle.std.proofs.Common.{refl, arith, ◌+◌}
-use Rattle.sv_serve.specs.Moment.{moment}
+use Rattle.sv_serve.specs.DriverView.{driver_view}
 use Rattle.sv_serve.specs.Steps.{Turns}
 use Rattle.sv_serve.proofs.Joined.{goes_more, goes_all}
 use Rattle.sv_serve.proofs.Unused.{goes_rest, turns_none}
@@ -17,7 +17,7 @@ pub returns-then-is_unused : goal.returns-then-is_unused
 returns-then-is_unused g c =
     goes_rest Turns c.loop-conn.conn 16 c.args.self.now c.loop-conn.self (omega arith) c.loop-conn.invariant
     (λ config history stands.
-    turns_none c.loop-conn.conn config (moment c.loop-conn.self history)
+    turns_none c.loop-conn.conn config (driver_view c.loop-conn.self history)
     (c.is_unused.ensures c.if-is_unused.true config history stands))
 
 pub returns : goal.returns

@@ -1,5 +1,5 @@
 use Rattle.std.proofs.Common.{refl, arith, ℕ, ◌+◌}
-use Rattle.sv_serve.specs.Moment.{moment}
+use Rattle.sv_serve.specs.DriverView.{driver_view}
 use Rattle.sv_history.specs.declared.event.Port.TheVariants.{Conn}
 use Rattle.sv_serve.specs.Steps.{WritesTo}
 use Rattle.sv_serve.proofs.Joined.{goes_more, goes_all}
@@ -19,7 +19,7 @@ returns-then-is_unused g c =
     goes_rest (λ (c : ℕ). WritesTo g.W.Wire.hears (Conn c)) c.loop-conn.conn 16 c.args.self.now c.loop-conn.self
     (omega arith) c.loop-conn.invariant
     (λ config history stands.
-    writes_none g.W.Wire.hears c.loop-conn.conn config (moment c.loop-conn.self history)
+    writes_none g.W.Wire.hears c.loop-conn.conn config (driver_view c.loop-conn.self history)
     (c.is_unused.ensures c.if-is_unused.true config history stands))
 
 pub returns : goal.returns

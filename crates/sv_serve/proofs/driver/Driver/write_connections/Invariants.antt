@@ -1,9 +1,9 @@
 use Rattle.std.proofs.Common.{ℕ}
-use Rattle.sv_serve.specs.Moment.{Goes, Each}
+use Rattle.sv_serve.specs.DriverView.{Steps, ForEach}
 use Rattle.sv_history.specs.declared.event.Port.TheVariants.{Conn}
 use Rattle.sv_serve.specs.Steps.{WritesTo}
 use Rattle.sv_serve.proofs.driver.Driver.write_connections.Given as goal
 
 -- the step was taken for each number below this one
 abbrev pub invariant-loop-conn : goal.invariant-loop-conn
-invariant-loop-conn g l = Goes (Each l.conn (λ (c : ℕ). WritesTo g.W.Wire.hears (Conn c))) l.fn.self l.self
+invariant-loop-conn g l = Steps (ForEach l.conn (λ (c : ℕ). WritesTo g.W.Wire.hears (Conn c))) l.fn.self l.self

@@ -1,7 +1,7 @@
 use Rattle.std.proofs.Common.{rules, ◌≡◌, ◌∙◌, ap}
 use Rattle.std.specs.Prelude.{ℕ, Option, Some}
 use Rattle.sv_history.specs.CoreCall.{lid_of}
-use Rattle.sv_history.specs.AbortChannel.{owner_of, where_waiting, abort_result}
+use Rattle.sv_history.specs.AbortChannel.{owner_of, if_waiting, abort_result}
 use Rattle.sv_server.proofs.device.Device.abort.Goals as goal
 
 pub returns-clause-answer : goal.returns-clause-answer
@@ -12,4 +12,4 @@ returns-clause-answer g c = λ config acts is.
 pub returns-clause-conn : goal.returns-clause-conn
 returns-clause-conn g c = λ config acts is.
     let same : c.lid_of-lid.result ≡ lid_of (Some c.args.lid) = search (rules, c.lid_of-lid.ensures) in
-    c.aborted.ensures config acts is ∙ ap (λ (lid : Option ℕ). where_waiting (owner_of lid acts) lid acts) same
+    c.aborted.ensures config acts is ∙ ap (λ (lid : Option ℕ). if_waiting (owner_of lid acts) lid acts) same

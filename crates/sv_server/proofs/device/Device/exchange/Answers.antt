@@ -6,11 +6,11 @@ use Rattle.sv_server.proofs.device.Device.exchange.Goals as goal
 pub returns-clause-steps : goal.returns-clause-steps
 returns-clause-steps g c = λ config acts old.
     let is = rw (← c.self.view_is) at old in
-    rw (← c.self.view_is, c.raise_where.ensures.answer)
+    rw (← c.self.view_is, c.raise_if.ensures.answer)
     (instrument_steps IsStep _ _ c.step-stepped.new.self config acts c.step-stepped.result is
     (c.step-stepped.ensures.steps (instrument_acts acts) is.1) c.step-stepped.ensures.idle
-    c.raise_where.ensures.some c.raise_where.ensures.none)
+    c.raise_if.ensures.some c.raise_if.ensures.none)
 
 pub returns-clause-idle : goal.returns-clause-idle
-returns-clause-idle g c = rw (← c.self.view_is, c.raise_where.ensures.answer)
-    (λ e. idle_as _ _ c.step-stepped.new.self c.step-stepped.result c.step-stepped.ensures.idle c.raise_where.ensures.none e)
+returns-clause-idle g c = rw (← c.self.view_is, c.raise_if.ensures.answer)
+    (λ e. idle_as _ _ c.step-stepped.new.self c.step-stepped.result c.step-stepped.ensures.idle c.raise_if.ensures.none e)

@@ -35,5 +35,6 @@ returns-clause-acts g c = λ config log rep.
       refl,
       λ polled said. rw c.index.ensures (one_act _ config log conn.number c.index_mut-connection.result.now c.push.new.self
           (Piece c.args.piece.now) state c.self.invariant conn.within at (c.push.ensures (of conn.number log)) (λ call known. known) _
-          (used_act c.self.inside.used conn.number (Piece c.args.piece.now) log state.used (unshut_used conn.number log unshut))),
+          (used_act c.self.inside.connections_used conn.number (Piece c.args.piece.now) log state.connections_used
+          (unshut_used conn.number log unshut))),
     )

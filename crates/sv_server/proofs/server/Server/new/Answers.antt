@@ -9,7 +9,7 @@ returns g c = record {
   represents = record {
     each = λ k other lt. c.in_ok-connections.ensures.1 k other lt;
     beyond = λ k h. refl;
-    used = ((λ k h. refl), (λ k e. absurd cc));
+    connections_used = ((λ k h. refl), (λ k e. absurd cc));
     device = c.in_ok-new.ensures.stands;
     taken = rw c.in_ok-new.ensures.waiting tt;
   };

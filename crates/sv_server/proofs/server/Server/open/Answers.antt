@@ -18,5 +18,6 @@ returns-clause-acts g c = λ config log rep.
       λ polled said. rw c.index.ensures (one_act _ config log conn.number c.index_mut-connection.result.now c.open.new.self
           (Opened c.args.role) state c.self.invariant conn.within at (c.open.ensures (of conn.number log))
           (λ call known. absurd {0} (none_taken _ _ call is (c.is_open.ensures.shut c.if-is_open.false) known)) _
-          (used_opened c.self.inside.used conn.number _ (Opened c.args.role) log c.max-self-inside.ensures state.used)),
+          (used_opened c.self.inside.connections_used conn.number _
+          (Opened c.args.role) log c.max-self-inside.ensures state.connections_used)),
     )

@@ -1,4 +1,4 @@
-use Rattle.sv_links.specs.Queue.{rank}
+use Rattle.sv_links.specs.Queue.{queue_measure}
 use Rattle.sv_server.proofs.OnServer.Settled.{AnyGone}
 use Rattle.sv_server.proofs.server.Server.settle.Given as goal
 
@@ -7,4 +7,4 @@ abbrev pub invariant-loop : goal.invariant-loop
 invariant-loop g l = AnyGone l.initial.self l.self
 
 abbrev pub decreases-loop : goal.decreases-loop
-decreases-loop g l = rank l.self.device.waiting
+decreases-loop g l = queue_measure l.self.device.waiting

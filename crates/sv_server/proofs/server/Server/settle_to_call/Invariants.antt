@@ -1,5 +1,5 @@
 use Rattle.std.proofs.Common.{◌≡◌}
-use Rattle.sv_instrument.specs.Representation.{left_of}
+use Rattle.sv_instrument.specs.Representation.{instrument_measure}
 use Rattle.sv_server.proofs.OnServer.Settled.{AnyGone}
 use Rattle.sv_server.proofs.server.Server.settle_to_call.Given as goal
 
@@ -8,4 +8,4 @@ abbrev pub invariant-loop : goal.invariant-loop
 invariant-loop g l = AnyGone l.initial.self l.self × (l.self.device.waiting ≡ l.initial.self.device.waiting)
 
 abbrev pub decreases-loop : goal.decreases-loop
-decreases-loop g l = left_of l.self.device.instrument
+decreases-loop g l = instrument_measure l.self.device.instrument

@@ -2,7 +2,7 @@ use Rattle.std.proofs.Common.{rules, ◌≡◌, [], ◌∷◌, refl, sym, ap, in
 use Rattle.std.specs.Prelude.{List, ℕ, Some}
 use Rattle.sv_vxi.specs.Results.{Outcome, plain_result}
 use Rattle.sv_history.specs.CoreCall.{lid_of}
-use Rattle.sv_history.specs.AbortChannel.{owner_of, where_waiting, abort_result}
+use Rattle.sv_history.specs.AbortChannel.{owner_of, if_waiting, abort_result}
 use Rattle.sv_history.specs.Act.{Replied}
 use Rattle.sv_history.specs.Effect.{result_reply}
 use Rattle.sv_server.specs.Connection.Inside.Requests.{plain_core_call}
@@ -48,7 +48,7 @@ returns-in-Abort g c = record {
   does = λ config polled acts known.
       let told : plain_result c.abort.result.result ≡ abort_result (lid_of (Some c.in-Abort.lid)) acts =
       search (rules, c.abort.ensures.answer config acts known.0) in
-      let ends : c.abort.result.conn ≡ where_waiting (owner_of (lid_of (Some c.in-Abort.lid)) acts) (lid_of (Some c.in-Abort.lid)) acts =
+      let ends : c.abort.result.conn ≡ if_waiting (owner_of (lid_of (Some c.in-Abort.lid)) acts) (lid_of (Some c.in-Abort.lid)) acts =
       search (rules, c.abort.ensures.conn config acts known.0) in
       rw c.in-Abort.is ((ap (λ (o : Outcome). Replied (result_reply c.in-Abort.xid o) ∷ []) (sym told), known.0), inl refl, ends);
   lacks = λ config polled acts known. tt;

@@ -3,7 +3,7 @@ use Rattle.sv_rpc.specs.declared.reply.Reply.TheVariants.{Success}
 use Rattle.sv_vxi.specs.Results.{Outcome, result_fields}
 use Rattle.sv_exchange.specs.Exchange.{ResponseRead}
 use Rattle.sv_layers.specs.Act.{Exchanged}
-use Rattle.sv_history.specs.Act.{Replied, Happened}
+use Rattle.sv_history.specs.Act.{Replied, Applied}
 use Rattle.sv_history.specs.Reply.{reply_record}
 use Rattle.sv_server.specs.Connection.Representation.{IsConnection}
 use Rattle.sv_server.specs.Device.Representation.{IsDevice}
@@ -15,6 +15,6 @@ returns-clause-ends g c = λ config acts before is busy old.
     let given = c.peek_response-read.ensures.answer config before old in (
       subst (λ (o : Outcome). IsConnection c.answer.new.self (Replied (reply_record c.args.xid Success (result_fields o)) ∷ acts))
           (read_is c.peek_response-read.result _ c.args.most c.args.term given) (c.answer.ensures acts is busy),
-      subst (λ (n : ℕ). IsDevice c.take_response.new.self config (Happened (Exchanged (ResponseRead n)) ∷ before)) given.size
+      subst (λ (n : ℕ). IsDevice c.take_response.new.self config (Applied (Exchanged (ResponseRead n)) ∷ before)) given.size
           (c.take_response.ensures.stands config before old),
     )

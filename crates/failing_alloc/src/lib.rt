@@ -1,0 +1,100 @@
+//! An allocator for tests, which refuses one allocation of your choice.
+//!
+//! Make one over any other allocator, lend it to the code under test, and let each of that code's
+//! allocations fail in turn:
+//!
+//! ```text
+//! let heap = FailingAllocator::new(rt.alloc());
+//! for number in 1..100 {
+//!     heap.refuse(number);
+//!     let outcome = code_under_test(&heap);
+//! // No refusal was met: the code makes fewer allocations than `number`, and `outcome` is what it
+//! answers with all of them.
+//!     if heap.waits() { .. }
+//! }
+//! ```
+//!
+//! A contract cannot speak of what a cell holds, so `refuse` and `is_armed` have none, and the
+//! tests
+//! show what they do.
+//! What is proved is that memory is used safely: each block handed out is one that the inner
+//! allocator gave for that layout, and it is given back to it with that layout and at most once. No
+//! contract says that it is given back at all.
+#![tactic(auto)]
+
+use std::alloc::{AllocError, Allocator};
+use std::cell::Cell;
+
+#[cfg(test)]
+mod tests;
+
+/// An allocator for tests: it refuses one allocation, and passes every other call on to another
+/// allocator.
+///
+/// Lend it, as `&heap`: a reference to an allocator is an allocator too, and is `Copy`. `refuse`
+/// and `is_armed` may be called while it is lent.
+///
+/// A block that grows or shrinks is allocated anew and copied, whatever the inner allocator would
+/// do, so each time counts as one allocation and may be the one that is refused.
+pub struct FailingAllocator<B: Allocator> {
+    inner: B,
+    // How many allocations are left up to the refused one, which is among them; 0 where none is to
+    // be refused.
+    left: Cell<u64>,
+}
+
+impl<B: Allocator> FailingAllocator<B> {
+    /// Passes every call on to `inner`, until `refuse` says otherwise.
+    pub fn new(inner: B) -> FailingAllocator<B> {
+        FailingAllocator {
+            inner,
+            left: Cell::new(0),
+        }
+    }
+
+    /// Refuses one allocation: the one with this number among those that come from now on, counted
+    /// from 1.
+    /// The others are passed on, also those after it. With 0 none is refused.
+    ///
+    /// It takes the place of what an earlier call asked for.
+    pub fn refuse(&self, number: u64) {
+        self.left.set(number);
+    }
+
+    /// Whether a refusal was asked for and is still to come.
+    pub fn is_armed(&self) -> bool {
+        self.left.get() != 0
+    }
+}
+
+impl<B: Allocator> Drop for FailingAllocator<B> {
+    fn drop(self) {
+        let Self { inner: _, left: _ } = self;
+    }
+}
+
+// Counts one allocation, and says whether it is the one to refuse.
+fn take_turn(left: &Cell<u64>) -> bool {
+    let number = left.get();
+    if number == 0 {
+        return false;
+    }
+    left.set(number - 1);
+    number == 1
+}
+
+unsafe impl<B: Allocator> Allocator for FailingAllocator<B> {
+    // A block is the inner allocator's, and so is the right to free it.
+    ghost dealloc_token = { λ heap ty ptr. B.dealloc_token heap.inner ty ptr };
+
+    fn allocate(&self, size: usize, align: usize) -> Result<*mut u8, AllocError> {
+        if take_turn(&self.left) {
+            return Err(AllocError);
+        }
+        self.inner.allocate(size, align)
+    }
+
+    unsafe fn deallocate(&self, ptr: *mut u8, size: usize, align: usize) {
+        self.inner.deallocate(ptr, size, align);
+    }
+}

@@ -1,0 +1,137 @@
+-- What each layer sees of the instrument's acts. An act begins in its own layer. Then it ends, in one register after the other: a register
+-- is told its condition, which passes by the filters as they stand, and then the act does to it what it does to a register itself. So the
+-- summary of the register of limits is there before the questionable register is told its condition.
+use Rattle.std.specs.Prelude.{◌≡◌, ℕ, Bool, true, false, not, ◌&&◌, List, [], ◌∷◌, if◌then◌else◌}
+use Rattle.sv_errors.specs.Code.{standard_event_of}
+use Rattle.sv_errors.specs.ErrorQueue.{is_full}
+use Rattle.sv_errors.specs.declared.code.Code.{Code}
+use Rattle.sv_errors.specs.declared.error_queue.QueueAct.{QueueAct}
+use Rattle.sv_errors.specs.declared.error_queue.QueueAct.TheVariants as queue
+use Rattle.sv_status.specs.declared.register_name.RegisterName.{RegisterName}
+use Rattle.sv_status.specs.declared.register_name.RegisterName.TheVariants.{Operation, Questionable, Limit}
+use Rattle.sv_status.specs.declared.register.RegisterAct.{RegisterAct}
+use Rattle.sv_status.specs.declared.register.RegisterAct.TheVariants as register
+use Rattle.sv_status.specs.declared.standard_event.StandardAct.{StandardAct}
+use Rattle.sv_status.specs.declared.standard_event.StandardAct.TheVariants as standard
+use Rattle.sv_status.specs.Register.{rise, fall}
+use Rattle.sv_scan.specs.declared.acts.ScanAct.{ScanAct}
+use Rattle.sv_scan.specs.declared.acts.ScanAct.TheVariants as scan
+use Rattle.sv_scan.specs.Scan.{state}
+use Rattle.sv_scan.specs.Counted.{kept, is_idle}
+use Rattle.sv_scan.specs.Condition.{bit}
+use Rattle.sv_exchange.specs.Exchange.{ExchangeAct, TextDropped, Interrupted}
+use Rattle.sv_layers.specs.Act.{Act, Exchanged, Purged, Scanned, Reported, EntryTaken, Cleared, Preset, OpcAsked, StandardRead, StandardEnabled, EventRead, Enabled, RiseSet, FallSet, ServiceEnabled}
+use Rattle.sv_layers.specs.Filter.{is_same}
+use Rattle.sv_layers.specs.Condition.{condition}
+
+pub record LayerLogs : Type 0 where
+  pub exchange : List ExchangeAct
+  pub errors : List QueueAct
+  pub operation : List RegisterAct
+  pub questionable : List RegisterAct
+  pub limit : List RegisterAct
+  pub standard : List StandardAct
+  pub scanner : List ScanAct
+  pub service : ℕ
+  pub waits : Bool
+
+abbrev pub resets : ScanAct → Bool
+resets scan.Reset = true
+resets _ = false
+
+-- the standard events of a report: that of its class, and bit 3 of an overflow
+abbrev pub report_bits : Code → Bool → List StandardAct → List StandardAct
+report_bits code overflow acts = standard.Occur (bit 3 overflow) ∷ standard.Occur (standard_event_of code) ∷ acts
+
+-- what an act does to its own layer
+abbrev pub begun : Act → LayerLogs → LayerLogs
+begun (Exchanged act) at = record at { exchange = act ∷ at.exchange }
+begun Purged at = record at { exchange = Interrupted ∷ TextDropped ∷ at.exchange; waits = false }
+begun (Scanned act) at = record at { scanner = act ∷ at.scanner; waits = at.waits && not (resets act) }
+begun (Reported code) at = record at {
+  errors = queue.Report code ∷ at.errors;
+  standard = report_bits code (is_full at.errors) at.standard;
+}
+begun EntryTaken at = record at { errors = queue.Take ∷ at.errors }
+begun Cleared at = record at { errors = queue.Clear ∷ at.errors; waits = false }
+begun OpcAsked at = record at { waits = true }
+begun (ServiceEnabled mask) at = record at { service = mask }
+begun _ at = at
+
+-- no measurement is under way
+abbrev pub idles : LayerLogs → Bool
+idles at = is_idle (state (kept at.scanner))
+
+-- An `*OPC` completes where no measurement is under way.
+abbrev pub completed : LayerLogs → LayerLogs
+completed at = record at {
+  standard = standard.Occur (bit 0 (at.waits && idles at)) ∷ at.standard;
+  waits = at.waits && not (idles at);
+}
+
+-- an act of a register behind others, where it is the one that is named
+abbrev pub where_same : RegisterName → RegisterName → RegisterAct → List RegisterAct → List RegisterAct
+where_same name other act acts = if is_same name other then act ∷ acts else acts
+
+-- what an act does to a register itself
+abbrev pub own : RegisterName → Act → List RegisterAct → List RegisterAct
+own name Cleared acts = register.Clear ∷ acts
+own name Preset acts = register.Preset ∷ acts
+own name (EventRead other) acts = where_same name other register.ReadEvent acts
+own name (Enabled other mask) acts = where_same name other (register.SetEnable mask) acts
+own name (RiseSet other mask) acts = where_same name other (register.SetFilter mask (fall acts)) acts
+own name (FallSet other mask) acts = where_same name other (register.SetFilter (rise acts) mask) acts
+own name _ acts = acts
+
+-- what an act does to the standard events themselves
+abbrev pub own_standard : Act → List StandardAct → List StandardAct
+own_standard Cleared acts = standard.Clear ∷ acts
+own_standard StandardRead acts = standard.Read ∷ acts
+own_standard (StandardEnabled mask) acts = standard.SetEnable mask ∷ acts
+own_standard _ acts = acts
+
+-- An act does to the registers themselves what another one does.
+abbrev pub EndsAs : Act → Act → Type 0
+EndsAs other act = ((name : RegisterName) (acts : List RegisterAct) → own name other acts ≡ own name act acts)
+    × ((acts : List StandardAct) → own_standard other acts ≡ own_standard act acts)
+
+-- an act ends behind those before it: each register is told its condition, and ends the act itself
+abbrev pub ended : Act → List Act → LayerLogs → LayerLogs
+ended act log at = record (completed at) {
+  operation = own Operation act (register.Condition (condition Operation (act ∷ log)) ∷ at.operation);
+  questionable = own Questionable act (register.Condition (condition Questionable (act ∷ log)) ∷ at.questionable);
+  limit = own Limit act (register.Condition (condition Limit (act ∷ log)) ∷ at.limit);
+  standard = own_standard act (completed at).standard;
+}
+
+abbrev pub register_acts : RegisterName → LayerLogs → List RegisterAct
+register_acts Operation at = at.operation
+register_acts Questionable at = at.questionable
+register_acts Limit at = at.limit
+
+-- what all layers see of the acts
+abbrev pub seen : List Act → LayerLogs
+seen [] = record {
+  exchange = [];
+  errors = [];
+  operation = [];
+  questionable = [];
+  limit = [];
+  standard = [];
+  scanner = [];
+  service = 0;
+  waits = false;
+}
+seen (act ∷ log) = ended act log (begun act (seen log))
+
+-- whether an act does nothing to a register itself
+abbrev pub is_plain : Act → Bool
+is_plain Cleared = false
+is_plain Preset = false
+is_plain StandardRead = false
+is_plain (StandardEnabled mask) = false
+is_plain (EventRead name) = false
+is_plain (Enabled name mask) = false
+is_plain (RiseSet name mask) = false
+is_plain (FallSet name mask) = false
+is_plain _ = true

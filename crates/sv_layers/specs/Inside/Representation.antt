@@ -1,0 +1,104 @@
+-- What the layers keep, and that it stands for a log.
+use Rattle.std.specs.Prelude.{◌≡◌, ◌↔◌, ℕ, ◌+◌, min, Bool, true, List, [], ◌∷◌, length}
+use Rattle.sv_errors.specs.declared.code.Code.{Code}
+use Rattle.sv_errors.specs.ErrorQueue.{entries, StandsFor as Queues}
+use Rattle.sv_status.specs.declared.register_name.RegisterName.TheVariants.{Operation, Questionable, Limit}
+use Rattle.sv_status.specs.Register.{Latches as RegisterLatches, Summary, StandsFor as Registers}
+use Rattle.sv_status.specs.StandardEvent.{Latches as StandardLatches, Summary as StandardSummary, StandsFor as Standards}
+use Rattle.sv_status.specs.declared.status_byte.StatusAct.{StatusAct}
+use Rattle.sv_status.specs.declared.status_byte.StatusAct.TheVariants.{Update, Poll}
+use Rattle.sv_status.specs.StatusByte.{Latches as StatusLatches, IsRaised as IsRaisedAsTold, StandsFor as Statuses}
+use Rattle.sv_scan.specs.declared.setting.State.{State}
+use Rattle.sv_scan.specs.Condition.{bit}
+use Rattle.sv_scan.specs.Representation.{run_state}
+use Rattle.sv_scan.specs.Stands.{Contents as ScanContents, StandsFor as Scans}
+use Rattle.sv_exchange.specs.Exchange.{response, is_something}
+use Rattle.sv_exchange.specs.Contents.{Contents, StandsFor as Exchanges}
+use Rattle.sv_layers.specs.Act.{Act, Polled}
+use Rattle.sv_layers.specs.Filter.{start}
+use Rattle.sv_layers.specs.StatusByte.{IsRaised}
+use Rattle.sv_layers.specs.Inside.LayerLogs.{LayerLogs, begun, seen}
+
+pub record LayerState : Type 0 where
+  pub exchange : Contents
+  pub errors : List Code
+  pub operation : RegisterLatches
+  pub questionable : RegisterLatches
+  pub limit : RegisterLatches
+  pub standard : StandardLatches
+  pub status : StatusLatches
+  pub scanner : ScanContents
+  pub service : ℕ
+  pub waits : Bool
+  pub requests : ℕ
+
+-- a word has the summary bits of what the layers see
+pub record IsSummary (word : ℕ) (at : LayerLogs) : Type 0 where
+  pub operates : Bool
+  pub happened : Bool
+  pub questioned : Bool
+  pub operation : (operates ≡ true) ↔ Summary (start Operation) at.operation
+  pub standard : (happened ≡ true) ↔ StandardSummary at.standard
+  pub questionable : (questioned ≡ true) ↔ Summary (start Questionable) at.questionable
+  pub word_is : word ≡ bit 7 operates + bit 5 happened + bit 4 (is_something (response at.exchange)) + bit 3 questioned
+      + bit 2 (is_something (entries at.errors))
+
+-- a poll comes before the status byte is told
+abbrev pub own_status : Act → List StatusAct → List StatusAct
+own_status Polled acts = Poll ∷ acts
+own_status _ acts = acts
+
+-- The status byte sees these acts: behind each act it is told the summary bits and the enable.
+abbrev pub IsStatus : List Act → List StatusAct → Type 0
+IsStatus [] acts = acts ≡ []
+IsStatus (act ∷ log) acts = (word : ℕ) × (before : List StatusAct) × IsSummary word (seen (act ∷ log)) × IsStatus log before
+    × (acts ≡ Update word (seen (act ∷ log)).service ∷ own_status act before)
+
+-- A request is raised at the newest act, as the status byte sees it.
+abbrev pub RaisedAt : List Act → Type 0
+RaisedAt log = (acts : List StatusAct) × IsStatus log acts × IsRaisedAsTold acts
+
+-- What is kept stands for what the layers saw, and for what the status byte was told.
+pub record Represents (layered : LayerState) (at : LayerLogs) (told : List StatusAct) : Type 0 where
+  pub exchange : Exchanges layered.exchange at.exchange
+  pub errors : Queues layered.errors at.errors
+  pub operation : Registers (start Operation) layered.operation at.operation
+  pub questionable : Registers (start Questionable) layered.questionable at.questionable
+  pub limit : Registers (start Limit) layered.limit at.limit
+  pub standard : Standards layered.standard at.standard
+  pub status : Statuses layered.status told
+  pub scanner : Scans layered.scanner at.scanner
+  pub service : layered.service ≡ at.service
+  pub waits : layered.waits ≡ at.waits
+
+-- What is kept stands for the log.
+pub record StandsFor (layered : LayerState) (log : List Act) : Type 0 where
+  pub told : List StatusAct
+  pub are : IsStatus log told
+  pub joined : Represents layered (seen log) told
+
+-- The newest act has happened to its own layer, and to nothing else yet.
+pub record Begun (layered : LayerState) (act : Act) (log : List Act) : Type 0 where
+  pub told : List StatusAct
+  pub are : IsStatus log told
+  pub joined : Represents layered (begun act (seen log)) (own_status act told)
+
+-- What is kept stands for the log, and each request that was counted is read.
+pub record AllRead (layered : LayerState) (log : List Act) : Type 0 where
+  pub stands : StandsFor layered log
+  pub none : layered.requests ≡ 0
+
+-- where the count of requests stays
+abbrev pub max_count : ℕ
+max_count = 255
+
+-- What is kept stands for the log, and where a request was raised at its newest act, that is counted beside those before.
+pub record IsApplied (before : ℕ) (layered : LayerState) (log : List Act) : Type 0 where
+  pub stands : StandsFor layered log
+  pub raised : Bool
+  pub requests : (raised ≡ true) ↔ IsRaised log
+  pub count : layered.requests ≡ min (before + bit 0 raised) max_count
+
+-- the state of the trigger system, by what is kept
+abbrev pub state_by : LayerState → State
+state_by layered = run_state layered.scanner.run (length layered.scanner.readings)

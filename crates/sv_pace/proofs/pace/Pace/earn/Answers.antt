@@ -1,5 +1,0 @@
-use Rattle.std.proofs.Common.{refl}
-use Rattle.sv_pace.proofs.pace.Pace.earn.Goals as goal
-
-pub returns-clause-stands : goal.returns-clause-stands
-returns-clause-stands c = λ waits. record { missed = refl; pause = refl; left = refl }

@@ -1,5 +1,0 @@
-use Rattle.std.proofs.Common.{refl}
-use Rattle.sv_serve.proofs.driver.Driver.note.Goals as goal
-
-pub returns : goal.returns
-returns g c = rw (c.from.ensures, ← c.self.view_is) (λ config history stands. (history, stands, refl))

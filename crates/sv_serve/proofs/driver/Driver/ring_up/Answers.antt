@@ -1,5 +1,0 @@
-use Rattle.std.proofs.Common.{refl}
-use Rattle.sv_serve.proofs.driver.Driver.ring_up.Goals as goal
-
-pub returns : goal.returns
-returns g c = rw (← c.self.view_is) (λ config history stands. (history, stands, (c.dial.new.self, c.dial.ensures, refl)))

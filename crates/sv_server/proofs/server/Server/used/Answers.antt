@@ -1,4 +1,0 @@
-use Rattle.sv_server.proofs.server.Server.used.Goals as goal
-
-pub returns : goal.returns
-returns g c = λ config history s. let state = rw (← c.self.view_is) at s.represents in (s.log, s.is_log, state.used)

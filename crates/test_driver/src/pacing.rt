@@ -1,0 +1,72 @@
+//! Rows of what a loop of sweeps decides by times and counts.
+
+use crate::row::{bad, number};
+use std::io::{self, BufWriter, Write};
+use sv_pace::Pace;
+
+/// Above how many sleeps a row can't be played.
+const MOST: u32 = 10_000;
+
+/// A number of looks or of milliseconds.
+fn count_of(number: u64) -> u32 {
+    number.min(u64::from(u32::MAX)) as u32
+}
+
+/// Sleeps at once until it may look again, and tells how often.
+fn sleeps(pace: &mut Pace, now: u64) -> io::Result<u32> {
+    for count in 0..MOST {
+        if pace.is_spinning(now) {
+            return Ok(count);
+        }
+        pace.end(0, false);
+    }
+    Err(bad())
+}
+
+/// Looks in vain so often, each time as soon as it may: prints how often it sleeps in front of
+/// each.
+fn miss<W: Write + Drop>(pace: &mut Pace, count: u64, writer: &mut BufWriter<W>) -> io::Result<()> {
+    for _ in 0..count {
+        pace.work(0);
+        write!(writer, " {}", sleeps(pace, 0)?)?;
+        pace.end(1, false);
+    }
+    writeln!(writer)
+}
+
+/// Does what a line says.
+fn step<W: Write + Drop>(pace: &mut Pace, line: &str, writer: &mut BufWriter<W>) -> io::Result<()> {
+    let (word, text) = line.split_once(' ').unwrap_or((line, ""));
+    let (first, second) = text.split_once(' ').unwrap_or((text, "0"));
+    let (first, second) = (number(first)?, number(second)?);
+    match word {
+        "ticks" => writeln!(writer, "{line}: {}", pace.ticks(first)),
+        "rest" => writeln!(writer, "{line}: {}", pace.rest(first, count_of(second))),
+        "eager" => writeln!(writer, "{line}: {}", pace.is_spinning(first)),
+        "vain" => {
+            write!(writer, "{line}:")?;
+            miss(pace, first, writer)
+        }
+        _ => keep(pace, word, first),
+    }
+}
+
+/// Does what a line says that prints nothing.
+fn keep(pace: &mut Pace, word: &str, number: u64) -> io::Result<()> {
+    match word {
+        "work" => pace.work(number),
+        "found" => pace.end(count_of(number), true),
+        "nothing" => pace.end(count_of(number), false),
+        _ => return Err(bad()),
+    }
+    Ok(())
+}
+
+/// Plays the lines of a row.
+pub(crate) fn play<W: Write + Drop>(lines: &str, writer: &mut BufWriter<W>) -> io::Result<()> {
+    let mut pace = Pace::new();
+    for line in lines.lines() {
+        step(&mut pace, line, writer)?;
+    }
+    Ok(())
+}

@@ -1,0 +1,194 @@
+//! A row: what stands in front of its sweeps, and the sweeps.
+
+use crate::scripted::Scripted;
+use crate::shown::show;
+use crate::{failing, pacing};
+use failing_alloc::FailingAllocator;
+use std::alloc::Global;
+use std::io::{self, BufWriter, Error, ErrorKind, Write};
+use sv_recording::Recorder;
+use sv_replay::{Entry, read_scenario};
+use sv_serve::Driver;
+use sv_server::{Config, Server};
+
+/// What stands behind a sweep's number, where memory is refused in it.
+const MEMORY: &str = " memory ";
+
+/// The driver of a row.
+type Played<'a> = Driver<Recorder<Scripted>, &'a FailingAllocator<Global>>;
+
+/// What is told of a row that can't be played.
+pub(crate) fn bad() -> Error {
+    Error::from(ErrorKind::InvalidData)
+}
+
+/// A number.
+pub(crate) fn number(text: &str) -> io::Result<u64> {
+    match text.parse::<u64>() {
+        Ok(number) => Ok(number),
+        Err(_) => Err(bad()),
+    }
+}
+
+/// The number of the first line, where that begins with a word, and what stands behind; else 0,
+/// and the whole.
+fn setting<'a>(word: &str, text: &'a str) -> io::Result<(u64, &'a str)> {
+    match text.strip_prefix(word) {
+        Some(rest) => {
+            let (first, behind) = rest.split_once('\n').unwrap_or((rest, ""));
+            Ok((number(first)?, behind))
+        }
+        None => Ok((0, text)),
+    }
+}
+
+/// What stands in front of the sweeps of a row: what the clock has, which allocation fails, and the
+/// entries of the scenario.
+fn front(row: &str) -> io::Result<(u64, u64, &str)> {
+    let (front, _) = row.split_once("\nsweep ").unwrap_or((row, ""));
+    let (_, settings) = front.split_once('\n').unwrap_or((front, ""));
+    let (clock, settings) = setting("clock ", settings)?;
+    let (refused, entries) = setting("memory ", settings)?;
+    Ok((clock, refused, entries))
+}
+
+/// The scenario of these lines.
+fn scenario<'a>(
+    heap: &'a FailingAllocator<Global>,
+    entries: &str,
+) -> io::Result<Vec<Entry, &'a FailingAllocator<Global>>> {
+    match read_scenario(heap, entries.as_bytes()) {
+        Ok(scenario) => Ok(scenario),
+        Err(_) => Err(bad()),
+    }
+}
+
+/// A driver as a row wants it, whose heap the row may ration.
+fn made<'a>(
+    alloc: Global,
+    heap: &'a FailingAllocator<Global>,
+    row: &str,
+) -> io::Result<Played<'a>> {
+    let (clock, refused, entries) = front(row)?;
+    let scripted = Scripted::new(alloc, String::from_str(alloc, row)?);
+    let wire = Recorder::new(alloc, scripted);
+    let scenario = scenario(heap, entries)?;
+    let config = Config {
+        core: 4096,
+        abort: 4097,
+        clock: clock.min(9_223_372_036_854_775_807),
+    };
+    let server = Server::new(heap, config)?;
+    heap.refuse(refused);
+    Ok(Driver::new(heap, server, wire, scenario)?)
+}
+
+/// Makes a sweep, and prints what was asked in it.
+fn sweep<W: Write + Drop>(
+    heap: &FailingAllocator<Global>,
+    driver: &mut Played<'_>,
+    place: usize,
+    line: &str,
+    writer: &mut BufWriter<W>,
+) -> io::Result<()> {
+    let (ticks, refused) = line.split_once(MEMORY).unwrap_or((line, "0"));
+    let ticks = number(ticks)?.min(u64::from(u32::MAX)) as u32;
+    driver.wire().wire().sweep.set(place);
+    let before = driver.wire().calls().len();
+    heap.refuse(number(refused)?);
+    driver.sweep(ticks);
+    writeln!(writer, "sweep {line}")?;
+    for call in driver.wire().calls().get(before..).unwrap_or(&[]) {
+        show(call, writer)?;
+    }
+    if !driver.wire().is_whole() {
+        return Err(Error::from(ErrorKind::OutOfMemory));
+    }
+    if heap.is_armed() {
+        writeln!(writer, "memory was not asked for")?;
+    }
+    Ok(())
+}
+
+/// Prints, for each line `still N` behind a sweep, whether nothing waits for so many milliseconds.
+fn show_still<W: Write + Drop>(
+    driver: &Played<'_>,
+    lines: &str,
+    writer: &mut BufWriter<W>,
+) -> io::Result<()> {
+    for line in lines.lines() {
+        if let Some(text) = line.strip_prefix("still ") {
+            let ticks = number(text)?.min(u64::from(u32::MAX)) as u32;
+            writeln!(writer, "{line}: {}", driver.is_still(ticks))?;
+        }
+    }
+    Ok(())
+}
+
+/// Prints, for each line `played` behind a sweep, whether the scenario is at its end.
+fn show_played<W: Write + Drop>(
+    driver: &Played<'_>,
+    lines: &str,
+    writer: &mut BufWriter<W>,
+) -> io::Result<()> {
+    for line in lines.lines() {
+        if line == "played" {
+            writeln!(writer, "played: {}", driver.is_played())?;
+        }
+    }
+    Ok(())
+}
+
+/// Makes each sweep of a row.
+fn sweep_each<W: Write + Drop>(
+    heap: &FailingAllocator<Global>,
+    driver: &mut Played<'_>,
+    row: &str,
+    writer: &mut BufWriter<W>,
+) -> io::Result<()> {
+    for (place, section) in row.split("\nsweep ").enumerate().skip(1) {
+        let (line, behind) = section.split_once('\n').unwrap_or((section, ""));
+        sweep(heap, driver, place, line, writer)?;
+        show_still(driver, behind, writer)?;
+        show_played(driver, behind, writer)?;
+    }
+    Ok(())
+}
+
+/// Plays the sweeps of a row, or prints `memory` where there was none for its driver.
+fn play_sweeps<W: Write + Drop>(
+    alloc: Global,
+    row: &str,
+    writer: &mut BufWriter<W>,
+) -> io::Result<()> {
+    let heap = FailingAllocator::new(alloc);
+    match made(alloc, &heap, row) {
+        Ok(mut driver) => sweep_each(&heap, &mut driver, row, writer),
+        Err(fault) => told(fault, writer),
+    }
+}
+
+/// Plays a row, and prints its title and what comes of it.
+pub(crate) fn play<W: Write + Drop>(
+    alloc: Global,
+    row: &str,
+    writer: &mut BufWriter<W>,
+) -> io::Result<()> {
+    let (title, behind) = row.split_once('\n').unwrap_or((row, ""));
+    writeln!(writer, "= {title}")?;
+    if let Some(peers) = behind.strip_prefix("peers ") {
+        return failing::play(alloc, peers, writer);
+    }
+    if let Some(lines) = behind.strip_prefix("pace\n") {
+        return pacing::play(lines, writer);
+    }
+    play_sweeps(alloc, row, writer)
+}
+
+/// Prints that memory was refused; any other fault is passed on.
+fn told<W: Write + Drop>(fault: Error, writer: &mut BufWriter<W>) -> io::Result<()> {
+    match fault.kind() {
+        ErrorKind::OutOfMemory => writeln!(writer, "memory"),
+        _ => Err(fault),
+    }
+}

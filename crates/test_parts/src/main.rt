@@ -1,0 +1,87 @@
+//! Answers the lines of the standard input, each of which asks something of one part of the
+//! instrument or of the whole, and prints each of them with its answer. Empty lines and those that
+//! begin with `#` ask nothing.
+//!
+//! | Line | Answer |
+//! |---|---|
+//! | `new` | nothing: from here on the parts to which acts happen are new ones |
+//! | `times N LINE` | the answers of the line, which comes so many times |
+//! | `white TEXT` | of each byte, whether it is white space |
+//! | `trim TEXT` | the text without white space at both ends, in front, and behind |
+//! | `cut BYTE TEXT` | where the byte first stands, and what stands in front of it and behind |
+//! | `parts TEXT` | the parts of a header |
+//! | `unit TEXT` | the header and the parameters of a unit, each with its place and its kind |
+//! | `headers TEXT` | the commands that the headers of a message name, with `;` between two |
+//! | `orders MESSAGE` | what each unit of a message asks for, behind those in front of it |
+//! | `arity HEADER` | how many parameters the command takes at most that a header names |
+//! | `voltage UNIT`, `boolean UNIT`, `keyword UNIT`, `channels UNIT` | a unit's first parameter |
+//! | `whole LOW HIGH UNIT` | the same, as a whole number |
+//! | `print MICROVOLTS` | a voltage as it is printed |
+//! | `response voltage UNIT` | the value of a unit's first parameter, as response data print it |
+//! | `response channels UNIT`, `response source UNIT` | the same, of a channel list and a source |
+//! | `response overload BELOW`, `response switch ON` | the same, of what is `true` or `false` |
+//! | `response whole NUMBER`, `response error NUMBER` | the same, of a number and an error |
+//! | `code NUMBER` | the name and the text of an error |
+//! | `queue ACT`, `register ACT`, `standard ACT`, `status ACT` | what an act is answered with |
+//! | `scan ACT` | the same, of the scanner |
+//! | `session ACT` | the same, of the whole instrument, and how many requests it raised, as `+1` |
+//! | `records ACT` | what a buffer of records answers |
+//! | `read KIND HEX` | a field read, and how many bytes are left |
+//! | `write KIND VALUE` | a field written |
+//! | `call HEX` | the header of a call |
+//!
+//! The text of `white`, `trim`, `unit`, `orders`, `session tell` and `session say` may have
+//! escapes, as `\n`, `\x7F` and `\\`.
+#![tactic(auto)]
+
+mod codes;
+mod fields;
+mod headers;
+mod line;
+mod orders;
+mod parts;
+mod records;
+mod responses;
+mod scans;
+mod sessions;
+mod status;
+mod texts;
+mod units;
+mod values;
+
+use anyhow::{Result, bail};
+use parts::Parts;
+use std::io;
+use std::process::ExitCode;
+
+/// Answers all lines, up to the first that is a bad one: that is told, with exit status 2.
+fn main(rt: HostRuntime) -> ExitCode {
+    match answer_each(&rt) {
+        Ok(()) => ExitCode::SUCCESS,
+        Err(error) => {
+            let _ = eprintln!(rt; "test_parts: {error}");
+            ExitCode::from(2)
+        }
+    }
+}
+
+/// Answers the lines in their order.
+fn answer_each(rt: &(impl Input + Print + AllocGlobal)) -> Result<()> {
+    let text = io::read_to_string(rt.alloc(), rt.reader())?;
+    let mut parts = Parts::new(rt.alloc())?;
+    let mut answer = String::new(rt.alloc());
+    let mut number = 0u64;
+    for line in text.lines() {
+        number = number.wrapping_add(1);
+        answer.clear();
+        if line.is_empty() || line.starts_with('#') {
+            println!(rt; "{line}")?;
+            continue;
+        }
+        if let Err(fault) = parts.put_answer(rt.alloc(), &mut answer, line) {
+            bail!("bad line {number}: {fault:?}");
+        }
+        println!(rt; "{line} ->{answer}")?;
+    }
+    Ok(())
+}

@@ -1,0 +1,155 @@
+//! Acts of the whole instrument. Behind each it does all that is due.
+//!
+//! | Act | Answer |
+//! |---|---|
+//! | `tell TEXT`, `say TEXT` | nothing: a write, with END behind it or without; or `waits` |
+//! | `read` | up to 256 bytes of the response; or `waits`, or `unterminated` where there is none |
+//! | `read N` | the same, of up to N bytes, with the reasons why they end there |
+//! | `poll` | the status byte |
+//! | `ticks N` | nothing: so many milliseconds go by |
+//! | `input CHANNEL MICROVOLTS`, `external`, `trigger`, `clear` | nothing |
+
+ghost use Rattle.std.specs.Prelude.{◌<◌, OnSome};
+ghost use Rattle.sv_instrument.specs.Representation.{instrument_measure};
+
+use crate::line::{Fault, cut, put, put_text, value_of};
+use bstr::ByteVec;
+use std::alloc::Global;
+use sv_exchange::Read;
+use sv_instrument::Instrument;
+
+/// How many bytes are written at once, at most.
+const MOST_WRITTEN: usize = 4096;
+/// How many bytes a read asks for that doesn't say it.
+const MOST_READ: u32 = 256;
+
+/// Tells what the instrument answers to an act, and how many requests for service were raised, if
+/// any were, by the act and by all that is due behind it.
+pub(crate) fn put_session(
+    alloc: Global,
+    out: &mut String,
+    instrument: &mut Instrument,
+    text: &str,
+) -> Result<(), Fault> {
+    let raised = match cut(text) {
+        ("tell", text) => tell(alloc, out, instrument, text, true)?,
+        ("say", text) => tell(alloc, out, instrument, text, false)?,
+        ("read", "") => read(out, instrument, None)?,
+        ("read", most) => read(out, instrument, Some(value_of(most)?))?,
+        ("poll", "") => {
+            put(out, instrument.poll())?;
+            0
+        }
+        ("ticks", count) => tick(instrument, value_of(count)?),
+        (name, words) => apply(instrument, name, words)?,
+    };
+    let raised = raised.wrapping_add(settle(instrument));
+    if raised > 0 {
+        write!(out, " +{raised}")?;
+    }
+    Ok(())
+}
+
+/// Takes the steps that are due, until none is. It tells how many requests were raised, as all
+/// functions below do.
+fn settle(instrument: &mut Instrument) -> u64 {
+    let mut sum = 0u64;
+    while let Some(raised) = step(instrument) {
+        sum = sum.wrapping_add(u64::from(raised));
+    }
+    sum
+}
+
+/// Takes the step that is due: a trigger comes in front of what is left of messages.
+fn step(instrument: &mut Instrument) -> Option<u8>
+    ensures { OnSome result (instrument_measure instrument.new
+        < instrument_measure instrument.old) }
+{
+    match instrument.fire() {
+        Some(raised) => Some(raised),
+        None => instrument.step(),
+    }
+}
+
+/// Writes a text, and END with its last byte or not; or tells that it has to wait.
+fn tell(
+    alloc: Global,
+    out: &mut String,
+    instrument: &mut Instrument,
+    text: &str,
+    ended: bool,
+) -> Result<u64, Fault> {
+    let bytes = Vec::unescape_bytes(alloc, text)?;
+    if bytes.len() > MOST_WRITTEN {
+        return Err(Fault::Unknown);
+    }
+    if instrument.can_write() {
+        Ok(u64::from(instrument.write(bytes.as_slice(), ended)))
+    } else {
+        out.push_str(" waits")?;
+        Ok(0)
+    }
+}
+
+/// Reads at most so many bytes, and tells the reasons why they end there; or 256 and no reasons; or
+/// tells that it has to wait.
+fn read(out: &mut String, instrument: &mut Instrument, most: Option<u32>) -> Result<u64, Fault> {
+    if !instrument.can_read() {
+        out.push_str(" waits")?;
+        return Ok(0);
+    }
+    let read = instrument.peek(most.unwrap_or(MOST_READ), None);
+    if !read.bytes.is_empty() || !read.end {
+        put_text(out, read.bytes)?;
+        if most.is_some() {
+            put_reasons(out, &read)?;
+        }
+        let count = read.bytes.len();
+        Ok(u64::from(instrument.take(count)))
+    } else if instrument.can_write() {
+        out.push_str(" unterminated")?;
+        Ok(u64::from(instrument.unterminated()))
+    } else {
+        Err(Fault::Unknown)
+    }
+}
+
+/// Tells why the bytes of a read end where they do.
+fn put_reasons(out: &mut String, read: &Read<'_>) -> Result<(), Fault> {
+    let reasons = [
+        (read.request_count, " count"),
+        (read.character, " character"),
+        (read.end, " end"),
+    ];
+    for (holds, name) in reasons {
+        if holds {
+            out.push_str(name)?;
+        }
+    }
+    Ok(())
+}
+
+/// So many milliseconds go by, and behind each all is done that is due.
+fn tick(instrument: &mut Instrument, count: u16) -> u64 {
+    let mut sum = 0u64;
+    for _ in 0..count {
+        let sampled = u64::from(instrument.tick());
+        sum = sum.wrapping_add(sampled).wrapping_add(settle(instrument));
+    }
+    sum
+}
+
+/// Lets something else happen to the instrument.
+fn apply(instrument: &mut Instrument, name: &str, words: &str) -> Result<u64, Fault> {
+    let raised = match (name, words) {
+        ("external", "") => instrument.external(),
+        ("trigger", "") => instrument.trigger(),
+        ("clear", "") => instrument.clear(),
+        ("input", words) => {
+            let (channel, microvolts) = cut(words);
+            instrument.input(value_of(channel)?, value_of(microvolts)?)
+        }
+        _ => return Err(Fault::Unknown),
+    };
+    Ok(u64::from(raised))
+}

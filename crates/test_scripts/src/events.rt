@@ -1,0 +1,206 @@
+//! Events at a server, and what it tells without printing it. A text has these lines:
+//!
+//! | Line | What it says |
+//! |---|---|
+//! | `clock MILLISECONDS` | in front of all others: the clock at the start; else 0 |
+//! | a line of a replay, other than `tick N` | this happens |
+//! | `took c0 44` | the peer takes so many bytes of a port |
+//! | `memory N` | from here on the Nth allocation is refused |
+//! | `memory ?` | whether memory was asked for since, up to that allocation |
+//! | `times N` | what stands behind it, up to the next such line, comes so many times |
+//! | `ask 0` | what is told of a connection |
+//! | `show c0` | the bytes that wait on a port |
+//! | `used` | how many numbers of connections were used |
+//!
+//! Of an event it is printed that it was idle, or by which number it was refused; of one that was
+//! done nothing.
+
+use crate::words::{bad, number};
+use failing_alloc::FailingAllocator;
+use std::alloc::Global;
+use std::io::{self, BufWriter, Write};
+use sv_replay::{Line, read_line};
+use sv_server::{Config, Did, Event, Port, Server};
+
+/// The longest line.
+const LONGEST: usize = 32_800;
+
+/// The server of a row, whose memory the row may refuse.
+type Played<'a> = Server<&'a FailingAllocator<Global>>;
+
+/// A connection's number.
+fn conn_of(text: &str) -> io::Result<u8> {
+    Ok(number(text)?.min(255) as u8)
+}
+
+/// A port, as `c0` or `i0`.
+fn port_of(text: &str) -> io::Result<Port> {
+    if let Some(conn) = text.strip_prefix('c') {
+        return Ok(Port::Conn(conn_of(conn)?));
+    }
+    match text.strip_prefix('i') {
+        Some(conn) => Ok(Port::Intr(conn_of(conn)?)),
+        None => Err(bad()),
+    }
+}
+
+/// Lets an event happen, and prints what it did, unless that is what it asks for.
+fn apply<W: Write + Drop>(
+    server: &mut Played<'_>,
+    event: Event<'_>,
+    writer: &mut BufWriter<W>,
+) -> io::Result<()> {
+    match server.apply(event) {
+        Ok(Did::Done) => Ok(()),
+        Ok(Did::Idle) => writeln!(writer, "idle"),
+        Err(refused) => writeln!(writer, "refused {}: {refused}", refused.number()),
+    }
+}
+
+/// Lets the event of a replay's line happen.
+fn replayed<W: Write + Drop>(
+    server: &mut Played<'_>,
+    line: &str,
+    writer: &mut BufWriter<W>,
+) -> io::Result<()> {
+    let mut buffer = [0; LONGEST];
+    if line.len() > LONGEST {
+        return Err(bad());
+    }
+    match read_line(line.as_bytes(), &mut buffer) {
+        Some(Line::Blank) => Ok(()),
+        Some(Line::One(event)) => apply(server, event, writer),
+        Some(Line::Ticks(_)) => Err(bad()),
+        None => Err(bad()),
+    }
+}
+
+/// Prints what is told of a connection.
+fn ask<W: Write + Drop>(
+    server: &Played<'_>,
+    conn: u8,
+    writer: &mut BufWriter<W>,
+) -> io::Result<()> {
+    let (ready, faulted) = (server.ready(conn), server.faulted(conn));
+    write!(writer, "ready {ready}, faulted {faulted}")?;
+    let (replies, calls) = (
+        server.waiting(Port::Conn(conn)).len(),
+        server.waiting(Port::Intr(conn)).len(),
+    );
+    write!(
+        writer,
+        ", room {}, c{conn} {replies}, i{conn} {calls}",
+        server.room(conn)
+    )?;
+    match server.dial(conn) {
+        Some(dial) => writeln!(writer, ", dial {:x}:{}", dial.addr, dial.port),
+        None => writeln!(writer),
+    }
+}
+
+/// Prints the bytes that wait on a port.
+fn show<W: Write + Drop>(
+    server: &Played<'_>,
+    port: &str,
+    writer: &mut BufWriter<W>,
+) -> io::Result<()> {
+    write!(writer, "{port} ")?;
+    for byte in server.waiting(port_of(port)?) {
+        write!(writer, "{byte:02x}")?;
+    }
+    writeln!(writer)
+}
+
+/// Refuses an allocation, or prints whether it was asked for.
+fn ration<W: Write + Drop>(
+    heap: &FailingAllocator<Global>,
+    text: &str,
+    writer: &mut BufWriter<W>,
+) -> io::Result<()> {
+    match (text, heap.is_armed()) {
+        ("?", true) => writeln!(writer, "memory was not asked for"),
+        ("?", false) => writeln!(writer, "memory was asked for"),
+        (text, _) => {
+            heap.refuse(number(text)?);
+            Ok(())
+        }
+    }
+}
+
+/// Does what a line says.
+fn step<W: Write + Drop>(
+    heap: &FailingAllocator<Global>,
+    server: &mut Played<'_>,
+    line: &str,
+    writer: &mut BufWriter<W>,
+) -> io::Result<()> {
+    let (word, rest) = line.split_once(' ').unwrap_or((line, ""));
+    match word {
+        "memory" => ration(heap, rest, writer),
+        "ask" => ask(server, conn_of(rest)?, writer),
+        "show" => show(server, rest, writer),
+        "used" => writeln!(writer, "used {}", server.used()),
+        "took" => {
+            let (port, count) = rest.split_once(' ').unwrap_or((rest, ""));
+            let port = port_of(port)?;
+            let count = number(count)?.min(u64::from(u32::MAX)) as u32;
+            apply(server, Event::Took { port, count }, writer)
+        }
+        _ => replayed(server, line, writer),
+    }
+}
+
+/// Does what lines say.
+fn steps<W: Write + Drop>(
+    heap: &FailingAllocator<Global>,
+    server: &mut Played<'_>,
+    lines: &str,
+    writer: &mut BufWriter<W>,
+) -> io::Result<()> {
+    for line in lines.split('\n') {
+        step(heap, server, line, writer)?;
+    }
+    Ok(())
+}
+
+/// Does so often what lines say. The first line has the number.
+fn repeat<W: Write + Drop>(
+    heap: &FailingAllocator<Global>,
+    server: &mut Played<'_>,
+    section: &str,
+    writer: &mut BufWriter<W>,
+) -> io::Result<()> {
+    let (count, lines) = section.split_once('\n').unwrap_or((section, ""));
+    for _ in 0..number(count)? {
+        steps(heap, server, lines, writer)?;
+    }
+    Ok(())
+}
+
+/// Plays the lines of a text on a new server.
+pub(crate) fn play<W: Write + Drop>(
+    alloc: Global,
+    text: &str,
+    writer: &mut BufWriter<W>,
+) -> io::Result<()> {
+    let (clock, lines) = match text.strip_prefix("clock ") {
+        Some(rest) => {
+            let (clock, lines) = rest.split_once('\n').unwrap_or((rest, ""));
+            (number(clock)?, lines)
+        }
+        None => (0, text),
+    };
+    let config = Config {
+        core: 4096,
+        abort: 4097,
+        clock: clock.min(9_223_372_036_854_775_807),
+    };
+    let heap = FailingAllocator::new(alloc);
+    let mut server = Server::new(&heap, config)?;
+    let (front, _) = lines.split_once("\ntimes ").unwrap_or((lines, ""));
+    steps(&heap, &mut server, front, writer)?;
+    for section in lines.split("\ntimes ").skip(1) {
+        repeat(&heap, &mut server, section, writer)?;
+    }
+    Ok(())
+}

@@ -1,0 +1,184 @@
+//! Scripts at a server, of which each allocation is refused in turn: one that finds no memory is
+//! asked for again, or is refused by the caller and then sent again.
+
+use crate::turns::each;
+use crate::words::bad;
+use failing_alloc::FailingAllocator;
+use std::alloc::Global;
+use std::fmt::Write as Print;
+use std::io::{self, BufWriter, Write};
+use sv_replay::{Line, read_line};
+use sv_server::{Config, Event, Port, Refused, Server};
+
+/// The longest line.
+const LONGEST: usize = 1_024;
+/// How many connections there may be.
+const CONNECTIONS: u8 = 16;
+
+/// The server of a script, whose memory may be refused.
+type Played<'a> = Server<&'a FailingAllocator<Global>>;
+
+/// What the script's server is set up with.
+const SET_UP: Config = Config {
+    core: 4096,
+    abort: 4097,
+    clock: 0,
+};
+
+/// A script that is played, and what came of it.
+#[derive(Drop)]
+struct Growing<'a> {
+    alloc: Global,
+    /// Whether an event without memory is refused by the caller, and then sent again.
+    refuses: bool,
+    server: Played<'a>,
+    told: String,
+}
+
+/// Puts bytes behind a text, if there are any, as a line of a replay.
+fn tell(told: &mut String, letter: char, conn: u8, bytes: &[u8]) -> io::Result<()> {
+    if bytes.is_empty() {
+        return Ok(());
+    }
+    write!(told, "{letter}{conn} ").map_err(|_| bad())?;
+    for byte in bytes {
+        write!(told, "{byte:02x}").map_err(|_| bad())?;
+    }
+    writeln!(told).map_err(|_| bad())
+}
+
+impl Growing<'_> {
+    /// What the server tells of all connections.
+    fn asked(&self) -> io::Result<String> {
+        let mut asked = String::new(self.alloc);
+        for conn in 0..CONNECTIONS {
+            let (ready, faulted) = (self.server.ready(conn), self.server.faulted(conn));
+            let (room, dial) = (self.server.room(conn), self.server.dial(conn));
+            writeln!(asked, "{ready} {faulted} {room} {dial:?}").map_err(|_| bad())?;
+            tell(&mut asked, 'c', conn, self.server.waiting(Port::Conn(conn)))?;
+            tell(&mut asked, 'i', conn, self.server.waiting(Port::Intr(conn)))?;
+        }
+        Ok(asked)
+    }
+
+    /// Tells what waits on a port, and takes it.
+    fn take(&mut self, letter: char, conn: u8, port: Port) -> io::Result<()> {
+        let bytes = self.server.waiting(port);
+        tell(&mut self.told, letter, conn, bytes)?;
+        let count = bytes.len().min(65_536) as u32;
+        let _ = self.server.apply(Event::Took { port, count });
+        Ok(())
+    }
+
+    /// Tells what waits on each connection, and takes it.
+    fn take_connections(&mut self) -> io::Result<()> {
+        for conn in 0..CONNECTIONS {
+            self.take('c', conn, Port::Conn(conn))?;
+        }
+        Ok(())
+    }
+
+    /// Tells what waits on each interrupt channel, and takes it.
+    fn take_channels(&mut self) -> io::Result<()> {
+        for conn in 0..CONNECTIONS {
+            self.take('i', conn, Port::Intr(conn))?;
+        }
+        Ok(())
+    }
+
+    /// Lets the event of a line happen, and tells what comes of it; true where it found no memory.
+    fn apply(&mut self, line: &str) -> io::Result<bool> {
+        let mut buffer = [0; LONGEST];
+        if line.len() > LONGEST {
+            return Err(bad());
+        }
+        let Some(Line::One(event)) = read_line(line.as_bytes(), &mut buffer) else {
+            return Err(bad());
+        };
+        let mut found_none = false;
+        if let Err(refused) = self.server.apply(event) {
+            writeln!(self.told, "refused {}", refused.number()).map_err(|_| bad())?;
+            found_none = matches!(refused, Refused::NoMemory);
+        }
+        self.take_connections()?;
+        self.take_channels()?;
+        Ok(found_none)
+    }
+
+    /// Goes on behind an event that found no memory. These are the line that brought its bytes, and
+    /// its own.
+    fn go_on(&mut self, brought: &str, line: &str) -> io::Result<()> {
+        if self.refuses {
+            let conn = line.strip_prefix("turn ").unwrap_or("");
+            let refused = format!(in self.alloc; "refuse {conn}")?;
+            self.apply(&refused)?;
+            self.apply(brought)?;
+        }
+        if self.apply(line)? {
+            self.told.push_str("twice\n")?;
+        }
+        Ok(())
+    }
+
+    /// Does what a line says; where that finds no memory nothing may be different.
+    fn step(&mut self, brought: &str, line: &str) -> io::Result<()> {
+        let before = self.asked()?;
+        if !self.apply(line)? {
+            return Ok(());
+        }
+        if self.asked()? != before {
+            self.told.push_str("changed\n")?;
+        }
+        self.go_on(brought, line)
+    }
+}
+
+/// A play of which nothing is done: where memory is refused to its server, that is made again.
+fn start<'a>(
+    alloc: Global,
+    heap: &'a FailingAllocator<Global>,
+    refuses: bool,
+) -> io::Result<Growing<'a>> {
+    let mut told = String::new(alloc);
+    let server = match Server::new(heap, SET_UP) {
+        Ok(server) => server,
+        Err(_) => {
+            told.push_str("no server\n")?;
+            Server::new(heap, SET_UP)?
+        }
+    };
+    Ok(Growing {
+        alloc,
+        refuses,
+        server,
+        told,
+    })
+}
+
+/// What comes of a script.
+fn outcome(
+    alloc: Global,
+    heap: &FailingAllocator<Global>,
+    refuses: bool,
+    script: &str,
+) -> io::Result<String> {
+    let mut play = start(alloc, heap, refuses)?;
+    let mut brought = "";
+    for line in script.lines() {
+        play.step(brought, line)?;
+        if line.starts_with("bytes ") {
+            brought = line;
+        }
+    }
+    Ok(play.told.clone()?)
+}
+
+/// Prints what comes of a script, with each allocation refused in turn.
+pub(crate) fn play<W: Write + Drop>(
+    alloc: Global,
+    refuses: bool,
+    script: &str,
+    writer: &mut BufWriter<W>,
+) -> io::Result<()> {
+    each(alloc, |heap| outcome(alloc, heap, refuses, script), writer)
+}

@@ -1,0 +1,82 @@
+//! A replay for somebody who gives a line, and the next one once the answers to it are there.
+
+use crate::words::bad;
+use failing_alloc::FailingAllocator;
+use std::alloc::Global;
+use std::cell::RefCell;
+use std::io::{self, BufWriter, Read, Write};
+use sv_replay::run_replay;
+
+/// Notes bytes behind those that were noted.
+fn note(noted: &RefCell<Vec<u8>>, bytes: &[u8]) -> io::Result<()> {
+    match noted.try_borrow_mut() {
+        Ok(mut all) => {
+            all.extend_from_slice(bytes)?;
+            Ok(())
+        }
+        Err(_) => Err(bad()),
+    }
+}
+
+/// A reader that gives a line at each read, and notes it.
+#[derive(Drop)]
+struct Lines<'a> {
+    rest: &'a [u8],
+    noted: &'a RefCell<Vec<u8>>,
+}
+
+impl Read for Lines<'_> {
+    fn read(&mut self, buf: &mut [u8]) -> io::Result<usize> {
+        let len = match self.rest.iter().position(|byte| *byte == b'\n') {
+            Some(end) => end + 1,
+            None => self.rest.len(),
+        };
+        let count = len.min(buf.len());
+        buf[..count].copy_from_slice(&self.rest[..count]);
+        if count > 0 {
+            note(self.noted, b"> ")?;
+        }
+        note(self.noted, &self.rest[..count])?;
+        self.rest = &self.rest[count..];
+        Ok(count)
+    }
+}
+
+/// A writer that notes what it takes.
+#[derive(Drop)]
+struct Answers<'a> {
+    noted: &'a RefCell<Vec<u8>>,
+}
+
+impl Write for Answers<'_> {
+    fn write(&mut self, buf: &[u8]) -> io::Result<usize> {
+        note(self.noted, buf)?;
+        Ok(buf.len())
+    }
+
+    fn flush(&mut self) -> io::Result<()> {
+        Ok(())
+    }
+}
+
+/// Prints the lines that were given, each behind `> `, and what the output took, in their order.
+pub(crate) fn play<W: Write + Drop>(
+    alloc: Global,
+    script: &str,
+    writer: &mut BufWriter<W>,
+) -> io::Result<()> {
+    let noted = RefCell::new(Vec::new(alloc));
+    let heap = FailingAllocator::new(alloc);
+    let mut lines = Lines {
+        rest: script.as_bytes(),
+        noted: &noted,
+    };
+    let mut answers = BufWriter::new(alloc, Answers { noted: &noted })?;
+    if run_replay(&heap, &mut lines, &mut answers).is_err() {
+        return Err(bad());
+    }
+    match noted.try_borrow() {
+        Ok(all) => writer.write_all(all.as_slice()),
+        Err(_) => Err(bad()),
+    }
+}

@@ -1,0 +1,208 @@
+//! Replays whose reader or writer gives little, takes little or fails, or whose memory is refused.
+
+use crate::streams::{Manner, Sink, Source};
+use crate::turns::each;
+use crate::words::{bad, number};
+use failing_alloc::FailingAllocator;
+use std::alloc::Global;
+use std::io::{self, BufWriter, Write};
+use sv_replay::{RunFault, run_replay};
+
+/// Above how many reads a row can't be played.
+const MOST_READS: u64 = 1_000;
+
+/// The manner that these words tell.
+fn manner_of(words: &str) -> io::Result<Manner> {
+    let ample = Manner::ample();
+    if let Some(count) = words.strip_prefix("output takes ") {
+        let room = number(count)? as usize;
+        return Ok(Manner { room, ..ample });
+    }
+    if let Some(count) = words.strip_prefix("output stops at ") {
+        let room = number(count)? as usize;
+        let is_silent = true;
+        return Ok(Manner {
+            room,
+            is_silent,
+            ..ample
+        });
+    }
+    match words {
+        "singly" => Ok(Manner {
+            singly: true,
+            ..ample
+        }),
+        "input fails" => Ok(Manner {
+            input_fails: true,
+            ..ample
+        }),
+        "memory" => Ok(ample),
+        _ => Err(bad()),
+    }
+}
+
+/// What was taken of the print, behind how many bytes that is where the output is narrow, and the
+/// fault where there is one, on a line of its own.
+fn told(
+    alloc: Global,
+    taken: &[u8],
+    narrow: bool,
+    answer: Result<(), RunFault>,
+) -> io::Result<String> {
+    let Ok(text) = str::from_utf8(taken) else {
+        return Err(bad());
+    };
+    let mut outcome = String::new(alloc);
+    if narrow {
+        let count = format!(in alloc; "{} bytes\n", taken.len())?;
+        outcome.push_str(&count)?;
+    }
+    outcome.push_str(text)?;
+    if let Err(fault) = answer {
+        if !text.is_empty() && !text.ends_with('\n') {
+            outcome.push('\n')?;
+        }
+        let fault = format!(in alloc; "{fault}\n")?;
+        outcome.push_str(&fault)?;
+    }
+    Ok(outcome)
+}
+
+/// What comes of a replay.
+fn outcome(
+    alloc: Global,
+    heap: &FailingAllocator<Global>,
+    manner: Manner,
+    script: &str,
+) -> io::Result<String> {
+    Ok(read_out(alloc, heap, manner, script)?.0)
+}
+
+/// The same, and how often the reader was read.
+fn read_out(
+    alloc: Global,
+    heap: &FailingAllocator<Global>,
+    manner: Manner,
+    script: &str,
+) -> io::Result<(String, u64)> {
+    let mut source = Source {
+        rest: script.as_bytes(),
+        manner,
+        was_interrupted: false,
+        reads: 0,
+    };
+    let sink = Sink {
+        taken: Vec::new(alloc),
+        manner,
+        was_interrupted: false,
+    };
+    let mut writer = BufWriter::new(alloc, sink)?;
+    let answer = run_replay(heap, &mut source, &mut writer);
+    let narrow = manner.room < usize::MAX;
+    let told = told(alloc, writer.get_ref().taken.as_slice(), narrow, answer)?;
+    Ok((told, source.reads))
+}
+
+/// Prints what comes of a script in the manner that these words tell.
+pub(crate) fn play<W: Write + Drop>(
+    alloc: Global,
+    words: &str,
+    script: &str,
+    writer: &mut BufWriter<W>,
+) -> io::Result<()> {
+    match words.strip_prefix("memory") {
+        Some(rest) => {
+            let manner = manner_of(rest.strip_prefix(", ").unwrap_or("memory"))?;
+            each(alloc, |heap| outcome(alloc, heap, manner, script), writer)
+        }
+        None => {
+            let heap = FailingAllocator::new(alloc);
+            let outcome = outcome(alloc, &heap, manner_of(words)?, script)?;
+            write!(writer, "{outcome}")
+        }
+    }
+}
+
+/// Prints the lines that a script prints, but for those that end in this text.
+pub(crate) fn play_without<W: Write + Drop>(
+    alloc: Global,
+    ending: &str,
+    script: &str,
+    writer: &mut BufWriter<W>,
+) -> io::Result<()> {
+    let heap = FailingAllocator::new(alloc);
+    let outcome = outcome(alloc, &heap, Manner::ample(), script)?;
+    for line in outcome.lines() {
+        if !line.ends_with(ending) {
+            writeln!(writer, "{line}")?;
+        }
+    }
+    Ok(())
+}
+
+/// A script with a close of this connection behind so many lines.
+fn closed(alloc: Global, script: &str, conn: u8, place: usize) -> io::Result<String> {
+    let mut made = String::new(alloc);
+    for (number, line) in script.lines().enumerate() {
+        if number == place {
+            let close = format!(in alloc; "close c{conn}\n")?;
+            made.push_str(&close)?;
+        }
+        made.push_str(line)?;
+        made.push('\n')?;
+    }
+    Ok(made)
+}
+
+/// Prints what a script prints with a close of this connection behind each number of lines.
+fn play_closes<W: Write + Drop>(
+    alloc: Global,
+    script: &str,
+    conn: u8,
+    writer: &mut BufWriter<W>,
+) -> io::Result<()> {
+    for place in 0..script.lines().count() {
+        let heap = FailingAllocator::new(alloc);
+        let made = closed(alloc, script, conn, place)?;
+        let outcome = outcome(alloc, &heap, Manner::ample(), &made)?;
+        write!(writer, "close c{conn} behind {place}\n{outcome}")?;
+    }
+    Ok(())
+}
+
+/// Prints what a script prints with a close of each of three connections behind each number of
+/// lines.
+pub(crate) fn play_closed<W: Write + Drop>(
+    alloc: Global,
+    script: &str,
+    writer: &mut BufWriter<W>,
+) -> io::Result<()> {
+    for conn in 0..3 {
+        play_closes(alloc, script, conn, writer)?;
+    }
+    Ok(())
+}
+
+/// Prints what a script prints where the first, second, .. read fails, behind how often its reader
+/// was read; at the end the same where none fails.
+pub(crate) fn play_reads<W: Write + Drop>(
+    alloc: Global,
+    script: &str,
+    writer: &mut BufWriter<W>,
+) -> io::Result<()> {
+    for fails_at in 1..MOST_READS {
+        let heap = FailingAllocator::new(alloc);
+        let singly = true;
+        let manner = Manner {
+            singly,
+            fails_at,
+            ..Manner::ample()
+        };
+        let (outcome, reads) = read_out(alloc, &heap, manner, script)?;
+        write!(writer, "{reads} reads\n{outcome}")?;
+        if reads < fails_at {
+            return Ok(());
+        }
+    }
+    Err(bad())
+}

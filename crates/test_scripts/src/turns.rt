@@ -1,0 +1,40 @@
+//! Each allocation refused in turn.
+
+use crate::words::bad;
+use failing_alloc::FailingAllocator;
+use std::alloc::Global;
+use std::io::{self, BufWriter, Write};
+
+/// Above how many allocations a row can't be played.
+const MOST: u64 = 1000;
+
+/// Makes something once for each of its allocations, of which that one is refused. Prints each
+/// outcome that differs from the one before it, `again` behind one that came more than once in a
+/// row, and behind `all` the one with all memory.
+pub(crate) fn each<W: Write + Drop, F: Fn(&FailingAllocator<Global>) -> io::Result<String>>(
+    alloc: Global,
+    make: F,
+    writer: &mut BufWriter<W>,
+) -> io::Result<()>
+    requires { F.IsAlwaysCallable make }
+{
+    let heap = FailingAllocator::new(alloc);
+    let mut before = String::new(alloc);
+    let mut told = false;
+    for number in 1..MOST {
+        heap.refuse(number);
+        let outcome = make(&heap)?;
+        if heap.is_armed() {
+            return write!(writer, "all\n{outcome}");
+        }
+        let same = outcome == before;
+        if !same {
+            write!(writer, "{outcome}")?;
+        } else if !told {
+            writeln!(writer, "again")?;
+        }
+        told = same;
+        before = outcome;
+    }
+    Err(bad())
+}

@@ -1,0 +1,60 @@
+//! Each part is refused each of its allocations when it is made.
+
+use crate::same::same;
+use failing_alloc::FailingAllocator;
+use std::alloc::{AllocError, Global};
+use std::test::Fail;
+use sv_errors::ErrorQueue;
+use sv_exchange::Exchange;
+use sv_header::Table;
+use sv_instrument::Instrument;
+use sv_layers::Layers;
+use sv_rpc::RecordBuf;
+use sv_scan::Scanner;
+use sv_server::{Config, Server};
+
+/// The ports 4096 and 4097, and a clock that starts at 0.
+const CONFIG: Config = Config {
+    core: 4096,
+    abort: 4097,
+    clock: 0,
+};
+
+/// Each allocation of a making is refused in turn, which has to refuse the making, and behind that
+/// it has to succeed: how many there are.
+fn refusals<'a, T: Drop, F: Fn(&'a FailingAllocator<Global>) -> Result<T, AllocError>>(
+    heap: &'a FailingAllocator<Global>,
+    make: F,
+) -> Result<u64, Fail>
+    requires { F.IsAlwaysCallable make }
+{
+    for number in 1..200u64 {
+        heap.refuse(number);
+        let made = make(heap).is_ok();
+        if heap.is_armed() {
+            same(made, true, "whether it is made of ample memory")?;
+            return Ok(number - 1);
+        }
+        same(made, false, format_args!("without allocation {number}"))?;
+        let again = make(heap).is_ok();
+        same(again, true, "whether it is made once memory is there")?;
+    }
+    Err(Fail::new("each making was refused an allocation"))
+}
+
+/// The layers are a message exchange, an error queue and a scanner; the instrument has the table of
+/// commands and the answer of a unit beside them. The buffers of 16 connections, each with one for
+/// what comes and one for what is sent, are the server's.
+#[test]
+fn each_part_is_made_once_memory_is_there(rt: HostRuntime) -> Result<(), Fail> {
+    let heap = FailingAllocator::new(rt.alloc());
+    assert_eq!(rt; refusals(&heap, |heap| RecordBuf::new(heap))?, 2);
+    assert_eq!(rt; refusals(&heap, |heap| ErrorQueue::new(heap))?, 1);
+    assert_eq!(rt; refusals(&heap, |heap| Table::new(heap))?, 1);
+    assert_eq!(rt; refusals(&heap, |heap| Scanner::new(heap))?, 1);
+    assert_eq!(rt; refusals(&heap, |heap| Exchange::new(heap))?, 2);
+    assert_eq!(rt; refusals(&heap, |heap| Layers::new(heap))?, 4);
+    assert_eq!(rt; refusals(&heap, |heap| Instrument::new(heap))?, 6);
+    assert!(rt; refusals(&heap, |heap| Server::new(heap, CONFIG))? >= 32);
+    Ok(())
+}
