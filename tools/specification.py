@@ -1,0 +1,137 @@
+"""What the definitions and the contracts of the crates say, read from the sources: for the tools that count and list them."""
+import glob
+import os
+import re
+
+TOP = os.path.join(os.path.dirname(os.path.abspath(__file__)), "..", "crates")
+WORD = re.compile(r"[A-Za-z_◌][\w\-'◌]*")
+# What a contract ensures, and a law takes as its premise.
+BOTH_SIDES = {"StandsFor", "State", "Sweeps", "Steps"}
+KEYWORDS = re.compile(r"^(?:(?:abbrev|unfoldable|pub|record|data|infix[lr]?(?: \d+)?) )+")
+
+
+def imports(text):
+    """The names that a file brings in: the module and the name there, by the local name."""
+    found = {}
+    for line in text.split("\n"):
+        line = re.sub(r"^(?:ghost |pub )", "", line.strip()).rstrip(";")
+        match = re.match(r"use (Rattle\.[\w.\-]+)\.\{(.*)\}$", line)
+        if match:
+            for name in match.group(2).split(","):
+                there, _, here = name.strip().partition(" as ")
+                found[here or there] = (match.group(1), there)
+            continue
+        match = re.match(r"use (Rattle\.[\w.\-]+) as (\w+)$", line)
+        if match:
+            found[match.group(2)] = (match.group(1), None)
+    return found
+
+
+class Definitions:
+    """All definitions of the crates' specs: their lines, their file, and the line of prose over each, by module and name."""
+
+    def __init__(self):
+        self.lines, self.file, self.constructors, self.imports, self.rule = {}, {}, {}, {}, {}
+        for path in sorted(glob.glob("*/specs/**/*.antt", recursive=True)):
+            crate, _, rest = path.partition("/specs/")
+            self.read(path, "Rattle.%s.specs.%s" % (crate, rest[:-5].replace("/", ".")))
+
+    def read(self, path, module):
+        with open(path, encoding="utf-8") as file:
+            text = file.read()
+        self.imports[module] = imports(text)
+        current, above = None, []
+        for line in text.split("\n"):
+            if line.startswith("--"):
+                above.append(line[2:].strip())
+                continue
+            if re.match(r"(pub )?(use|mod) ", line):
+                above = []
+                continue
+            if not line.strip():
+                current, above = None, []
+                continue
+            if KEYWORDS.match(line) or (current is None and not line.startswith(" ")):
+                name = re.split(r"[ :]", KEYWORDS.sub("", line))[0]
+                current = (module, name)
+                self.lines[current] = []
+                self.file[current] = path
+                self.rule[current] = " ".join(above)
+            if current:
+                self.lines[current].append(line)
+                variant = re.match(r"\s+(\S+) :", line)
+                if variant and re.match(r"(pub )?data ", self.lines[current][0]):
+                    self.constructors[(module, variant.group(1))] = current
+
+    def find(self, module, name):
+        if (module, name) in self.lines:
+            return (module, name)
+        return self.constructors.get((module, name))
+
+    def cited(self, module, text, brought):
+        """The definitions that a text cites, in a module that brings in these names."""
+        for name in set(WORD.findall(text)):
+            here = self.find(module, name)
+            if here is None and name in brought and brought[name][1]:
+                here = self.find(*brought[name])
+            if here:
+                yield here
+        for prefix, name in set(re.findall(r"\b(\w+)\.([A-Za-z]\w*)", text)):
+            if prefix in brought and brought[prefix][1] is None:
+                here = self.find(brought[prefix][0], name)
+                if here:
+                    yield here
+
+
+def contracts(crate, is_exported):
+    """The contracts of the exported functions of a crate, each with its name and what its file
+    brings in: those of the files of which this holds."""
+    for path in sorted(glob.glob(crate + "/src/**/*.rt", recursive=True)):
+        with open(path, encoding="utf-8") as file:
+            text = file.read()
+        if re.search(is_exported, text):
+            for match in re.finditer(r"\n( *)pub fn (\w+)(.*?)\n\1\{\n", text, flags=re.S):
+                yield match.group(2), imports(text), match.group(3)
+
+
+def laws(crate):
+    """The contracts of a crate's laws, with what their file brings in."""
+    with open("%s/src/laws.rt" % crate, encoding="utf-8") as file:
+        text = file.read()
+    for match in re.finditer(r"\n    ensures .*", text):
+        yield imports(text), match.group(0)
+
+
+def closure(all_of_them, start, left_out):
+    """What these definitions cite, over all crates, but for names that are left out."""
+    seen, open_ones = set(start), list(start)
+    while open_ones:
+        one = open_ones.pop()
+        text = "\n".join(all_of_them.lines[one])
+        for other in all_of_them.cited(one[0], text, all_of_them.imports[one[0]]):
+            if other not in seen and other[1] not in left_out:
+                seen.add(other)
+                open_ones.append(other)
+    return seen
+
+
+def start_of(all_of_them, given):
+    """The names that these contracts cite, without StandsFor."""
+    return {one for _, brought, text in given for one in all_of_them.cited("", text, brought)
+            if one[1] != "StandsFor"}
+
+
+def believed(all_of_them):
+    """What the promises of the server rest on, what its laws rest on besides, and what all claims of the README do."""
+    history = "Rattle.sv_history.specs."
+    server = list(contracts("sv_server", r"impl<A: Allocator(?: \+ Copy)?> Server<A>|pub fn input_refusal"))
+    start = start_of(all_of_them, [one for one in server if one[0] != "replay"])
+    start |= {(history + "History", "IsLogOf"), (history + "Settling", "IsSettled")}
+    promises = closure(all_of_them, start, {"StandsFor"})
+    start = {one for crate in ("sv_laws", "sv_serve") for brought, text in laws(crate)
+             for one in all_of_them.cited("", text, brought)}
+    besides = closure(all_of_them, start, BOTH_SIDES) - promises
+    others = [one for crate in ("sv_replay", "sv_serve", "sv_net")
+              for one in contracts(crate, r"\n(?:    )?pub fn")]
+    start = start_of(all_of_them, server + others)
+    return promises, besides, promises | besides | closure(all_of_them, start, {"StandsFor"})
