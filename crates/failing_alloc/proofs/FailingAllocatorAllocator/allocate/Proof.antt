@@ -144,7 +144,7 @@ allocate_spec 𝓤 𝓛 𝓜 𝓡 wired Y L g d dd met _ =
     let 𝓣 : Tables 𝓤 𝓛.H = tables_of 𝓤 𝓛.H 𝓜 (tables 𝓤 𝓛.H 𝓜 𝓡 𝓡.env) in
     let c = held Z 𝓛 𝓜.mem 𝓡.returns in
     let counts : Triple 𝓤 (𝓣.C turn.name) (Asks 𝓛 𝓜.mem 𝓡.returns) =
-    cited 𝓤 𝓛.H _ 𝓜 𝓡 𝓡.env turn.name (𝓡.env turn.name) refl (turn_met.met 𝓤 𝓛 𝓜 𝓡 (code.calls-rationing::take_turn 𝓡.env wired)) in
+    cited 𝓤 𝓛.H _ 𝓜 𝓡 𝓡.env turn.name (𝓡.env turn.name) refl (turn_met.met 𝓤 𝓛 𝓜 𝓡 (code.calls-failing_alloc::take_turn 𝓡.env wired)) in
     let usize_goes = Goes-dropped 𝓛 2 (number Z) yes (λ κs x w. refl) in
     entered 𝓤 𝓛.H (triple_of 𝓛 (F.signature Y) (F.spec Y g d dd 𝓛 𝓜.mem 𝓡.returns)) 𝓣.C 𝓣.Λ
     (key.name (bounded (a_type ∷ []) (Y, tt) (dcons d (dcons dd dnil)))) (here Z) (code.unfolded 𝓤 𝓛.H 𝓜 𝓡 wired (Y, tt) d dd)
