@@ -1,0 +1,96 @@
+"""The trigger states, and what leads from one to another."""
+from drawing import trigger_moves
+from drawing.canvas import Canvas, Fault, wrapped
+from drawing.sources import agree
+
+PAGE = "docs/INSTRUMENT.md"
+COLUMNS = ("From", "By", "To", "When")
+# The acts of sv_scan in the words of the page.
+WORDS = {"Init": "INITiate", "Trigger": "trigger", "Sample": "tick", "Abort": "ABORt", "Reset": "*RST"}
+# Who is told where an act is refused.
+TOLD = {"Init": "INITiate", "Trigger": "a trigger from BUS"}
+WIDE, HIGH = 1000, 452
+TOP, BOX = 158, (212, 104)
+# Where the states stand, from the left.
+PLACES = {"Idle": 40, "Waiting": 414, "Scanning": 748}
+
+
+def rows(sources):
+    """The rows of the page, where they are the moves that the definitions have."""
+    table = sources.table(PAGE, *COLUMNS)
+    states = list(sources.variants(trigger_moves.STATES, "State"))
+    if set(states) != set(PLACES):
+        raise Fault("%s: there is no place for the states %s" % (trigger_moves.STATES, ", ".join(states)))
+    here = {(one, act.strip(), to) for start, by, to, _ in table for one in (states if start == "any" else [start])
+            for act in by.split(",")}
+    there = {(start, WORDS.get(act, act), to) for start, act, to in trigger_moves.moves(sources)}
+    agree(PAGE, "the table of moves", ["%s by %s to %s" % one for one in here], ["%s by %s to %s" % one for one in there],
+          "crates/sv_scan/specs")
+    return {(start, to): (by, when) for start, by, to, when in table}
+
+
+def states(canvas, sources):
+    """The states, each with what it is and the operation condition in it."""
+    words = trigger_moves.conditions(sources)
+    for name, told in sources.variants(trigger_moves.STATES, "State").items():
+        x = PLACES[name]
+        canvas.box(x, TOP, *BOX, "blue" if name == "Idle" else "amber" if name == "Waiting" else "green", 16)
+        canvas.words(x + BOX[0] / 2, TOP + 28, name, "ink bold", 17, "middle")
+        y = canvas.lines(x + BOX[0] / 2, TOP + 49, wrapped(told, BOX[0] - 24), "ink", 12, "middle", BOX[0] - 16)
+        canvas.words(x + BOX[0] / 2, y + 7, "STAT:OPER:COND? %d" % words[name], "soft fixed", 11, "middle")
+
+
+def over(canvas, moves):
+    """The moves that lead to the right, and around the last state."""
+    middle = TOP + 34
+    for start, to in (("Idle", "Waiting"), ("Waiting", "Scanning")):
+        left, right = PLACES[start] + BOX[0], PLACES[to]
+        canvas.way([(left, middle), (right, middle)], "blue")
+        by, when = moves.pop((start, to))
+        canvas.words((left + right) / 2, middle - 9, by, "ink bold", 13, "middle", right - left - 10)
+        canvas.lines((left + right) / 2, middle + 20, wrapped(when, right - left - 24), "soft", 12, "middle", right - left - 12)
+    left = PLACES["Scanning"] + BOX[0] - 70
+    canvas.way([(left, TOP), (left, TOP - 26), (left + 48, TOP - 26), (left + 48, TOP)], "green")
+    by, when = moves.pop(("Scanning", "Scanning"))
+    canvas.words(left + 58, TOP - 70, by, "ink bold", 13, "end")
+    canvas.lines(left + 58, TOP - 53, wrapped(when, 124), "soft", 12, "end", 124)
+
+
+def under(canvas, moves):
+    """The moves that lead back from the last state, below."""
+    bottom, left = TOP + BOX[1], PLACES["Scanning"]
+    for to, at, deep, inset in (("Waiting", PLACES["Waiting"] + BOX[0] / 2, 44, 60), ("Idle", PLACES["Idle"] + BOX[0] / 2, 106, 120)):
+        canvas.way([(left + inset, bottom), (left + inset, bottom + deep), (at, bottom + deep), (at, bottom)], "green")
+        by, when = moves.pop(("Scanning", to))
+        canvas.words(at + 12, bottom + deep - 8, by, "ink bold", 13)
+        canvas.words(at + 18 + 34, bottom + deep - 8, when, "soft", 12, room=left - at)
+
+
+def back(canvas, moves):
+    """What ends each state, above."""
+    high, at = TOP - 78, PLACES["Idle"] + BOX[0] / 2
+    for name in ("Waiting", "Scanning"):
+        x = PLACES[name] + 40
+        canvas.way([(x, TOP), (x, high), (at, high), (at, TOP)], "red")
+    by, when = moves.pop(("any", "Idle"))
+    canvas.words(at + 12, high + 18, by, "ink bold", 13)
+    canvas.words(at + 12, high + 35, when, "soft", 12)
+
+
+def draw(sources):
+    moves = rows(sources)
+    canvas = Canvas(WIDE, HIGH, "Trigger states", "INITiate leads from Idle to Waiting, a trigger to Scanning, and the end of the"
+                    " last scan back to Idle.")
+    canvas.heading("SCPI-1999, volume 2, 24")
+    states(canvas, sources)
+    over(canvas, moves)
+    under(canvas, moves)
+    back(canvas, moves)
+    if moves:
+        raise Fault("%s: there is no way for %s" % (canvas.title, ", ".join("%s to %s" % one for one in moves)))
+    y = HIGH - 44
+    for act, where, error in trigger_moves.refused(sources):
+        if act in TOLD:
+            canvas.words(40, y, "%s in %s: %s" % (TOLD[act], " or ".join(where), error), "soft", 12)
+            y += 19
+    return canvas.svg()
