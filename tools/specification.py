@@ -1,4 +1,4 @@
-"""What the definitions and the contracts of the crates say, read from the sources: for the tools that count and list them."""
+"""What the crates, their definitions and their contracts say, read from the sources: for the tools that count, list and draw."""
 import glob
 import os
 import re

@@ -71,6 +71,6 @@ class Sources:
 def agree(path, what, here, there, other):
     """A fault, where a document doesn't say the same as a source."""
     for one in sorted(set(there) - set(here)):
-        raise Fault("%s: %s: there is no %s, which %s has" % (path, what, one, other))
+        raise Fault("%s: %s: %s stands in %s alone" % (path, what, one, other))
     for one in sorted(set(here) - set(there)):
-        raise Fault("%s: %s: %s has no %s" % (path, what, other, one))
+        raise Fault("%s: %s: %s doesn't stand in %s" % (path, what, one, other))

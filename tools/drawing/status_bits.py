@@ -98,7 +98,7 @@ def polling(sources):
 def read(sources):
     """The bits as the page names them, what the status byte sums up, and which bit of a condition sums up a register."""
     names, standard, byte, words = named(sources), standard_events(sources), status_byte(sources), conditions(sources)
-    numbers = dict(words, **{STANDARD: standard, BYTE: byte})
+    numbers = {**words, STANDARD: standard, BYTE: byte}
     agree(PAGE, "the table of bits", names, numbers, "the sources")
     for register, bits in numbers.items():
         agree(PAGE, register, ["bit %d" % bit for bit in names[register]], ["bit %d" % bit for bit in bits], "the sources")

@@ -21,7 +21,7 @@ def product(text, values):
 
 
 def chain(sources):
-    """The tests of `state_by` in their order, each with its state; the last has none."""
+    """The tests of `state_by` in their order, each with its state, of which the last always holds."""
     left, right = next(iter(sources.equations(SCAN, "state_by").items()))
     if tuple(left.split()[1:]) != NUMBERS:
         raise Fault("crates/sv_scan/specs/Scan.antt: state_by takes other numbers")
@@ -30,6 +30,11 @@ def chain(sources):
     if not all(found):
         raise Fault("crates/sv_scan/specs/Scan.antt: state_by: a test can't be read")
     return [one.groups() for one in found] + [("samples", "samples", last.strip())]
+
+
+def without(sources):
+    """The state without a measurement."""
+    return re.search(r"\(before_init log\) (\w+)$", sources.definition(SCAN, "state")).group(1)
 
 
 def state_of(tests, values):
@@ -78,35 +83,39 @@ def after(place, act, kind):
     return place and (place[0] + (act == trigger), place[1] + (act == sample))
 
 
-def moves(sources):
-    """Each move there is, as (state, act, state), in measurements of one or two channels and scans."""
-    states, acts = sources.variants(STATES, "State"), sources.variants(ACTS, "ScanAct")
-    guarded, kind, tests = guards(sources, states, acts), kinds(sources), chain(sources)
-    leading = [kind[0], *sorted(kind[1]), *kind[2]]
-    found = set()
-    for channels, scans in itertools.product((1, 2), repeat=2):
-        def state(place):
-            return state_of(tests, dict(zip(NUMBERS, place + (channels, scans)))) if place else "Idle"
-        seen, open_ones = {None}, [None]
-        while open_ones:
-            place = open_ones.pop()
-            for act in leading:
-                if state(place) in guarded[act][0]:
-                    new = after(place, act, kind)
-                    found.add((state(place), act, state(new)))
-                    open_ones += [new] if new not in seen else []
+def moves_in(channels, scans, guarded, kind, tests, rest):
+    """Each move from this state at rest on, in a measurement of so many channels and scans, as (state, act, state)."""
+    def state(place):
+        return state_of(tests, dict(zip(NUMBERS, place + (channels, scans)))) if place else rest
+    found, seen, open_ones = set(), {None}, [None]
+    while open_ones:
+        place = open_ones.pop()
+        for act in [kind[0], *kind[1], *kind[2]]:
+            if state(place) in guarded[act][0]:
+                new = after(place, act, kind)
+                found.add((state(place), act, state(new)))
+                if new not in seen and max(new) <= channels * scans + 1:
                     seen.add(new)
+                    open_ones.append(new)
     return found
+
+
+def moves(sources):
+    """Each move there is, in measurements of one or two channels and scans."""
+    states, acts = sources.variants(STATES, "State"), sources.variants(ACTS, "ScanAct")
+    known = guards(sources, states, acts), kinds(sources), chain(sources), without(sources)
+    sizes = itertools.product((1, 2), repeat=2)
+    return {move for channels, scans in sizes for move in moves_in(channels, scans, *known)}
 
 
 def refused(sources):
     """Each act that is refused in some state, with its error."""
     states = sources.variants(STATES, "State")
-    entries = dict(re.findall(r"entry (\w+) = \((\d+), codes \"", sources.definition("sv_errors/Code", "entry")))
-    texts = dict(re.findall(r"entry (\w+) = \(\d+, codes \"(.*?)\"\)", sources.definition("sv_errors/Code", "entry")))
+    found = re.findall(r"entry (\w+) = \((\d+), codes \"(.*?)\"\)", sources.definition("sv_errors/Code", "entry"))
+    entries = {name: "-%s,\"%s\"" % (number, text) for name, number, text in found}
     for act, (good, code) in guards(sources, states, sources.variants(ACTS, "ScanAct")).items():
         if code and good != set(states):
-            yield act, [state for state in states if state not in good], "-%s,\"%s\"" % (entries[code], texts[code])
+            yield act, [state for state in states if state not in good], entries[code]
 
 
 def conditions(sources):
