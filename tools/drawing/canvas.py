@@ -29,6 +29,8 @@ GROUNDS = {
 # How wide characters are, in parts of the size; and all others.
 WIDTHS = ((".,:;'|!ijlIJ ", 0.33), ("frt()[]/-\"*`", 0.42), ("mwMW@%", 0.97), ("ABCDEFGHKLNOPQRSTUVXYZ&+=<>#", 0.73))
 OTHERS, FIXED_WIDTH, BOLD = 0.63, 0.61, 1.1
+# What stays free below.
+MARGIN = 24
 
 
 class Fault(Exception):
@@ -64,17 +66,19 @@ def style(dark):
 
 
 class Canvas:
-    """A picture that is being drawn."""
+    """A picture that is being drawn. It is as high as what is drawn wants."""
 
-    def __init__(self, wide, high, title, told):
-        self.size = (wide, high)
+    def __init__(self, wide, title, told):
+        self.wide = wide
+        self.lowest = 0
         self.title = title
         self.told = told
         self.parts = []
 
     def box(self, x, y, wide, high, look="plain", corner=6):
-        if x < 0 or y < 0 or x + wide > self.size[0] or y + high > self.size[1]:
+        if x < 0 or x + wide > self.wide:
             raise Fault("%s: a box leaves the picture" % self.title)
+        self.lowest = max(self.lowest, y + high)
         dashes = ' stroke-dasharray="5 4"' if look == "room" else ""
         self.parts.append('<rect x="%g" y="%g" width="%g" height="%g" rx="%g" class="on-%s"%s/>'
                           % (x, y, wide, high, corner, look, dashes))
@@ -83,8 +87,9 @@ class Canvas:
         """Words on a line that ends at y; `look` is an ink, and `bold` or `fixed` where they are."""
         wide = width(text, size, look)
         left = {"start": x, "middle": x - wide / 2, "end": x - wide}[anchor]
-        if wide > (room or self.size[0]) or left < 0 or left + wide > self.size[0] or not 0 < y < self.size[1]:
+        if wide > (room or self.wide) or left < 0 or left + wide > self.wide:
             raise Fault("%s: there is no room for '%s'" % (self.title, text))
+        self.lowest = max(self.lowest, y)
         where = "" if anchor == "start" else ' text-anchor="%s"' % anchor
         self.parts.append('<text x="%g" y="%g" font-size="%g" class="%s"%s>%s</text>' % (x, y, size, look, where, escape(text)))
 
@@ -122,9 +127,10 @@ class Canvas:
 
     def svg(self):
         """The picture as a file."""
-        wide, high = self.size
+        wide, high = self.wide, self.lowest + MARGIN
         rules = "".join(style(0)) + "@media (prefers-color-scheme:dark){" + "".join(style(1)) + "}"
-        fixed = "text{font-family:%s}.fixed{font-family:%s}.bold{font-weight:bold}.way{fill:none;stroke-width:1.5}" % (FONTS, FIXED)
+        fonts = "text{font-family:%s}.fixed{font-family:%s}.bold{font-weight:bold}" % (FONTS, FIXED)
+        fixed = fonts + ".way{fill:none;stroke-width:1.5}"
         head = '<svg xmlns="http://www.w3.org/2000/svg" viewBox="0 0 %g %g" width="%g" height="%g" role="img" aria-label=%s>' % (
             wide, high, wide, high, quoteattr(self.title))
         return "\n".join((

@@ -2,7 +2,7 @@
 from drawing import status_bits
 from drawing.canvas import Canvas, Fault, width, wrapped
 
-WIDE, HIGH = 1040, 884
+WIDE = 1040
 # Where columns begin and how wide they are: sources of bits, filters, events, enables, what is or-ed; then the status byte.
 SOURCE, FILTER, EVENT, ENABLE, OR = (52, 280), (352, 66), (438, 52), (510, 52), (582, 30)
 LANES, BYTE, MASK, LAST = 630, (694, 166), (884, 50), (958, 30)
@@ -182,8 +182,8 @@ def nested(canvas, tops, summaries, names, inside):
 
 def draw(sources):
     names, bits, inside = status_bits.read(sources)
-    canvas = Canvas(WIDE, HIGH, "Status model", "Conditions pass filters and become events; enabled events are summed up in"
-                    " the status byte, and enabled bits of it request service.")
+    canvas = Canvas(WIDE, "Status model", "Conditions pass filters and become events; enabled events are summed up in the status"
+                    " byte, and enabled bits of it request service.")
     canvas.heading("IEEE 488.2, 11; SCPI-1999, volume 2, 20")
     unplaced = sorted((set(filter(None, bits.values())) | set(names)) - {name for name, _ in ORDER} - {status_bits.BYTE})
     if unplaced:

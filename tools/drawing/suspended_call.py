@@ -9,9 +9,10 @@ COLUMNS = ("Waits for", "Call", "Resumes when", "At most", "Timed out", "device_
 WAITS, ADMISSION, RESUMING = "crates/sv_links/src/waiting.rt", "sv_history/Admission", "sv_history/Resuming"
 # What is waited for, by the words of the page.
 WORDS = {"Lock": "the lock", "Input": "input", "Response": "response", "Dial": "dialing"}
-WIDE, HIGH = 1040, 576
+WIDE = 1040
 TOP, LEFT, BOX, STEP = 112, 196, (390, 80), 98
-LANES = (("it resumes", "green", 640), ("it times out", "amber", 746), ("device_abort", "red", 852), ("connection closes", "soft", 958))
+LANES = (("it resumes", "green", 640), ("it times out", "amber", 746), ("device_abort", "red", 852),
+         ("connection closes", "soft", 958))
 ENDS = 96
 
 
@@ -113,7 +114,8 @@ def ways(canvas, places, start, others):
         canvas.way([(trunk, y + middle), (LEFT, y + middle)], "blue")
     canvas.box(20, TOP + 122, 112, 128, "plain")
     canvas.words(76, TOP + 148, "a call", "ink bold", 14, "middle")
-    canvas.lines(76, TOP + 170, wrapped("what it needs isn't there: no reply yet, and calls behind it wait", 100), "soft", 12, "middle", 110)
+    said = wrapped("what it needs isn't there: no reply yet, and calls behind it wait", 100)
+    canvas.lines(76, TOP + 170, said, "soft", 12, "middle", 110)
     canvas.way([(132, TOP + 186), (trunk, TOP + 186)], "blue", "")
     for other in others:
         canvas.way([(LEFT, places[start] + BOX[1] - 14), (rail, places[start] + BOX[1] - 14), (rail, places[other] + 16),
@@ -123,15 +125,15 @@ def ways(canvas, places, start, others):
 def draw(sources):
     waits, found = rows(sources)
     start, others = anew(sources)
-    canvas = Canvas(WIDE, HIGH, "A suspended call", "A call waits for the lock, for input, for a response or for dialing; it resumes,"
-                    " times out, is aborted, or its connection closes.")
+    canvas = Canvas(WIDE, "A suspended call", "A call waits for the lock, for input, for a response or for dialing; it"
+                    " resumes, times out, is aborted, or its connection closes.")
     canvas.heading("VXI-11, B.4.4 and B.6")
     places = {wait: TOP + STEP * place for place, wait in enumerate(waits)}
     lanes(canvas, TOP + STEP * len(waits) - 4)
     for wait in waits:
         wait_row(canvas, places[wait], WORDS[wait], found[wait])
     ways(canvas, places, start, others)
-    y = HIGH - 44
+    y = TOP + STEP * len(waits) + 26
     canvas.way([(LEFT - 22, y), (LEFT + 8, y)], "green")
     canvas.words(LEFT + 16, y + 4, "past the lock it may wait anew, in its place of the order", "soft", 12)
     return canvas.svg()

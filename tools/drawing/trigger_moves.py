@@ -56,7 +56,8 @@ def guards(sources, states, acts):
     rules = sources.equations(COUNTED, "counts")
     found = {}
     for act in acts:
-        right = next((right for left, right in rules.items() if re.match(r"counts log \(?%s\b" % act, left)), rules["counts log _"])
+        own = [right for left, right in rules.items() if re.match(r"counts log \(?%s\b" % act, left)]
+        right = own[0] if own else rules["counts log _"]
         fault = re.match(r"is_none \((\w+_fault)", right)
         if fault:
             right = sources.definition(COUNTED, fault.group(1)).split("\n", 1)[1]

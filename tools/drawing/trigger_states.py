@@ -9,10 +9,12 @@ COLUMNS = ("From", "By", "To", "When")
 WORDS = {"Init": "INITiate", "Trigger": "trigger", "Sample": "tick", "Abort": "ABORt", "Reset": "*RST"}
 # Who is told where an act is refused.
 TOLD = {"Init": "INITiate", "Trigger": "a trigger from BUS"}
-WIDE, HIGH = 1000, 452
+WIDE = 1000
 TOP, BOX = 158, (212, 104)
 # Where the states stand, from the left.
 PLACES = {"Idle": 40, "Waiting": 414, "Scanning": 748}
+# How far below, and from where, the ways lead back from the last state.
+DEEP, INSET = {"Waiting": 44, "Idle": 106}, {"Waiting": 60, "Idle": 120}
 
 
 def rows(sources):
@@ -59,11 +61,12 @@ def over(canvas, moves):
 def under(canvas, moves):
     """The moves that lead back from the last state, below."""
     bottom, left = TOP + BOX[1], PLACES["Scanning"]
-    for to, at, deep, inset in (("Waiting", PLACES["Waiting"] + BOX[0] / 2, 44, 60), ("Idle", PLACES["Idle"] + BOX[0] / 2, 106, 120)):
-        canvas.way([(left + inset, bottom), (left + inset, bottom + deep), (at, bottom + deep), (at, bottom)], "green")
+    for to, deep in DEEP.items():
+        at, start, low = PLACES[to] + BOX[0] / 2, left + INSET[to], bottom + deep
+        canvas.way([(start, bottom), (start, low), (at, low), (at, bottom)], "green")
         by, when = moves.pop(("Scanning", to))
-        canvas.words(at + 12, bottom + deep - 8, by, "ink bold", 13)
-        canvas.words(at + 18 + 34, bottom + deep - 8, when, "soft", 12, room=left - at)
+        canvas.words(at + 12, low - 8, by, "ink bold", 13, room=36)
+        canvas.words(at + 52, low - 8, when, "soft", 12, room=left - at)
 
 
 def back(canvas, moves):
@@ -79,8 +82,8 @@ def back(canvas, moves):
 
 def draw(sources):
     moves = rows(sources)
-    canvas = Canvas(WIDE, HIGH, "Trigger states", "INITiate leads from Idle to Waiting, a trigger to Scanning, and the end of the"
-                    " last scan back to Idle.")
+    canvas = Canvas(WIDE, "Trigger states", "INITiate leads from Idle to Waiting, a trigger to Scanning, and the end of the last scan"
+                    " back to Idle.")
     canvas.heading("SCPI-1999, volume 2, 24")
     states(canvas, sources)
     over(canvas, moves)
@@ -88,7 +91,7 @@ def draw(sources):
     back(canvas, moves)
     if moves:
         raise Fault("%s: there is no way for %s" % (canvas.title, ", ".join("%s to %s" % one for one in moves)))
-    y = HIGH - 44
+    y = TOP + BOX[1] + DEEP["Idle"] + 40
     for act, where, error in trigger_moves.refused(sources):
         if act in TOLD:
             canvas.words(40, y, "%s in %s: %s" % (TOLD[act], " or ".join(where), error), "soft", 12)

@@ -9,7 +9,7 @@ from drawing.sources import agree
 PAGE = "docs/ARCHITECTURE.md"
 COLUMNS = ("Crate", "Called by", "Comes in", "Goes back")
 BESIDE = "\nBeside the way: "
-WIDE, TOP, FOOT = 1040, 58, 24
+WIDE, TOP = 1040, 58
 # The two columns, how far a crate stands to the right of its caller, and how far below the one before.
 LEFT, RIGHT, COLUMN, INDENT, GAP = 24, 536, 480, 22, 12
 # The crate whose part of the tree has the right column, and the one that joins both.
@@ -111,19 +111,13 @@ def draw(sources):
     def looks(crate):
         return "blue" if crate in inside else "plain" if crate in trunk else "amber"
 
-    def paint(high):
-        canvas = Canvas(WIDE, high, "The way of a call", "A call goes from a socket through these crates to the instrument, and its"
-                        " reply goes back.")
-        canvas.heading("what comes in, what goes back, and what each crate is")
-        canvas.box(LEFT, TOP, COLUMN, 34, "room")
-        canvas.words(LEFT + 12, TOP + 22, rows[first][0][0], "ink bold", 13)
-        places = column(canvas, LEFT, TOP + 34 + 26, left, rows, looks)
-        places.update(column(canvas, RIGHT, TOP, tree(rows, INSTRUMENT), rows, looks))
-        return canvas, places
-
-    _, places = paint(10000)
-    ends = [y + high for _, y, _, high in places.values()]
-    canvas, places = paint(max(ends) + FOOT)
+    canvas = Canvas(WIDE, "The way of a call", "A call goes from a socket through these crates to the instrument, and its reply"
+                    " goes back.")
+    canvas.heading("what comes in, what goes back, and what each crate is")
+    canvas.box(LEFT, TOP, COLUMN, 34, "room")
+    canvas.words(LEFT + 12, TOP + 22, rows[first][0][0], "ink bold", 13)
+    places = column(canvas, LEFT, TOP + 34 + 26, left, rows, looks)
+    places.update(column(canvas, RIGHT, TOP, tree(rows, INSTRUMENT), rows, looks))
     rail = LEFT + INDENT / 2
     canvas.way([(rail, TOP + 34), (rail, places[first][1])], "soft", "both")
     calls(canvas, places, rows)

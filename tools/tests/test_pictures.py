@@ -30,7 +30,7 @@ CHANGES = (
      PAGE + ": the table of moves: Idle by INITiate to Waiting doesn't stand in crates/sv_scan/specs\n"),
     (PAGE, "| no other link holds it | lock_timeout | 11 |", "| no other link holds it | lock_timeout | 15 |",
      PAGE + ": the lock: timed out: by the definitions '11', not '15'\n"),
-    ("crates/sv_links/src/waiting.rt", "    /// That a write is taken.\n", "    /// That it is noon.\n    Noon,\n    /// That a write is taken.\n",
+    ("crates/sv_links/src/waiting.rt", "    /// That a write is taken.\n", "    /// Noon.\n    Noon,\n    /// That a write is taken.\n",
      PAGE + ": the table of calls that wait: Noon stands in crates/sv_links/src/waiting.rt alone\n"),
     ("crates.txt", "sv_vxi: sv_xdr\n", "sv_vxi: sv_xdr\nsv_new:\n", ""),
     ("crates.txt", "sv_layers: sv_logs", "sv_new:\nsv_layers: sv_new sv_logs",
@@ -59,6 +59,9 @@ class Pictures(unittest.TestCase):
         shutil.copytree(TOP + "/docs", cls.top + "/docs")
         shutil.copy(TOP + "/crates.txt", cls.top)
 
+    def setUp(self):
+        self.assertEqual(self.told(), (0, ""))
+
     def told(self, *words):
         """The status, and the lines."""
         done = subprocess.run([TOP + "/tools/pictures", *words, self.top], capture_output=True, text=True, check=False)
@@ -72,9 +75,6 @@ class Pictures(unittest.TestCase):
     def write(self, name, text):
         with open(os.path.join(self.top, name), "w", encoding="utf-8", newline="") as file:
             file.write(text)
-
-    def test_what_is_committed_is_drawn(self):
-        self.assertEqual(self.told("--check"), (0, ""))
 
     def test_a_change_is_told(self):
         for name, old, new, lines in CHANGES:
