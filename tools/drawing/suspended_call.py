@@ -26,8 +26,7 @@ def late(sources, waits):
     """For each wait the number of the error of a call that waited too long for it, where it has a deadline."""
     rules, codes = sources.equations(RESUMING, "late"), numbers(sources)
     text = sources.text("crates/sv_history/specs/Resuming.antt")
-    real = dict(re.findall(r"(\w+) as (\w+)\}", text))
-    names = {here: there for there, here in real.items()}
+    names = {here: there for there, here in re.findall(r"(\w+) as (\w+)\}", text)}
     endless = set(re.findall(r"Awaits (\w+) None", sources.definition(ADMISSION, "channel_stop")))
     found = {}
     for wait in waits:
@@ -56,20 +55,37 @@ def anew(sources):
     return found[0], [wait for wait in callers(sources) if wait != "Dial"]
 
 
+def aborted(sources, waits):
+    """For each wait what device_abort answers its call: it ends the calls that name the link."""
+    named = {re.match(r"link \(?(\w+)", left).group(1) for left, right in sources.equations("sv_vxi/Arguments", "link").items()
+             if right.startswith("Some")}
+    whole = numbers(sources)["Abort"]
+    found = dict.fromkeys(waits, whole)
+    if "CreateIntrChan" not in named:
+        found["Dial"] = ""
+    if "CreateLink" not in named:
+        found["Lock"] = whole + ", but for create_link"
+    return found
+
+
 def rows(sources):
     """The row of the page for each wait, where they agree with the definitions."""
     waits = sources.variants(WAITS, "Wait")
     page = {row[0]: row[1:] for row in sources.table(PAGE, *COLUMNS)}
     agree(PAGE, "the table of calls that wait", page, [WORDS.get(wait, wait) for wait in waits], WAITS)
     found = {wait: page[WORDS[wait]] for wait in waits}
-    abort, calls = numbers(sources)["Abort"], callers(sources)
-    for wait, error in late(sources, waits).items():
-        if found[wait][3] != error:
-            raise Fault("%s: %s: timed out: by the definitions '%s', not '%s'" % (PAGE, WORDS[wait], error, found[wait][3]))
-        if found[wait][4].split(",")[0] not in ("", abort):
-            raise Fault("%s: %s: device_abort answers %s" % (PAGE, WORDS[wait], abort))
-        if calls.get(wait, "") not in found[wait][0]:
-            raise Fault("%s: %s: %s waits for it" % (PAGE, WORDS[wait], calls[wait]))
+    calls = callers(sources)
+    for column, said in ((3, late(sources, waits)), (4, aborted(sources, waits))):
+        for wait, answer in said.items():
+            if found[wait][column] != answer:
+                where = (PAGE, WORDS[wait], COLUMNS[column + 1], answer, found[wait][column])
+                raise Fault("%s: %s: %s: by the definitions '%s', not '%s'" % where)
+    for wait, call in calls.items():
+        if call not in re.findall(r"\w+", found[wait][0]):
+            raise Fault("%s: %s: %s waits for it" % (PAGE, WORDS[wait], call))
+    closing = sources.equations("sv_history/History", "own_acts").get("own_acts config polled (Close (Conn c)) log", "")
+    if "Waited (Left c)" not in closing:
+        raise Fault("crates/sv_history/specs/History.antt: own_acts: a connection that closes doesn't end its call's wait")
     return waits, found
 
 
