@@ -7,13 +7,18 @@ from drawing.sources import agree
 PAGE = "docs/INSTRUMENT.md"
 COLUMNS = ("Waits for", "Call", "Resumes when", "At most", "Timed out", "device_abort")
 WAITS, ADMISSION, RESUMING = "crates/sv_links/src/waiting.rt", "sv_history/Admission", "sv_history/Resuming"
-# What is waited for, by the words of the page.
-WORDS = {"Lock": "the lock", "Input": "input", "Response": "response", "Dial": "dialing"}
+# What is waited for, where the page has another word for it.
+WORDS = {"Lock": "the lock", "Dial": "dialing"}
 WIDE = 1040
 TOP, LEFT, BOX, STEP = 112, 196, (390, 80), 98
 LANES = (("it resumes", "green", 640), ("it times out", "amber", 746), ("device_abort", "red", 852),
          ("connection closes", "soft", 958))
 ENDS = 96
+
+
+def word(wait):
+    """What is waited for, in the words of the page."""
+    return WORDS.get(wait, wait.lower())
 
 
 def numbers(sources):
@@ -72,17 +77,17 @@ def rows(sources):
     """The row of the page for each wait, where they agree with the definitions."""
     waits = sources.variants(WAITS, "Wait")
     page = {row[0]: row[1:] for row in sources.table(PAGE, *COLUMNS)}
-    agree(PAGE, "the table of calls that wait", page, [WORDS.get(wait, wait) for wait in waits], WAITS)
-    found = {wait: page[WORDS[wait]] for wait in waits}
+    agree(PAGE, "the table of calls that wait", page, [word(wait) for wait in waits], WAITS)
+    found = {wait: page[word(wait)] for wait in waits}
     calls = callers(sources)
     for column, said in ((3, late(sources, waits)), (4, aborted(sources, waits))):
         for wait, answer in said.items():
             if found[wait][column] != answer:
-                where = (PAGE, WORDS[wait], COLUMNS[column + 1], answer, found[wait][column])
+                where = (PAGE, word(wait), COLUMNS[column + 1], answer, found[wait][column])
                 raise Fault("%s: %s: %s: by the definitions '%s', not '%s'" % where)
     for wait, call in calls.items():
         if call not in re.findall(r"\w+", found[wait][0]):
-            raise Fault("%s: %s: %s waits for it" % (PAGE, WORDS[wait], call))
+            raise Fault("%s: %s: %s waits for it" % (PAGE, word(wait), call))
     closing = sources.equations("sv_history/History", "own_acts").get("own_acts config polled (Close (Conn c)) log", "")
     if "Waited (Left c)" not in closing:
         raise Fault("crates/sv_history/specs/History.antt: own_acts: a connection that closes doesn't end its call's wait")
@@ -147,7 +152,7 @@ def draw(sources):
     places = {wait: TOP + STEP * place for place, wait in enumerate(waits)}
     lanes(canvas, TOP + STEP * len(waits) - 4)
     for wait in waits:
-        wait_row(canvas, places[wait], WORDS[wait], found[wait])
+        wait_row(canvas, places[wait], word(wait), found[wait])
     ways(canvas, places, start, others)
     y = TOP + STEP * len(waits) + 26
     canvas.way([(LEFT - 22, y), (LEFT + 8, y)], "green")
