@@ -29,6 +29,7 @@ DATA = $(DESTDIR)$(PREFIX)/share/scanvolt
 DOC = $(DESTDIR)$(PREFIX)/share/doc/scanvolt
 DATA_FILES := examples/bench.scenario examples/identity.replay examples/scan.replay
 DOC_FILES := LICENSE CHANGELOG.md docs/INSTRUMENT.md docs/REPLAY.md examples/identity.md examples/scan.md
+PICTURES := $(wildcard docs/pictures/*.svg)
 
 .PHONY: test lint check scanvolt run serve bench echo clients hostile soak python install uninstall dist packages
 
@@ -96,18 +97,20 @@ python:
 
 # Installs the proved program, its man page, the scenario and scripts of the examples, and the licence.
 install: $(PROOF)
-	@install -d -m 755 '$(BIN)' '$(MAN)' '$(DATA)' '$(DOC)'
+	@install -d -m 755 '$(BIN)' '$(MAN)' '$(DATA)' '$(DOC)/pictures'
 	@install -m 755 '$(SERVER)' '$(BIN)/scanvolt'
 	@install -m 644 docs/scanvolt.1 '$(MAN)'
 	@install -m 644 $(DATA_FILES) '$(DATA)'
 	@install -m 644 $(DOC_FILES) '$(DOC)'
+	@install -m 644 $(PICTURES) '$(DOC)/pictures'
 
 # Removes what install put there, with the same PREFIX and DESTDIR.
 uninstall:
 	@rm -f '$(BIN)/scanvolt' '$(MAN)/scanvolt.1'
 	@for name in $(notdir $(DATA_FILES)); do rm -f '$(DATA)/'"$$name"; done
 	@for name in $(notdir $(DOC_FILES)); do rm -f '$(DOC)/'"$$name"; done
-	@for folder in '$(DATA)' '$(DOC)'; do [ ! -d "$$folder" ] || rmdir "$$folder"; done
+	@for name in $(notdir $(PICTURES)); do rm -f '$(DOC)/pictures/'"$$name"; done
+	@for folder in '$(DATA)' '$(DOC)/pictures' '$(DOC)'; do [ ! -d "$$folder" ] || rmdir "$$folder"; done
 
 # Packs the proved program as a .tar.gz and a .deb in dist/, with their checksums.
 dist: $(PROOF)

@@ -1,4 +1,4 @@
-"""What the definitions and the contracts of the crates say, read from the sources: for the tools that count and list them."""
+"""What the crates, their definitions and their contracts say, read from the sources: for the tools that count, list and draw."""
 import glob
 import os
 import re
@@ -25,6 +25,42 @@ def imports(text):
         if match:
             found[match.group(2)] = (match.group(1), None)
     return found
+
+
+def sentence(text):
+    """The first sentence of a text, without the mark that ends it."""
+    text = " ".join(text.split())
+    found = re.match(r"(.*?[^.A-Z])\.(?: |$)", text)
+    return (found.group(1) if found else text.rstrip(".")).strip()
+
+
+def head(path, mark):
+    """The prose at the head of a file, whose lines begin with this mark."""
+    said = []
+    with open(path, encoding="utf-8") as file:
+        for line in file:
+            if not line.startswith(mark) or not line[len(mark):].strip() and said:
+                break
+            said.append(line[len(mark):].strip())
+    return " ".join(said)
+
+
+def crates():
+    """The crates, lowest first, each with what it stands on."""
+    with open("crates.txt", encoding="utf-8") as file:
+        for line in file:
+            if not line.startswith("#") and ":" in line:
+                name, _, below = line.partition(":")
+                yield name, below.split()
+
+
+def told(crate):
+    """The first sentence of a crate."""
+    for name in ("lib.rt", "main.rt"):
+        path = "crates/%s/src/%s" % (crate, name)
+        if os.path.exists(path):
+            return sentence(head(path, "//!"))
+    return ""
 
 
 class Definitions:

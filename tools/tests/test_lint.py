@@ -14,6 +14,7 @@ FILES = {
     "tools/lint-documents": PASSES,
     "tools/lint-numbers": PASSES,
     "tools/book": PASSES,
+    "tools/pictures": PASSES,
     "tools/tests/test_none.py": "",
     "bin/rt": "#!/bin/sh\necho \"${0%/bin/rt}/kit/START.md\"\n",
     "kit/bin/rattle": PASSES,
@@ -54,7 +55,7 @@ class Linting(unittest.TestCase):
         self.assertEqual(self.lint(), (0, ""))
 
     def test_a_part_that_crashes_is_told(self):
-        for name in ("tools/header-rows", "tools/single-bytes", "tools/lint-documents", "tools/lint-numbers", "tools/book"):
+        for name in ("tools/header-rows", "tools/single-bytes", "tools/lint-documents", "tools/lint-numbers"):
             for crash, status in (("exit 1", 1), ("exit 3", 3), ("kill -9 $$", 137)):
                 self.write(name, PASSES + crash + "\n")
                 self.assertEqual(self.lint(), (1, "lint: %s ended with status %d\n" % (name, status)))

@@ -1,0 +1,141 @@
+"""A picture as SVG, which reads on light and on dark: boxes, words and arrows, and how much room words take.
+
+It has a ground of its own, since a page may be dark where the reader's machine is light. No fonts come with it. Room is
+reckoned by a wide font, so that words fit in others too; words without room are a fault.
+"""
+from xml.sax.saxutils import escape, quoteattr
+
+FONTS = "'Segoe UI','Helvetica Neue',Helvetica,Arial,'Liberation Sans','DejaVu Sans',sans-serif"
+FIXED = "'SFMono-Regular',Consolas,'Liberation Mono','DejaVu Sans Mono',monospace"
+# Words, and lines with their heads: on light, and on dark.
+INKS = {
+    "ink": ("#1f2328", "#f0f6fc"),
+    "soft": ("#59636e", "#9da7b3"),
+    "blue": ("#0550ae", "#79c0ff"),
+    "green": ("#116329", "#56d364"),
+    "amber": ("#7d4e00", "#e3b341"),
+    "red": ("#a40e26", "#ff8f88"),
+}
+# Boxes: their ground and their edge, on light, and on dark.
+GROUNDS = {
+    "page": ("#ffffff", "#d0d7de", "#0d1117", "#3d444d"),
+    "plain": ("#f6f8fa", "#8c959f", "#1c2129", "#6e7681"),
+    "room": ("none", "#afb8c1", "none", "#57606a"),
+    "blue": ("#ddf4ff", "#0969da", "#10243e", "#4493f8"),
+    "green": ("#dafbe1", "#1a7f37", "#10281a", "#3fb950"),
+    "amber": ("#fff8c5", "#9a6700", "#2e240d", "#d29922"),
+    "red": ("#ffebe9", "#cf222e", "#361a1c", "#f85149"),
+}
+# How wide characters are, in parts of the size; and all others.
+WIDTHS = ((".,:;'|!ijlIJ ", 0.33), ("frt()[]/-\"*`", 0.42), ("mwMW@%", 0.97), ("ABCDEFGHKLNOPQRSTUVXYZ&+=<>#", 0.73))
+OTHERS, FIXED_WIDTH, BOLD = 0.63, 0.61, 1.1
+# What stays free below.
+MARGIN = 24
+
+
+class Fault(Exception):
+    """Why there is no picture, as one line."""
+
+
+def width(words, size=13, look=""):
+    """How wide words are at most."""
+    if "fixed" in look:
+        return FIXED_WIDTH * size * len(words)
+    whole = sum(next((part for those, part in WIDTHS if one in those), OTHERS) for one in words)
+    return whole * size * (BOLD if "bold" in look else 1)
+
+
+def wrapped(text, room, size=12, look=""):
+    """A text in lines that have this room."""
+    lines = []
+    for word in text.split():
+        longer = lines[-1] + " " + word if lines else word
+        if lines and width(longer, size, look) <= room:
+            lines[-1] = longer
+        else:
+            lines.append(word)
+    return lines
+
+
+def style(dark):
+    """The rules of one of the two."""
+    for name, inks in INKS.items():
+        yield ".%s{fill:%s}.line-%s{stroke:%s}" % (name, inks[dark], name, inks[dark])
+    for name, grounds in GROUNDS.items():
+        yield ".on-%s{fill:%s;stroke:%s}" % ((name,) + grounds[2 * dark:2 * dark + 2])
+
+
+class Canvas:
+    """A picture that is being drawn. It is as high as what is drawn wants."""
+
+    def __init__(self, wide, title, told):
+        self.wide = wide
+        self.lowest = 0
+        self.title = title
+        self.told = told
+        self.parts = []
+
+    def box(self, x, y, wide, high, look="plain", corner=6):
+        if x < 0 or x + wide > self.wide:
+            raise Fault("%s: a box leaves the picture" % self.title)
+        self.lowest = max(self.lowest, y + high)
+        dashes = ' stroke-dasharray="5 4"' if look == "room" else ""
+        self.parts.append('<rect x="%g" y="%g" width="%g" height="%g" rx="%g" class="on-%s"%s/>'
+                          % (x, y, wide, high, corner, look, dashes))
+
+    def words(self, x, y, text, look="ink", size=13, anchor="start", room=None):
+        """Words on a line that ends at y; `look` is an ink, and `bold` or `fixed` where they are."""
+        wide = width(text, size, look)
+        left = {"start": x, "middle": x - wide / 2, "end": x - wide}[anchor]
+        if wide > (room or self.wide) or left < 0 or left + wide > self.wide:
+            raise Fault("%s: there is no room for '%s'" % (self.title, text))
+        self.lowest = max(self.lowest, y)
+        where = "" if anchor == "start" else ' text-anchor="%s"' % anchor
+        self.parts.append('<text x="%g" y="%g" font-size="%g" class="%s"%s>%s</text>' % (x, y, size, look, where, escape(text)))
+
+    def lines(self, x, y, lines, look="ink", size=12, anchor="start", room=None):
+        """Lines of words below each other; where the next would stand."""
+        for line in lines:
+            self.words(x, y, line, look, size, anchor, room)
+            y += round(size * 1.3)
+        return y
+
+    def way(self, points, ink="soft", heads="end", dashed=False):
+        """A line through these points, with a head at its end, at both ends, or none."""
+        path = "M" + "L".join("%g %g" % point for point in points)
+        dashes = ' stroke-dasharray="5 4"' if dashed else ""
+        self.parts.append('<path d="%s" class="way line-%s"%s/>' % (path, ink, dashes))
+        if heads in ("end", "both"):
+            self.head(points[-2], points[-1], ink)
+        if heads == "both":
+            self.head(points[1], points[0], ink)
+
+    def head(self, before, at, ink):
+        """The head of an arrow, along the axis on which it comes."""
+        (x, y), across = at, before[1] == at[1]
+        back = -8 if (at[0] > before[0] if across else at[1] > before[1]) else 8
+        sides = ((x + back, y - 4), (x + back, y + 4)) if across else ((x - 4, y + back), (x + 4, y + back))
+        self.parts.append('<path d="M%g %gL%g %gL%g %gZ" class="%s"/>' % (at + sides[0] + sides[1] + (ink,)))
+
+    def dot(self, x, y, ink="soft", radius=5):
+        self.parts.append('<circle cx="%g" cy="%g" r="%g" class="%s"/>' % (x, y, radius, ink))
+
+    def heading(self, further):
+        """The title in the picture, with what stands behind it."""
+        self.words(24, 36, self.title, "ink bold", 18)
+        self.words(24 + width(self.title, 18, "bold") + 12, 36, further, "soft", 13)
+
+    def svg(self):
+        """The picture as a file."""
+        wide, high = self.wide, self.lowest + MARGIN
+        rules = "".join(style(0)) + "@media (prefers-color-scheme:dark){" + "".join(style(1)) + "}"
+        fonts = "text{font-family:%s}.fixed{font-family:%s}.bold{font-weight:bold}" % (FONTS, FIXED)
+        fixed = fonts + ".way{fill:none;stroke-width:1.5}"
+        head = '<svg xmlns="http://www.w3.org/2000/svg" viewBox="0 0 %g %g" width="%g" height="%g" role="img" aria-label=%s>' % (
+            wide, high, wide, high, quoteattr(self.title))
+        return "\n".join((
+            head, "<!-- Written by tools/pictures from the sources and documents; change those and run it. -->",
+            "<title>%s</title>" % escape(self.title), "<desc>%s</desc>" % escape(self.told),
+            "<style>%s</style>" % (fixed + rules),
+            '<rect x="0.5" y="0.5" width="%g" height="%g" rx="10" class="on-page"/>' % (wide - 1, high - 1),
+            *self.parts, "</svg>")) + "\n"

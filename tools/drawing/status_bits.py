@@ -1,0 +1,110 @@
+"""The bits of the status model: their names from docs/INSTRUMENT.md, their numbers and what they sum up from the definitions."""
+import re
+
+from drawing.canvas import Fault
+from drawing.sources import agree
+
+PAGE = "docs/INSTRUMENT.md"
+COLUMNS = ("Register", "Bit", "Weight", "Name", "Stands")
+REGISTERS = "crates/sv_status/src/register_name.rt"
+# The registers of the code, and what standard events and the status byte are, by the words of the page.
+WORDS = {"Operation": "operation", "Questionable": "questionable", "Limit": "limits"}
+STANDARD, BYTE = "standard events", "status byte"
+# What the status byte sums up, by the name that its definition gives it; the summary of a register is `Summary NAME`.
+SUMMED = {"StandardSummary": STANDARD, "response": "output queue", "entries": "error queue"}
+
+
+def terms(text):
+    """The terms of a sum, at the outermost level of parentheses."""
+    depth, found = 0, [""]
+    for one in text:
+        depth += (one == "(") - (one == ")")
+        if one == "+" and depth == 0:
+            found.append("")
+        else:
+            found[-1] += one
+    return [term.strip() for term in found]
+
+
+def word(sources, place, text):
+    """The bits of a condition word, each with what it is the value of: a word is a sum of bits and of other words."""
+    bits = {}
+    for term in terms(text):
+        bit = re.match(r"(?:scan\.)?bit (\d+) (.*)", term)
+        other = re.match(r"(scan\.)?(\w+) ", term)
+        if bit:
+            bits[int(bit.group(1))] = bit.group(2)
+        elif other:
+            there = "sv_scan/Condition" if other.group(1) else place
+            for right in sources.equations(there, other.group(2)).values():
+                bits.update(word(sources, there, right))
+        else:
+            raise Fault("crates/%s: '%s' is no bit and no word" % (place, term))
+    return bits
+
+
+def conditions(sources):
+    """The bits of each register's condition, by the words of the page."""
+    found = {}
+    equations = sources.equations("sv_layers/Condition", "condition")
+    for name in sources.variants(REGISTERS, "RegisterName"):
+        right = equations.get("condition %s log" % name)
+        if right is None or name not in WORDS:
+            raise Fault("%s: there is no place for the register %s" % (REGISTERS, name))
+        found[WORDS[name]] = word(sources, "sv_layers/Condition", right)
+    return found
+
+
+def standard_events(sources):
+    """The numbers of the standard events, each with the class of errors that it is of, if any."""
+    here = {int(bit): None for bit in re.findall(r"(?:\(|= )k ≡ (\d+)", sources.definition("sv_layers/Standard", "Occurs"))}
+    there = sources.definition("sv_errors/Code", "class_event")
+    here.update((int(bit), "-%sxx" % kind) for kind, bit in re.findall(r"class == (\d+) then 2 \^ (\d+)", there))
+    return here
+
+
+def status_byte(sources):
+    """The bits of the status byte, each with what it sums up; bit 6 sums up all others."""
+    found = {}
+    text = sources.definition("sv_layers/StatusByte", "SummaryBit")
+    for bit, said in re.findall(r"\(k ≡ (\d+)\) × (.*?log)", text):
+        name = re.search(r"Summary (%s)|(StandardSummary|response|entries)" % "|".join(WORDS), said)
+        if not name:
+            raise Fault("crates/sv_layers/specs/StatusByte.antt: it isn't known what bit %s sums up" % bit)
+        found[int(bit)] = WORDS[name.group(1)] if name.group(1) else SUMMED[name.group(2)]
+    for name in ("PolledBit", "MasterBit"):
+        found.update((int(bit), None) for bit in re.findall(r"k ≡ (\d+)", sources.definition("sv_layers/StatusByte", name)))
+    return found
+
+
+def named(sources):
+    """The bits of each register as the page has them: their name and when they stand."""
+    found = {}
+    for register, bit, weight, name, stands in sources.table(PAGE, *COLUMNS):
+        if int(weight) != 2 ** int(bit):
+            raise Fault("%s: %s: the weight of bit %s isn't %s" % (PAGE, register, bit, weight))
+        found.setdefault(register, {})[int(bit)] = (name, stands)
+    return found
+
+
+def polling(sources):
+    """What the page says first of requests and polls, a sentence each."""
+    found = re.search(r"\n- \*\*Polling\.\*\* (.*?)\n- ", sources.text(PAGE), flags=re.S)
+    if not found:
+        raise Fault("%s: it has no item 'Polling.'" % PAGE)
+    return re.split(r"(?<=\.) ", " ".join(found.group(1).replace("`", "").split()))[:2]
+
+
+def read(sources):
+    """The bits as the page names them, what the status byte sums up, and which bit of a condition sums up a register."""
+    names, standard, byte, words = named(sources), standard_events(sources), status_byte(sources), conditions(sources)
+    numbers = {**words, STANDARD: standard, BYTE: byte}
+    agree(PAGE, "the table of bits", names, numbers, "the sources")
+    for register, bits in numbers.items():
+        agree(PAGE, register, ["bit %d" % bit for bit in names[register]], ["bit %d" % bit for bit in bits], "the sources")
+    for bit, kind in standard.items():
+        if kind and kind not in names[STANDARD][bit][1]:
+            raise Fault("%s: standard events: bit %d doesn't say %s" % (PAGE, bit, kind))
+    nested = {WORDS[found.group(1).capitalize()]: (register, bit) for register, bits in words.items()
+              for bit, value in bits.items() for found in [re.search(r"(\w+)_summary ", value)] if found}
+    return names, byte, nested

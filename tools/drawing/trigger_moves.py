@@ -1,0 +1,129 @@
+"""How the trigger state of sv_scan moves, computed from its definitions: the state after so many triggers and samples, and
+which acts count in which state."""
+import itertools
+import re
+
+from drawing.canvas import Fault
+
+STATES, ACTS = "crates/sv_scan/src/setting.rt", "crates/sv_scan/src/acts.rt"
+SCAN, COUNTED, CONDITION = "sv_scan/Scan", "sv_scan/Counted", "sv_scan/Condition"
+NUMBERS = ("triggers", "samples", "channels", "scans")
+
+
+def product(text, values):
+    """The value of a product of named numbers."""
+    whole = 1
+    for name in text.split("*"):
+        if name.strip() not in NUMBERS:
+            raise Fault("crates/sv_scan/specs/Scan.antt: state_by: '%s' can't be read" % text.strip())
+        whole *= values[name.strip()]
+    return whole
+
+
+def chain(sources):
+    """The tests of `state_by` in their order, each with its state, of which the last always holds."""
+    left, right = next(iter(sources.equations(SCAN, "state_by").items()))
+    if tuple(left.split()[1:]) != NUMBERS:
+        raise Fault("crates/sv_scan/specs/Scan.antt: state_by takes other numbers")
+    *tested, last = right.split(" else ")
+    found = [re.fullmatch(r"if (.*) == (.*) then (\w+)", " ".join(one.split())) for one in tested]
+    if not all(found):
+        raise Fault("crates/sv_scan/specs/Scan.antt: state_by: a test can't be read")
+    return [one.groups() for one in found] + [("samples", "samples", last.strip())]
+
+
+def without(sources):
+    """The state without a measurement."""
+    return re.search(r"\(before_init log\) (\w+)$", sources.definition(SCAN, "state")).group(1)
+
+
+def state_of(tests, values):
+    """The state at these numbers."""
+    return next(state for one, other, state in tests if product(one, values) == product(other, values))
+
+
+def holding(sources, text, states):
+    """The states in which a test of the state holds, as `is_idle (state log)`."""
+    found = re.search(r"is_(\w+) \(state log\)", text)
+    if not found:
+        return set(states)
+    only = set(re.findall(r"(\w+) ↦ true", sources.definition(COUNTED, "is_" + found.group(1))))
+    return set(states) - only if "not (is_" in text else only
+
+
+def guards(sources, states, acts):
+    """For each act the states in which it counts, and the error of one that is refused, if any."""
+    rules = sources.equations(COUNTED, "counts")
+    found = {}
+    for act in acts:
+        own = [right for left, right in rules.items() if re.match(r"counts log \(?%s\b" % act, left)]
+        right = own[0] if own else rules["counts log _"]
+        fault = re.match(r"is_none \((\w+_fault)", right)
+        if fault:
+            right = sources.definition(COUNTED, fault.group(1)).split("\n", 1)[1]
+        code = re.search(r"Some (\w+)", right)
+        found[act] = (holding(sources, right, states), code and code.group(1))
+    return found
+
+
+def kinds(sources):
+    """The act that begins a measurement, those that end one, and those that are counted as triggers and as samples."""
+    begins = re.findall(r"(\w+) ∷ before ↦ Some", sources.definition(SCAN, "before_init"))
+    ends = set(re.findall(r"(\w+) ∷ log ↦ true", sources.definition(SCAN, "starts_or_ends"))) - set(begins)
+    counted = [re.search(r"elim \[ (\w+)", sources.definition(SCAN, name)).group(1) for name in ("triggers", "samples")]
+    return begins[0], ends, counted
+
+
+def after(place, act, kind):
+    """How many triggers and samples a measurement has after an act; none where there is none."""
+    begins, ends, (trigger, sample) = kind
+    if act in ends:
+        return None
+    if act == begins:
+        return (0, 0)
+    return place and (place[0] + (act == trigger), place[1] + (act == sample))
+
+
+def moves_in(channels, scans, guarded, kind, tests, rest):
+    """Each move from this state at rest on, in a measurement of so many channels and scans, as (state, act, state)."""
+    def state(place):
+        return state_of(tests, dict(zip(NUMBERS, place + (channels, scans)))) if place else rest
+    found, seen, open_ones = set(), {None}, [None]
+    while open_ones:
+        place = open_ones.pop()
+        for act in [kind[0], *kind[1], *kind[2]]:
+            if state(place) in guarded[act][0]:
+                new = after(place, act, kind)
+                found.add((state(place), act, state(new)))
+                if new not in seen and max(new) <= channels * scans + 1:
+                    seen.add(new)
+                    open_ones.append(new)
+    return found
+
+
+def moves(sources):
+    """Each move there is, in measurements of one or two channels and scans."""
+    states, acts = sources.variants(STATES, "State"), sources.variants(ACTS, "ScanAct")
+    known = guards(sources, states, acts), kinds(sources), chain(sources), without(sources)
+    sizes = itertools.product((1, 2), repeat=2)
+    return {move for channels, scans in sizes for move in moves_in(channels, scans, *known)}
+
+
+def refused(sources):
+    """Each act that is refused in some state, with its error."""
+    states = sources.variants(STATES, "State")
+    found = re.findall(r"entry (\w+) = \((\d+), codes \"(.*?)\"\)", sources.definition("sv_errors/Code", "entry"))
+    entries = {name: "-%s,\"%s\"" % (number, text) for name, number, text in found}
+    for act, (good, code) in guards(sources, states, sources.variants(ACTS, "ScanAct")).items():
+        if code and good != set(states):
+            yield act, [state for state in states if state not in good], entries[code]
+
+
+def conditions(sources):
+    """The operation condition in each state, as a number."""
+    states = sources.variants(STATES, "State")
+    found = dict.fromkeys(states, 0)
+    for bit, said in re.findall(r"bit (\d+) (\(.*?\(state log\)+)", sources.definition(CONDITION, "operation")):
+        for state in holding(sources, said, states):
+            found[state] += 2 ** int(bit)
+    return found

@@ -1,0 +1,126 @@
+"""The way of a call through the crates, from the socket to the instrument and back."""
+import re
+
+from specification import crates, told
+
+from drawing.canvas import Canvas, Fault, wrapped
+from drawing.sources import agree
+
+PAGE = "docs/ARCHITECTURE.md"
+COLUMNS = ("Crate", "Called by", "Comes in", "Goes back")
+BESIDE = "\nBeside the way: "
+WIDE, TOP = 1040, 58
+# The two columns, how far a crate stands to the right of its caller, and how far below the one before.
+LEFT, RIGHT, COLUMN, INDENT, GAP = 24, 536, 480, 22, 12
+# The crate whose part of the tree has the right column, and the one that joins both.
+INSTRUMENT, SERVER = "sv_instrument", "sv_server"
+
+
+def below(name, stands_on):
+    """All crates that one stands on, however far below."""
+    found, open_ones = set(), [name]
+    while open_ones:
+        for other in stands_on.get(open_ones.pop(), ()):
+            if other in stands_on and other not in found:
+                found.add(other)
+                open_ones.append(other)
+    return found
+
+
+def read(sources):
+    """The rows of the page by crate, each with its callers, where they agree with crates.txt; and the crates beside the way."""
+    stands_on = dict(crates())
+    rows = {crate: ([name.strip() for name in by.split(",")], comes, goes)
+            for crate, by, comes, goes in sources.table(PAGE, *COLUMNS)}
+    first = next(iter(rows))
+    for place, (crate, (callers, _, _)) in enumerate(rows.items()):
+        for caller in callers if place else ():
+            if crate not in stands_on.get(caller, ()):
+                raise Fault("%s: by crates.txt %s doesn't stand on %s" % (PAGE, caller, crate))
+        if place and callers[0] not in list(rows)[:place]:
+            raise Fault("%s: %s stands above its caller" % (PAGE, crate))
+    line = re.search(BESIDE + r"(.*?)\.\n", sources.text(PAGE), flags=re.S)
+    if not line:
+        raise Fault("%s: it has no line 'Beside the way:'" % PAGE)
+    beside = re.findall(r"`(\w+)`", line.group(1))
+    agree(PAGE, "the way of a call", [*rows, *beside], {first, *below(first, stands_on)}, "crates.txt")
+    return rows, beside
+
+
+def tree(rows, top, depth=0):
+    """A crate and those that it calls, in the order of the page, each with its depth."""
+    yield top, depth
+    for crate, (callers, _, _) in rows.items():
+        if callers[0] == top:
+            yield from tree(rows, crate, depth + 1)
+
+
+def crate_box(canvas, x, y, wide, crate, row, look):
+    """A crate with what comes in, what goes back, and its first sentence; how high it is."""
+    lines = wrapped(told(crate), wide - 24, 11)
+    high = 46 + 15 * len(lines)
+    canvas.box(x, y, wide, high, look)
+    canvas.words(x + 12, y + 20, crate, "ink bold", 13)
+    half = (wide - 24) / 2
+    for at, ink, text in ((x + 12, "blue", row[1]), (x + 12 + half, "green", row[2])):
+        ends = [(at, y + 34), (at + 18, y + 34)]
+        canvas.way(ends if ink == "blue" else ends[::-1], ink)
+        canvas.words(at + 24, y + 38, text, ink, 12, room=half - 28)
+    canvas.lines(x + 12, y + 55, lines, "soft", 11, room=wide - 16)
+    return high
+
+
+def column(canvas, x, y, nodes, rows, looks):
+    """Crates below each other; the place and size of each."""
+    places = {}
+    for crate, depth in nodes:
+        left = x + INDENT * depth
+        wide = x + COLUMN - left
+        high = crate_box(canvas, left, y, wide, crate, rows[crate], looks(crate))
+        places[crate] = (left, y, wide, high)
+        y += high + GAP
+    return places
+
+
+def calls(canvas, places, rows):
+    """The ways between crates and those that they call."""
+    for crate, (callers, _, _) in rows.items():
+        x, y, wide, high = places[crate]
+        for place, caller in enumerate(callers):
+            if caller not in places:
+                continue
+            from_x, from_y, from_wide, from_high = places[caller]
+            if place or caller == SERVER and crate == INSTRUMENT:
+                near = LEFT + COLUMN
+                turn = near + (12 if crate == INSTRUMENT else 10)
+                to = x if crate == INSTRUMENT else x + wide
+                start, end = (from_x + from_wide, from_y + from_high / 2), (to, y + high / 2)
+                canvas.way([start, (turn, start[1]), (turn, end[1]), end], "soft", "both")
+            else:
+                rail = from_x + INDENT / 2
+                canvas.way([(rail, from_y + from_high), (rail, y + high / 2), (x, y + high / 2)], "soft", "both")
+
+
+def draw(sources):
+    rows, beside = read(sources)
+    first = next(iter(rows))
+    inside = [crate for crate, _ in tree(rows, INSTRUMENT)]
+    left = [one for one in tree(rows, first) if one[0] not in inside]
+    trunk = [crate for crate, (callers, _, _) in rows.items() if crate in (first, SERVER) or crate in rows[SERVER][0]]
+
+    def looks(crate):
+        return "blue" if crate in inside else "plain" if crate in trunk else "amber"
+
+    canvas = Canvas(WIDE, "The way of a call", "A call goes from a socket through these crates to the instrument, and its reply"
+                    " goes back.")
+    canvas.heading("what comes in, what goes back, and what each crate is")
+    canvas.box(LEFT, TOP, COLUMN, 34, "room")
+    canvas.words(LEFT + 12, TOP + 22, rows[first][0][0], "ink bold", 13)
+    places = column(canvas, LEFT, TOP + 34 + 26, left, rows, looks)
+    places.update(column(canvas, RIGHT, TOP, tree(rows, INSTRUMENT), rows, looks))
+    rail = LEFT + INDENT / 2
+    canvas.way([(rail, TOP + 34), (rail, places[first][1])], "soft", "both")
+    calls(canvas, places, rows)
+    end = max(places[crate][1] + places[crate][3] for crate, _ in left)
+    canvas.lines(LEFT, end + 30, wrapped("Beside the way: " + ", ".join(beside), COLUMN), "soft", 12)
+    return canvas.svg()
