@@ -55,7 +55,8 @@ class Linting(unittest.TestCase):
         self.assertEqual(self.lint(), (0, ""))
 
     def test_a_part_that_crashes_is_told(self):
-        for name in ("tools/header-rows", "tools/single-bytes", "tools/lint-documents", "tools/lint-numbers"):
+        for name in ("tools/header-rows", "tools/single-bytes", "tools/lint-documents", "tools/lint-numbers", "tools/book",
+                     "tools/pictures"):
             for crash, status in (("exit 1", 1), ("exit 3", 3), ("kill -9 $$", 137)):
                 self.write(name, PASSES + crash + "\n")
                 self.assertEqual(self.lint(), (1, "lint: %s ended with status %d\n" % (name, status)))
