@@ -16,7 +16,7 @@ use Rattle.sv_serve.specs.declared.wire.Answer.{Answer}
 use Rattle.sv_serve.specs.declared.wire.Answer.TheVariants.{Got, Pending, Failed}
 use Rattle.sv_serve.specs.Heard.{Heard, WasClosed}
 use Rattle.sv_serve.specs.DriverView.{DriverView, ForEach}
-use Rattle.sv_serve.specs.Steps.{Hears, Given, Applies, Remembers, called_of, Opens, Accepts, ClosesChannelOn, Closes, ClosesIf, Comes, Drops, ProbesIf, ReadsFrom, RefusesIf, EndsTurn, TurnsIf, Turns, KeepsCall, CancelsUnwanted, ConnectResult, PollResult, CallsFor, Dials, EndsWrite, WritesTo, EndsIf, Ends}
+use Rattle.sv_serve.specs.Steps.{Hears, Given, IsApplied, Remembers, called_of, Opens, Accepts, ClosesChannelOn, Closes, ClosesIf, Comes, Drops, ProbesIf, ReadsFrom, RefusesIf, EndsTurn, TurnsIf, Turns, KeepsCall, CancelsUnwanted, ConnectResult, PollResult, CallsFor, Dials, EndsWrite, WritesTo, EndsIf, Ends}
 use Rattle.sv_serve.specs.Timed.{is_timed}
 
 -- what is to come, how many milliseconds passed, and what time brought, is as before
@@ -58,7 +58,7 @@ given_idles event (Ok what) config a b e k (log, was, answers, is) = (
 )
 
 happens_idles : {W : Type 0} (event : PlainEvent) (config : Config) (a b : DriverView W) → is_timed event ≡ false → is_tick event ≡ false
-    → Applies event config a b → Idles a b
+    → IsApplied event config a b → Idles a b
 happens_idles event config a b e k given = given_idles event (Ok Done) config a b e k given
 
 opens_idles : {W : Type 0} (role : Role) (number : Option ℕ) (answer : Answer ⊤) (config : Config) (a b : DriverView W)

@@ -19,7 +19,7 @@ use Rattle.sv_laws.specs.Laws.{Suits}
 use Rattle.sv_laws.proofs.Brought.{brings, tells}
 use Rattle.sv_serve.specs.Heard.{Heard, WasAccepted, WasRead, WasProbed, WasWritten, WasClosed}
 use Rattle.sv_serve.specs.DriverView.{DriverView, ForEach}
-use Rattle.sv_serve.specs.Steps.{Given, Applies, called_of, ClosesChannelOn, ClosesChannel}
+use Rattle.sv_serve.specs.Steps.{Given, IsApplied, called_of, ClosesChannelOn, ClosesChannel}
 use Rattle.sv_serve.specs.Sweep.{Applies}
 use Rattle.sv_serve.specs.Served.{Through, event_of, is_outer}
 use Rattle.sv_serve.specs.Carried.{ClosesAtOnce}
@@ -228,7 +228,7 @@ applied config event before after told log was tells_so suits (result, (also, is
     is ∙ ap (λ (r : Result Did Refused). record before { history = history_after event r before.history })
     (suited config event before also result is_log answers (log, told, was, tells_so, suits))
 
-pub happened : {W : Type 0} (event : PlainEvent) (config : Config) (before after : DriverView W) → Applies event config before after
+pub happened : {W : Type 0} (event : PlainEvent) (config : Config) (before after : DriverView W) → IsApplied event config before after
     → after ≡ record before { history = event ∷ before.history }
 happened event config before after (log, was, answers, is) = is
 
@@ -293,7 +293,7 @@ abbrev pub answer_keeps : {W : Type 0} (hears : W → Heard → W → Type 0) (M
     → Type 0) (config : Config) (heard : Heard) (may : May (about heard)) (event : PlainEvent) (wire : W)
     (before between after : DriverView W) (told : List ChannelAct) (log : List Act) → IsLogOf config before.history log
     → HearsOf (device_acts log) told → hears before.wire heard wire
-    → between.wire ≡ wire → between.history ≡ before.history → Applies event config between after
+    → between.wire ≡ wire → between.history ≡ before.history → IsApplied event config between after
     → is_outer event ≡ true → event_of heard ≡ event ∷ [] → IsCalm heard → Fits config before.history heard → IsNoHang heard → ((c : ℕ)
     → heard ≡ WasClosed (Conn c) → ⊥)
     → ((trace : List Heard) (c : ℕ) → Both c (of c log) told trace

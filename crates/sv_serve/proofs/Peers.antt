@@ -28,7 +28,7 @@ use Rattle.sv_serve.specs.declared.wire.Answer.{Answer}
 use Rattle.sv_serve.specs.declared.wire.Answer.TheVariants.{Got, Pending, Failed}
 use Rattle.sv_serve.specs.Heard.{Heard, WasDialed, PeerAnswered, WasClosed}
 use Rattle.sv_serve.specs.DriverView.{DriverView, ◌then◌}
-use Rattle.sv_serve.specs.Steps.{Applies, called_of, is_wanted, KeepsCall, CancelsUnwanted, ConnectResult, PollResult, CallsFor, Dials}
+use Rattle.sv_serve.specs.Steps.{IsApplied, called_of, is_wanted, KeepsCall, CancelsUnwanted, ConnectResult, PollResult, CallsFor, Dials}
 use Rattle.sv_serve.specs.Sweep.{PlaysOne, Plays, Counts, TicksOnce, Passes}
 use Rattle.sv_serve.specs.Served.{Through, event_of, is_outer}
 use Rattle.sv_serve.specs.Carried.{begins, read, taken}
@@ -84,7 +84,7 @@ pub dialed_keeps : {W : Type 0} (hears : W → Heard → W → Type 0) (May : Su
     → ((d : ℕ) → heard ≡ WasClosed (Conn d) → ⊥)
     → ((told : List ChannelAct) (trace : List Heard) (d : ℕ) → Both d (of d log) told trace
     → Both d (brings d (Dialed c ok) ++ of d log) (tells (Dialed c ok) log ++ told) (heard ∷ trace))
-    → Applies (Dialed c ok) config between after → Keeps hears May config before after
+    → IsApplied (Dialed c ok) config between after → Keeps hears May config before after
 dialed_keeps hears May config c may ok heard mine newer all_may before between after log was through silent calm unwritten none hung adds
     ends unhung same event itself stays step applied =
     let told = some_told (device_acts log) in

@@ -5,7 +5,7 @@ use Rattle.std.specs.List.{concat}
 use Rattle.std.proofs.lemmas.List.Concat.{flat_map-append, concat_is}
 use Rattle.std.proofs.lemmas.Bool.{ltb-true, ltb-false}
 use Rattle.sv_links.specs.declared.request.Peer.{Peer}
-use Rattle.sv_links.specs.Channels.{ChannelAct, ChannelOpened, ChannelTaken, is_channel_open, taken as channel_taken, calls, untaken, waiting as channel_waiting}
+use Rattle.sv_links.specs.Channels.{ChannelAct, ChannelOpened, ChannelTaken, is_channel_open, taken as channel_taken, calls, untaken as untaken_calls, waiting as channel_waiting}
 use Rattle.std.proofs.lemmas.Bool.{cases_Bool}
 use Rattle.std.proofs.lemmas.List.{drop-append-le, take-append-drop, drop-drop, length-drop, length-append}
 use Rattle.sv_history.specs.declared.event.Config.{Config}
@@ -91,7 +91,7 @@ drop_past count xs ys h =
     ap (λ (n : ℕ). drop n (xs ++ ys)) (sym both) ∙ sym (drop-drop (count - length xs) (length xs) (xs ++ ys))
     ∙ ap (drop (count - length xs)) (drop_at xs ys (length xs) refl)
 
-pub left_bytes : (count : ℕ) (calls : List (List ℕ)) → concat (untaken count calls) ≡ drop count (concat calls)
+pub left_bytes : (count : ℕ) (calls : List (List ℕ)) → concat (untaken_calls count calls) ≡ drop count (concat calls)
 left_bytes zero [] = refl
 left_bytes (suc count) [] = refl
 left_bytes count (call ∷ calls) = elim (cases_Bool (ltb count (length call))) [

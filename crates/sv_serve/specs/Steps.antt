@@ -29,8 +29,8 @@ Given event result config before after = (log : List Act) × IsLogOf config befo
     × (after ≡ record before { history = history_after event result before.history })
 
 -- and it was done
-abbrev pub Applies : {W : Type 0} → PlainEvent → Config → DriverView W → DriverView W → Type 0
-Applies event = Given event (Ok Done)
+abbrev pub IsApplied : {W : Type 0} → PlainEvent → Config → DriverView W → DriverView W → Type 0
+IsApplied event = Given event (Ok Done)
 
 -- who was called for the interrupt channel of a connection
 abbrev pub called_of : {W : Type 0} → ℕ → DriverView W → Option Dial
@@ -41,7 +41,7 @@ Remembers c dial config before after = after ≡ record before { called = slice_
 
 -- A connection comes, for a purpose, and gets the lowest free number; where none is free, it is dropped.
 abbrev pub Opens : {W : Type 0} → Role → Option ℕ → Answer ⊤ → Config → DriverView W → DriverView W → Type 0
-Opens role (Some c) (Got all) = Applies (Open c role)
+Opens role (Some c) (Got all) = IsApplied (Open c role)
 Opens role number answer = Unchanged
 
 abbrev pub Accepts : {W : Type 0} → (W → Heard → W → Type 0) → Role → Config → DriverView W → DriverView W → Type 0
@@ -58,7 +58,7 @@ ClosesChannel hears c config before after = ClosesChannelOn hears c (called_of c
 
 -- a connection is closed, with its interrupt channel
 abbrev pub Closes : {W : Type 0} → (W → Heard → W → Type 0) → ℕ → Config → DriverView W → DriverView W → Type 0
-Closes hears c = Hears hears (WasClosed (Conn c)) then ClosesChannel hears c then Applies (Close (Conn c))
+Closes hears c = Hears hears (WasClosed (Conn c)) then ClosesChannel hears c then IsApplied (Close (Conn c))
 
 -- if this is so
 abbrev pub ClosesIf : {W : Type 0} → (W → Heard → W → Type 0) → ℕ → Bool → Config → DriverView W → DriverView W → Type 0
@@ -67,7 +67,7 @@ ClosesIf hears c false = Unchanged
 
 -- What was read on a connection comes to the server; where reading failed, the connection is closed.
 abbrev pub Comes : {W : Type 0} → (W → Heard → W → Type 0) → ℕ → Answer (List ℕ) → Config → DriverView W → DriverView W → Type 0
-Comes hears c (Got bytes) = Applies (Bytes c bytes)
+Comes hears c (Got bytes) = IsApplied (Bytes c bytes)
 Comes hears c Pending = Unchanged
 Comes hears c Failed = Closes hears c
 
@@ -101,7 +101,7 @@ ReadsFrom hears c config before after = (room : ℕ) × HasRoom c config before 
 
 -- a call is answered that there is no room for it, if this is so
 abbrev pub RefusesIf : {W : Type 0} → ℕ → Bool → Config → DriverView W → DriverView W → Type 0
-RefusesIf c true = Applies (Refuse c)
+RefusesIf c true = IsApplied (Refuse c)
 RefusesIf c false = Unchanged
 
 -- A call that finds no memory is refused: it is answered so, and its connection stays.
@@ -138,15 +138,15 @@ LetsGo hears c config before after = CancelsUnwanted hears c (called_of c before
 
 -- what comes of calling a peer
 abbrev pub ConnectResult : {W : Type 0} → ℕ → Dial → Answer ⊤ → Config → DriverView W → DriverView W → Type 0
-ConnectResult c dial (Got all) = Remembers c (Some dial) then Applies (Dialed c true)
+ConnectResult c dial (Got all) = Remembers c (Some dial) then IsApplied (Dialed c true)
 ConnectResult c dial Pending = Remembers c (Some dial)
-ConnectResult c dial Failed = Applies (Dialed c false)
+ConnectResult c dial Failed = IsApplied (Dialed c false)
 
 -- and of waiting for one that was called
 abbrev pub PollResult : {W : Type 0} → (W → Heard → W → Type 0) → ℕ → Answer ⊤ → Config → DriverView W → DriverView W → Type 0
-PollResult hears c (Got all) = Applies (Dialed c true)
+PollResult hears c (Got all) = IsApplied (Dialed c true)
 PollResult hears c Pending = Unchanged
-PollResult hears c Failed = ClosesChannel hears c then Applies (Dialed c false)
+PollResult hears c Failed = ClosesChannel hears c then IsApplied (Dialed c false)
 
 abbrev pub CallsFor : {W : Type 0} → (W → Heard → W → Type 0) → ℕ → Option Dial → Option Dial → Config → DriverView W → DriverView W
     → Type 0
@@ -167,11 +167,11 @@ Dials hears c = LetsGo hears c then Calls hears c
 -- a connection is closed, or an interrupt channel alone
 abbrev pub BreaksOff : {W : Type 0} → (W → Heard → W → Type 0) → Port → Config → DriverView W → DriverView W → Type 0
 BreaksOff hears (Conn c) = Closes hears c
-BreaksOff hears (Intr c) = ClosesChannel hears c then Applies (Close (Intr c))
+BreaksOff hears (Intr c) = ClosesChannel hears c then IsApplied (Close (Intr c))
 
 -- What was taken of the bytes that waited leaves the server; where writing failed, the port is closed.
 abbrev pub EndsWrite : {W : Type 0} → (W → Heard → W → Type 0) → Port → Answer ℕ → Config → DriverView W → DriverView W → Type 0
-EndsWrite hears port (Got n) = Applies (Took port n)
+EndsWrite hears port (Got n) = IsApplied (Took port n)
 EndsWrite hears port Pending = Unchanged
 EndsWrite hears port Failed = BreaksOff hears port
 

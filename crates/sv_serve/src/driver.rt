@@ -6,7 +6,7 @@ ghost use Rattle.sv_history.specs.Event.{PlainEvent, plain};
 ghost use Rattle.sv_server.specs.Server.State.{StandsFor};
 ghost use Rattle.sv_serve.specs.Asked.{NoneUsed};
 ghost use Rattle.sv_serve.specs.DriverView.{Steps, driver_view};
-ghost use Rattle.sv_serve.specs.Steps.{Given, Applies, called_of};
+ghost use Rattle.sv_serve.specs.Steps.{Given, IsApplied, called_of};
 ghost use Rattle.sv_serve.specs.Premises.{From, IsSuited};
 
 use crate::wire::Wire;
@@ -124,7 +124,7 @@ impl<W: Wire + Drop, A: Allocator> Driver<W, A> {
 
     /// Gives an event to the server that suits what it answers when it is asked: it is done.
     pub(crate) fn apply(&mut self, event: Event<'_>)
-        ensures { From (IsSuited (plain event.entry)) (Applies (plain event.entry))
+        ensures { From (IsSuited (plain event.entry)) (IsApplied (plain event.entry))
             self.old self.new }
     {
         let _ = self.server.apply(event);
