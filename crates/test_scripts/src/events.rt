@@ -139,7 +139,7 @@ fn step<W: Write + Drop>(
         "memory" => ration(heap, rest, writer),
         "ask" => ask(server, conn_of(rest)?, writer),
         "show" => show(server, rest, writer),
-        "used" => writeln!(writer, "used {}", server.used()),
+        "used" => writeln!(writer, "used {}", server.connections_used()),
         "took" => {
             let (port, count) = rest.split_once(' ').unwrap_or((rest, ""));
             let port = port_of(port)?;
