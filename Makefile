@@ -31,19 +31,23 @@ DATA_FILES := examples/bench.scenario examples/identity.replay examples/scan.rep
 DOC_FILES := LICENSE CHANGELOG.md docs/INSTRUMENT.md docs/REPLAY.md examples/identity.md examples/scan.md
 PICTURES := $(wildcard docs/pictures/*.svg)
 
-.PHONY: test lint check scanvolt run serve bench echo clients hostile soak python install uninstall dist packages
+.PHONY: test lint rows check scanvolt run serve bench echo clients hostile soak python install uninstall dist packages
 
 # What a proof doesn't see (tools/lint); then proves what changed and the crates above it from nothing
 # (every crate and its tests by `rt ci --anew`), tries the must-fail edits in the same way, and runs
 # the programs and the tests. Last, the tests of the Python package that take the standard library alone,
-# over the proved program: they print nothing where they pass.
-test: lint
-	@$(RT) ci
+# over the proved program: they print nothing where they pass. Rows that differ are told by tools/row-diff.
+test: lint rows
+	@$(RT) ci || { status=$$?; tools/row-diff || :; exit $$status; }
 	@RT='$(RT)' python/proved
 
 # Tells what falls short in layout, length and edits; it takes seconds.
 lint:
 	@tools/lint
+
+# Makes stdin and stdout of the test crates from the text of their rows.
+rows:
+	@tools/rows
 
 # Proves every crate over what earlier checks kept, lowest first.
 check:

@@ -5,8 +5,8 @@ import unittest
 
 from scanvolt.vxi11 import (AuthenticationRefused, BadReply, GarbageArguments, ProcedureUnavailable,
                             ProgramMismatch, ProgramUnavailable, Reader, Records, RpcMismatch, SystemFault,
-                            XdrError, calls, encode_call, encode_reply, mark, opaque, read_call, read_reply,
-                            record, words)
+                            XdrError, calls, encode_call, encode_denial, encode_refusal, encode_reply, mark,
+                            opaque, read_call, read_reply, record, rpc, words)
 from scanvolt.vxi11.rpc import RESULT_AT
 
 
@@ -119,6 +119,12 @@ class Messages(unittest.TestCase):
         with self.assertRaises(AuthenticationRefused) as refused:
             read_reply(data("00000007 00000001 00000001 00000001 00000005"), 7)
         self.assertEqual(refused.exception.number, 5)
+
+    def test_replies_that_refuse(self) -> None:
+        self.assertEqual(encode_refusal(7, rpc.PROG_MISMATCH, 1, 3), data(
+            "80000020", "00000007 00000001 00000000 00000000 00000000 00000002 00000001 00000003"))
+        self.assertEqual(encode_denial(7, rpc.RPC_MISMATCH, 2, 2), data(
+            "80000018", "00000007 00000001 00000001 00000000 00000002 00000002"))
 
     def test_what_is_no_reply(self) -> None:
         for body in (b"", data(self.SUCCESS)[:23], self.CALL[4:], data("00000008") + data(self.SUCCESS)[4:],

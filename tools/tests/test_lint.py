@@ -10,7 +10,7 @@ PASSES = "#!/bin/sh\n"
 # A repository of one crate, in which nothing falls short.
 FILES = {
     "tools/header-rows": PASSES,
-    "tools/single-bytes": PASSES,
+    "tools/rows": PASSES,
     "tools/lint-documents": PASSES,
     "tools/lint-numbers": PASSES,
     "tools/book": PASSES,
@@ -55,7 +55,7 @@ class Linting(unittest.TestCase):
         self.assertEqual(self.lint(), (0, ""))
 
     def test_a_part_that_crashes_is_told(self):
-        for name in ("tools/header-rows", "tools/single-bytes", "tools/lint-documents", "tools/lint-numbers", "tools/book",
+        for name in ("tools/header-rows", "tools/rows", "tools/lint-documents", "tools/lint-numbers", "tools/book",
                      "tools/pictures"):
             for crash, status in (("exit 1", 1), ("exit 3", 3), ("kill -9 $$", 137)):
                 self.write(name, PASSES + crash + "\n")

@@ -14,6 +14,7 @@ SPELLED = (
 FINE = (
     "link = calls.create_link()", "WRITING = 100_000", "lines = 1000000", "ports = 4096, 4097", "struct.pack('ii', 1, 0)",
     "value = 2 ** 312", "size.to_bytes(2, 'little')", "wanted = calls.GETPORT", "text = 'GETPORT answers'", "9 * 10 ** 5",
+    "row = '0 device_lock lid=1'",
 )
 
 

@@ -11,7 +11,7 @@ from .link import Carrier, Link, LinkCalls
 from .requests import RequestStream, ServiceRequest
 from .rpc import (AuthenticationRefused, BadReply, CallMessage, GarbageArguments, ProcedureUnavailable,
                   ProgramMismatch, ProgramUnavailable, Record, Records, RpcError, RpcMismatch, SystemFault,
-                  encode_call, encode_reply, mark, read_call, read_reply, record)
+                  encode_call, encode_denial, encode_refusal, encode_reply, mark, read_call, read_reply, record)
 from .xdr import Reader, XdrError, opaque, words
 
 __all__ = [
@@ -20,5 +20,6 @@ __all__ = [
     "PORT_MAPPER", "Piece", "ProcedureUnavailable", "ProgramMismatch", "ProgramUnavailable",
     "REQUEST_COUNT", "Reader", "Record", "Records", "RequestStream", "RpcError", "RpcMismatch",
     "ServiceRequest", "ServiceRequests", "SystemFault", "TERMINATOR", "XdrError", "encode_call",
-    "encode_reply", "mark", "name_of", "opaque", "port_of", "read_call", "read_reply", "record", "words",
+    "encode_denial", "encode_refusal", "encode_reply", "mark", "name_of", "opaque", "port_of", "read_call",
+    "read_reply", "record", "words",
 ]

@@ -10,6 +10,8 @@ SUCCESS = 0                     # of one that is accepted: it was executed
 LAST = 0x80000000               # in the mark of a fragment: the record ends with it
 AUTH_MOST = 400                 # bytes that a credential or a verifier may have
 RPC_VERSION = 2
+PROG_UNAVAIL, PROG_MISMATCH, PROC_UNAVAIL, GARBAGE_ARGS, SYSTEM_ERR = 1, 2, 3, 4, 5    # why it wasn't
+RPC_MISMATCH, AUTH_ERROR = 0, 1 # why one is denied
 
 
 class RpcError(Exception):
@@ -132,6 +134,16 @@ def encode_reply(xid: int, result: bytes = b"") -> bytes:
     return record(words(xid, REPLY, ACCEPTED, 0, 0, SUCCESS) + result)
 
 
+def encode_refusal(xid: int, status: int, *details: int) -> bytes:
+    """The reply to a call that was accepted and not executed, for a reason such as PROG_UNAVAIL."""
+    return record(words(xid, REPLY, ACCEPTED, 0, 0, status, *details))
+
+
+def encode_denial(xid: int, status: int, *details: int) -> bytes:
+    """The reply to a call that was denied, for RPC_MISMATCH or AUTH_ERROR."""
+    return record(words(xid, REPLY, DENIED, status, *details))
+
+
 # Where the result of such a reply begins, in its record's bytes with its mark.
 RESULT_AT = len(encode_reply(0))
 
@@ -181,7 +193,7 @@ def _refusal(reader: Reader) -> Optional[RpcError]:
     """What a reply says behind its type: none where the call was executed, and the result follows."""
     status = reader.word()
     if status == DENIED:
-        if reader.word() == 0:
+        if reader.word() == RPC_MISMATCH:
             return RpcMismatch(reader.word(), reader.word())
         return AuthenticationRefused(reader.word())
     if status != ACCEPTED:
@@ -195,10 +207,10 @@ def _accepted(status: int, reader: Reader) -> Optional[RpcError]:
     """What became of a call that was accepted."""
     if status == SUCCESS:
         return None
-    if status == 2:
+    if status == PROG_MISMATCH:
         return ProgramMismatch(reader.word(), reader.word())
-    refusals = {1: ProgramUnavailable("there is no such program"),
-                3: ProcedureUnavailable("there is no such procedure"),
-                4: GarbageArguments("the arguments can't be read"),
-                5: SystemFault("the other side failed")}
+    refusals = {PROG_UNAVAIL: ProgramUnavailable("there is no such program"),
+                PROC_UNAVAIL: ProcedureUnavailable("there is no such procedure"),
+                GARBAGE_ARGS: GarbageArguments("the arguments can't be read"),
+                SYSTEM_ERR: SystemFault("the other side failed")}
     return refusals.get(status, BadReply("an accepted reply of status %d" % status))

@@ -1,0 +1,125 @@
+"""What each test crate says in its rows beside calls, replies and requests for service."""
+import re
+
+from .lines import Reading, unquoted
+from .values import TextError
+
+
+class Scripts(Reading):
+    """crates/test_scripts: lines of a replay or of events (its `src`), and what is printed.
+
+    What the text can't say better stands as it is behind `line` or `prints`; `given` is the next line that is asked,
+    as a row of the kind `line by line` prints it.
+    """
+
+    WANTED = ("reply", "request", "refused", "given", "prints")
+    BYTES = "bytes %s %s"
+    PRINTS = {"reply": "c%s %s", "request": "i%s %s"}
+    AS_IT_IS = re.compile(r"input \d+ -?\d+|external|tick( \d+)?|clock \d+|times \d+|memory (\d+|\?)|used")
+    # A verb behind a connection, and the line of the replay.
+    VERBS = {"open core": "open %s core", "open abort": "open %s abort", "open portmap": "open %s portmap",
+             "turn": "turn %s", "refuse": "refuse %s", "close": "close c%s", "close channel": "close i%s",
+             "dialed ok": "dialed %s ok", "dialed failed": "dialed %s failed",
+             "ask": "ask %s", "show": "show c%s", "show channel": "show i%s"}
+    TOOK = re.compile(r"(\d+) took (\d+)( channel)?")
+
+    def __init__(self, joined=False):
+        super().__init__(joined)
+        self.given = []         # the lines that were asked and that no `given` stands for yet
+
+    def asked(self, line, more=()):
+        """The lines that are asked."""
+        made = self.lines(line, more)
+        self.given += made
+        return made
+
+    def lines(self, line, more):
+        connection, _, verb = line.partition(" ")
+        took = self.TOOK.fullmatch(line)
+        if connection.isdigit() and verb not in self.VERBS and not took:
+            return self.sent(connection, [verb, *more])
+        plain = self.alone(line, more)
+        if took:
+            return ["took %s%s %s" % ("i" if took[3] else "c", took[1], took[2])]
+        if connection.isdigit():
+            if verb == "close" or verb.startswith("open"):
+                self.numbering.opened(connection)
+            return [self.VERBS[verb] % connection]
+        if connection != "line" and not self.AS_IT_IS.fullmatch(line):
+            raise TextError("neither asked nor wanted: " + line)
+        return [plain]
+
+    def wanted(self, line, more=()):
+        """The line that is wanted."""
+        kind, _, rest = line.partition(" ")
+        if kind in ("reply", "request"):
+            return super().wanted(line, more)
+        self.alone(line, more)
+        if kind == "given":
+            return "> " + self.given.pop(0)
+        return line if kind == "refused" else unquoted(rest)
+
+
+class Driver(Reading):
+    """crates/test_driver: what a wire answers, and behind `> ` what it is asked; `0 CALL` are bytes that it reads.
+
+    Of peers, `peer 0 CALL` is what one sends.
+    """
+
+    WANTED = ("reply", "request", "gets", ">")
+    BYTES = "read %s: %s"
+    PRINTS = {"reply": "write c%s %s", "request": "write i%s %s"}
+    JOINED = True
+    CALL = re.compile(r"(peer )?(\d+) ((?!input |external).*)")
+
+    def asked(self, line, more=()):
+        """The lines that are asked."""
+        found = self.CALL.fullmatch(line)
+        if not found:
+            return [self.alone(line, more)]
+        return self.sent(found[2], [found[3], *more], "%.0s%s" if found[1] else None)
+
+    def wanted(self, line, more=()):
+        """The line that is wanted."""
+        kind, _, rest = line.partition(" ")
+        if kind == "gets":      # a peer gets it on its connection
+            return super().wanted(rest, more).replace("write ", "", 1)
+        return unquoted(self.alone(rest, more)) if kind == ">" else super().wanted(line, more)
+
+
+class Sockets(Reading):
+    """crates/sv_sockets: what peers do, each a letter; `a CALL` is what one sends, and `reply a ..` what it waits for.
+
+    Behind `> ` stands what is printed else.
+    """
+
+    WANTED = (">",)
+    BYTES = "%s < %s"
+    PRINTS = {"reply": "%s %s", "request": "%s %s"}
+    # What a peer does but to send a call.
+    VERBS = "core abort portmap listens accepts closes before ends silent drains > <".split()
+    PEER = re.compile(r"([a-z]) (\S+).*")
+    POURS = re.compile(r"([a-z] pours \d+) (.*)")
+
+    def read(self, line, more=()):
+        if line.split(" ", 1)[0] in ("reply", "request"):
+            wanted = super().wanted(line, more)
+            name, data = wanted.split(" ")
+            return ["%s > %d" % (name, len(data) // 2)], [wanted]
+        return super().read(line, more)
+
+    def asked(self, line, more=()):
+        """The lines that are asked."""
+        pours, peer = self.POURS.fullmatch(line), self.PEER.fullmatch(line)
+        if pours:
+            return self.sent(pours[1], [pours[2], *more], "%s %s")
+        if peer and peer[2] not in self.VERBS:
+            return self.sent(peer[1], [line[2:], *more])
+        return [self.alone(line, more)]
+
+    def wanted(self, line, more=()):
+        """The line that is wanted."""
+        return unquoted(self.alone(line[2:], more))
+
+
+DIALECTS = {"test_driver": Driver, "sv_sockets": Sockets}

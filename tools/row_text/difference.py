@@ -1,0 +1,126 @@
+"""What a crate's program printed beside what it had to: each row that differs, with its title and its question."""
+import copy
+import re
+
+from . import fields
+from .files import PREFIX
+from .lines import Telling, quoted
+
+BEFORE = 8              # lines of the text that stand in front of a difference
+WIDEST = 400            # columns of a line that is told
+REFUSALS = {"1": "out of memory", "2": "the connection is open", "3": "no such connection or channel", "4": "no room",
+            "5": "more than waits", "6": "no call waits for a dialing", "7": "no call that may be refused",
+            "8": "no such channel of the scanner", "9": "a voltage out of range", "10": "the clock is at its end"}
+NOTHING = "nothing more"
+
+
+def parts(text):
+    """The titles of a print, each with its lines; none of a program that printed nothing."""
+    if not text:
+        return []
+    if not text.startswith("= "):
+        raise ValueError("it doesn't begin with a title")
+    rows = [row.split("\n") for row in text[2:].rstrip("\n").split("\n= ")]
+    return [(row[0], row[1:]) for row in rows]
+
+
+def explained(line):
+    """A line with the names of its numbers."""
+    error = re.search(r" error=(\d+)", line)
+    if error:
+        return "%s (%s)" % (line, fields.error_name(int(error[1])))
+    if line.startswith("refused "):
+        return "%s (%s)" % (line, REFUSALS.get(line[8:].partition(":")[0], "no number of a refusal"))
+    return line
+
+
+def decoded(numbering, line, text=None):
+    """A line that is printed, in the words of the text; those that it has there, if it wants it."""
+    if line is None:
+        return NOTHING
+    told = Telling(copy.deepcopy(numbering), always=True).told(line) or [quoted(line)]
+    if text and told[0].startswith("reply ") and " xid=" not in text[0]:
+        told = [text[0] + told[0][told[0].rindex(" xid="):]] + text[1:]
+    return " ".join(map(explained, told))
+
+
+def call_of(numbering, line):
+    """The call that a reply answers, in the words of the text."""
+    found = re.fullmatch(r"(?:write )?c?(\w+) [0-9a-f]{8}([0-9a-f]{8})[0-9a-f]*", line or "")
+    return numbering.texts.get((found[1], int(found[2], 16))) if found else None
+
+
+def marked(wanted, came):
+    """The two lines, and a mark under the first place where they differ."""
+    at = next((at for at, pair in enumerate(zip(wanted, came)) if pair[0] != pair[1]), min(len(wanted), len(came)))
+    start = max(0, at - WIDEST // 2)
+    lead = "..." if start else ""
+    cut = [lead + line[start:start + WIDEST] for line in (wanted, came)]
+    return ["  wanted  " + cut[0], "  came    " + cut[1], " " * (10 + len(lead) + at - start) + "^"]
+
+
+def context(row, index):
+    """The lines of the text in front of the one that wants line `index`, that one, and what was called so far."""
+    reading, lines, count = row.reading(), [], 0
+    for _, (first, *more) in row.lines:
+        said, before = [first] + ["and " + one for one in more], copy.deepcopy(reading.numbering)
+        wanted = reading.read(first, more)[1]
+        if wanted and count == index:
+            return lines, said, before
+        count += len(wanted)
+        lines += said
+    return lines, None, reading.numbering
+
+
+def is_wanted(line):
+    return line.split(" ", 1)[0] in ("reply", "request", "refused", "given", "prints", "gets", ">", "and", "..")
+
+
+def shown(lines):
+    """The last of some lines; where they ask nothing, the last that do in front of them."""
+    last, front = lines[-BEFORE:], lines[:-BEFORE]
+    asked = [] if not all(map(is_wanted, last)) else [line for line in front if not is_wanted(line)][-BEFORE:]
+    left = len(front) - len(asked)
+    return asked + ([".. and %d more" % left] if left else []) + last
+
+
+def source(rows, title, index):
+    """The row of a title with its text, and which line of it wants line `index` of the title's print."""
+    row = rows[title]
+    if row.lines or not title.startswith(PREFIX):
+        return row, index
+    whole, place = rows[title[len(PREFIX):]], -1
+    for line in row.wanted[:index + 1]:     # those of the whole row, but for some that are left out
+        place = whole.wanted.index(line, place + 1)
+    return whole, place if index < len(row.wanted) else len(whole.wanted)
+
+
+def told(rows, title, wanted, came):
+    """The lines that tell how a row differs."""
+    index = next((at for at, pair in enumerate(zip(wanted, came)) if pair[0] != pair[1]), min(len(wanted), len(came)))
+    row, place = source(rows, title, index)
+    lines, text, numbering = context(row, place)
+    first, second = (some[index] if index < len(some) else None for some in (wanted, came))
+    made = ["%s: %s" % (row.place, title)]
+    made += ["  kind " + row.kind] if row.kind else []
+    made += ["  | " + line[:WIDEST] for line in shown(lines)]
+    call = call_of(numbering, first) or call_of(numbering, second)
+    made += ["  call    " + call] if call else []
+    return made + marked(decoded(numbering, first, text), decoded(numbering, second))
+
+
+def differences(rows, wanted, printed):
+    """The rows that differ, each as the lines that tell of it; `rows` are the rows of the text."""
+    known = {row.title: row for row in rows}
+    came = dict(parts(printed))
+    found = []
+    for title, lines in parts(wanted):
+        if title not in known:
+            found.append(["%s: no row of the text has this title; make stdout anew with tools/rows" % title])
+        elif title not in came:
+            found.append(["%s: %s" % (known[title].place, title), "  came    nothing: the program had ended"])
+        elif came[title] != lines:
+            found.append(told(known, title, lines, came[title]))
+    if not found and wanted != printed:
+        found.append(["  no row differs, but the titles do, their order, or the end of the print"])
+    return found

@@ -1,0 +1,101 @@
+"""Files of rows: each row has a title, and lines that say what is asked and what is wanted.
+
+`#` in front makes a line a comment. Behind the title may stand, a line each: `kind WORDS`, what is done with the row
+(crates/test_scripts/src/main.rt says which kinds there are); `joined`, its hexadecimal has no blanks; `unended`, its
+last line has no new line; `singly`, it is asked again with its writes cut into single bytes. A line `and MESSAGE`
+goes on with the line in front of it: the messages come together.
+"""
+import dataclasses
+import glob
+import os
+from typing import List
+
+from .dialects import DIALECTS, Scripts
+from .singly import PREFIX, cut
+from .values import TextError
+
+MARKS = ("joined", "unended", "singly")
+
+
+@dataclasses.dataclass
+class Row:
+    """A row: where it stands, its marks, the lines of its text, and what they ask and want."""
+
+    title: str
+    place: str = ""
+    kind: str = ""
+    marks: List[str] = dataclasses.field(default_factory=list)
+    lines: List[tuple] = dataclasses.field(default_factory=list)
+    asked: List[str] = dataclasses.field(default_factory=list)
+    wanted: List[str] = dataclasses.field(default_factory=list)
+    dialect: type = Scripts
+
+    def reading(self):
+        """What reads the lines of this row."""
+        return self.dialect("joined" in self.marks)
+
+    def read(self):
+        """Reads the lines of the text."""
+        reading = self.reading()
+        self.asked = ["! " + self.kind] if self.kind else []
+        for number, (first, *more) in self.lines:
+            try:
+                asked, wanted = reading.read(first, more)
+            except ValueError as fault:
+                raise TextError("%s:%d: %s" % (self.place.rpartition(":")[0], number, fault)) from None
+            self.asked += asked
+            self.wanted += wanted
+        if "unended" not in self.marks:
+            self.asked.append("")
+        return self
+
+
+def rows_of(path, dialect=Scripts):
+    """The rows of a file."""
+    rows = []
+    with open(path, encoding="utf-8") as file:
+        for number, line in enumerate(file.read().split("\n"), 1):
+            if line and not line.startswith("#"):
+                _take(rows, line, path, number, dialect)
+    return [row.read() for row in rows]
+
+
+def _take(rows, line, path, number, dialect):
+    """Takes a line into the last row, or begins one with it."""
+    word, _, rest = line.partition(" ")
+    place = "%s:%d" % (path, number)
+    if word == "title":
+        rows.append(Row(rest.strip(), place, dialect=dialect))
+    elif not rows:
+        raise TextError("%s: a line in front of the first title" % place)
+    elif word == "kind" and not rows[-1].lines:
+        rows[-1].kind = rest
+    elif line in MARKS and not rows[-1].lines:
+        rows[-1].marks.append(line)
+    elif word == "and" and rows[-1].lines:
+        rows[-1].lines[-1][1].append(rest)
+    else:
+        rows[-1].lines.append((number, [line]))
+
+
+def rows_in(folder):
+    """The rows of a folder's files, in the order of their names, and those that are made of them."""
+    paths = sorted(glob.glob(os.path.join(glob.escape(folder), "*.rows")))
+    if not paths:
+        raise TextError("no *.rows in " + folder)
+    dialect = DIALECTS.get(os.path.basename(os.path.dirname(os.path.abspath(folder))), Scripts)
+    rows = [row for path in paths for row in rows_of(path, dialect)]
+    again = sorted((row for row in rows if "singly" in row.marks), key=lambda row: row.title)
+    return rows + [_cut(row) for row in again]
+
+
+def _cut(row):
+    asked, wanted = cut(row.asked, row.wanted)
+    return Row(PREFIX + row.title, row.place, asked=asked, wanted=wanted)
+
+
+def streams(rows):
+    """What is asked and what is to be printed, as the crate's program takes and prints it."""
+    asked = "\n".join("\n".join(["= " + row.title] + row.asked) for row in rows)
+    wanted = "".join(line + "\n" for row in rows for line in ["= " + row.title] + row.wanted)
+    return asked, wanted

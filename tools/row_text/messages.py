@@ -1,0 +1,217 @@
+"""Calls, replies and requests for service: from the words of the text to bytes, and back.
+
+A message is a name and its fields, as `device_write lid=1 flags=end data="*IDN?\\n"`. A field that isn't said is
+0, or has no bytes. The one field of bytes may stand without its name, and so may the words of flags. Behind the fields may
+stand those of the header (HEADER), and how a call is sent (SENDING): `behind`, bytes behind its arguments; `cut`, how
+many bytes of its body are sent, with a mark that says so; `fragments`, their sizes; `part`, which bytes of the record
+come now, the first one is 1; `singly`, each byte comes by itself; `times`, how often it comes; `joined`, behind how
+many words the hexadecimal has no blanks.
+"""
+from scanvolt.vxi11 import (Reader, Records, XdrError, calls, encode_denial, encode_refusal, encode_reply, mark, opaque,
+                            rpc, words)
+
+from . import fields
+from .values import TextError, bytes_of, number_of, plain_number, split, sum_of, text_of, word_of
+
+ACCEPTED = {name: getattr(rpc, name) for name in
+            ("PROG_UNAVAIL", "PROG_MISMATCH", "PROC_UNAVAIL", "GARBAGE_ARGS", "SYSTEM_ERR")}
+DENIED = {"RPC_MISMATCH": rpc.RPC_MISMATCH, "AUTH_ERROR": rpc.AUTH_ERROR}
+DETAILS = {"PROG_MISMATCH": ["low", "high"], "RPC_MISMATCH": ["low", "high"], "AUTH_ERROR": ["stat"]}
+# What may be said of a call beside its arguments: its header, bytes behind them, and how it is sent.
+HEADER = ("xid", "rpcvers", "prog", "vers", "proc", "cred", "credBody", "verf", "verfBody")
+SENDING = ("behind", "cut", "fragments", "part", "singly", "times", "joined")
+
+
+def said(line, names, may=()):
+    """The fields that words say, by their names; those that may be said beside them are texts."""
+    found, beside = {}, {}
+    for word in line:
+        name, equals, value = word.partition("=")
+        if not equals and "flags" in names and word in fields.FLAGS:
+            found["flags"] = found.get("flags", 0) + fields.FLAGS[word]
+        elif equals and name in names:
+            found[name] = value_of(name, value)
+        elif name in may:
+            beside[name] = value
+        elif word[-1] == '"' and any(name in fields.OPAQUE for name in names):
+            found[[name for name in names if name in fields.OPAQUE][0]] = bytes_of(word)
+        else:
+            raise TextError("no field %s: there are %s" % (word, " ".join(list(names) + list(may))))
+    return found, beside
+
+
+def value_of(name, text):
+    """The value of a field."""
+    if name in fields.OPAQUE:
+        return bytes_of(text)
+    if name == "hostAddr" and text.count(".") == 3:
+        return fields.address_of(text)
+    return number_of(text, fields.WORDS.get(name))
+
+
+def packed(names, found):
+    """The bytes of fields."""
+    return b"".join(opaque(found.get(name, b"")) if name in fields.OPAQUE else words(found.get(name, 0))
+                    for name in names)
+
+
+def read(names, reader):
+    """The fields that bytes say, or XdrError."""
+    return [(name, reader.opaque() if name in fields.OPAQUE else reader.word()) for name in names]
+
+
+def shown(values):
+    """The words that say fields."""
+    made = []
+    for name, value in values:
+        if not value:
+            continue
+        if name in fields.OPAQUE:
+            made.append(("device=" if name == "device" else "") + text_of(value))
+        elif name == "flags" and "=" not in sum_of(value, fields.FLAGS) and not sum_of(value, fields.FLAGS).isdigit():
+            made += sum_of(value, fields.FLAGS).split("+")
+        elif name == "hostAddr":
+            made.append("hostAddr=" + fields.address_text(value))
+        elif name in fields.SUMS:
+            made.append("%s=%s" % (name, sum_of(value, fields.WORDS[name])))
+        else:
+            made.append("%s=%s" % (name, word_of(value, fields.WORDS.get(name, {}))))
+    return made
+
+
+def header_of(name, beside, xid):
+    """The program, the procedure, and the words in front of the arguments of a call."""
+    if name not in fields.NAMES and name not in ("null", "call"):
+        raise TextError("no call of VXI-11: " + name)
+    program, procedure = fields.NAMES.get(name, (calls.CORE, calls.NULL))
+    numbers = {key: number_of(text, fields.WORDS.get(key)) for key, text in beside.items()
+               if key in HEADER and not key.endswith("Body")}
+    program, procedure = numbers.get("prog", program), numbers.get("proc", procedure)
+    version = numbers.get("vers", calls.VERSIONS.get(program, 0))
+    front = words(xid, rpc.CALL, numbers.get("rpcvers", rpc.RPC_VERSION), program, version, procedure)
+    for key in ("cred", "verf"):
+        front += words(numbers.get(key, 0)) + opaque(bytes_of(beside.get(key + "Body", '""')))
+    return program, procedure, front
+
+
+def parsed(line):
+    """The name of a call, its arguments, and what is said beside them."""
+    name, *rest = split(line)
+    names = fields.arguments(*fields.NAMES[name]) if name in fields.NAMES else []
+    return (name, *said(rest, names, [key for key in HEADER if key not in names] + list(SENDING)))
+
+
+def call_of(line, xid):
+    """The record's bytes that a line says, but for parts of it, and what it calls."""
+    name, found, beside = parsed(line)
+    program, procedure, front = header_of(name, beside, xid)
+    names = fields.arguments(*fields.NAMES[name]) if name in fields.NAMES else []
+    body = front + packed(names, found) + (bytes_of(beside["behind"]) if "behind" in beside else b"")
+    if "cut" in beside:
+        body = body[:number_of(beside["cut"])]
+    return framed(body, beside.get("fragments")), (program, procedure)
+
+
+def sizes_of(text):
+    """The sizes of fragments."""
+    made = []
+    for word in text.split(","):
+        count, _, size = word.rpartition("*")
+        made += [number_of(size)] * number_of(count or "1")
+    return made
+
+
+def framed(body, sizes):
+    """The record of a body, in fragments of these sizes or in one; `3*0` is three of 0 bytes."""
+    made, sizes = b"", sizes_of(sizes) if sizes else [len(body)]
+    if sum(sizes) != len(body):
+        raise TextError("fragments of %d bytes in all, where %d are sent" % (sum(sizes), len(body)))
+    for at, size in enumerate(sizes):
+        made += mark(size, at + 1 == len(sizes)) + body[:size]
+        body = body[size:]
+    return made
+
+
+def call_text(body):
+    """The words that say a call's body, but for its xid, and the xid; or XdrError."""
+    reader = Reader(body)
+    xid, kind, version_of_rpc = reader.word(), reader.word(), reader.word()
+    if kind != rpc.CALL:
+        raise XdrError("no call")
+    program, version, procedure = reader.word(), reader.word(), reader.word()
+    beside = []
+    if version_of_rpc != rpc.RPC_VERSION:
+        beside.append("rpcvers=%d" % version_of_rpc)
+    for key in ("cred", "verf"):
+        flavor, inner = reader.word(), reader.opaque()
+        beside += ["%s=%d" % (key, flavor)] * bool(flavor) + ["%sBody=%s" % (key, text_of(inner))] * bool(inner)
+    name, names = fields.name_of(program, procedure), fields.arguments(program, procedure)
+    if name is None or names is None:
+        name, names = "call", []
+        beside += ["prog=" + word_of(program, fields.PROGRAMS), "proc=%d" % procedure]
+    elif name == "null" and program != calls.CORE:
+        beside.append("prog=" + word_of(program, fields.PROGRAMS))
+    if version != calls.VERSIONS.get(program, 0):
+        beside.append("vers=%d" % version)
+    made = shown(read(names, reader))
+    rest = reader.rest()
+    return " ".join([name] + made + beside + ["behind=" + text_of(rest)] * bool(rest)), xid, (program, procedure)
+
+
+def reply_of(line, xid):
+    """The bytes of the reply that a line says."""
+    name, *rest = split(line)
+    if name in ACCEPTED or name in DENIED:
+        names = DETAILS.get(name, [])
+        details = [said(rest, names)[0].get(one, 0) for one in names]
+        if name in ACCEPTED:
+            return encode_refusal(xid, ACCEPTED[name], *details)
+        return encode_denial(xid, DENIED[name], *details)
+    if name not in fields.NAMES and name not in ("null", "result"):
+        raise TextError("no call of VXI-11, and no refusal of RPC: " + name)
+    names = fields.results(*fields.NAMES[name]) if name in fields.NAMES else []
+    found, beside = said(rest, names, ("behind",))
+    return encode_reply(xid, packed(names, found) + (bytes_of(beside["behind"]) if beside else b""))
+
+
+def xid_of(body):
+    return Reader(body).word()
+
+
+def reply_text(body, called):
+    """The words that say a reply to what was called, but for its xid; or XdrError."""
+    reader = Reader(body)
+    reader.word()
+    if reader.word() != rpc.REPLY:
+        raise XdrError("no reply")
+    status = reader.word()
+    if status == rpc.DENIED:
+        return refusal_text(DENIED, reader)
+    if (reader.word(), reader.opaque(0)) != (0, b""):
+        raise XdrError("a reply with a verifier")
+    if Reader(reader.data[reader.place:]).word() != rpc.SUCCESS:
+        return refusal_text(ACCEPTED, reader)
+    reader.word()
+    name = fields.name_of(*called) if called else None
+    names = fields.results(*called) if name else []
+    made = shown(read(names, reader))
+    rest = reader.rest()
+    return " ".join([name or "result"] + made + ["behind=" + text_of(rest)] * bool(rest))
+
+
+def refusal_text(statuses, reader):
+    name = word_of(reader.word(), statuses)
+    return " ".join([name] + ["%s=%s" % (one, plain_number(reader.word())) for one in DETAILS.get(name, [])])
+
+
+def request_of(line, xid):
+    """The bytes of the request for service that a line says."""
+    return call_of("device_intr_srq " + line, xid)[0]
+
+
+def bodies(data):
+    """The bodies of the records that make up these bytes, or none where they end within one."""
+    records = Records()
+    found = records.push(data)
+    whole = records.start == len(data) and b"".join(framed(one.body, None) for one in found) == data
+    return [one.body for one in found] if whole else None

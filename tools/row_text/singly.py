@@ -1,0 +1,63 @@
+"""A row whose writes are cut into single bytes, made from one whose aren't.
+
+A message may come in any writes (VXI-11 1.0, B.6.3): what is read, polled and requested doesn't depend on where it
+is cut. So the row prints what the uncut row prints, where the replies to the writes that were cut are left out of
+both. END stays with the last byte.
+"""
+import re
+
+from scanvolt.vxi11 import Reader, Records, XdrError, calls, encode_call, encode_reply, opaque, read_call, words
+
+PREFIX = "single bytes: "
+# What the reply to a write of one byte ends in: no error, size 1.
+DONE = encode_reply(0, words(0, 1)).hex()[24:]
+
+
+def _write(line):
+    """The connection, the call, the words in front of the flags, the flags and the bytes of a line that brings one
+    device_write, else None.
+    """
+    found = re.fullmatch(r"bytes (\d+) ([0-9a-f ]+)", line)
+    if not found:
+        return None
+    data = bytes.fromhex(found[2])
+    try:
+        call = read_call(Records().push(data)[0].body)
+        if data != encode_call(call.xid, calls.CORE, 1, calls.DEVICE_WRITE, call.arguments):
+            return None
+        reader = Reader(call.arguments)
+        front, flags = reader.take(12), reader.word()
+        return found[1], call.xid, front, flags, reader.opaque()
+    except (IndexError, XdrError):
+        return None
+
+
+def _pieces(connection, xid, front, flags, text):
+    """The lines that write each byte by itself, the last one without the turn that takes it."""
+    made = []
+    for at in range(len(text)):
+        last = at + 1 == len(text)
+        arguments = front + words(flags if last else flags & ~calls.END) + opaque(text[at:at + 1])
+        record = encode_call(xid, calls.CORE, 1, calls.DEVICE_WRITE, arguments)
+        made += ["bytes %s %s" % (connection, record.hex())] + ["turn " + connection] * (not last)
+    return made
+
+
+def cut(asked, wanted):
+    """The lines of a row with each write cut that takes all its bytes, and what they print but for the replies to
+    writes of one byte.
+    """
+    made, shown, rest = ["! without " + DONE], [], list(wanted)
+    for line in asked:
+        write = _write(line)
+        if write is None or len(write[4]) < 2:
+            made.append(line)
+            continue
+        reply = "c%s %s" % (write[0], encode_reply(write[1], words(0, len(write[4]))).hex())
+        if reply not in rest:       # it waits, or takes nothing
+            made.append(line)
+            continue
+        place = rest.index(reply)
+        shown, rest = shown + rest[:place], rest[place + 1:]
+        made += _pieces(*write)
+    return made, [line for line in shown + rest if not line.endswith(DONE)]

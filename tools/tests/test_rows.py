@@ -1,0 +1,221 @@
+"""Tests of tools/rows and tools/row-diff: what the text says is what VXI-11 sends, and a row that differs is told."""
+import os
+import subprocess
+import sys
+import tempfile
+import unittest
+
+sys.dont_write_bytecode = True
+TOP = os.path.dirname(os.path.dirname(os.path.dirname(os.path.abspath(__file__))))
+sys.path[:0] = [TOP + "/tools", TOP + "/python"]
+
+from row_text import messages                                               # noqa: E402
+from row_text.dialects import Driver, Scripts, Sockets                      # noqa: E402
+from row_text.files import rows_of, streams                                 # noqa: E402
+from row_text.lines import Telling, hex_of                                  # noqa: E402
+from row_text.singly import DONE                                            # noqa: E402
+from row_text.values import TextError, bytes_of, text_of                    # noqa: E402
+from scanvolt.vxi11 import DeviceError, ProgramMismatch, Records, RpcMismatch, calls, encode_reply, words   # noqa: E402
+
+# Calls, each with its name and the words that say its fields.
+CALLS = (
+    (calls.null(), "null", ""),
+    (calls.create_link("inst0", True, 50, 7), "create_link",
+     'clientId=7 lockDevice=1 lock_timeout=50 device="inst0"'),
+    (calls.device_write(1, b"*IDN?\n", 1000), "device_write", 'lid=1 io_timeout=1000 end "*IDN?\\n"'),
+    (calls.device_read(1, 256, 0, 20, 10), "device_read",
+     "lid=1 requestSize=256 lock_timeout=20 waitlock termchrset termChar=10"),
+    (calls.device_readstb(1, 5), "device_readstb", "lid=1 io_timeout=5"),
+    (calls.device_trigger(2, 0), "device_trigger", "lid=2"),
+    (calls.device_lock(2, 9), "device_lock", "lid=2 waitlock lock_timeout=9"),
+    (calls.device_unlock(2), "device_unlock", "lid=2"),
+    (calls.device_enable_srq(1, b'a"\\'), "device_enable_srq", 'lid=1 enable=1 "a\\"\\\\"'),
+    (calls.device_docmd(1, 3, b"x", 0), "device_docmd", 'lid=1 cmd=3 network_order=1 datasize=1 "x"'),
+    (calls.create_intr_chan(calls.LOOPBACK, 80), "create_intr_chan",
+     "hostAddr=127.0.0.1 hostPort=80 progNum=interrupt progVers=1"),
+    (calls.destroy_intr_chan(), "destroy_intr_chan", ""),
+    (calls.device_abort(1), "device_abort", "lid=1"),
+    (calls.getport(calls.CORE, 1), "GETPORT", "prog=core vers=1 prot=tcp"),
+)
+ROWS = """# A comment.
+title one link
+0 open core
+0 create_link device="inst0"
+and null
+0 turn
+reply 0 create_link lid=1
+and null xid=2
+
+title a write
+singly
+joined
+0 device_write "ab" lid=1 end
+0 turn
+reply 0 device_write size=2
+refused 4
+prints "a b "
+"""
+
+
+class Rows(unittest.TestCase):
+
+    def setUp(self):
+        temporary = tempfile.TemporaryDirectory(prefix="rows-")
+        self.addCleanup(temporary.cleanup)
+        self.folder = temporary.name
+
+    def write(self, name, text):
+        path = os.path.join(self.folder, name)
+        os.makedirs(os.path.dirname(path), exist_ok=True)
+        with open(path, "w", encoding="utf-8") as file:
+            file.write(text)
+        return path
+
+    def read(self, name):
+        with open(os.path.join(self.folder, name), encoding="utf-8") as file:
+            return file.read()
+
+    def tool(self, name, *arguments):
+        done = subprocess.run([TOP + "/tools/" + name, *arguments], capture_output=True, text=True, check=False)
+        return done.returncode, done.stdout + done.stderr
+
+
+class Messages(Rows):
+
+    def test_calls(self):
+        for call, name, said in CALLS:
+            line = " ".join([name, said]).strip()
+            with self.subTest(line):
+                self.assertEqual(messages.call_of(line, 7)[0], call.encode(7))
+                self.assertEqual(messages.call_text(call.encode(7)[4:])[:2], (line, 7))
+
+    def test_calls_that_are_sent_in_another_way(self):
+        whole = calls.null().encode(1)
+        self.assertEqual(messages.call_of("null cut=8", 1)[0][4:], whole[4:12])
+        parted = messages.call_of("null fragments=2*0,40", 1)[0]
+        self.assertEqual([(one.end, one.body) for one in Records().push(parted)], [(len(whole) + 8, whole[4:])])
+        self.assertEqual(Scripts().asked("0 null part=1..2"), ["bytes 0 " + whole[:2].hex()])
+        self.assertEqual(Scripts(True).asked("0 null times=2"), ["bytes 0 " + 2 * whole.hex()])
+        self.assertEqual(Scripts().asked("0 null singly"), ["bytes 0 %02x" % byte for byte in whole])
+
+    def test_replies(self):
+        self.assertEqual(messages.reply_of('device_read reason=end "7"', 3)[4:],
+                         encode_reply(3, words(0, calls.ENDED, 1) + b"7\0\0\0")[4:])
+        for line, call, raised in (("device_lock error=11", calls.device_lock(1), DeviceError),
+                                   ("PROG_MISMATCH low=1 high=1", calls.null(), ProgramMismatch),
+                                   ("RPC_MISMATCH low=2 high=2", calls.null(), RpcMismatch)):
+            body = messages.reply_of(line, 3)[4:]
+            self.assertRaises(raised, call.answer, body, 3)
+            self.assertEqual(messages.reply_text(body, (call.program, call.procedure)), line)
+
+    def test_bytes(self):
+        for data in (b"", b'"\\\n\t\x00\xff', b"a" * 99, b"x" + 20 * b"ab;" + b"y", bytes(range(256))):
+            self.assertEqual(bytes_of(text_of(data)), data)
+        self.assertEqual(hex_of("40+3*00+1112 2*ab"), "400000001112 abab")
+        self.assertEqual(text_of(b"a" * 99), '99*"a"')
+
+    def test_lines_that_cannot_be_read(self):
+        for line in ("0 create_lnk", "0 null lid", '0 create_link device="inst', "0 null fragments=1", "what", "tick x"):
+            self.assertRaises(TextError, Scripts().asked, line)
+        for reading, line in ((Scripts(), "0 turn"), (Scripts(), "refused 4"), (Driver(), "sweep 0"), (Sockets(), "> yes")):
+            self.assertRaises(TextError, reading.read, line, ["null"])
+        self.assertRaises(TextError, Sockets().read, "a nul")
+
+    def test_xids(self):
+        reading = Scripts()
+        for line in ("0 null", "0 null", "0 null", "0 null xid=9", "1 null"):
+            reading.asked(line)
+        for line, xid in (("reply 0 null", 1), ("reply 0 null", 2), ("reply 0 null xid=9", 9), ("reply 1 null", 10)):
+            self.assertEqual(reading.wanted(line), "c%s %s" % (line.split()[1], encode_reply(xid).hex()))
+        reading.asked("0 null")
+        reading.asked("0 close")
+        self.assertEqual(reading.asked("0 null")[0].split()[3], "0000000c")
+        self.assertEqual(reading.wanted("reply 0 null"), "c0 " + encode_reply(12).hex())
+        self.assertEqual(reading.asked("0 null part=3..4"), ["bytes 0 0028"])
+        self.assertEqual(reading.asked("0 null part=5..8"), ["bytes 0 0000000c"])
+
+    def test_other_crates(self):
+        null = calls.null().encode(1).hex()
+        reply = encode_reply(1).hex()
+        driver, sockets = Driver(), Sockets()
+        self.assertEqual(driver.read("0 null"), (["read 0: " + null], []))
+        self.assertEqual(driver.read("reply 0 null"), ([], ["write c0 " + reply]))
+        self.assertEqual(driver.read("> sweep 0"), ([], ["sweep 0"]))
+        self.assertEqual(sockets.read("a null joined"), (["a < " + null], []))
+        self.assertEqual(sockets.read("reply a null"), (["a > %d" % (len(reply) // 2)], ["a " + reply]))
+        self.assertEqual(Telling(driver.numbering, always=True).told("write c0 " + reply), ["reply 0 null xid=1"])
+
+
+class Streams(Rows):
+
+    def test_a_file(self):
+        asked, wanted = streams(rows_of(self.write("one/rows/a.rows", ROWS)))
+        both = calls.create_link().encode(1) + calls.null().encode(2)
+        spaced = " ".join(both.hex()[at:at + 8] for at in range(0, len(both.hex()), 8))
+        write = calls.device_write(1, b"ab", 0).encode(1)
+        self.assertEqual(asked, "= one link\nopen 0 core\nbytes 0 %s\nturn 0\n\n= a write\nbytes 0 %s\nturn 0\n"
+                         % (spaced, write.hex()))
+        self.assertEqual(wanted, "= one link\nc0 %s\n= a write\nc0 %s\nrefused 4\na b \n" % (
+            (encode_reply(1, words(0, 1, 0, 0)) + encode_reply(2)).hex(), encode_reply(1, words(0, 2)).hex()))
+
+    def test_single_bytes_are_made_of_the_others(self):
+        self.write("one/rows/a.rows", ROWS)
+        self.assertEqual(self.tool("rows", self.folder + "/one"), (0, ""))
+        row = self.read("one/stdin").split("\n= ")[2].split("\n")
+        self.assertEqual(row[:2], ["single bytes: a write", "! without " + DONE])
+        first, second = (calls.device_write(1, data, 0, end=data == b"b").encode(1).hex() for data in (b"a", b"b"))
+        self.assertEqual(row[2:], ["bytes 0 " + first, "turn 0", "bytes 0 " + second, "turn 0", ""])
+        self.assertEqual(self.read("one/stdout").split("\n= ")[2], "single bytes: a write\nrefused 4\na b \n")
+
+    def test_faults_of_the_text(self):
+        path = self.write("one/rows/a.rows", ROWS + "0 nothing\n")
+        line = ROWS.count("\n") + 1
+        status, told = self.tool("rows", "--check", self.folder + "/one")
+        self.assertEqual((status, told), (1, "%s:%d: no call of VXI-11: nothing\n" % (path, line)))
+        self.write("one/rows/a.rows", ROWS + "\ntitle a write\n")
+        self.assertIn("another row has this title", self.tool("rows", "--check", self.folder + "/one")[1])
+        self.write("one/rows/a.rows", ROWS + 500 * "\n")
+        self.assertIn("a.rows: %d lines" % (500 + line - 1), self.tool("rows", "--check", self.folder + "/one")[1])
+        self.assertFalse(os.path.exists(self.folder + "/one/stdin"))
+
+
+class Differences(Rows):
+
+    def setUp(self):
+        super().setUp()
+        self.path = self.write("one/rows/a.rows", ROWS)
+        self.assertEqual(self.tool("rows", self.folder + "/one")[0], 0)
+        self.wanted = self.read("one/stdout")
+
+    def told(self, printed):
+        self.write("one/out/stdout", printed)
+        return self.tool("row-diff", self.folder + "/one")
+
+    def test_none(self):
+        self.assertEqual(self.told(self.wanted), (0, ""))
+        self.assertEqual(self.tool("row-diff", self.folder)[0], 2)
+
+    def test_a_row_is_told_with_its_title_its_question_and_both_answers(self):
+        came = encode_reply(1, words(4, 0)).hex()
+        status, told = self.told(self.wanted.replace(encode_reply(1, words(0, 2)).hex(), came))
+        self.assertEqual(status, 1)
+        lines = told.split("\n")
+        self.assertEqual(lines[0], "%s:10: a write" % self.path)
+        self.assertIn('  call    0 device_write "ab" lid=1 end', lines)
+        at = lines.index("  wanted  reply 0 device_write size=2 xid=1")
+        self.assertEqual(lines[at + 1], "  came    reply 0 device_write error=4 xid=1 (invalid link identifier)")
+        self.assertEqual(lines[at + 2].index("^"), lines[at].index("size"))
+        self.assertIn("1 of 3 rows differ", told)
+
+    def test_a_line_less_a_line_more_and_an_end(self):
+        self.assertIn("  came    nothing more", self.told(self.wanted.replace("refused 4\na b \n= s", "refused 4\n= s"))[1])
+        self.assertIn("  wanted  nothing more", self.told(self.wanted + "idle\n")[1])
+        status, told = self.told(self.wanted[:self.wanted.index("= single")])
+        self.assertEqual(status, 1)
+        self.assertIn("single bytes: a write\n  came    nothing: the program had ended", told)
+        self.assertIn("3 of 3 rows differ", self.told("")[1])
+        self.assertIn("no row differs, but the titles do", self.told(self.wanted + "= one more\n")[1])
+
+
+if __name__ == "__main__":
+    unittest.main()
