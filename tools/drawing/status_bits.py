@@ -44,14 +44,16 @@ def word(sources, place, text):
 
 
 def conditions(sources):
-    """The bits of each register's condition, by the words of the page."""
-    found = {}
-    equations = sources.equations("sv_layers/Condition", "condition")
+    """The bits of each register's condition, by the words of the page: what the measurement tells it, and what is nested in it."""
+    found, place = {}, "sv_layers/Condition"
+    equations, measured = sources.equations(place, "condition"), sources.equations(place, "scan_word")
     for name in sources.variants(REGISTERS, "RegisterName"):
-        right = equations.get("condition %s log" % name)
-        if right is None or name not in WORDS:
+        right, told = (of.get(left % name) for of, left in ((equations, "condition %s log"), (measured, "scan_word %s acts")))
+        right = right or equations.get("condition name log", "").replace("name", name)
+        own = "word %s log" % name
+        if told is None or own not in right or name not in WORDS:
             raise Fault("%s: there is no place for the register %s" % (REGISTERS, name))
-        found[WORDS[name]] = word(sources, "sv_layers/Condition", right)
+        found[WORDS[name]] = word(sources, place, right.replace(own, told))
     return found
 
 
@@ -105,6 +107,6 @@ def read(sources):
     for bit, kind in standard.items():
         if kind and kind not in names[STANDARD][bit][1]:
             raise Fault("%s: standard events: bit %d doesn't say %s" % (PAGE, bit, kind))
-    nested = {WORDS[found.group(1).capitalize()]: (register, bit) for register, bits in words.items()
-              for bit, value in bits.items() for found in [re.search(r"(\w+)_summary ", value)] if found}
+    nested = {WORDS[found.group(1)]: (register, bit) for register, bits in words.items()
+              for bit, value in bits.items() for found in [re.match(r"\(summary (\w+) log\)", value)] if found}
     return names, byte, nested

@@ -10,17 +10,11 @@ use crate::branch::Branch;
 use crate::command::CommandId;
 use crate::path::Path;
 use crate::sent::Sent;
-use crate::table::{
-    COMMON_COMMANDS, LIMIT_REGISTER, MEASURING, OPERATION_REGISTER, QUESTIONABLE_REGISTER,
-    SETTINGS, STATUS_NODES, SYSTEM_NODES,
-};
+use crate::table::{COMMON_COMMANDS, MEASURING, NODES, SETTINGS, STATUS_NODES, SYSTEM_NODES};
 use crate::walk::walk;
 use std::alloc::{AllocError, Allocator, Global};
 use std::marker::Model;
 use sv_errors::Code;
-
-/// How many nodes the tree has.
-const NODES: usize = 63;
 
 /// How many of them are of common commands; these stand in front.
 const COMMON_NODES: usize = 11;
@@ -48,9 +42,6 @@ impl<A: Allocator> Table<A> {
         branches.extend_from_slice(&COMMON_COMMANDS)?;
         branches.extend_from_slice(&SYSTEM_NODES)?;
         branches.extend_from_slice(&STATUS_NODES)?;
-        branches.extend_from_slice(&OPERATION_REGISTER)?;
-        branches.extend_from_slice(&QUESTIONABLE_REGISTER)?;
-        branches.extend_from_slice(&LIMIT_REGISTER)?;
         branches.extend_from_slice(&SETTINGS)?;
         branches.extend_from_slice(&MEASURING)?;
         Ok(Table { branches })

@@ -11,6 +11,9 @@ use crate::nodes::{
 };
 use sv_status::RegisterName;
 
+/// How many nodes the tree has.
+pub(crate) const NODES: usize = 63;
+
 /// A node that ends no header, with how many stand below it.
 macro_rules! group {
     ($node:ident, $below:literal) => {
@@ -85,36 +88,32 @@ pub(crate) static SYSTEM_NODES: [Branch; 5] = [
     asks!(VERSION, Question::Version),
 ];
 
-/// STATus without its registers, which stand behind these (SCPI-1999, volume 2).
-pub(crate) static STATUS_NODES: [Branch; 2] = [group!(STATUS, 19), does!(PRESET, Preset)];
-
-/// A register of STATus (SCPI-1999, volume 2): its node, how many nodes stand below that, and its
-/// name.
-macro_rules! register_nodes {
-    ($node:ident, $below:literal, $name:ident) => {
+/// STATus (SCPI-1999, volume 2): the preset, and each register by its node, how many nodes stand
+/// below that, and its name.
+macro_rules! status_nodes {
+    ($below:literal, $($register:ident, $count:literal, $name:ident;)*) => {
         [
-            group!($node, $below),
-            asks!(MAYBE_EVENT, Question::Events(RegisterName::$name)),
-            asks!(CONDITION, Question::Condition(RegisterName::$name)),
-            sets!(ENABLE, SettingName::Enable(RegisterName::$name)),
-            sets!(PTRANSITION, SettingName::Rise(RegisterName::$name)),
-            sets!(NTRANSITION, SettingName::Fall(RegisterName::$name)),
+            group!(STATUS, $below),
+            does!(PRESET, Preset),
+            $(
+                group!($register, $count),
+                asks!(MAYBE_EVENT, Question::Events(RegisterName::$name)),
+                asks!(CONDITION, Question::Condition(RegisterName::$name)),
+                sets!(ENABLE, SettingName::Enable(RegisterName::$name)),
+                sets!(PTRANSITION, SettingName::Rise(RegisterName::$name)),
+                sets!(NTRANSITION, SettingName::Fall(RegisterName::$name)),
+            )*
         ]
     };
 }
 
-/// The operation register.
-pub(crate) static OPERATION_REGISTER: [Branch; 6] = register_nodes!(OPERATION, 5, Operation);
-
-/// The questionable register; the register of limits stands behind these nodes.
-pub(crate) static QUESTIONABLE_REGISTER: [Branch; 6] = register_nodes!(
-    QUESTIONABLE,
-    11,
-    Questionable
+/// STATus with its registers; a nested one stands behind the nodes of the one above it.
+pub(crate) static STATUS_NODES: [Branch; 20] = status_nodes!(
+    19,
+    OPERATION, 5, Operation;
+    QUESTIONABLE, 11, Questionable;
+    LIMIT, 5, Limit;
 );
-
-/// The register of limits, which stands below the questionable one.
-pub(crate) static LIMIT_REGISTER: [Branch; 6] = register_nodes!(LIMIT, 5, Limit);
 
 /// What is measured, and how (SCPI-1999, volume 2).
 pub(crate) static SETTINGS: [Branch; 16] = [

@@ -62,12 +62,12 @@ some_summary : (at : LayerLogs) → (word : ℕ) × IsSummary word at
 some_summary at = (
   _,
   record {
-    operates = (register_test (start_of Operation) at.operation).0;
+    operates = (register_test (start_of Operation) (at.registers Operation)).0;
     happened = (standard_test at.standard).0;
-    questioned = (register_test (start_of Questionable) at.questionable).0;
-    operation = (register_test (start_of Operation) at.operation).1;
+    questioned = (register_test (start_of Questionable) (at.registers Questionable)).0;
+    operation = (register_test (start_of Operation) (at.registers Operation)).1;
     standard = (standard_test at.standard).1;
-    questionable = (register_test (start_of Questionable) at.questionable).1;
+    questionable = (register_test (start_of Questionable) (at.registers Questionable)).1;
     word_is = refl;
   },
 )

@@ -17,6 +17,7 @@ pub mod SameRequests
 pub mod AlwaysTold
 pub mod Either
 pub mod Transitions
+pub mod EachRegister
 pub mod LimitSummary
 pub mod Lent
 pub mod Refusals

@@ -1,4 +1,4 @@
--- The summary of the register of limits, as a test and as it is said of any register.
+-- The summary of a nested register, as a test and as it is said of any register.
 use Rattle.std.proofs.Common.{◌≡◌, ℕ, ◌<◌, ◌^◌, Bool, true, false, List, [], ◌∷◌, refl, ap, ◌∙◌, sym, arith, inl, inr, get_or}
 use Rattle.std.specs.Prelude.{◌↔◌, ◌&&◌, ◌||◌, Some, None, unwrap_or, if◌then◌else◌}
 use Rattle.std.specs.Int.{bit_at}
@@ -11,12 +11,12 @@ use Rattle.std.proofs.lemmas.Nat.Bits.{bit_at_above}
 use Rattle.sv_logs.specs.Since.{is_since}
 use Rattle.sv_logs.proofs.Since.{both_true, either_true, is_since_is}
 use Rattle.sv_status.specs.declared.register_name.RegisterName.{RegisterName}
-use Rattle.sv_status.specs.declared.register_name.RegisterName.TheVariants.{Operation, Questionable, Limit}
 use Rattle.sv_status.specs.Register.{masked}
 use Rattle.sv_layers.specs.Act.{Act, Enabled, Preset}
-use Rattle.sv_layers.specs.Filter.{is_same, start, enable, has_bit, passes, leaves}
-use Rattle.sv_layers.specs.Condition.{limit, limit_summary, condition}
+use Rattle.sv_layers.specs.Filter.{is_same, enable, has_bit, passes, leaves}
+use Rattle.sv_layers.specs.Condition.{word, summary, condition}
 use Rattle.sv_layers.specs.Event.{EventStands, Summary}
+use Rattle.sv_layers.proofs.EachRegister.{start_small}
 use Rattle.sv_layers.proofs.Transitions.{has_is}
 
 -- one of these numbers is such
@@ -37,11 +37,6 @@ small_of : (b : Bool) (mask word : ℕ) → word < 2 ^ 16 → unwrap_or (if b th
 small_of true mask word small = let below = mod_below mask (2 ^ 15) (omega arith) in omega (arith, below)
 small_of false mask word small = small
 
-start_small : (name : RegisterName) → start name < 2 ^ 16
-start_small Operation = omega arith
-start_small Questionable = omega arith
-start_small Limit = omega arith
-
 enable_small : (name : RegisterName) (log : List Act) → enable name log < 2 ^ 16
 enable_small name [] = start_small name
 enable_small name (Enabled other mask ∷ log) = small_of (is_same name other) mask (enable name log) (enable_small name log)
@@ -55,35 +50,46 @@ enabled_below name log k e = elim (cases_lt k 16) [
   | inr le ↦ absurd (let none = bit_at_above (enable name log) 16 k (enable_small name log) le in omega (arith, none, e))
 ]
 
--- what passes there passes by the condition of the register
-same_passing : (k : ℕ) (log : List Act) → passes limit Limit k log ≡ passes (condition Limit) Limit k log
-same_passing k [] = refl
-same_passing k (act ∷ before) = refl
+-- what is told is all of the condition
+abbrev pub IsOf : (List Act → ℕ) → RegisterName → Type 0
+IsOf word name = (log : List Act) → word log ≡ condition name log
 
-stands_is : (k : ℕ) (log : List Act) → (is_since (passes limit Limit k) (leaves Limit) log ≡ true) ↔ EventStands Limit k log
-stands_is k log =
-    let is = is_since_is (passes limit Limit k) (leaves Limit) log in (
+-- what passes there passes by the condition of the register
+same_passing : (word : List Act → ℕ) (name : RegisterName) → IsOf word name → (k : ℕ) (log : List Act)
+    → passes word name k log ≡ passes (condition name) name k log
+same_passing word name is k [] = refl
+same_passing word name is k (act ∷ before) = rw (is before, is (act ∷ before)) refl
+
+stands_is : (word : List Act → ℕ) (name : RegisterName) → IsOf word name → (k : ℕ) (log : List Act)
+    → (is_since (passes word name k) (leaves name) log ≡ true) ↔ EventStands name k log
+stands_is word name same k log =
+    let is = is_since_is (passes word name k) (leaves name) log in (
       (λ e. let s = is.0 e in record {
         ago = s.ago;
         within = s.within;
-        found = sym (same_passing k _) ∙ s.found;
+        found = sym (same_passing word name same k _) ∙ s.found;
         kept = s.kept;
       }),
-      (λ s. is.1 (record { ago = s.ago; within = s.within; found = same_passing k _ ∙ s.found; kept = s.kept })),
+      (λ s. is.1 (record { ago = s.ago; within = s.within; found = same_passing word name same k _ ∙ s.found; kept = s.kept })),
     )
 
-pub limit_summary_is : (log : List Act) → (limit_summary log ≡ true) ↔ Summary Limit log
-limit_summary_is log =
-    let is_such : ℕ → Bool = λ k. is_since (passes limit Limit k) (leaves Limit) log && has_bit (enable Limit log) k in (
+nested_summary_is : (word : List Act → ℕ) (name : RegisterName) → IsOf word name → (log : List Act)
+    → (list_any (λ k. is_since (passes word name k) (leaves name) log && has_bit (enable name log) k) (range_with_len 0 16) ≡ true)
+    ↔ Summary name log
+nested_summary_is word name same log =
+    let is_such : ℕ → Bool = λ k. is_since (passes word name k) (leaves name) log && has_bit (enable name log) k in (
       (λ e.
           let found = found_of (range_with_len 0 16) is_such e in
           let both =
-          (both_true (is_since (passes limit Limit found.0) (leaves Limit) log) (has_bit (enable Limit log) found.0)).0 found.1 in
-          (found.0, (stands_is found.0 log).0 both.0, (has_is (enable Limit log) found.0).0 both.1)),
-      (λ s. below_found s.0 is_such (enabled_below Limit log s.0 s.2)
-          ((both_true (is_since (passes limit Limit s.0) (leaves Limit) log) (has_bit (enable Limit log) s.0)).1
-          ((stands_is s.0 log).1 s.1, (has_is (enable Limit log) s.0).1 s.2))),
+          (both_true (is_since (passes word name found.0) (leaves name) log) (has_bit (enable name log) found.0)).0 found.1 in
+          (found.0, (stands_is word name same found.0 log).0 both.0, (has_is (enable name log) found.0).0 both.1)),
+      (λ s. below_found s.0 is_such (enabled_below name log s.0 s.2)
+          ((both_true (is_since (passes word name s.0) (leaves name) log) (has_bit (enable name log) s.0)).1
+          ((stands_is word name same s.0 log).1 s.1, (has_is (enable name log) s.0).1 s.2))),
     )
+
+pub summary_is : (name : RegisterName) → IsOf (word name) name → (log : List Act) → (summary name log ≡ true) ↔ Summary name log
+summary_is name whole log = nested_summary_is (word name) name whole log
 
 -- two tests that say the same of each number
 pub some_same : (ks : List ℕ) (p q : ℕ → Bool) → ((k : ℕ) → p k ≡ q k) → list_any p ks ≡ list_any q ks

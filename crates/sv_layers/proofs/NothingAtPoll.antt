@@ -5,27 +5,26 @@ use Rattle.std.specs.List.{range_with_len}
 use Rattle.sv_logs.specs.Since.{is_since}
 use Rattle.sv_logs.proofs.Since.{since_empty, since_step, since_same, since_ended}
 use Rattle.sv_status.specs.declared.register_name.RegisterName.{RegisterName}
-use Rattle.sv_status.specs.declared.register_name.RegisterName.TheVariants.{Operation, Questionable, Limit}
+use Rattle.sv_status.specs.declared.register_name.RegisterName.TheVariants.{Operation, Questionable}
 use Rattle.sv_scan.specs.Condition as scan
 use Rattle.sv_layers.specs.Act.{Act, Polled}
 use Rattle.sv_layers.specs.Filter.{rise, fall, enable, has_bit, passes, leaves}
-use Rattle.sv_layers.specs.Condition.{counted, limit, limit_summary, condition}
+use Rattle.sv_layers.specs.Condition.{word, summary, condition}
 use Rattle.sv_layers.specs.Event.{Summary}
 use Rattle.sv_layers.specs.Standard.{IsAsked, IsPending, Completes, Occurs, NotCleared as StandardNotCleared, Summary as StandardSummary}
 use Rattle.sv_layers.specs.StatusByte.{ServiceRequested, IsRaised, Lasts, Reason, Request}
 use Rattle.sv_layers.proofs.Transitions.{Passes, NotCleared, changes, no_change}
+use Rattle.sv_layers.proofs.EachRegister.{condition_same}
 use Rattle.sv_layers.proofs.LimitSummary.{some_same}
 
--- it passes no limit, and leaves their summary
-limits_stay : (log : List Act) → limit_summary (Polled ∷ log) ≡ limit_summary log
-limits_stay log = some_same (range_with_len 0 16) _ _ (λ k.
-    ap (λ (b : Bool). (b || is_since (passes limit Limit k) (leaves Limit) log) && has_bit (enable Limit log) k)
-    (no_change (has_bit (limit log) k) (has_bit (rise Limit log) k) (has_bit (fall Limit log) k)))
+-- it passes no filter, and leaves the summaries
+stays : (name : RegisterName) (log : List Act) → summary name (Polled ∷ log) ≡ summary name log
+stays name log = some_same (range_with_len 0 16) _ _ (λ k.
+    ap (λ (b : Bool). (b || is_since (passes (word name) name k) (leaves name) log) && has_bit (enable name log) k)
+    (no_change (has_bit (word name log) k) (has_bit (rise name log) k) (has_bit (fall name log) k)))
 
 same_condition : (name : RegisterName) (log : List Act) → condition name (Polled ∷ log) ≡ condition name log
-same_condition Operation log = refl
-same_condition Questionable log = ap (λ (b : Bool). scan.questionable (counted log) + scan.bit 9 b) (limits_stay log)
-same_condition Limit log = refl
+same_condition name log = condition_same name (Polled ∷ log) log refl (λ below. stays below log)
 
 no_pass : (name : RegisterName) (k : ℕ) (log : List Act) → Passes name k (Polled ∷ log) → ⊥
 no_pass name k log passed =

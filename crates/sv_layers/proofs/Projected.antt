@@ -3,7 +3,7 @@ use Rattle.std.proofs.Common.{◌≡◌, List, [], ◌∷◌, refl, ap}
 use Rattle.sv_errors.specs.declared.error_queue.QueueAct.{QueueAct}
 use Rattle.sv_errors.specs.declared.error_queue.QueueAct.TheVariants as queue
 use Rattle.sv_status.specs.declared.register_name.RegisterName.{RegisterName}
-use Rattle.sv_status.specs.declared.register_name.RegisterName.TheVariants.{Operation, Questionable, Limit}
+use Rattle.sv_status.specs.declared.register.RegisterAct.{RegisterAct}
 use Rattle.sv_scan.specs.declared.acts.ScanAct.{ScanAct}
 use Rattle.sv_exchange.specs.Exchange.{ExchangeAct, TextDropped, Interrupted}
 use Rattle.sv_layers.specs.Act.{Act, Exchanged, Purged, Scanned, Reported, EntryTaken, Cleared, ServiceEnabled, exchange_acts, queue_acts, scan_acts}
@@ -19,17 +19,17 @@ Projects at log = (at.exchange ≡ exchange_acts log) × (at.errors ≡ queue_ac
 -- It begins in these layers, and in no register.
 abbrev Begins : Act → List Act → LayerLogs → Type 0
 Begins act log at = Projects at log → Projects (begun act at) (act ∷ log)
-    × ((begun act at).operation ≡ at.operation) × ((begun act at).questionable ≡ at.questionable) × ((begun act at).limit ≡ at.limit)
+    × ((begun act at).registers ≡ at.registers)
 
 begins : (act : Act) (log : List Act) (at : LayerLogs) → Begins act log at
-begins (Exchanged act) log at h = ((ap (λ (acts : List ExchangeAct). act ∷ acts) h.0, h.1, h.2, h.3), refl, refl, refl)
-begins Purged log at h = ((ap (λ (acts : List ExchangeAct). Interrupted ∷ TextDropped ∷ acts) h.0, h.1, h.2, h.3), refl, refl, refl)
-begins (Scanned act) log at h = ((h.0, h.1, ap (λ (acts : List ScanAct). act ∷ acts) h.2, h.3), refl, refl, refl)
-begins (Reported code) log at h = ((h.0, ap (λ (acts : List QueueAct). queue.Report code ∷ acts) h.1, h.2, h.3), refl, refl, refl)
-begins EntryTaken log at h = ((h.0, ap (λ (acts : List QueueAct). queue.Take ∷ acts) h.1, h.2, h.3), refl, refl, refl)
-begins Cleared log at h = ((h.0, ap (λ (acts : List QueueAct). queue.Clear ∷ acts) h.1, h.2, h.3), refl, refl, refl)
-begins (ServiceEnabled mask) log at h = ((h.0, h.1, h.2, refl), refl, refl, refl)
-begins _ log at h = (h, refl, refl, refl)
+begins (Exchanged act) log at h = ((ap (λ (acts : List ExchangeAct). act ∷ acts) h.0, h.1, h.2, h.3), refl)
+begins Purged log at h = ((ap (λ (acts : List ExchangeAct). Interrupted ∷ TextDropped ∷ acts) h.0, h.1, h.2, h.3), refl)
+begins (Scanned act) log at h = ((h.0, h.1, ap (λ (acts : List ScanAct). act ∷ acts) h.2, h.3), refl)
+begins (Reported code) log at h = ((h.0, ap (λ (acts : List QueueAct). queue.Report code ∷ acts) h.1, h.2, h.3), refl)
+begins EntryTaken log at h = ((h.0, ap (λ (acts : List QueueAct). queue.Take ∷ acts) h.1, h.2, h.3), refl)
+begins Cleared log at h = ((h.0, ap (λ (acts : List QueueAct). queue.Clear ∷ acts) h.1, h.2, h.3), refl)
+begins (ServiceEnabled mask) log at h = ((h.0, h.1, h.2, refl), refl)
+begins _ log at h = (h, refl)
 
 pub projected : OwnActs
 projected [] = (refl, refl, refl, refl)
@@ -41,6 +41,4 @@ begun_scanner act log = (begins act log (seen log) (projected log)).0.2
 
 pub begun_register : (name : RegisterName) (act : Act) (log : List Act)
     → register_acts name (begun act (seen log)) ≡ register_acts name (seen log)
-begun_register Operation act log = (begins act log (seen log) (projected log)).1
-begun_register Questionable act log = (begins act log (seen log) (projected log)).2
-begun_register Limit act log = (begins act log (seen log) (projected log)).3
+begun_register name act log = ap (λ (at : RegisterName → List RegisterAct). at name) (begins act log (seen log) (projected log)).1

@@ -1,7 +1,6 @@
 -- What a status register sees of an act: the condition behind it, and then what the act does to the register itself.
 use Rattle.std.proofs.Common.{◌≡◌, List, ◌∷◌, refl}
 use Rattle.sv_status.specs.declared.register_name.RegisterName.{RegisterName}
-use Rattle.sv_status.specs.declared.register_name.RegisterName.TheVariants.{Operation, Questionable, Limit}
 use Rattle.sv_status.specs.declared.register.RegisterAct.TheVariants as register
 use Rattle.sv_layers.specs.Act.{Act}
 use Rattle.sv_layers.specs.Condition.{condition}
@@ -10,6 +9,4 @@ use Rattle.sv_layers.proofs.Projected.{begun_register}
 
 pub seen_register : (name : RegisterName) (act : Act) (log : List Act) → register_acts name (seen (act ∷ log))
     ≡ own name act (register.Condition (condition name (act ∷ log)) ∷ register_acts name (seen log))
-seen_register Operation act log = rw (begun_register Operation act log) refl
-seen_register Questionable act log = rw (begun_register Questionable act log) refl
-seen_register Limit act log = rw (begun_register Limit act log) refl
+seen_register name act log = rw (begun_register name act log) refl

@@ -3,7 +3,6 @@ use Rattle.std.proofs.Common.{◌≡◌, ℕ, Bool, true, false, List, [], ◌�
 use Rattle.std.specs.Prelude.{◌↔◌, not, if◌then◌else◌}
 use Rattle.sv_logs.proofs.Since.{since_unique, step_kept, step_ended, then_same}
 use Rattle.sv_status.specs.declared.register_name.RegisterName.{RegisterName}
-use Rattle.sv_status.specs.declared.register_name.RegisterName.TheVariants.{Operation, Questionable, Limit}
 use Rattle.sv_status.specs.declared.register.RegisterAct.{RegisterAct}
 use Rattle.sv_status.specs.declared.register.RegisterAct.TheVariants as register
 use Rattle.sv_status.specs.Register as stands
@@ -60,9 +59,7 @@ event_step : (name : RegisterName) (k : ℕ) (act : Act) (log : List Act) → st
 event_step name k act log = rw (seen_register name act log) (own_event name k act log _ _ (at_condition name k act log))
 
 none_first : (name : RegisterName) (k : ℕ) → stands.EventStands k (register_acts name (seen [])) → ⊥
-none_first Operation k = event-none k
-none_first Questionable k = event-none k
-none_first Limit k = event-none k
+none_first name k = event-none k
 
 pub same_events : SameEvents
 same_events name k = since_unique (Passes name k) (NotCleared name) (λ log. stands.EventStands k (register_acts name (seen log)))

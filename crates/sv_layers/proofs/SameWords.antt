@@ -3,7 +3,6 @@ use Rattle.std.proofs.Common.{◌≡◌, ℕ, Bool, true, false, List, [], ◌�
 use Rattle.std.specs.Prelude.{◌^◌, Some, None, unwrap_or, if◌then◌else◌}
 use Rattle.std.proofs.Math.Nat.{mod-mod}
 use Rattle.sv_status.specs.declared.register_name.RegisterName.{RegisterName}
-use Rattle.sv_status.specs.declared.register_name.RegisterName.TheVariants.{Operation, Questionable, Limit}
 use Rattle.sv_status.specs.declared.register.RegisterAct.{RegisterAct}
 use Rattle.sv_status.specs.declared.register.RegisterAct.TheVariants.{Condition, SetFilter, SetEnable, ReadEvent, Clear}
 use Rattle.sv_status.specs.declared.register.RegisterAct.TheVariants as register
@@ -14,6 +13,7 @@ use Rattle.sv_layers.specs.Condition.{condition}
 use Rattle.sv_layers.specs.Filter.{is_same, start, rise, fall, enable}
 use Rattle.sv_layers.specs.Inside.LayerLogs.{own, seen, register_acts}
 use Rattle.sv_layers.specs.Laws.{SameWords}
+use Rattle.sv_layers.proofs.EachRegister.{first_condition}
 use Rattle.sv_layers.proofs.Registered.{seen_register}
 
 -- the words that a register has behind its acts
@@ -70,9 +70,7 @@ own_words name (FallSet other mask) log acts h = fall_words (start name) (is_sam
 own_words name _ log acts h = h
 
 pub same_words : SameWords
-same_words Operation [] = (refl, refl, refl, refl)
-same_words Questionable [] = (refl, refl, refl, refl)
-same_words Limit [] = (refl, refl, refl, refl)
+same_words name [] = (sym (first_condition name), refl, refl, refl)
 same_words name (act ∷ log) =
     let h = same_words name log in
     subst (λ (acts : List RegisterAct). WordsOf name acts (act ∷ log)) (sym (seen_register name act log))

@@ -19,16 +19,21 @@ counted log = kept (scan_acts log)
 abbrev pub is_idle : List Act → Bool
 is_idle log = idles (state (counted log))
 
--- the limits that are passed
-abbrev pub limit : List Act → ℕ
-limit log = scan.limit (counted log)
+-- what the measurement tells a register
+abbrev pub scan_word : RegisterName → List ScanAct → ℕ
+scan_word Operation acts = scan.operation acts
+scan_word Questionable acts = scan.questionable acts
+scan_word Limit acts = scan.limit acts
 
--- Their summary: some bit that is enabled passed its filter after the last clearing.
-abbrev pub limit_summary : List Act → Bool
-limit_summary log = list_any (λ k. is_since (passes limit Limit k) (leaves Limit) log && has_bit (enable Limit log) k) (range_with_len 0 16)
+abbrev pub word : RegisterName → List Act → ℕ
+word name log = scan_word name (counted log)
 
--- Bit 9 of the questionable condition is that summary.
+-- The summary of a register with none below it: some bit that is enabled passed its filter after the last clearing.
+abbrev pub summary : RegisterName → List Act → Bool
+summary name log =
+    list_any (λ k. is_since (passes (word name) name k) (leaves name) log && has_bit (enable name log) k) (range_with_len 0 16)
+
+-- Bit 9 of the questionable condition is the summary of the register below it.
 abbrev pub condition : RegisterName → List Act → ℕ
-condition Operation log = scan.operation (counted log)
-condition Questionable log = scan.questionable (counted log) + scan.bit 9 (limit_summary log)
-condition Limit log = limit log
+condition Questionable log = word Questionable log + scan.bit 9 (summary Limit log)
+condition name log = word name log

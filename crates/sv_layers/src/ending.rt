@@ -22,14 +22,14 @@ use sv_status::{Register, RegisterName, StandardEvent};
 /// Operation complete, of the standard events.
 const COMPLETE: u8 = 1 << 0;
 
-/// The summary of the register of limits, of the questionable condition.
-const LIMIT: u16 = 1 << 9;
+/// The summary of a nested register, of the condition of the register above it.
+const SUMMARY: u16 = 1 << 9;
 
 impl<A: Allocator> Layers<A> {
     /// Ends an act that has begun in its own layer, as this change ends. One register after the
     /// other is told its condition, where that may have changed, and then the change does to it
-    /// what it does to a register itself. So the summary of the register of limits is there before
-    /// the questionable register is told its condition.
+    /// what it does to a register itself. So the summary of a nested register is there before the
+    /// register above it is told its condition.
     pub(crate) fn end(&mut self, change: &Change)
         ensures stands { (log : List Act) (act : Act) (told : List StatusAct)
             → EndsAs (act_of change.now) act → Represents self.old (begun act (seen log)) told
@@ -47,7 +47,7 @@ impl<A: Allocator> Layers<A> {
         change_register(&mut self.limit, RegisterName::Limit, change);
         let stands = self.limit.summary();
         let moved = touched.questionable | differ(stood, stands);
-        let word = now.questionable | limit_bit(stands);
+        let word = now.questionable | summary_bit(stands);
         compare(&mut self.questionable, moved, word);
         change_register(&mut self.questionable, RegisterName::Questionable, change);
         self.complete();
@@ -75,11 +75,11 @@ fn differ(first: bool, second: bool) -> bool
     if first { !second } else { second }
 }
 
-/// Bit 9 of the questionable condition, where the summary of the register of limits stands.
-fn limit_bit(stands: bool) -> u16
+/// Bit 9 of the condition of the register above a nested one, where the summary of that stands.
+fn summary_bit(stands: bool) -> u16
     ensures { result ≡ bit 9 stands }
 {
-    if stands { LIMIT } else { 0 }
+    if stands { SUMMARY } else { 0 }
 }
 
 /// Tells a register its condition, where that may have changed.

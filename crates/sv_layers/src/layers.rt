@@ -53,9 +53,11 @@ impl<A: Allocator> Model for Layers<A> {
     ghost view = { λ a. record {
       exchange = a.exchange;
       errors = a.errors;
-      operation = a.operation;
-      questionable = a.questionable;
-      limit = a.limit;
+      registers = record {
+        operation = a.operation;
+        questionable = a.questionable;
+        limit = a.limit;
+      };
       standard = a.standard;
       status = a.status;
       scanner = a.scanner;

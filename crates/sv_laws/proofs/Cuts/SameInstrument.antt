@@ -30,7 +30,7 @@ use Rattle.sv_instrument.specs.QueryResponse.{IsWord, readings_text, oldest_text
 use Rattle.sv_instrument.specs.CommandEffect.{answered, unless, configured, taken, question_fault, Replies, acted, Performs}
 use Rattle.sv_instrument.specs.Step.{released, Does, Starts, StepOf, IsStep}
 use Rattle.sv_laws.proofs.Cuts.SameExchange.{text_act, answers_same, message_same, next_unit_same, due_same}
-use Rattle.sv_laws.proofs.Cuts.SameStatus.{SameStatus, status_act, status_back, condition_same, idle_same, master_same}
+use Rattle.sv_laws.proofs.Cuts.SameStatus.{SameStatus, status_act, status_back, status_condition, idle_same, master_same}
 
 -- ---- two logs
 
@@ -137,7 +137,7 @@ says_same question.StatusByte log other v bytes h = word_same _ _ bytes (λ k. m
 says_same question.Error log other v bytes h = h ∙ ap (λ (l : List QueueAct). oldest_text (oldest l)) v.queued
 says_same question.ErrorCount log other v bytes h = h ∙ ap (λ (l : List QueueAct). decimal (length (entries l))) v.queued
 says_same (question.Events name) log other v bytes h = word_same _ _ bytes (v.events name) h
-says_same (question.Condition name) log other v bytes h = h ∙ ap decimal (condition_same name log other v.scanned v.limits)
+says_same (question.Condition name) log other v bytes h = h ∙ ap decimal (status_condition name log other v)
 says_same question.Readings log other v bytes h = rw v.scanned at h
 says_same (question.Value what) log other v bytes h = h ∙ value_same what log other v
 

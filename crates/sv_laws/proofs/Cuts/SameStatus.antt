@@ -1,26 +1,28 @@
 -- Two logs of the instrument that are the same but for where program text was accepted: no search of its status tells them apart.
 use Rattle.std.proofs.Common.{◌≡◌, ℕ, Bool, true, false, List, [], ◌∷◌, refl, sym, ap, ◌∙◌, inl, inr, arith}
-use Rattle.std.specs.Prelude.{◌↔◌, ◌+◌, not, unwrap_or}
+use Rattle.std.specs.Prelude.{◌↔◌, ◌&&◌, ◌||◌, not, unwrap_or}
 use Rattle.std.specs.Int.{bit_at}
 use Rattle.sv_errors.specs.declared.error_queue.QueueAct.{QueueAct}
 use Rattle.sv_errors.specs.declared.error_queue.QueueAct.TheVariants as queue_act
 use Rattle.sv_errors.specs.ErrorQueue.{entries, is_full}
+use Rattle.std.specs.List.{range_with_len}
+use Rattle.sv_logs.specs.Since.{is_since}
 use Rattle.sv_logs.proofs.Since.{since_empty, since_alike, since_over, then_same}
 use Rattle.sv_status.specs.declared.register_name.RegisterName.{RegisterName}
-use Rattle.sv_status.specs.declared.register_name.RegisterName.TheVariants.{Operation, Questionable, Limit}
+use Rattle.sv_status.specs.declared.register_name.RegisterName.TheVariants.{Operation, Questionable}
 use Rattle.sv_scan.specs.declared.acts.ScanAct.{ScanAct}
 use Rattle.sv_scan.specs.Counted.{kept}
-use Rattle.sv_scan.specs.Condition as scan
 use Rattle.sv_exchange.specs.Exchange.{Accepted, TextDropped, Interrupted, response, is_something}
 use Rattle.sv_layers.specs.Act.{Act, Exchanged, Purged, Scanned, Reported, EntryTaken, Cleared, Preset, OpcAsked, StandardRead, StandardEnabled, EventRead, Enabled, RiseSet, FallSet, ServiceEnabled, Polled, exchange_acts, scan_acts, queue_acts}
-use Rattle.sv_layers.specs.Filter.{is_same, mask_for, rise, fall, enable, has_bit, passes}
-use Rattle.sv_layers.specs.Condition.{limit_summary, condition, counted, is_idle}
+use Rattle.sv_layers.specs.Filter.{is_same, mask_for, rise, fall, enable, has_bit, passes, leaves}
+use Rattle.sv_layers.specs.Condition.{word, summary, condition, counted, is_idle}
 use Rattle.sv_layers.specs.Event.{EventStands, Summary}
 use Rattle.sv_layers.specs.Standard as standard
 use Rattle.sv_layers.specs.StatusByte.{SummaryBit, service, ServiceRequested, Master, Reason, Lasts, Request, IsRaised, PolledBit, MasterBit}
 use Rattle.sv_layers.proofs.Booleans.{same_bool}
 use Rattle.sv_layers.proofs.Transitions.{Passes, NotCleared, changes, no_change}
-use Rattle.sv_layers.proofs.LimitSummary.{limit_summary_is}
+use Rattle.sv_layers.proofs.LimitSummary.{some_same}
+use Rattle.sv_layers.proofs.EachRegister.{condition_same}
 use Rattle.sv_laws.proofs.Cuts.SameExchange.{SameExchange, exchange_same, exchange_act, exchange_accepted, exchange_back, response_same}
 
 -- ---- searches
@@ -30,10 +32,14 @@ both_ways P = ((λ (h : P). h), (λ (h : P). h))
 
 -- ---- two logs
 
+-- whether a bit passed its filter after the last clearing, by what the measurement tells a register
+abbrev stood : RegisterName → ℕ → List Act → Bool
+stood name k log = is_since (passes (word name) name k) (leaves name) log
+
 pub record SameStatus (log other : List Act) : Type 0 where
   pub scanned : scan_acts log ≡ scan_acts other
   pub queued : queue_acts log ≡ queue_acts other
-  pub limits : limit_summary log ≡ limit_summary other
+  pub since : (name : RegisterName) (k : ℕ) → stood name k log ≡ stood name k other
   pub rises : (name : RegisterName) → rise name log ≡ rise name other
   pub falls : (name : RegisterName) → fall name log ≡ fall name other
   pub enables : (name : RegisterName) → enable name log ≡ enable name other
@@ -45,13 +51,14 @@ pub record SameStatus (log other : List Act) : Type 0 where
   pub exchange : SameExchange (exchange_acts log) (exchange_acts other)
   pub request : Request log ↔ Request other
 
-pub condition_same : (name : RegisterName) (log other : List Act) → scan_acts log ≡ scan_acts other
-    → limit_summary log ≡ limit_summary other → condition name log ≡ condition name other
-condition_same Operation log other same summary = ap (λ (l : List ScanAct). scan.operation (kept l)) same
-condition_same Limit log other same summary = ap (λ (l : List ScanAct). scan.limit (kept l)) same
-condition_same Questionable log other same summary =
-    ap (λ (l : List ScanAct). scan.questionable (kept l) + scan.bit 9 (limit_summary log)) same
-    ∙ ap (λ (b : Bool). scan.questionable (counted other) + scan.bit 9 b) summary
+nested_same : (name : RegisterName) (log other : List Act) → enable name log ≡ enable name other
+    → ((k : ℕ) → stood name k log ≡ stood name k other) → summary name log ≡ summary name other
+nested_same name log other mask same = some_same (range_with_len 0 16) _ _ (λ k.
+    ap (λ (b : Bool). b && has_bit (enable name log) k) (same k) ∙ ap (λ (w : ℕ). stood name k other && has_bit w k) mask)
+
+pub status_condition : (name : RegisterName) (log other : List Act) → SameStatus log other → condition name log ≡ condition name other
+status_condition name log other v =
+    condition_same name log other (ap kept v.scanned) (λ below. nested_same below log other (v.enables below) (v.since below))
 
 pub idle_same : (log other : List Act) → scan_acts log ≡ scan_acts other → is_idle log ≡ is_idle other
 idle_same log other same = rw same refl
@@ -114,6 +121,15 @@ passes_act name k act log other now was v =
     ∙ ap (λ (w : ℕ). changes k (condition name other) (condition name (act ∷ other)) (rise name other) w) (v.falls name) in
     ((λ h. sym same ∙ h), (λ h. same ∙ h))
 
+leaves_act : (name : RegisterName) (act : Act) (log other : List Act) → leaves name (act ∷ log) ≡ leaves name (act ∷ other)
+leaves_act name (EventRead which) log other = refl
+leaves_act name act log other = refl
+
+stood_act : (name : RegisterName) (k : ℕ) (act : Act) (log other : List Act) → counted (act ∷ log) ≡ counted (act ∷ other)
+    → counted log ≡ counted other → rise name log ≡ rise name other → fall name log ≡ fall name other
+    → stood name k log ≡ stood name k other → stood name k (act ∷ log) ≡ stood name k (act ∷ other)
+stood_act name k act log other now was up down same = rw (now, was, up, down, same, leaves_act name act log other) refl
+
 not_cleared_act : (name : RegisterName) (act : Act) (log other : List Act) → NotCleared name (act ∷ log) ↔ NotCleared name (act ∷ other)
 not_cleared_act name (EventRead which) log other = both_ways (not (is_same name which) ≡ true)
 not_cleared_act name act log other = ((λ h. h), (λ h. h))
@@ -173,13 +189,6 @@ summary_same name log other mask events = (
   (λ s. (s.0, (events s.0).0 s.1, ap (λ (w : ℕ). bit_at w s.0) (sym mask) ∙ s.2)),
   (λ s. (s.0, (events s.0).1 s.1, ap (λ (w : ℕ). bit_at w s.0) mask ∙ s.2)),
 )
-
-limit_summary_same : (log other : List Act) → enable Limit log ≡ enable Limit other
-    → ((k : ℕ) → EventStands Limit k log ↔ EventStands Limit k other) → limit_summary log ≡ limit_summary other
-limit_summary_same log other mask events =
-    let also = limit_summary_is other in
-    let same = summary_same Limit log other mask events in
-    same_bool (limit_summary log) (limit_summary other) (limit_summary_is log) (then_same also (same.1, same.0))
 
 standard_summary_same : (log other : List Act) → standard.enable log ≡ standard.enable other
     → ((k : ℕ) → standard.Stands k log ↔ standard.Stands k other) → standard.Summary log ↔ standard.Summary other
@@ -251,14 +260,12 @@ request_act act log other now was before =
 pub status_act : (act : Act) (log other : List Act) → SameStatus log other → SameStatus (act ∷ log) (act ∷ other)
 status_act act log other v =
     let scanned = scan_act act log other v.scanned in
-    let limit_is = ap (λ (l : List ScanAct). scan.limit (kept l)) scanned in
-    let limit_events = λ (k : ℕ). since_alike (Passes Limit k) (NotCleared Limit) act log other
-    (passes_act Limit k act log other limit_is (condition_same Limit log other v.scanned v.limits) v)
-    (not_cleared_act Limit act log other) (v.events Limit k) in
-    let limits = limit_summary_same (act ∷ log) (act ∷ other) (enable_act Limit act log other (v.enables Limit)) limit_events in
+    let since = λ (name : RegisterName) (k : ℕ). stood_act name k act log other (ap kept scanned) (ap kept v.scanned) (v.rises name)
+    (v.falls name) (v.since name k) in
+    let now_is = λ (name : RegisterName). condition_same name (act ∷ log) (act ∷ other) (ap kept scanned)
+    (λ below. nested_same below (act ∷ log) (act ∷ other) (enable_act below act log other (v.enables below)) (since below)) in
     let events = λ (name : RegisterName) (k : ℕ). since_alike (Passes name k) (NotCleared name) act log other
-    (passes_act name k act log other (condition_same name (act ∷ log) (act ∷ other) scanned limits)
-    (condition_same name log other v.scanned v.limits) v)
+    (passes_act name k act log other (now_is name) (status_condition name log other v) v)
     (not_cleared_act name act log other) (v.events name k) in
     let stands = λ (k : ℕ). since_alike (standard.Occurs k) standard.NotCleared act log other (occurs_act k act log other v)
     (kept_act act log other) (v.stands k) in
@@ -276,7 +283,7 @@ status_act act log other v =
     record {
       scanned = scan_act act log other v.scanned;
       queued = queue_more act log other v.queued;
-      limits = limits;
+      since = since;
       rises = λ name. rise_act name act log other (v.rises name);
       falls = λ name. fall_act name act log other (v.falls name);
       enables = λ name. enable_act name act log other (v.enables name);
@@ -295,23 +302,20 @@ status_act act log other v =
 abbrev accepted : List ℕ → Bool → Act
 accepted bytes ended = Exchanged (Accepted bytes ended)
 
-never_passes_by : (name : RegisterName) (k : ℕ) (bytes : List ℕ) (ended : Bool) (log : List Act)
-    → condition name (accepted bytes ended ∷ log) ≡ condition name log → Passes name k (accepted bytes ended ∷ log) → ⊥
-never_passes_by name k bytes ended log same h =
+stood_over : (name : RegisterName) (k : ℕ) (bytes : List ℕ) (ended : Bool) (log : List Act)
+    → stood name k (accepted bytes ended ∷ log) ≡ stood name k log
+stood_over name k bytes ended log = ap (λ (b : Bool). b || stood name k log)
+    (no_change (has_bit (word name log) k) (has_bit (rise name log) k) (has_bit (fall name log) k))
+
+never_passes : (name : RegisterName) (k : ℕ) (bytes : List ℕ) (ended : Bool) (log : List Act)
+    → Passes name k (accepted bytes ended ∷ log) → ⊥
+never_passes name k bytes ended log h =
+    let same = condition_same name (accepted bytes ended ∷ log) log refl
+    (λ below. nested_same below (accepted bytes ended ∷ log) log refl (λ bit. stood_over below bit bytes ended log)) in
     let told : changes k (condition name log) (condition name log) (rise name log) (fall name log) ≡ true =
     sym (ap (λ (w : ℕ). changes k (condition name log) w (rise name log) (fall name log)) same) ∙ h in
     let none = sym (no_change (has_bit (condition name log) k) (has_bit (rise name log) k) (has_bit (fall name log) k)) ∙ told in
     absurd cc
-
-limits_over : (bytes : List ℕ) (ended : Bool) (log : List Act) → limit_summary (accepted bytes ended ∷ log) ≡ limit_summary log
-limits_over bytes ended log = limit_summary_same (accepted bytes ended ∷ log) log refl
-    (λ k. since_over (Passes Limit k) (NotCleared Limit) (accepted bytes ended) log (never_passes_by Limit k bytes ended log refl)
-    (λ s. refl))
-
-never_passes : (name : RegisterName) (k : ℕ) (bytes : List ℕ) (ended : Bool) (log : List Act)
-    → Passes name k (accepted bytes ended ∷ log) → ⊥
-never_passes name k bytes ended log =
-    never_passes_by name k bytes ended log (condition_same name (accepted bytes ended ∷ log) log refl (limits_over bytes ended log))
 
 pending_over : (bytes : List ℕ) (ended : Bool) (log : List Act) → standard.Waits log → standard.IsPending (accepted bytes ended ∷ log)
 pending_over bytes ended [] s = absurd ((since_empty standard.IsAsked standard.IsPending).0 s).0
@@ -361,7 +365,7 @@ pub status_accepted : (bytes : List ℕ) (ended : Bool) (log other : List Act) �
 status_accepted bytes ended log other v = record {
   scanned = v.scanned;
   queued = v.queued;
-  limits = limits_over bytes ended log ∙ v.limits;
+  since = λ name k. stood_over name k bytes ended log ∙ v.since name k;
   rises = v.rises;
   falls = v.falls;
   enables = v.enables;
@@ -407,7 +411,7 @@ pub status_back : (log other : List Act) → SameStatus log other → SameStatus
 status_back log other v = record {
   scanned = sym v.scanned;
   queued = sym v.queued;
-  limits = sym v.limits;
+  since = λ name k. sym (v.since name k);
   rises = λ name. sym (v.rises name);
   falls = λ name. sym (v.falls name);
   enables = λ name. sym (v.enables name);
@@ -424,7 +428,7 @@ pub status_same : (log : List Act) → SameStatus log log
 status_same log = record {
   scanned = refl;
   queued = refl;
-  limits = refl;
+  since = λ name k. refl;
   rises = λ name. refl;
   falls = λ name. refl;
   enables = λ name. refl;

@@ -1,6 +1,6 @@
 -- What each layer sees of the instrument's acts. An act begins in its own layer. Then it ends, in one register after the other: a register
 -- is told its condition, which passes by the filters as they stand, and then the act does to it what it does to a register itself. So the
--- summary of the register of limits is there before the questionable register is told its condition.
+-- summary of a nested register is there before the register above it is told its condition.
 use Rattle.std.specs.Prelude.{◌≡◌, ℕ, Bool, true, false, not, ◌&&◌, List, [], ◌∷◌, if◌then◌else◌}
 use Rattle.sv_errors.specs.Code.{standard_event_of}
 use Rattle.sv_errors.specs.ErrorQueue.{is_full}
@@ -8,7 +8,6 @@ use Rattle.sv_errors.specs.declared.code.Code.{Code}
 use Rattle.sv_errors.specs.declared.error_queue.QueueAct.{QueueAct}
 use Rattle.sv_errors.specs.declared.error_queue.QueueAct.TheVariants as queue
 use Rattle.sv_status.specs.declared.register_name.RegisterName.{RegisterName}
-use Rattle.sv_status.specs.declared.register_name.RegisterName.TheVariants.{Operation, Questionable, Limit}
 use Rattle.sv_status.specs.declared.register.RegisterAct.{RegisterAct}
 use Rattle.sv_status.specs.declared.register.RegisterAct.TheVariants as register
 use Rattle.sv_status.specs.declared.standard_event.StandardAct.{StandardAct}
@@ -27,9 +26,7 @@ use Rattle.sv_layers.specs.Condition.{condition}
 pub record LayerLogs : Type 0 where
   pub exchange : List ExchangeAct
   pub errors : List QueueAct
-  pub operation : List RegisterAct
-  pub questionable : List RegisterAct
-  pub limit : List RegisterAct
+  pub registers : RegisterName → List RegisterAct
   pub standard : List StandardAct
   pub scanner : List ScanAct
   pub service : ℕ
@@ -98,25 +95,19 @@ EndsAs other act = ((name : RegisterName) (acts : List RegisterAct) → own name
 -- an act ends behind those before it: each register is told its condition, and ends the act itself
 abbrev pub ended : Act → List Act → LayerLogs → LayerLogs
 ended act log at = record (completed at) {
-  operation = own Operation act (register.Condition (condition Operation (act ∷ log)) ∷ at.operation);
-  questionable = own Questionable act (register.Condition (condition Questionable (act ∷ log)) ∷ at.questionable);
-  limit = own Limit act (register.Condition (condition Limit (act ∷ log)) ∷ at.limit);
+  registers = λ name. own name act (register.Condition (condition name (act ∷ log)) ∷ at.registers name);
   standard = own_standard act (completed at).standard;
 }
 
 abbrev pub register_acts : RegisterName → LayerLogs → List RegisterAct
-register_acts Operation at = at.operation
-register_acts Questionable at = at.questionable
-register_acts Limit at = at.limit
+register_acts name at = at.registers name
 
 -- what all layers see of the acts
 abbrev pub seen : List Act → LayerLogs
 seen [] = record {
   exchange = [];
   errors = [];
-  operation = [];
-  questionable = [];
-  limit = [];
+  registers = λ name. [];
   standard = [];
   scanner = [];
   service = 0;

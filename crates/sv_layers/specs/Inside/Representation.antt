@@ -2,6 +2,7 @@
 use Rattle.std.specs.Prelude.{◌≡◌, ◌↔◌, ℕ, ◌+◌, min, Bool, true, List, [], ◌∷◌, length}
 use Rattle.sv_errors.specs.declared.code.Code.{Code}
 use Rattle.sv_errors.specs.ErrorQueue.{entries, StandsFor as Queues}
+use Rattle.sv_status.specs.declared.register_name.RegisterName.{RegisterName}
 use Rattle.sv_status.specs.declared.register_name.RegisterName.TheVariants.{Operation, Questionable, Limit}
 use Rattle.sv_status.specs.Register.{Latches as RegisterLatches, Summary, StandsFor as Registers}
 use Rattle.sv_status.specs.StandardEvent.{Latches as StandardLatches, Summary as StandardSummary, StandsFor as Standards}
@@ -19,12 +20,21 @@ use Rattle.sv_layers.specs.Filter.{start}
 use Rattle.sv_layers.specs.StatusByte.{IsRaised}
 use Rattle.sv_layers.specs.Inside.LayerLogs.{LayerLogs, begun, seen}
 
-pub record LayerState : Type 0 where
-  pub exchange : Contents
-  pub errors : List Code
+-- the registers, each under its name
+pub record ByName : Type 0 where
   pub operation : RegisterLatches
   pub questionable : RegisterLatches
   pub limit : RegisterLatches
+
+abbrev pub kept : RegisterName → ByName → RegisterLatches
+kept Operation all = all.operation
+kept Questionable all = all.questionable
+kept Limit all = all.limit
+
+pub record LayerState : Type 0 where
+  pub exchange : Contents
+  pub errors : List Code
+  pub registers : ByName
   pub standard : StandardLatches
   pub status : StatusLatches
   pub scanner : ScanContents
@@ -37,9 +47,9 @@ pub record IsSummary (word : ℕ) (at : LayerLogs) : Type 0 where
   pub operates : Bool
   pub happened : Bool
   pub questioned : Bool
-  pub operation : (operates ≡ true) ↔ Summary (start Operation) at.operation
+  pub operation : (operates ≡ true) ↔ Summary (start Operation) (at.registers Operation)
   pub standard : (happened ≡ true) ↔ StandardSummary at.standard
-  pub questionable : (questioned ≡ true) ↔ Summary (start Questionable) at.questionable
+  pub questionable : (questioned ≡ true) ↔ Summary (start Questionable) (at.registers Questionable)
   pub word_is : word ≡ bit 7 operates + bit 5 happened + bit 4 (is_something (response at.exchange)) + bit 3 questioned
       + bit 2 (is_something (entries at.errors))
 
@@ -62,9 +72,7 @@ RaisedAt log = (acts : List StatusAct) × IsStatus log acts × IsRaisedAsTold ac
 pub record Represents (layered : LayerState) (at : LayerLogs) (told : List StatusAct) : Type 0 where
   pub exchange : Exchanges layered.exchange at.exchange
   pub errors : Queues layered.errors at.errors
-  pub operation : Registers (start Operation) layered.operation at.operation
-  pub questionable : Registers (start Questionable) layered.questionable at.questionable
-  pub limit : Registers (start Limit) layered.limit at.limit
+  pub registers : (name : RegisterName) → Registers (start name) (kept name layered.registers) (at.registers name)
   pub standard : Standards layered.standard at.standard
   pub status : Statuses layered.status told
   pub scanner : Scans layered.scanner at.scanner

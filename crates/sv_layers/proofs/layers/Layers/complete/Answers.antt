@@ -19,9 +19,7 @@ returns-clause-stands g c = λ at told h.
     record {
       exchange = j.exchange;
       errors = j.errors;
-      operation = j.operation;
-      questionable = j.questionable;
-      limit = j.limit;
+      registers = j.registers;
       standard = subst (λ (w : ℕ). Standards c.occur.new.self (Occur w ∷ at.standard)) complete (c.occur.ensures at.standard j.standard);
       status = j.status;
       scanner = j.scanner;

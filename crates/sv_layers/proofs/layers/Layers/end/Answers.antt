@@ -1,4 +1,4 @@
-use Rattle.std.proofs.Common.{◌≡◌, ℕ, ◌+◌, Bool, ◌∷◌, List, ◌∙◌, ap, sym, subst}
+use Rattle.std.proofs.Common.{◌≡◌, ℕ, ◌+◌, Bool, ◌∷◌, List, refl, ◌∙◌, ap, sym, subst}
 use Rattle.sv_status.specs.declared.register_name.RegisterName.TheVariants.{Operation, Questionable, Limit}
 use Rattle.sv_status.specs.declared.standard_event.StandardAct.{StandardAct}
 use Rattle.sv_status.specs.StandardEvent.{StandsFor as Standards}
@@ -6,12 +6,12 @@ use Rattle.sv_scan.specs.Condition as scan
 use Rattle.sv_logs.proofs.Since.{then_same}
 use Rattle.sv_layers.specs.Act.{scan_acts}
 use Rattle.sv_layers.specs.Change.{act_of}
-use Rattle.sv_layers.specs.Condition.{counted, limit_summary}
+use Rattle.sv_layers.specs.Condition.{counted, summary}
 use Rattle.sv_layers.specs.Inside.LayerLogs.{begun, register_acts, seen}
 use Rattle.sv_layers.proofs.Booleans.{same_bool, neither}
 use Rattle.sv_layers.proofs.SameWords.{same_words}
 use Rattle.sv_layers.proofs.SameSummaries.{same_summary}
-use Rattle.sv_layers.proofs.LimitSummary.{limit_summary_is}
+use Rattle.sv_layers.proofs.LimitSummary.{summary_is}
 use Rattle.sv_layers.proofs.Followed.{counted_leaves, begun_scans, begun_stands, ended_stands, questionable_is}
 use Rattle.sv_layers.proofs.layers.Layers.end.Goals as goal
 
@@ -25,33 +25,29 @@ returns-clause-stands g c = λ log act told same h.
     let questions = c.conditions-now.ensures.questionable (scan_acts (act ∷ log)) scans in
     let limits = c.conditions-now.ensures.limit (scan_acts (act ∷ log)) scans in
     let operation = ended_stands Operation other act log _ _ operates (same.0 Operation) (c.change_register.ensures _ _
-    (c.compare.ensures _ _ (begun_stands Operation act log _ j.operation)
+    (c.compare.ensures _ _ (begun_stands Operation act log _ (j.registers Operation))
     (λ no. operates ∙ left.0 no ∙ sym (same_words Operation log).0))) in
-    let before = begun_stands Limit act log _ j.limit in
+    let before = begun_stands Limit act log _ (j.registers Limit) in
     let limit = ended_stands Limit other act log _ _ limits (same.0 Limit) (c.change_register-2.ensures _ _
     (c.compare-2.ensures _ _ before (λ no. limits ∙ left.2 no ∙ sym (same_words Limit log).0))) in
-    let stood : c.summary-stood.result ≡ limit_summary log = same_bool _ _ (c.summary-stood.ensures _ _ before)
-    (then_same (limit_summary_is log) (let is = same_summary Limit log in (is.1, is.0))) in
-    let stands : c.summary-stands.result ≡ limit_summary (act ∷ log) = same_bool _ _ (c.summary-stands.ensures _ _ limit)
-    (then_same (limit_summary_is (act ∷ log)) (let is = same_summary Limit (act ∷ log) in (is.1, is.0))) in
-    let word = questionable_is _ _ (counted (act ∷ log)) (limit_summary (act ∷ log)) questions
-    (c.limit_bit.ensures ∙ ap (scan.bit 9) stands) in
+    let stood : c.summary-stood.result ≡ summary Limit log = same_bool _ _ (c.summary-stood.ensures _ _ before)
+    (then_same (summary_is Limit (λ place. refl) log) (let is = same_summary Limit log in (is.1, is.0))) in
+    let stands : c.summary-stands.result ≡ summary Limit (act ∷ log) = same_bool _ _ (c.summary-stands.ensures _ _ limit)
+    (then_same (summary_is Limit (λ place. refl) (act ∷ log)) (let is = same_summary Limit (act ∷ log) in (is.1, is.0))) in
+    let word = questionable_is _ _ (counted (act ∷ log)) (summary Limit (act ∷ log)) questions
+    (c.summary_bit.ensures ∙ ap (scan.bit 9) stands) in
     let questionable = ended_stands Questionable other act log _ _ word (same.0 Questionable) (c.change_register-3.ensures _ _
-    (c.compare-3.ensures _ _ (begun_stands Questionable act log _ j.questionable) (λ no.
+    (c.compare-3.ensures _ _ (begun_stands Questionable act log _ (j.registers Questionable)) (λ no.
     let both = neither c.touched-touched.result.questionable c.differ.result no in
     let moved = sym stands ∙ sym (c.differ.ensures both.1) ∙ stood in
-    word ∙ ap (λ (w : ℕ). w + scan.bit 9 (limit_summary (act ∷ log))) (left.1 both.0)
+    word ∙ ap (λ (w : ℕ). w + scan.bit 9 (summary Limit (act ∷ log))) (left.1 both.0)
     ∙ ap (λ (b : Bool). scan.questionable (counted log) + scan.bit 9 b) moved ∙ sym (same_words Questionable log).0))) in
     let k = rw (← c.self-2.view_is) at (c.complete.ensures.stands (record (begun act (seen log)) {
-      operation = register_acts Operation (seen (act ∷ log));
-      questionable = register_acts Questionable (seen (act ∷ log));
-      limit = register_acts Limit (seen (act ∷ log));
+      registers = λ name. register_acts name (seen (act ∷ log));
     }) told (record {
       exchange = j.exchange;
       errors = j.errors;
-      operation = operation;
-      questionable = questionable;
-      limit = limit;
+      registers = elim [ Operation ↦ operation | Questionable ↦ questionable | Limit ↦ limit ];
       standard = j.standard;
       status = j.status;
       scanner = j.scanner;
@@ -61,9 +57,7 @@ returns-clause-stands g c = λ log act told same h.
     record {
       exchange = k.exchange;
       errors = k.errors;
-      operation = k.operation;
-      questionable = k.questionable;
-      limit = k.limit;
+      registers = k.registers;
       standard = subst (λ (acts : List StandardAct). Standards c.change_standard.new.standard acts) (same.1 _)
           (c.change_standard.ensures _ k.standard);
       status = k.status;

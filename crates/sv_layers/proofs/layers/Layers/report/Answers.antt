@@ -19,9 +19,7 @@ returns-clause-stands g c = λ at told h.
     record {
       exchange = j.exchange;
       errors = c.report-overflows.ensures.stands at.errors j.errors;
-      operation = j.operation;
-      questionable = j.questionable;
-      limit = j.limit;
+      registers = j.registers;
       standard = both;
       status = j.status;
       scanner = j.scanner;

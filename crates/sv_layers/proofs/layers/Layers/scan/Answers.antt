@@ -7,9 +7,7 @@ returns-clause-stands g c = λ at told h.
     record {
       exchange = j.exchange;
       errors = j.errors;
-      operation = j.operation;
-      questionable = j.questionable;
-      limit = j.limit;
+      registers = j.registers;
       standard = j.standard;
       status = j.status;
       scanner = c.act.ensures.stands at.scanner j.scanner;

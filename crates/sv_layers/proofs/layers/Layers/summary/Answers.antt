@@ -1,5 +1,6 @@
 use Rattle.std.proofs.Common.{◌≡◌, ℕ, refl, ap, ◌∙◌, nat_lt}
 use Rattle.sv_errors.specs.ErrorQueue.{entries}
+use Rattle.sv_status.specs.declared.register_name.RegisterName.TheVariants.{Operation, Questionable}
 use Rattle.sv_scan.specs.Condition.{bit}
 use Rattle.sv_exchange.specs.Exchange.{response, is_something}
 use Rattle.sv_layers.proofs.Booleans.{bit_is, any_is}
@@ -17,9 +18,9 @@ returns g c = λ at told h.
       operates = c.summary.result;
       happened = c.summary-2.result;
       questioned = c.summary-3.result;
-      operation = c.summary.ensures _ at.operation j.operation;
+      operation = c.summary.ensures _ (at.registers Operation) (j.registers Operation);
       standard = c.summary-2.ensures at.standard j.standard;
-      questionable = c.summary-3.ensures _ at.questionable j.questionable;
+      questionable = c.summary-3.ensures _ (at.registers Questionable) (j.registers Questionable);
       word_is = rw (
         c.mask_if.ensures ∙ bit_is 7 c.summary.result,
         c.mask_if-2.ensures ∙ bit_is 5 c.summary-2.result,

@@ -1,0 +1,27 @@
+-- What holds of each status register by its name.
+use Rattle.std.proofs.Common.{◌≡◌, ℕ, ◌+◌, ◌<◌, ◌^◌, Bool, List, [], ◌∷◌, refl, ap, ◌∙◌, arith}
+use Rattle.sv_status.specs.declared.register_name.RegisterName.{RegisterName}
+use Rattle.sv_status.specs.declared.register_name.RegisterName.TheVariants.{Operation, Questionable, Limit}
+use Rattle.sv_scan.specs.declared.acts.ScanAct.{ScanAct}
+use Rattle.sv_scan.specs.Condition as scan
+use Rattle.sv_layers.specs.Act.{Act}
+use Rattle.sv_layers.specs.Filter.{start}
+use Rattle.sv_layers.specs.Condition.{counted, scan_word, word, summary, condition}
+
+pub first_condition : (name : RegisterName) → condition name [] ≡ 0
+first_condition Operation = refl
+first_condition Questionable = refl
+first_condition Limit = refl
+
+pub start_small : (name : RegisterName) → start name < 2 ^ 16
+start_small Operation = omega arith
+start_small Questionable = omega arith
+start_small Limit = omega arith
+
+-- with the same acts of the scanner and the same summaries a condition is the same
+pub condition_same : (name : RegisterName) (log other : List Act) → counted log ≡ counted other
+    → ((below : RegisterName) → summary below log ≡ summary below other) → condition name log ≡ condition name other
+condition_same Questionable log other same summaries =
+    ap (λ (acts : List ScanAct). scan_word Questionable acts + scan.bit 9 (summary Limit log)) same
+    ∙ ap (λ (b : Bool). word Questionable other + scan.bit 9 b) (summaries Limit)
+condition_same name log other same summaries = ap (λ (acts : List ScanAct). scan_word name acts) same
