@@ -1,6 +1,5 @@
 pub mod Deciding
 pub mod Dialing
-pub mod Lives
 pub mod Projections
 pub mod Telling
 pub mod OneStep

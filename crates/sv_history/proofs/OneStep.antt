@@ -15,7 +15,7 @@ use Rattle.sv_history.specs.declared.event.Config.{Config}
 use Rattle.sv_history.specs.Act.{Act, DeviceAct, Applied, OnDevice, of, device_acts, wait_acts, instrument_acts, ticks}
 use Rattle.sv_history.specs.PolledStatus.{IsPolled}
 use Rattle.sv_history.specs.Settling.{First, InstrumentDoes, CanResume, Resumes, TimesOut, IsNext}
-use Rattle.sv_history.proofs.Lives.{unanswered}
+use Rattle.sv_history.specs.Connection.{unanswered}
 use Rattle.sv_history.specs.Request.{core_call_in}
 use Rattle.sv_history.specs.Effect.{acts_of}
 use Rattle.sv_history.specs.Resuming.{resumed, failed, late}

@@ -1,6 +1,7 @@
--- What the acts of a connection say of it.
-use Rattle.std.specs.Prelude.{ℕ, ◌+◌, ◌-◌, ◌==◌, ◌&&◌, ◌||◌, Bool, true, false, List, [], ◌∷◌, ◌++◌, length, drop, Option, Some, None, is_none, is_some, slice_get, if◌then◌else◌}
-use Rattle.std.specs.List.{concat}
+-- What the acts of a connection say of it: searches and counts of those since its newest opening or closing.
+use Rattle.std.specs.Prelude.{ℕ, ◌+◌, ◌-◌, ◌==◌, ◌&&◌, ◌||◌, Bool, true, false, List, [], ◌∷◌, ◌++◌, length, drop, filter, Option, Some, None, is_none, is_some, slice_get, if◌then◌else◌}
+use Rattle.std.specs.List.{concat, filter_map, list_any}
+use Rattle.sv_logs.specs.Since.{since, last_given}
 use Rattle.sv_rpc.specs.Record.{ends_overlong}
 use Rattle.sv_rpc.specs.RecordBuf.{used_by}
 use Rattle.sv_rpc.specs.Stream.{records_of, tail_of}
@@ -12,39 +13,64 @@ use Rattle.sv_history.specs.declared.event.Port.TheVariants.{Conn, Intr}
 use Rattle.sv_history.specs.Act.{Act, ConnAct, Opened, Piece, CallTaken, Faulted, Replied, BytesTaken, PortClosed, of}
 use Rattle.sv_history.specs.Limits.{max_output}
 
--- what the acts since its newest opening say of a connection: what it is open for; all bytes that came on it; the call that was taken and
--- has no answer yet; how many of its records came to their end, by an answer, or since they are no call; whether one that is no call was
--- taken; all bytes of its replies; and how many of these the peer took
-pub record Life : Type 0 where
-  pub role : Option Role
-  pub stream : List ℕ
-  pub unanswered : Option (List ℕ)
-  pub completed : ℕ
-  pub took_no_call : Bool
-  pub sent : List ℕ
-  pub given : ℕ
+-- what it is opened for; None where it is closed
+abbrev pub opening : ConnAct → Option (Option Role)
+opening = elim [ Opened role ↦ Some (Some role) | PortClosed ↦ Some None | _ ↦ None ]
 
--- an opening begins anew, and a closing ends it
-abbrev pub fresh : Option Role → Life
-fresh role = record { role = role; stream = []; unanswered = None; completed = 0; took_no_call = false; sent = []; given = 0 }
+-- what it is open for, if its newest opening or closing is an opening
+abbrev pub open_role : List ConnAct → Option Role
+open_role = last_given opening None
 
-abbrev pub life : List ConnAct → Life
-life [] = fresh None
-life (Opened role ∷ acts) = fresh (Some role)
-life (Piece bytes ∷ acts) = record (life acts) { stream = (life acts).stream ++ bytes }
-life (CallTaken call ∷ acts) = record (life acts) { unanswered = Some call }
-life (Faulted ∷ acts) = record (life acts) { unanswered = None; completed = (life acts).completed + 1; took_no_call = true }
-life (Replied bytes ∷ acts) =
-    record (life acts) { unanswered = None; completed = (life acts).completed + 1; sent = (life acts).sent ++ bytes }
-life (BytesTaken count ∷ acts) = record (life acts) { given = (life acts).given + count }
-life (PortClosed ∷ acts) = fresh None
+-- the acts since then
+abbrev pub lived : List ConnAct → List ConnAct
+lived = since (elim [ Opened role ∷ older ↦ true | PortClosed ∷ older ↦ true | _ ↦ false ])
+
+-- pieces of bytes, the newest first, as one list of bytes in the order in which they came
+abbrev pub joined : List (List ℕ) → List ℕ
+joined [] = []
+joined (piece ∷ pieces) = joined pieces ++ piece
+
+-- the sum of numbers
+abbrev pub total : List ℕ → ℕ
+total [] = 0
+total (number ∷ numbers) = total numbers + number
+
+-- all bytes that came on it
+abbrev pub stream : List ConnAct → List ℕ
+stream acts = joined (filter_map (elim [ Piece bytes ↦ Some bytes | _ ↦ None ]) (lived acts))
+
+-- all bytes of its replies, and how many of these the peer took
+abbrev pub sent : List ConnAct → List ℕ
+sent acts = joined (filter_map (elim [ Replied bytes ↦ Some bytes | _ ↦ None ]) (lived acts))
+
+abbrev pub given : List ConnAct → ℕ
+given acts = total (filter_map (elim [ BytesTaken count ↦ Some count | _ ↦ None ]) (lived acts))
+
+-- what the newest record that was taken came to: it waits as a call, or came to its end by an answer, or since it is no call
+abbrev pub taking : ConnAct → Option (Option (List ℕ))
+taking = elim [ CallTaken call ↦ Some (Some call) | Replied bytes ↦ Some None | Faulted ↦ Some None | _ ↦ None ]
+
+-- the call that was taken and has no answer yet
+abbrev pub unanswered : List ConnAct → Option (List ℕ)
+unanswered acts = last_given taking None (lived acts)
+
+abbrev pub is_busy : List ConnAct → Bool
+is_busy acts = is_some (unanswered acts)
+
+-- how many of its records came to their end
+abbrev pub completed : List ConnAct → ℕ
+completed acts = length (filter (elim [ Replied bytes ↦ true | Faulted ↦ true | _ ↦ false ]) (lived acts))
+
+-- whether a record that is no call was taken
+abbrev pub took_no_call : List ConnAct → Bool
+took_no_call acts = list_any (elim [ Faulted ↦ true | _ ↦ false ]) (lived acts)
 
 abbrev pub is_open : List ConnAct → Bool
-is_open acts = is_some (life acts).role
+is_open acts = is_some (open_role acts)
 
 -- those that the peer didn't take
 abbrev pub untaken : List ConnAct → List ℕ
-untaken acts = drop (life acts).given (life acts).sent
+untaken acts = drop (given acts) (sent acts)
 
 -- the bytes that wait to be sent on it; none where it isn't open
 abbrev pub waiting : List ConnAct → List ℕ
@@ -57,14 +83,12 @@ waiting_on told (Intr c) log = channel_waiting c told
 
 -- all bytes that were sent on a port since it was opened
 abbrev pub sent_on : List ChannelAct → Port → List Act → List ℕ
-sent_on told (Conn c) log = (life (of c log)).sent
+sent_on told (Conn c) log = sent (of c log)
 sent_on told (Intr c) log = concat (calls c told)
 
 -- The call to take next: the first record that didn't come to its end, unless it was taken already, or a record was no call.
 abbrev pub next_call : List ConnAct → Option (List ℕ)
-next_call acts =
-    if (life acts).took_no_call || is_some (life acts).unanswered then None
-    else slice_get (records_of (life acts).stream) (life acts).completed
+next_call acts = if took_no_call acts || is_busy acts then None else slice_get (records_of (stream acts)) (completed acts)
 
 -- whether there is none
 abbrev pub is_idle : List ConnAct → Bool
@@ -72,16 +96,16 @@ is_idle acts = is_none (next_call acts)
 
 -- whether a record that came on it is too long: behind it nothing is taken in any more
 abbrev pub is_overlong : List ConnAct → Bool
-is_overlong acts = ends_overlong (tail_of (life acts).stream)
+is_overlong acts = ends_overlong (tail_of (stream acts))
 
 -- whether a record that is no call was taken, or all records in front of one that is too long came to their end
 abbrev pub is_faulted : List ConnAct → Bool
-is_faulted acts = (life acts).took_no_call || (is_overlong acts && ((life acts).completed == length (records_of (life acts).stream)))
+is_faulted acts = took_no_call acts || (is_overlong acts && (completed acts == length (records_of (stream acts))))
 
 -- how many bytes may come: a record counts until it comes to its end
 abbrev pub room : List ConnAct → ℕ
 room acts =
-    if is_open acts then capacity - used_by (drop (life acts).completed (records_of (life acts).stream)) (tail_of (life acts).stream) else 0
+    if is_open acts then capacity - used_by (drop (completed acts) (records_of (stream acts))) (tail_of (stream acts)) else 0
 
 -- how many outgoing bytes are free
 abbrev pub free : List ConnAct → ℕ

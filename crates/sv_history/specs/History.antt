@@ -17,7 +17,7 @@ use Rattle.sv_history.specs.declared.event.Refused.{Refused}
 use Rattle.sv_history.specs.declared.event.Refused.TheVariants.{NoMemory, ConnInUse, NoConn, NoRoom, NotSent, NoDial, NotRefusable, BadChannel, BadInput, TimeOver}
 use Rattle.sv_history.specs.Event.{IsEvent, IsConfig, PlainEvent, Open, Bytes, Turn, Refuse, Took, Close, Dialed, Input, External, Tick}
 use Rattle.sv_history.specs.Act.{Act, ConnAct, DeviceAct, Opened, Piece, CallTaken, Replied, BytesTaken, PortClosed, Linked, Waited, Channel, Applied, Ticked, On, OnDevice, of, device_acts, link_acts, wait_acts, instrument_acts, ticks}
-use Rattle.sv_history.specs.Connection.{life, is_open, waiting, next_call, is_idle, room, free}
+use Rattle.sv_history.specs.Connection.{is_open, waiting, next_call, is_idle, room, free, unanswered}
 use Rattle.sv_history.specs.CoreCall.{CoreCall}
 use Rattle.sv_history.specs.Request.{Request, core_call_in, next_request}
 use Rattle.sv_history.specs.Requests.{HearsOf}
@@ -32,7 +32,7 @@ use Rattle.sv_history.specs.Limits.{longest_reply}
 
 -- the acts of a suspended call of this connection that another one's call ends
 abbrev pub abort_acts : Option ℕ → List Act → List Act
-abort_acts (Some c) log = acts_of c (failed Abort c (core_call_in (life (of c log)).unanswered))
+abort_acts (Some c) log = acts_of c (failed Abort c (core_call_in (unanswered (of c log))))
 abort_acts None log = []
 
 -- the acts of a record that was taken
@@ -64,7 +64,7 @@ own_acts config polled (Close (Conn c)) log =
     map OnDevice (Channel (ChannelClosed c) ∷ map Linked (closing c (link_acts (device_acts log))) ++ Waited (Left c) ∷ [])
     ++ On c PortClosed ∷ []
 own_acts config polled (Close (Intr c)) log = OnDevice (Channel (ChannelClosed c)) ∷ []
-own_acts config polled (Dialed c ok) log = acts_of c (connected c ok (core_call_in (life (of c log)).unanswered))
+own_acts config polled (Dialed c ok) log = acts_of c (connected c ok (core_call_in (unanswered (of c log))))
 own_acts config polled (Input channel microvolts) log = OnDevice (Applied (Scanned (InputTo channel microvolts))) ∷ []
 own_acts config polled External log = map OnDevice (map Applied (external_acts (instrument_acts (device_acts log))))
 own_acts config polled Tick log = map OnDevice (map Applied (tick_acts (instrument_acts (device_acts log)))) ++ OnDevice Ticked ∷ []

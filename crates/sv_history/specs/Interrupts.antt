@@ -9,7 +9,7 @@ use Rattle.sv_links.specs.Waiting.{WaitAct, waits, connections}
 use Rattle.sv_links.specs.Channels.{SrqEnabled, SrqDisabled, ChannelOpened, is_channel_open}
 use Rattle.sv_history.specs.declared.event.Dial.{Dial}
 use Rattle.sv_history.specs.Act.{Act, DeviceAct, Channel, of, device_acts, wait_acts, channel_acts}
-use Rattle.sv_history.specs.Connection.{life}
+use Rattle.sv_history.specs.Connection.{unanswered}
 use Rattle.sv_history.specs.CallOutcome.{CallOutcome, answered, only}
 use Rattle.sv_history.specs.CoreCall.{CoreCall, failure}
 use Rattle.sv_history.specs.Request.{core_call_in}
@@ -52,7 +52,7 @@ dial_in None = None
 
 -- of the call of a connection that waits for it
 abbrev pub dial_of : ℕ → List Act → Option Dial
-dial_of c log = if is_dialing c (wait_acts (device_acts log)) then dial_in (core_call_in (life (of c log)).unanswered) else None
+dial_of c log = if is_dialing c (wait_acts (device_acts log)) then dial_in (core_call_in (unanswered (of c log))) else None
 
 -- what a create_intr_chan comes to whose peer was called: the channel is open, or it can't be
 abbrev pub dialed : ℕ → Bool → Arguments → CallOutcome

@@ -12,7 +12,7 @@ use Rattle.sv_vxi.specs.Reading.{arguments_at}
 use Rattle.sv_history.specs.declared.event.Role.{Role}
 use Rattle.sv_history.specs.declared.event.Role.TheVariants.{Core, Abort, Portmap}
 use Rattle.sv_history.specs.Act.{ConnAct}
-use Rattle.sv_history.specs.Connection.{life, next_call}
+use Rattle.sv_history.specs.Connection.{next_call, open_role}
 use Rattle.sv_history.specs.CoreCall.{CoreCall}
 
 -- it is no call; its header or its arguments alone decide the reply; or it is a call of the core channel, device_abort, or GETPORT
@@ -64,7 +64,7 @@ request_for (Some role) (Some bytes) = Some (request_of role (call_at bytes))
 request_for _ _ = None
 
 abbrev pub next_request : List ConnAct → Option Request
-next_request acts = request_for (life acts).role (next_call acts)
+next_request acts = request_for (open_role acts) (next_call acts)
 
 -- the call of the core channel that a record is, where it is one
 abbrev pub core_call_of : Request → Option CoreCall

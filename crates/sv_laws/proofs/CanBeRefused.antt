@@ -17,8 +17,7 @@ use Rattle.sv_history.specs.declared.event.Config.{Config}
 use Rattle.sv_history.specs.declared.event.Refused.TheVariants.{NoConn, NoRoom, NotRefusable}
 use Rattle.sv_history.specs.Event.{Refuse}
 use Rattle.sv_history.specs.Act.{Act, DeviceAct, CallTaken, Replied, Linked, Waited, Channel, Applied, Ticked, On, of, device_acts, link_acts, wait_acts, instrument_acts, exchange_acts}
-use Rattle.sv_history.specs.Connection.{next_call, is_idle, free}
-use Rattle.sv_history.proofs.Lives.{unanswered}
+use Rattle.sv_history.specs.Connection.{next_call, is_idle, free, unanswered}
 use Rattle.sv_history.specs.Limits.{longest_reply}
 use Rattle.sv_history.specs.CoreCall.{CoreCall, lid_of, is_too_long}
 use Rattle.sv_history.specs.CoreChannel.{owns, own_call}

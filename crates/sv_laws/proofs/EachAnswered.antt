@@ -1,5 +1,5 @@
 -- Each call that is taken on a connection is answered once, or waits: in every log.
-use Rattle.std.proofs.Common.{◌≡◌, ℕ, ◌+◌, Bool, true, false, List, [], ◌∷◌, Option, Some, None, refl, ap, ◌∙◌, arith}
+use Rattle.std.proofs.Common.{◌≡◌, ℕ, suc, ◌+◌, Bool, true, false, List, [], ◌∷◌, Option, Some, None, refl, ap, ◌∙◌, arith}
 use Rattle.std.specs.Prelude.{is_some}
 use Rattle.sv_links.specs.declared.waiting.Wait.{Wait}
 use Rattle.sv_links.specs.Waiting.{waits}
@@ -11,16 +11,16 @@ use Rattle.sv_history.specs.Request.{core_call_in}
 use Rattle.sv_history.specs.History.{IsLogOf}
 use Rattle.sv_laws.proofs.EveryLog.BusyWaits.{busy_waits}
 use Rattle.sv_laws.proofs.EveryLog.EachEvent.{fit_log}
-use Rattle.sv_history.proofs.Lives.{is_busy, completed, unanswered}
+use Rattle.sv_history.specs.Connection.{is_busy, completed, unanswered}
 use Rattle.sv_laws.specs.Laws.{taken, one_if, EachAnswered}
 use Rattle.sv_laws.proofs.EveryLog.Taken.{free_call}
 use Rattle.sv_laws.proofs.EveryLog.EachAct.{AllCame, all_came}
 
-paid_ends : (taken done : ℕ) (busy : Bool) → busy ≡ true → taken ≡ done + one_if busy → taken ≡ done + 1 + 0
+paid_ends : (taken done : ℕ) (busy : Bool) → busy ≡ true → taken ≡ done + one_if busy → taken ≡ suc done + 0
 paid_ends n m true e h = omega (arith, h)
 paid_ends n m false e h = absurd cc
 
-paid_begins : (taken done : ℕ) (busy : Bool) → busy ≡ false → taken ≡ done + one_if busy → taken + 1 ≡ done + 1
+paid_begins : (taken done : ℕ) (busy : Bool) → busy ≡ false → taken ≡ done + one_if busy → suc taken ≡ done + 1
 paid_begins n m false e h = omega (arith, h)
 paid_begins n m true e h = absurd cc
 

@@ -21,8 +21,7 @@ use Rattle.sv_history.specs.declared.event.Refused.{Refused}
 use Rattle.sv_history.specs.declared.event.Refused.TheVariants.{NoMemory, ConnInUse, NoConn, NoRoom, NotSent, NoDial, NotRefusable, BadChannel, BadInput, TimeOver}
 use Rattle.sv_history.specs.Event.{PlainEvent, Open, Bytes, Turn, Refuse, Took, Close, Dialed, Input, External, Tick}
 use Rattle.sv_history.specs.Act.{Act, ConnAct, DeviceAct, Linked, Waited, Channel, Applied, Ticked, PortClosed, On, OnDevice, of, device_acts, link_acts, wait_acts, instrument_acts}
-use Rattle.sv_history.specs.Connection.{is_open, room, waiting}
-use Rattle.sv_history.proofs.Lives.{open_role, unanswered}
+use Rattle.sv_history.specs.Connection.{is_open, room, waiting, open_role, unanswered}
 use Rattle.sv_history.specs.CoreCall.{CoreCall}
 use Rattle.sv_history.specs.Request.{core_call_in}
 use Rattle.sv_history.specs.Effect.{acts_of}

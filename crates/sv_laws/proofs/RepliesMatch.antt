@@ -17,8 +17,7 @@ use Rattle.sv_rpc.proofs.Calls.{call_is}
 use Rattle.sv_rpc.proofs.EveryStream.{every_stream}
 use Rattle.sv_laws.proofs.ReadOn.{no_bytes, bytes_join, bytes_front, bytes_back}
 use Rattle.sv_history.specs.Act.{ConnAct, Opened, Piece, CallTaken, Faulted, Replied, BytesTaken, PortClosed}
-use Rattle.sv_history.specs.Connection.{next_call}
-use Rattle.sv_history.proofs.Lives.{stream, unanswered, completed, took_no_call, is_busy}
+use Rattle.sv_history.specs.Connection.{next_call, stream, unanswered, completed, took_no_call, is_busy}
 use Rattle.sv_history.specs.Reply.{reply_record}
 use Rattle.sv_laws.specs.Laws.{HasXidOf, RepliesMatch}
 use Rattle.sv_laws.proofs.EveryLog.EachAct.{xid_of, IsReplyTo, AllCame, all_came}

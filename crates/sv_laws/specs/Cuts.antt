@@ -14,7 +14,7 @@ use Rattle.sv_history.specs.declared.event.Port.{Port}
 use Rattle.sv_history.specs.declared.event.Port.TheVariants.{Conn}
 use Rattle.sv_history.specs.Event.{PlainEvent, Bytes, Turn}
 use Rattle.sv_history.specs.Act.{Act, ConnAct, Piece, CallTaken, Replied, of, device_acts, wait_acts}
-use Rattle.sv_history.specs.Connection.{life}
+use Rattle.sv_history.specs.Connection.{completed, joined, stream}
 use Rattle.sv_history.specs.Effect.{result_reply}
 use Rattle.sv_history.specs.Request.{core_call}
 use Rattle.sv_history.specs.History.{IsLogOf}
@@ -49,7 +49,7 @@ pub record Feeds (c : ℕ) (config : Config) (past events : List PlainEvent) (be
   pub feeding : AllByRecursion (IsFeeding c) events
   pub was : IsLogOf config past before
   pub is_log : IsLogOf config (events ++ past) log
-  pub none_left : drop (life (of c log)).completed (records_of (life (of c log)).stream) ≡ []
+  pub none_left : drop (completed (of c log)) (records_of (stream (of c log))) ≡ []
 
 -- No read or write waits for input or output.
 abbrev pub NoneWaits : List WaitAct → Type 0
@@ -66,7 +66,7 @@ pub record AreCut (c lid : ℕ) (x y : List ℕ) (ended : Bool) (config : Config
   pub rest : NoneWaits (wait_acts (device_acts before))
   pub one_feeds : Feeds c config past one before whole
   pub two_feeds : Feeds c config past two before cut
-  pub same_tail : tail_of (life (of c whole)).stream ≡ tail_of (life (of c cut)).stream
+  pub same_tail : tail_of (stream (of c whole)) ≡ tail_of (stream (of c cut))
   pub writes_both : IsWritten lid (x ++ y) ended (without_pieces (of c before)) (without_pieces (of c whole))
   pub writes_first : IsWritten lid x false (without_pieces (of c before)) middle
   pub writes_second : IsWritten lid y ended middle (without_pieces (of c cut))
@@ -82,18 +82,13 @@ WritesCut = (c lid : ℕ) (x y : List ℕ) (ended : Bool) (config : Config) (pas
 
 -- ---- pieces and fragments
 
--- all bytes of pieces, the newest in front
-abbrev pub joined : List (List ℕ) → List ℕ
-joined [] = []
-joined (piece ∷ pieces) = joined pieces ++ piece
-
 -- Two histories differ only in how bytes that come next to one another on a connection are cut into pieces, and their records into
 -- fragments: of the stream up to there the same is read, whole records and an unfinished one.
 pub data Recut (config : Config) : List PlainEvent → List PlainEvent → Type 0 where
   Nothing : Recut config [] []
   Same : {past other : List PlainEvent} (event : PlainEvent) → Recut config past other → Recut config (event ∷ past) (event ∷ other)
   Pieces : {past other : List PlainEvent} (c : ℕ) (pieces others : List (List ℕ)) (log : List Act) → IsLogOf config past log
-      → reading ((life (of c log)).stream ++ joined pieces) ≡ reading ((life (of c log)).stream ++ joined others) → Recut config past other
+      → reading (stream (of c log) ++ joined pieces) ≡ reading (stream (of c log) ++ joined others) → Recut config past other
       → Recut config (map (Bytes c) pieces ++ past) (map (Bytes c) others ++ other)
 
 -- Then both send the same bytes on each port.

@@ -1,5 +1,5 @@
 -- Laws of the whole, over the definitions alone.
-use Rattle.std.specs.Prelude.{◌≡◌, ◌⊎◌, ℕ, ◌+◌, ◌<◌, ◌≤◌, Bool, true, false, List, [], ◌∷◌, ◌++◌, length, take, drop, replicate, Some, None, is_some, Result, Ok, Err, ⊤}
+use Rattle.std.specs.Prelude.{◌≡◌, ◌⊎◌, ℕ, ◌+◌, ◌<◌, ◌≤◌, Bool, true, false, List, [], ◌∷◌, ◌++◌, length, take, drop, filter, replicate, Some, None, is_some, Result, Ok, Err, ⊤}
 use Rattle.sv_rpc.specs.declared.call.CallFault.TheVariants.{BadHeader}
 use Rattle.sv_rpc.specs.Call.{call_at}
 use Rattle.sv_links.specs.declared.waiting.Wait.{Wait}
@@ -12,7 +12,7 @@ use Rattle.sv_history.specs.declared.event.Did.TheVariants.{Done}
 use Rattle.sv_history.specs.declared.event.Refused.{Refused}
 use Rattle.sv_history.specs.Event.{PlainEvent, Open, Bytes, Turn, Took, Close, Dialed, Tick, Input, External, port_number}
 use Rattle.sv_history.specs.Act.{Act, ConnAct, Opened, CallTaken, Faulted, Replied, PortClosed, Ticked, OnDevice, of, device_acts, wait_acts, ticks}
-use Rattle.sv_history.specs.Connection.{life, is_open, next_call, room, waiting_on}
+use Rattle.sv_history.specs.Connection.{is_open, lived, next_call, room, waiting_on, completed, unanswered}
 use Rattle.sv_history.specs.Interrupts.{dial_of}
 use Rattle.sv_history.specs.Requests.{HearsOf}
 use Rattle.sv_history.specs.Settling.{CanResume}
@@ -53,11 +53,7 @@ NothingLost = (config : Config) (history : List PlainEvent) (event : PlainEvent)
 
 -- how many calls were taken on a connection since it opened
 abbrev pub taken : List ConnAct → ℕ
-taken [] = 0
-taken (Opened role ∷ acts) = 0
-taken (PortClosed ∷ acts) = 0
-taken (CallTaken call ∷ acts) = taken acts + 1
-taken (_ ∷ acts) = taken acts
+taken acts = length (filter (elim [ CallTaken call ↦ true | _ ↦ false ]) (lived acts))
 
 abbrev pub one_if : Bool → ℕ
 one_if true = 1
@@ -65,7 +61,7 @@ one_if false = 0
 
 -- as many as were answered (or were no calls), and the one that waits
 abbrev pub IsPaid : ℕ → List Act → Type 0
-IsPaid c log = taken (of c log) ≡ (life (of c log)).completed + one_if (is_some (waits c (wait_acts (device_acts log))))
+IsPaid c log = taken (of c log) ≡ completed (of c log) + one_if (is_some (waits c (wait_acts (device_acts log))))
 
 -- Each call that is taken is answered once, or waits for its answer.
 abbrev pub EachAnswered : Type 0
@@ -79,7 +75,7 @@ HasXidOf call reply = (4 ≤ length call) × (take 4 (drop 4 reply) ≡ take 4 c
 abbrev pub RepliesMatch : Type 0
 RepliesMatch = (config : Config) (history : List PlainEvent) (log : List Act) (c : ℕ) (newer older : List ConnAct) (reply : List ℕ)
     → IsLogOf config history log → of c log ≡ newer ++ Replied reply ∷ older
-    → (call : List ℕ) × ((life older).unanswered ≡ Some call) × HasXidOf call reply
+    → (call : List ℕ) × (unanswered older ≡ Some call) × HasXidOf call reply
 
 -- A call that a Turn takes is answered; or it is no call, which faults its connection; or it waits, for what isn't there (VXI-11 revision
 -- 1.0, section B.4.4).

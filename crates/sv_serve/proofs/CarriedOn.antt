@@ -10,8 +10,7 @@ use Rattle.sv_history.specs.declared.event.Port.{Port}
 use Rattle.sv_history.specs.declared.event.Port.TheVariants.{Conn, Intr}
 use Rattle.sv_history.specs.Event.{PlainEvent}
 use Rattle.sv_history.specs.Act.{Act, ConnAct, of, device_acts}
-use Rattle.sv_history.specs.Connection.{is_open, sent_on, waiting, waiting_on}
-use Rattle.sv_history.proofs.Lives.{sent}
+use Rattle.sv_history.specs.Connection.{is_open, sent_on, waiting, waiting_on, sent}
 use Rattle.sv_history.specs.History.{is_port_shut, last_clock, IsLogOf}
 use Rattle.sv_history.proofs.AlwaysTold.{some_told}
 use Rattle.sv_replay.specs.Scenario.{IsScenario}

@@ -12,8 +12,7 @@ use Rattle.sv_history.specs.declared.event.Refused.TheVariants.{NoConn, NotSent}
 use Rattle.sv_history.specs.declared.event.Port.TheVariants.{Conn, Intr}
 use Rattle.sv_history.specs.Event.{PlainEvent, Open, Bytes, Turn, Refuse, Took, Close, Dialed, Input, External, Tick}
 use Rattle.sv_history.specs.Act.{Act, ConnAct, Opened, Piece, CallTaken, Faulted, Replied, BytesTaken, PortClosed, of}
-use Rattle.sv_history.specs.Connection.{is_open, untaken, waiting, free}
-use Rattle.sv_history.proofs.Lives.{sent, given}
+use Rattle.sv_history.specs.Connection.{is_open, untaken, waiting, free, sent, given}
 use Rattle.sv_history.specs.History.{refusal, is_shut, IsLogOf}
 use Rattle.sv_laws.proofs.Brought.{brings, AreCalls}
 use Rattle.sv_laws.proofs.OneLog.{one_log}

@@ -11,8 +11,7 @@ use Rattle.sv_history.specs.declared.event.Port.{Port}
 use Rattle.sv_history.specs.declared.event.Port.TheVariants.{Conn, Intr}
 use Rattle.sv_history.specs.Event.{PlainEvent, Dialed, Tick}
 use Rattle.sv_history.specs.Act.{Act, of, device_acts, wait_acts}
-use Rattle.sv_history.specs.Connection.{is_open}
-use Rattle.sv_history.proofs.Lives.{unanswered}
+use Rattle.sv_history.specs.Connection.{is_open, unanswered}
 use Rattle.sv_history.specs.Interrupts.{is_dialing, dial_by, dial_in, dial_of}
 use Rattle.sv_history.proofs.Dialing.{peer_by}
 use Rattle.sv_history.specs.CoreCall.{CoreCall}

@@ -15,8 +15,7 @@ use Rattle.sv_history.specs.declared.event.Port.TheVariants.{Conn, Intr}
 use Rattle.sv_history.specs.Event.{PlainEvent, Open, Bytes, Took, Close}
 use Rattle.sv_history.specs.Act.{Act, ConnAct, Opened, Piece, CallTaken, Faulted, Replied, BytesTaken, PortClosed, of, device_acts}
 use Rattle.sv_history.specs.Requests.{HearsOf}
-use Rattle.sv_history.specs.Connection.{is_open, untaken, waiting}
-use Rattle.sv_history.proofs.Lives.{stream, sent, given}
+use Rattle.sv_history.specs.Connection.{is_open, untaken, waiting, stream, sent, given}
 use Rattle.sv_history.specs.History.{IsLogOf}
 use Rattle.sv_laws.proofs.Brought.{brings, AreCalls, OnlyCalls, tells, OnlyAdds, OnlyRequests}
 use Rattle.sv_serve.specs.declared.wire.Answer.TheVariants.{Got}

@@ -14,8 +14,7 @@ use Rattle.sv_history.specs.declared.event.Port.{Port}
 use Rattle.sv_history.specs.declared.event.Port.TheVariants.{Conn, Intr}
 use Rattle.sv_history.specs.Event.{PlainEvent, Open, Bytes, Turn, Refuse, Took, Close, Dialed, port_number}
 use Rattle.sv_history.specs.Act.{Act, ConnAct, Opened, Piece, CallTaken, Faulted, Replied, BytesTaken, PortClosed, of, device_acts}
-use Rattle.sv_history.specs.Connection.{is_open, room, waiting, is_faulted}
-use Rattle.sv_history.proofs.Lives.{open_role}
+use Rattle.sv_history.specs.Connection.{is_open, room, waiting, is_faulted, open_role}
 use Rattle.sv_history.specs.Interrupts.{has_channel}
 use Rattle.sv_history.specs.Requests.{HearsOf}
 use Rattle.sv_history.specs.History.{is_port_shut, IsLogOf, Answers, history_after}

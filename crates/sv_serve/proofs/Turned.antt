@@ -15,8 +15,7 @@ use Rattle.sv_history.specs.declared.event.Role.{Role}
 use Rattle.sv_history.specs.declared.event.Port.TheVariants.{Conn}
 use Rattle.sv_history.specs.Event.{PlainEvent, Turn, Refuse}
 use Rattle.sv_history.specs.Act.{Act, ConnAct, Opened, Piece, CallTaken, Faulted, Replied, BytesTaken, PortClosed, of}
-use Rattle.sv_history.specs.Connection.{is_open, waiting, is_idle, free}
-use Rattle.sv_history.proofs.Lives.{open_role, given}
+use Rattle.sv_history.specs.Connection.{is_open, waiting, is_idle, free, open_role, given}
 use Rattle.sv_history.specs.Limits.{longest_reply}
 use Rattle.sv_history.specs.History.{refusal, IsLogOf, Answers}
 use Rattle.sv_history.proofs.Unrecorded.{nothing_idle}

@@ -7,7 +7,7 @@ use Rattle.sv_history.specs.declared.event.Port.{Port}
 use Rattle.sv_history.specs.declared.event.Port.TheVariants.{Conn, Intr}
 use Rattle.sv_history.specs.Event.{PlainEvent}
 use Rattle.sv_history.specs.Act.{Act, of, device_acts}
-use Rattle.sv_history.specs.Connection.{life, sent_on, waiting_on, waiting, is_faulted}
+use Rattle.sv_history.specs.Connection.{sent_on, waiting_on, waiting, is_faulted, stream}
 use Rattle.sv_history.specs.Requests.{HearsOf}
 use Rattle.sv_history.specs.History.{is_port_shut, last_clock, IsLogOf}
 use Rattle.sv_replay.specs.Scenario.{IsScenario}
@@ -90,7 +90,7 @@ Once IsSo history trace = (later earlier : List PlainEvent) × (history ≡ late
 -- channel behind what ends it, or where it isn't open.
 pub record IsCarried (config : Config) (history : List PlainEvent) (trace : List Heard) : Type 0 where
   pub events : filter is_outer history ≡ flat_map event_of trace
-  pub streams : (c : ℕ) → Answered (λ log. (life (of c log)).stream) config history (since (Conn c) (read (Conn c)) trace)
+  pub streams : (c : ℕ) → Answered (λ log. stream (of c log)) config history (since (Conn c) (read (Conn c)) trace)
   pub sends : (port : Port) (log : List Act) (told : List ChannelAct) → IsLogOf config history log → HearsOf (device_acts log) told
       → is_port_shut port log ≡ false → since port (taken port) trace ++ waiting_on told port log ≡ sent_on told port log
   pub hands : EachHeard (λ heard older. (port : Port) (bytes : List ℕ) (answer : Answer ℕ) → heard ≡ WasWritten port bytes answer

@@ -4,7 +4,7 @@
 ghost use Rattle.std.specs.Prelude.{◌≡◌, ◌≢◌, ◌+◌, ◌≤◌, ◌||◌, not, ◌&&◌, ℕ, List, [], ◌∷◌, length, IfOk, IsSome, Some, None, true, false, is_some, nat_lt, option_map, if◌then◌else◌};
 ghost use Rattle.sv_rpc.specs.RecordBuf.{StandsFor, room_of, no_records};
 ghost use Rattle.sv_history.specs.Act.{ConnAct, Opened, Piece, CallTaken, Faulted, Replied, BytesTaken, PortClosed};
-ghost use Rattle.sv_history.specs.Connection.{life, is_open, next_call, is_idle, is_overlong, is_faulted, room, free, waiting};
+ghost use Rattle.sv_history.specs.Connection.{is_open, next_call, is_idle, is_overlong, is_faulted, room, free, waiting, unanswered, is_busy};
 ghost use Rattle.sv_history.specs.Request.{core_call_in};
 ghost use Rattle.sv_history.specs.Limits.{longest_reply, max_output};
 ghost use Rattle.sv_server.specs.Connection.Representation.{IsConnection};
@@ -218,7 +218,7 @@ impl<A: Allocator> Connection<A> {
     /// The call that was taken and isn't answered, where there is one.
     fn taken(&self) -> Option<&[u8]>
         ensures { (acts : List ConnAct) → IsConnection self.now acts
-            → option_map (λ call. call.now) result ≡ (life acts).unanswered }
+            → option_map (λ call. call.now) result ≡ unanswered acts }
     {
         if !self.busy {
             return None;
@@ -232,7 +232,7 @@ impl<A: Allocator> Connection<A> {
     /// The same, where it is one of the core channel, read once more as when it was taken.
     pub fn taken_call(&self) -> Option<CoreCall<'_>>
         ensures { (acts : List ConnAct) → IsConnection self.now acts
-            → option_map plain_core_call result ≡ core_call_in (life acts).unanswered }
+            → option_map plain_core_call result ≡ core_call_in (unanswered acts) }
     {
         core_call(self.taken()?)
     }
@@ -260,8 +260,7 @@ impl<A: Allocator> Connection<A> {
     /// Answers the call that was taken, where there is one.
     pub fn answer(&mut self, xid: u32, answer: &Answer<'_>)
         requires { IsShort answer.now }
-        ensures { (acts : List ConnAct) → IsConnection self.old acts → is_some
-            (life acts).unanswered ≡ true
+        ensures { (acts : List ConnAct) → IsConnection self.old acts → is_busy acts ≡ true
             → IsConnection self.new (Replied (answer_bytes xid answer.now) ∷ acts) }
     {
         if !self.busy {
@@ -274,8 +273,7 @@ impl<A: Allocator> Connection<A> {
 
     /// The record that was taken, where there is one, is no call.
     pub fn fault(&mut self)
-        ensures { (acts : List ConnAct) → IsConnection self.old acts → is_some
-            (life acts).unanswered ≡ true
+        ensures { (acts : List ConnAct) → IsConnection self.old acts → is_busy acts ≡ true
             → IsConnection self.new (Faulted ∷ acts) }
     {
         if !self.busy {

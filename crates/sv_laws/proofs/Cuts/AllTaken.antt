@@ -1,6 +1,6 @@
 -- Behind a call that was answered no whole record is left, and so as many records came to their end as there are: whatever comes next is
 -- read on from the tail alone.
-use Rattle.std.proofs.Common.{◌≡◌, ℕ, ◌+◌, ◌<◌, Bool, true, false, cond, List, [], ◌∷◌, ◌++◌, length, drop, Some, None, slice_get, refl, sym, ap, ◌∙◌, append_assoc, append-nil, arith}
+use Rattle.std.proofs.Common.{◌≡◌, ℕ, suc, ◌+◌, ◌<◌, Bool, true, false, cond, List, [], ◌∷◌, ◌++◌, length, drop, Some, None, slice_get, refl, sym, ap, ◌∙◌, append_assoc, append-nil, arith}
 use Rattle.std.specs.Prelude.{◌||◌, is_some}
 use Rattle.std.proofs.lemmas.List.{length-append, length-drop, append_cancel_right}
 use Rattle.std.proofs.lemmas.Option.{slice_get_within}
@@ -8,7 +8,7 @@ use Rattle.sv_rpc.specs.Stream.{records_of, tail_of}
 use Rattle.sv_history.specs.declared.event.Config.{Config}
 use Rattle.sv_history.specs.Event.{PlainEvent}
 use Rattle.sv_history.specs.Act.{Act, ConnAct, Opened, Piece, CallTaken, Faulted, Replied, BytesTaken, PortClosed, of}
-use Rattle.sv_history.proofs.Lives.{open_role, stream, completed, took_no_call, unanswered}
+use Rattle.sv_history.specs.Connection.{open_role, stream, completed, took_no_call, unanswered}
 use Rattle.sv_laws.specs.Cuts.{without_pieces}
 use Rattle.sv_laws.proofs.Cuts.ReadsOn.{resumed_at, records_more}
 use Rattle.sv_laws.proofs.Cuts.BytesBehind.{GoesOn, behind_bare, behind_stream}
@@ -39,8 +39,8 @@ completed_bare : (acts : List ConnAct) → completed acts ≡ completed (without
 completed_bare [] = refl
 completed_bare (Opened role ∷ acts) = refl
 completed_bare (PortClosed ∷ acts) = refl
-completed_bare (Faulted ∷ acts) = ap (λ (n : ℕ). n + 1) (completed_bare acts)
-completed_bare (Replied bytes ∷ acts) = ap (λ (n : ℕ). n + 1) (completed_bare acts)
+completed_bare (Faulted ∷ acts) = ap suc (completed_bare acts)
+completed_bare (Replied bytes ∷ acts) = ap suc (completed_bare acts)
 completed_bare (_ ∷ acts) = completed_bare acts
 
 -- ---- the stream goes on
@@ -81,8 +81,8 @@ module _ (c : ℕ) (config : Config) (past : List PlainEvent) (log : List Act) (
   pub fed_bare : without_pieces (of c log) ≡ Replied reply ∷ CallTaken call ∷ without_pieces (of c fed.base)
   fed_bare = behind_bare c fed.last log fed.came ∙ fed.acts
 
-  fed_count : completed (of c log) ≡ completed (of c fed.base) + 1
-  fed_count = completed_bare (of c log) ∙ ap completed fed_bare ∙ ap (λ (n : ℕ). n + 1) (sym (completed_bare (of c fed.base)))
+  fed_count : completed (of c log) ≡ suc (completed (of c fed.base))
+  fed_count = completed_bare (of c log) ∙ ap completed fed_bare ∙ ap suc (sym (completed_bare (of c fed.base)))
 
   fed_within : completed (of c fed.base) < length (records_of (stream (of c fed.base)))
   fed_within = slice_get_within (records_of (stream (of c fed.base))) (completed (of c fed.base)) call

@@ -6,7 +6,7 @@ use Rattle.sv_errors.specs.declared.code.Code.TheVariants.{InputBufferOverrun}
 use Rattle.sv_exchange.specs.Exchange.{Overran}
 use Rattle.sv_layers.specs.Act.{Act as InstrumentAct, Exchanged, Reported, exchange_acts as exchanged}
 use Rattle.sv_history.specs.Act.{Act, ConnAct, DeviceAct, CallTaken, Replied, Applied, On, OnDevice, of, device_acts, instrument_acts}
-use Rattle.sv_history.proofs.Lives.{unanswered}
+use Rattle.sv_history.specs.Connection.{unanswered}
 use Rattle.sv_history.proofs.Projections.{of_mine, of_other}
 use Rattle.sv_laws.proofs.Cuts.SameExchange.{text_cut}
 use Rattle.sv_laws.proofs.Cuts.SameStatus.{SameStatus, status_same, status_act, status_accepted, status_back}

@@ -2,8 +2,8 @@
 use Rattle.std.proofs.Common.{◌≡◌, ◌≢◌, ℕ, List, [], ◌∷◌, ◌++◌, refl, sym, ap, subst, ◌∙◌}
 use Rattle.std.specs.Prelude.{map}
 use Rattle.sv_history.specs.Act.{Act, ConnAct, Piece, On, of, device_acts}
-use Rattle.sv_history.proofs.Lives.{stream, unanswered}
-use Rattle.sv_laws.specs.Cuts.{joined, without_pieces}
+use Rattle.sv_history.specs.Connection.{joined, stream, unanswered}
+use Rattle.sv_laws.specs.Cuts.{without_pieces}
 use Rattle.sv_history.proofs.Projections.{of_effect, others_effect, device_effect}
 use Rattle.sv_laws.proofs.Cuts.SameView.{came, only_own, came_on}
 

@@ -9,11 +9,11 @@ use Rattle.sv_history.specs.declared.event.Port.{Port}
 use Rattle.sv_history.specs.declared.event.Port.TheVariants.{Conn, Intr}
 use Rattle.sv_history.specs.Event.{PlainEvent, Bytes}
 use Rattle.sv_history.specs.Act.{Act, DeviceAct, Piece, On, of, device_acts}
-use Rattle.sv_history.proofs.Lives.{stream}
+use Rattle.sv_history.specs.Connection.{joined, stream}
 use Rattle.sv_history.specs.Requests.{HearsOf}
 use Rattle.sv_history.specs.History.{IsLogOf}
 use Rattle.sv_laws.specs.Adding.{all_sent, Sends}
-use Rattle.sv_laws.specs.Cuts.{joined, Recut, Nothing, Same, Pieces, RecordsCut}
+use Rattle.sv_laws.specs.Cuts.{Recut, Nothing, Same, Pieces, RecordsCut}
 use Rattle.sv_laws.proofs.OneLog.{one_log}
 use Rattle.sv_history.proofs.StillSettled.{still_settled}
 use Rattle.sv_laws.proofs.EveryLog.Steps.{log_settled, stays}

@@ -1,12 +1,11 @@
 -- Two connections that took a different number of calls, and are the same ahead of these: the same calls come next, whatever comes.
-use Rattle.std.proofs.Common.{inl, inr, ◌≡◌, ℕ, zero, suc, ◌+◌, Bool, List, [], ◌∷◌, ◌++◌, drop, Option, None, slice_get, refl, sym, ap, ◌∙◌, append_assoc, append-nil, drop-drop}
+use Rattle.std.proofs.Common.{inl, inr, ◌≡◌, ℕ, zero, suc, ◌+◌, Bool, List, [], ◌∷◌, ◌++◌, drop, Option, None, slice_get, refl, sym, ap, ◌∙◌, append_assoc, append-nil, drop-drop, arith}
 use Rattle.std.specs.Prelude.{◌||◌, is_some, ◌==◌, if◌then◌else◌}
 use Rattle.std.proofs.lemmas.Bool.{cases_Bool}
 use Rattle.sv_rpc.specs.Stream.{records_of}
 use Rattle.sv_history.specs.declared.event.Role.{Role}
 use Rattle.sv_history.specs.Act.{Act, ConnAct, Opened, Piece, CallTaken, Faulted, Replied, BytesTaken, PortClosed, On, OnDevice, of}
-use Rattle.sv_history.specs.Connection.{next_call}
-use Rattle.sv_history.proofs.Lives.{open_role, unanswered, completed, took_no_call, stream}
+use Rattle.sv_history.specs.Connection.{next_call, open_role, unanswered, completed, took_no_call, stream}
 use Rattle.sv_history.specs.Request.{request_for, next_request}
 use Rattle.sv_laws.specs.Adding.{all_replies}
 
@@ -33,8 +32,14 @@ ahead_same acts = record {
   two = refl;
 }
 
-one_fewer : (n m : ℕ) (a b : List (List ℕ)) → drop n a ≡ drop m b → drop (n + 1) a ≡ drop (m + 1) b
-one_fewer n m a b same = sym (drop-drop 1 n a) ∙ ap (λ (l : List (List ℕ)). drop 1 l) same ∙ drop-drop 1 m b
+suc_is : (n : ℕ) → n + 1 ≡ suc n
+suc_is n = omega arith
+
+one_more : (n : ℕ) (a : List (List ℕ)) → drop 1 (drop n a) ≡ drop (suc n) a
+one_more n a = drop-drop 1 n a ∙ ap (λ (k : ℕ). drop k a) (suc_is n)
+
+one_fewer : (n m : ℕ) (a b : List (List ℕ)) → drop n a ≡ drop m b → drop (suc n) a ≡ drop (suc m) b
+one_fewer n m a b same = sym (one_more n a) ∙ ap (λ (l : List (List ℕ)). drop 1 l) same ∙ one_more m b
 
 -- the same act
 pub ahead_act : (first second : List ℕ) (act : ConnAct) (acts others : List ConnAct) → SameAhead first second acts others

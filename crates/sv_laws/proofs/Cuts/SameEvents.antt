@@ -16,8 +16,7 @@ use Rattle.sv_history.specs.declared.event.Port.TheVariants.{Conn, Intr}
 use Rattle.sv_history.specs.declared.event.Config.{Config}
 use Rattle.sv_history.specs.Event.{IsEvent, PlainEvent, Open, Bytes, Turn, Refuse, Took, Close, Dialed, Input, External, Tick}
 use Rattle.sv_history.specs.Act.{Act, DeviceAct, Opened, Piece, CallTaken, Replied, BytesTaken, PortClosed, Linked, Waited, Channel, Applied, Ticked, On, OnDevice, of, device_acts, link_acts, instrument_acts}
-use Rattle.sv_history.specs.Connection.{next_call}
-use Rattle.sv_history.proofs.Lives.{unanswered}
+use Rattle.sv_history.specs.Connection.{next_call, unanswered}
 use Rattle.sv_history.specs.CoreCall.{CoreCall}
 use Rattle.sv_history.specs.Request.{Request, NoCall, Decided, CoreRequest, AbortRequest, PortRequest, core_call_in, next_request}
 use Rattle.sv_history.specs.Refusing.{refusable, refused_reply}

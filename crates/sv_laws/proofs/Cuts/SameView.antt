@@ -1,6 +1,6 @@
 -- Two logs that are the same but for the pieces in which bytes came, and the fragments of records: over the same acts, and over other
 -- pieces.
-use Rattle.std.proofs.Common.{◌≡◌, ℕ, ◌+◌, Bool, List, [], ◌∷◌, ◌++◌, Option, None, refl, sym, ap, subst, ◌∙◌, inl, inr, append_assoc, append-nil}
+use Rattle.std.proofs.Common.{◌≡◌, ℕ, suc, Bool, List, [], ◌∷◌, ◌++◌, Option, None, refl, sym, ap, subst, ◌∙◌, inl, inr, append_assoc, append-nil}
 use Rattle.std.specs.Prelude.{map, ⊤, ◌||◌, is_some, slice_get, if◌then◌else◌}
 use Rattle.std.specs.List.{AllByRecursion}
 use Rattle.std.proofs.lemmas.Bool.{cases_eq}
@@ -8,13 +8,11 @@ use Rattle.sv_xdr.proofs.Fields.{IsBytes}
 use Rattle.sv_rpc.specs.Stream.{records_of}
 use Rattle.sv_history.specs.declared.event.Role.{Role}
 use Rattle.sv_history.specs.Act.{Act, ConnAct, DeviceAct, Opened, Piece, CallTaken, Faulted, Replied, BytesTaken, PortClosed, On, OnDevice, of, device_acts}
-use Rattle.sv_history.specs.Connection.{next_call}
-use Rattle.sv_history.proofs.Lives.{open_role, unanswered, completed, took_no_call, stream}
+use Rattle.sv_history.specs.Connection.{joined, next_call, open_role, unanswered, completed, took_no_call, stream}
 use Rattle.sv_history.specs.Request.{Request, request_for, next_request}
 use Rattle.sv_history.specs.Refusing.{refusable_call, refusable}
 use Rattle.sv_history.specs.Effect.{Effect, acts_of}
 use Rattle.sv_laws.specs.Adding.{all_replies}
-use Rattle.sv_laws.specs.Cuts.{joined}
 use Rattle.sv_history.proofs.Projections.{of_shared, device_shared, of_effect, others_effect, device_effect}
 use Rattle.sv_laws.proofs.ReadOn.{no_bytes}
 use Rattle.sv_laws.proofs.Cuts.SameRecords.{SameRecords, same_stream, same_back, same_moved, same_more, same_reading}
@@ -69,7 +67,7 @@ same_act (CallTaken call) acts others fits v =
 same_act Faulted acts others fits v = record {
   role = v.role;
   call = refl;
-  count = ap (λ (n : ℕ). n + 1) v.count;
+  count = ap suc v.count;
   no_call = refl;
   replies = v.replies;
   streams = v.streams;
@@ -77,7 +75,7 @@ same_act Faulted acts others fits v = record {
 same_act (Replied bytes) acts others fits v = record {
   role = v.role;
   call = refl;
-  count = ap (λ (n : ℕ). n + 1) v.count;
+  count = ap suc v.count;
   no_call = v.no_call;
   replies = ap (λ (l : List ℕ). l ++ bytes) v.replies;
   streams = v.streams;

@@ -14,8 +14,7 @@ use Rattle.sv_history.specs.declared.event.Port.TheVariants.{Conn, Intr}
 use Rattle.sv_history.specs.declared.event.Config.{Config}
 use Rattle.sv_history.specs.Event.{PlainEvent, Open, Bytes, Turn, Refuse, Took, Close, Dialed, Input, External, Tick}
 use Rattle.sv_history.specs.Act.{Act, ConnAct, Opened, Piece, CallTaken, Faulted, Replied, BytesTaken, PortClosed, Linked, Waited, Channel, Applied, Ticked, On, OnDevice, of, device_acts}
-use Rattle.sv_history.specs.Connection.{next_call}
-use Rattle.sv_history.proofs.Lives.{unanswered}
+use Rattle.sv_history.specs.Connection.{next_call, unanswered}
 use Rattle.sv_history.specs.Request.{Request, core_call_in, next_request}
 use Rattle.sv_history.specs.Refusing.{refusable_call}
 use Rattle.sv_history.specs.Effect.{Effect, acts_of}

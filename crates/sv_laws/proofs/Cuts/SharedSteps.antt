@@ -17,7 +17,7 @@ use Rattle.sv_instrument.specs.Stimulus.{IsFired}
 use Rattle.sv_instrument.specs.Step.{IsStep, is_answerable}
 use Rattle.sv_history.specs.declared.event.Config.{Config}
 use Rattle.sv_history.specs.Act.{Act, DeviceAct, Waited, Applied, OnDevice, of, device_acts, link_acts, wait_acts, instrument_acts, exchange_acts, ticks}
-use Rattle.sv_history.proofs.Lives.{unanswered}
+use Rattle.sv_history.specs.Connection.{unanswered}
 use Rattle.sv_history.specs.CallOutcome.{CallOutcome, suspended}
 use Rattle.sv_history.specs.CoreCall.{CoreCall, lid_of}
 use Rattle.sv_history.specs.Request.{Request, NoCall, Decided, CoreRequest, AbortRequest, PortRequest, core_call_in}

@@ -13,7 +13,7 @@ use Rattle.sv_history.specs.declared.event.Port.{Port}
 use Rattle.sv_history.specs.declared.event.Port.TheVariants.{Conn, Intr}
 use Rattle.sv_history.specs.Event.{PlainEvent}
 use Rattle.sv_history.specs.Act.{Act, ConnAct, DeviceAct, CallTaken, Replied, of, device_acts, wait_acts}
-use Rattle.sv_history.proofs.Lives.{open_role, unanswered, completed, took_no_call, stream}
+use Rattle.sv_history.specs.Connection.{open_role, unanswered, completed, took_no_call, stream}
 use Rattle.sv_history.specs.Request.{core_call}
 use Rattle.sv_history.specs.Effect.{result_reply}
 use Rattle.sv_history.specs.PolledStatus.{IsPolled}

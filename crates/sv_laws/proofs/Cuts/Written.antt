@@ -14,8 +14,7 @@ use Rattle.sv_links.specs.Waiting.{Left, waits}
 use Rattle.sv_exchange.specs.Exchange.{has_ended}
 use Rattle.sv_history.specs.declared.event.Config.{Config}
 use Rattle.sv_history.specs.Act.{Act, ConnAct, CallTaken, Replied, Waited, On, OnDevice, of, device_acts, wait_acts, exchange_acts}
-use Rattle.sv_history.specs.Connection.{next_call}
-use Rattle.sv_history.proofs.Lives.{open_role, unanswered}
+use Rattle.sv_history.specs.Connection.{next_call, open_role, unanswered}
 use Rattle.sv_history.specs.CallOutcome.{CallOutcome}
 use Rattle.sv_history.specs.CoreCall.{CoreCall}
 use Rattle.sv_history.specs.Request.{Request, core_call, core_call_in, request_for}

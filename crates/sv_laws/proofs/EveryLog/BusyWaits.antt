@@ -23,8 +23,7 @@ use Rattle.sv_history.specs.declared.event.Config.{Config}
 use Rattle.sv_history.specs.declared.event.Port.TheVariants.{Conn, Intr}
 use Rattle.sv_history.specs.Event.{PlainEvent, Open, Bytes, Turn, Refuse, Took, Close, Dialed, Input, External, Tick}
 use Rattle.sv_history.specs.Act.{Act, ConnAct, DeviceAct, Opened, Piece, CallTaken, Replied, BytesTaken, PortClosed, Waited, Channel, Applied, Ticked, On, OnDevice, of, device_acts, link_acts, wait_acts, instrument_acts, exchange_acts}
-use Rattle.sv_history.specs.Connection.{next_call}
-use Rattle.sv_history.proofs.Lives.{unanswered}
+use Rattle.sv_history.specs.Connection.{next_call, unanswered}
 use Rattle.sv_history.specs.CallOutcome.{CallOutcome, only}
 use Rattle.sv_history.specs.CoreCall.{CoreCall, lid_of, failure}
 use Rattle.sv_history.specs.CoreChannel.{own_call}

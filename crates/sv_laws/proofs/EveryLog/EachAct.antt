@@ -29,8 +29,7 @@ use Rattle.sv_history.specs.declared.event.Role.TheVariants.{Core, Abort, Portma
 use Rattle.sv_history.specs.declared.event.Port.TheVariants.{Conn, Intr}
 use Rattle.sv_history.specs.Event.{PlainEvent, Open, Bytes, Turn, Refuse, Took, Close, Dialed, Input, External, Tick, IsEvent}
 use Rattle.sv_history.specs.Act.{Act, ConnAct, DeviceAct, Opened, Piece, CallTaken, Faulted, Replied, BytesTaken, PortClosed, Linked, Waited, Channel, Applied, Ticked, On, OnDevice, of, device_acts, link_acts, instrument_acts}
-use Rattle.sv_history.specs.Connection.{is_open, next_call}
-use Rattle.sv_history.proofs.Lives.{open_role, unanswered}
+use Rattle.sv_history.specs.Connection.{is_open, next_call, open_role, unanswered}
 use Rattle.sv_history.specs.CallOutcome.{CallOutcome, only}
 use Rattle.sv_history.specs.CoreCall.{CoreCall, lid_of, failure}
 use Rattle.sv_history.specs.Reply.{reply_record}

@@ -26,8 +26,7 @@ use Rattle.sv_history.specs.declared.event.Role.{Role}
 use Rattle.sv_history.specs.declared.event.Role.TheVariants.{Core}
 use Rattle.sv_history.specs.Event.{PlainEvent, Open, Bytes, Turn, Refuse, Took, Close, Dialed, Input, External, Tick, IsEvent}
 use Rattle.sv_history.specs.Act.{Act, ConnAct, DeviceAct, Opened, Piece, CallTaken, Replied, BytesTaken, PortClosed, Linked, Waited, Channel, Applied, Ticked, On, OnDevice, of, device_acts, link_acts, wait_acts, instrument_acts}
-use Rattle.sv_history.specs.Connection.{next_call}
-use Rattle.sv_history.proofs.Lives.{open_role, unanswered}
+use Rattle.sv_history.specs.Connection.{next_call, open_role, unanswered}
 use Rattle.sv_history.specs.CoreCall.{CoreCall, lid_of}
 use Rattle.sv_history.specs.CoreChannel.{own_call}
 use Rattle.sv_history.specs.Effect.{Effect, acts_of, replies, call_effect}

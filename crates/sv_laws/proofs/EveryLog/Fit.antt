@@ -13,7 +13,7 @@ use Rattle.sv_laws.proofs.LinksAlike.{owner_before, owner_of_made}
 use Rattle.sv_laws.proofs.CallsAlike.{SameCall, conn_of, call_foreign}
 use Rattle.sv_history.specs.declared.event.Role.TheVariants.{Core}
 use Rattle.sv_history.specs.Act.{Act, ConnAct, DeviceAct, Linked, Waited, Channel, Applied, Ticked, On, OnDevice, of, device_acts, link_acts, wait_acts}
-use Rattle.sv_history.proofs.Lives.{open_role, unanswered}
+use Rattle.sv_history.specs.Connection.{open_role, unanswered}
 use Rattle.sv_history.specs.CoreCall.{CoreCall}
 use Rattle.sv_history.specs.Request.{core_call_in}
 use Rattle.sv_history.specs.Effect.{Effect, acts_of}

@@ -15,8 +15,7 @@ use Rattle.sv_history.specs.declared.event.Role.TheVariants.{Core, Abort, Portma
 use Rattle.sv_history.specs.declared.event.Refused.{Refused}
 use Rattle.sv_history.specs.declared.event.Refused.TheVariants.{NoConn}
 use Rattle.sv_history.specs.Act.{Act, ConnAct}
-use Rattle.sv_history.specs.Connection.{next_call}
-use Rattle.sv_history.proofs.Lives.{open_role, unanswered, took_no_call, stream, completed}
+use Rattle.sv_history.specs.Connection.{next_call, open_role, unanswered, took_no_call, stream, completed}
 use Rattle.sv_history.specs.CoreCall.{CoreCall}
 use Rattle.sv_history.specs.Request.{Request, CoreRequest, AbortRequest, core_request, abort_request, request_of, core_call_of, core_call, request_for, next_request}
 use Rattle.sv_history.proofs.Deciding.{unless_decided, header_reply, request_is}

@@ -11,8 +11,7 @@ use Rattle.sv_rpc.specs.Stream.{records_of, tail_of}
 use Rattle.sv_rpc.proofs.OneReading.{read_alone}
 use Rattle.sv_rpc.specs.Limits.{capacity}
 use Rattle.sv_history.specs.Act.{ConnAct, CallTaken}
-use Rattle.sv_history.specs.Connection.{is_open, next_call, is_idle, is_overlong, is_faulted, room}
-use Rattle.sv_history.proofs.Lives.{stream, completed, took_no_call, is_busy}
+use Rattle.sv_history.specs.Connection.{is_open, next_call, is_idle, is_overlong, is_faulted, room, stream, completed, took_no_call, is_busy}
 use Rattle.sv_server.specs.Connection.Representation.{Connection, IsConnection}
 use Rattle.sv_server.specs.Connection.Inside.NextCall.{kept_next}
 

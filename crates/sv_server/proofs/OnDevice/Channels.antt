@@ -10,7 +10,7 @@ use Rattle.sv_history.specs.declared.event.Config.{Config}
 use Rattle.sv_history.specs.Act.{Act, DeviceAct, of, device_acts, wait_acts}
 use Rattle.sv_history.specs.Requests.{HearsOf}
 use Rattle.sv_history.specs.Interrupts.{has_channel, is_dial, is_dialing, dial_of, dial_in}
-use Rattle.sv_history.proofs.Lives.{unanswered}
+use Rattle.sv_history.specs.Connection.{unanswered}
 use Rattle.sv_history.specs.CoreCall.{CoreCall}
 use Rattle.sv_history.specs.Request.{core_call_in}
 use Rattle.sv_history.specs.declared.event.Refused.TheVariants.{NotSent}

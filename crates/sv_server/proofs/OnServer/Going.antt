@@ -12,7 +12,7 @@ use Rattle.sv_links.specs.Queue.{IsEntry, entry_of, creates, creations, without}
 use Rattle.sv_layers.specs.Act.{Act as InstrumentAct}
 use Rattle.sv_history.specs.declared.event.Config.{Config}
 use Rattle.sv_history.specs.Act.{Act, Applied, OnDevice, of, device_acts, link_acts, wait_acts, instrument_acts}
-use Rattle.sv_history.proofs.Lives.{unanswered}
+use Rattle.sv_history.specs.Connection.{unanswered}
 use Rattle.sv_history.specs.Request.{core_call}
 use Rattle.sv_history.specs.Effect.{Effect, acts_of}
 use Rattle.sv_history.specs.Settling.{CanResume, InstrumentDoes}

@@ -13,8 +13,7 @@ use Rattle.sv_history.specs.declared.event.Config.{Config}
 use Rattle.sv_server.specs.Server.Inside.Ending.{Concludes}
 use Rattle.sv_server.specs.Server.Inside.Ending.{HeldAs}
 use Rattle.sv_history.specs.Act.{Act, ConnAct, DeviceAct, CallTaken, PortClosed, Linked, Waited, Channel, Ticked, On, OnDevice, of, device_acts, link_acts}
-use Rattle.sv_history.specs.Connection.{is_open}
-use Rattle.sv_history.proofs.Lives.{is_busy, unanswered}
+use Rattle.sv_history.specs.Connection.{is_open, is_busy, unanswered}
 use Rattle.sv_history.specs.Request.{core_call}
 use Rattle.sv_history.specs.Effect.{Effect, acts_of}
 use Rattle.sv_server.specs.Connection.Representation.{Connection, IsConnection}

@@ -9,8 +9,7 @@ use Rattle.sv_history.specs.declared.event.Refused.{Refused}
 use Rattle.sv_history.specs.declared.event.Refused.TheVariants.{NoMemory, NoRoom, NotRefusable, BadChannel, BadInput}
 use Rattle.sv_history.specs.Event.{Refuse, Input}
 use Rattle.sv_history.specs.Act.{Act, ConnAct, CallTaken, Replied, On, of}
-use Rattle.sv_history.specs.Connection.{next_call, free}
-use Rattle.sv_history.proofs.Lives.{open_role}
+use Rattle.sv_history.specs.Connection.{next_call, free, open_role}
 use Rattle.sv_history.specs.CoreCall.{CoreCall}
 use Rattle.sv_history.specs.Refusing.{refusable, refusable_call, refused_reply}
 use Rattle.sv_history.specs.Request.{request_for}

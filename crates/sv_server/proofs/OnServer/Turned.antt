@@ -11,8 +11,7 @@ use Rattle.sv_history.specs.CoreChannel.{read_of}
 use Rattle.sv_history.specs.declared.event.Config.{Config}
 use Rattle.sv_links.specs.declared.waiting.Entry.{Entry}
 use Rattle.sv_history.specs.Act.{DeviceAct, ConnAct}
-use Rattle.sv_history.specs.Connection.{free, is_idle, next_call}
-use Rattle.sv_history.proofs.Lives.{open_role}
+use Rattle.sv_history.specs.Connection.{free, is_idle, next_call, open_role}
 use Rattle.sv_history.specs.declared.event.Refused.TheVariants.{NoRoom}
 use Rattle.sv_history.specs.History.{turn_refusal}
 use Rattle.sv_history.specs.CoreCall.{CoreCall}

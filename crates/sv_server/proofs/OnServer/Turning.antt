@@ -10,8 +10,7 @@ use Rattle.sv_history.specs.declared.event.Refused.TheVariants.{NoMemory}
 use Rattle.sv_server.specs.declared.server.turn.Turned.TheVariants.{Idle, Done}
 use Rattle.sv_history.specs.Event.{Turn}
 use Rattle.sv_history.specs.Act.{Act, DeviceAct, CallTaken, On, of, device_acts, wait_acts}
-use Rattle.sv_history.specs.Connection.{next_call}
-use Rattle.sv_history.proofs.Lives.{is_busy}
+use Rattle.sv_history.specs.Connection.{next_call, is_busy}
 use Rattle.sv_history.specs.Effect.{Effect, acts_of}
 use Rattle.sv_history.specs.Execution.{request_effect, aborts}
 use Rattle.sv_history.specs.History.{is_shut, abort_acts, taken_acts, wants_memory}

@@ -3,8 +3,7 @@ use Rattle.std.proofs.Common.{◌≡◌, ◌≢◌, ℕ, suc, ◌+◌, ◌<◌, 
 use Rattle.std.specs.Prelude.{◌||◌, not, max, nat_lt}
 use Rattle.std.proofs.lemmas.Bool.{cases_eq}
 use Rattle.sv_history.specs.Act.{Act, ConnAct, On, of}
-use Rattle.sv_history.specs.Connection.{is_open}
-use Rattle.sv_history.proofs.Lives.{unanswered}
+use Rattle.sv_history.specs.Connection.{is_open, unanswered}
 use Rattle.sv_history.specs.History.{is_shut}
 use Rattle.sv_history.specs.Queries.{IsUsed}
 use Rattle.sv_history.proofs.Projections.{of_mine, of_other}

@@ -3,7 +3,7 @@ use Rattle.std.specs.Prelude.{◌≡◌, ℕ, ◌≤◌, Bool, true, List, lengt
 use Rattle.sv_rpc.specs.RecordBuf.{Records, StandsFor}
 use Rattle.sv_history.specs.declared.event.Role.{Role}
 use Rattle.sv_history.specs.Act.{ConnAct}
-use Rattle.sv_history.specs.Connection.{life, untaken}
+use Rattle.sv_history.specs.Connection.{untaken, completed, given, open_role, sent, stream, took_no_call, is_busy, unanswered}
 
 -- what it is open for; what came and didn't come to its end; what waits to be sent; whether a record was taken that is no call; and whether
 -- its first record is a call that was taken
@@ -16,10 +16,10 @@ pub record Connection : Type 0 where
 
 -- The connection keeps what its acts say.
 pub record IsConnection (kept : Connection) (acts : List ConnAct) : Type 0 where
-  pub role : kept.role ≡ (life acts).role
-  pub input : StandsFor kept.input (life acts).stream (life acts).completed
+  pub role : kept.role ≡ open_role acts
+  pub input : StandsFor kept.input (stream acts) (completed acts)
   pub output : kept.output ≡ untaken acts
-  pub bounded : (life acts).given ≤ length (life acts).sent
-  pub faulted : kept.faulted ≡ (life acts).took_no_call
-  pub busy : kept.busy ≡ is_some (life acts).unanswered
-  pub call : kept.busy ≡ true → slice_get kept.input.records 0 ≡ (life acts).unanswered
+  pub bounded : given acts ≤ length (sent acts)
+  pub faulted : kept.faulted ≡ took_no_call acts
+  pub busy : kept.busy ≡ is_busy acts
+  pub call : kept.busy ≡ true → slice_get kept.input.records 0 ≡ unanswered acts

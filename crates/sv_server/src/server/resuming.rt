@@ -4,7 +4,7 @@ ghost use Rattle.std.specs.Prelude.{◌≡◌, ◌<◌, ℕ, List, true, false, 
 ghost use Rattle.sv_links.specs.Queue.{without, queue_measure};
 ghost use Rattle.sv_history.specs.declared.event.Config.{Config};
 ghost use Rattle.sv_history.specs.Act.{ConnAct, DeviceAct};
-ghost use Rattle.sv_history.specs.Connection.{life};
+ghost use Rattle.sv_history.specs.Connection.{unanswered, is_busy};
 ghost use Rattle.sv_history.specs.Request.{core_call_in};
 ghost use Rattle.sv_server.specs.Connection.Representation.{IsConnection};
 ghost use Rattle.sv_server.specs.Device.Inside.Outcome.{IsDeviceAt, IsNearer, is_able};
@@ -27,13 +27,11 @@ pub fn take_up<A: Allocator>(
 )
     requires { IsNearer cause conn.number device.old.waiting }
     ensures concludes { (config : Config) (polled : ℕ) (acts : List ConnAct)
-        (before : List DeviceAct) → IsConnection connection.old acts → is_some
-        (life acts).unanswered ≡ true
+        (before : List DeviceAct) → IsConnection connection.old acts → is_busy acts ≡ true
         → IsDeviceAt device.old config polled before
-        → MayTakeUp cause conn.number (core_call_in (life acts).unanswered) device.old before
-        → WentOn (taken_up cause config polled conn.number (core_call_in
-        (life acts).unanswered) before)
-        conn.number (core_call_in (life acts).unanswered) config acts before device.old.waiting
+        → MayTakeUp cause conn.number (core_call_in (unanswered acts)) device.old before
+        → WentOn (taken_up cause config polled conn.number (core_call_in (unanswered acts))
+        before) conn.number (core_call_in (unanswered acts)) config acts before device.old.waiting
         connection.new device.new }
     ensures left { is_able cause ≡ false
         → device.new.waiting ≡ without conn.number device.old.waiting }

@@ -9,7 +9,7 @@ ghost use Rattle.sv_instrument.specs.Representation.{instrument_measure};
 ghost use Rattle.sv_history.specs.declared.event.Config.{Config};
 ghost use Rattle.sv_history.specs.Event.{plain};
 ghost use Rattle.sv_history.specs.Act.{Act, of, device_acts, wait_acts};
-ghost use Rattle.sv_history.specs.Connection.{life};
+ghost use Rattle.sv_history.specs.Connection.{unanswered};
 ghost use Rattle.sv_history.specs.Request.{core_call_in};
 ghost use Rattle.sv_history.specs.PolledStatus.{IsPolled};
 ghost use Rattle.sv_history.specs.Effect.{acts_of};
@@ -70,7 +70,7 @@ impl<A: Allocator> Server<A> {
             → (creates entry ≡ true → creations (without entry.conn self.old.device.waiting)
             < creations self.old.device.waiting)
             → Represents self.new config (acts_of entry.conn (resumed config polled entry.conn
-            entry.wait (core_call_in (life (of entry.conn log)).unanswered)
+            entry.wait (core_call_in (unanswered (of entry.conn log)))
             (device_acts log)) ++ log) }
         ensures measure { queue_measure self.new.device.waiting
             < queue_measure self.old.device.waiting }
@@ -85,8 +85,7 @@ impl<A: Allocator> Server<A> {
         ensures stands { (config : Config) (log : List Act) → Represents self.old config log
             → (waits conn.number (wait_acts (device_acts log)) ≡ None → ⊥)
             → Represents self.new config (acts_of conn.number
-            (failed error conn.number (core_call_in (life
-            (of conn.number log)).unanswered)) ++ log) }
+            (failed error conn.number (core_call_in (unanswered (of conn.number log)))) ++ log) }
         ensures waiting { self.new.device.waiting ≡ without conn.number self.old.device.waiting }
     {
         let connection = &mut self.connections[conn.index()];

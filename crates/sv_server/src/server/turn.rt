@@ -4,7 +4,7 @@ ghost use Rattle.std.specs.Prelude.{◌≡◌, List, Some, OnErr, true, is_some}
 ghost use Rattle.sv_exchange.specs.Exchange.{response};
 ghost use Rattle.sv_history.specs.declared.event.Config.{Config};
 ghost use Rattle.sv_history.specs.Act.{Act, ConnAct, DeviceAct, of, device_acts, exchange_acts};
-ghost use Rattle.sv_history.specs.Connection.{life};
+ghost use Rattle.sv_history.specs.Connection.{is_busy};
 ghost use Rattle.sv_history.specs.Effect.{Effect, call_effect};
 ghost use Rattle.sv_history.specs.CoreChannel.{reads};
 ghost use Rattle.sv_server.specs.Connection.Representation.{IsConnection};
@@ -79,7 +79,7 @@ fn conclude<A: Allocator>(
     requires { IsBriefly executed }
     ensures ends { (config : Config) (acts : List ConnAct) (before : List DeviceAct)
         (effect : Effect)
-        → IsConnection connection.old acts → is_some (life acts).unanswered ≡ true
+        → IsConnection connection.old acts → is_busy acts ≡ true
         → EndsAs executed xid device.old config before effect
         → Concludes effect config acts before connection.new device.new }
     ensures waiting { device.new.waiting ≡ device.old.waiting }
@@ -102,7 +102,7 @@ pub fn conclude_call<A: Allocator>(
     requires { IsBrief outcome }
     ensures ends { (config : Config) (acts : List ConnAct) (before : List DeviceAct)
         (effect : Effect)
-        → IsConnection connection.old acts → is_some (life acts).unanswered ≡ true
+        → IsConnection connection.old acts → is_busy acts ≡ true
         → CallEndsAs outcome xid device.old config before effect
         → Concludes effect config acts before connection.new device.new }
     ensures waiting { device.new.waiting ≡ device.old.waiting }
@@ -123,7 +123,7 @@ fn answer_response<A: Allocator>(
     device: &mut Device<A>,
 )
     ensures ends { (config : Config) (acts : List ConnAct) (before : List DeviceAct)
-        → IsConnection connection.old acts → is_some (life acts).unanswered ≡ true
+        → IsConnection connection.old acts → is_busy acts ≡ true
         → IsDevice device.old config before
         → Concludes (call_effect xid (reads (response (exchange_acts before)) most term)) config
         acts before connection.new device.new }

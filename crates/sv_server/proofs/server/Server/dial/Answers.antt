@@ -1,6 +1,6 @@
 use Rattle.std.proofs.Common.{None, sym, ap, ◌∙◌}
 use Rattle.sv_history.specs.Act.{of, device_acts}
-use Rattle.sv_history.proofs.Lives.{unanswered}
+use Rattle.sv_history.specs.Connection.{unanswered}
 use Rattle.sv_history.specs.Request.{core_call_in}
 use Rattle.std.specs.Prelude.{List}
 use Rattle.sv_history.specs.Act.{ConnAct}
