@@ -22,7 +22,7 @@ FILES = {
     "crates/one/specs/One.antt": "-- one\none = 1\n",
     "crates/one/must-fail/one_is_two.edit": "turns: one ensures\nfile: src/lib.rt\nold:     1\nnew:     2\n",
     "README.md": "the prover rejects all 1.\n",
-    "docs/EVIDENCE.md": "| all | 1 | 0 | 1 |\n",
+    "docs/EVIDENCE.md": "| 1 | 0 | 1 |\n",
 }
 
 
