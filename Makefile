@@ -18,6 +18,9 @@ endif
 endif
 endif
 
+# Results are kept of the proved program alone.
+KEPT := $(if $(GIVEN),,--results)
+
 # What the server is measured beside.
 ECHO := crates/echo/out/echo
 
@@ -69,10 +72,11 @@ serve:
 	    'PORT111=$(PORT111)' 'PROVED=$(PROVED)' 'SERVER=$(GIVEN)'
 
 # Proves the program as above and measures it: its speed and memory, and what they are to be.
-# Then the same of its server, beside one by rpcgen and beside a bare echo.
+# Then the same of its server, beside one by rpcgen and beside a bare echo. What the proved program
+# makes is appended to bench/results; of a SERVER that is named nothing is.
 bench: $(PROOF) echo
-	@bench/run '$(SERVER)'
-	@bench/serve '$(SERVER)' $(ECHO)
+	@bench/run $(KEPT) '$(SERVER)'
+	@bench/serve $(KEPT) '$(SERVER)' $(ECHO)
 
 # Proves the bare echo, and has it look ten times.
 echo:
@@ -87,12 +91,12 @@ clients: $(PROOF)
 # Serves with the program, and sends it peers that drop, reset, half-close, send random bytes or
 # never read, beside one that must lose no reply.
 hostile: $(PROOF)
-	@tools/hostile '$(SERVER)'
+	@tools/hostile $(KEPT) '$(SERVER)'
 
 # Serves under such peers for MINUTES (15 if not said), and a minute each with few file descriptors and
 # with memory that is used up; beside them no reply and no request for service may be lost.
 soak: $(PROOF)
-	@tools/soak '$(SERVER)' $(MINUTES)
+	@tools/soak $(KEPT) '$(SERVER)' $(MINUTES)
 
 # Checks the types of the Python package and runs its tests and those of the example of a driver, over the program that
 # `tools/serve BUILD=1` builds, or over SERVER. It needs some Debian packages, which it names.

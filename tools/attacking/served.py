@@ -13,8 +13,19 @@ TOOLS = os.path.dirname(os.path.dirname(os.path.abspath(__file__)))
 PROVED = os.path.dirname(TOOLS) + "/crates/scanvolt/out/scanvolt"
 
 
+# The rows so far, which `keep` has appended to a file of results.
+ROWS = []
+
+
 def row(what, found, aim):
+    ROWS.append((what, found, aim))
     print("%-66s %10s  %s" % (what, found, aim), flush=True)
+
+
+def keep(name):
+    """Has the rows appended to the results of this name; whether that was done."""
+    text = "".join("%s\t%s\t%s\n" % one for one in ROWS)
+    return subprocess.run([TOOLS + "/results", name], input=text, text=True, check=False).returncode == 0
 
 
 def runs(program):

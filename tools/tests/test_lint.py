@@ -22,7 +22,7 @@ FILES = {
     "crates/one/specs/One.antt": "-- one\none = 1\n",
     "crates/one/must-fail/one_is_two.edit": "turns: one ensures\nfile: src/lib.rt\nold:     1\nnew:     2\n",
     "README.md": "the prover rejects all 1.\n",
-    "docs/EVIDENCE.md": "| all | 1 | 0 | 1 |\n",
+    "docs/EVIDENCE.md": "| 1 | 0 | 0 | 1 | 0 |\n",
 }
 
 
@@ -99,7 +99,7 @@ class Linting(unittest.TestCase):
             "one/must-fail/two.edit: there is no clause two stands",
             "one/must-fail/two.edit: not once in its file: 7",
             "README.md: there are 2 mutants",
-            "docs/EVIDENCE.md: there are 1 clauses, 0 of laws, and 2 mutants",
+            "docs/EVIDENCE.md: there are 1 clauses, 0 without a mutant, 0 of laws, 2 mutants, 0 without turns:",
             ""))))
 
 

@@ -72,7 +72,7 @@ class Connection:
         self.channel: Optional[Flow] = None     # that of its interrupt channel
 
     def room(self) -> int:
-        """How many bytes the server takes of it (docs/DECISIONS.md has the count)."""
+        """How many bytes the server takes of it (docs/RULES.md has the count: sv_rpc RecordBuf)."""
         left = self.asks.left
         if left is not None and len(self.asks.body) + left > LONGEST:
             return 0
