@@ -53,7 +53,8 @@ not_test p = not_by p.0 p.1
 
 summary_word : (log : List InstrumentAct) → (word : ℕ) × ((k : ℕ) → (bit_at word k ≡ 1) ↔ SummaryBit k log)
 summary_word [] = (0, same_summaries 0 [] no_summary)
-summary_word (act ∷ log) = let told = one_account (act ∷ log) in (told.1.0, same_summaries told.1.0 (act ∷ log) told.1.2)
+summary_word (act ∷ log) = let channel_log = one_account (act ∷ log) in
+    (channel_log.1.0, same_summaries channel_log.1.0 (act ∷ log) channel_log.1.2)
 
 asking_word : (log : List InstrumentAct) → (word : ℕ) × ((k : ℕ) → (bit_at word k ≡ 1) ↔ ServiceRequested k log)
 asking_word log =
@@ -146,7 +147,7 @@ some_polled acts =
 
 -- ---- what interrupt channels are told
 
-pub some_told : (acts : List DeviceAct) → (told : List ChannelAct) × HearsOf acts told
+pub some_told : (acts : List DeviceAct) → (channel_log : List ChannelAct) × HearsOf acts channel_log
 some_told [] = ([], refl)
 some_told (Channel act ∷ acts) = let before = some_told acts in (act ∷ before.0, (before.0, before.1, refl))
 some_told (Linked act ∷ acts) = let before = some_told acts in (link_told act before.0, (before.0, before.1, refl))

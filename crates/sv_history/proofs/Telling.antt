@@ -22,12 +22,12 @@ same_flag false true P x y = absurd (let z : false ≡ true = x.1 (y.0 refl) in 
 -- one list is told
 pub tells_once : (acts : List DeviceAct) (a b : List ChannelAct) → HearsOf acts a → HearsOf acts b → a ≡ b
 tells_once [] a b x y = x ∙ sym y
-tells_once (Channel act ∷ acts) a b (s, told, x) (t, other, y) =
-    x ∙ ap (λ (l : List ChannelAct). act ∷ l) (tells_once acts s t told other) ∙ sym y
-tells_once (Linked act ∷ acts) a b (s, told, x) (t, other, y) =
-    x ∙ ap (link_told act) (tells_once acts s t told other) ∙ sym y
-tells_once (Applied act ∷ acts) a b (s, p, told, so, x) (t, q, other, also, y) =
-    x ∙ ap (request_told p) (tells_once acts s t told other)
+tells_once (Channel act ∷ acts) a b (s, channel_log, x) (t, other, y) =
+    x ∙ ap (λ (l : List ChannelAct). act ∷ l) (tells_once acts s t channel_log other) ∙ sym y
+tells_once (Linked act ∷ acts) a b (s, channel_log, x) (t, other, y) =
+    x ∙ ap (link_told act) (tells_once acts s t channel_log other) ∙ sym y
+tells_once (Applied act ∷ acts) a b (s, p, channel_log, so, x) (t, q, other, also, y) =
+    x ∙ ap (request_told p) (tells_once acts s t channel_log other)
     ∙ ap (λ (r : Bool). request_told r t) (same_flag p q (IsRaised (act ∷ instrument_acts acts)) so also) ∙ sym y
 tells_once (Waited act ∷ acts) a b x y = tells_once acts a b x y
 tells_once (Ticked ∷ acts) a b x y = tells_once acts a b x y
@@ -39,47 +39,48 @@ peer_more c (ChannelOpened conn what) a b same = ap (λ (o : Option Peer). if co
 peer_more c (ChannelClosed conn) a b same = ap (λ (o : Option Peer). if conn == c then None else o) same
 peer_more c _ a b same = same
 
-peer_linked : (c : ℕ) (act : LinkAct) (told : List ChannelAct) → peer c (link_told act told) ≡ peer c told
-peer_linked c (Destroyed lid) told = refl
-peer_linked c _ told = refl
+peer_linked : (c : ℕ) (act : LinkAct) (channel_log : List ChannelAct) → peer c (link_told act channel_log) ≡ peer c channel_log
+peer_linked c (Destroyed lid) channel_log = refl
+peer_linked c _ channel_log = refl
 
-peer_requested : (c : ℕ) (raised : Bool) (told : List ChannelAct) → peer c (request_told raised told) ≡ peer c told
-peer_requested c true told = refl
-peer_requested c false told = refl
+peer_requested : (c : ℕ) (raised : Bool) (channel_log : List ChannelAct) → peer c (request_told raised channel_log) ≡ peer c channel_log
+peer_requested c true channel_log = refl
+peer_requested c false channel_log = refl
 
-pub peer_told : (c : ℕ) (acts : List DeviceAct) (told : List ChannelAct) → HearsOf acts told → peer c told ≡ peer c (channel_acts acts)
-peer_told c [] told x = ap (peer c) x
-peer_told c (Channel act ∷ acts) told (before, is, x) =
+pub peer_told : (c : ℕ) (acts : List DeviceAct) (channel_log : List ChannelAct) → HearsOf acts channel_log
+    → peer c channel_log ≡ peer c (channel_acts acts)
+peer_told c [] channel_log x = ap (peer c) x
+peer_told c (Channel act ∷ acts) channel_log (before, is, x) =
     ap (peer c) x ∙ peer_more c act before (channel_acts acts) (peer_told c acts before is)
-peer_told c (Linked act ∷ acts) told (before, is, x) = ap (peer c) x ∙ peer_linked c act before ∙ peer_told c acts before is
-peer_told c (Applied act ∷ acts) told (before, raised, is, so, x) =
+peer_told c (Linked act ∷ acts) channel_log (before, is, x) = ap (peer c) x ∙ peer_linked c act before ∙ peer_told c acts before is
+peer_told c (Applied act ∷ acts) channel_log (before, raised, is, so, x) =
     ap (peer c) x ∙ peer_requested c raised before ∙ peer_told c acts before is
-peer_told c (Waited act ∷ acts) told x = peer_told c acts told x
-peer_told c (Ticked ∷ acts) told x = peer_told c acts told x
+peer_told c (Waited act ∷ acts) channel_log x = peer_told c acts channel_log x
+peer_told c (Ticked ∷ acts) channel_log x = peer_told c acts channel_log x
 
-pub has_channel_told : (c : ℕ) (acts : List DeviceAct) (told : List ChannelAct) → HearsOf acts told
-    → is_channel_open c told ≡ has_channel c acts
-has_channel_told c acts told x = ap (λ (o : Option Peer). is_some o) (peer_told c acts told x)
+pub has_channel_told : (c : ℕ) (acts : List DeviceAct) (channel_log : List ChannelAct) → HearsOf acts channel_log
+    → is_channel_open c channel_log ≡ has_channel c acts
+has_channel_told c acts channel_log x = ap (λ (o : Option Peer). is_some o) (peer_told c acts channel_log x)
 
 -- ---- requests
 
 -- so many requests more
 abbrev pub requests : ℕ → List ChannelAct → List ChannelAct
-requests zero told = told
-requests (suc n) told = Requested ∷ requests n told
+requests zero channel_log = channel_log
+requests (suc n) channel_log = Requested ∷ requests n channel_log
 
-pub requests_one : (n : ℕ) (raised : Bool) (told : List ChannelAct)
-    → requests (n + bit 0 raised) told ≡ request_told raised (requests n told)
-requests_one n true told = ap (λ (m : ℕ). requests m told) (let e : n + 1 ≡ suc n = omega arith in e)
-requests_one n false told = ap (λ (m : ℕ). requests m told) (let e : n + 0 ≡ n = omega arith in e)
+pub requests_one : (n : ℕ) (raised : Bool) (channel_log : List ChannelAct)
+    → requests (n + bit 0 raised) channel_log ≡ request_told raised (requests n channel_log)
+requests_one n true channel_log = ap (λ (m : ℕ). requests m channel_log) (let e : n + 1 ≡ suc n = omega arith in e)
+requests_one n false channel_log = ap (λ (m : ℕ). requests m channel_log) (let e : n + 0 ≡ n = omega arith in e)
 
-pub tells_raised : (adds : List InstrumentAct) (acts : List DeviceAct) (told : List ChannelAct) (n : ℕ)
-    → Raise adds (instrument_acts acts) n → HearsOf acts told → HearsOf (map Applied adds ++ acts) (requests n told)
-tells_raised [] acts told n raise tells = subst (λ (m : ℕ). HearsOf acts (requests m told)) (sym raise) tells
-tells_raised (act ∷ adds) acts told n (raised, before, so, rest, is) tells = (
-  requests before told,
+pub tells_raised : (adds : List InstrumentAct) (acts : List DeviceAct) (channel_log : List ChannelAct) (n : ℕ)
+    → Raise adds (instrument_acts acts) n → HearsOf acts channel_log → HearsOf (map Applied adds ++ acts) (requests n channel_log)
+tells_raised [] acts channel_log n raise tells = subst (λ (m : ℕ). HearsOf acts (requests m channel_log)) (sym raise) tells
+tells_raised (act ∷ adds) acts channel_log n (raised, before, so, rest, is) tells = (
+  requests before channel_log,
   raised,
-  tells_raised adds acts told before rest tells,
+  tells_raised adds acts channel_log before rest tells,
   rw (instrument_acts-happened adds acts) so,
-  ap (λ (m : ℕ). requests m told) is ∙ requests_one before raised told,
+  ap (λ (m : ℕ). requests m channel_log) is ∙ requests_one before raised channel_log,
 )

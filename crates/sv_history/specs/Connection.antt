@@ -78,13 +78,13 @@ waiting acts = if is_open acts then untaken acts else []
 
 -- the bytes that wait on a port, where this was told to interrupt channels
 abbrev pub waiting_on : List ChannelAct → Port → List Act → List ℕ
-waiting_on told (Conn c) log = waiting (of c log)
-waiting_on told (Intr c) log = channel_waiting c told
+waiting_on channel_log (Conn c) log = waiting (of c log)
+waiting_on channel_log (Intr c) log = channel_waiting c channel_log
 
 -- all bytes that were sent on a port since it was opened
 abbrev pub sent_on : List ChannelAct → Port → List Act → List ℕ
-sent_on told (Conn c) log = sent (of c log)
-sent_on told (Intr c) log = concat (calls c told)
+sent_on channel_log (Conn c) log = sent (of c log)
+sent_on channel_log (Intr c) log = concat (calls c channel_log)
 
 -- The call to take next: the first record that didn't come to its end, unless it was taken already, or a record was no call.
 abbrev pub next_call : List ConnAct → Option (List ℕ)

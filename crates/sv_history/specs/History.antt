@@ -114,25 +114,25 @@ unless_shut c log other = if is_shut c log then Some NoConn else other
 -- What refuses an event, where this was told to interrupt channels: the first, in the order of checks, that holds. Want of memory isn't
 -- among them.
 abbrev pub refusal : Config → List ChannelAct → PlainEvent → List Act → Option Refused
-refusal config told (Open c role) log = if nat_lt 15 c then Some NoConn else (if is_open (of c log) then Some ConnInUse else None)
-refusal config told (Bytes c piece) log = unless_shut c log (if nat_lt (room (of c log)) (length piece) then Some NoRoom else None)
-refusal config told (Turn c) log = unless_shut c log (turn_refusal (of c log))
-refusal config told (Refuse c) log = unless_shut c log (refuse_refusal (of c log))
-refusal config told (Took (Conn c) count) log = unless_shut c log (took_refusal count (waiting (of c log)))
-refusal config told (Took (Intr c) count) log =
-    if is_channel_shut c log then Some NoConn else took_refusal count (channel_waiting c told)
-refusal config told (Close (Conn c)) log = unless_shut c log None
-refusal config told (Close (Intr c)) log = if is_channel_shut c log then Some NoConn else None
-refusal config told (Dialed c ok) log = unless_shut c log (if is_dialing c (wait_acts (device_acts log)) then None else Some NoDial)
-refusal config told (Input channel microvolts) log = input_refusal channel microvolts
-refusal config told External log = None
-refusal config told Tick log = if config.clock + ticks (device_acts log) == last_clock then Some TimeOver else None
+refusal config channel_log (Open c role) log = if nat_lt 15 c then Some NoConn else (if is_open (of c log) then Some ConnInUse else None)
+refusal config channel_log (Bytes c piece) log = unless_shut c log (if nat_lt (room (of c log)) (length piece) then Some NoRoom else None)
+refusal config channel_log (Turn c) log = unless_shut c log (turn_refusal (of c log))
+refusal config channel_log (Refuse c) log = unless_shut c log (refuse_refusal (of c log))
+refusal config channel_log (Took (Conn c) count) log = unless_shut c log (took_refusal count (waiting (of c log)))
+refusal config channel_log (Took (Intr c) count) log =
+    if is_channel_shut c log then Some NoConn else took_refusal count (channel_waiting c channel_log)
+refusal config channel_log (Close (Conn c)) log = unless_shut c log None
+refusal config channel_log (Close (Intr c)) log = if is_channel_shut c log then Some NoConn else None
+refusal config channel_log (Dialed c ok) log = unless_shut c log (if is_dialing c (wait_acts (device_acts log)) then None else Some NoDial)
+refusal config channel_log (Input channel microvolts) log = input_refusal channel microvolts
+refusal config channel_log External log = None
+refusal config channel_log Tick log = if config.clock + ticks (device_acts log) == last_clock then Some TimeOver else None
 
 -- The log of a history: each event's own acts, and then the steps that are due. Each number of a history lies in its range.
 abbrev pub IsLogOf : Config → List PlainEvent → List Act → Type 0
 IsLogOf config [] log = IsConfig config × (log ≡ [])
-IsLogOf config (event ∷ history) log = (before : List Act) × (polled : ℕ) × (told : List ChannelAct) × IsEvent event
-    × IsLogOf config history before × HearsOf (device_acts before) told × (refusal config told event before ≡ None)
+IsLogOf config (event ∷ history) log = (before : List Act) × (polled : ℕ) × (channel_log : List ChannelAct) × IsEvent event
+    × IsLogOf config history before × HearsOf (device_acts before) channel_log × (refusal config channel_log event before ≡ None)
     × IsPolled polled (device_acts before)
     × Settles config (own_acts config polled event before ++ before) log
 
@@ -148,13 +148,15 @@ wants_memory acts = nat_lt 0 (made (link_acts acts)) || (nat_lt 0 (creating (wai
 -- What a call of the server answers: what the event does, or what refuses it. Memory may be wanting only for an event that nothing else
 -- refuses, and that makes a link, or lets a create_link or a create_intr_chan wait.
 abbrev pub AnswersBy : Config → List ChannelAct → PlainEvent → List Act → Result Did Refused → Type 0
-AnswersBy config told event log (Ok what) = (refusal config told event log ≡ None) × (what ≡ did event log)
-AnswersBy config told event log (Err NoMemory) = (refusal config told event log ≡ None) × (polled : ℕ) × IsPolled polled (device_acts log)
+AnswersBy config channel_log event log (Ok what) = (refusal config channel_log event log ≡ None) × (what ≡ did event log)
+AnswersBy config channel_log event log (Err NoMemory) = (refusal config channel_log event log ≡ None) × (polled : ℕ)
+    × IsPolled polled (device_acts log)
     × (wants_memory (device_acts (own_acts config polled event log)) ≡ true)
-AnswersBy config told event log (Err refused) = refusal config told event log ≡ Some refused
+AnswersBy config channel_log event log (Err refused) = refusal config channel_log event log ≡ Some refused
 
 abbrev pub Answers : Config → PlainEvent → List Act → Result Did Refused → Type 0
-Answers config event log result = (told : List ChannelAct) × HearsOf (device_acts log) told × AnswersBy config told event log result
+Answers config event log result = (channel_log : List ChannelAct) × HearsOf (device_acts log) channel_log
+    × AnswersBy config channel_log event log result
 
 -- the history with the event, unless it was refused
 abbrev pub history_after : PlainEvent → Result Did Refused → List PlainEvent → List PlainEvent

@@ -51,8 +51,8 @@ ports = map port_of (below 32)
 
 -- the lines of ports, by a log that told this to interrupt channels
 abbrev pub lines_of : List ChannelAct → List Port → List Act → List ℕ
-lines_of told [] log = []
-lines_of told (port ∷ others) log = port_line port (waiting_on told port log) ++ lines_of told others log
+lines_of channel_log [] log = []
+lines_of channel_log (port ∷ others) log = port_line port (waiting_on channel_log port log) ++ lines_of channel_log others log
 
 -- the history in which the peer took these bytes from a port; where there are none, nothing happened
 abbrev pub with_took : Port → List ℕ → List PlainEvent → List PlainEvent
@@ -61,8 +61,9 @@ with_took port (byte ∷ bytes) history = Took port (length (byte ∷ bytes)) �
 
 -- the history in which the peer took all that waits at ports by a log, from one port after the other
 abbrev pub with_tooks : List ChannelAct → List Port → List Act → List PlainEvent → List PlainEvent
-with_tooks told [] log history = history
-with_tooks told (port ∷ others) log history = with_tooks told others log (with_took port (waiting_on told port log) history)
+with_tooks channel_log [] log history = history
+with_tooks channel_log (port ∷ others) log history = with_tooks channel_log others log
+    (with_took port (waiting_on channel_log port log) history)
 
 -- the line of a refusal
 abbrev pub head_of : Result Did Refused → List ℕ
@@ -80,4 +81,4 @@ ports_after (Err refusal) = if is_no_memory refusal then [] else ports
 
 -- the print of an event, by what it answered and by the log that it left
 abbrev pub print_of : Result Did Refused → List ChannelAct → List Act → List ℕ
-print_of did told log = head_of did ++ lines_of told (ports_after did) log
+print_of did channel_log log = head_of did ++ lines_of channel_log (ports_after did) log

@@ -11,8 +11,9 @@ use Rattle.sv_history.specs.History.{IsLogOf}
 
 -- These are the bytes that wait on a port, by the history's log and what it tells to interrupt channels.
 abbrev pub WaitOn : Port → Config → List PlainEvent → List ℕ → Type 0
-WaitOn port config history bytes = (log : List Act) × (told : List ChannelAct) × IsLogOf config history log × HearsOf (device_acts log) told
-    × (bytes ≡ waiting_on told port log)
+WaitOn port config history bytes = (log : List Act) × (channel_log : List ChannelAct) × IsLogOf config history log
+    × HearsOf (device_acts log) channel_log
+    × (bytes ≡ waiting_on channel_log port log)
 
 -- The result is this function of the history's log.
 abbrev pub Answered : {A : Type 0} → (List Act → A) → Config → List PlainEvent → A → Type 0

@@ -8,19 +8,19 @@ use Rattle.sv_history.specs.Act.{DeviceAct, Linked, Channel, Applied, instrument
 
 -- what a link's act is to them
 abbrev pub link_told : LinkAct → List ChannelAct → List ChannelAct
-link_told (Destroyed lid) told = SrqDisabled lid ∷ told
-link_told _ told = told
+link_told (Destroyed lid) channel_log = SrqDisabled lid ∷ channel_log
+link_told _ channel_log = channel_log
 
 -- and that of the instrument, where it raises a request
 abbrev pub request_told : Bool → List ChannelAct → List ChannelAct
-request_told true told = Requested ∷ told
-request_told false told = told
+request_told true channel_log = Requested ∷ channel_log
+request_told false channel_log = channel_log
 
 -- The acts tell them this.
 abbrev pub HearsOf : List DeviceAct → List ChannelAct → Type 0
-HearsOf [] told = told ≡ []
-HearsOf (Channel act ∷ acts) told = (before : List ChannelAct) × HearsOf acts before × (told ≡ act ∷ before)
-HearsOf (Linked act ∷ acts) told = (before : List ChannelAct) × HearsOf acts before × (told ≡ link_told act before)
-HearsOf (Applied act ∷ acts) told = (before : List ChannelAct) × (raised : Bool) × HearsOf acts before
-    × ((raised ≡ true) ↔ IsRaised (act ∷ instrument_acts acts)) × (told ≡ request_told raised before)
-HearsOf (_ ∷ acts) told = HearsOf acts told
+HearsOf [] channel_log = channel_log ≡ []
+HearsOf (Channel act ∷ acts) channel_log = (before : List ChannelAct) × HearsOf acts before × (channel_log ≡ act ∷ before)
+HearsOf (Linked act ∷ acts) channel_log = (before : List ChannelAct) × HearsOf acts before × (channel_log ≡ link_told act before)
+HearsOf (Applied act ∷ acts) channel_log = (before : List ChannelAct) × (raised : Bool) × HearsOf acts before
+    × ((raised ≡ true) ↔ IsRaised (act ∷ instrument_acts acts)) × (channel_log ≡ request_told raised before)
+HearsOf (_ ∷ acts) channel_log = HearsOf acts channel_log

@@ -72,8 +72,8 @@ OnlyAdds c before after = is_channel_open c after ≡ true → (is_channel_open 
 -- An event tells to each interrupt channel its own act, and behind it a channel is closed, or calls are added to it.
 abbrev pub OnlyRequests : Type 0
 OnlyRequests = (config : Config) (event : PlainEvent) (history : List PlainEvent) (before log : List Act)
-    (told later : List ChannelAct) (c : ℕ) → IsLogOf config history before → HearsOf (device_acts before) told
-    → IsLogOf config (event ∷ history) log → HearsOf (device_acts log) later → OnlyAdds c (tells event before ++ told) later
+    (channel_log later : List ChannelAct) (c : ℕ) → IsLogOf config history before → HearsOf (device_acts before) channel_log
+    → IsLogOf config (event ∷ history) log → HearsOf (device_acts log) later → OnlyAdds c (tells event before ++ channel_log) later
 
 -- A call that finds no memory can be refused.
 abbrev pub CanBeRefused : Type 0

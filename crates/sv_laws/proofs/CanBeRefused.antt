@@ -234,7 +234,7 @@ refuse_modest c None (Some call) = refl
 refuse_modest c None None = refl
 
 pub can_be_refused : CanBeRefused
-can_be_refused config history c log result was (told, hears, (open_so, polled, said, wants)) (also, hears_also, h) =
+can_be_refused config history c log result was (channel_log, hears, (open_so, polled, said, wants)) (also, hears_also, h) =
     let can = turn_refusable config polled c (next_call (of c log)) (next_request (of c log)) log wants in
     is_done config also (Refuse c) log result
     (free_by (is_shut c log) (is_idle (of c log)) (nat_lt (free (of c log)) longest_reply) (is_none (refusable (of c log)))

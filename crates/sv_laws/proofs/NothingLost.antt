@@ -42,21 +42,21 @@ some_none {A} a refused none some = absurd (let z : None ≡ Some refused = sym 
 pub not_both : {A : Type 0} (b : Bool) → b ≡ false → b ≡ true → A
 not_both {A} b off on = absurd (let z : false ≡ true = sym off ∙ on in cc)
 
-pub is_done : (config : Config) (told : List ChannelAct) (event : PlainEvent) (log : List Act) (result : Result Did Refused)
-    → refusal config told event log ≡ None → did event log ≡ Done
+pub is_done : (config : Config) (channel_log : List ChannelAct) (event : PlainEvent) (log : List Act) (result : Result Did Refused)
+    → refusal config channel_log event log ≡ None → did event log ≡ Done
     → ((polled : ℕ) → wants_memory (device_acts (own_acts config polled event log)) ≡ false)
-    → AnswersBy config told event log result → result ≡ Ok Done
-is_done config told event log (Ok what) free does modest h = ap Ok (h.1 ∙ does)
-is_done config told event log (Err NoMemory) free does modest h = not_both _ (modest h.1) h.3
-is_done config told event log (Err ConnInUse) free does modest h = some_none _ ConnInUse free h
-is_done config told event log (Err NoConn) free does modest h = some_none _ NoConn free h
-is_done config told event log (Err NoRoom) free does modest h = some_none _ NoRoom free h
-is_done config told event log (Err NotSent) free does modest h = some_none _ NotSent free h
-is_done config told event log (Err NoDial) free does modest h = some_none _ NoDial free h
-is_done config told event log (Err NotRefusable) free does modest h = some_none _ NotRefusable free h
-is_done config told event log (Err BadChannel) free does modest h = some_none _ BadChannel free h
-is_done config told event log (Err BadInput) free does modest h = some_none _ BadInput free h
-is_done config told event log (Err TimeOver) free does modest h = some_none _ TimeOver free h
+    → AnswersBy config channel_log event log result → result ≡ Ok Done
+is_done config channel_log event log (Ok what) free does modest h = ap Ok (h.1 ∙ does)
+is_done config channel_log event log (Err NoMemory) free does modest h = not_both _ (modest h.1) h.3
+is_done config channel_log event log (Err ConnInUse) free does modest h = some_none _ ConnInUse free h
+is_done config channel_log event log (Err NoConn) free does modest h = some_none _ NoConn free h
+is_done config channel_log event log (Err NoRoom) free does modest h = some_none _ NoRoom free h
+is_done config channel_log event log (Err NotSent) free does modest h = some_none _ NotSent free h
+is_done config channel_log event log (Err NoDial) free does modest h = some_none _ NoDial free h
+is_done config channel_log event log (Err NotRefusable) free does modest h = some_none _ NotRefusable free h
+is_done config channel_log event log (Err BadChannel) free does modest h = some_none _ BadChannel free h
+is_done config channel_log event log (Err BadInput) free does modest h = some_none _ BadInput free h
+is_done config channel_log event log (Err TimeOver) free does modest h = some_none _ TimeOver free h
 
 -- ---- which want none
 
@@ -158,10 +158,10 @@ open_waiting acts lt = elim (cases_Bool (is_open acts)) [
   | inr e ↦ absurd (let no : length (waiting acts) ≡ 0 = rw e refl in omega (arith, lt, no))
 ]
 
-channel_there : (c : ℕ) (told : List ChannelAct) → 0 < length (channel_waiting c told) → is_channel_open c told ≡ true
-channel_there c told lt = elim (cases_Bool (is_channel_open c told)) [
+channel_there : (c : ℕ) (channel_log : List ChannelAct) → 0 < length (channel_waiting c channel_log) → is_channel_open c channel_log ≡ true
+channel_there c channel_log lt = elim (cases_Bool (is_channel_open c channel_log)) [
   | inl e ↦ e
-  | inr e ↦ absurd (let no : length (channel_waiting c told) ≡ 0 = rw e refl in omega (arith, lt, no))
+  | inr e ↦ absurd (let no : length (channel_waiting c channel_log) ≡ 0 = rw e refl in omega (arith, lt, no))
 ]
 
 some_role : (found : Option Role) → (found ≡ None → ⊥) → is_some found ≡ true
@@ -189,41 +189,41 @@ either_false true b e = absurd cc
 either_false false b e = (refl, e)
 
 pub nothing_lost : NothingLost
-nothing_lost config history (Open c role) told log result was tells suits (also, hears, h) =
+nothing_lost config history (Open c role) channel_log log result was tells suits (also, hears, h) =
     let free : refusal config also (Open c role) log ≡ None =
     rw (le-ltb 15 c (let lt = suits.0 in omega (arith, lt)), suits.1) refl in
     is_done config also (Open c role) log result free refl (λ polled. refl) h
-nothing_lost config history (Bytes c piece) told log result was tells suits (also, hears, h) =
+nothing_lost config history (Bytes c piece) channel_log log result was tells suits (also, hears, h) =
     let free : refusal config also (Bytes c piece) log ≡ None =
     rw (not_shut c log suits.0 (open_room (of c log) suits.1), le-ltb (room (of c log)) (length piece) suits.2) refl in
     is_done config also (Bytes c piece) log result free refl (λ polled. refl) h
-nothing_lost config history (Took (Conn c) n) told log result was tells suits (also, hears, h) =
+nothing_lost config history (Took (Conn c) n) channel_log log result was tells suits (also, hears, h) =
     let free : refusal config also (Took (Conn c) n) log ≡ None =
     rw (not_shut c log suits.0 (open_waiting (of c log) suits.1), le-ltb (length (waiting (of c log))) n suits.2) refl in
     is_done config also (Took (Conn c) n) log result free refl (λ polled. refl) h
-nothing_lost config history (Took (Intr c) n) told log result was tells suits (also, hears, h) =
-    let same = tells_once (device_acts log) also told hears tells in
+nothing_lost config history (Took (Intr c) n) channel_log log result was tells suits (also, hears, h) =
+    let same = tells_once (device_acts log) also channel_log hears tells in
     let there : has_channel c (device_acts log) ≡ true =
-    sym (has_channel_told c (device_acts log) told tells) ∙ channel_there c told suits.1 in
-    let free : refusal config told (Took (Intr c) n) log ≡ None =
-    rw (le-ltb 15 c (let lt = suits.0 in omega (arith, lt)), there, le-ltb (length (channel_waiting c told)) n suits.2) refl in
-    is_done config told (Took (Intr c) n) log result free refl (λ polled. refl)
+    sym (has_channel_told c (device_acts log) channel_log tells) ∙ channel_there c channel_log suits.1 in
+    let free : refusal config channel_log (Took (Intr c) n) log ≡ None =
+    rw (le-ltb 15 c (let lt = suits.0 in omega (arith, lt)), there, le-ltb (length (channel_waiting c channel_log)) n suits.2) refl in
+    is_done config channel_log (Took (Intr c) n) log result free refl (λ polled. refl)
     (subst (λ (l : List ChannelAct). AnswersBy config l (Took (Intr c) n) log result) same h)
-nothing_lost config history (Close (Conn c)) told log result was tells suits (also, hears, h) =
+nothing_lost config history (Close (Conn c)) channel_log log result was tells suits (also, hears, h) =
     let free : refusal config also (Close (Conn c)) log ≡ None = rw suits refl in
     is_done config also (Close (Conn c)) log result free refl (λ polled. close_modest c log) h
-nothing_lost config history (Close (Intr c)) told log result was tells suits (also, hears, h) =
+nothing_lost config history (Close (Intr c)) channel_log log result was tells suits (also, hears, h) =
     let free : refusal config also (Close (Intr c)) log ≡ None = rw suits refl in
     is_done config also (Close (Intr c)) log result free refl (λ polled. refl) h
-nothing_lost config history (Dialed c ok) told log result was tells suits (also, hears, h) =
+nothing_lost config history (Dialed c ok) channel_log log result was tells suits (also, hears, h) =
     let both = dials (is_dialing c (wait_acts (device_acts log))) _ suits.1 suits.2 in
     let free : refusal config also (Dialed c ok) log ≡ None =
     rw (not_shut c log suits.0 (open_dialing config history log c suits.1 was both.1), both.0) refl in
     is_done config also (Dialed c ok) log result free refl (λ polled. dialed_modest c ok (core_call_in (unanswered (of c log)))) h
-nothing_lost config history (Turn c) told log result was tells suits answers = absurd suits
-nothing_lost config history (Refuse c) told log result was tells suits answers = absurd suits
-nothing_lost config history (Input channel microvolts) told log result was tells suits (also, hears, h) =
+nothing_lost config history (Turn c) channel_log log result was tells suits answers = absurd suits
+nothing_lost config history (Refuse c) channel_log log result was tells suits answers = absurd suits
+nothing_lost config history (Input channel microvolts) channel_log log result was tells suits (also, hears, h) =
     is_done config also (Input channel microvolts) log result suits refl (λ polled. refl) h
-nothing_lost config history External told log result was tells suits (also, hears, h) =
+nothing_lost config history External channel_log log result was tells suits (also, hears, h) =
     is_done config also External log result refl refl (λ polled. happened_modest (external_acts (instrument_acts (device_acts log)))) h
-nothing_lost config history Tick told log result was tells suits answers = absurd suits
+nothing_lost config history Tick channel_log log result was tells suits answers = absurd suits

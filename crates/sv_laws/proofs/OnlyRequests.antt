@@ -90,8 +90,8 @@ fold_adds p t cs (handle ∷ handles) =
     one_adds (Some what) handle = by_test (may_call t cs) _
     one_adds None handle = ([], sym (append-nil cs))
 
-adds_none : (c : ℕ) (told : List ChannelAct) → OnlyAdds c told told
-adds_none c told = λ opened. (opened, refl, [], sym (append-nil (calls c told)))
+adds_none : (c : ℕ) (channel_log : List ChannelAct) → OnlyAdds c channel_log channel_log
+adds_none c channel_log = λ opened. (opened, refl, [], sym (append-nil (calls c channel_log)))
 
 adds_then : (c : ℕ) (a b d : List ChannelAct) → OnlyAdds c a b → OnlyAdds c b d → OnlyAdds c a d
 adds_then c a b d x y = λ opened.
@@ -103,46 +103,52 @@ adds_then c a b d x y = λ opened.
       last.3 ∙ ap (λ (l : List (List ℕ)). l ++ last.2) first.3 ∙ append_assoc (calls c a) first.2 last.2,
     )
 
-adds_linked : (c : ℕ) (act : LinkAct) (told : List ChannelAct) → OnlyAdds c told (link_told act told)
-adds_linked c (Destroyed lid) told = λ opened. (opened, refl, [], sym (append-nil (calls c told)))
-adds_linked c (Made lid conn) told = adds_none c told
-adds_linked c (Locked lid) told = adds_none c told
-adds_linked c (Unlocked lid) told = adds_none c told
+adds_linked : (c : ℕ) (act : LinkAct) (channel_log : List ChannelAct) → OnlyAdds c channel_log (link_told act channel_log)
+adds_linked c (Destroyed lid) channel_log = λ opened. (opened, refl, [], sym (append-nil (calls c channel_log)))
+adds_linked c (Made lid conn) channel_log = adds_none c channel_log
+adds_linked c (Locked lid) channel_log = adds_none c channel_log
+adds_linked c (Unlocked lid) channel_log = adds_none c channel_log
 
-adds_requested : (c : ℕ) (raised : Bool) (told : List ChannelAct) → OnlyAdds c told (request_told raised told)
-adds_requested c true told = λ opened.
-    let more = fold_adds (peer c told) (taken c told) (calls c told) (handles_of c (enabled told)) in (opened, refl, more.0, more.1)
-adds_requested c false told = adds_none c told
+adds_requested : (c : ℕ) (raised : Bool) (channel_log : List ChannelAct) → OnlyAdds c channel_log (request_told raised channel_log)
+adds_requested c true channel_log = λ opened.
+    let more = fold_adds (peer c channel_log) (taken c channel_log) (calls c channel_log) (handles_of c (enabled channel_log)) in
+        (opened, refl, more.0, more.1)
+adds_requested c false channel_log = adds_none c channel_log
 
-adds_closed : (c conn : ℕ) (told : List ChannelAct) → OnlyAdds c told (ChannelClosed conn ∷ told)
-adds_closed c conn told = elim (cases_Bool (eqb conn c)) [
+adds_closed : (c conn : ℕ) (channel_log : List ChannelAct) → OnlyAdds c channel_log (ChannelClosed conn ∷ channel_log)
+adds_closed c conn channel_log = elim (cases_Bool (eqb conn c)) [
   | inl e ↦ λ opened. absurd (let z : false ≡ true = rw e at opened in cc)
-  | inr e ↦ rw e (adds_none c told)
+  | inr e ↦ rw e (adds_none c channel_log)
 ]
 
-pub plain_tells : (c : ℕ) (adds acts : List DeviceAct) (told later : List ChannelAct) → ArePlain adds → HearsOf acts told
-    → HearsOf (adds ++ acts) later → OnlyAdds c told later
-plain_tells c [] acts told later h x y = subst (OnlyAdds c told) (tells_once acts told later x y) (adds_none c told)
-plain_tells c (Channel (ChannelOpened conn what) ∷ adds) acts told later h x y = absurd h
-plain_tells c (Channel (ChannelTaken conn count) ∷ adds) acts told later h x y = absurd h
-plain_tells c (Channel (SrqEnabled lid conn handle) ∷ adds) acts told later h x (before, y, is) =
-    subst (OnlyAdds c told) (sym is) (plain_tells c adds acts told before h x y)
-plain_tells c (Channel (SrqDisabled lid) ∷ adds) acts told later h x (before, y, is) =
-    subst (OnlyAdds c told) (sym is) (plain_tells c adds acts told before h x y)
-plain_tells c (Channel (ChannelClosed conn) ∷ adds) acts told later h x (before, y, is) =
-    subst (OnlyAdds c told) (sym is) (adds_then c told before (ChannelClosed conn ∷ before) (plain_tells c adds acts told before h x y)
+pub plain_tells : (c : ℕ) (adds acts : List DeviceAct) (channel_log later : List ChannelAct) → ArePlain adds → HearsOf acts channel_log
+    → HearsOf (adds ++ acts) later → OnlyAdds c channel_log later
+plain_tells c [] acts channel_log later h x y = subst (OnlyAdds c channel_log) (tells_once acts channel_log later x y)
+    (adds_none c channel_log)
+plain_tells c (Channel (ChannelOpened conn what) ∷ adds) acts channel_log later h x y = absurd h
+plain_tells c (Channel (ChannelTaken conn count) ∷ adds) acts channel_log later h x y = absurd h
+plain_tells c (Channel (SrqEnabled lid conn handle) ∷ adds) acts channel_log later h x (before, y, is) =
+    subst (OnlyAdds c channel_log) (sym is) (plain_tells c adds acts channel_log before h x y)
+plain_tells c (Channel (SrqDisabled lid) ∷ adds) acts channel_log later h x (before, y, is) =
+    subst (OnlyAdds c channel_log) (sym is) (plain_tells c adds acts channel_log before h x y)
+plain_tells c (Channel (ChannelClosed conn) ∷ adds) acts channel_log later h x (before, y, is) =
+    subst (OnlyAdds c channel_log) (sym is)
+        (adds_then c channel_log before (ChannelClosed conn ∷ before) (plain_tells c adds acts channel_log before h x y)
     (adds_closed c conn before))
-plain_tells c (Channel Requested ∷ adds) acts told later h x (before, y, is) =
-    subst (OnlyAdds c told) (sym is) (adds_then c told before (Requested ∷ before) (plain_tells c adds acts told before h x y)
+plain_tells c (Channel Requested ∷ adds) acts channel_log later h x (before, y, is) =
+    subst (OnlyAdds c channel_log) (sym is)
+        (adds_then c channel_log before (Requested ∷ before) (plain_tells c adds acts channel_log before h x y)
     (adds_requested c true before))
-plain_tells c (Linked act ∷ adds) acts told later h x (before, y, is) =
-    subst (OnlyAdds c told) (sym is) (adds_then c told before (link_told act before) (plain_tells c adds acts told before h x y)
+plain_tells c (Linked act ∷ adds) acts channel_log later h x (before, y, is) =
+    subst (OnlyAdds c channel_log) (sym is)
+        (adds_then c channel_log before (link_told act before) (plain_tells c adds acts channel_log before h x y)
     (adds_linked c act before))
-plain_tells c (Applied act ∷ adds) acts told later h x (before, raised, y, so, is) =
-    subst (OnlyAdds c told) (sym is) (adds_then c told before (request_told raised before) (plain_tells c adds acts told before h x y)
+plain_tells c (Applied act ∷ adds) acts channel_log later h x (before, raised, y, so, is) =
+    subst (OnlyAdds c channel_log) (sym is)
+        (adds_then c channel_log before (request_told raised before) (plain_tells c adds acts channel_log before h x y)
     (adds_requested c raised before))
-plain_tells c (Waited act ∷ adds) acts told later h x y = plain_tells c adds acts told later h x y
-plain_tells c (Ticked ∷ adds) acts told later h x y = absurd h
+plain_tells c (Waited act ∷ adds) acts channel_log later h x y = plain_tells c adds acts channel_log later h x y
+plain_tells c (Ticked ∷ adds) acts channel_log later h x y = absurd h
 
 plain_ticks : (adds acts : List DeviceAct) → ArePlain adds → ticks (adds ++ acts) ≡ ticks acts
 plain_ticks [] acts h = refl
@@ -300,64 +306,67 @@ no_tick log = sym (add-zero (ticks (device_acts log)))
 -- what is told to channels of a list of acts that an event begins with
 abbrev Begins : PlainEvent → List Act → List Act → Type 0
 Begins event log new = (base : List DeviceAct) × Behind base new
-    × ((told : List ChannelAct) → HearsOf (device_acts log) told → HearsOf base (tells event log ++ told))
+    × ((channel_log : List ChannelAct) → HearsOf (device_acts log) channel_log → HearsOf base (tells event log ++ channel_log))
     × (ticks base ≡ ticks (device_acts log) + bit 0 (is_tick event))
 
 begins_dialed : (c : ℕ) (ok : Bool) (call : Option CoreCall) (log : List Act) → core_call_in (unanswered (of c log)) ≡ call
     → (base : List DeviceAct) × Behind base (acts_of c (connected c ok call) ++ log)
-    × ((told : List ChannelAct) → HearsOf (device_acts log) told → HearsOf base ((cond ok (opened_to c (peer_in call)) []) ++ told))
+    × ((channel_log : List ChannelAct) → HearsOf (device_acts log) channel_log
+    → HearsOf base ((cond ok (opened_to c (peer_in call)) []) ++ channel_log))
     × (ticks base ≡ ticks (device_acts log) + 0)
 begins_dialed c ok None log e =
     (device_acts log, behind_effect (device_acts log) c (connected c ok None) log tt (behind_none log), by ok, no_tick log)
   where
-    by : (ok : Bool) (told : List ChannelAct) → HearsOf (device_acts log) told → HearsOf (device_acts log) (cond ok [] [] ++ told)
-    by true told x = x
-    by false told x = x
+    by : (ok : Bool) (channel_log : List ChannelAct) → HearsOf (device_acts log) channel_log
+        → HearsOf (device_acts log) (cond ok [] [] ++ channel_log)
+    by true channel_log x = x
+    by false channel_log x = x
 begins_dialed c ok (Some call) log e = rw (dialed_is c ok call.arguments) (by ok (peer_by call.arguments))
   where
     by : (ok : Bool) (found : Option Peer)
         → (base : List DeviceAct)
         × Behind base (acts_of c (effect_of c (λ arguments. leaving c (dialed_to c ok arguments found)) (Some call)) ++ log)
-        × ((told : List ChannelAct) → HearsOf (device_acts log) told → HearsOf base ((cond ok (opened_to c found) []) ++ told))
+        × ((channel_log : List ChannelAct) → HearsOf (device_acts log) channel_log
+        → HearsOf base ((cond ok (opened_to c found) []) ++ channel_log))
         × (ticks base ≡ ticks (device_acts log) + 0)
     by true (Some one) = (
       Channel (ChannelOpened c one) ∷ Waited (Left c) ∷ device_acts log,
       ([], tt, device_effect c (effect_of c (λ arguments. leaving c (dialed_to c true arguments (Some one))) (Some call)) log),
-      (λ told x. (told, x, refl)),
+      (λ channel_log x. (channel_log, x, refl)),
       no_tick log,
     )
     by false (Some one) = (
       device_acts log,
       behind_effect (device_acts log) c (effect_of c (λ arguments. leaving c (dialed_to c false arguments (Some one))) (Some call)) log tt
           (behind_none log),
-      (λ told x. x),
+      (λ channel_log x. x),
       no_tick log,
     )
     by true None = (
       device_acts log,
       behind_effect (device_acts log) c (effect_of c (λ arguments. leaving c (dialed_to c true arguments None)) (Some call)) log tt
           (behind_none log),
-      (λ told x. x),
+      (λ channel_log x. x),
       no_tick log,
     )
     by false None = (
       device_acts log,
       behind_effect (device_acts log) c (effect_of c (λ arguments. leaving c (dialed_to c false arguments None)) (Some call)) log tt
           (behind_none log),
-      (λ told x. x),
+      (λ channel_log x. x),
       no_tick log,
     )
 
 begins : (config : Config) (event : PlainEvent) (polled : ℕ) (log : List Act) → Begins event log (own_acts config polled event log ++ log)
-begins config (Open c role) polled log = (device_acts log, ([], tt, refl), (λ told x. x), no_tick log)
-begins config (Bytes c piece) polled log = (device_acts log, ([], tt, refl), (λ told x. x), no_tick log)
+begins config (Open c role) polled log = (device_acts log, ([], tt, refl), (λ channel_log x. x), no_tick log)
+begins config (Bytes c piece) polled log = (device_acts log, ([], tt, refl), (λ channel_log x. x), no_tick log)
 begins config (Turn c) polled log =
-    (device_acts log, (behind_turn config polled c (next_call (of c log)) (next_request (of c log)) log), (λ told x. x), no_tick log)
+    (device_acts log, (behind_turn config polled c (next_call (of c log)) (next_request (of c log)) log), (λ channel_log x. x), no_tick log)
 begins config (Refuse c) polled log =
-    (device_acts log, (behind_refuse c (next_call (of c log)) (refusable (of c log)) log), (λ told x. x), no_tick log)
-begins config (Took (Conn c) count) polled log = (device_acts log, ([], tt, refl), (λ told x. x), no_tick log)
+    (device_acts log, (behind_refuse c (next_call (of c log)) (refusable (of c log)) log), (λ channel_log x. x), no_tick log)
+begins config (Took (Conn c) count) polled log = (device_acts log, ([], tt, refl), (λ channel_log x. x), no_tick log)
 begins config (Took (Intr c) count) polled log =
-    (Channel (ChannelTaken c count) ∷ device_acts log, ([], tt, refl), (λ told x. (told, x, refl)), no_tick log)
+    (Channel (ChannelTaken c count) ∷ device_acts log, ([], tt, refl), (λ channel_log x. (channel_log, x, refl)), no_tick log)
 begins config (Close (Conn c)) polled log =
     let adds = Channel (ChannelClosed c) ∷ (map Linked (closing c (link_acts (device_acts log))) ++ Waited (Left c) ∷ []) in (
       device_acts log,
@@ -365,13 +374,13 @@ begins config (Close (Conn c)) polled log =
           (behind_shared (device_acts log) adds (On c PortClosed ∷ log)
           (plain_join (map Linked (closing c (link_acts (device_acts log)))) (Waited (Left c) ∷ [])
           (plain_links (closing c (link_acts (device_acts log)))) tt) ([], tt, refl))),
-      (λ told x. x),
+      (λ channel_log x. x),
       no_tick log,
     )
 begins config (Close (Intr c)) polled log = (
   device_acts log,
   (behind_shared (device_acts log) (Channel (ChannelClosed c) ∷ []) log tt (behind_none log)),
-  (λ told x. x),
+  (λ channel_log x. x),
   no_tick log,
 )
 begins config (Dialed c true) polled log = begins_dialed c true (core_call_in (unanswered (of c log))) log refl
@@ -379,7 +388,7 @@ begins config (Dialed c false) polled log = begins_dialed c false (core_call_in 
 begins config (Input channel microvolts) polled log = (
   device_acts log,
   (behind_shared (device_acts log) (Applied (Scanned (InputTo channel microvolts)) ∷ []) log tt (behind_none log)),
-  (λ told x. x),
+  (λ channel_log x. x),
   no_tick log,
 )
 begins config External polled log = (
@@ -387,7 +396,7 @@ begins config External polled log = (
   (behind_shared (device_acts log)
       (map Applied (external_acts (instrument_acts (device_acts log)))) log
       (plain_happened (external_acts (instrument_acts (device_acts log)))) (behind_none log)),
-  (λ told x. x),
+  (λ channel_log x. x),
   no_tick log,
 )
 begins config Tick polled log =
@@ -396,25 +405,25 @@ begins config Tick polled log =
       subst (Behind (Ticked ∷ device_acts log)) (sym (append_assoc (map OnDevice adds) (OnDevice Ticked ∷ []) log))
           (behind_shared (Ticked ∷ device_acts log) adds (OnDevice Ticked ∷ log)
           (plain_happened (tick_acts (instrument_acts (device_acts log)))) ([], tt, refl)),
-      (λ told x. x),
+      (λ channel_log x. x),
       refl,
     )
 
-from_log : (config : Config) (event : PlainEvent) (polled : ℕ) (before log : List Act) (told later : List ChannelAct) (c : ℕ)
-    → HearsOf (device_acts before) told → (n : ℕ) → SettlesIn n config (own_acts config polled event before ++ before) log
-    → HearsOf (device_acts log) later → OnlyAdds c (tells event before ++ told) later
-from_log config event polled before log told later c x n settles y =
+from_log : (config : Config) (event : PlainEvent) (polled : ℕ) (before log : List Act) (channel_log later : List ChannelAct) (c : ℕ)
+    → HearsOf (device_acts before) channel_log → (n : ℕ) → SettlesIn n config (own_acts config polled event before ++ before) log
+    → HearsOf (device_acts log) later → OnlyAdds c (tells event before ++ channel_log) later
+from_log config event polled before log channel_log later c x n settles y =
     let start = begins config event polled before in
     let end = each_settled config (Behind start.0) (behind_step start.0 config) n (own_acts config polled event before ++ before) log
     start.1 settles in
-    plain_tells c end.0 start.0 (tells event before ++ told) later end.1 (start.2 told x)
+    plain_tells c end.0 start.0 (tells event before ++ channel_log) later end.1 (start.2 channel_log x)
     (subst (λ (acts : List DeviceAct). HearsOf acts later) end.2 y)
 
 pub only_requests : OnlyRequests
-only_requests config event history before log told later c was x is y =
+only_requests config event history before log channel_log later c was x is y =
     let same = one_log config history is.0 before is.4 was in
     let settles = subst (λ (l : List Act). SettlesIn is.8.0 config (own_acts config is.1 event l ++ l) log) same is.8.1 in
-    from_log config event is.1 before log told later c x is.8.0 settles y
+    from_log config event is.1 before log channel_log later c x is.8.0 settles y
 
 -- ---- and how many milliseconds passed
 

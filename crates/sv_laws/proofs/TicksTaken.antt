@@ -29,21 +29,22 @@ ticks_count config (event ∷ history) log is =
     ∙ ap (λ (n : ℕ). n + bit 0 (is_tick event)) (ticks_count config history is.0 is.4)
     ∙ sym (counted (is_tick event) event (filter is_tick history))
 
-over : (config : Config) (told : List ChannelAct) (log : List Act) (history : List PlainEvent) (result : Result Did Refused)
-    → refusal config told Tick log ≡ Some TimeOver → AnswersBy config told Tick log result → history_after Tick result history ≡ history
-over config told log history (Ok what) full h = some_none _ TimeOver h.0 full
-over config told log history (Err refused) full h = refl
+over : (config : Config) (channel_log : List ChannelAct) (log : List Act) (history : List PlainEvent) (result : Result Did Refused)
+    → refusal config channel_log Tick log ≡ Some TimeOver → AnswersBy config channel_log Tick log result
+    → history_after Tick result history ≡ history
+over config channel_log log history (Ok what) full h = some_none _ TimeOver h.0 full
+over config channel_log log history (Err refused) full h = refl
 
 pub ticks_taken : TicksTaken
-ticks_taken config history log result was (told, hears, h) =
+ticks_taken config history log result was (channel_log, hears, h) =
     let count = ticks_count config history log was in (
       (λ lt.
           let ne : eqb (config.clock + ticks (device_acts log)) last_clock ≡ false =
           ne_eqb (config.clock + ticks (device_acts log)) last_clock (λ e. absurd (omega (arith, lt, count, e))) in
-          is_done config told Tick log result (rw ne refl) refl
+          is_done config channel_log Tick log result (rw ne refl) refl
           (λ polled. happened_wants (tick_acts (instrument_acts (device_acts log)))) h),
       (λ full.
           let same : eqb (config.clock + ticks (device_acts log)) last_clock ≡ true =
           eq-eqb (config.clock + ticks (device_acts log)) last_clock (ap (λ (n : ℕ). config.clock + n) count ∙ full) in
-          over config told log history result (rw same refl) h),
+          over config channel_log log history result (rw same refl) h),
     )

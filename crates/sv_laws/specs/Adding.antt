@@ -19,13 +19,14 @@ all_replies (_ ∷ acts) = all_replies acts
 
 -- all bytes of a port, where this was told to interrupt channels
 abbrev pub all_sent : Port → List ChannelAct → List Act → List ℕ
-all_sent (Conn c) told log = all_replies (of c log)
-all_sent (Intr c) told log = concat (all_calls c told)
+all_sent (Conn c) channel_log log = all_replies (of c log)
+all_sent (Intr c) channel_log log = concat (all_calls c channel_log)
 
 -- A history sends these bytes on a port, in all.
 abbrev pub Sends : Port → Config → List PlainEvent → List ℕ → Type 0
-Sends port config history bytes = (log : List Act) × (told : List ChannelAct) × IsLogOf config history log × HearsOf (device_acts log) told
-    × (bytes ≡ all_sent port told log)
+Sends port config history bytes = (log : List Act) × (channel_log : List ChannelAct) × IsLogOf config history log
+    × HearsOf (device_acts log) channel_log
+    × (bytes ≡ all_sent port channel_log log)
 
 -- Behind a history these events add these bytes to a port.
 abbrev pub Adds : Port → Config → List PlainEvent → List PlainEvent → List ℕ → Type 0

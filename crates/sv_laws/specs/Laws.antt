@@ -36,19 +36,20 @@ NoneLate = (config : Config) (history : List PlainEvent) (log : List Act) (c : �
 
 -- An event that suits what the server answers when it is asked.
 abbrev pub Suits : PlainEvent → List ChannelAct → List Act → Type 0
-Suits (Open c role) told log = (c < 16) × (is_open (of c log) ≡ false)
-Suits (Bytes c piece) told log = (c < 16) × (0 < room (of c log)) × (length piece ≤ room (of c log))
-Suits (Took port n) told log = (port_number port < 16) × (0 < length (waiting_on told port log)) × (n ≤ length (waiting_on told port log))
-Suits (Close port) told log = is_port_shut port log ≡ false
-Suits (Dialed c ok) told log = (c < 16) × (dial : Dial) × (dial_of c log ≡ Some dial)
-Suits (Input channel microvolts) told log = input_refusal channel microvolts ≡ None
-Suits External told log = ⊤
-Suits _ told log = ⊥
+Suits (Open c role) channel_log log = (c < 16) × (is_open (of c log) ≡ false)
+Suits (Bytes c piece) channel_log log = (c < 16) × (0 < room (of c log)) × (length piece ≤ room (of c log))
+Suits (Took port n) channel_log log = (port_number port < 16) × (0 < length (waiting_on channel_log port log))
+    × (n ≤ length (waiting_on channel_log port log))
+Suits (Close port) channel_log log = is_port_shut port log ≡ false
+Suits (Dialed c ok) channel_log log = (c < 16) × (dial : Dial) × (dial_of c log ≡ Some dial)
+Suits (Input channel microvolts) channel_log log = input_refusal channel microvolts ≡ None
+Suits External channel_log log = ⊤
+Suits _ channel_log log = ⊥
 
 -- It is never refused: who brings as many bytes as there is room for, and takes as many as wait, loses none.
 abbrev pub NothingLost : Type 0
-NothingLost = (config : Config) (history : List PlainEvent) (event : PlainEvent) (told : List ChannelAct) (log : List Act)
-    (result : Result Did Refused) → IsLogOf config history log → HearsOf (device_acts log) told → Suits event told log
+NothingLost = (config : Config) (history : List PlainEvent) (event : PlainEvent) (channel_log : List ChannelAct) (log : List Act)
+    (result : Result Did Refused) → IsLogOf config history log → HearsOf (device_acts log) channel_log → Suits event channel_log log
     → Answers config event log result → result ≡ Ok Done
 
 -- how many calls were taken on a connection since it opened

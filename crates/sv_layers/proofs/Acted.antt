@@ -9,7 +9,7 @@ use Rattle.sv_layers.specs.Inside.Representation.{LayerState, StandsFor, Begun}
 pub exchange_acted : {log : List Act} {layered : LayerState} {new : Contents} {act : ExchangeAct} → StandsFor layered log
     → Exchanges new (act ∷ (seen log).exchange) → Begun (record layered { exchange = new }) (Exchanged act) log
 exchange_acted h stands = record {
-  told = h.told;
+  status_log = h.status_log;
   are = h.are;
   joined = record {
     exchange = stands;

@@ -72,7 +72,7 @@ some_summary at = (
   },
 )
 
-some_status : (log : List Act) → (told : List StatusAct) × IsStatus log told
+some_status : (log : List Act) → (status_log : List StatusAct) × IsStatus log status_log
 some_status [] = ([], refl)
 some_status (act ∷ log) =
     let before = some_status log in

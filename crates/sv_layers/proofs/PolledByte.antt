@@ -32,17 +32,17 @@ summary_small word at s =
     omega (arith, is, seven, five, four, three, two)
 
 -- so have those that the status byte was told last
-told_small : (log : List Act) (told : List StatusAct) → IsStatus log told → bits told < 256
-told_small [] told is = rw is (omega arith)
-told_small (act ∷ log) told (word, before, summary, earlier, is) = rw is (summary_small word (seen (act ∷ log)) summary)
+told_small : (log : List Act) (status_log : List StatusAct) → IsStatus log status_log → bits status_log < 256
+told_small [] status_log is = rw is (omega arith)
+told_small (act ∷ log) status_log (word, before, summary, earlier, is) = rw is (summary_small word (seen (act ∷ log)) summary)
 
 pub polled_byte : (layered : LayerState) (log : List Act) → StandsFor layered log
     → (word : ℕ) × ((k : ℕ) → (bit_at word k ≡ 1) ↔ PolledBit k log)
 polled_byte layered log s =
-    let small : layered.status.bits < 256 = rw s.joined.status.bits (told_small log s.told s.are) in (
+    let small : layered.status.bits < 256 = rw s.joined.status.bits (told_small log s.status_log s.are) in (
       with_six layered.status.request layered.status.bits,
       λ k. then_same (shown_bit layered.status.request layered.status.bits k small)
-          (then_same (polled_bit layered.status s.told k s.joined.status) (same_status log s.told s.are k).0),
+          (then_same (polled_bit layered.status s.status_log k s.joined.status) (same_status log s.status_log s.are k).0),
     )
 
 same_bit : (a b k : ℕ) → (bit_at a k ≡ 1) ↔ (bit_at b k ≡ 1) → bit_at a k ≡ bit_at b k

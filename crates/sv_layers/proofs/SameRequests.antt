@@ -18,38 +18,40 @@ use Rattle.sv_layers.proofs.NothingAtPoll.{polled_asks, polled_ended}
 
 -- an act that is no poll: it isn't told of itself, and a request lasts at it by the master summary alone
 abbrev IsOther : Act → Type 0
-IsOther act = ((told : List StatusAct) → own_status act told ≡ told) × ((log : List Act) → Lasts (act ∷ log) ↔ Master (act ∷ log))
+IsOther act = ((status_log : List StatusAct) → own_status act status_log ≡ status_log)
+    × ((log : List Act) → Lasts (act ∷ log) ↔ Master (act ∷ log))
 
 -- what is so of a poll and of every other act is so
 by_kind : (P : Act → Type 0) → P Polled → ((act : Act) → IsOther act → P act) → (act : Act) → P act
 by_kind P polled other Polled = polled
-by_kind P polled other _ = other _ ((λ told. refl), (λ log. ((λ m. m), (λ m. m))))
+by_kind P polled other _ = other _ ((λ status_log. refl), (λ log. ((λ m. m), (λ m. m))))
 
 -- the summary bits and the enable that were told last
-told_bits : (log : List Act) (told : List StatusAct) → IsStatus log told → (k : ℕ) → (bit_at (status.bits told) k ≡ 1) ↔ SummaryBit k log
-told_bits [] told is k = rw is (same_summaries 0 [] no_summary k)
-told_bits (act ∷ log) told (word, before, summary, is, made) k = rw made (same_summaries word (act ∷ log) summary k)
+told_bits : (log : List Act) (status_log : List StatusAct) → IsStatus log status_log → (k : ℕ)
+    → (bit_at (status.bits status_log) k ≡ 1) ↔ SummaryBit k log
+told_bits [] status_log is k = rw is (same_summaries 0 [] no_summary k)
+told_bits (act ∷ log) status_log (word, before, summary, is, made) k = rw made (same_summaries word (act ∷ log) summary k)
 
-told_enable : (log : List Act) (told : List StatusAct) → IsStatus log told → status.enable told ≡ service log
-told_enable [] told is = rw is refl
-told_enable (act ∷ log) told (word, before, summary, is, made) = rw made (projected (act ∷ log)).3
+told_enable : (log : List Act) (status_log : List StatusAct) → IsStatus log status_log → status.enable status_log ≡ service log
+told_enable [] status_log is = rw is refl
+told_enable (act ∷ log) status_log (word, before, summary, is, made) = rw made (projected (act ∷ log)).3
 
 -- bit 6 is no summary bit
 not_six : (k : ℕ) (log : List Act) → SummaryBit k log → k ≢ 6
 not_six k log bit six = grind (arith, bit, six)
 
-told_asks : (log : List Act) (told : List StatusAct) → IsStatus log told → (k : ℕ)
-    → status.ServiceRequestedAt k told ↔ ServiceRequested k log
-told_asks log told is k =
-    let bits = told_bits log told is k in
-    let enable = told_enable log told is in (
+told_asks : (log : List Act) (status_log : List StatusAct) → IsStatus log status_log → (k : ℕ)
+    → status.ServiceRequestedAt k status_log ↔ ServiceRequested k log
+told_asks log status_log is k =
+    let bits = told_bits log status_log is k in
+    let enable = told_enable log status_log is in (
       (λ h. (bits.0 h.1, ap (λ (w : ℕ). bit_at w k) (sym enable) ∙ h.2)),
       (λ h. (not_six k log h.0, bits.1 h.0, ap (λ (w : ℕ). bit_at w k) enable ∙ h.1)),
     )
 
-told_master : (log : List Act) (told : List StatusAct) → IsStatus log told → status.Master told ↔ Master log
-told_master log told is =
-    ((λ m. (m.0, (told_asks log told is m.0).0 m.1)), (λ m. (m.0, (told_asks log told is m.0).1 m.1)))
+told_master : (log : List Act) (status_log : List StatusAct) → IsStatus log status_log → status.Master status_log ↔ Master log
+told_master log status_log is =
+    ((λ m. (m.0, (told_asks log status_log is m.0).0 m.1)), (λ m. (m.0, (told_asks log status_log is m.0).1 m.1)))
 
 -- the request behind an act by that before it
 abbrev RequestStep : Act → Type 0
@@ -95,9 +97,9 @@ other_step act other log word before summary is same =
     )
 
 pub same_requests : SameRequests
-same_requests [] told is =
+same_requests [] status_log is =
     rw is ((λ s. absurd (request-none s)), (λ s. absurd ((since_empty Reason Lasts).0 s).0))
-same_requests (act ∷ log) told (word, before, summary, is, made) =
+same_requests (act ∷ log) status_log (word, before, summary, is, made) =
     rw made (by_kind RequestStep polled_step other_step act log word before summary is (same_requests log before is))
 
 -- whether it is raised, by whether it stood before
@@ -117,9 +119,9 @@ other_raised act other log now before stands same = (
   (λ r. (stands.1 r.0, λ q. r.1 (same.0 (rw (other.0 before) at q)))),
 )
 
-pub told_raised : (log : List Act) (told : List StatusAct) → IsStatus log told → status.IsRaised told ↔ IsRaised log
-told_raised [] told is = rw is ((λ r. absurd r), (λ r. absurd r))
-told_raised (act ∷ log) told (word, before, summary, is, made) =
+pub told_raised : (log : List Act) (status_log : List StatusAct) → IsStatus log status_log → status.IsRaised status_log ↔ IsRaised log
+told_raised [] status_log is = rw is ((λ r. absurd r), (λ r. absurd r))
+told_raised (act ∷ log) status_log (word, before, summary, is, made) =
     rw made (by_kind RaisedStep polled_raised other_raised act log _ before
     (same_requests (act ∷ log) _ (word, before, summary, is, refl)) (same_requests log before is))
 
@@ -132,6 +134,6 @@ shown k log bit same = (
 )
 
 pub same_status : SameStatus
-same_status log told is k =
-    let bits = told_bits log told is k in
-    (shown k log bits (same_requests log told is), shown k log bits (told_master log told is))
+same_status log status_log is k =
+    let bits = told_bits log status_log is k in
+    (shown k log bits (same_requests log status_log is), shown k log bits (told_master log status_log is))

@@ -57,11 +57,12 @@ SameSummaries = (word : ℕ) (log : List Act) → IsSummary word (seen log) → 
 
 -- For each log there is one list of acts that the status byte is told.
 abbrev pub OneAccount : Type 0
-OneAccount = (log : List Act) → (told : List StatusAct) × IsStatus log told × ((other : List StatusAct) → IsStatus log other → other ≡ told)
+OneAccount = (log : List Act) → (status_log : List StatusAct) × IsStatus log status_log
+    × ((other : List StatusAct) → IsStatus log other → other ≡ status_log)
 
 -- A request for service stands exactly if it does by the log.
 abbrev pub SameRequests : Type 0
-SameRequests = (log : List Act) (told : List StatusAct) → IsStatus log told → status.Request told ↔ Request log
+SameRequests = (log : List Act) (status_log : List StatusAct) → IsStatus log status_log → status.Request status_log ↔ Request log
 
 -- A request is raised at the newest act exactly if it is by the log.
 abbrev pub SameRaising : Type 0
@@ -69,5 +70,5 @@ SameRaising = (log : List Act) → RaisedAt log ↔ IsRaised log
 
 -- A bit of the status byte is as the log tells, as a poll gives it and as `*STB?` does.
 abbrev pub SameStatus : Type 0
-SameStatus = (log : List Act) (told : List StatusAct) → IsStatus log told → (k : ℕ)
-    → (status.StatusBit k told ↔ PolledBit k log) × (status.MasterBit k told ↔ MasterBit k log)
+SameStatus = (log : List Act) (status_log : List StatusAct) → IsStatus log status_log → (k : ℕ)
+    → (status.StatusBit k status_log ↔ PolledBit k log) × (status.MasterBit k status_log ↔ MasterBit k log)

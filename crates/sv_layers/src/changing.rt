@@ -35,8 +35,9 @@ impl<A: Allocator> Layers<A> {
 
     /// Begins a change: what it does to its own layer.
     fn begin(&mut self, change: &Change)
-        ensures stands { (at : LayerLogs) (told : List StatusAct) → Represents self.old at told
-            → Represents self.new (begun (act_of change.now) at) told }
+        ensures stands { (at : LayerLogs) (status_log : List StatusAct)
+            → Represents self.old at status_log
+            → Represents self.new (begun (act_of change.now) at) status_log }
         ensures exchange { self.new.exchange ≡ self.old.exchange }
         ensures requests { self.new.requests ≡ self.old.requests }
     {
@@ -65,8 +66,9 @@ impl<A: Allocator> Layers<A> {
 
     /// Something happens to the scanner; a reset cancels an `*OPC`.
     fn scan(&mut self, act: ScanAct)
-        ensures stands { (at : LayerLogs) (told : List StatusAct) → Represents self.old at told
-            → Represents self.new (begun (Scanned act) at) told }
+        ensures stands { (at : LayerLogs) (status_log : List StatusAct)
+            → Represents self.old at status_log
+            → Represents self.new (begun (Scanned act) at) status_log }
         ensures exchange { self.new.exchange ≡ self.old.exchange }
         ensures requests { self.new.requests ≡ self.old.requests }
     {
@@ -76,8 +78,9 @@ impl<A: Allocator> Layers<A> {
 
     /// An error is reported, with the standard event of its class, and that of an overflow.
     fn report(&mut self, code: Code)
-        ensures stands { (at : LayerLogs) (told : List StatusAct) → Represents self.old at told
-            → Represents self.new (begun (Reported code) at) told }
+        ensures stands { (at : LayerLogs) (status_log : List StatusAct)
+            → Represents self.old at status_log
+            → Represents self.new (begun (Reported code) at) status_log }
         ensures exchange { self.new.exchange ≡ self.old.exchange }
         ensures requests { self.new.requests ≡ self.old.requests }
     {

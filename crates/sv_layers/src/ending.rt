@@ -31,9 +31,9 @@ impl<A: Allocator> Layers<A> {
     /// what it does to a register itself. So the summary of a nested register is there before the
     /// register above it is told its condition.
     pub(crate) fn end(&mut self, change: &Change)
-        ensures stands { (log : List Act) (act : Act) (told : List StatusAct)
-            → EndsAs (act_of change.now) act → Represents self.old (begun act (seen log)) told
-            → Represents self.new (seen (act ∷ log)) told }
+        ensures stands { (log : List Act) (act : Act) (status_log : List StatusAct)
+            → EndsAs (act_of change.now) act → Represents self.old (begun act (seen log)) status_log
+            → Represents self.new (seen (act ∷ log)) status_log }
         ensures exchange { self.new.exchange ≡ self.old.exchange }
         ensures scanner { self.new.scanner ≡ self.old.scanner }
         ensures requests { self.new.requests ≡ self.old.requests }
@@ -56,8 +56,9 @@ impl<A: Allocator> Layers<A> {
 
     /// An `*OPC` is complete where no measurement is under way.
     fn complete(&mut self)
-        ensures stands { (at : LayerLogs) (told : List StatusAct) → Represents self.old at told
-            → Represents self.new (completed at) told }
+        ensures stands { (at : LayerLogs) (status_log : List StatusAct)
+            → Represents self.old at status_log
+            → Represents self.new (completed at) status_log }
         ensures exchange { self.new.exchange ≡ self.old.exchange }
         ensures scanner { self.new.scanner ≡ self.old.scanner }
         ensures requests { self.new.requests ≡ self.old.requests }

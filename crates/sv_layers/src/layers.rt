@@ -119,7 +119,7 @@ impl<A: Allocator> Layers<A> {
 
     /// One of the status registers.
     pub(crate) fn register(&self, name: RegisterName) -> &Register
-        ensures { (at : LayerLogs) (told : List StatusAct) → Represents self.now at told
+        ensures { (at : LayerLogs) (status_log : List StatusAct) → Represents self.now at status_log
             → Registers (start name) result.now (register_acts name at) }
     {
         match name {

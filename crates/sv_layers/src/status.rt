@@ -24,7 +24,7 @@ const ERRORS: u8 = 1 << 2;
 impl<A: Allocator> Layers<A> {
     /// The summary bits as they are now.
     fn summary(&self) -> u8
-        ensures { (at : LayerLogs) (told : List StatusAct) → Represents self.now at told
+        ensures { (at : LayerLogs) (status_log : List StatusAct) → Represents self.now at status_log
             → IsSummary result at }
     {
         mask_if(OPERATION, self.operation.summary())

@@ -28,9 +28,10 @@ use Rattle.sv_serve.proofs.LettingGo.{LetsGoRightly}
 use Rattle.sv_serve.proofs.Keeps.{through_join}
 use Rattle.sv_serve.proofs.Serving.{sweep_once, serves}
 
-keeping_none : (c : ℕ) (log : List Act) (told : List ChannelAct) → log ≡ [] → HearsOf (device_acts log) told → Both c (of c log) told []
-keeping_none c log told none hears_of =
-    let untold : told ≡ [] = rw none at hears_of in
+keeping_none : (c : ℕ) (log : List Act) (channel_log : List ChannelAct) → log ≡ [] → HearsOf (device_acts log) channel_log
+    → Both c (of c log) channel_log []
+keeping_none c log channel_log none hears_of =
+    let untold : channel_log ≡ [] = rw none at hears_of in
     rw (none, untold) ((refl, (λ opened. absurd cc)), (λ opened. absurd cc))
 
 record Over {W : Type 0} (hears : W → Heard → W → Type 0) (config : Config) (passed : List ℕ) (start now : DriverState W)
@@ -57,24 +58,25 @@ open_by false false e = absurd cc
 sends_by : (acts : List ConnAct) (came gone : List ℕ) → Holds acts came gone → is_open acts ≡ true → gone ++ waiting acts ≡ sent acts
 sends_by acts came gone h opened = rw opened (h.1 opened).0
 
-sends_all : (port : Port) (log : List Act) (told : List ChannelAct) (trace : List Heard) → HearsOf (device_acts log) told
-    → ((c : ℕ) → Both c (of c log) told trace) → is_port_shut port log ≡ false
-    → went port trace ++ waiting_on told port log ≡ sent_on told port log
-sends_all (Conn c) log told trace tells all free =
+sends_all : (port : Port) (log : List Act) (channel_log : List ChannelAct) (trace : List Heard) → HearsOf (device_acts log) channel_log
+    → ((c : ℕ) → Both c (of c log) channel_log trace) → is_port_shut port log ≡ false
+    → went port trace ++ waiting_on channel_log port log ≡ sent_on channel_log port log
+sends_all (Conn c) log channel_log trace tells all free =
     sends_by (of c log) (came c trace) (went (Conn c) trace) (all c).0 (open_by (nat_lt 15 c) (is_open (of c log)) free)
-sends_all (Intr c) log told trace tells all free =
-    let opened : is_channel_open c told ≡ true = has_channel_told c (device_acts log) told tells
+sends_all (Intr c) log channel_log trace tells all free =
+    let opened : is_channel_open c channel_log ≡ true = has_channel_told c (device_acts log) channel_log tells
     ∙ open_by (nat_lt 15 c) (has_channel c (device_acts log)) free in
-    rw (opened, left_bytes (channel_taken c told) (calls c told)) ((all c).1 opened).0
+    rw (opened, left_bytes (channel_taken c channel_log) (calls c channel_log)) ((all c).1 opened).0
 
 is_carried : {W : Type 0} (hears : W → Heard → W → Type 0) (config : Config) (passed : List ℕ) (start now : DriverState W)
     (swept : Swept hears passed start now) (all : Over hears config passed start now swept) → IsCarried config all.history all.trace
 is_carried hears config passed start now swept all =
     let log = all.stands.log in
-    let told = some_told (device_acts log) in record {
+    let channel_log = some_told (device_acts log) in record {
       events = all.told;
-      streams = λ c. (log, all.stands.is_log, sym (all.keeping log told.0 all.stands.is_log told.1 c).0.0);
-      sends = λ port log told is_log tells free. sends_all port log told all.trace tells (all.keeping log told is_log tells) free;
+      streams = λ c. (log, all.stands.is_log, sym (all.keeping log channel_log.0 all.stands.is_log channel_log.1 c).0.0);
+      sends = λ port log channel_log is_log tells free. sends_all port log channel_log all.trace tells
+          (all.keeping log channel_log is_log tells) free;
       hands = all.hands;
       failures = all.once;
       reasons = all.reasons;
@@ -89,7 +91,7 @@ over hears config [] start now stands is = record {
   through = ap (λ d. d.wire) is;
   stands = subst (λ d. StandsFor d.server config []) (sym is) stands;
   told = refl;
-  keeping = λ log told none hears_of c. keeping_none c log told none.1 hears_of;
+  keeping = λ log channel_log none hears_of c. keeping_none c log channel_log none.1 hears_of;
   once = tt;
   reasons = tt;
   hands = tt;

@@ -43,12 +43,12 @@ pub accept_by : {W : Type 0} (hears : W → Heard → W → Type 0) (May : Subje
     (WasAccepted role number answer) wire
     → between ≡ record before { wire = wire } → Opens role number answer config between after → Keeps hears May config before after
 accept_by hears May config may role (Some c) (Got all) wire before between after (lt, (log, was, answer), lower) heard is opens =
-    let told = some_told (device_acts log) in
+    let channel_log = some_told (device_acts log) in
     answer_keeps hears May config (WasAccepted role (Some c) (Got all)) (may (OfConn c))
-    (Open c role) wire before between after told.0 log was told.1
+    (Open c role) wire before between after channel_log.0 log was channel_log.1
     heard (ap (λ m. m.wire) is) (ap (λ m. m.history) is) opens refl refl (λ d. refl) (λ p b a e. absurd cc) (λ n e. absurd cc)
     (λ d e. absurd cc)
-    (λ trace d. step_open c role all trace d (of d log) told.0)
+    (λ trace d. step_open c role all trace d (of d log) channel_log.0)
 accept_by hears May config may role (Some c) Pending wire before between after low heard is same =
     only_heard hears May config (WasAccepted role (Some c) Pending) (may (OfConn c)) wire before between after heard is
     (refl, (λ port. refl), (λ port. refl), (λ port. refl)) (λ d. refl) (λ p b a e. absurd cc) (λ n e. absurd cc) same
@@ -78,7 +78,7 @@ closes hears May config c may older before between after so still silent fit old
     (first, (wire, heard, is), (second, hangs, (log, was, answers, to))) =
     let q = hangs_up hears May config may.0 c first second hangs in
     let same : second.history ≡ before.history = q.same ∙ ap (λ m. m.history) is ∙ still in
-    let told = some_told (device_acts log) in
+    let channel_log = some_told (device_acts log) in
     let shut : Through hears (WasClosed (Conn c) ∷ older) before.wire first.wire =
     subst (λ w. Through hears (WasClosed (Conn c) ∷ older) before.wire w) (sym (ap (λ m. m.wire) is)) (between.wire, so, heard) in
     event_keeps hears May config (WasClosed (Conn c)) (Close (Conn c)) q.piece older before after (record {
@@ -88,9 +88,9 @@ closes hears May config c may older before between after so still silent fit old
       unhung = (λ n e. absurd cc);
       older_unhung = old;
       log = log;
-      told = told.0;
+      told = channel_log.0;
       was = subst (λ h. IsLogOf config h log) same was;
-      hears_of = told.1;
+      hears_of = channel_log.1;
       through = subst (λ w. Through hears (q.piece ++ WasClosed (Conn c) ∷ older) before.wire w) (sym (ap (λ m. m.wire) to))
           (through_join hears (WasClosed (Conn c) ∷ older) q.piece before.wire first.wire second.wire shut q.through);
       grown = ap (λ m. m.history) to ∙ ap (λ h. Close (Conn c) ∷ h) same;
@@ -106,7 +106,7 @@ closes hears May config c may older before between after so still silent fit old
       may = may_join May q.piece (WasClosed (Conn c) ∷ older) q.may (may.1, all_may);
       outer = refl;
       same = refl;
-      step = λ trace d. step_close c trace d (of d log) told.0;
+      step = λ trace d. step_close c trace d (of d log) channel_log.0;
     })
 
 -- behind a failure
@@ -121,11 +121,12 @@ pub read_by : {W : Type 0} (hears : W → Heard → W → Type 0) (May : Subject
     → hears before.wire (WasRead c most answer) wire → between ≡ record before { wire = wire }
     → Comes hears c answer config between after → Keeps hears May config before after
 read_by hears May config c may read_may most (Got bytes) wire before between after log was heard is applied =
-    let told = some_told (device_acts log) in
-    answer_keeps hears May config (WasRead c most (Got bytes)) read_may (Bytes c bytes) wire before between after told.0 log was told.1
+    let channel_log = some_told (device_acts log) in
+    answer_keeps hears May config (WasRead c most (Got bytes)) read_may
+        (Bytes c bytes) wire before between after channel_log.0 log was channel_log.1
     heard (ap (λ m. m.wire) is) (ap (λ m. m.history) is) applied refl refl (λ d. refl) (λ p b a e. absurd cc) (λ n e. absurd cc)
     (λ d e. absurd cc)
-    (λ trace d. step_read c most bytes trace d (of d log) told.0)
+    (λ trace d. step_read c most bytes trace d (of d log) channel_log.0)
 read_by hears May config c may read_may most Pending wire before between after log was heard is same =
     only_heard hears May config (WasRead c most Pending) read_may wire before between after heard is
     (refl, (λ port. refl), (λ port. refl), (λ port. refl)) (λ d. refl) (λ p b a e. absurd cc) (λ n e. absurd cc) same
@@ -256,39 +257,41 @@ pending_keeps hears May config port bytes may wire before between after was is s
 
 abbrev pub write_by : {W : Type 0} (hears : W → Heard → W → Type 0) (May : Subject
     → Type 0) (config : Config) (port : Port) (may : May OfNone × May (OfConn (port_number port))) (bytes : List ℕ)
-    (answer : Answer ℕ) (wire : W) (before between after : DriverView W) (log : List Act) (told : List ChannelAct)
-    → IsLogOf config before.history log → HearsOf (device_acts log) told → bytes ≡ waiting_on told port log
+    (answer : Answer ℕ) (wire : W) (before between after : DriverView W) (log : List Act) (channel_log : List ChannelAct)
+    → IsLogOf config before.history log → HearsOf (device_acts log) channel_log → bytes ≡ waiting_on channel_log port log
     → IsWithin answer (length bytes) → hears before.wire (WasWritten port bytes answer) wire → between ≡ record before { wire = wire }
     → EndsWrite hears port answer config between after → Keeps hears May config before after
-write_by hears May config (Conn c) may bytes (Got n) wire before between after log told was tells_so waits few heard is applied =
+write_by hears May config (Conn c) may bytes (Got n) wire before between after log channel_log was tells_so waits few heard is applied =
     answer_keeps hears May config (WasWritten (Conn c) bytes (Got n)) may.1 (Took
-    (Conn c) n) wire before between after told log was tells_so
+    (Conn c) n) wire before between after channel_log log was tells_so
     heard (ap (λ m. m.wire) is) (ap (λ m. m.history) is) applied refl refl (λ d. refl) (written_fits (Conn c) bytes
-    (Got n) config before.history (log, told, was, tells_so, waits)) (λ n e. absurd cc) (λ d e. written_else (Conn c) bytes (Got n) d e)
-    (λ trace d. step_took c n bytes trace d (of d log) told few
+    (Got n) config before.history (log, channel_log, was, tells_so, waits)) (λ n e. absurd cc)
+        (λ d e. written_else (Conn c) bytes (Got n) d e)
+    (λ trace d. step_took c n bytes trace d (of d log) channel_log few
     (λ e. waits ∙ ap (λ (m : ℕ). waiting (of m log)) (eqb-true c d e)))
-write_by hears May config (Intr c) may bytes (Got n) wire before between after log told was tells_so waits few heard is applied =
+write_by hears May config (Intr c) may bytes (Got n) wire before between after log channel_log was tells_so waits few heard is applied =
     answer_keeps hears May config (WasWritten (Intr c) bytes (Got n)) may.0 (Took
-    (Intr c) n) wire before between after told log was tells_so
+    (Intr c) n) wire before between after channel_log log was tells_so
     heard (ap (λ m. m.wire) is) (ap (λ m. m.history) is) applied refl refl (λ d. refl) (written_fits (Intr c) bytes
-    (Got n) config before.history (log, told, was, tells_so, waits)) (λ n e. absurd cc) (λ d e. written_else (Intr c) bytes (Got n) d e)
-    (λ trace d. step_sent c n bytes trace d (of d log) told few
-    (λ e. waits ∙ ap (λ (m : ℕ). channel_waiting m told) (eqb-true c d e)))
-write_by hears May config (Conn c) may bytes Pending wire before between after log told was tells_so waits few heard is same =
+    (Got n) config before.history (log, channel_log, was, tells_so, waits)) (λ n e. absurd cc)
+        (λ d e. written_else (Intr c) bytes (Got n) d e)
+    (λ trace d. step_sent c n bytes trace d (of d log) channel_log few
+    (λ e. waits ∙ ap (λ (m : ℕ). channel_waiting m channel_log) (eqb-true c d e)))
+write_by hears May config (Conn c) may bytes Pending wire before between after log channel_log was tells_so waits few heard is same =
     pending_keeps hears May config (Conn c) bytes may.1 wire before between after heard is
-    (refl, (λ other. refl), (λ other. refl), (λ other. refl)) (λ d. refl) (log, told, was, tells_so, waits) same
-write_by hears May config (Intr c) may bytes Pending wire before between after log told was tells_so waits few heard is same =
+    (refl, (λ other. refl), (λ other. refl), (λ other. refl)) (λ d. refl) (log, channel_log, was, tells_so, waits) same
+write_by hears May config (Intr c) may bytes Pending wire before between after log channel_log was tells_so waits few heard is same =
     pending_keeps hears May config (Intr c) bytes may.0 wire before between after heard is
-    (refl, (λ other. refl), (λ other. refl), (λ other. refl)) (λ d. refl) (log, told, was, tells_so, waits) same
-write_by hears May config (Conn c) may bytes Failed wire before between after log told was tells_so waits few heard is shuts =
+    (refl, (λ other. refl), (λ other. refl), (λ other. refl)) (λ d. refl) (log, channel_log, was, tells_so, waits) same
+write_by hears May config (Conn c) may bytes Failed wire before between after log channel_log was tells_so waits few heard is shuts =
     closes hears May config c may (WasWritten (Conn c) bytes Failed ∷ []) before between after
     (before.wire, refl, subst (λ w. hears before.wire (WasWritten (Conn c) bytes Failed) w) (sym (ap (λ m. m.wire) is)) heard)
     (ap (λ m. m.history) is) ((refl, (λ other. refl), (λ other. refl), (λ other. refl)), tt)
-    (written_fits (Conn c) bytes Failed config before.history (log, told, was, tells_so, waits), tt) ((λ n e. absurd cc), tt)
+    (written_fits (Conn c) bytes Failed config before.history (log, channel_log, was, tells_so, waits), tt) ((λ n e. absurd cc), tt)
     (may.1, tt) ((λ d e. failed_next c d e), tt)
     (λ trace so d e. inl (WasWritten (Conn c) bytes Failed, trace, refl, eq-eqb c d (closed_same c d e)))
     shuts
-write_by hears May config (Intr c) may bytes Failed wire before between after log told was tells_so waits few heard is
+write_by hears May config (Intr c) may bytes Failed wire before between after log channel_log was tells_so waits few heard is
     (hung, hangs, applied) =
     let q = hangs_up hears May config may.0 c between hung hangs in
     let same : hung.history ≡ before.history = q.same ∙ ap (λ m. m.history) is in
@@ -300,7 +303,7 @@ write_by hears May config (Intr c) may bytes Failed wire before between after lo
       unhung = (λ n e. absurd cc);
       older_unhung = tt;
       log = log;
-      told = told;
+      told = channel_log;
       was = was;
       hears_of = tells_so;
       through = subst (λ w. Through hears (q.piece ++ WasWritten (Intr c) bytes Failed ∷ []) before.wire w) (sym (ap (λ m. m.wire) done))
@@ -314,7 +317,7 @@ write_by hears May config (Intr c) may bytes Failed wire before between after lo
       newer_silent = q.silent;
       newer_calm = q.calm;
       newer_unwritten = q.unwritten;
-      fits = written_fits (Intr c) bytes Failed config before.history (log, told, was, tells_so, waits);
+      fits = written_fits (Intr c) bytes Failed config before.history (log, channel_log, was, tells_so, waits);
       older_fits = tt;
       older_silent = tt;
       older_once = tt;
@@ -323,18 +326,18 @@ write_by hears May config (Intr c) may bytes Failed wire before between after lo
       may = may_join May q.piece (WasWritten (Intr c) bytes Failed ∷ []) q.may (may.0, tt);
       outer = refl;
       same = refl;
-      step = step_else (Close (Intr c)) (WasWritten (Intr c) bytes Failed) log told (λ d. refl) refl (λ port. refl) (λ d. refl)
+      step = step_else (Close (Intr c)) (WasWritten (Intr c) bytes Failed) log channel_log (λ d. refl) refl (λ port. refl) (λ d. refl)
           (λ port. refl);
     })
 
 abbrev pub writes : {W : Type 0} (hears : W → Heard → W → Type 0) (May : Subject
     → Type 0) (config : Config) (port : Port) (may : May OfNone × May (OfConn (port_number port)))
     (before after : DriverView W) → WritesTo hears port config before after → Keeps hears May config before after
-writes hears May config port may before after (bytes, (log, told, was, tells_so, waits), inl (none, same)) =
+writes hears May config port may before after (bytes, (log, channel_log, was, tells_so, waits), inl (none, same)) =
     keeps_none hears May config before after same
 writes hears May config port may before after
-    (bytes, (log, told, was, tells_so, waits), inr (some, answer, few, (between, (wire, heard, is), ends))) =
-    write_by hears May config port may bytes answer wire before between after log told was tells_so waits few heard is ends
+    (bytes, (log, channel_log, was, tells_so, waits), inr (some, answer, few, (between, (wire, heard, is), ends))) =
+    write_by hears May config port may bytes answer wire before between after log channel_log was tells_so waits few heard is ends
 
 -- ---- and faulted connections end
 
@@ -353,7 +356,7 @@ pub ends_if : {W : Type 0} (hears : W → Heard → W → Type 0) (May : Subject
     (log : List Act) → IsLogOf config before.history log → faulted ≡ is_faulted (of c log)
     → EndsIf hears c faulted config before after → Keeps hears May config before after
 ends_if hears May config c may false before after log was is same = keeps_none hears May config before after same
-ends_if hears May config c may true before after log was is (bytes, (other, told, also, tells_so, waits), h) =
+ends_if hears May config c may true before after log was is (bytes, (other, channel_log, also, tells_so, waits), h) =
     let one = one_log config before.history other log also was in
     closes_if hears May config c may (length bytes == 0) before after log was (sym is)
     (λ e. sym (waits ∙ ap (λ (l : List Act). waiting (of c l)) one) ∙ nil_from_length bytes (eqb-true (length bytes) 0 e)) h

@@ -104,15 +104,15 @@ took_few true few e = absurd cc
 took_few false true e = absurd cc
 took_few false false e = refl
 
-pub within_event : (config : Config) (told : List ChannelAct) (event : PlainEvent) (log : List Act) (c : ℕ)
-    → refusal config told event log ≡ None
+pub within_event : (config : Config) (channel_log : List ChannelAct) (event : PlainEvent) (log : List Act) (c : ℕ)
+    → refusal config channel_log event log ≡ None
     → IsWithin (of c log) → IsWithin (brings c event ++ of c log)
-within_event config told (Open d role) log c free h = elim (cases_Bool (eqb d c)) [
+within_event config channel_log (Open d role) log c free h = elim (cases_Bool (eqb d c)) [
   | inl e ↦ rw e (λ opened. omega arith)
   | inr e ↦ rw e h
 ]
-within_event config told (Bytes d piece) log c free h = elim (cases_Bool (eqb d c)) [ inl e ↦ rw e h | inr e ↦ rw e h ]
-within_event config told (Took (Conn d) n) log c free h = elim (cases_Bool (eqb d c)) [
+within_event config channel_log (Bytes d piece) log c free h = elim (cases_Bool (eqb d c)) [ inl e ↦ rw e h | inr e ↦ rw e h ]
+within_event config channel_log (Took (Conn d) n) log c free h = elim (cases_Bool (eqb d c)) [
   | inl e ↦ rw e (λ opened.
       let few : n ≤ length (waiting (of d log)) =
       ltb-false (length (waiting (of d log))) n (took_few (is_shut d log) (nat_lt (length (waiting (of d log))) n) free) in
@@ -123,18 +123,18 @@ within_event config told (Took (Conn d) n) log c free h = elim (cases_Bool (eqb 
       let le = h opened in omega (arith, few, left, long, le))
   | inr e ↦ rw e h
 ]
-within_event config told (Close (Conn d)) log c free h = elim (cases_Bool (eqb d c)) [
+within_event config channel_log (Close (Conn d)) log c free h = elim (cases_Bool (eqb d c)) [
   | inl e ↦ rw e (λ opened. absurd cc)
   | inr e ↦ rw e h
 ]
-within_event config told (Took (Intr d) n) log c free h = h
-within_event config told (Close (Intr d)) log c free h = h
-within_event config told (Turn d) log c free h = h
-within_event config told (Refuse d) log c free h = h
-within_event config told (Dialed d ok) log c free h = h
-within_event config told (Input channel microvolts) log c free h = h
-within_event config told External log c free h = h
-within_event config told Tick log c free h = h
+within_event config channel_log (Took (Intr d) n) log c free h = h
+within_event config channel_log (Close (Intr d)) log c free h = h
+within_event config channel_log (Turn d) log c free h = h
+within_event config channel_log (Refuse d) log c free h = h
+within_event config channel_log (Dialed d ok) log c free h = h
+within_event config channel_log (Input channel microvolts) log c free h = h
+within_event config channel_log External log c free h = h
+within_event config channel_log Tick log c free h = h
 
 pub within_log : (config : Config) (history : List PlainEvent) (log : List Act) (c : ℕ) → IsLogOf config history log → IsWithin (of c log)
 within_log config [] log c (given, none) = subst (λ (l : List Act). IsWithin (of c l)) (sym none) (λ opened. absurd cc)

@@ -221,12 +221,14 @@ hangs_up hears May config may c before after h = hangs_on hears May config may c
 -- ---- an event of the wire
 
 -- what suits is done
-pub applied : {W : Type 0} (config : Config) (event : PlainEvent) (before after : DriverView W) (told : List ChannelAct) (log : List Act)
-    → IsLogOf config before.history log → HearsOf (device_acts log) told → Suits event told log → Applies event config before after
+pub applied : {W : Type 0} (config : Config) (event : PlainEvent) (before after : DriverView W) (channel_log : List ChannelAct)
+    (log : List Act)
+    → IsLogOf config before.history log → HearsOf (device_acts log) channel_log → Suits event channel_log log
+    → Applies event config before after
     → after ≡ record before { history = event ∷ before.history }
-applied config event before after told log was tells_so suits (result, (also, is_log, answers, is)) =
+applied config event before after channel_log log was tells_so suits (result, (also, is_log, answers, is)) =
     is ∙ ap (λ (r : Result Did Refused). record before { history = history_after event r before.history })
-    (suited config event before also result is_log answers (log, told, was, tells_so, suits))
+    (suited config event before also result is_log answers (log, channel_log, was, tells_so, suits))
 
 pub happened : {W : Type 0} (event : PlainEvent) (config : Config) (before after : DriverView W) → IsApplied event config before after
     → after ≡ record before { history = event ∷ before.history }
@@ -244,7 +246,7 @@ pub record Heeds {W : Type 0} (hears : W → Heard → W → Type 0) (May : Subj
   pub log : List Act
   pub told : List ChannelAct
   pub was : IsLogOf config before.history log
-  pub hears_of : HearsOf (device_acts log) told
+  pub hears_of : HearsOf (device_acts log) channel_log
   pub through : Through hears (newer ++ heard ∷ older) before.wire after.wire
   pub grown : after.history ≡ event ∷ before.history
   pub newer_silent : AreSilent newer
@@ -259,8 +261,8 @@ pub record Heeds {W : Type 0} (hears : W → Heard → W → Type 0) (May : Subj
   pub may : AllMay May (newer ++ heard ∷ older)
   pub outer : is_outer event ≡ true
   pub same : event_of heard ≡ event ∷ []
-  pub step : (trace : List Heard) (c : ℕ) → Both c (of c log) told trace
-      → Both c (brings c event ++ of c log) (tells event log ++ told) (heard ∷ trace)
+  pub step : (trace : List Heard) (c : ℕ) → Both c (of c log) channel_log trace
+      → Both c (brings c event ++ of c log) (tells event log ++ channel_log) (heard ∷ trace)
 
 abbrev pub event_keeps : {W : Type 0} (hears : W → Heard → W → Type 0) (May : Subject
     → Type 0) (config : Config) (heard : Heard) (event : PlainEvent)
@@ -291,16 +293,16 @@ event_keeps hears May config heard event newer older before after e = record {
 -- asked and answered: the event that it is happens
 abbrev pub answer_keeps : {W : Type 0} (hears : W → Heard → W → Type 0) (May : Subject
     → Type 0) (config : Config) (heard : Heard) (may : May (about heard)) (event : PlainEvent) (wire : W)
-    (before between after : DriverView W) (told : List ChannelAct) (log : List Act) → IsLogOf config before.history log
-    → HearsOf (device_acts log) told → hears before.wire heard wire
+    (before between after : DriverView W) (channel_log : List ChannelAct) (log : List Act) → IsLogOf config before.history log
+    → HearsOf (device_acts log) channel_log → hears before.wire heard wire
     → between.wire ≡ wire → between.history ≡ before.history → IsApplied event config between after
     → is_outer event ≡ true → event_of heard ≡ event ∷ [] → IsCalm heard → Fits config before.history heard → IsNoHang heard → ((c : ℕ)
     → heard ≡ WasClosed (Conn c) → ⊥)
-    → ((trace : List Heard) (c : ℕ) → Both c (of c log) told trace
-    → Both c (brings c event ++ of c log) (tells event log ++ told) (heard ∷ trace))
+    → ((trace : List Heard) (c : ℕ) → Both c (of c log) channel_log trace
+    → Both c (brings c event ++ of c log) (tells event log ++ channel_log) (heard ∷ trace))
     → Keeps hears May config before after
-answer_keeps hears May config heard may event wire before between after told log was tells_so heard_so there same applied outer is calm
-    fits unhung stays step =
+answer_keeps hears May config heard may event wire before between after channel_log log was tells_so heard_so there
+    same applied outer is calm fits unhung stays step =
     let done = happened event config between after applied in
     event_keeps hears May config heard event [] [] before after (record {
       hung = None;
@@ -309,7 +311,7 @@ answer_keeps hears May config heard may event wire before between after told log
       unhung = unhung;
       older_unhung = tt;
       log = log;
-      told = told;
+      told = channel_log;
       was = was;
       hears_of = tells_so;
       through = (before.wire, refl, subst (λ w. hears before.wire heard w) (sym (ap (λ m. m.wire) done ∙ there)) heard_so);
@@ -346,8 +348,8 @@ inner_by hears May config event (Ok what) before after inner none untold (log, w
   told = rw inner refl;
   may = tt;
   keeps = λ trace keeping. subst (λ h. Keeping config h trace) (sym (ap (λ m. m.history) is))
-      (let told = some_told (device_acts log) in
-      keeping_event only_calls only_requests config before.history log told.0 event trace trace was told.1
+      (let channel_log = some_told (device_acts log) in
+      keeping_event only_calls only_requests config before.history log channel_log.0 event trace trace was channel_log.1
       (λ c h. rw (none c, untold log) h) keeping);
   closing = closing_more config before.history after.history (event ∷ []) (ap (λ m. m.history) is);
   lets = λ trace so h. subst (λ l. LetsGoRightly config l trace) (sym (ap (λ m. m.history) is)) (lets_more config before.history

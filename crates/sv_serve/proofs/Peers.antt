@@ -41,12 +41,12 @@ use Rattle.sv_serve.proofs.Keeps.{Subject, OfNone, about, AllMay, may_join, Keep
 -- ---- peers are called
 
 -- an event that is none of a connection's, with what was heard of no port
-pub step_else : (event : PlainEvent) (heard : Heard) (log : List Act) (told : List ChannelAct) → ((c : ℕ) → brings c event ≡ [])
+pub step_else : (event : PlainEvent) (heard : Heard) (log : List Act) (channel_log : List ChannelAct) → ((c : ℕ) → brings c event ≡ [])
     → tells event log ≡ [] → ((port : Port) → begins port heard ≡ false) → ((c : ℕ) → read (Conn c) heard ≡ [])
-    → ((port : Port) → taken port heard ≡ []) → (trace : List Heard) (c : ℕ) → Both c (of c log) told trace
-    → Both c (brings c event ++ of c log) (tells event log ++ told) (heard ∷ trace)
-step_else event heard log told none untold still unread untaken trace c h =
-    rw (none c, untold) (holds_silent c heard trace (of c log) told still (unread c) untaken h)
+    → ((port : Port) → taken port heard ≡ []) → (trace : List Heard) (c : ℕ) → Both c (of c log) channel_log trace
+    → Both c (brings c event ++ of c log) (tells event log ++ channel_log) (heard ∷ trace)
+step_else event heard log channel_log none untold still unread untaken trace c h =
+    rw (none c, untold) (holds_silent c heard trace (of c log) channel_log still (unread c) untaken h)
 
 -- a call that waits for a peer has one
 pub peer_there : (call : Option CoreCall) (dial : Dial) → dial_in call ≡ Some dial → (one : Peer) × (peer_in call ≡ Some one)
@@ -62,15 +62,15 @@ dials_call true found dial e = sym e
 dials_call false found dial e = absurd cc
 
 -- its channel opens
-pub step_dialed : (c : ℕ) (dial : Dial) (heard : Heard) (log : List Act) (told : List ChannelAct) → Some dial ≡ dial_of c log
+pub step_dialed : (c : ℕ) (dial : Dial) (heard : Heard) (log : List Act) (channel_log : List ChannelAct) → Some dial ≡ dial_of c log
     → ((d : ℕ) → begins (Conn d) heard ≡ false) → ((d : ℕ) → read (Conn d) heard ≡ []) → ((port : Port) → taken port heard ≡ [])
-    → ((d : ℕ) → begins (Intr d) heard ≡ eqb c d) → (trace : List Heard) (d : ℕ) → Both d (of d log) told trace
-    → Both d (brings d (Dialed c true) ++ of d log) (tells (Dialed c true) log ++ told) (heard ∷ trace)
-step_dialed c dial heard log told wanted still unread untaken opens trace d h =
+    → ((d : ℕ) → begins (Intr d) heard ≡ eqb c d) → (trace : List Heard) (d : ℕ) → Both d (of d log) channel_log trace
+    → Both d (brings d (Dialed c true) ++ of d log) (tells (Dialed c true) log ++ channel_log) (heard ∷ trace)
+step_dialed c dial heard log channel_log wanted still unread untaken opens trace d h =
     let one = peer_there (core_call_in (unanswered (of c log))) dial
     (dials_call (is_dialing c (wait_acts (device_acts log))) (dial_in (core_call_in (unanswered (of c log)))) dial wanted) in
-    subst (λ (found : Option Peer). Both d (of d log) (opened_to c found ++ told) (heard ∷ trace)) (sym one.1)
-    (step_opened c one.0 heard trace d (of d log) told (still d) (unread d) (untaken (Conn d)) (opens d) (untaken (Intr d)) h)
+    subst (λ (found : Option Peer). Both d (of d log) (opened_to c found ++ channel_log) (heard ∷ trace)) (sym one.1)
+    (step_opened c one.0 heard trace d (of d log) channel_log (still d) (unread d) (untaken (Conn d)) (opens d) (untaken (Intr d)) h)
 
 -- whoever is wanted is called for a call that waits
 pub dialed_keeps : {W : Type 0} (hears : W → Heard → W → Type 0) (May : Subject
@@ -81,12 +81,12 @@ pub dialed_keeps : {W : Type 0} (hears : W → Heard → W → Type 0) (May : Su
     → ((n : ℕ) → hung ≡ Some n → ends_port (Intr n) heard ≡ true) → IsNoHang heard → between.history ≡ before.history
     → event_of heard ≡ Dialed c ok ∷ [] → IsCalm heard
     → ((d : ℕ) → heard ≡ WasClosed (Conn d) → ⊥)
-    → ((told : List ChannelAct) (trace : List Heard) (d : ℕ) → Both d (of d log) told trace
-    → Both d (brings d (Dialed c ok) ++ of d log) (tells (Dialed c ok) log ++ told) (heard ∷ trace))
+    → ((channel_log : List ChannelAct) (trace : List Heard) (d : ℕ) → Both d (of d log) channel_log trace
+    → Both d (brings d (Dialed c ok) ++ of d log) (tells (Dialed c ok) log ++ channel_log) (heard ∷ trace))
     → IsApplied (Dialed c ok) config between after → Keeps hears May config before after
 dialed_keeps hears May config c may ok heard mine newer all_may before between after log was through silent calm unwritten none hung adds
     ends unhung same event itself stays step applied =
-    let told = some_told (device_acts log) in
+    let channel_log = some_told (device_acts log) in
     let done = happened (Dialed c ok) config between after applied in
     event_keeps hears May config heard (Dialed c ok) newer [] before after (record {
       hung = hung;
@@ -95,9 +95,9 @@ dialed_keeps hears May config c may ok heard mine newer all_may before between a
       unhung = unhung;
       older_unhung = tt;
       log = log;
-      told = told.0;
+      told = channel_log.0;
       was = was;
-      hears_of = told.1;
+      hears_of = channel_log.1;
       through = subst (λ w. Through hears (newer ++ heard ∷ []) before.wire w) (sym (ap (λ m. m.wire) done)) through;
       grown = ap (λ m. m.history) done ∙ ap (λ h. Dialed c ok ∷ h) same;
       newer_silent = silent;
@@ -112,7 +112,7 @@ dialed_keeps hears May config c may ok heard mine newer all_may before between a
       may = may_join May newer (heard ∷ []) all_may (subst May (sym mine) may, tt);
       outer = refl;
       same = event;
-      step = step told.0;
+      step = step channel_log.0;
     })
 
 pub rings : {W : Type 0} (hears : W → Heard → W → Type 0) (May : Subject
@@ -130,7 +130,8 @@ rings hears May config c may dial (Got all) wire before between after log was wa
     )
     tt tt tt (λ p b a e. absurd cc) None (adds_nothing None) (λ n e. none_hung n e) (λ n e. absurd cc) (ap (λ m. m.history) notes ∙ ap
     (λ m. m.history) is) refl (λ d. refl) (λ d e. absurd cc)
-    (λ told. step_dialed c dial (WasDialed c dial (Got all)) log told wanted (λ d. refl) (λ d. refl) (λ port. refl) (λ d. refl)) applied
+    (λ channel_log. step_dialed c dial (WasDialed c dial (Got all)) log channel_log wanted (λ d. refl) (λ d. refl) (λ port. refl)
+        (λ d. refl)) applied
 rings hears May config c may dial Pending wire before between after log was wanted heard is notes =
     quiet_keeps hears May config None before after (quiet_one hears May None (WasDialed c dial Pending) may wire before after heard
     (ap (λ m. m.wire) notes ∙ ap (λ m. m.wire) is) (ap (λ m. m.history) notes ∙ ap (λ m. m.history) is)
@@ -141,7 +142,7 @@ rings hears May config c may dial Failed wire before between after log was wante
     (before.wire, refl, subst (λ w. hears before.wire (WasDialed c dial Failed) w) (sym (ap (λ m. m.wire) is)) heard)
     tt tt tt (λ p b a e. absurd cc) None (adds_nothing None) (λ n e. none_hung n e) (λ n e. absurd cc) (ap (λ m. m.history) is) refl
     (λ d. refl) (λ d e. absurd cc)
-    (λ told. step_else (Dialed c false) (WasDialed c dial Failed) log told (λ d. refl) refl (λ port. refl) (λ d. refl)
+    (λ channel_log. step_else (Dialed c false) (WasDialed c dial Failed) log channel_log (λ d. refl) refl (λ port. refl) (λ d. refl)
     (λ port. refl)) applied
 
 pub picks : {W : Type 0} (hears : W → Heard → W → Type 0) (May : Subject
@@ -155,7 +156,8 @@ picks hears May config c may dial (Got all) wire before between after log was wa
     (before.wire, refl, subst (λ w. hears before.wire (PeerAnswered c (Got all)) w) (sym (ap (λ m. m.wire) is)) heard)
     tt tt tt (λ p b a e. absurd cc) None (adds_nothing None) (λ n e. none_hung n e) (λ n e. absurd cc) (ap (λ m. m.history) is) refl
     (λ d. refl) (λ d e. absurd cc)
-    (λ told. step_dialed c dial (PeerAnswered c (Got all)) log told wanted (λ d. refl) (λ d. refl) (λ port. refl) (λ d. refl)) applied
+    (λ channel_log. step_dialed c dial (PeerAnswered c (Got all)) log channel_log wanted (λ d. refl) (λ d. refl) (λ port. refl)
+        (λ d. refl)) applied
 picks hears May config c may dial Pending wire before between after log was wanted heard is same =
     only_heard hears May config (PeerAnswered c Pending) may wire before between after heard is
     (refl, (λ port. refl), (λ port. refl), (λ port. refl)) (λ d. refl) (λ p b a e. absurd cc) (λ n e. absurd cc) same
@@ -166,7 +168,8 @@ picks hears May config c may dial Failed wire before between after log was wante
     (before.wire, refl, subst (λ w. hears before.wire (PeerAnswered c Failed) w) (sym (ap (λ m. m.wire) is)) heard) q.through)
     q.silent q.calm q.unwritten (λ p b a e. absurd cc) (Some c) q.adds (λ n e. eq-eqb c n (hung_same c n e)) (λ n e. absurd cc)
     (q.same ∙ ap (λ m. m.history) is) refl (λ d. refl) (λ d e. absurd cc)
-    (λ told. step_else (Dialed c false) (PeerAnswered c Failed) log told (λ d. refl) refl (λ port. refl) (λ d. refl) (λ port. refl)) applied
+    (λ channel_log. step_else (Dialed c false) (PeerAnswered c Failed) log channel_log (λ d. refl) refl (λ port. refl) (λ d. refl)
+        (λ port. refl)) applied
 
 pub calls_for : {W : Type 0} (hears : W → Heard → W → Type 0) (May : Subject
     → Type 0) (config : Config) (c : ℕ) (may : May OfNone) (wanted called : Option Dial)

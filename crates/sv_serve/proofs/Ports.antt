@@ -66,9 +66,9 @@ holds_calls (PortClosed ∷ adds) acts came went h k = absurd h
 -- ---- one interrupt channel
 
 abbrev pub HoldsOn : ℕ → List ChannelAct → List ℕ → Type 0
-HoldsOn c told gone = is_channel_open c told ≡ true
-    → (gone ++ drop (channel_taken c told) (concat (calls c told)) ≡ concat (calls c told))
-    × (channel_taken c told ≤ length (concat (calls c told)))
+HoldsOn c channel_log gone = is_channel_open c channel_log ≡ true
+    → (gone ++ drop (channel_taken c channel_log) (concat (calls c channel_log)) ≡ concat (calls c channel_log))
+    × (channel_taken c channel_log ≤ length (concat (calls c channel_log)))
 
 concat_join : (xs ys : List (List ℕ)) → concat (xs ++ ys) ≡ concat xs ++ concat ys
 concat_join xs ys = concat_is (xs ++ ys) ∙ flat_map-append (λ (x : List ℕ). x) xs ys
@@ -119,7 +119,7 @@ AreSilent (heard ∷ piece) = IsSilent heard × AreSilent piece
 
 -- a connection and its interrupt channel
 abbrev pub Both : ℕ → List ConnAct → List ChannelAct → List Heard → Type 0
-Both c acts told trace = Holds acts (came c trace) (went (Conn c) trace) × HoldsOn c told (went (Intr c) trace)
+Both c acts channel_log trace = Holds acts (came c trace) (went (Conn c) trace) × HoldsOn c channel_log (went (Intr c) trace)
 
 came_silent : (c : ℕ) (heard : Heard) (trace : List Heard) (acts : List ConnAct) → begins (Conn c) heard ≡ false
     → read (Conn c) heard ≡ [] → taken (Conn c) heard ≡ [] → Holds acts (came c trace) (went (Conn c) trace)
@@ -127,44 +127,45 @@ came_silent : (c : ℕ) (heard : Heard) (trace : List Heard) (acts : List ConnAc
 came_silent c heard trace acts still none nothing h =
     rw (still, none, nothing, append-nil (came c trace), append-nil (went (Conn c) trace)) h
 
-pub sent_silent : (c : ℕ) (heard : Heard) (trace : List Heard) (told : List ChannelAct) → begins (Intr c) heard ≡ false
-    → taken (Intr c) heard ≡ [] → HoldsOn c told (went (Intr c) trace) → HoldsOn c told (went (Intr c) (heard ∷ trace))
-sent_silent c heard trace told still nothing h = rw (still, nothing, append-nil (went (Intr c) trace)) h
+pub sent_silent : (c : ℕ) (heard : Heard) (trace : List Heard) (channel_log : List ChannelAct) → begins (Intr c) heard ≡ false
+    → taken (Intr c) heard ≡ [] → HoldsOn c channel_log (went (Intr c) trace) → HoldsOn c channel_log (went (Intr c) (heard ∷ trace))
+sent_silent c heard trace channel_log still nothing h = rw (still, nothing, append-nil (went (Intr c) trace)) h
 
-pub holds_silent : (c : ℕ) (heard : Heard) (trace : List Heard) (acts : List ConnAct) (told : List ChannelAct)
+pub holds_silent : (c : ℕ) (heard : Heard) (trace : List Heard) (acts : List ConnAct) (channel_log : List ChannelAct)
     → ((port : Port) → begins port heard ≡ false) → read (Conn c) heard ≡ [] → ((port : Port) → taken port heard ≡ [])
-    → Both c acts told trace → Both c acts told (heard ∷ trace)
-holds_silent c heard trace acts told still none nothing h = (
+    → Both c acts channel_log trace → Both c acts channel_log (heard ∷ trace)
+holds_silent c heard trace acts channel_log still none nothing h = (
   came_silent c heard trace acts (still (Conn c)) none (nothing (Conn c)) h.0,
-  sent_silent c heard trace told (still (Intr c)) (nothing (Intr c)) h.1,
+  sent_silent c heard trace channel_log (still (Intr c)) (nothing (Intr c)) h.1,
 )
 
 -- ---- each event of a connection
 
-pub step_open : (c : ℕ) (role : Role) (all : ⊤) (trace : List Heard) (d : ℕ) (acts : List ConnAct) (told : List ChannelAct)
-    → Both d acts told trace → Both d (brings d (Open c role) ++ acts) told (WasAccepted role (Some c) (Got all) ∷ trace)
-step_open c role all trace d acts told h = (
+pub step_open : (c : ℕ) (role : Role) (all : ⊤) (trace : List Heard) (d : ℕ) (acts : List ConnAct) (channel_log : List ChannelAct)
+    → Both d acts channel_log trace → Both d (brings d (Open c role) ++ acts) channel_log (WasAccepted role (Some c) (Got all) ∷ trace)
+step_open c role all trace d acts channel_log h = (
   elim (cases_Bool (eqb c d)) [
     | inl e ↦ rw e (refl, (λ opened. (refl, omega arith)))
     | inr e ↦ rw (e, append-nil (came d trace), append-nil (went (Conn d) trace)) h.0
   ],
-  sent_silent d (WasAccepted role (Some c) (Got all)) trace told refl refl h.1,
+  sent_silent d (WasAccepted role (Some c) (Got all)) trace channel_log refl refl h.1,
 )
 
-pub step_read : (c most : ℕ) (bytes : List ℕ) (trace : List Heard) (d : ℕ) (acts : List ConnAct) (told : List ChannelAct)
-    → Both d acts told trace → Both d (brings d (Bytes c bytes) ++ acts) told (WasRead c most (Got bytes) ∷ trace)
-step_read c most bytes trace d acts told h = (
+pub step_read : (c most : ℕ) (bytes : List ℕ) (trace : List Heard) (d : ℕ) (acts : List ConnAct) (channel_log : List ChannelAct)
+    → Both d acts channel_log trace → Both d (brings d (Bytes c bytes) ++ acts) channel_log (WasRead c most (Got bytes) ∷ trace)
+step_read c most bytes trace d acts channel_log h = (
   elim (cases_Bool (eqb c d)) [
     | inl e ↦ rw (e, append-nil (went (Conn d) trace)) (ap (λ (l : List ℕ). l ++ bytes) h.0.0, h.0.1)
     | inr e ↦ rw (e, append-nil (came d trace), append-nil (went (Conn d) trace)) h.0
   ],
-  sent_silent d (WasRead c most (Got bytes)) trace told refl refl h.1,
+  sent_silent d (WasRead c most (Got bytes)) trace channel_log refl refl h.1,
 )
 
-pub step_took : (c n : ℕ) (bytes : List ℕ) (trace : List Heard) (d : ℕ) (acts : List ConnAct) (told : List ChannelAct) → n ≤ length bytes
-    → (eqb c d ≡ true → bytes ≡ waiting acts) → Both d acts told trace
-    → Both d (brings d (Took (Conn c) n) ++ acts) told (WasWritten (Conn c) bytes (Got n) ∷ trace)
-step_took c n bytes trace d acts told few waits h = (
+pub step_took : (c n : ℕ) (bytes : List ℕ) (trace : List Heard) (d : ℕ) (acts : List ConnAct) (channel_log : List ChannelAct)
+    → n ≤ length bytes
+    → (eqb c d ≡ true → bytes ≡ waiting acts) → Both d acts channel_log trace
+    → Both d (brings d (Took (Conn c) n) ++ acts) channel_log (WasWritten (Conn c) bytes (Got n) ∷ trace)
+step_took c n bytes trace d acts channel_log few waits h = (
   elim (cases_Bool (eqb c d)) [
     | inl e ↦ rw (e, append-nil (came d trace)) (
       h.0.0,
@@ -175,42 +176,43 @@ step_took c n bytes trace d acts told few waits h = (
     )
     | inr e ↦ rw (e, append-nil (came d trace), append-nil (went (Conn d) trace)) h.0
   ],
-  sent_silent d (WasWritten (Conn c) bytes (Got n)) trace told refl refl h.1,
+  sent_silent d (WasWritten (Conn c) bytes (Got n)) trace channel_log refl refl h.1,
 )
 
-pub step_close : (c : ℕ) (trace : List Heard) (d : ℕ) (acts : List ConnAct) (told : List ChannelAct) → Both d acts told trace
-    → Both d (brings d (Close (Conn c)) ++ acts) told (WasClosed (Conn c) ∷ trace)
-step_close c trace d acts told h = (
+pub step_close : (c : ℕ) (trace : List Heard) (d : ℕ) (acts : List ConnAct) (channel_log : List ChannelAct) → Both d acts channel_log trace
+    → Both d (brings d (Close (Conn c)) ++ acts) channel_log (WasClosed (Conn c) ∷ trace)
+step_close c trace d acts channel_log h = (
   elim (cases_Bool (eqb c d)) [
     | inl e ↦ rw e (refl, (λ opened. absurd cc))
     | inr e ↦ rw (e, append-nil (came d trace), append-nil (went (Conn d) trace)) h.0
   ],
-  sent_silent d (WasClosed (Conn c)) trace told refl refl h.1,
+  sent_silent d (WasClosed (Conn c)) trace channel_log refl refl h.1,
 )
 
 -- ---- and of an interrupt channel
 
 -- bytes of it are taken
-pub step_sent : (c n : ℕ) (bytes : List ℕ) (trace : List Heard) (d : ℕ) (acts : List ConnAct) (told : List ChannelAct) → n ≤ length bytes
-    → (eqb c d ≡ true → bytes ≡ channel_waiting d told) → Both d acts told trace
-    → Both d acts (ChannelTaken c n ∷ told) (WasWritten (Intr c) bytes (Got n) ∷ trace)
-step_sent c n bytes trace d acts told few waits h = (
+pub step_sent : (c n : ℕ) (bytes : List ℕ) (trace : List Heard) (d : ℕ) (acts : List ConnAct) (channel_log : List ChannelAct)
+    → n ≤ length bytes
+    → (eqb c d ≡ true → bytes ≡ channel_waiting d channel_log) → Both d acts channel_log trace
+    → Both d acts (ChannelTaken c n ∷ channel_log) (WasWritten (Intr c) bytes (Got n) ∷ trace)
+step_sent c n bytes trace d acts channel_log few waits h = (
   came_silent d (WasWritten (Intr c) bytes (Got n)) trace acts refl refl refl h.0,
   elim (cases_Bool (eqb c d)) [
     | inl e ↦ rw e (λ opened.
         let both = h.1 opened in
-        let same : bytes ≡ drop (channel_taken d told) (concat (calls d told)) =
-        waits e ∙ rw opened (left_bytes (channel_taken d told) (calls d told)) in
-        taken_more (went (Intr d) trace) bytes (concat (calls d told)) (channel_taken d told) n same few both.0 both.1)
+        let same : bytes ≡ drop (channel_taken d channel_log) (concat (calls d channel_log)) =
+        waits e ∙ rw opened (left_bytes (channel_taken d channel_log) (calls d channel_log)) in
+        taken_more (went (Intr d) trace) bytes (concat (calls d channel_log)) (channel_taken d channel_log) n same few both.0 both.1)
     | inr e ↦ rw (e, append-nil (went (Intr d) trace)) h.1
   ],
 )
 
 -- it opens, by an answer of this kind
-pub step_opened : (c : ℕ) (what : Peer) (heard : Heard) (trace : List Heard) (d : ℕ) (acts : List ConnAct) (told : List ChannelAct)
+pub step_opened : (c : ℕ) (what : Peer) (heard : Heard) (trace : List Heard) (d : ℕ) (acts : List ConnAct) (channel_log : List ChannelAct)
     → begins (Conn d) heard ≡ false → read (Conn d) heard ≡ [] → taken (Conn d) heard ≡ [] → begins (Intr d) heard ≡ eqb c d
-    → taken (Intr d) heard ≡ [] → Both d acts told trace → Both d acts (ChannelOpened c what ∷ told) (heard ∷ trace)
-step_opened c what heard trace d acts told still unread untaken opens nothing h = (
+    → taken (Intr d) heard ≡ [] → Both d acts channel_log trace → Both d acts (ChannelOpened c what ∷ channel_log) (heard ∷ trace)
+step_opened c what heard trace d acts channel_log still unread untaken opens nothing h = (
   came_silent d heard trace acts still unread untaken h.0,
   elim (cases_Bool (eqb c d)) [
     | inl e ↦ rw (opens, e) (λ opened. (refl, omega arith))
@@ -221,26 +223,28 @@ step_opened c what heard trace d acts told still unread untaken opens nothing h 
 -- ---- over a history
 
 abbrev pub Keeping : Config → List PlainEvent → List Heard → Type 0
-Keeping config history trace = (log : List Act) (told : List ChannelAct) → IsLogOf config history log → HearsOf (device_acts log) told
-    → (c : ℕ) → Both c (of c log) told trace
+Keeping config history trace = (log : List Act) (channel_log : List ChannelAct) → IsLogOf config history log
+    → HearsOf (device_acts log) channel_log
+    → (c : ℕ) → Both c (of c log) channel_log trace
 
-pub keeping_event : OnlyCalls → OnlyRequests → (config : Config) (history : List PlainEvent) (before : List Act) (told : List ChannelAct)
-    (event : PlainEvent) (trace later : List Heard) → IsLogOf config history before → HearsOf (device_acts before) told
-    → ((c : ℕ) → Both c (of c before) told trace → Both c (brings c event ++ of c before) (tells event before ++ told) later)
+pub keeping_event : OnlyCalls → OnlyRequests
+    → (config : Config) (history : List PlainEvent) (before : List Act) (channel_log : List ChannelAct)
+    (event : PlainEvent) (trace later : List Heard) → IsLogOf config history before → HearsOf (device_acts before) channel_log
+    → ((c : ℕ) → Both c (of c before) channel_log trace → Both c (brings c event ++ of c before) (tells event before ++ channel_log) later)
     → Keeping config history trace → Keeping config (event ∷ history) later
-keeping_event only requests config history before told event trace later was hears step keeping log then_told is then_hears c =
+keeping_event only requests config history before channel_log event trace later was hears step keeping log then_told is then_hears c =
     let grown = only config event history before log c was is in
-    let adds = requests config event history before log told then_told c was hears is then_hears in
-    let both = step c (keeping before told was hears c) in (
+    let adds = requests config event history before log channel_log then_told c was hears is then_hears in
+    let both = step c (keeping before channel_log was hears c) in (
       subst (λ (l : List ConnAct). Holds l (came c later) (went (Conn c) later)) (sym grown.2)
           (holds_calls grown.0 (brings c event ++ of c before) (came c later) (went (Conn c) later) grown.1 both.0),
-      holds_adds c (tells event before ++ told) then_told (went (Intr c) later) adds both.1,
+      holds_adds c (tells event before ++ channel_log) then_told (went (Intr c) later) adds both.1,
     )
 
 pub keeping_silent : (config : Config) (history : List PlainEvent) (piece trace : List Heard) → AreSilent piece
     → Keeping config history trace
     → Keeping config history (piece ++ trace)
 keeping_silent config history [] trace silent keeping = keeping
-keeping_silent config history (heard ∷ piece) trace silent keeping = λ log told is hears c.
-    holds_silent c heard (piece ++ trace) (of c log) told silent.0.1 (silent.0.2 (Conn c)) silent.0.3
-    (keeping_silent config history piece trace silent.1 keeping log told is hears c)
+keeping_silent config history (heard ∷ piece) trace silent keeping = λ log channel_log is hears c.
+    holds_silent c heard (piece ++ trace) (of c log) channel_log silent.0.1 (silent.0.2 (Conn c)) silent.0.3
+    (keeping_silent config history piece trace silent.1 keeping log channel_log is hears c)

@@ -50,23 +50,26 @@ pub record Written {W : Type 0} (hears : W → Heard → W → Type 0) (config :
   pub is : k.piece ≡ newer ++ heard ∷ []
 
 pub written : {W : Type 0} (hears : W → Heard → W → Type 0) (config : Config) (c : ℕ) (bytes : List ℕ) (answer : Answer ℕ) (wire : W)
-    (x between y : DriverView W) (log : List Act) (told : List ChannelAct)
-    → IsLogOf config x.history log → HearsOf (device_acts log) told → bytes ≡ waiting (of c log)
+    (x between y : DriverView W) (log : List Act) (channel_log : List ChannelAct)
+    → IsLogOf config x.history log → HearsOf (device_acts log) channel_log → bytes ≡ waiting (of c log)
     → IsWithinMost answer (length bytes) → hears x.wire (WasWritten (Conn c) bytes answer) wire → between ≡ record x { wire = wire }
     → EndsWrite hears (Conn c) answer config between y → Written hears config c (WasWritten (Conn c) bytes answer) x y
-written hears config c bytes (Got n) wire x between y log told was tells_so waits few heard is ends = record {
-  k = write_by hears (Mine c) config (Conn c) (tt, refl) bytes (Got n) wire x between y log told was tells_so waits few heard is ends;
+written hears config c bytes (Got n) wire x between y log channel_log was tells_so waits few heard is ends = record {
+  k = write_by hears (Mine c) config (Conn c) (tt, refl) bytes
+      (Got n) wire x between y log channel_log was tells_so waits few heard is ends;
   newer = [];
   is = refl;
 }
-written hears config c bytes Pending wire x between y log told was tells_so waits few heard is ends = record {
-  k = write_by hears (Mine c) config (Conn c) (tt, refl) bytes Pending wire x between y log told was tells_so waits few heard is ends;
+written hears config c bytes Pending wire x between y log channel_log was tells_so waits few heard is ends = record {
+  k = write_by hears (Mine c) config (Conn c)
+      (tt, refl) bytes Pending wire x between y log channel_log was tells_so waits few heard is ends;
   newer = [];
   is = refl;
 }
-written hears config c bytes Failed wire x between y log told was tells_so waits few heard is (first, shut, (second, hangs, closed)) =
+written hears config c bytes Failed wire x between y log channel_log was tells_so waits few heard is
+    (first, shut, (second, hangs, closed)) =
     let q = hangs_up hears (Mine c) config tt c first second hangs in record {
-      k = write_by hears (Mine c) config (Conn c) (tt, refl) bytes Failed wire x between y log told was tells_so waits few heard is
+      k = write_by hears (Mine c) config (Conn c) (tt, refl) bytes Failed wire x between y log channel_log was tells_so waits few heard is
           (first, shut, (second, hangs, closed));
       newer = q.piece ++ WasClosed (Conn c) ∷ [];
       is = sym (append_assoc q.piece (WasClosed (Conn c) ∷ []) (WasWritten (Conn c) bytes Failed ∷ []));
@@ -98,7 +101,7 @@ still_waits config c history events log after t is was =
 pub write_step : {W : Type 0} (hears : W → Heard → W → Type 0) (config : Config) (c : ℕ) (x y : DriverView W)
     (history events : List PlainEvent) (piece : List Heard) → c < 16 → x.history ≡ events ++ history → Turned config c history events
     → WritesTo hears (Conn c) config x y → WriteStep hears config c history events piece x y
-write_step hears config c x y history events piece lt is t (bytes, (log, told, was, tells_so, waits), inl (none, same)) = record {
+write_step hears config c x y history events piece lt is t (bytes, (log, channel_log, was, tells_so, waits), inl (none, same)) = record {
   k = keeps_none hears (Mine c) config x y same;
   offered = record {
     first = t.first;
@@ -115,8 +118,8 @@ write_step hears config c x y history events piece lt is t (bytes, (log, told, w
   };
 }
 write_step hears config c x y history events piece lt is t
-    (bytes, (log, told, was, tells_so, waits), inr (some, answer, few, (between, (wire, heard, to), ends))) =
-    let w = written hears config c bytes answer wire x between y log told was tells_so waits few heard to ends in
+    (bytes, (log, channel_log, was, tells_so, waits), inr (some, answer, few, (between, (wire, heard, to), ends))) =
+    let w = written hears config c bytes answer wire x between y log channel_log was tells_so waits few heard to ends in
     record {
       k = w.k;
       offered = record {

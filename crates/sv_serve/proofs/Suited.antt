@@ -39,8 +39,8 @@ use Rattle.sv_serve.specs.Premises.{IsSuited, Handed, FoundNone, MayFindNone, Fi
 
 pub suited : {W : Type 0} (config : Config) (event : PlainEvent) (at : DriverView W) (log : List Act) (result : Result Did Refused)
     → IsLogOf config at.history log → Answers config event log result → IsSuited event config at → result ≡ Ok Done
-suited config event at log result was answers (other, told, also, tells, suits) =
-    nothing_lost config at.history event told other result also tells suits
+suited config event at log result was answers (other, channel_log, also, tells, suits) =
+    nothing_lost config at.history event channel_log other result also tells suits
     (subst (λ (l : List Act). Answers config event l result) (one_log config at.history log other was also) answers)
 
 pub refused : {W : Type 0} (config : Config) (c : ℕ) (at : DriverView W) (log : List Act) (result : Result Did Refused)
@@ -76,7 +76,7 @@ room_open c room config at lt some (log, was, is) =
 
 pub waits_open : {W : Type 0} (c : ℕ) (bytes : List ℕ) (config : Config) (at : DriverView W) → c < 16 → 0 < length bytes
     → Waits (Conn c) config at bytes → IsOpen (Conn c) config at true
-waits_open c bytes config at lt some (log, told, was, tells, is) =
+waits_open c bytes config at lt some (log, channel_log, was, tells, is) =
     open_by c config at log lt was (has_waiting (of c log) (subst (λ (l : List ℕ). 0 < length l) is some))
 
 clear_faulted : (acts : List ConnAct) → IsClear acts → false ≡ is_faulted acts
@@ -98,15 +98,15 @@ pub faulted_open : {W : Type 0} (c : ℕ) (config : Config) (at : DriverView W) 
 faulted_open c config at lt (log, was, is) = open_by c config at log lt was (some_role (open_role (of c log)) (λ none.
     let z : true ≡ false = is ∙ sym (clear_faulted (of c log) (shut_is_clear config at.history log c was none)) in cc))
 
-pub channel_open : (c : ℕ) (told : List ChannelAct) (log : List Act) → c < 16 → HearsOf (device_acts log) told
-    → 0 < length (channel_waiting c told) → is_port_shut (Intr c) log ≡ false
-channel_open c told log lt tells some =
-    let there : is_channel_open c told ≡ true = elim (cases_Bool (is_channel_open c told)) [
+pub channel_open : (c : ℕ) (channel_log : List ChannelAct) (log : List Act) → c < 16 → HearsOf (device_acts log) channel_log
+    → 0 < length (channel_waiting c channel_log) → is_port_shut (Intr c) log ≡ false
+channel_open c channel_log log lt tells some =
+    let there : is_channel_open c channel_log ≡ true = elim (cases_Bool (is_channel_open c channel_log)) [
       | inl e ↦ e
-      | inr e ↦ absurd (let none : length (channel_waiting c told) ≡ 0 = rw e refl in omega (arith, some, none))
+      | inr e ↦ absurd (let none : length (channel_waiting c channel_log) ≡ 0 = rw e refl in omega (arith, some, none))
     ] in
     ap (λ (b : Bool). b || not (has_channel c (device_acts log))) (le-ltb 15 c (omega (arith, lt)))
-    ∙ ap not (sym (has_channel_told c (device_acts log) told tells) ∙ there)
+    ∙ ap not (sym (has_channel_told c (device_acts log) channel_log tells) ∙ there)
 
 -- ---- what suits
 
@@ -121,29 +121,30 @@ shut_so false e = refl
 pub open_suits : {W : Type 0} (c : ℕ) (role : Role) (config : Config) (at : DriverView W) → IsLowest (Some c) config at
     → IsSuited (Open c role) config at
 open_suits c role config at (lt, (log, was, is), lower) =
-    let told = some_told (device_acts log) in
-    (log, told.0, was, told.1, (lt, not_not (is_open (of c log)) (is ∙ rw (le-ltb 15 c (omega (arith, lt))) refl)))
+    let channel_log = some_told (device_acts log) in
+    (log, channel_log.0, was, channel_log.1, (lt, not_not (is_open (of c log)) (is ∙ rw (le-ltb 15 c (omega (arith, lt))) refl)))
 
 pub bytes_suit : {W : Type 0} (c room : ℕ) (bytes : List ℕ) (config : Config) (at : DriverView W) → c < 16 → 0 < room
     → length bytes ≤ min room longest_piece → HasRoom c config at room → IsSuited (Bytes c bytes) config at
 bytes_suit c n bytes config at lt some few (log, was, is) =
-    let told = some_told (device_acts log) in
-    (log, told.0, was, told.1, (lt, subst (λ (m : ℕ). 0 < m) is some, subst (λ (m : ℕ). length bytes ≤ m) is (grind (arith, few))))
+    let channel_log = some_told (device_acts log) in
+    (log, channel_log.0, was, channel_log.1,
+        (lt, subst (λ (m : ℕ). 0 < m) is some, subst (λ (m : ℕ). length bytes ≤ m) is (grind (arith, few))))
 
 pub close_suits : {W : Type 0} (port : Port) (config : Config) (at : DriverView W) → IsOpen port config at true
     → IsSuited (Close port) config at
 close_suits port config at (log, was, is) =
-    let told = some_told (device_acts log) in (log, told.0, was, told.1, shut_so (is_port_shut port log) is)
+    let channel_log = some_told (device_acts log) in (log, channel_log.0, was, channel_log.1, shut_so (is_port_shut port log) is)
 
 pub took_suits : {W : Type 0} (port : Port) (n : ℕ) (config : Config) (at : DriverView W) → port_number port < 16
     → Handed port (Got n) config at → IsSuited (Took port n) config at
-took_suits port n config at lt (bytes, (log, told, was, tells, is), some, few) =
-    (log, told, was, tells, (lt, subst (λ (l : List ℕ). 0 < length l) is some, subst (λ (l : List ℕ). n ≤ length l) is few))
+took_suits port n config at lt (bytes, (log, channel_log, was, tells, is), some, few) =
+    (log, channel_log, was, tells, (lt, subst (λ (l : List ℕ). 0 < length l) is some, subst (λ (l : List ℕ). n ≤ length l) is few))
 
 channel_closes : {W : Type 0} (c : ℕ) (answer : Answer ℕ) (config : Config) (at : DriverView W) → c < 16
     → Handed (Intr c) answer config at → IsSuited (Close (Intr c)) config at
-channel_closes c answer config at lt (bytes, (log, told, was, tells, is), some, few) =
-    (log, told, was, tells, channel_open c told log lt tells (subst (λ (l : List ℕ). 0 < length l) is some))
+channel_closes c answer config at lt (bytes, (log, channel_log, was, tells, is), some, few) =
+    (log, channel_log, was, tells, channel_open c channel_log log lt tells (subst (λ (l : List ℕ). 0 < length l) is some))
 
 pub channel_suits : {W : Type 0} (port : Port) (c : ℕ) (answer : Answer ℕ) (config : Config) (at : DriverView W) → port ≡ Intr c
     → port_number port < 16 → Handed port answer config at → IsSuited (Close (Intr c)) config at
@@ -162,7 +163,7 @@ handed_open port c answer config at is lt handed = conn_open c answer config at 
 pub dialed_suits : {W : Type 0} (c : ℕ) (dial : Dial) (ok : Bool) (config : Config) (at : DriverView W) → c < 16
     → Wants c config at (Some dial) → IsSuited (Dialed c ok) config at
 dialed_suits c dial ok config at lt (log, was, is) =
-    let told = some_told (device_acts log) in (log, told.0, was, told.1, (lt, dial, sym is))
+    let channel_log = some_told (device_acts log) in (log, channel_log.0, was, channel_log.1, (lt, dial, sym is))
 
 -- ---- what was so stays so while no event comes
 
@@ -177,8 +178,8 @@ hung_same hears c config before after h = hung_on hears c (called_of c before) c
 
 pub still_suited : {W : Type 0} (event : PlainEvent) (config : Config) (before after : DriverView W) → after.history ≡ before.history
     → IsSuited event config before → IsSuited event config after
-still_suited event config before after same (log, told, was, tells, suits) =
-    (log, told, subst (λ (h : List PlainEvent). IsLogOf config h log) (sym same) was, tells, suits)
+still_suited event config before after same (log, channel_log, was, tells, suits) =
+    (log, channel_log, subst (λ (h : List PlainEvent). IsLogOf config h log) (sym same) was, tells, suits)
 
 pub still_wants : {W : Type 0} (c : ℕ) (found dial : Option Dial) (config : Config) (before after : DriverView W)
     → after.history ≡ before.history
@@ -229,4 +230,4 @@ no_memory TimeOver e = absurd cc
 
 pub finds_none : {W : Type 0} (c : ℕ) (answer : Result Did Refused) (refused : Refused) (so : Bool) (config : Config) (at : DriverView W)
     → answer ≡ Err refused → so ≡ is_no_memory refused → MayFindNone c answer config at → FindsNoneIf c so config at
-finds_none c answer refused so config at is same may told = may (is ∙ ap Err (no_memory refused (sym same ∙ told)))
+finds_none c answer refused so config at is same may told = may (is ∙ ap Err (no_memory refused (sym same ∙ channel_log)))

@@ -121,10 +121,10 @@ stimulus_timed : (stimulus : Stimulus) → (is_timed (stimulus_event stimulus) �
 stimulus_timed (stimuli.Input channel microvolts) = (refl, refl)
 stimulus_timed stimuli.External = (refl, refl)
 
-stimulus_suits : (stimulus : Stimulus) (told : List ChannelAct) (log : List Act) → IsAccepted stimulus
-    → Suits (stimulus_event stimulus) told log
-stimulus_suits (stimuli.Input channel microvolts) told log h = h
-stimulus_suits stimuli.External told log h = tt
+stimulus_suits : (stimulus : Stimulus) (channel_log : List ChannelAct) (log : List Act) → IsAccepted stimulus
+    → Suits (stimulus_event stimulus) channel_log log
+stimulus_suits (stimuli.Input channel microvolts) channel_log log h = h
+stimulus_suits stimuli.External channel_log log h = tt
 
 play_one : {W : Type 0} (config : Config) (s : List Entry) (n k : ℕ) (a b : DriverView W) → PlaysOne config a b → InPlay config s n k a
     → InPlay config s n k b
@@ -134,8 +134,8 @@ play_one config s n k a b (entry, others, m, first, due, (result, (log, was, ans
     let low = rising.0 in
     let at = p.ticks in
     let now : entry.tick ≡ n = omega (arith, low, due, at) in
-    let told = some_told (device_acts log) in
-    let done = applied config event a m told.0 log was told.1 (stimulus_suits entry.stimulus told.0 log rising.1)
+    let channel_log = some_told (device_acts log) in
+    let done = applied config event a m channel_log.0 log was channel_log.1 (stimulus_suits entry.stimulus channel_log.0 log rising.1)
     (result, (log, was, answers, to)) in
     let history : b.history ≡ event ∷ a.history = ap (λ m. m.history) is ∙ ap (λ m. m.history) done in
     let own : played n (p.past ++ entry ∷ []) ≡ event ∷ played n p.past = played_join n p.past (entry ∷ []) ∙ rw

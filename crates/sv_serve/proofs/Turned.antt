@@ -174,10 +174,11 @@ short_by false true false true refused h far busy some = refl
 short_by false true false false refused h far busy some = absurd cc
 
 -- a Turn that is refused, and not for want of memory, found no room
-pub short : (config : Config) (history : List PlainEvent) (log : List Act) (c : ℕ) (told : List ChannelAct) (refused : Refused) → c < 16
-    → IsLogOf config history log → true ≡ not (is_idle (of c log)) → refusal config told (Turn c) log ≡ Some refused
+pub short : (config : Config) (history : List PlainEvent) (log : List Act) (c : ℕ) (channel_log : List ChannelAct) (refused : Refused)
+    → c < 16
+    → IsLogOf config history log → true ≡ not (is_idle (of c log)) → refusal config channel_log (Turn c) log ≡ Some refused
     → free (of c log) < longest_reply
-short config history log c told refused lt was ready h =
+short config history log c channel_log refused lt was ready h =
     let busy = busy_so (is_idle (of c log)) ready in
     ltb-true (free (of c log)) longest_reply (short_by (nat_lt 15 c) (is_open (of c log)) (is_idle (of c log))
     (nat_lt (free (of c log)) longest_reply) refused h (le-ltb 15 c (omega (arith, lt))) busy
@@ -195,10 +196,10 @@ step_err hears config c NoMemory x between y history events log lt is was ready 
       (inner_by hears Nobody config (Refuse c) (Ok Done) between y refl (λ d. refl) (λ l. refl) given);
   turned = turned_by config c x.history history events (Refuse c ∷ []) log is was (inr (inl (refl, answers)));
 }
-step_err hears config c refused x between y history events log lt is was ready (told, tells, says) same to = record {
+step_err hears config c refused x between y history events log lt is was ready (channel_log, tells, says) same to = record {
   k = keeps_none hears Nobody config x y (to ∙ same);
   turned = turned_by config c x.history history events [] log is was
-      (inr (inr (refl, inr (short config x.history log c told refused lt was ready says))));
+      (inr (inr (refl, inr (short config x.history log c channel_log refused lt was ready says))));
 }
 
 pub step_answer : {W : Type 0} (hears : W → Heard → W → Type 0) (config : Config) (c : ℕ) (result : Result Did Refused)

@@ -57,8 +57,8 @@ turns_none n config at (log, is_log, none) c le =
 pub writes_none : {W : Type 0} (hears : W → Heard → W → Type 0) (n : ℕ) (config : Config) (at : DriverView W) → NoneUsed n config at
     → (c : ℕ) → n ≤ c → WritesTo hears (Conn c) config at at
 writes_none hears n config at (log, is_log, none) c le =
-    let (told, tells) = some_told (device_acts log) in
-    ([], (log, told, is_log, tells, ap waiting (sym (none c le))), inl (refl, refl))
+    let (channel_log, tells) = some_told (device_acts log) in
+    ([], (log, channel_log, is_log, tells, ap waiting (sym (none c le))), inl (refl, refl))
 
 pub ends_none : {W : Type 0} (hears : W → Heard → W → Type 0) (n : ℕ) (config : Config) (at : DriverView W) → NoneUsed n config at
     → (c : ℕ) → n ≤ c → Ends hears c config at at

@@ -91,8 +91,9 @@ Once IsSo history trace = (later earlier : List PlainEvent) × (history ≡ late
 pub record IsCarried (config : Config) (history : List PlainEvent) (trace : List Heard) : Type 0 where
   pub events : filter is_outer history ≡ flat_map event_of trace
   pub streams : (c : ℕ) → Answered (λ log. stream (of c log)) config history (since (Conn c) (read (Conn c)) trace)
-  pub sends : (port : Port) (log : List Act) (told : List ChannelAct) → IsLogOf config history log → HearsOf (device_acts log) told
-      → is_port_shut port log ≡ false → since port (taken port) trace ++ waiting_on told port log ≡ sent_on told port log
+  pub sends : (port : Port) (log : List Act) (channel_log : List ChannelAct) → IsLogOf config history log
+      → HearsOf (device_acts log) channel_log
+      → is_port_shut port log ≡ false → since port (taken port) trace ++ waiting_on channel_log port log ≡ sent_on channel_log port log
   pub hands : EachHeard (λ heard older. (port : Port) (bytes : List ℕ) (answer : Answer ℕ) → heard ≡ WasWritten port bytes answer
       → Once (λ earlier. WaitOn port config earlier bytes) history older) trace
   pub failures : ClosesAtOnce None trace

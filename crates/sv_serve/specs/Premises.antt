@@ -27,8 +27,9 @@ From IsSo step old new = (config : Config) (history : List PlainEvent) → Stand
 
 -- the event suits what the server answers
 abbrev pub IsSuited : {W : Type 0} → PlainEvent → Config → DriverView W → Type 0
-IsSuited event config at = (log : List Act) × (told : List ChannelAct) × IsLogOf config at.history log × HearsOf (device_acts log) told
-    × Suits event told log
+IsSuited event config at = (log : List Act) × (channel_log : List ChannelAct) × IsLogOf config at.history log
+    × HearsOf (device_acts log) channel_log
+    × Suits event channel_log log
 
 -- a peer is wanted for a call that waits
 abbrev pub IsAwaited : {W : Type 0} → ℕ → Config → DriverView W → Type 0

@@ -74,10 +74,10 @@ impl<A: Allocator> Server<A> {
 
     /// Writes the lines of all ports, and takes what they show.
     fn show_all<W: Write>(&mut self, writer: &mut W) -> Result<(), WriteFault>
-        ensures { (config : Config) (history : List PlainEvent) (told : List ChannelAct)
-            (log : List Act) → StandsBy self.old config history told log
+        ensures { (config : Config) (history : List PlainEvent) (channel_log : List ChannelAct)
+            (log : List Act) → StandsBy self.old config history channel_log log
             → (text : List ℕ) × Appends (W.contents writer.old) (W.contents writer.new) text
-            × ShowsAll config history told log result self.new text }
+            × ShowsAll config history channel_log log result self.new text }
     {
         for number in 0..32 {
             self.show(port_of(number), writer)?;
@@ -87,10 +87,10 @@ impl<A: Allocator> Server<A> {
 
     /// Writes the line of a port, and takes what it shows.
     fn show<W: Write>(&mut self, port: Port, writer: &mut W) -> Result<(), WriteFault>
-        ensures { (config : Config) (history : List PlainEvent) (told : List ChannelAct)
-            (log : List Act) → StandsBy self.old config history told log
+        ensures { (config : Config) (history : List PlainEvent) (channel_log : List ChannelAct)
+            (log : List Act) → StandsBy self.old config history channel_log log
             → (text : List ℕ) × Appends (W.contents writer.old) (W.contents writer.new) text
-            × ShowsPort port config history told log result self.new text }
+            × ShowsPort port config history channel_log log result self.new text }
     {
         let bytes = self.outgoing(port);
         let count = bytes.len() as u32;

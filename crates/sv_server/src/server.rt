@@ -103,9 +103,9 @@ impl<A: Allocator> Server<A> {
 
     /// The bytes that wait on a port.
     pub(crate) fn outgoing(&self, port: Port) -> &[u8]
-        ensures exact { (config : Config) (log : List Act) (told : List ChannelAct)
-            → Represents self.now config log → HearsOf (device_acts log) told
-            → result.now ≡ waiting_on told port log }
+        ensures exact { (config : Config) (log : List Act) (channel_log : List ChannelAct)
+            → Represents self.now config log → HearsOf (device_acts log) channel_log
+            → result.now ≡ waiting_on channel_log port log }
         ensures bounded { length result.now ≤ max_output }
     {
         match port {

@@ -165,24 +165,24 @@ shown_bit true word k fits =
     let without = without_six word k fits in
     let either = either_bit (bit_and word 191) 64 k in
     let six = six_alone k in (
-      (λ h. elim (either.0 h) [ inl other ↦ inl (without.0 other) | inr told ↦ inr (six.0 told, refl) ]),
-      (λ s. elim s [ inl other ↦ either.1 (inl (without.1 other)) | inr told ↦ either.1 (inr (six.1 told.0)) ]),
+      (λ h. elim (either.0 h) [ inl other ↦ inl (without.0 other) | inr status_log ↦ inr (six.0 status_log, refl) ]),
+      (λ s. elim s [ inl other ↦ either.1 (inl (without.1 other)) | inr status_log ↦ either.1 (inr (six.1 status_log.0)) ]),
     )
 shown_bit false word k fits =
     let without = without_six word k fits in (
       (λ h. inl (without.0 h)),
-      (λ s. elim s [ inl other ↦ without.1 other | inr told ↦ absurd (let one = told.1 in cc) ]),
+      (λ s. elim s [ inl other ↦ without.1 other | inr status_log ↦ absurd (let one = status_log.1 in cc) ]),
     )
 
 same_shown : (k word found : ℕ) (P Q : Type 0) → word ≡ found → P ↔ Q → ShowsBit k word P ↔ ShowsBit k found Q
 same_shown k word found P Q e same = (
   (λ s. elim s [
     | inl other ↦ inl (other.0, ap (λ (w : ℕ). bit_at w k) (sym e) ∙ other.1)
-    | inr told ↦ inr (told.0, same.0 told.1)
+    | inr status_log ↦ inr (status_log.0, same.0 status_log.1)
   ]),
   (λ s. elim s [
     | inl other ↦ inl (other.0, ap (λ (w : ℕ). bit_at w k) e ∙ other.1)
-    | inr told ↦ inr (told.0, same.1 told.1)
+    | inr status_log ↦ inr (status_log.0, same.1 status_log.1)
   ]),
 )
 

@@ -26,7 +26,7 @@ record SameTold (acts other : List DeviceAct) : Type 0 where
   back : Tells other acts
 
 told_none : (acts : List DeviceAct) → SameTold acts acts
-told_none acts = record { status = status_same (instrument_acts acts); tells = λ told h. h; back = λ told h. h }
+told_none acts = record { status = status_same (instrument_acts acts); tells = λ channel_log h. h; back = λ channel_log h. h }
 
 told_back : (acts other : List DeviceAct) → SameTold acts other → SameTold other acts
 told_back acts other v =
@@ -36,8 +36,8 @@ told_accepts : (bytes : List ℕ) (ended : Bool) (acts other : List DeviceAct) �
     → SameTold (accepts bytes ended ∷ acts) other
 told_accepts bytes ended acts other v = record {
   status = status_accepted bytes ended (instrument_acts acts) (instrument_acts other) v.status;
-  tells = λ told h. v.tells told (tells_accepted bytes ended acts told h);
-  back = λ told h. tells_also bytes ended acts told (v.back told h);
+  tells = λ channel_log h. v.tells channel_log (tells_accepted bytes ended acts channel_log h);
+  back = λ channel_log h. tells_also bytes ended acts channel_log (v.back channel_log h);
 }
 
 told_happened : (act : InstrumentAct) (acts other : List DeviceAct) → SameTold acts other

@@ -48,12 +48,12 @@ turned c config polled steps None request base log settled said next asks settle
 
 fed_event : (c : ℕ) (config : Config) (event : PlainEvent) (past : List PlainEvent) (log : List Act) → IsFeeding c event
     → (is_log : IsLogOf config (event ∷ past) log) → Turned c config is_log.0 log
-fed_event c config (Bytes d piece) past log same (base, polled, told, is_event, was, hears, free, said, settles) =
+fed_event c config (Bytes d piece) past log same (base, polled, channel_log, is_event, was, hears, free, said, settles) =
     let settled = log_settled config past base was in
     let is : log ≡ On d (Piece piece) ∷ base =
     stays settles.0 config (On d (Piece piece) ∷ base) log (still_settled d (Piece piece) config base settled) settles.1 in
     inl (behind_piece c piece base base log (is ∙ ap (λ (e : ℕ). On e (Piece piece) ∷ base) same) (behind_none c base base refl))
-fed_event c config (Turn d) past log same (base, polled, told, is_event, was, hears, free, said, settles) =
+fed_event c config (Turn d) past log same (base, polled, channel_log, is_event, was, hears, free, said, settles) =
     turned c config polled settles.0 (next_call (of c base)) (next_request (of c base)) base log (log_settled config past base was) said
     refl refl
     (subst (λ (e : ℕ). SettlesIn settles.0 config (own_acts config polled (Turn e) base ++ base) log) same settles.1)

@@ -41,7 +41,7 @@ piece_more c config piece pieces past before log fits is so = record {
 came_of : (c : ℕ) (config : Config) (pieces : List (List ℕ)) (past : List PlainEvent) (log : List Act)
     → IsLogOf config (map (Bytes c) pieces ++ past) log → CameOn c config pieces past log
 came_of c config [] past log is_log = record { base = log; was = is_log; fits = no_bytes; is = refl }
-came_of c config (piece ∷ pieces) past log (before, polled, told, is_event, was, hears, free, said, settles) =
+came_of c config (piece ∷ pieces) past log (before, polled, channel_log, is_event, was, hears, free, said, settles) =
     let settled = log_settled config (map (Bytes c) pieces ++ past) before was in
     piece_more c config piece pieces past before log (bytes_are piece is_event.1)
     (stays settles.0 config (On c (Piece piece) ∷ before) log (still_settled c (Piece piece) config before settled) settles.1)
@@ -75,22 +75,22 @@ logs_alike config (Pieces {past} {other} c pieces others base is_log same recut)
 
 -- ---- what they send
 
-sent_alike : (port : Port) (told : List ChannelAct) (log other : List Act) → Alike log other
-    → all_sent port told log ≡ all_sent port told other
-sent_alike (Conn c) told log other alike = (alike.each c).replies
-sent_alike (Intr c) told log other alike = refl
+sent_alike : (port : Port) (channel_log : List ChannelAct) (log other : List Act) → Alike log other
+    → all_sent port channel_log log ≡ all_sent port channel_log other
+sent_alike (Conn c) channel_log log other alike = (alike.each c).replies
+sent_alike (Intr c) channel_log log other alike = refl
 
 sends_alike : (config : Config) (history other : List PlainEvent) (log also : List Act) (port : Port) (bytes : List ℕ)
     → IsLogOf config history log → IsLogOf config other also → Alike log also → Sends port config history bytes
     → Sends port config other bytes
-sends_alike config history other log also port bytes x y alike (found, told, is_log, hears, sent) =
+sends_alike config history other log also port bytes x y alike (found, channel_log, is_log, hears, sent) =
     let same : found ≡ log = one_log config history found log is_log x in
-    let there = subst (λ (l : List Act). HearsOf (device_acts l) told) same hears in (
+    let there = subst (λ (l : List Act). HearsOf (device_acts l) channel_log) same hears in (
       also,
-      told,
+      channel_log,
       y,
-      subst (λ (l : List DeviceAct). HearsOf l told) alike.device there,
-      sent ∙ ap (λ (l : List Act). all_sent port told l) same ∙ sent_alike port told log also alike,
+      subst (λ (l : List DeviceAct). HearsOf l channel_log) alike.device there,
+      sent ∙ ap (λ (l : List Act). all_sent port channel_log l) same ∙ sent_alike port channel_log log also alike,
     )
 
 pub records_cut : RecordsCut

@@ -76,22 +76,22 @@ device_more (act ∷ adds) acts other v = device_act act (adds ++ acts) (adds ++
 
 -- What the one tells, the other does.
 abbrev pub Tells : List DeviceAct → List DeviceAct → Type 0
-Tells acts other = (told : List ChannelAct) → HearsOf acts told → HearsOf other told
+Tells acts other = (channel_log : List ChannelAct) → HearsOf acts channel_log → HearsOf other channel_log
 
 pub tells_happened : (act : InstrumentAct) (acts other : List DeviceAct) → SameStatus (instrument_acts acts) (instrument_acts other)
     → Tells acts other → Tells (Applied act ∷ acts) (Applied act ∷ other)
-tells_happened act acts other v tells told (before, raised, hears, so, is) =
+tells_happened act acts other v tells channel_log (before, raised, hears, so, is) =
     let same = raised_same act (instrument_acts acts) (instrument_acts other) v in
     (before, raised, tells before hears, ((λ e. same.0 (so.0 e)), (λ r. so.1 (same.1 r))), is)
 
 pub tells_act : (act : DeviceAct) (acts other : List DeviceAct) → SameDevice acts other → Tells acts other
     → Tells (act ∷ acts) (act ∷ other)
-tells_act (Linked act) acts other v tells told (before, hears, is) = (before, tells before hears, is)
-tells_act (Waited act) acts other v tells told hears = tells told hears
-tells_act (Channel act) acts other v tells told (before, hears, is) = (before, tells before hears, is)
-tells_act (Applied act) acts other v tells told hears =
-    tells_happened act acts other v.instrument.status tells told hears
-tells_act Ticked acts other v tells told hears = tells told hears
+tells_act (Linked act) acts other v tells channel_log (before, hears, is) = (before, tells before hears, is)
+tells_act (Waited act) acts other v tells channel_log hears = tells channel_log hears
+tells_act (Channel act) acts other v tells channel_log (before, hears, is) = (before, tells before hears, is)
+tells_act (Applied act) acts other v tells channel_log hears =
+    tells_happened act acts other v.instrument.status tells channel_log hears
+tells_act Ticked acts other v tells channel_log hears = tells channel_log hears
 
 -- what is accepted tells nothing
 abbrev pub accepts : List ℕ → Bool → DeviceAct
@@ -102,14 +102,14 @@ raised_not true P none so = absurd (none (so.0 refl))
 raised_not false P none so = refl
 
 pub tells_accepted : (bytes : List ℕ) (ended : Bool) (acts : List DeviceAct) → Tells (accepts bytes ended ∷ acts) acts
-tells_accepted bytes ended acts told (before, raised, hears, so, is) =
+tells_accepted bytes ended acts channel_log (before, raised, hears, so, is) =
     let quiet = raised_not raised (IsRaised (Exchanged (Accepted bytes ended) ∷ instrument_acts acts))
     (never_raised bytes ended (instrument_acts acts)) so in
     subst (λ (l : List ChannelAct). HearsOf acts l) (sym (is ∙ ap (λ (b : Bool). request_told b before) quiet)) hears
 
 pub tells_also : (bytes : List ℕ) (ended : Bool) (acts : List DeviceAct) → Tells acts (accepts bytes ended ∷ acts)
-tells_also bytes ended acts told hears = (
-  told,
+tells_also bytes ended acts channel_log hears = (
+  channel_log,
   false,
   hears,
   ((λ e. absurd (let z : false ≡ true = e in cc)), (λ r. absurd (never_raised bytes ended (instrument_acts acts) r))),

@@ -171,7 +171,7 @@ own_alike config polled Tick log other is alike = tick_alike log other alike
 pub event_alike : (config : Config) (event : PlainEvent) (past others : List PlainEvent) (log also : List Act)
     → ((a b : List Act) → IsLogOf config past a → IsLogOf config others b → Alike a b)
     → IsLogOf config (event ∷ past) log → IsLogOf config (event ∷ others) also → Alike log also
-event_alike config event past others log also again (a, polled, told, is_event, was, hears, free, said, settles)
+event_alike config event past others log also again (a, polled, channel_log, is_event, was, hears, free, said, settles)
     (b, byte, heard, is_also, is_prior, hearing, none, tells, ends) =
     let alike = again a b was is_prior in
     let there = subst (λ (l : List DeviceAct). IsPolled polled l) alike.device said in

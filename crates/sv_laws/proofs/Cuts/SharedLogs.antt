@@ -86,7 +86,7 @@ pub events_same : (config : Config) (first second : ℕ → List ℕ) (one two e
     → IsLogOf config (events ++ one) log → IsLogOf config (events ++ two) also → SameLogs first second log also
 events_same config first second one two [] base log also x y = base log also x y
 events_same config first second one two (event ∷ events) base log also
-    (a, polled, told, is_event, was, hears, free, said, settles) (b, byte, heard, is_also, is_prior, hearing, none, tells, ends) =
+    (a, polled, channel_log, is_event, was, hears, free, said, settles) (b, byte, heard, is_also, is_prior, hearing, none, tells, ends) =
     let v = events_same config first second one two events base a b was is_prior in
     let there = polled_alike polled (device_acts a) (device_acts b) v.device said in
     let word : byte ≡ polled = one_word (λ k. PolledBit k (instrument_acts (device_acts b))) byte polled tells there in

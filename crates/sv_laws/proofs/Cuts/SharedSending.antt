@@ -37,10 +37,11 @@ logs_back first second log other v = record {
 }
 
 -- a history, its log, and what that tells
-hears_in : (config : Config) (history : List PlainEvent) (found log : List Act) (told : List ChannelAct) → IsLogOf config history found
-    → IsLogOf config history log → HearsOf (device_acts found) told → HearsOf (device_acts log) told
-hears_in config history found log told x y hears =
-    subst (λ (l : List Act). HearsOf (device_acts l) told) (one_log config history found log x y) hears
+hears_in : (config : Config) (history : List PlainEvent) (found log : List Act) (channel_log : List ChannelAct)
+    → IsLogOf config history found
+    → IsLogOf config history log → HearsOf (device_acts found) channel_log → HearsOf (device_acts log) channel_log
+hears_in config history found log channel_log x y hears =
+    subst (λ (l : List Act). HearsOf (device_acts l) channel_log) (one_log config history found log x y) hears
 
 -- The two histories, with their logs, and what their connections sent so far.
 pub record Begun (config : Config) (first second : ℕ → List ℕ) (one two : List PlainEvent) : Type 0 where
@@ -76,7 +77,7 @@ adds_to : (port : Port) (config : Config) (first second : ℕ → List ℕ) (one
     (bytes : List ℕ) → Begun config first second one two → IsLogOf config (events ++ one) log → IsLogOf config (events ++ two) also
     → Adds port config one events bytes → Adds port config two events bytes
 adds_to (Conn d) config first second one two events log also bytes h x y
-    (before, (found, told, is_found, hears, so), (later, heard, is_later, hearing, then_so)) =
+    (before, (found, channel_log, is_found, hears, so), (later, heard, is_later, hearing, then_so)) =
     let v = behind_same config first second one two events log also h x y in
     let here : before ≡ first d =
     so ∙ ap (λ (l : List Act). all_replies (of d l)) (one_log config one found h.a is_found h.was) ∙ h.one_sent d in
@@ -85,7 +86,8 @@ adds_to (Conn d) config first second one two events log also bytes h x y
     let same : bytes ≡ (v.each d).sent =
     append_cancel_left (first d) bytes (v.each d).sent (ap (λ (l : List ℕ). l ++ bytes) (sym here) ∙ all) in (
       second d,
-      (h.b, told, h.also, h.same.tells told (hears_in config one found h.a told is_found h.was hears), sym (h.two_sent d)),
+      (h.b, channel_log, h.also, h.same.tells channel_log (hears_in config one found h.a channel_log is_found h.was hears), sym
+          (h.two_sent d)),
       (
         also,
         heard,
@@ -95,10 +97,10 @@ adds_to (Conn d) config first second one two events log also bytes h x y
       ),
     )
 adds_to (Intr d) config first second one two events log also bytes h x y
-    (before, (found, told, is_found, hears, so), (later, heard, is_later, hearing, then_so)) =
+    (before, (found, channel_log, is_found, hears, so), (later, heard, is_later, hearing, then_so)) =
     let v = behind_same config first second one two events log also h x y in (
       before,
-      (h.b, told, h.also, h.same.tells told (hears_in config one found h.a told is_found h.was hears), so),
+      (h.b, channel_log, h.also, h.same.tells channel_log (hears_in config one found h.a channel_log is_found h.was hears), so),
       (also, heard, y, v.tells heard (hears_in config (events ++ one) later log heard is_later x hearing), then_so),
     )
 

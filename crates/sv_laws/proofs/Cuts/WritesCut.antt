@@ -135,25 +135,25 @@ ahead_same acts others same = subst (λ (l : List ConnAct). SameAhead (all_repli
   two = sym (append-nil (all_replies acts));
 })
 
-sent_beside : (c : ℕ) (port : Port) (log other : List Act) → port ≢ Conn c → Beside c log other → (told : List ChannelAct)
-    → all_sent port told log ≡ all_sent port told other
-sent_beside c (Conn d) log other ne v told = ap all_replies (v.others d (λ e. ne (ap Conn e)))
-sent_beside c (Intr d) log other ne v told = refl
+sent_beside : (c : ℕ) (port : Port) (log other : List Act) → port ≢ Conn c → Beside c log other → (channel_log : List ChannelAct)
+    → all_sent port channel_log log ≡ all_sent port channel_log other
+sent_beside c (Conn d) log other ne v channel_log = ap all_replies (v.others d (λ e. ne (ap Conn e)))
+sent_beside c (Intr d) log other ne v channel_log = refl
 
 adds_other : (port : Port) (config : Config) (past one two : List PlainEvent) (log other : List Act) (bytes : List ℕ)
     → IsLogOf config (one ++ past) log → IsLogOf config (two ++ past) other → Tells (device_acts log) (device_acts other)
-    → ((told : List ChannelAct) → all_sent port told log ≡ all_sent port told other) → Adds port config past one bytes
+    → ((channel_log : List ChannelAct) → all_sent port channel_log log ≡ all_sent port channel_log other) → Adds port config past one bytes
     → Adds port config past two bytes
-adds_other port config past one two log other bytes was also tells same (before, sends, (found, told, is_log, hears, so)) =
+adds_other port config past one two log other bytes was also tells same (before, sends, (found, channel_log, is_log, hears, so)) =
     let here : found ≡ log = one_log config (one ++ past) found log is_log was in (
       before,
       sends,
       (
         other,
-        told,
+        channel_log,
         also,
-        tells told (subst (λ (l : List Act). HearsOf (device_acts l) told) here hears),
-        so ∙ ap (λ (l : List Act). all_sent port told l) here ∙ same told,
+        tells channel_log (subst (λ (l : List Act). HearsOf (device_acts l) channel_log) here hears),
+        so ∙ ap (λ (l : List Act). all_sent port channel_log l) here ∙ same channel_log,
       ),
     )
 
@@ -276,7 +276,7 @@ module _ (c lid : ℕ) (x y : List ℕ) (ended : Bool) (config : Config) (past o
     adds_other port config past one two h.whole h.cut bytes h.one_feeds.is_log h.two_feeds.is_log beside.shared.tells
         (sent_beside c port h.whole h.cut ne beside),
     adds_other port config past two one h.cut h.whole bytes h.two_feeds.is_log h.one_feeds.is_log beside.shared.back
-        (λ told. sym (sent_beside c port h.whole h.cut ne beside told)),
+        (λ channel_log. sym (sent_beside c port h.whole h.cut ne beside channel_log)),
   )
 
 pub writes_cut : WritesCut

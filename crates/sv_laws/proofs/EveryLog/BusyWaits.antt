@@ -92,8 +92,8 @@ own_told config polled c (CreateIntrChan host_addr host_port prog_num prog_vers 
 
 replies_free : (xid : ℕ) (result : Option Outcome) (acts : List ConnAct) → is_some result ≡ true
     → unanswered (replies xid result ++ acts) ≡ None
-replies_free xid (Some result) acts told = refl
-replies_free xid None acts told = absurd cc
+replies_free xid (Some result) acts channel_log = refl
+replies_free xid None acts channel_log = absurd cc
 
 -- ---- acts of one connection, and of what all share
 
@@ -132,13 +132,13 @@ all_happened adds log all = all_shared (map Applied adds) log all (wait_acts-hap
 all_left : (c xid : ℕ) (outcome : CallOutcome) (log : List Act) → AllWait log → is_some outcome.result ≡ true
     → wait_acts (outcome.adds ++ Waited (Left c) ∷ device_acts log) ≡ Left c ∷ wait_acts (device_acts log)
     → AllWait (acts_of c (call_effect xid (leaving c outcome)) ++ log)
-all_left c xid outcome log all told left =
+all_left c xid outcome log all channel_log left =
     let acts = device_acts log in
     let moved : wait_acts ((outcome.adds ++ Waited (Left c) ∷ []) ++ acts) ≡ Left c ∷ wait_acts acts =
     ap wait_acts (append_assoc outcome.adds (Waited (Left c) ∷ []) acts) ∙ left in
     all_effect c (call_effect xid (leaving c outcome)) log (λ d ne. all d)
     (λ d ne. ap (waits d) moved ∙ wait_other c d (Left c) (wait_acts acts) refl ne)
-    (λ none. replies_free xid outcome.result (of c log) told)
+    (λ none. replies_free xid outcome.result (of c log) channel_log)
 
 -- one that isn't of the core channel doesn't wait
 all_ended : (c : ℕ) (does : Arguments → CallOutcome) (log : List Act) → Fit log → AllWait log
@@ -285,25 +285,26 @@ all_close c log all d none =
           ∙ all d (sym (ap (waits d) calls ∙ wait_other c d (Left c) (wait_acts acts) refl ne) ∙ none)
     ]
 
-all_event : (config : Config) (event : PlainEvent) (polled : ℕ) (told : List ChannelAct) (log : List Act)
-    → refusal config told event log ≡ None → Fit log → AllWait log → AllWait (own_acts config polled event log ++ log)
-all_event config (Open c role) polled told log free fit all =
+all_event : (config : Config) (event : PlainEvent) (polled : ℕ) (channel_log : List ChannelAct) (log : List Act)
+    → refusal config channel_log event log ≡ None → Fit log → AllWait log → AllWait (own_acts config polled event log ++ log)
+all_event config (Open c role) polled channel_log log free fit all =
     all_effect c (record { own = Opened role ∷ []; adds = [] }) log (λ d ne. all d) (λ d ne. refl) (λ none. refl)
-all_event config (Bytes c piece) polled told log free fit all =
+all_event config (Bytes c piece) polled channel_log log free fit all =
     all_effect c (record { own = Piece piece ∷ []; adds = [] }) log (λ d ne. all d) (λ d ne. refl) (all c)
-all_event config (Turn c) polled told log free fit all =
+all_event config (Turn c) polled channel_log log free fit all =
     all_turn config polled c (next_call (of c log)) (next_request (of c log)) log fit all (within c log _ free) refl refl
-all_event config (Refuse c) polled told log free fit all = all_refuse c (next_call (of c log)) (refusable (of c log)) log all
-all_event config (Took (Conn c) count) polled told log free fit all =
+all_event config (Refuse c) polled channel_log log free fit all = all_refuse c (next_call (of c log)) (refusable (of c log)) log all
+all_event config (Took (Conn c) count) polled channel_log log free fit all =
     all_effect c (record { own = BytesTaken count ∷ []; adds = [] }) log (λ d ne. all d) (λ d ne. refl) (all c)
-all_event config (Took (Intr c) count) polled told log free fit all = all_shared (Channel (ChannelTaken c count) ∷ []) log all refl
-all_event config (Close (Conn c)) polled told log free fit all =
+all_event config (Took (Intr c) count) polled channel_log log free fit all = all_shared (Channel (ChannelTaken c count) ∷ []) log all refl
+all_event config (Close (Conn c)) polled channel_log log free fit all =
     subst AllWait (sym (append_assoc (map OnDevice (close_adds c (device_acts log))) (On c PortClosed ∷ []) log)) (all_close c log all)
-all_event config (Close (Intr c)) polled told log free fit all = all_shared (Channel (ChannelClosed c) ∷ []) log all refl
-all_event config (Dialed c ok) polled told log free fit all = all_dialed c ok log fit all
-all_event config (Input channel microvolts) polled told log free fit all = all_happened (Scanned (InputTo channel microvolts) ∷ []) log all
-all_event config External polled told log free fit all = all_happened (external_acts (instrument_acts (device_acts log))) log all
-all_event config Tick polled told log free fit all =
+all_event config (Close (Intr c)) polled channel_log log free fit all = all_shared (Channel (ChannelClosed c) ∷ []) log all refl
+all_event config (Dialed c ok) polled channel_log log free fit all = all_dialed c ok log fit all
+all_event config (Input channel microvolts) polled channel_log log free fit all = all_happened
+    (Scanned (InputTo channel microvolts) ∷ []) log all
+all_event config External polled channel_log log free fit all = all_happened (external_acts (instrument_acts (device_acts log))) log all
+all_event config Tick polled channel_log log free fit all =
     let adds = tick_acts (instrument_acts (device_acts log)) in
     subst AllWait (sym (append_assoc (map OnDevice (map Applied adds)) (OnDevice Ticked ∷ []) log))
     (all_happened adds (OnDevice Ticked ∷ log) (all_shared (Ticked ∷ []) log all refl))
@@ -313,8 +314,8 @@ pub busy_waits : (config : Config) (history : List PlainEvent) (log : List Act) 
     → waits c (wait_acts (device_acts log)) ≡ None → unanswered (of c log) ≡ None
 busy_waits config history log was =
     (each_log config (λ now. Fit now × AllWait now) (fit_none, (λ c none. refl))
-    (λ event polled told now is free so. (
-      fit_event config event polled told now free so.0,
-      all_event config event polled told now free so.0 so.1,
+    (λ event polled channel_log now is free so. (
+      fit_event config event polled channel_log now free so.0,
+      all_event config event polled channel_log now free so.0 so.1,
     ))
     (λ now new so next. (fit_step config now new so.0 next, all_step config now new so.0 so.1 next)) history log was).1

@@ -263,29 +263,29 @@ open_by false false other e = absurd cc
 pub open_unless : (c : ℕ) (log : List Act) (other : Option Refused) → unless_shut c log other ≡ None → is_open (of c log) ≡ true
 open_unless c log other e = open_by (nat_lt 15 c) (is_open (of c log)) other e
 
-all_event : (config : Config) (event : PlainEvent) (polled : ℕ) (told : List ChannelAct) (log : List Act) → IsEvent event
-    → refusal config told event log ≡ None → Everywhere log → Everywhere (own_acts config polled event log ++ log)
-all_event config (Open c role) polled told log is free all = all_on c (Opened role) log all tt
-all_event config (Bytes c piece) polled told log is free all =
+all_event : (config : Config) (event : PlainEvent) (polled : ℕ) (channel_log : List ChannelAct) (log : List Act) → IsEvent event
+    → refusal config channel_log event log ≡ None → Everywhere log → Everywhere (own_acts config polled event log ++ log)
+all_event config (Open c role) polled channel_log log is free all = all_on c (Opened role) log all tt
+all_event config (Bytes c piece) polled channel_log log is free all =
     all_on c (Piece piece) log all (open_unless c log _ free, bytes_are piece is.1)
-all_event config (Turn c) polled told log is free all =
+all_event config (Turn c) polled channel_log log is free all =
     all_turn config polled c (next_call (of c log)) (next_request (of c log)) log all (open_unless c log _ free) refl refl
-all_event config (Refuse c) polled told log is free all =
+all_event config (Refuse c) polled channel_log log is free all =
     all_refuse c (next_call (of c log)) (refusable (of c log)) log all (open_unless c log _ free) refl refl
-all_event config (Took (Conn c) count) polled told log is free all = all_on c (BytesTaken count) log all (open_unless c log _ free)
-all_event config (Took (Intr c) count) polled told log is free all = all_shared (Channel (ChannelTaken c count) ∷ []) log all
-all_event config (Close (Conn c)) polled told log is free all =
+all_event config (Took (Conn c) count) polled channel_log log is free all = all_on c (BytesTaken count) log all (open_unless c log _ free)
+all_event config (Took (Intr c) count) polled channel_log log is free all = all_shared (Channel (ChannelTaken c count) ∷ []) log all
+all_event config (Close (Conn c)) polled channel_log log is free all =
     let adds = Channel (ChannelClosed c) ∷ (map Linked (closing c (link_acts (device_acts log))) ++ Waited (Left c) ∷ []) in
     subst Everywhere (sym (append_assoc (map OnDevice adds) (On c PortClosed ∷ []) log))
     (all_shared adds (On c PortClosed ∷ log) (all_on c PortClosed log all tt))
-all_event config (Close (Intr c)) polled told log is free all = all_shared (Channel (ChannelClosed c) ∷ []) log all
-all_event config (Dialed c ok) polled told log is free all =
+all_event config (Close (Intr c)) polled channel_log log is free all = all_shared (Channel (ChannelClosed c) ∷ []) log all
+all_event config (Dialed c ok) polled channel_log log is free all =
     all_ended c (λ arguments. leaving c (dialed c ok arguments)) (core_call_in (unanswered (of c log))) log refl all
-all_event config (Input channel microvolts) polled told log is free all =
+all_event config (Input channel microvolts) polled channel_log log is free all =
     all_shared (Applied (Scanned (InputTo channel microvolts)) ∷ []) log all
-all_event config External polled told log is free all =
+all_event config External polled channel_log log is free all =
     all_shared (map Applied (external_acts (instrument_acts (device_acts log)))) log all
-all_event config Tick polled told log is free all =
+all_event config Tick polled channel_log log is free all =
     let adds = map Applied (tick_acts (instrument_acts (device_acts log))) in
     subst Everywhere (sym (append_assoc (map OnDevice adds) (OnDevice Ticked ∷ []) log))
     (all_shared adds (OnDevice Ticked ∷ log) (all_shared (Ticked ∷ []) log all))

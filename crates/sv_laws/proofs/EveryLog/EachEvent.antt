@@ -52,14 +52,15 @@ each_settled config IsSo step (suc n) log new so (middle, next, more) =
     each_settled config IsSo step n middle new (step log middle so next) more
 
 pub each_log : (config : Config) (IsSo : List Act → Type 0) → IsSo []
-    → ((event : PlainEvent) (polled : ℕ) (told : List ChannelAct) (log : List Act) → IsEvent event → refusal config told event log ≡ None
+    → ((event : PlainEvent) (polled : ℕ) (channel_log : List ChannelAct) (log : List Act) → IsEvent event
+    → refusal config channel_log event log ≡ None
     → IsSo log → IsSo (own_acts config polled event log ++ log))
     → ((log new : List Act) → IsSo log → IsNext config log new → IsSo new)
     → (history : List PlainEvent) (log : List Act) → IsLogOf config history log → IsSo log
 each_log config IsSo empty acts step [] log (given, none) = subst IsSo (sym none) empty
-each_log config IsSo empty acts step (event ∷ history) log (before, polled, told, is_event, was, hears, free, said, settles) =
+each_log config IsSo empty acts step (event ∷ history) log (before, polled, channel_log, is_event, was, hears, free, said, settles) =
     each_settled config IsSo step settles.0 (own_acts config polled event before ++ before) log
-    (acts event polled told before is_event free (each_log config IsSo empty acts step history before was)) settles.1
+    (acts event polled channel_log before is_event free (each_log config IsSo empty acts step history before was)) settles.1
 
 -- ---- a call that is done, or waits no more
 
@@ -381,25 +382,25 @@ fit_close c log fit =
       ]);
     }
 
-pub fit_event : (config : Config) (event : PlainEvent) (polled : ℕ) (told : List ChannelAct) (log : List Act)
-    → refusal config told event log ≡ None → Fit log → Fit (own_acts config polled event log ++ log)
-fit_event config (Open c role) polled told log free fit =
+pub fit_event : (config : Config) (event : PlainEvent) (polled : ℕ) (channel_log : List ChannelAct) (log : List Act)
+    → refusal config channel_log event log ≡ None → Fit log → Fit (own_acts config polled event log ++ log)
+fit_event config (Open c role) polled channel_log log free fit =
     fit_open c role log fit (shut_before (nat_lt 15 c) (open_role (of c log)) free)
-fit_event config (Bytes c piece) polled told log free fit = fit_on c (Piece piece) log fit refl (fit.held c)
-fit_event config (Turn c) polled told log free fit =
+fit_event config (Bytes c piece) polled channel_log log free fit = fit_on c (Piece piece) log fit refl (fit.held c)
+fit_event config (Turn c) polled channel_log log free fit =
     fit_turn config polled c (next_call (of c log)) (next_request (of c log)) log fit (within c log _ free) refl refl
-fit_event config (Refuse c) polled told log free fit = fit_refuse c (next_call (of c log)) (refusable (of c log)) log fit refl
-fit_event config (Took (Conn c) count) polled told log free fit = fit_on c (BytesTaken count) log fit refl (fit.held c)
-fit_event config (Took (Intr c) count) polled told log free fit =
+fit_event config (Refuse c) polled channel_log log free fit = fit_refuse c (next_call (of c log)) (refusable (of c log)) log fit refl
+fit_event config (Took (Conn c) count) polled channel_log log free fit = fit_on c (BytesTaken count) log fit refl (fit.held c)
+fit_event config (Took (Intr c) count) polled channel_log log free fit =
     fit_shared (Channel (ChannelTaken c count) ∷ []) log fit (tt, fit.suits) refl refl
-fit_event config (Close (Conn c)) polled told log free fit =
+fit_event config (Close (Conn c)) polled channel_log log free fit =
     subst Fit (sym (append_assoc (map OnDevice (close_adds c (device_acts log))) (On c PortClosed ∷ []) log)) (fit_close c log fit)
-fit_event config (Close (Intr c)) polled told log free fit =
+fit_event config (Close (Intr c)) polled channel_log log free fit =
     fit_shared (Channel (ChannelClosed c) ∷ []) log fit (tt, fit.suits) refl refl
-fit_event config (Dialed c ok) polled told log free fit = fit_connected c ok (core_call_in (unanswered (of c log))) log fit
-fit_event config (Input channel microvolts) polled told log free fit = fit_happened (_ ∷ []) log fit
-fit_event config External polled told log free fit = fit_happened (external_acts (instrument_acts (device_acts log))) log fit
-fit_event config Tick polled told log free fit =
+fit_event config (Dialed c ok) polled channel_log log free fit = fit_connected c ok (core_call_in (unanswered (of c log))) log fit
+fit_event config (Input channel microvolts) polled channel_log log free fit = fit_happened (_ ∷ []) log fit
+fit_event config External polled channel_log log free fit = fit_happened (external_acts (instrument_acts (device_acts log))) log fit
+fit_event config Tick polled channel_log log free fit =
     subst Fit (sym (append_assoc (map OnDevice (map Applied (tick_acts (instrument_acts (device_acts log))))) (OnDevice Ticked ∷ []) log))
     (fit_happened (tick_acts (instrument_acts (device_acts log))) (OnDevice Ticked ∷ log)
     (fit_shared (Ticked ∷ []) log fit (tt, fit.suits) refl refl))
@@ -414,4 +415,5 @@ fit_none = record {
 -- in every log of a history
 pub fit_log : (config : Config) (history : List PlainEvent) (log : List Act) → IsLogOf config history log → Fit log
 fit_log config =
-    each_log config Fit fit_none (λ event polled told log is free. fit_event config event polled told log free) (fit_step config)
+    each_log config Fit fit_none (λ event polled channel_log log is free. fit_event config event polled channel_log log free)
+        (fit_step config)

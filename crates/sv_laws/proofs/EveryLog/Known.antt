@@ -115,7 +115,7 @@ waits_within (Ticked ∷ acts) all d wait h = waits_within acts all.1 d wait h
 
 -- Those of these lists are owned.
 abbrev AskOwned : List DeviceAct → List ChannelAct → Type 0
-AskOwned acts told = (lid : ℕ) (one : Enabled) → srq_enabled lid told ≡ Some one → owner lid (link_acts acts) ≡ Some one.conn
+AskOwned acts channel_log = (lid : ℕ) (one : Enabled) → srq_enabled lid channel_log ≡ Some one → owner lid (link_acts acts) ≡ Some one.conn
 
 some_enabled : (a b : Enabled) → Some a ≡ Some b → a ≡ b
 some_enabled a b e = cc
@@ -138,40 +138,40 @@ disabled_owned acts before other owned lid one h = elim (cases_eq other lid) [
   | inr ne ↦ owned lid one ne (rw (ne_eqb other lid ne) at h)
 ]
 
-pub asks_own : (acts : List DeviceAct) (told : List ChannelAct) → AllSuit acts → HearsOf acts told → AskOwned acts told
-asks_own [] told all hears = λ lid one h. absurd (let z : None ≡ Some one = rw hears at h in cc)
-asks_own (Channel (SrqEnabled other conn handle) ∷ acts) told all (before, hears, is) = subst (AskOwned acts) (sym is)
+pub asks_own : (acts : List DeviceAct) (channel_log : List ChannelAct) → AllSuit acts → HearsOf acts channel_log → AskOwned acts channel_log
+asks_own [] channel_log all hears = λ lid one h. absurd (let z : None ≡ Some one = rw hears at h in cc)
+asks_own (Channel (SrqEnabled other conn handle) ∷ acts) channel_log all (before, hears, is) = subst (AskOwned acts) (sym is)
     (enabled_owned acts before other conn handle all.0 (asks_own acts before all.1 hears))
-asks_own (Channel (SrqDisabled other) ∷ acts) told all (before, hears, is) = subst (AskOwned acts) (sym is)
+asks_own (Channel (SrqDisabled other) ∷ acts) channel_log all (before, hears, is) = subst (AskOwned acts) (sym is)
     (disabled_owned acts before other (λ lid one ne h. asks_own acts before all.1 hears lid one h))
-asks_own (Channel (ChannelOpened conn what) ∷ acts) told all (before, hears, is) =
+asks_own (Channel (ChannelOpened conn what) ∷ acts) channel_log all (before, hears, is) =
     subst (AskOwned acts) (sym is) (asks_own acts before all.1 hears)
-asks_own (Channel (ChannelClosed conn) ∷ acts) told all (before, hears, is) =
+asks_own (Channel (ChannelClosed conn) ∷ acts) channel_log all (before, hears, is) =
     subst (AskOwned acts) (sym is) (asks_own acts before all.1 hears)
-asks_own (Channel Requested ∷ acts) told all (before, hears, is) = subst (AskOwned acts) (sym is) (asks_own acts before all.1 hears)
-asks_own (Channel (ChannelTaken conn count) ∷ acts) told all (before, hears, is) =
+asks_own (Channel Requested ∷ acts) channel_log all (before, hears, is) = subst (AskOwned acts) (sym is) (asks_own acts before all.1 hears)
+asks_own (Channel (ChannelTaken conn count) ∷ acts) channel_log all (before, hears, is) =
     subst (AskOwned acts) (sym is) (asks_own acts before all.1 hears)
-asks_own (Linked (Made lid conn) ∷ acts) told all (before, hears, is) = subst (AskOwned (Linked (Made lid conn) ∷ acts)) (sym is)
+asks_own (Linked (Made lid conn) ∷ acts) channel_log all (before, hears, is) = subst (AskOwned (Linked (Made lid conn) ∷ acts)) (sym is)
     (λ n one h. owner_made n one.conn lid conn (link_acts acts) (asks_own acts before all.1 hears n one h))
-asks_own (Linked (Destroyed lid) ∷ acts) told all (before, hears, is) = subst (AskOwned (Linked (Destroyed lid) ∷ acts)) (sym is)
+asks_own (Linked (Destroyed lid) ∷ acts) channel_log all (before, hears, is) = subst (AskOwned (Linked (Destroyed lid) ∷ acts)) (sym is)
     (disabled_owned (Linked (Destroyed lid) ∷ acts) before lid
     (λ n one ne h. owner_destroyed_other n lid (link_acts acts) ne ∙ asks_own acts before all.1 hears n one h))
-asks_own (Linked (Locked lid) ∷ acts) told all (before, hears, is) =
+asks_own (Linked (Locked lid) ∷ acts) channel_log all (before, hears, is) =
     subst (AskOwned acts) (sym is) (asks_own acts before all.1 hears)
-asks_own (Linked (Unlocked lid) ∷ acts) told all (before, hears, is) =
+asks_own (Linked (Unlocked lid) ∷ acts) channel_log all (before, hears, is) =
     subst (AskOwned acts) (sym is) (asks_own acts before all.1 hears)
-asks_own (Applied act ∷ acts) told all (before, true, hears, so, is) =
+asks_own (Applied act ∷ acts) channel_log all (before, true, hears, so, is) =
     subst (AskOwned acts) (sym is) (asks_own acts before all.1 hears)
-asks_own (Applied act ∷ acts) told all (before, false, hears, so, is) =
+asks_own (Applied act ∷ acts) channel_log all (before, false, hears, so, is) =
     subst (AskOwned acts) (sym is) (asks_own acts before all.1 hears)
-asks_own (Waited act ∷ acts) told all hears = asks_own acts told all.1 hears
-asks_own (Ticked ∷ acts) told all hears = asks_own acts told all.1 hears
+asks_own (Waited act ∷ acts) channel_log all hears = asks_own acts channel_log all.1 hears
+asks_own (Ticked ∷ acts) channel_log all hears = asks_own acts channel_log all.1 hears
 
 -- so one of a number that isn't a connection's is of another
-pub asks_elsewhere : (c lid : ℕ) (acts : List DeviceAct) (told : List ChannelAct) → AllSuit acts → HearsOf acts told
-    → is_of c (owner lid (link_acts acts)) ≡ false → AsksElsewhere c lid told
-asks_elsewhere c lid acts told all hears none one h same =
-    let owns : owner lid (link_acts acts) ≡ Some c = asks_own acts told all hears lid one h ∙ ap (λ (n : ℕ). Some n) same in
+pub asks_elsewhere : (c lid : ℕ) (acts : List DeviceAct) (channel_log : List ChannelAct) → AllSuit acts → HearsOf acts channel_log
+    → is_of c (owner lid (link_acts acts)) ≡ false → AsksElsewhere c lid channel_log
+asks_elsewhere c lid acts channel_log all hears none one h same =
+    let owns : owner lid (link_acts acts) ≡ Some c = asks_own acts channel_log all hears lid one h ∙ ap (λ (n : ℕ). Some n) same in
     let z : true ≡ false = sym (is_of_owner c lid (link_acts acts) owns) ∙ none in cc
 
 -- ---- under a lock no call of another connection can resume

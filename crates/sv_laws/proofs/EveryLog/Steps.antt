@@ -41,7 +41,7 @@ none_due config new (inr (none, inr (still, inr (idle, gives)))) = absurd (let z
 
 pub log_settled : (config : Config) (history : List PlainEvent) (log : List Act) → IsLogOf config history log → IsSettled config log
 log_settled config [] log (given, none) = subst (λ (end : List Act). IsSettled config end) (sym none) (none_due config)
-log_settled config (event ∷ history) log (before, polled, told, is_event, was, hears, free, said, settles) =
+log_settled config (event ∷ history) log (before, polled, channel_log, is_event, was, hears, free, said, settles) =
     nothing_due settles.0 config _ log settles.1
 
 -- so from there nothing is reached

@@ -231,33 +231,34 @@ view_same c lid Ticked acts other h now view = record {
 
 -- What the one log tells is the same for this connection's channel as what the other tells.
 abbrev pub TellsAs : ℕ → List DeviceAct → List DeviceAct → Type 0
-TellsAs c acts other = (told : List ChannelAct) → HearsOf acts told
-    → (also : List ChannelAct) × HearsOf other also × SameChannel c told also
+TellsAs c acts other = (channel_log : List ChannelAct) → HearsOf acts channel_log
+    → (also : List ChannelAct) × HearsOf other also × SameChannel c channel_log also
 
-foreign_told : (c : ℕ) (acts : List DeviceAct) (told : List ChannelAct) (act : ChannelAct) → AllSuit acts → HearsOf acts told
-    → IsForeign c acts (Channel act) → IsForeignChannel c act told
-foreign_told c acts told (SrqEnabled lid conn handle) all hears h = (h.0, asks_elsewhere c lid acts told all hears h.1)
-foreign_told c acts told (SrqDisabled lid) all hears h = asks_elsewhere c lid acts told all hears h
-foreign_told c acts told (ChannelOpened conn what) all hears h = h
-foreign_told c acts told (ChannelClosed conn) all hears h = h
-foreign_told c acts told Requested all hears h = absurd h
-foreign_told c acts told (ChannelTaken conn count) all hears h = h
+foreign_told : (c : ℕ) (acts : List DeviceAct) (channel_log : List ChannelAct) (act : ChannelAct) → AllSuit acts → HearsOf acts channel_log
+    → IsForeign c acts (Channel act) → IsForeignChannel c act channel_log
+foreign_told c acts channel_log (SrqEnabled lid conn handle) all hears h = (h.0, asks_elsewhere c lid acts channel_log all hears h.1)
+foreign_told c acts channel_log (SrqDisabled lid) all hears h = asks_elsewhere c lid acts channel_log all hears h
+foreign_told c acts channel_log (ChannelOpened conn what) all hears h = h
+foreign_told c acts channel_log (ChannelClosed conn) all hears h = h
+foreign_told c acts channel_log Requested all hears h = absurd h
+foreign_told c acts channel_log (ChannelTaken conn count) all hears h = h
 
-foreign_link : (c : ℕ) (acts : List DeviceAct) (told also : List ChannelAct) (act : LinkAct) → AllSuit acts → HearsOf acts told
-    → IsForeignLink c act (link_acts acts) → SameChannel c told also → SameChannel c (link_told act told) also
-foreign_link c acts told also (Made lid conn) all hears h same = same
-foreign_link c acts told also (Destroyed lid) all hears h same =
-    channel_foreign c (SrqDisabled lid) told also (asks_elsewhere c lid acts told all hears h) same
-foreign_link c acts told also (Locked lid) all hears h same = same
-foreign_link c acts told also (Unlocked lid) all hears h same = same
+foreign_link : (c : ℕ) (acts : List DeviceAct) (channel_log also : List ChannelAct) (act : LinkAct) → AllSuit acts
+    → HearsOf acts channel_log
+    → IsForeignLink c act (link_acts acts) → SameChannel c channel_log also → SameChannel c (link_told act channel_log) also
+foreign_link c acts channel_log also (Made lid conn) all hears h same = same
+foreign_link c acts channel_log also (Destroyed lid) all hears h same =
+    channel_foreign c (SrqDisabled lid) channel_log also (asks_elsewhere c lid acts channel_log all hears h) same
+foreign_link c acts channel_log also (Locked lid) all hears h same = same
+foreign_link c acts channel_log also (Unlocked lid) all hears h same = same
 
 pub tells_foreign : (c : ℕ) (act : DeviceAct) (acts other : List DeviceAct) → AllSuit acts → IsForeign c acts act → TellsAs c acts other
     → TellsAs c (act ∷ acts) other
-tells_foreign c (Linked act) acts other all h tells = λ told (before, hears, is).
+tells_foreign c (Linked act) acts other all h tells = λ channel_log (before, hears, is).
     let so = tells before hears in
     (so.0, so.1, subst (λ (l : List ChannelAct). SameChannel c l so.0) (sym is) (foreign_link c acts before so.0 act all hears h so.2))
 tells_foreign c (Waited act) acts other all h tells = tells
-tells_foreign c (Channel act) acts other all h tells = λ told (before, hears, is).
+tells_foreign c (Channel act) acts other all h tells = λ channel_log (before, hears, is).
     let so = tells before hears in (
       so.0,
       so.1,
@@ -270,52 +271,53 @@ tells_foreign c Ticked acts other all h tells = absurd h
 -- and what the other tells is the same as what this one tells
 pub tells_back : (c : ℕ) (act : DeviceAct) (acts other : List DeviceAct) → AllSuit acts → IsForeign c acts act → TellsAs c other acts
     → TellsAs c other (act ∷ acts)
-tells_back c (Linked act) acts other all h tells = λ told hears.
-    let so = tells told hears in (
+tells_back c (Linked act) acts other all h tells = λ channel_log hears.
+    let so = tells channel_log hears in (
       link_told act so.0,
       (so.0, so.1, refl),
-      channel_sym c (link_told act so.0) told (foreign_link c acts so.0 told act all so.1 h (channel_sym c told so.0 so.2)),
+      channel_sym c (link_told act so.0) channel_log
+          (foreign_link c acts so.0 channel_log act all so.1 h (channel_sym c channel_log so.0 so.2)),
     )
 tells_back c (Waited act) acts other all h tells = tells
-tells_back c (Channel act) acts other all h tells = λ told hears.
-    let so = tells told hears in (
+tells_back c (Channel act) acts other all h tells = λ channel_log hears.
+    let so = tells channel_log hears in (
       act ∷ so.0,
       (so.0, so.1, refl),
-      channel_sym c (act ∷ so.0) told
-          (channel_foreign c act so.0 told (foreign_told c acts so.0 act all so.1 h) (channel_sym c told so.0 so.2)),
+      channel_sym c (act ∷ so.0) channel_log
+          (channel_foreign c act so.0 channel_log (foreign_told c acts so.0 act all so.1 h) (channel_sym c channel_log so.0 so.2)),
     )
 tells_back c (Applied act) acts other all h tells = absurd h
 tells_back c Ticked acts other all h tells = absurd h
 
-same_link : (c : ℕ) (told also : List ChannelAct) (act : LinkAct) → SameChannel c told also
-    → SameChannel c (link_told act told) (link_told act also)
-same_link c told also (Made lid conn) same = same
-same_link c told also (Destroyed lid) same = channel_same c (SrqDisabled lid) told also same
-same_link c told also (Locked lid) same = same
-same_link c told also (Unlocked lid) same = same
+same_link : (c : ℕ) (channel_log also : List ChannelAct) (act : LinkAct) → SameChannel c channel_log also
+    → SameChannel c (link_told act channel_log) (link_told act also)
+same_link c channel_log also (Made lid conn) same = same
+same_link c channel_log also (Destroyed lid) same = channel_same c (SrqDisabled lid) channel_log also same
+same_link c channel_log also (Locked lid) same = same
+same_link c channel_log also (Unlocked lid) same = same
 
-same_request : (c : ℕ) (told also : List ChannelAct) (raised : Bool) → SameChannel c told also
-    → SameChannel c (request_told raised told) (request_told raised also)
-same_request c told also true same = channel_same c Requested told also same
-same_request c told also false same = same
+same_request : (c : ℕ) (channel_log also : List ChannelAct) (raised : Bool) → SameChannel c channel_log also
+    → SameChannel c (request_told raised channel_log) (request_told raised also)
+same_request c channel_log also true same = channel_same c Requested channel_log also same
+same_request c channel_log also false same = same
 
 pub tells_same : (c : ℕ) (act : DeviceAct) (acts other : List DeviceAct) → instrument_acts acts ≡ instrument_acts other
     → TellsAs c acts other
     → TellsAs c (act ∷ acts) (act ∷ other)
-tells_same c (Linked act) acts other instrument tells = λ told (before, hears, is).
+tells_same c (Linked act) acts other instrument tells = λ channel_log (before, hears, is).
     let so = tells before hears in (
       link_told act so.0,
       (so.0, so.1, refl),
       subst (λ (l : List ChannelAct). SameChannel c l (link_told act so.0)) (sym is) (same_link c before so.0 act so.2),
     )
 tells_same c (Waited act) acts other instrument tells = tells
-tells_same c (Channel act) acts other instrument tells = λ told (before, hears, is).
+tells_same c (Channel act) acts other instrument tells = λ channel_log (before, hears, is).
     let so = tells before hears in (
       act ∷ so.0,
       (so.0, so.1, refl),
       subst (λ (l : List ChannelAct). SameChannel c l (act ∷ so.0)) (sym is) (channel_same c act before so.0 so.2),
     )
-tells_same c (Applied act) acts other instrument tells = λ told (before, raised, hears, raises, is).
+tells_same c (Applied act) acts other instrument tells = λ channel_log (before, raised, hears, raises, is).
     let so = tells before hears in (
       request_told raised so.0,
       (so.0, raised, so.1, subst (λ (l : List InstrumentAct). (raised ≡ true) ↔ IsRaised (act ∷ l)) instrument raises, refl),

@@ -38,8 +38,8 @@ holds_from lid before whole holds later (act ∷ acts) is = (
 
 -- ---- where it begins, both logs are one
 
-same_channel : (c : ℕ) (told : List ChannelAct) → SameChannel c told told
-same_channel c told = record { opened = refl; took = refl; links = refl; sent = refl; all = refl }
+same_channel : (c : ℕ) (channel_log : List ChannelAct) → SameChannel c channel_log channel_log
+same_channel c channel_log = record { opened = refl; took = refl; links = refl; sent = refl; all = refl }
 
 starts : (c lid : ℕ) (config : Config) (past events : List PlainEvent) (locked : IsLocked c lid config past events) (later : List Act)
     → locked.log ≡ later ++ locked.before → Pair c lid locked.before locked.before
@@ -59,8 +59,8 @@ starts c lid config past events locked later is =
         rests = locked.rest;
         rest = locked.rest;
       };
-      tells = λ told hears. (told, hears, same_channel c told);
-      back = λ told hears. (told, hears, same_channel c told);
+      tells = λ channel_log hears. (channel_log, hears, same_channel c channel_log);
+      back = λ channel_log hears. (channel_log, hears, same_channel c channel_log);
     }
 
 -- ---- event by event
@@ -106,12 +106,13 @@ left_out c lid config past events event polled n whole later before log foreign 
     }
 
 -- one of the connection, or of none, is in both
-in_both : (c lid : ℕ) (config : Config) (past events : List PlainEvent) (event : PlainEvent) (polled n : ℕ) (told : List ChannelAct)
+in_both : (c lid : ℕ) (config : Config) (past events : List PlainEvent) (event : PlainEvent) (polled n : ℕ) (channel_log : List ChannelAct)
     (whole later before log : List Act) → is_foreign c event ≡ false → LeavesLinksAlone c event before → IsEvent event → Fit before
-    → HearsOf (device_acts before) told → refusal config told event before ≡ None → IsPolled polled (device_acts before)
+    → HearsOf (device_acts before) channel_log → refusal config channel_log event before ≡ None → IsPolled polled (device_acts before)
     → SettlesIn n config (own_acts config polled event before ++ before) log → whole ≡ later ++ log
     → Alone c lid config past events before whole → Alone c lid config past (event ∷ events) log whole
-in_both c lid config past events event polled n told whole later before log own left_alone is_event fit hears free said settles is alone =
+in_both c lid config past events event polled n channel_log whole later before log own left_alone is_event fit hears free said settles is
+    alone =
     let acts = own_acts config polled event before in
     let other = alone.other in
     let rest = settles_extends n config (acts ++ before) log settles in
@@ -119,13 +120,13 @@ in_both c lid config past events event polled n told whole later before log own 
     is ∙ ap (λ (l : List Act). later ++ l) rest.1 ∙ sym (append_assoc later rest.0 (acts ++ before)) in
     let locks = alone.holds (later ++ rest.0) acts reach in
     let also = fit_log config (own_events c events ++ past) other alone.is_log in
-    let tells = alone.pair.tells told hears in
+    let tells = alone.pair.tells channel_log hears in
     let none : refusal config tells.0 event other ≡ None =
-    sym (refusal_same config c lid told tells.0 before other event alone.pair tells.2 own) ∙ free in
+    sym (refusal_same config c lid channel_log tells.0 before other event alone.pair tells.2 own) ∙ free in
     let ours = own_event config polled c lid before other event fit alone.pair own left_alone locks in
     let pair = pair_same c lid acts before other ours.1 locks alone.pair in
     let further = holds_further lid before whole acts alone.holds in
-    let next = fit_event config event polled told before free fit in
+    let next = fit_event config event polled channel_log before free fit in
     let behind : Fit (acts ++ other) =
     subst (λ (l : List Act). Fit (l ++ other)) (sym ours.0) (fit_event config event polled tells.0 other none also) in
     let ends = settles_alike n config c lid whole later (acts ++ before) (acts ++ other) log further is settles next behind pair in
@@ -159,7 +160,7 @@ alone_from c lid config past all [] locked later log is left_alone is_log =
       holds = holds_from lid locked.before locked.log locked.holds;
     })
 alone_from c lid config past all (event ∷ events) locked later log is left_alone
-    (before, polled, told, is_event, was, hears, free, said, (n, settles)) =
+    (before, polled, channel_log, is_event, was, hears, free, said, (n, settles)) =
     let acts = own_acts config polled event before in
     let rest = settles_extends n config (acts ++ before) log settles in
     let reach : locked.log ≡ ((later ++ rest.0) ++ acts) ++ before =
@@ -170,24 +171,25 @@ alone_from c lid config past all (event ∷ events) locked later log is left_alo
     let so = left_alone.1 before was in
     elim (cases_Bool (is_foreign c event)) [
       | inl e ↦ left_out c lid config past events event polled n locked.log later before log e so fit
-          (fit_event config event polled told before free fit) settles is alone
-      | inr e ↦ in_both c lid config past events event polled n told locked.log later before log e so is_event fit hears free said
+          (fit_event config event polled channel_log before free fit) settles is alone
+      | inr e ↦ in_both c lid config past events event polled n channel_log locked.log later before log e so is_event fit hears free said
           settles is alone
     ]
 
 -- ---- what is added
 
-sent_same : (c lid : ℕ) (port : Port) (log other : List Act) (told also : List ChannelAct) → port_number port ≡ c → Pair c lid log other
-    → SameChannel c told also → all_sent port told log ≡ all_sent port also other
-sent_same c lid (Conn d) log other told also e pair same = rw e (ap all_replies pair.own)
-sent_same c lid (Intr d) log other told also e pair same = rw e (ap concat same.all)
+sent_same : (c lid : ℕ) (port : Port) (log other : List Act) (channel_log also : List ChannelAct) → port_number port ≡ c
+    → Pair c lid log other
+    → SameChannel c channel_log also → all_sent port channel_log log ≡ all_sent port also other
+sent_same c lid (Conn d) log other channel_log also e pair same = rw e (ap all_replies pair.own)
+sent_same c lid (Intr d) log other channel_log also e pair same = rw e (ap concat same.all)
 
 adds_alone : (c lid : ℕ) (config : Config) (past events : List PlainEvent) (locked : IsLocked c lid config past events)
     → Alone c lid config past events locked.log locked.log → (port : Port) (bytes : List ℕ) → port_number port ≡ c
     → Adds port config past events bytes → Adds port config past (own_events c events) bytes
-adds_alone c lid config past events locked alone port bytes mine (before, first, (log, told, is_log, hears, sent)) =
+adds_alone c lid config past events locked alone port bytes mine (before, first, (log, channel_log, is_log, hears, sent)) =
     let same : log ≡ locked.log = one_log config (events ++ past) log locked.log is_log locked.is_log in
-    let tells = alone.pair.tells told (subst (λ (l : List Act). HearsOf (device_acts l) told) same hears) in (
+    let tells = alone.pair.tells channel_log (subst (λ (l : List Act). HearsOf (device_acts l) channel_log) same hears) in (
       before,
       first,
       (
@@ -195,17 +197,17 @@ adds_alone c lid config past events locked alone port bytes mine (before, first,
         tells.0,
         alone.is_log,
         tells.1,
-        sent ∙ ap (λ (l : List Act). all_sent port told l) same
-            ∙ sent_same c lid port locked.log alone.other told tells.0 mine alone.pair tells.2,
+        sent ∙ ap (λ (l : List Act). all_sent port channel_log l) same
+            ∙ sent_same c lid port locked.log alone.other channel_log tells.0 mine alone.pair tells.2,
       ),
     )
 
 adds_all : (c lid : ℕ) (config : Config) (past events : List PlainEvent) (locked : IsLocked c lid config past events)
     → Alone c lid config past events locked.log locked.log → (port : Port) (bytes : List ℕ) → port_number port ≡ c
     → Adds port config past (own_events c events) bytes → Adds port config past events bytes
-adds_all c lid config past events locked alone port bytes mine (before, first, (log, told, is_log, hears, sent)) =
+adds_all c lid config past events locked alone port bytes mine (before, first, (log, channel_log, is_log, hears, sent)) =
     let same : log ≡ alone.other = one_log config (own_events c events ++ past) log alone.other is_log alone.is_log in
-    let tells = alone.pair.back told (subst (λ (l : List Act). HearsOf (device_acts l) told) same hears) in (
+    let tells = alone.pair.back channel_log (subst (λ (l : List Act). HearsOf (device_acts l) channel_log) same hears) in (
       before,
       first,
       (
@@ -213,8 +215,9 @@ adds_all c lid config past events locked alone port bytes mine (before, first, (
         tells.0,
         locked.is_log,
         tells.1,
-        sent ∙ ap (λ (l : List Act). all_sent port told l) same
-            ∙ sym (sent_same c lid port locked.log alone.other tells.0 told mine alone.pair (channel_sym c told tells.0 tells.2)),
+        sent ∙ ap (λ (l : List Act). all_sent port channel_log l) same
+            ∙ sym (sent_same c lid port locked.log alone.other tells.0 channel_log mine alone.pair
+            (channel_sym c channel_log tells.0 tells.2)),
       ),
     )
 

@@ -47,37 +47,39 @@ own_number d c h = elim (cases_Bool (eqb d c)) [
 
 -- ---- what refuses it
 
-channel_same : (c : ℕ) (told also : List ChannelAct) → SameChannel c told also → channel_waiting c told ≡ channel_waiting c also
-channel_same c told also same = rw (same.opened, same.took, same.sent) refl
+channel_same : (c : ℕ) (channel_log also : List ChannelAct) → SameChannel c channel_log also
+    → channel_waiting c channel_log ≡ channel_waiting c also
+channel_same c channel_log also same = rw (same.opened, same.took, same.sent) refl
 
 abbrev SameRefusal : Config → List ChannelAct → List ChannelAct → List Act → List Act → PlainEvent → Type 0
-SameRefusal config told also log other event = refusal config told event log ≡ refusal config also event other
+SameRefusal config channel_log also log other event = refusal config channel_log event log ≡ refusal config also event other
 
-pub refusal_same : (config : Config) (c lid : ℕ) (told also : List ChannelAct) (log other : List Act) (event : PlainEvent)
-    → Pair c lid log other → SameChannel c told also → is_foreign c event ≡ false → SameRefusal config told also log other event
-refusal_same config c lid told also log other (Open d role) pair same own =
-    subst (λ (n : ℕ). SameRefusal config told also log other (Open n role)) (sym (own_number d c own)) (rw pair.own refl)
-refusal_same config c lid told also log other (Bytes d piece) pair same own =
-    subst (λ (n : ℕ). SameRefusal config told also log other (Bytes n piece)) (sym (own_number d c own)) (rw pair.own refl)
-refusal_same config c lid told also log other (Turn d) pair same own =
-    subst (λ (n : ℕ). SameRefusal config told also log other (Turn n)) (sym (own_number d c own)) (rw pair.own refl)
-refusal_same config c lid told also log other (Refuse d) pair same own =
-    subst (λ (n : ℕ). SameRefusal config told also log other (Refuse n)) (sym (own_number d c own)) (rw pair.own refl)
-refusal_same config c lid told also log other (Took (Conn d) count) pair same own =
-    subst (λ (n : ℕ). SameRefusal config told also log other (Took (Conn n) count)) (sym (own_number d c own)) (rw pair.own refl)
-refusal_same config c lid told also log other (Took (Intr d) count) pair same own =
-    subst (λ (n : ℕ). SameRefusal config told also log other (Took (Intr n) count)) (sym (own_number d c own))
-    (rw (pair.view.opened, channel_same c told also same) refl)
-refusal_same config c lid told also log other (Close (Conn d)) pair same own =
-    subst (λ (n : ℕ). SameRefusal config told also log other (Close (Conn n))) (sym (own_number d c own)) (rw pair.own refl)
-refusal_same config c lid told also log other (Close (Intr d)) pair same own =
-    subst (λ (n : ℕ). SameRefusal config told also log other (Close (Intr n))) (sym (own_number d c own)) (rw pair.view.opened refl)
-refusal_same config c lid told also log other (Dialed d ok) pair same own =
-    subst (λ (n : ℕ). SameRefusal config told also log other (Dialed n ok)) (sym (own_number d c own))
+pub refusal_same : (config : Config) (c lid : ℕ) (channel_log also : List ChannelAct) (log other : List Act) (event : PlainEvent)
+    → Pair c lid log other → SameChannel c channel_log also → is_foreign c event ≡ false
+    → SameRefusal config channel_log also log other event
+refusal_same config c lid channel_log also log other (Open d role) pair same own =
+    subst (λ (n : ℕ). SameRefusal config channel_log also log other (Open n role)) (sym (own_number d c own)) (rw pair.own refl)
+refusal_same config c lid channel_log also log other (Bytes d piece) pair same own =
+    subst (λ (n : ℕ). SameRefusal config channel_log also log other (Bytes n piece)) (sym (own_number d c own)) (rw pair.own refl)
+refusal_same config c lid channel_log also log other (Turn d) pair same own =
+    subst (λ (n : ℕ). SameRefusal config channel_log also log other (Turn n)) (sym (own_number d c own)) (rw pair.own refl)
+refusal_same config c lid channel_log also log other (Refuse d) pair same own =
+    subst (λ (n : ℕ). SameRefusal config channel_log also log other (Refuse n)) (sym (own_number d c own)) (rw pair.own refl)
+refusal_same config c lid channel_log also log other (Took (Conn d) count) pair same own =
+    subst (λ (n : ℕ). SameRefusal config channel_log also log other (Took (Conn n) count)) (sym (own_number d c own)) (rw pair.own refl)
+refusal_same config c lid channel_log also log other (Took (Intr d) count) pair same own =
+    subst (λ (n : ℕ). SameRefusal config channel_log also log other (Took (Intr n) count)) (sym (own_number d c own))
+    (rw (pair.view.opened, channel_same c channel_log also same) refl)
+refusal_same config c lid channel_log also log other (Close (Conn d)) pair same own =
+    subst (λ (n : ℕ). SameRefusal config channel_log also log other (Close (Conn n))) (sym (own_number d c own)) (rw pair.own refl)
+refusal_same config c lid channel_log also log other (Close (Intr d)) pair same own =
+    subst (λ (n : ℕ). SameRefusal config channel_log also log other (Close (Intr n))) (sym (own_number d c own)) (rw pair.view.opened refl)
+refusal_same config c lid channel_log also log other (Dialed d ok) pair same own =
+    subst (λ (n : ℕ). SameRefusal config channel_log also log other (Dialed n ok)) (sym (own_number d c own))
     (rw (pair.own, pair.view.call.wait) refl)
-refusal_same config c lid told also log other (Input channel microvolts) pair same own = refl
-refusal_same config c lid told also log other External pair same own = refl
-refusal_same config c lid told also log other Tick pair same own = rw pair.view.clock refl
+refusal_same config c lid channel_log also log other (Input channel microvolts) pair same own = refl
+refusal_same config c lid channel_log also log other External pair same own = refl
+refusal_same config c lid channel_log also log other Tick pair same own = rw pair.view.clock refl
 
 -- ---- effects of the connection
 

@@ -69,27 +69,27 @@ abbrev pub RaisedAt : List Act → Type 0
 RaisedAt log = (acts : List StatusAct) × IsStatus log acts × IsRaisedAsTold acts
 
 -- What is kept stands for what the layers saw, and for what the status byte was told.
-pub record Represents (layered : LayerState) (at : LayerLogs) (told : List StatusAct) : Type 0 where
+pub record Represents (layered : LayerState) (at : LayerLogs) (status_log : List StatusAct) : Type 0 where
   pub exchange : Exchanges layered.exchange at.exchange
   pub errors : Queues layered.errors at.errors
   pub registers : (name : RegisterName) → Registers (start name) (kept name layered.registers) (at.registers name)
   pub standard : Standards layered.standard at.standard
-  pub status : Statuses layered.status told
+  pub status : Statuses layered.status status_log
   pub scanner : Scans layered.scanner at.scanner
   pub service : layered.service ≡ at.service
   pub waits : layered.waits ≡ at.waits
 
 -- What is kept stands for the log.
 pub record StandsFor (layered : LayerState) (log : List Act) : Type 0 where
-  pub told : List StatusAct
-  pub are : IsStatus log told
-  pub joined : Represents layered (seen log) told
+  pub status_log : List StatusAct
+  pub are : IsStatus log status_log
+  pub joined : Represents layered (seen log) status_log
 
 -- The newest act has happened to its own layer, and to nothing else yet.
 pub record Begun (layered : LayerState) (act : Act) (log : List Act) : Type 0 where
-  pub told : List StatusAct
-  pub are : IsStatus log told
-  pub joined : Represents layered (begun act (seen log)) (own_status act told)
+  pub status_log : List StatusAct
+  pub are : IsStatus log status_log
+  pub joined : Represents layered (begun act (seen log)) (own_status act status_log)
 
 -- What is kept stands for the log, and each request that was counted is read.
 pub record AllRead (layered : LayerState) (log : List Act) : Type 0 where

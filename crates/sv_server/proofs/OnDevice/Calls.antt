@@ -16,15 +16,16 @@ use Rattle.sv_history.specs.CoreChannel.{device_write, device_read}
 use Rattle.sv_server.specs.Device.Representation.{IsDevice, Device}
 use Rattle.sv_server.specs.Device.Inside.Outcome.{IsResult}
 
-pub written_ends : (config : Config) (acts : List DeviceAct) (new : Device) (flags : ℕ) (bytes : List ℕ) (ended : Bool) (told : VxiOutcome)
+pub written_ends : (config : Config) (acts : List DeviceAct) (new : Device) (flags : ℕ) (bytes : List ℕ) (ended : Bool)
+    (encoded : VxiOutcome)
     → nat_lt max_message (length bytes) ≡ false → has_ended (exchange_acts acts) ≡ false → ended ≡ (bit_at flags 3 == 1)
-    → told ≡ Size NoError (length bytes) → IsDevice new config (Applied (Exchanged (Accepted bytes ended)) ∷ acts)
-    → IsResult (device_write flags bytes acts).result told × IsDevice new config ((device_write flags bytes acts).adds ++ acts)
-written_ends config acts new flags bytes ended told short unended end tells stands = rw (short, unended)
+    → encoded ≡ Size NoError (length bytes) → IsDevice new config (Applied (Exchanged (Accepted bytes ended)) ∷ acts)
+    → IsResult (device_write flags bytes acts).result encoded × IsDevice new config ((device_write flags bytes acts).adds ++ acts)
+written_ends config acts new flags bytes ended encoded short unended end tells stands = rw (short, unended)
     (sym tells, subst (λ (b : Bool). IsDevice new config (Applied (Exchanged (Accepted bytes b)) ∷ acts)) end stands)
 
-pub unread_ends : (config : Config) (acts : List DeviceAct) (new : Device) (most : ℕ) (term : Option ℕ) (told : VxiOutcome)
-    → is_something (response (exchange_acts acts)) ≡ false → is_answerable (instrument_acts acts) ≡ true → told ≡ no_bytes IoTimeout
+pub unread_ends : (config : Config) (acts : List DeviceAct) (new : Device) (most : ℕ) (term : Option ℕ) (encoded : VxiOutcome)
+    → is_something (response (exchange_acts acts)) ≡ false → is_answerable (instrument_acts acts) ≡ true → encoded ≡ no_bytes IoTimeout
     → IsDevice new config (Applied (Reported QueryUnterminated) ∷ Applied (Exchanged TextDropped) ∷ acts)
-    → IsResult (device_read most term acts).result told × IsDevice new config ((device_read most term acts).adds ++ acts)
-unread_ends config acts new most term told nothing none tells stands = rw (none, nothing) (sym tells, stands)
+    → IsResult (device_read most term acts).result encoded × IsDevice new config ((device_read most term acts).adds ++ acts)
+unread_ends config acts new most term encoded nothing none tells stands = rw (none, nothing) (sym tells, stands)

@@ -22,20 +22,30 @@ use Rattle.sv_server.proofs.OnDevice.Owned.{room_for, owned_enabled}
 -- an act of a channel
 pub device_channel : (kept : Device) (intr : Channels) (config : Config) (acts : List DeviceAct) (act : ChannelAct)
     → IsDevice kept config acts
-    → ((told : List ChannelAct) → HearsOf acts told → AreChannels kept.intr told → AreChannels intr (act ∷ told))
+    → ((channel_log : List ChannelAct) → HearsOf acts channel_log → AreChannels kept.intr channel_log
+    → AreChannels intr (act ∷ channel_log))
     → AreOwned intr.enabled (link_acts acts) → AreReady intr (wait_acts acts)
     → IsDevice (record kept { intr = intr }) config (Channel act ∷ acts)
 device_channel kept intr config acts act (links, instrument, set_up, clock, waiting, reserved, was, before) stands owned ready =
-    let (told, tells, are, had) = was in
-    (links, instrument, set_up, clock, waiting, reserved, (act ∷ told, (told, tells, refl), stands told tells are, owned), ready)
+    let (channel_log, tells, are, had) = was in (
+      links,
+      instrument,
+      set_up,
+      clock,
+      waiting,
+      reserved,
+      (act ∷ channel_log, (channel_log, tells, refl), stands channel_log tells are, owned),
+      ready,
+    )
 
 -- none, where only the memory of a channel is another
 pub device_same : (kept : Device) (intr : Channels) (config : Config) (acts : List DeviceAct) → IsDevice kept config acts
-    → ((told : List ChannelAct) → AreChannels kept.intr told → AreChannels intr told) → intr.enabled ≡ kept.intr.enabled
+    → ((channel_log : List ChannelAct) → AreChannels kept.intr channel_log → AreChannels intr channel_log)
+    → intr.enabled ≡ kept.intr.enabled
     → AreReady intr (wait_acts acts) → IsDevice (record kept { intr = intr }) config acts
 device_same kept intr config acts (links, instrument, set_up, clock, waiting, reserved, was, before) stands same ready =
-    let (told, tells, are, owned) = was in
-    (links, instrument, set_up, clock, waiting, reserved, (told, tells, stands told are, rw same owned), ready)
+    let (channel_log, tells, are, owned) = was in
+    (links, instrument, set_up, clock, waiting, reserved, (channel_log, tells, stands channel_log are, rw same owned), ready)
 
 -- what a call that ended to wait for its peer leaves prepared
 ready_left : (old new : Channels) (c : ℕ) (acts : List WaitAct) → AreReady old (Left c ∷ acts)
@@ -44,7 +54,8 @@ ready_left old new c acts ready others = λ d dials. others d (dials_left c d ac
 
 pub device_left_same : (kept : Device) (intr : Channels) (config : Config) (acts : List DeviceAct) (c : ℕ)
     → IsDevice kept config (Waited (Left c) ∷ acts)
-    → ((told : List ChannelAct) → AreChannels kept.intr told → AreChannels intr told) → intr.enabled ≡ kept.intr.enabled
+    → ((channel_log : List ChannelAct) → AreChannels kept.intr channel_log → AreChannels intr channel_log)
+    → intr.enabled ≡ kept.intr.enabled
     → ((d : ℕ) → (d ≡ c → ⊥) → IsReady kept.intr d → IsReady intr d)
     → IsDevice (record kept { intr = intr }) config (Waited (Left c) ∷ acts)
 device_left_same kept intr config acts c is stands same others =
@@ -52,7 +63,8 @@ device_left_same kept intr config acts c is stands same others =
 
 pub device_cancelled : (kept : Device) (intr : Channels) (config : Config) (acts : List DeviceAct) (links : List LinkAct) (c : ℕ)
     → IsDevice kept config (map Linked links ++ Waited (Left c) ∷ acts)
-    → ((told : List ChannelAct) → AreChannels kept.intr told → AreChannels intr told) → intr.enabled ≡ kept.intr.enabled
+    → ((channel_log : List ChannelAct) → AreChannels kept.intr channel_log → AreChannels intr channel_log)
+    → intr.enabled ≡ kept.intr.enabled
     → ((d : ℕ) → (d ≡ c → ⊥) → IsReady kept.intr d → IsReady intr d)
     → IsDevice (record kept { intr = intr }) config (map Linked links ++ Waited (Left c) ∷ acts)
 device_cancelled kept intr config acts links c is stands same others =
@@ -64,11 +76,12 @@ device_cancelled kept intr config acts links c is stands same others =
 -- the channel of a call that ended to wait is open
 pub device_opened : (kept : Device) (intr : Channels) (config : Config) (acts : List DeviceAct) (c : ℕ) (act : ChannelAct)
     → IsDevice kept config (Waited (Left c) ∷ acts)
-    → ((told : List ChannelAct) → AreChannels kept.intr told → AreChannels intr (act ∷ told)) → intr.enabled ≡ kept.intr.enabled
+    → ((channel_log : List ChannelAct) → AreChannels kept.intr channel_log → AreChannels intr (act ∷ channel_log))
+    → intr.enabled ≡ kept.intr.enabled
     → ((d : ℕ) → (d ≡ c → ⊥) → IsReady kept.intr d → IsReady intr d)
     → IsDevice (record kept { intr = intr }) config (Channel act ∷ Waited (Left c) ∷ acts)
 device_opened kept intr config acts c act is stands same others =
-    device_channel kept intr config (Waited (Left c) ∷ acts) act is (λ told tells are. stands told are)
+    device_channel kept intr config (Waited (Left c) ∷ acts) act is (λ channel_log tells are. stands channel_log are)
     (rw same is.6.3) (ready_left kept.intr intr c (wait_acts acts) is.7 others)
 
 -- a call begins to wait for its peer, with a channel that is prepared
@@ -83,29 +96,30 @@ pub device_dialing : (kept : Device) (waiting : List Entry) (config : Config) (a
     → IsDevice kept config acts → IsQueue waiting (Entered c named Dial deadline ∷ wait_acts acts)
     → IsReserved (record kept { waiting = waiting }) acts → IsReady kept.intr c
     → IsDevice (record kept { waiting = waiting }) config (Waited (Entered c named Dial deadline) ∷ acts)
-device_dialing kept waiting config acts c named deadline (links, instrument, set_up, clock, before, was, told, ready) queue reserved this =
-    (links, instrument, set_up, clock, queue, reserved, told, dials_ready kept.intr c named deadline (wait_acts acts) ready this)
+device_dialing kept waiting config acts c named deadline
+    (links, instrument, set_up, clock, before, was, channel_log, ready) queue reserved this =
+    (links, instrument, set_up, clock, queue, reserved, channel_log, dials_ready kept.intr c named deadline (wait_acts acts) ready this)
 
 -- a link of a connection asks for service requests
 pub room_there : (kept : Device) (config : Config) (acts : List DeviceAct) (lid conn : ℕ) → IsDevice kept config acts
     → owner lid (link_acts acts) ≡ Some conn → HasRoomFor lid kept.intr
 room_there kept config acts lid conn is owns =
-    let (told, tells, are, owned) = is.6 in
-    room_for kept.intr.enabled (link_acts acts) lid conn (rw are.enabled (enabled-sorted told)) owned owns (omega (arith, is.5.0))
+    let (channel_log, tells, are, owned) = is.6 in
+    room_for kept.intr.enabled (link_acts acts) lid conn (rw are.enabled (enabled-sorted channel_log)) owned owns (omega (arith, is.5.0))
 
 pub device_enabled : (kept : Device) (intr : Channels) (config : Config) (acts : List DeviceAct) (lid conn : ℕ) (handle : List ℕ)
     → IsDevice kept config acts → owner lid (link_acts acts) ≡ Some conn
-    → (HasRoomFor lid kept.intr → (told : List ChannelAct) → AreChannels kept.intr told
-    → AreChannels intr (SrqEnabled lid conn handle ∷ told))
+    → (HasRoomFor lid kept.intr → (channel_log : List ChannelAct) → AreChannels kept.intr channel_log
+    → AreChannels intr (SrqEnabled lid conn handle ∷ channel_log))
     → ((c : ℕ) → IsReady kept.intr c → IsReady intr c)
     → IsDevice (record kept { intr = intr }) config (Channel (SrqEnabled lid conn handle) ∷ acts)
 device_enabled kept intr config acts lid conn handle is owns stands still =
-    let (told, tells, are, owned) = is.6 in
+    let (channel_log, tells, are, owned) = is.6 in
     let room = room_there kept config acts lid conn is owns in
-    let now = stands room told are in
+    let now = stands room channel_log are in
     let link : Enabled = record { lid = lid; conn = conn; handle = handle } in
     let more : intr.enabled ≡ with_link link kept.intr.enabled =
-    now.enabled ∙ enabled-enabled link told ∙ ap (with_link link) (sym are.enabled) in
+    now.enabled ∙ enabled-enabled link channel_log ∙ ap (with_link link) (sym are.enabled) in
     device_channel kept intr config acts (SrqEnabled lid conn handle) is (λ t tells are. stands room t are)
     (rw more (owned_enabled kept.intr.enabled (link_acts acts) lid conn handle owned owns)) (λ c dials. still c (is.7 c dials))
 
@@ -119,14 +133,14 @@ owned_less keeps (link ∷ links) acts owned = elim (cases_Bool (keeps link)) [
 ]
 
 pub device_disabled : (kept : Device) (intr : Channels) (config : Config) (acts : List DeviceAct) (lid : ℕ) → IsDevice kept config acts
-    → ((told : List ChannelAct) → AreChannels kept.intr told → AreChannels intr (SrqDisabled lid ∷ told))
+    → ((channel_log : List ChannelAct) → AreChannels kept.intr channel_log → AreChannels intr (SrqDisabled lid ∷ channel_log))
     → ((c : ℕ) → IsReady kept.intr c → IsReady intr c)
     → IsDevice (record kept { intr = intr }) config (Channel (SrqDisabled lid) ∷ acts)
 device_disabled kept intr config acts lid is stands still =
-    let (told, tells, are, owned) = is.6 in
-    let now = stands told are in
+    let (channel_log, tells, are, owned) = is.6 in
+    let now = stands channel_log are in
     let less : intr.enabled ≡ filter (λ other. not (other.lid == lid)) kept.intr.enabled =
-    now.enabled ∙ enabled-disabled lid told ∙ ap (λ (links : List Enabled). filter (λ other. not (other.lid == lid)) links)
+    now.enabled ∙ enabled-disabled lid channel_log ∙ ap (λ (links : List Enabled). filter (λ other. not (other.lid == lid)) links)
     (sym are.enabled) in
     device_channel kept intr config acts (SrqDisabled lid) is (λ t tells are. stands t are)
     (rw less (owned_less (λ other. not (other.lid == lid)) kept.intr.enabled (link_acts acts) owned)) (λ c dials. still c (is.7 c dials))

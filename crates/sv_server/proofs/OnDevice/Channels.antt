@@ -20,10 +20,10 @@ use Rattle.sv_history.specs.History.{is_channel_shut, took_refusal}
 use Rattle.sv_history.proofs.Telling.{tells_once}
 
 -- what is kept of them, by what the acts tell
-channels_of : (kept : KeptDevice) (config : Config) (acts : List DeviceAct) (told : List ChannelAct) → IsDevice kept config acts
-    → HearsOf acts told → AreChannels kept.intr told
-channels_of kept config acts told is tells =
-    subst (λ (l : List ChannelAct). AreChannels kept.intr l) (tells_once acts is.6.0 told is.6.1 tells) is.6.2
+channels_of : (kept : KeptDevice) (config : Config) (acts : List DeviceAct) (channel_log : List ChannelAct) → IsDevice kept config acts
+    → HearsOf acts channel_log → AreChannels kept.intr channel_log
+channels_of kept config acts channel_log is tells =
+    subst (λ (l : List ChannelAct). AreChannels kept.intr l) (tells_once acts is.6.0 channel_log is.6.1 tells) is.6.2
 
 -- bytes wait on an open one alone
 waits_where : (open_now : Bool) (bytes : List ℕ) → 0 < length (cond open_now bytes []) → open_now ≡ true
@@ -33,26 +33,30 @@ waits_where false bytes some = absurd (omega arith)
 waits_nowhere : (open_now : Bool) (bytes : List ℕ) → open_now ≡ false → cond open_now bytes [] ≡ []
 waits_nowhere open_now bytes shut = ap (λ (b : Bool). cond b bytes []) shut
 
-pub channel_open : (c : ℕ) (told : List ChannelAct) → 0 < length (channel_waiting c told) → is_channel_open c told ≡ true
-channel_open c told some = waits_where (is_channel_open c told) (concat (untaken (taken c told) (calls c told))) some
+pub channel_open : (c : ℕ) (channel_log : List ChannelAct) → 0 < length (channel_waiting c channel_log)
+    → is_channel_open c channel_log ≡ true
+channel_open c channel_log some = waits_where (is_channel_open c channel_log)
+    (concat (untaken (taken c channel_log) (calls c channel_log))) some
 
 -- and none is open whose number is above 15
-beyond_shut : (kept : KeptDevice) (config : Config) (acts : List DeviceAct) (told : List ChannelAct) (c : ℕ) → IsDevice kept config acts
-    → HearsOf acts told → 16 ≤ c → is_channel_open c told ≡ false
-beyond_shut kept config acts told c is tells above =
-    ap (λ (o : Option Peer). is_some o) ((channels_of kept config acts told is tells).beyond c above)
+beyond_shut : (kept : KeptDevice) (config : Config) (acts : List DeviceAct) (channel_log : List ChannelAct) (c : ℕ)
+    → IsDevice kept config acts
+    → HearsOf acts channel_log → 16 ≤ c → is_channel_open c channel_log ≡ false
+beyond_shut kept config acts channel_log c is tells above =
+    ap (λ (o : Option Peer). is_some o) ((channels_of kept config acts channel_log is tells).beyond c above)
 
-pub none_beyond : (kept : KeptDevice) (config : Config) (acts : List DeviceAct) (told : List ChannelAct) (c : ℕ) → IsDevice kept config acts
-    → HearsOf acts told → 16 ≤ c → channel_waiting c told ≡ []
-none_beyond kept config acts told c is tells above =
-    waits_nowhere (is_channel_open c told) (concat (untaken (taken c told) (calls c told)))
-    (beyond_shut kept config acts told c is tells above)
+pub none_beyond : (kept : KeptDevice) (config : Config) (acts : List DeviceAct) (channel_log : List ChannelAct) (c : ℕ)
+    → IsDevice kept config acts
+    → HearsOf acts channel_log → 16 ≤ c → channel_waiting c channel_log ≡ []
+none_beyond kept config acts channel_log c is tells above =
+    waits_nowhere (is_channel_open c channel_log) (concat (untaken (taken c channel_log) (calls c channel_log)))
+    (beyond_shut kept config acts channel_log c is tells above)
 
-pub channel_within : (kept : KeptDevice) (config : Config) (acts : List DeviceAct) (told : List ChannelAct) (c : ℕ)
-    → IsDevice kept config acts → HearsOf acts told → is_channel_open c told ≡ true → c ≤ 15
-channel_within kept config acts told c is tells there = elim (cases_lt c 16) [
+pub channel_within : (kept : KeptDevice) (config : Config) (acts : List DeviceAct) (channel_log : List ChannelAct) (c : ℕ)
+    → IsDevice kept config acts → HearsOf acts channel_log → is_channel_open c channel_log ≡ true → c ≤ 15
+channel_within kept config acts channel_log c is tells there = elim (cases_lt c 16) [
   | inl below_it ↦ omega arith
-  | inr above ↦ absurd (let z : true ≡ false = sym there ∙ beyond_shut kept config acts told c is tells above in cc)
+  | inr above ↦ absurd (let z : true ≡ false = sym there ∙ beyond_shut kept config acts channel_log c is tells above in cc)
 ]
 
 -- whether the channel of a number is shut
@@ -71,8 +75,9 @@ pub channel_beyond : (c : ℕ) (log : List Act) → 16 ≤ c → is_channel_shut
 channel_beyond c log above = rw (lt-ltb 15 c (omega arith)) refl
 
 -- what the peer took of another leaves one as it was
-pub took_other : (c d count : ℕ) (told : List ChannelAct) → d ≢ c → channel_waiting c (ChannelTaken d count ∷ told) ≡ channel_waiting c told
-took_other c d count told ne = rw (ne_eqb d c ne) refl
+pub took_other : (c d count : ℕ) (channel_log : List ChannelAct) → d ≢ c
+    → channel_waiting c (ChannelTaken d count ∷ channel_log) ≡ channel_waiting c channel_log
+took_other c d count channel_log ne = rw (ne_eqb d c ne) refl
 
 -- so many of the bytes that wait can have been taken, or not
 pub took_refused : (count : ℕ) (bytes found : List ℕ) → found ≡ bytes → length found < count → took_refusal count bytes ≡ Some NotSent

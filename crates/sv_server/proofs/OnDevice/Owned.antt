@@ -181,16 +181,17 @@ pub owned_closed : (links : List Enabled) (acts : List LinkAct) (c last : ℕ) �
 owned_closed links acts c last rising owned = rw (← closed_disabled links acts c last rising owned, closing_numbers c acts)
     (owned_gone (reverse (links_of c acts)) links acts owned)
 
-tells_gone : (numbers : List ℕ) (acts : List DeviceAct) (told : List ChannelAct) → HearsOf acts told
-    → HearsOf (map Linked (map Destroyed numbers) ++ acts) (map SrqDisabled numbers ++ told)
-tells_gone [] acts told tells = tells
-tells_gone (number ∷ numbers) acts told tells = (map SrqDisabled numbers ++ told, tells_gone numbers acts told tells, refl)
+tells_gone : (numbers : List ℕ) (acts : List DeviceAct) (channel_log : List ChannelAct) → HearsOf acts channel_log
+    → HearsOf (map Linked (map Destroyed numbers) ++ acts) (map SrqDisabled numbers ++ channel_log)
+tells_gone [] acts channel_log tells = tells
+tells_gone (number ∷ numbers) acts channel_log tells =
+    (map SrqDisabled numbers ++ channel_log, tells_gone numbers acts channel_log tells, refl)
 
 -- and tells that each of its links asks no more
-pub tells_closed : (c : ℕ) (acts : List DeviceAct) (told : List ChannelAct) → HearsOf acts told
-    → HearsOf (map Linked (closing c (link_acts acts)) ++ acts) (map SrqDisabled (reverse (links_of c (link_acts acts))) ++ told)
-tells_closed c acts told tells = rw (closing_numbers c (link_acts acts))
-    (tells_gone (reverse (links_of c (link_acts acts))) acts told tells)
+pub tells_closed : (c : ℕ) (acts : List DeviceAct) (channel_log : List ChannelAct) → HearsOf acts channel_log
+    → HearsOf (map Linked (closing c (link_acts acts)) ++ acts) (map SrqDisabled (reverse (links_of c (link_acts acts))) ++ channel_log)
+tells_closed c acts channel_log tells = rw (closing_numbers c (link_acts acts))
+    (tells_gone (reverse (links_of c (link_acts acts))) acts channel_log tells)
 
 -- ---- how many there are
 

@@ -68,7 +68,7 @@ fewer_left c old new e = rw e (creations-without c old)
 pub device_left : (kept : Device) (waiting : List Entry) (config : Config) (acts : List DeviceAct) (c : ℕ)
     → IsDevice kept config acts → IsQueue waiting (Left c ∷ wait_acts acts) → waiting ≡ without c kept.waiting
     → IsDevice (record kept { waiting = waiting }) config (Waited (Left c) ∷ acts)
-device_left kept waiting config acts c (links, instrument, set_up, clock, before, reserved, told, ready) queue is =
+device_left kept waiting config acts c (links, instrument, set_up, clock, before, reserved, channel_log, ready) queue is =
     let less = fewer_left c kept.waiting waiting is in (
       links,
       instrument,
@@ -76,7 +76,7 @@ device_left kept waiting config acts c (links, instrument, set_up, clock, before
       clock,
       queue,
       (omega (arith, reserved.0, less), omega (arith, reserved.1, less)),
-      told,
+      channel_log,
       λ d dials. ready d (dials_left c d (wait_acts acts) dials).0,
     )
 
@@ -94,17 +94,17 @@ pub device_entered : (kept : Device) (waiting : List Entry) (config : Config) (a
     → waiting ≡ without entry.conn kept.waiting ++ entry ∷ [] → (creates entry ≡ true → HasPlace kept acts)
     → is_dial (Some entry.wait) ≡ false
     → IsDevice (record kept { waiting = waiting }) config (Waited (Entered entry.conn entry.lid entry.wait entry.deadline) ∷ acts)
-device_entered kept waiting config acts entry (links, instrument, set_up, clock, before, reserved, told, was) queue is place other =
+device_entered kept waiting config acts entry (links, instrument, set_up, clock, before, reserved, channel_log, was) queue is place other =
     let ready : AreReady kept.intr (Entered entry.conn entry.lid entry.wait entry.deadline ∷ wait_acts acts) =
     λ d dials. was d (dials_entered entry.conn d entry.lid entry.wait entry.deadline (wait_acts acts) other dials) in
     elim (cases_Bool (creates entry)) [
       | inl e ↦
           let more = entered_fewer entry kept.waiting waiting is in
           let there = place e in
-          (links, instrument, set_up, clock, queue, (omega (arith, there.0, more), omega (arith, there.1, more)), told, ready)
+          (links, instrument, set_up, clock, queue, (omega (arith, there.0, more), omega (arith, there.1, more)), channel_log, ready)
       | inr e ↦
           let less = entered_other entry kept.waiting waiting is e in
-          (links, instrument, set_up, clock, queue, (omega (arith, reserved.0, less), omega (arith, reserved.1, less)), told, ready)
+          (links, instrument, set_up, clock, queue, (omega (arith, reserved.0, less), omega (arith, reserved.1, less)), channel_log, ready)
     ]
 
 pub device_again : (kept : Device) (waiting : List Entry) (config : Config) (acts : List DeviceAct) (c : ℕ) (wait : Wait)
@@ -112,7 +112,8 @@ pub device_again : (kept : Device) (waiting : List Entry) (config : Config) (act
     → IsDevice kept config acts → IsQueue waiting (Again c wait deadline ∷ wait_acts acts)
     → creations waiting ≤ creations (without c kept.waiting) → is_dial (Some wait) ≡ false
     → IsDevice (record kept { waiting = waiting }) config (Waited (Again c wait deadline) ∷ acts)
-device_again kept waiting config acts c wait deadline (links, instrument, set_up, clock, before, reserved, told, ready) queue fewer other =
+device_again kept waiting config acts c wait deadline
+    (links, instrument, set_up, clock, before, reserved, channel_log, ready) queue fewer other =
     let less = creations-without c kept.waiting in (
       links,
       instrument,
@@ -120,7 +121,7 @@ device_again kept waiting config acts c wait deadline (links, instrument, set_up
       clock,
       queue,
       (omega (arith, reserved.0, fewer, less), omega (arith, reserved.1, fewer, less)),
-      told,
+      channel_log,
       λ d dials. ready d (dials_again c d wait deadline (wait_acts acts) other dials),
     )
 
@@ -133,28 +134,30 @@ ready_same old new same c ready =
 
 -- where the same was told, a link more or a lock changes nothing of those that ask
 told_as_before : (intr : Channels) (acts : List DeviceAct) (act : LinkAct) → AreTold intr acts
-    → ((told : List ChannelAct) → link_told act told ≡ told)
+    → ((channel_log : List ChannelAct) → link_told act channel_log ≡ channel_log)
     → AreOwned intr.enabled (act ∷ link_acts acts) → AreTold intr (Linked act ∷ acts)
-told_as_before intr acts act (told, tells, are, was) same owned = (told, (told, tells, sym (same told)), are, owned)
+told_as_before intr acts act (channel_log, tells, are, was) same owned =
+    (channel_log, (channel_log, tells, sym (same channel_log)), are, owned)
 
 -- those that ask are others where links are destroyed
 told_closed : (old intr : Channels) (acts : List DeviceAct) (c last : ℕ) → AreTold old acts → IsRising (live (link_acts acts)) last
     → ((lids : List ℕ)
-    (told : List ChannelAct) → AreChannels old told → disabled lids old.enabled ≡ of_others c old.enabled
-    → AreChannels intr (map SrqDisabled lids ++ told)) → intr.enabled ≡ of_others c old.enabled
+    (channel_log : List ChannelAct) → AreChannels old channel_log → disabled lids old.enabled ≡ of_others c old.enabled
+    → AreChannels intr (map SrqDisabled lids ++ channel_log)) → intr.enabled ≡ of_others c old.enabled
     → AreTold intr (map Linked (closing c (link_acts acts)) ++ acts)
-told_closed old intr acts c last (told, tells, are, owned) rising disables without = (
-  map SrqDisabled (reverse (links_of c (link_acts acts))) ++ told,
-  tells_closed c acts told tells,
-  disables (reverse (links_of c (link_acts acts))) told are (closed_disabled old.enabled (link_acts acts) c last rising owned),
+told_closed old intr acts c last (channel_log, tells, are, owned) rising disables without = (
+  map SrqDisabled (reverse (links_of c (link_acts acts))) ++ channel_log,
+  tells_closed c acts channel_log tells,
+  disables (reverse (links_of c (link_acts acts))) channel_log are (closed_disabled old.enabled (link_acts acts) c last rising owned),
   rw (without, link_acts-links (closing c (link_acts acts)) acts) (owned_closed old.enabled (link_acts acts) c last rising owned),
 )
 
 pub device_closed : (kept : Device) (links : Table) (intr : Channels) (config : Config) (acts : List DeviceAct) (c : ℕ)
     → IsDevice kept config acts → IsTable links (closing c (link_acts acts) ++ link_acts acts) → links.spare ≡ kept.links.spare
     → ((lids : List ℕ)
-    (told : List ChannelAct) → AreChannels kept.intr told → disabled lids kept.intr.enabled ≡ of_others c kept.intr.enabled
-    → AreChannels intr (map SrqDisabled lids ++ told)) → intr.enabled ≡ of_others c kept.intr.enabled → intr.channels ≡ kept.intr.channels
+    (channel_log : List ChannelAct) → AreChannels kept.intr channel_log → disabled lids kept.intr.enabled ≡ of_others c kept.intr.enabled
+    → AreChannels intr (map SrqDisabled lids ++ channel_log)) → intr.enabled ≡ of_others c kept.intr.enabled
+    → intr.channels ≡ kept.intr.channels
     → IsDevice (record kept { links = links; intr = intr }) config (map Linked (closing c (link_acts acts)) ++ acts)
 device_closed kept links intr config acts c is stands spare disables without same =
     device_linked kept links intr config acts (closing c (link_acts acts)) is stands
@@ -162,18 +165,18 @@ device_closed kept links intr config acts c is stands spare disables without sam
     (told_closed kept.intr intr acts c kept.links.made is.6 is.0.rising disables without) (ready_same kept.intr intr same)
 
 told_destroyed : (old intr : Channels) (acts : List DeviceAct) (lid : ℕ) → AreTold old acts
-    → ((told : List ChannelAct) → AreChannels old told → AreChannels intr (SrqDisabled lid ∷ told))
+    → ((channel_log : List ChannelAct) → AreChannels old channel_log → AreChannels intr (SrqDisabled lid ∷ channel_log))
     → AreTold intr (Linked (Destroyed lid) ∷ acts)
-told_destroyed old intr acts lid (told, tells, are, owned) disables =
-    let now = disables told are in
+told_destroyed old intr acts lid (channel_log, tells, are, owned) disables =
+    let now = disables channel_log are in
     let less : intr.enabled ≡ filter (λ other. not (other.lid == lid)) old.enabled =
-    now.enabled ∙ enabled-disabled lid told ∙ ap (λ (links : List Enabled). filter (λ other. not (other.lid == lid)) links)
+    now.enabled ∙ enabled-disabled lid channel_log ∙ ap (λ (links : List Enabled). filter (λ other. not (other.lid == lid)) links)
     (sym are.enabled) in
-    (SrqDisabled lid ∷ told, (told, tells, refl), now, rw less (owned_destroyed old.enabled (link_acts acts) lid owned))
+    (SrqDisabled lid ∷ channel_log, (channel_log, tells, refl), now, rw less (owned_destroyed old.enabled (link_acts acts) lid owned))
 
 pub device_destroyed : (kept : Device) (links : Table) (intr : Channels) (config : Config) (acts : List DeviceAct) (lid : ℕ)
     → IsDevice kept config acts → IsTable links (Destroyed lid ∷ link_acts acts) → links.spare ≡ kept.links.spare
-    → ((told : List ChannelAct) → AreChannels kept.intr told → AreChannels intr (SrqDisabled lid ∷ told))
+    → ((channel_log : List ChannelAct) → AreChannels kept.intr channel_log → AreChannels intr (SrqDisabled lid ∷ channel_log))
     → intr.channels ≡ kept.intr.channels
     → IsDevice (record kept { links = links; intr = intr }) config (Linked (Destroyed lid) ∷ acts)
 device_destroyed kept links intr config acts lid is stands spare disables same =
@@ -186,14 +189,14 @@ pub device_locked : (kept : Device) (links : Table) (config : Config) (acts : Li
     → IsDevice (record kept { links = links }) config (Linked (Locked lid) ∷ acts)
 device_locked kept links config acts lid is stands spare =
     device_linked kept links kept.intr config acts (Locked lid ∷ []) is stands is.5.0 (omega (arith, is.5.1, spare))
-    (told_as_before kept.intr acts (Locked lid) is.6 (λ told. refl) is.6.3) (λ c ready. ready)
+    (told_as_before kept.intr acts (Locked lid) is.6 (λ channel_log. refl) is.6.3) (λ c ready. ready)
 
 pub device_unlocked : (kept : Device) (links : Table) (config : Config) (acts : List DeviceAct) (lid : ℕ)
     → IsDevice kept config acts → IsTable links (Unlocked lid ∷ link_acts acts) → links.spare ≡ kept.links.spare
     → IsDevice (record kept { links = links }) config (Linked (Unlocked lid) ∷ acts)
 device_unlocked kept links config acts lid is stands spare =
     device_linked kept links kept.intr config acts (Unlocked lid ∷ []) is stands is.5.0 (omega (arith, is.5.1, spare))
-    (told_as_before kept.intr acts (Unlocked lid) is.6 (λ told. refl) is.6.3) (λ c ready. ready)
+    (told_as_before kept.intr acts (Unlocked lid) is.6 (λ channel_log. refl) is.6.3) (λ c ready. ready)
 
 -- a link for which there are a place and memory
 made_live : (lid c : ℕ) (acts : List LinkAct) → length (live (Made lid c ∷ acts)) ≡ length (live acts) + 1
@@ -205,15 +208,15 @@ pub device_made : (kept : Device) (links : Table) (config : Config) (acts : List
 device_made kept links config acts lid c is place stands spare =
     device_linked kept links kept.intr config acts (Made lid c ∷ []) is stands
     (omega (arith, place.0, made_live lid c (link_acts acts))) (omega (arith, place.1, spare))
-    (told_as_before kept.intr acts (Made lid c) is.6 (λ told. refl) (owned_made kept.intr.enabled (link_acts acts) lid c is.6.3))
+    (told_as_before kept.intr acts (Made lid c) is.6 (λ channel_log. refl) (owned_made kept.intr.enabled (link_acts acts) lid c is.6.3))
     (λ d ready. ready)
 
 -- ---- the memory of links
 
 pub device_more : (kept : Device) (links : Table) (config : Config) (acts : List DeviceAct) → IsDevice kept config acts
     → IsTable links (link_acts acts) → kept.links.spare ≤ links.spare → IsDevice (record kept { links = links }) config acts
-device_more kept links config acts (before, instrument, set_up, clock, waiting, reserved, told, ready) stands more =
-    (stands, instrument, set_up, clock, waiting, (reserved.0, omega (arith, reserved.1, more)), told, ready)
+device_more kept links config acts (before, instrument, set_up, clock, waiting, reserved, channel_log, ready) stands more =
+    (stands, instrument, set_up, clock, waiting, (reserved.0, omega (arith, reserved.1, more)), channel_log, ready)
 
 -- ---- nothing was recorded
 
@@ -256,34 +259,34 @@ left_there false false may = absurd (may refl)
 pub lids_there : (acts : List LinkAct) → (may_make acts ≡ false → ⊥) → lids_left acts ≡ true
 lids_there acts may = left_there (nat_lt (length (live acts)) max_links) (lids_left acts) may
 
-pub told_as : (config : Config) (kept : Device) (told : Outcome) (lid n : ℕ) → kept.config ≡ config → lid ≡ n
-    → told ≡ Link NoError (pos lid) kept.config.abort max_message → Link NoError (pos n) config.abort max_message ≡ told
-told_as config kept told lid n set_up number is =
+pub told_as : (config : Config) (kept : Device) (channel_log : Outcome) (lid n : ℕ) → kept.config ≡ config → lid ≡ n
+    → channel_log ≡ Link NoError (pos lid) kept.config.abort max_message → Link NoError (pos n) config.abort max_message ≡ channel_log
+told_as config kept channel_log lid n set_up number is =
     ap (λ (k : ℕ). Link NoError (pos k) config.abort max_message) (sym number)
     ∙ ap (λ (k : Config). Link NoError (pos lid) k.abort max_message) (sym set_up)
     ∙ sym is
 
-pub made_ends : (kept : Device) (links : Table) (config : Config) (acts : List DeviceAct) (c lid : ℕ) (told : Outcome)
+pub made_ends : (kept : Device) (links : Table) (config : Config) (acts : List DeviceAct) (c lid : ℕ) (channel_log : Outcome)
     → IsDevice kept config acts → HasPlace kept acts → lids_left (link_acts acts) ≡ true → lid ≡ made (link_acts acts) + 1
     → IsTable links (Made lid c ∷ link_acts acts) → kept.links.spare ≤ links.spare + 1
-    → told ≡ Link NoError (pos lid) kept.config.abort max_message
-    → IsResult (make_link config c false acts).result told
+    → channel_log ≡ Link NoError (pos lid) kept.config.abort max_message
+    → IsResult (make_link config c false acts).result channel_log
     × IsDevice (record kept { links = links }) config ((make_link config c false acts).adds ++ acts)
-made_ends kept links config acts c lid told is place left number table spare tells = rw left (
-  told_as config kept told lid (made (link_acts acts) + 1) is.2 number tells,
+made_ends kept links config acts c lid channel_log is place left number table spare tells = rw left (
+  told_as config kept channel_log lid (made (link_acts acts) + 1) is.2 number tells,
   subst (λ (n : ℕ). IsDevice (record kept { links = links }) config (Linked (Made n c) ∷ acts)) number
       (device_made kept links config acts lid c is place table spare),
 )
 
-pub locked_ends : (kept : Device) (mid links : Table) (config : Config) (acts : List DeviceAct) (c lid : ℕ) (told : Outcome)
+pub locked_ends : (kept : Device) (mid links : Table) (config : Config) (acts : List DeviceAct) (c lid : ℕ) (channel_log : Outcome)
     → IsDevice kept config acts → HasPlace kept acts → lids_left (link_acts acts) ≡ true → lid ≡ made (link_acts acts) + 1
     → IsTable mid (Made lid c ∷ link_acts acts) → IsTable links (Locked lid ∷ Made lid c ∷ link_acts acts)
     → kept.links.spare ≤ mid.spare + 1 → links.spare ≡ mid.spare
-    → told ≡ Link NoError (pos lid) kept.config.abort max_message
-    → IsResult (make_link config c true acts).result told
+    → channel_log ≡ Link NoError (pos lid) kept.config.abort max_message
+    → IsResult (make_link config c true acts).result channel_log
     × IsDevice (record kept { links = links }) config ((make_link config c true acts).adds ++ acts)
-locked_ends kept mid links config acts c lid told is place left number table locked spare same tells = rw left (
-  told_as config kept told lid (made (link_acts acts) + 1) is.2 number tells,
+locked_ends kept mid links config acts c lid channel_log is place left number table locked spare same tells = rw left (
+  told_as config kept channel_log lid (made (link_acts acts) + 1) is.2 number tells,
   subst (λ (n : ℕ). IsDevice (record kept { links = links }) config (Linked (Locked n) ∷ Linked (Made n c) ∷ acts)) number
       (device_locked (record kept { links = mid }) links config (Linked (Made lid c) ∷ acts) lid
       (device_made kept mid config acts lid c is place table spare) locked same),
@@ -309,12 +312,13 @@ not_false false e = absurd cc
 pub lock_ends : (config : Config) (acts : List DeviceAct) (kept : Device) (links : Table) (lid : ℕ) (got : Bool) → IsDevice kept config acts
     → got ≡ not (is_locked_out (holder (link_acts acts)) (Some lid)) → (got ≡ true → IsTable links (Locked lid ∷ link_acts acts))
     → links.spare ≡ kept.links.spare → (got ≡ false → links ≡ kept.links)
-    → (told : Outcome) → told ≡ Plain (if got then NoError else DeviceLocked) → IsResult (device_lock lid acts).result told
+    → (channel_log : Outcome) → channel_log ≡ Plain (if got then NoError else DeviceLocked)
+    → IsResult (device_lock lid acts).result channel_log
     × IsDevice (record kept { links = links }) config ((device_lock lid acts).adds ++ acts)
-lock_ends config acts kept links lid true is granted stands spare same told tells =
+lock_ends config acts kept links lid true is granted stands spare same channel_log tells =
     let free : is_locked_out (holder (link_acts acts)) (Some lid) ≡ false = not_true _ granted in
     rw free (sym tells, device_locked kept links config acts lid is (stands refl) spare)
-lock_ends config acts kept links lid false is granted stands spare same told tells =
+lock_ends config acts kept links lid false is granted stands spare same channel_log tells =
     let other : is_locked_out (holder (link_acts acts)) (Some lid) ≡ true = not_false _ granted in
     rw other (sym tells, subst (λ (t : Table). IsDevice (record kept { links = t }) config acts) (sym (same refl)) is)
 
@@ -323,9 +327,10 @@ pub unlock_ends : (config : Config) (acts : List DeviceAct) (kept : Device) (lin
     → IsDevice kept config acts
     → freed ≡ is_this lid (holder (link_acts acts)) → (freed ≡ true → IsTable links (Unlocked lid ∷ link_acts acts))
     → links.spare ≡ kept.links.spare → (freed ≡ false → links ≡ kept.links)
-    → (told : Outcome) → told ≡ Plain (if freed then NoError else NoLock) → IsResult (device_unlock lid acts).result told
+    → (channel_log : Outcome) → channel_log ≡ Plain (if freed then NoError else NoLock)
+    → IsResult (device_unlock lid acts).result channel_log
     × IsDevice (record kept { links = links }) config ((device_unlock lid acts).adds ++ acts)
-unlock_ends config acts kept links lid true is this stands spare same told tells =
+unlock_ends config acts kept links lid true is this stands spare same channel_log tells =
     rw (sym this) (sym tells, device_unlocked kept links config acts lid is (stands refl) spare)
-unlock_ends config acts kept links lid false is this stands spare same told tells =
+unlock_ends config acts kept links lid false is this stands spare same channel_log tells =
     rw (sym this) (sym tells, subst (λ (t : Table). IsDevice (record kept { links = t }) config acts) (sym (same refl)) is)

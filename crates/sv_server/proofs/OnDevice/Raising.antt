@@ -17,7 +17,7 @@ use Rattle.sv_history.proofs.Telling.{requests, tells_raised}
 
 -- what stands for acts stands with so many requests more behind them
 abbrev pub Tolls : Channels → Channels → ℕ → Type 0
-Tolls old new n = (told : List ChannelAct) → AreChannels old told → AreChannels new (requests n told)
+Tolls old new n = (channel_log : List ChannelAct) → AreChannels old channel_log → AreChannels new (requests n channel_log)
 
 -- requests that were raised are told
 pub device_raised : (kept : Device) (intr : Channels) (config : Config) (acts : List DeviceAct) (adds : List InstrumentAct) (n : ℕ)

@@ -22,32 +22,35 @@ use Rattle.sv_server.proofs.OnReplay.Taking.{appends_then}
 abbrev pub first_ports : ℕ → List Port
 first_ports n = map port_of (below n)
 
-lines-append : (told : List ChannelAct) (a b : List Port) (log : List Act)
-    → lines_of told (a ++ b) log ≡ lines_of told a log ++ lines_of told b log
-lines-append told [] b log = refl
-lines-append told (port ∷ a) b log =
-    ap (λ (l : List ℕ). port_line port (waiting_on told port log) ++ l) (lines-append told a b log)
-    ∙ sym (append_assoc (port_line port (waiting_on told port log)) (lines_of told a log) (lines_of told b log))
+lines-append : (channel_log : List ChannelAct) (a b : List Port) (log : List Act)
+    → lines_of channel_log (a ++ b) log ≡ lines_of channel_log a log ++ lines_of channel_log b log
+lines-append channel_log [] b log = refl
+lines-append channel_log (port ∷ a) b log =
+    ap (λ (l : List ℕ). port_line port (waiting_on channel_log port log) ++ l) (lines-append channel_log a b log)
+    ∙ sym (append_assoc (port_line port (waiting_on channel_log port log)) (lines_of channel_log a log) (lines_of channel_log b log))
 
-tooks-append : (told : List ChannelAct) (a b : List Port) (log : List Act) (history : List PlainEvent)
-    → with_tooks told (a ++ b) log history ≡ with_tooks told b log (with_tooks told a log history)
-tooks-append told [] b log history = refl
-tooks-append told (port ∷ a) b log history = tooks-append told a b log (with_took port (waiting_on told port log) history)
+tooks-append : (channel_log : List ChannelAct) (a b : List Port) (log : List Act) (history : List PlainEvent)
+    → with_tooks channel_log (a ++ b) log history ≡ with_tooks channel_log b log (with_tooks channel_log a log history)
+tooks-append channel_log [] b log history = refl
+tooks-append channel_log (port ∷ a) b log history = tooks-append channel_log a b log
+    (with_took port (waiting_on channel_log port log) history)
 
 first_more : (n : ℕ) → first_ports (suc n) ≡ first_ports n ++ port_of n ∷ []
 first_more n = map-append port_of (below n) (n ∷ [])
 
-lines_more : (told : List ChannelAct) (n : ℕ) (log : List Act) → lines_of told (first_ports (suc n)) log ≡ lines_of told (first_ports n) log
-    ++ port_line (port_of n) (waiting_on told (port_of n) log)
-lines_more told n log =
-    ap (λ (ps : List Port). lines_of told ps log) (first_more n) ∙ lines-append told (first_ports n) (port_of n ∷ []) log
-    ∙ ap (λ (l : List ℕ). lines_of told (first_ports n) log ++ l) (append-nil (port_line (port_of n) (waiting_on told (port_of n) log)))
+lines_more : (channel_log : List ChannelAct) (n : ℕ) (log : List Act)
+    → lines_of channel_log (first_ports (suc n)) log ≡ lines_of channel_log (first_ports n) log
+    ++ port_line (port_of n) (waiting_on channel_log (port_of n) log)
+lines_more channel_log n log =
+    ap (λ (ps : List Port). lines_of channel_log ps log) (first_more n) ∙ lines-append channel_log (first_ports n) (port_of n ∷ []) log
+    ∙ ap (λ (l : List ℕ). lines_of channel_log (first_ports n) log ++ l)
+    (append-nil (port_line (port_of n) (waiting_on channel_log (port_of n) log)))
 
-tooks_more : (told : List ChannelAct) (n : ℕ) (log : List Act) (history : List PlainEvent)
-    → with_tooks told (first_ports (suc n)) log history
-    ≡ with_took (port_of n) (waiting_on told (port_of n) log) (with_tooks told (first_ports n) log history)
-tooks_more told n log history = ap (λ (ps : List Port). with_tooks told ps log history) (first_more n)
-    ∙ tooks-append told (first_ports n) (port_of n ∷ []) log history
+tooks_more : (channel_log : List ChannelAct) (n : ℕ) (log : List Act) (history : List PlainEvent)
+    → with_tooks channel_log (first_ports (suc n)) log history
+    ≡ with_took (port_of n) (waiting_on channel_log (port_of n) log) (with_tooks channel_log (first_ports n) log history)
+tooks_more channel_log n log history = ap (λ (ps : List Port). with_tooks channel_log ps log history) (first_more n)
+    ∙ tooks-append channel_log (first_ports n) (port_of n ∷ []) log history
 
 -- the numbers up to another, around one of them
 below_split : (k n : ℕ) → n < k → (others : List ℕ) × (below k ≡ below n ++ n ∷ others)
@@ -64,82 +67,83 @@ ports_split n h =
     (map port_of others, ap (map port_of) e ∙ map-append port_of (below n) (n ∷ others))
 
 -- what was taken from one port changes nothing of a later one
-shown_other : (n m : ℕ) (bytes : List ℕ) (told : List ChannelAct) (log : List Act) → n < m
-    → waiting_on (told_with_took (port_of n) bytes told) (port_of m) (log_with_took (port_of n) bytes log)
-    ≡ waiting_on told (port_of m) log
-shown_other n m [] told log less = refl
-shown_other n m (byte ∷ bytes) told log less = elim (cases_lt n 16) [
+shown_other : (n m : ℕ) (bytes : List ℕ) (channel_log : List ChannelAct) (log : List Act) → n < m
+    → waiting_on (told_with_took (port_of n) bytes channel_log) (port_of m) (log_with_took (port_of n) bytes log)
+    ≡ waiting_on channel_log (port_of m) log
+shown_other n m [] channel_log log less = refl
+shown_other n m (byte ∷ bytes) channel_log log less = elim (cases_lt n 16) [
   | inl within ↦ rw (lt-ltb n 16 within) (elim (cases_lt m 16) [
     | inl near ↦ rw (lt-ltb m 16 near)
         (ap waiting (of_other n m (BytesTaken (length (byte ∷ bytes))) log (λ e. omega (arith, e))))
     | inr far ↦ rw (le-ltb m 16 far) refl
   ])
   | inr beyond ↦ rw (le-ltb n 16 beyond, le-ltb m 16 (omega arith))
-      (took_other (m - 16) (n - 16) (length (byte ∷ bytes)) told (λ e. omega (arith, e, beyond, less)))
+      (took_other (m - 16) (n - 16) (length (byte ∷ bytes)) channel_log (λ e. omega (arith, e, beyond, less)))
 ]
 
 -- The lines of the first ports were written, and what they show was taken; what waits on the others is as it was.
 abbrev pub SoFar : Config → List PlainEvent → List ChannelAct → List Act → ℕ → State → List ℕ → Type 0
-SoFar config history told log n new text = (text ≡ lines_of told (first_ports n) log)
-    × (after : List ChannelAct) × (now : List Act) × StandsBy new config (with_tooks told (first_ports n) log history) after now
-    × ((m : ℕ) → n ≤ m → waiting_on after (port_of m) now ≡ waiting_on told (port_of m) log)
+SoFar config history channel_log log n new text = (text ≡ lines_of channel_log (first_ports n) log)
+    × (after : List ChannelAct) × (now : List Act) × StandsBy new config (with_tooks channel_log (first_ports n) log history) after now
+    × ((m : ℕ) → n ≤ m → waiting_on after (port_of m) now ≡ waiting_on channel_log (port_of m) log)
 
-pub so_far_none : (config : Config) (history : List PlainEvent) (told : List ChannelAct) (log : List Act) (state : State)
-    → StandsBy state config history told log
-    → SoFar config history told log 0 state []
-so_far_none config history told log state s = (refl, told, log, s, λ m h. refl)
+pub so_far_none : (config : Config) (history : List PlainEvent) (channel_log : List ChannelAct) (log : List Act) (state : State)
+    → StandsBy state config history channel_log log
+    → SoFar config history channel_log log 0 state []
+so_far_none config history channel_log log state s = (refl, channel_log, log, s, λ m h. refl)
 
-pub so_far_more : (config : Config) (history : List PlainEvent) (told : List ChannelAct) (log : List Act) (n next : ℕ) (old new : State)
+pub so_far_more : (config : Config) (history : List PlainEvent) (channel_log : List ChannelAct) (log : List Act) (n next : ℕ)
+    (old new : State)
     (text : List ℕ)
-    (first mid last : Option (List ℕ)) → next ≡ suc n → SoFar config history told log n old text
+    (first mid last : Option (List ℕ)) → next ≡ suc n → SoFar config history channel_log log n old text
     → Appends first mid text
     → ((h : List PlainEvent) (after : List ChannelAct) (now : List Act) → StandsBy old config h after now
     → (line : List ℕ) × Appends mid last line × ShowsPort (port_of n) config h after now (Ok tt) new line)
-    → (whole : List ℕ) × Appends first last whole × SoFar config history told log next new whole
-so_far_more config history told log n next old new text first mid last up (is, after, now, s, same) put shows =
-    let (line, more, (line_is, stands)) = shows (with_tooks told (first_ports n) log history) after now s in
-    let here : waiting_on after (port_of n) now ≡ waiting_on told (port_of n) log = same n (omega arith) in (
+    → (whole : List ℕ) × Appends first last whole × SoFar config history channel_log log next new whole
+so_far_more config history channel_log log n next old new text first mid last up (is, after, now, s, same) put shows =
+    let (line, more, (line_is, stands)) = shows (with_tooks channel_log (first_ports n) log history) after now s in
+    let here : waiting_on after (port_of n) now ≡ waiting_on channel_log (port_of n) log = same n (omega arith) in (
       text ++ line,
       appends_then first mid last text line put more,
       rw up (
-        ap (λ (l : List ℕ). l ++ line) is ∙ ap (λ (l : List ℕ). lines_of told (first_ports n) log ++ l)
-            (line_is ∙ ap (port_line (port_of n)) here) ∙ sym (lines_more told n log),
+        ap (λ (l : List ℕ). l ++ line) is ∙ ap (λ (l : List ℕ). lines_of channel_log (first_ports n) log ++ l)
+            (line_is ∙ ap (port_line (port_of n)) here) ∙ sym (lines_more channel_log n log),
         told_with_took (port_of n) (waiting_on after (port_of n) now) after,
         log_with_took (port_of n) (waiting_on after (port_of n) now) now,
         subst (λ (h : List PlainEvent). StandsBy new config h (told_with_took (port_of n) (waiting_on after (port_of n) now) after)
             (log_with_took (port_of n) (waiting_on after (port_of n) now) now))
-            (ap (λ (bytes : List ℕ). with_took (port_of n) bytes (with_tooks told (first_ports n) log history)) here
-            ∙ sym (tooks_more told n log history)) stands,
+            (ap (λ (bytes : List ℕ). with_took (port_of n) bytes (with_tooks channel_log (first_ports n) log history)) here
+            ∙ sym (tooks_more channel_log n log history)) stands,
         λ m h. shown_other n m (waiting_on after (port_of n) now) after now (omega arith) ∙ same m (omega arith),
       ),
     )
 
-pub so_far_all : (config : Config) (history : List PlainEvent) (told : List ChannelAct) (log : List Act) (n : ℕ) (new : State)
+pub so_far_all : (config : Config) (history : List PlainEvent) (channel_log : List ChannelAct) (log : List Act) (n : ℕ) (new : State)
     (text : List ℕ)
     → n ≡ 32
-    → SoFar config history told log n new text → ShowsAll config history told log (Ok tt) new text
-so_far_all config history told log n new text up (is, after, now, s, same) = (
-  is ∙ ap (λ (m : ℕ). lines_of told (first_ports m) log) up,
+    → SoFar config history channel_log log n new text → ShowsAll config history channel_log log (Ok tt) new text
+so_far_all config history channel_log log n new text up (is, after, now, s, same) = (
+  is ∙ ap (λ (m : ℕ). lines_of channel_log (first_ports m) log) up,
   after,
   now,
-  subst (λ (m : ℕ). StandsBy new config (with_tooks told (first_ports m) log history) after now) up s,
+  subst (λ (m : ℕ). StandsBy new config (with_tooks channel_log (first_ports m) log history) after now) up s,
 )
 
-pub so_far_stop : (config : Config) (history : List PlainEvent) (told : List ChannelAct) (log : List Act) (n : ℕ) (old new : State)
+pub so_far_stop : (config : Config) (history : List PlainEvent) (channel_log : List ChannelAct) (log : List Act) (n : ℕ) (old new : State)
     (text : List ℕ)
     (first mid last : Option (List ℕ)) (e : WriteFault) (r : Result ⊤ WriteFault) → n < 32
-    → SoFar config history told log n old text → Appends first mid text → IsErr r
+    → SoFar config history channel_log log n old text → Appends first mid text → IsErr r
     → ((h : List PlainEvent) (after : List ChannelAct) (now : List Act) → StandsBy old config h after now
     → (line : List ℕ) × Appends mid last line × ShowsPort (port_of n) config h after now (Err e) new line)
-    → (whole : List ℕ) × Appends first last whole × ShowsAll config history told log r new whole
-so_far_stop config history told log n old new text first mid last e (Ok all) within so put failed shows = absurd cc
-so_far_stop config history told log n old new text first mid last e (Err f) within (is, after, now, s, same) put failed shows =
-    let (part, more, (front, stands)) = shows (with_tooks told (first_ports n) log history) after now s in
-    let here : waiting_on after (port_of n) now ≡ waiting_on told (port_of n) log = same n (omega arith) in
+    → (whole : List ℕ) × Appends first last whole × ShowsAll config history channel_log log r new whole
+so_far_stop config history channel_log log n old new text first mid last e (Ok all) within so put failed shows = absurd cc
+so_far_stop config history channel_log log n old new text first mid last e (Err f) within (is, after, now, s, same) put failed shows =
+    let (part, more, (front, stands)) = shows (with_tooks channel_log (first_ports n) log history) after now s in
+    let here : waiting_on after (port_of n) now ≡ waiting_on channel_log (port_of n) log = same n (omega arith) in
     let (others, split) = ports_split n within in
-    let behind : lines_of told (port_of n ∷ others) log ≡ part ++ (front.0 ++ lines_of told others log) =
-    ap (λ (l : List ℕ). l ++ lines_of told others log) (sym (ap (port_line (port_of n)) here) ∙ front.1)
-    ∙ append_assoc part front.0 (lines_of told others log) in (
+    let behind : lines_of channel_log (port_of n ∷ others) log ≡ part ++ (front.0 ++ lines_of channel_log others log) =
+    ap (λ (l : List ℕ). l ++ lines_of channel_log others log) (sym (ap (port_line (port_of n)) here) ∙ front.1)
+    ∙ append_assoc part front.0 (lines_of channel_log others log) in (
       text ++ part,
       appends_then first mid last text part put more,
       (
@@ -147,7 +151,7 @@ so_far_stop config history told log n old new text first mid last e (Err f) with
         port_of n ∷ others,
         part,
         split,
-        (front.0 ++ lines_of told others log, behind),
+        (front.0 ++ lines_of channel_log others log, behind),
         ap (λ (l : List ℕ). l ++ part) is,
         after,
         now,

@@ -36,18 +36,20 @@ Left config history event fault new first last = (text : List ℕ) × (after : L
     × StandsFor new config after × Appends first last text
 
 -- the lines that were written, behind a refusal's line
-writes_all : (did : Result Did Refused) (told : List ChannelAct) (log : List Act) (history : List PlainEvent) (r : Result ⊤ WriteFault)
+writes_all : (did : Result Did Refused) (channel_log : List ChannelAct) (log : List Act) (history : List PlainEvent)
+    (r : Result ⊤ WriteFault)
     (fault : Result ⊤ ReplayFault)
     (config : Config) (new : State) (head text : List ℕ)
-    → did ≢ Err refused.NoMemory → ports_after did ≡ ports → head ≡ head_of did → Told r fault → ShowsAll config history told log r new text
+    → did ≢ Err refused.NoMemory → ports_after did ≡ ports → head ≡ head_of did → Told r fault
+    → ShowsAll config history channel_log log r new text
     → (after : List PlainEvent) × (so : List ChannelAct) × (now : List Act)
-    × IsReplayWritten did told log history fault (head ++ text) after
+    × IsReplayWritten did channel_log log history fault (head ++ text) after
     × StandsBy new config after so now
-writes_all did told log history (Ok all) fault config new head text some shown is came (lines, so, now, stands) =
-    (with_tooks told ports log history, so, now, rw (came, is, lines, shown) (some, refl, refl), stands)
-writes_all did told log history (Err e) fault config new head text some shown is came
+writes_all did channel_log log history (Ok all) fault config new head text some shown is came (lines, so, now, stands) =
+    (with_tooks channel_log ports log history, so, now, rw (came, is, lines, shown) (some, refl, refl), stands)
+writes_all did channel_log log history (Err e) fault config new head text some shown is came
     (first, others, part, split, front, lines, so, now, stands) = (
-      with_tooks told first log history,
+      with_tooks channel_log first log history,
       so,
       now,
       rw came (inr (
@@ -67,12 +69,13 @@ pub replay_shown : (config : Config) (history : List PlainEvent) (event : PlainE
     (fault : Result ⊤ ReplayFault) → did ≢ Err refused.NoMemory → ports_after did ≡ ports → head ≡ head_of did → Told r fault
     → AnswersNow config history event did
     → StandsFor mid config (history_after event did history) → Appends first put head
-    → ((h : List PlainEvent) (told : List ChannelAct) (log : List Act) → StandsBy mid config h told log
-    → (text : List ℕ) × Appends put last text × ShowsAll config h told log r new text) → Left config history event fault new first last
+    → ((h : List PlainEvent) (channel_log : List ChannelAct) (log : List Act) → StandsBy mid config h channel_log log
+    → (text : List ℕ) × Appends put last text × ShowsAll config h channel_log log r new text)
+    → Left config history event fault new first last
 replay_shown config history event did mid new head first put last r fault some shown is came answers s begun shows =
-    let (told, tells) = told_now mid.device config (device_acts s.log) s.represents.device in
-    let (text, more, all) = shows (history_after event did history) told s.log (s.is_log, s.represents, s.settled, tells) in
-    let (after, so, now, writes, stands) = writes_all did told s.log
+    let (channel_log, tells) = told_now mid.device config (device_acts s.log) s.represents.device in
+    let (text, more, all) = shows (history_after event did history) channel_log s.log (s.is_log, s.represents, s.settled, tells) in
+    let (after, so, now, writes, stands) = writes_all did channel_log s.log
     (history_after event did history) r fault config new head text some shown is came all in (
       head ++ text,
       after,
@@ -83,7 +86,7 @@ replay_shown config history event did mid new head first put last r fault some s
         answers = answers.2;
         log = s.log;
         is_log = s.is_log;
-        told = told;
+        told = channel_log;
         tells = tells;
         writes = writes;
       },

@@ -53,22 +53,23 @@ waits_within c state config log rep o = elim (cases_lt c 16) [
 few_taken : (count : ℕ) (bytes : List ℕ) → count ≡ length bytes → took_refusal count bytes ≡ None
 few_taken count bytes e = if_false (nat_lt (length bytes) count) _ _ (le-ltb (length bytes) count (omega arith))
 
-pub took_free : (c count : ℕ) (config : Config) (told : List ChannelAct) (log : List Act) → c ≤ 15 → is_open (of c log) ≡ true
-    → count ≡ length (waiting (of c log)) → refusal config told (Took (Conn c) count) log ≡ None
-took_free c count config told log within o e =
+pub took_free : (c count : ℕ) (config : Config) (channel_log : List ChannelAct) (log : List Act) → c ≤ 15 → is_open (of c log) ≡ true
+    → count ≡ length (waiting (of c log)) → refusal config channel_log (Took (Conn c) count) log ≡ None
+took_free c count config channel_log log within o e =
     let shut : is_shut c log ≡ false = ap (λ (b : Bool). b || not (is_open (of c log))) (le-ltb 15 c within) ∙ ap not o in
     if_false (is_shut c log) _ _ shut ∙ few_taken count (waiting (of c log)) e
 
-channel_free : (c count : ℕ) (config : Config) (told : List ChannelAct) (log : List Act) → c ≤ 15 → has_channel c (device_acts log) ≡ true
-    → count ≡ length (channel_waiting c told) → refusal config told (Took (Intr c) count) log ≡ None
-channel_free c count config told log within there e =
+channel_free : (c count : ℕ) (config : Config) (channel_log : List ChannelAct) (log : List Act) → c ≤ 15
+    → has_channel c (device_acts log) ≡ true
+    → count ≡ length (channel_waiting c channel_log) → refusal config channel_log (Took (Intr c) count) log ≡ None
+channel_free c count config channel_log log within there e =
     if_false (is_channel_shut c log) _ _ (channel_shut_is c log true (omega arith) there)
-    ∙ few_taken count (channel_waiting c told) e
+    ∙ few_taken count (channel_waiting c channel_log) e
 
 -- so it is done
-never_refused : (config : Config) (event : PlainEvent) (told : List ChannelAct) (log : List Act) (r : Refused)
-    → HearsOf (device_acts log) told → refusal config told event log ≡ None → IsRefusal config event log (Some r) → ⊥
-never_refused config event told log r tells none why = absurd (let z : None ≡ Some r = sym none ∙ why told tells in cc)
+never_refused : (config : Config) (event : PlainEvent) (channel_log : List ChannelAct) (log : List Act) (r : Refused)
+    → HearsOf (device_acts log) channel_log → refusal config channel_log event log ≡ None → IsRefusal config event log (Some r) → ⊥
+never_refused config event channel_log log r tells none why = absurd (let z : None ≡ Some r = sym none ∙ why channel_log tells in cc)
 
 makes_none : (port : Port) (count : ℕ) (config : Config) (log : List Act) (polled : ℕ) (result : Result Did Refused) (new : State)
     → IsPolled polled (device_acts log) → wants_memory (device_acts (own_acts config polled (Took port count) log)) ≡ false
@@ -76,31 +77,32 @@ makes_none : (port : Port) (count : ℕ) (config : Config) (log : List Act) (pol
 makes_none port count config log polled result new said none acts e = absurd (let z : true ≡ false =
     sym ((subst (λ (r : Result Did Refused). Acts config (Took port count) log r new) e acts).1 polled said) ∙ none in cc)
 
-took_done : (event : PlainEvent) (config : Config) (told : List ChannelAct) (log : List Act) (polled : ℕ) (result : Result Did Refused)
+took_done : (event : PlainEvent) (config : Config) (channel_log : List ChannelAct) (log : List Act) (polled : ℕ)
+    (result : Result Did Refused)
     (new : State)
-    → IsPolled polled (device_acts log) → HearsOf (device_acts log) told → refusal config told event log ≡ None
+    → IsPolled polled (device_acts log) → HearsOf (device_acts log) channel_log → refusal config channel_log event log ≡ None
     → Acts config event log result new
     → result ≢ Err NoMemory → Represents new config (own_acts config polled event log ++ log)
-took_done event config told log polled (Ok what) new said tells none (free_of, done, rep) other = rep polled said
-took_done event config told log polled (Err NoMemory) new said tells none h other = absurd (other refl)
-took_done event config told log polled (Err ConnInUse) new said tells none h other =
-    absurd (never_refused config event told log ConnInUse tells none h)
-took_done event config told log polled (Err NoConn) new said tells none h other =
-    absurd (never_refused config event told log NoConn tells none h)
-took_done event config told log polled (Err NoRoom) new said tells none h other =
-    absurd (never_refused config event told log NoRoom tells none h)
-took_done event config told log polled (Err NotSent) new said tells none h other =
-    absurd (never_refused config event told log NotSent tells none h)
-took_done event config told log polled (Err NoDial) new said tells none h other =
-    absurd (never_refused config event told log NoDial tells none h)
-took_done event config told log polled (Err NotRefusable) new said tells none h other =
-    absurd (never_refused config event told log NotRefusable tells none h)
-took_done event config told log polled (Err BadChannel) new said tells none h other =
-    absurd (never_refused config event told log BadChannel tells none h)
-took_done event config told log polled (Err BadInput) new said tells none h other =
-    absurd (never_refused config event told log BadInput tells none h)
-took_done event config told log polled (Err TimeOver) new said tells none h other =
-    absurd (never_refused config event told log TimeOver tells none h)
+took_done event config channel_log log polled (Ok what) new said tells none (free_of, done, rep) other = rep polled said
+took_done event config channel_log log polled (Err NoMemory) new said tells none h other = absurd (other refl)
+took_done event config channel_log log polled (Err ConnInUse) new said tells none h other =
+    absurd (never_refused config event channel_log log ConnInUse tells none h)
+took_done event config channel_log log polled (Err NoConn) new said tells none h other =
+    absurd (never_refused config event channel_log log NoConn tells none h)
+took_done event config channel_log log polled (Err NoRoom) new said tells none h other =
+    absurd (never_refused config event channel_log log NoRoom tells none h)
+took_done event config channel_log log polled (Err NotSent) new said tells none h other =
+    absurd (never_refused config event channel_log log NotSent tells none h)
+took_done event config channel_log log polled (Err NoDial) new said tells none h other =
+    absurd (never_refused config event channel_log log NoDial tells none h)
+took_done event config channel_log log polled (Err NotRefusable) new said tells none h other =
+    absurd (never_refused config event channel_log log NotRefusable tells none h)
+took_done event config channel_log log polled (Err BadChannel) new said tells none h other =
+    absurd (never_refused config event channel_log log BadChannel tells none h)
+took_done event config channel_log log polled (Err BadInput) new said tells none h other =
+    absurd (never_refused config event channel_log log BadInput tells none h)
+took_done event config channel_log log polled (Err TimeOver) new said tells none h other =
+    absurd (never_refused config event channel_log log TimeOver tells none h)
 
 -- the history and the log with what was taken
 with_some : (port : Port) (bytes : List ℕ) (history : List PlainEvent) → 0 < length bytes
@@ -113,7 +115,7 @@ log_with_some : (c : ℕ) (bytes : List ℕ) (log : List Act) → 0 < length byt
 log_with_some c [] log some = absurd (omega arith)
 log_with_some c (byte ∷ bytes) log some = refl
 
-told_with_conn : (c : ℕ) (bytes : List ℕ) (told : List ChannelAct) → told_with_took (Conn c) bytes told ≡ told
+told_with_conn : (c : ℕ) (bytes : List ℕ) (channel_log : List ChannelAct) → told_with_took (Conn c) bytes channel_log ≡ channel_log
 told_with_conn c [] told = refl
 told_with_conn c (byte ∷ bytes) told = refl
 
@@ -122,56 +124,58 @@ log_with_channel : (c : ℕ) (bytes : List ℕ) (log : List Act) → 0 < length 
 log_with_channel c [] log some = absurd (omega arith)
 log_with_channel c (byte ∷ bytes) log some = refl
 
-told_with_channel : (c : ℕ) (bytes : List ℕ) (told : List ChannelAct) → 0 < length bytes
-    → told_with_took (Intr c) bytes told ≡ ChannelTaken c (length bytes) ∷ told
-told_with_channel c [] told some = absurd (omega arith)
-told_with_channel c (byte ∷ bytes) told some = refl
+told_with_channel : (c : ℕ) (bytes : List ℕ) (channel_log : List ChannelAct) → 0 < length bytes
+    → told_with_took (Intr c) bytes channel_log ≡ ChannelTaken c (length bytes) ∷ channel_log
+told_with_channel c [] channel_log some = absurd (omega arith)
+told_with_channel c (byte ∷ bytes) channel_log some = refl
 
 -- what is shown is taken
-pub stands_taken : (port : Port) (bytes : List ℕ) (config : Config) (history : List PlainEvent) (told : List ChannelAct) (log : List Act)
-    (old new : State) (result : Result Did Refused) → StandsBy old config history told log
-    → bytes ≡ waiting_on told port log → 0 < length bytes → length bytes ≤ max_output
+pub stands_taken : (port : Port) (bytes : List ℕ) (config : Config) (history : List PlainEvent) (channel_log : List ChannelAct)
+    (log : List Act)
+    (old new : State) (result : Result Did Refused) → StandsBy old config history channel_log log
+    → bytes ≡ waiting_on channel_log port log → 0 < length bytes → length bytes ≤ max_output
     → Acts config (Took port (length bytes)) log result new
-    → StandsBy new config (with_took port (waiting_on told port log) history) (told_with_took port (waiting_on told port log) told)
-    (log_with_took port (waiting_on told port log) log)
-stands_taken (Intr c) bytes config history told log old new result (is_log, rep, settled, tells) is some few acts =
+    → StandsBy new config (with_took port (waiting_on channel_log port log) history)
+    (told_with_took port (waiting_on channel_log port log) channel_log)
+    (log_with_took port (waiting_on channel_log port log) log)
+stands_taken (Intr c) bytes config history channel_log log old new result (is_log, rep, settled, tells) is some few acts =
     let act = ChannelTaken c (length bytes) in
-    let some_wait : 0 < length (channel_waiting c told) = rw (← is) some in
-    let o = channel_open c told some_wait in
-    let within = channel_within old.device config (device_acts log) told c rep.device tells o in
-    let there : has_channel c (device_acts log) ≡ true = sym (has_channel_told c (device_acts log) told tells) ∙ o in
-    let none = channel_free c (length bytes) config told log within there (ap (λ (l : List ℕ). length l) is) in
+    let some_wait : 0 < length (channel_waiting c channel_log) = rw (← is) some in
+    let o = channel_open c channel_log some_wait in
+    let within = channel_within old.device config (device_acts log) channel_log c rep.device tells o in
+    let there : has_channel c (device_acts log) ≡ true = sym (has_channel_told c (device_acts log) channel_log tells) ∙ o in
+    let none = channel_free c (length bytes) config channel_log log within there (ap (λ (l : List ℕ). length l) is) in
     let (polled, said) = polled_now old.device config (device_acts log) rep.device in
     let makes = makes_none (Intr c) (length bytes) config log polled result new said refl acts in
-    let new_rep = took_done (Took (Intr c) (length bytes)) config told log polled result new said tells none acts makes in
+    let new_rep = took_done (Took (Intr c) (length bytes)) config channel_log log polled result new said tells none acts makes in
     let still = channel_settled act config log settled in
     rw (
-      with_some (Intr c) (channel_waiting c told) history some_wait,
-      log_with_channel c (channel_waiting c told) log some_wait,
-      told_with_channel c (channel_waiting c told) told some_wait,
+      with_some (Intr c) (channel_waiting c channel_log) history some_wait,
+      log_with_channel c (channel_waiting c channel_log) log some_wait,
+      told_with_channel c (channel_waiting c channel_log) channel_log some_wait,
       ← is,
     ) (
-      (log, polled, told, (omega (arith, within), omega arith), is_log, tells, none, said, (0, (still, refl))),
+      (log, polled, channel_log, (omega (arith, within), omega arith), is_log, tells, none, said, (0, (still, refl))),
       new_rep,
       still,
-      (told, tells, refl),
+      (channel_log, tells, refl),
     )
-stands_taken (Conn c) bytes config history told log old new result (is_log, rep, settled, tells) is some few acts =
+stands_taken (Conn c) bytes config history channel_log log old new result (is_log, rep, settled, tells) is some few acts =
     let some_wait : 0 < length (waiting (of c log)) = rw (← is) some in
     let o = waits_open c log some_wait in
     let within = waits_within c old config log rep o in
-    let none = took_free c (length bytes) config told log within o (ap (λ (l : List ℕ). length l) is) in
+    let none = took_free c (length bytes) config channel_log log within o (ap (λ (l : List ℕ). length l) is) in
     let (polled, said) = polled_now old.device config (device_acts log) rep.device in
     let makes = makes_none (Conn c) (length bytes) config log polled result new said refl acts in
-    let new_rep = took_done (Took (Conn c) (length bytes)) config told log polled result new said tells none acts makes in
+    let new_rep = took_done (Took (Conn c) (length bytes)) config channel_log log polled result new said tells none acts makes in
     let still = still_settled c (BytesTaken (length bytes)) config log settled in
     rw (
       with_some (Conn c) (waiting (of c log)) history some_wait,
       log_with_some c (waiting (of c log)) log some_wait,
-      told_with_conn c (waiting (of c log)) told,
+      told_with_conn c (waiting (of c log)) channel_log,
       ← is,
     ) (
-      (log, polled, told, (omega (arith, within), omega arith), is_log, tells, none, said, (0, (still, refl))),
+      (log, polled, channel_log, (omega (arith, within), omega arith), is_log, tells, none, said, (0, (still, refl))),
       new_rep,
       still,
       tells,
@@ -180,18 +184,21 @@ stands_taken (Conn c) bytes config history told log old new result (is_log, rep,
 -- ---- what is written
 
 -- where nothing waits
-pub nothing_shown : (port : Port) (bytes : List ℕ) (config : Config) (history : List PlainEvent) (told : List ChannelAct) (log : List Act)
-    (state : State) (first last : Option (List ℕ)) → StandsBy state config history told log → bytes ≡ waiting_on told port log
+pub nothing_shown : (port : Port) (bytes : List ℕ) (config : Config) (history : List PlainEvent) (channel_log : List ChannelAct)
+    (log : List Act)
+    (state : State) (first last : Option (List ℕ)) → StandsBy state config history channel_log log → bytes ≡ waiting_on channel_log port log
     → length bytes ≤ 0 → Appends first last (port_line port bytes)
-    → (line : List ℕ) × Appends first last line × ShowsPort port config history told log (Ok tt) state line
-nothing_shown port [] config history told log state first last s is none put = ([], put, rw (← is) (refl, s))
-nothing_shown port (byte ∷ bytes) config history told log state first last s is none put = absurd (omega arith)
+    → (line : List ℕ) × Appends first last line × ShowsPort port config history channel_log log (Ok tt) state line
+nothing_shown port [] config history channel_log log state first last s is none put = ([], put, rw (← is) (refl, s))
+nothing_shown port (byte ∷ bytes) config history channel_log log state first last s is none put = absurd (omega arith)
 
 -- where the writer failed
-pub show_stopped : (port : Port) (bytes : List ℕ) (config : Config) (history : List PlainEvent) (told : List ChannelAct) (log : List Act)
-    (state : State) (first last : Option (List ℕ)) (e : WriteFault) (r : Result ⊤ WriteFault) → StandsBy state config history told log
-    → bytes ≡ waiting_on told port log → IsErr r → IsTakenByWriter first last (Err e) (port_line port bytes)
-    → (line : List ℕ) × Appends first last line × ShowsPort port config history told log r state line
-show_stopped port bytes config history told log state first last e (Ok all) s is failed taken = absurd cc
-show_stopped port bytes config history told log state first last e (Err f) s is failed (part, front, put) =
+pub show_stopped : (port : Port) (bytes : List ℕ) (config : Config) (history : List PlainEvent) (channel_log : List ChannelAct)
+    (log : List Act)
+    (state : State) (first last : Option (List ℕ)) (e : WriteFault) (r : Result ⊤ WriteFault)
+    → StandsBy state config history channel_log log
+    → bytes ≡ waiting_on channel_log port log → IsErr r → IsTakenByWriter first last (Err e) (port_line port bytes)
+    → (line : List ℕ) × Appends first last line × ShowsPort port config history channel_log log r state line
+show_stopped port bytes config history channel_log log state first last e (Ok all) s is failed taken = absurd cc
+show_stopped port bytes config history channel_log log state first last e (Err f) s is failed (part, front, put) =
     (part, put, (subst (λ (l : List ℕ). IsFront part (port_line port l)) is front, s))

@@ -18,22 +18,22 @@ use Rattle.sv_links.specs.Queue.{without, queue_measure}
 use Rattle.sv_links.specs.declared.waiting.Entry.{Entry}
 use Rattle.sv_links.specs.Waiting.{Left}
 use Rattle.sv_history.specs.Act.{ConnAct, Waited}
-use Rattle.sv_history.specs.CoreCall.{CoreCall, failure}
+use Rattle.sv_history.specs.CoreCall.{CoreCall, creates_link, failure}
 use Rattle.sv_history.specs.Interrupts.{dialed}
 use Rattle.sv_history.specs.Resuming.{leaving, continued, next_wait}
 use Rattle.sv_server.specs.declared.device.resuming.Cause.{Cause}
 use Rattle.sv_server.specs.declared.device.resuming.Cause.TheVariants as causes
 use Rattle.sv_server.specs.Connection.Representation.{Connection, IsConnection}
-use Rattle.sv_server.specs.Device.Inside.Outcome.{IsResult, OutcomeIs, ResumedAs, Resumes, Enters, MayGoOn, GoesOnAs, IsNearer, is_able}
-use Rattle.sv_server.specs.Server.Inside.Ending.{CallEndsAs, Concludes, WaitsOn, WentOn, Holds, MayTakeUp, taken_up}
+use Rattle.sv_server.specs.Device.Inside.Outcome.{IsResult, OutcomeIs, MayMake, ResumedAs, MayWait, MayWaitAnew, MayResume, GoesOnAs, IsNearer, is_able}
+use Rattle.sv_server.specs.Server.Inside.Ending.{CallEndsAs, Concludes, ConcludesResumed, HasPlaceOfLink, IsSuspended, asks_for_link, taken_up}
 use Rattle.sv_server.proofs.OnDevice.Granted.{may_make_link}
 use Rattle.sv_history.specs.Request.{CoreRequest}
 
 -- what comes of a call is what comes of its record
-replies_as : (xid : ℕ) (result : Option VxiOutcome) (told : VxiOutcome) → IsResult result told
-    → replies xid result ≡ Replied (result_reply xid told) ∷ []
-replies_as xid (Some result) told is = ap (λ (o : VxiOutcome). Replied (result_reply xid o) ∷ []) is
-replies_as xid None told is = absurd is
+replies_as : (xid : ℕ) (result : Option VxiOutcome) (encoded : VxiOutcome) → IsResult result encoded
+    → replies xid result ≡ Replied (result_reply xid encoded) ∷ []
+replies_as xid (Some result) encoded is = ap (λ (o : VxiOutcome). Replied (result_reply xid o) ∷ []) is
+replies_as xid None encoded is = absurd is
 
 pub outcome_ends : (outcome : Outcome) (xid : ℕ) (device : Device) (config : Config) (acts : List DeviceAct) (what : CallOutcome)
     → OutcomeIs outcome device config acts what → CallEndsAs outcome xid device config acts (call_effect xid what)
@@ -66,8 +66,9 @@ resumed_concludes None outcome device config polled c xid arguments acts before 
 -- it waits no more, or anew
 waits_on : (next : Option (Wait × ℕ)) (outcome : Outcome) (device : Device) (config : Config) (polled c xid : ℕ) (call : CoreCall)
     (before : List DeviceAct) (old new : List Entry)
-    → ResumedAs next outcome device config polled c call.arguments before → Resumes outcome c (is_create_link call.arguments) old new
-    → WaitsOn (call_effect xid (continued config polled c call.arguments next before)) c (Some call) old new
+    → ResumedAs next outcome device config polled c call.arguments before
+    → MayWaitAnew (outcome ≡ outcomes.Suspended) c (is_create_link call.arguments) old new
+    → MayWaitAnew ((call_effect xid (continued config polled c call.arguments next before)).own ≡ []) c (creates_link (Some call)) old new
 waits_on next outcome device config polled c xid call before old new so (inl left) = inl left
 waits_on (Some for) outcome device config polled c xid call before old new so (inr (waits, wait, deadline, anew, other)) =
     inr (refl, wait, deadline, anew, other)
@@ -77,7 +78,7 @@ waits_on None outcome device config polled c xid call before old new so (inr (wa
 -- ---- a call that is taken up again
 
 pub may_go : (cause : Cause) (c : ℕ) (call : CoreCall) (kept : Device) (acts : List DeviceAct)
-    → MayTakeUp cause c (Some call) kept acts → MayGoOn cause c call.arguments kept acts
+    → MayResume cause c (HasPlaceOfLink (Some call) c kept acts) acts → MayResume cause c (MayMake call.arguments c kept acts) acts
 may_go (causes.Able wait) c call kept acts (waits, makes) = (waits, may_make_link call.arguments kept acts c makes)
 may_go (causes.Dialed ok) c call kept acts dials = dials
 may_go (causes.Failed error) c call kept acts so = tt
@@ -104,8 +105,9 @@ goes_concludes (causes.Failed error) outcome device config polled c call acts be
 
 pub goes_waits : (cause : Cause) (outcome : Outcome) (device : Device) (config : Config) (polled c : ℕ) (call : CoreCall)
     (before : List DeviceAct) (old new : List Entry)
-    → GoesOnAs cause outcome device config polled c call.arguments before → Resumes outcome c (is_create_link call.arguments) old new
-    → WaitsOn (taken_up cause config polled c (Some call) before) c (Some call) old new
+    → GoesOnAs cause outcome device config polled c call.arguments before
+    → MayWaitAnew (outcome ≡ outcomes.Suspended) c (is_create_link call.arguments) old new
+    → MayWaitAnew ((taken_up cause config polled c (Some call) before).own ≡ []) c (creates_link (Some call)) old new
 goes_waits (causes.Able wait) outcome device config polled c call before old new so waits =
     waits_on (next_wait wait call.arguments before) outcome device config polled c call.xid call before old new so waits
 goes_waits (causes.Dialed ok) outcome device config polled c call before old new so (inl left) = inl left
@@ -119,7 +121,7 @@ goes_waits (causes.Failed error) outcome device config polled c call before old 
 pub none_goes : (cause : Cause) (config : Config) (polled c : ℕ) (acts : List ConnAct) (before : List DeviceAct) (old : List Entry)
     (connection : Connection) (new : Device)
     → IsConnection connection acts → IsDevice new config (Waited (Left c) ∷ before) → new.waiting ≡ without c old
-    → WentOn (taken_up cause config polled c None before) c None config acts before old connection new
+    → ConcludesResumed (taken_up cause config polled c None before) c None config acts before old connection new
 none_goes (causes.Able wait) config polled c acts before old connection new mine all left = ((mine, all), inl left)
 none_goes (causes.Dialed ok) config polled c acts before old connection new mine all left = ((mine, all), inl left)
 none_goes (causes.Failed error) config polled c acts before old connection new mine all left = ((mine, all), inl left)
@@ -136,6 +138,7 @@ none_nearer (causes.Failed error) c old new nearer left able = absurd cc
 
 -- a call that waits is one that was asked for
 pub holds_as : (outcome : Outcome) (c : ℕ) (call : CoreCall) (old new : List Entry)
-    → Enters outcome c (is_create_link call.arguments) old new → Holds (executions.Call outcome) c (CoreRequest call) old new
+    → MayWait (outcome ≡ outcomes.Suspended) c (is_create_link call.arguments) old new
+    → MayWait (IsSuspended (executions.Call outcome) (CoreRequest call)) c (asks_for_link (CoreRequest call)) old new
 holds_as outcome c call old new (inl same) = inl same
-holds_as outcome c call old new (inr (waits, behind)) = inr (ap executions.Call waits, call, refl, behind)
+holds_as outcome c call old new (inr (waits, behind)) = inr ((ap executions.Call waits, call, refl), behind)

@@ -20,11 +20,11 @@ use Rattle.sv_server.specs.Connection.Representation.{Connection}
 use Rattle.sv_server.specs.Device.Representation.{Device as KeptDevice}
 use Rattle.sv_history.specs.CoreCall.{creates_link}
 use Rattle.sv_server.specs.Server.State.{State, Represents, IsTaken}
-use Rattle.sv_server.specs.Server.Inside.Ending.{Concludes, WentOn}
+use Rattle.sv_server.specs.Server.Inside.Ending.{Concludes, ConcludesResumed}
 use Rattle.sv_server.specs.declared.device.resuming.Cause.TheVariants.{Able}
 use Rattle.sv_server.specs.Server.Inside.Acting.{TakesStep}
-use Rattle.sv_server.specs.Device.Inside.Outcome.{InstrumentSteps}
-use Rattle.sv_server.specs.Server.Inside.Ending.{MayTakeUp, WaitsOn}
+use Rattle.sv_server.specs.Device.Inside.Outcome.{InstrumentSteps, MayResume, MayWaitAnew}
+use Rattle.sv_server.specs.Server.Inside.Ending.{HasPlaceOfLink}
 use Rattle.sv_history.proofs.Projections.{others_effect}
 use Rattle.sv_server.proofs.OnDevice.Effects.{of_same}
 use Rattle.sv_server.proofs.OnServer.Taken.{taken_without, taken_anew, taken_one}
@@ -79,7 +79,7 @@ gave_up_stands state config log c effect kept device rep sixteen lt done left ca
 -- ---- it goes on
 
 went_taken : (c : ℕ) (log : List Act) (call : List ℕ) (effect : Effect) (old new : List Entry) → unanswered (of c log) ≡ Some call
-    → WaitsOn effect c (core_call call) old new → AllByRecursion (IsTaken log) old
+    → MayWaitAnew (effect.own ≡ []) c (creates_link (core_call call)) old new → AllByRecursion (IsTaken log) old
     → AllByRecursion (IsTaken (acts_of c effect ++ log)) new
 went_taken c log call effect old new known (inl left) taken =
     rw left (taken_without c log (acts_of c effect ++ log) old (λ d ne. others_effect c d effect log ne) taken)
@@ -94,7 +94,7 @@ went_taken c log call effect old new known (inr (none, wait, deadline, is, other
 pub went_on_stands : (state : State) (config : Config) (log : List Act) (c : ℕ) (call : List ℕ) (effect : Effect) (kept : Connection)
     (device : KeptDevice)
     → Represents state config log → length state.connections ≡ 16 → c < 16 → unanswered (of c log) ≡ Some call
-    → WentOn effect c (core_call call) config (of c log) (device_acts log) state.device.waiting kept device
+    → ConcludesResumed effect c (core_call call) config (of c log) (device_acts log) state.device.waiting kept device
     → Represents (record state { connections = set state.connections c kept; device = device }) config (acts_of c effect ++ log)
 went_on_stands state config log c call effect kept device rep sixteen lt known (done, waits) =
     resumed state config log c effect kept device rep sixteen lt done
@@ -124,7 +124,7 @@ pub may_go_on : (kept : KeptDevice) (entry : Entry) (log : List Act) (call : Lis
     → CanResume (device_acts log) entry.conn → IsEntry (wait_acts (device_acts log)) entry
     → (creates entry ≡ true → creations (without entry.conn kept.waiting) < creations kept.waiting)
     → (creates_link (core_call call) ≡ true → creates entry ≡ true)
-    → MayTakeUp (Able entry.wait) entry.conn (core_call call) kept (device_acts log)
+    → MayResume (Able entry.wait) entry.conn (HasPlaceOfLink (core_call call) entry.conn kept (device_acts log)) (device_acts log)
 may_go_on kept entry log call able is fewer makes = (
   λ none. let z : Some entry.wait ≡ None = sym is.0 ∙ none in cc,
   λ creates_it.

@@ -10,10 +10,11 @@ use Rattle.sv_links.specs.Waiting.{Left}
 use Rattle.sv_links.specs.Channels.{ChannelClosed}
 use Rattle.sv_links.specs.Queue.{without}
 use Rattle.sv_history.specs.declared.event.Config.{Config}
+use Rattle.sv_server.specs.Device.Inside.Outcome.{MayWait}
 use Rattle.sv_server.specs.Server.Inside.Ending.{Concludes}
-use Rattle.sv_server.specs.Server.Inside.Ending.{HeldAs}
 use Rattle.sv_history.specs.Act.{Act, ConnAct, DeviceAct, CallTaken, PortClosed, Linked, Waited, Channel, Ticked, On, OnDevice, of, device_acts, link_acts}
 use Rattle.sv_history.specs.Connection.{is_open, is_busy, unanswered}
+use Rattle.sv_history.specs.CoreCall.{creates_link}
 use Rattle.sv_history.specs.Request.{core_call}
 use Rattle.sv_history.specs.Effect.{Effect, acts_of}
 use Rattle.sv_server.specs.Connection.Representation.{Connection, IsConnection}
@@ -163,7 +164,7 @@ busy_idle acts call known idle = let z : true ≡ false = sym (ap is_some known)
 
 -- what is known of the calls that wait, behind a Turn
 pub held_taken : (c : ℕ) (log : List Act) (call : List ℕ) (effect : Effect) (old new : List Entry)
-    → is_busy (of c log) ≡ false → AllByRecursion (IsTaken log) old → HeldAs effect c (core_call call) old new
+    → is_busy (of c log) ≡ false → AllByRecursion (IsTaken log) old → MayWait (effect.own ≡ []) c (creates_link (core_call call)) old new
     → AllByRecursion (IsTaken ((acts_of c effect ++ On c (CallTaken call) ∷ []) ++ log)) new
 held_taken c log call effect old new idle taken (inl same) =
     rw same (taken_acted c log ((acts_of c effect ++ On c (CallTaken call) ∷ []) ++ log) old
@@ -180,7 +181,7 @@ pub turned : (state : State) (config : Config) (log : List Act) (c : ℕ) (call 
     (device : KeptDevice)
     → Represents state config log → length state.connections ≡ 16 → c < 16 → is_busy (of c log) ≡ false
     → Concludes effect config (CallTaken call ∷ of c log) (device_acts log) kept device
-    → HeldAs effect c (core_call call) state.device.waiting device.waiting → of c log ≢ []
+    → MayWait (effect.own ≡ []) c (creates_link (core_call call)) state.device.waiting device.waiting → of c log ≢ []
     → Represents (record state { connections = set state.connections c kept; device = device }) config
     ((acts_of c effect ++ On c (CallTaken call) ∷ []) ++ log)
 turned state config log c call effect kept device rep sixteen lt idle (mine, all) held there =

@@ -48,7 +48,7 @@ pub refuse_refused : (config : Config) (c : ℕ) (log : List Act) (r : Refused) 
     → is_shut c log ≡ false → Refuses (of c log) (Err r) kept → Acts config (Refuse c) log (Err r) new
 refuse_refused config c log NoMemory kept new open_now why =
     absurd (other_reason (is_none (refusable (of c log))) (nat_lt (free (of c log)) longest_reply) why)
-refuse_refused config c log _ kept new open_now why = λ told tells. rw open_now why
+refuse_refused config c log _ kept new open_now why = λ channel_log tells. rw open_now why
 
 -- what it leaves of the server
 pub refuse_done : (state : State) (config : Config) (log : List Act) (c : ℕ) (kept : Connection)
@@ -61,7 +61,7 @@ refuse_done state config log c kept rep sixteen lt open_now (none, bytes, call, 
     let others = λ (d : ℕ) (ne : d ≢ c). of_other c d answered mid ne ∙ of_other c d (CallTaken bytes) log ne in
     let here : of c (On c answered ∷ mid) ≡ answered ∷ CallTaken bytes ∷ of c log =
     of_mine c answered mid ∙ ap (λ (l : List ConnAct). answered ∷ l) (of_mine c (CallTaken bytes) log) in (
-      λ told tells. rw open_now none,
+      λ channel_log tells. rw open_now none,
       refl,
       λ polled said. subst
           (λ (adds : List Act). Represents (record state { connections = set state.connections c kept }) config (adds ++ log))
@@ -83,4 +83,4 @@ pub input_refused : (config : Config) (channel : ℕ) (microvolts : ℤ) (log : 
     → IsInput channel microvolts (Err r) → Acts config (Input channel microvolts) log (Err r) new
 input_refused config channel microvolts log NoMemory new why =
     absurd (other_input (not (is_channel channel)) (is_beyond microvolts) why)
-input_refused config channel microvolts log _ new why = λ told tells. sym why
+input_refused config channel microvolts log _ new why = λ channel_log tells. sym why

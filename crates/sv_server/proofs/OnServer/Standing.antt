@@ -29,11 +29,11 @@ stands_after : (config : Config) (history : List PlainEvent) (event : PlainEvent
 stands_after config history event old mid new did s is_event acts settles =
     let (free, done, makes) = acts config s.log s.represents in
     let (polled, said) = polled_now old.device config (device_acts s.log) s.represents.device in
-    let (told, tells) = told_now old.device config (device_acts s.log) s.represents.device in
+    let (channel_log, tells) = told_now old.device config (device_acts s.log) s.represents.device in
     let (last, steps, held) = settles config (own_acts config polled event s.log ++ s.log) (makes polled said) in
     record {
       log = last;
-      is_log = (s.log, polled, told, is_event, s.is_log, tells, free told tells, said, steps);
+      is_log = (s.log, polled, channel_log, is_event, s.is_log, tells, free channel_log tells, said, steps);
       represents = held;
       settled = nothing_due steps.0 config (own_acts config polled event s.log ++ s.log) last steps.1;
     }
@@ -54,11 +54,11 @@ stands_at_once : (config : Config) (history : List PlainEvent) (event : PlainEve
 stands_at_once config history event old mid did quiet s is_event acts =
     let (free, done, makes) = acts config s.log s.represents in
     let (polled, said) = polled_now old.device config (device_acts s.log) s.represents.device in
-    let (told, tells) = told_now old.device config (device_acts s.log) s.represents.device in
+    let (channel_log, tells) = told_now old.device config (device_acts s.log) s.represents.device in
     let none = quiet_settled config polled event s.log quiet s.settled in
     record {
       log = own_acts config polled event s.log ++ s.log;
-      is_log = (s.log, polled, told, is_event, s.is_log, tells, free told tells, said, (zero, (none, refl)));
+      is_log = (s.log, polled, channel_log, is_event, s.is_log, tells, free channel_log tells, said, (zero, (none, refl)));
       represents = makes polled said;
       settled = none;
     }
@@ -85,18 +85,19 @@ none_due config new (inr (none, inr (still, inr (idle, gives)))) = absurd (let z
 -- what refuses it by what was told
 told_so : (config : Config) (event : PlainEvent) (log : List Act) (what : Option Refused) (old : State) → Represents old config log
     → IsRefusal config event log what
-    → (told : List ChannelAct) × HearsOf (device_acts log) told × (refusal config told event log ≡ what)
+    → (channel_log : List ChannelAct) × HearsOf (device_acts log) channel_log × (refusal config channel_log event log ≡ what)
 told_so config event log what old rep why =
-    let (told, tells) = told_now old.device config (device_acts log) rep.device in (told, tells, why told tells)
+    let (channel_log, tells) = told_now old.device config (device_acts log) rep.device in (channel_log, tells, why channel_log tells)
 
 -- what a private function leaves says what is answered
 pub answered : (config : Config) (event : PlainEvent) (log : List Act) (r : Result Did Refused) (old new : State)
     → Represents old config log → Acts config event log r new → Answers config event log r
 answered config event log (Ok what) old new rep (none, does, more) =
-    let (told, tells, free) = told_so config event log None old rep none in (told, tells, (free, does))
+    let (channel_log, tells, free) = told_so config event log None old rep none in (channel_log, tells, (free, does))
 answered config event log (Err NoMemory) old new rep (none, wants) =
-    let (told, tells, free) = told_so config event log None old rep none in
-    let (polled, said) = polled_now old.device config (device_acts log) rep.device in (told, tells, (free, polled, said, wants polled said))
+    let (channel_log, tells, free) = told_so config event log None old rep none in
+    let (polled, said) = polled_now old.device config (device_acts log) rep.device in
+    (channel_log, tells, (free, polled, said, wants polled said))
 answered config event log (Err ConnInUse) old new rep why = told_so config event log (Some ConnInUse) old rep why
 answered config event log (Err NoConn) old new rep why = told_so config event log (Some NoConn) old rep why
 answered config event log (Err NoRoom) old new rep why = told_so config event log (Some NoRoom) old rep why

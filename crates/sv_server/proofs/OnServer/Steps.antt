@@ -17,7 +17,7 @@ polled_now kept config acts is = polled_byte kept.instrument.layers (instrument_
 
 -- what is told to interrupt channels
 pub told_now : (kept : KeptDevice) (config : Config) (acts : List DeviceAct) → IsDevice kept config acts
-    → (told : List ChannelAct) × HearsOf acts told
+    → (channel_log : List ChannelAct) × HearsOf acts channel_log
 told_now kept config acts is = (is.6.0, is.6.1)
 
 -- none is due where there is none of either kind

@@ -14,9 +14,10 @@ use Rattle.sv_history.specs.Act.{DeviceAct, ConnAct}
 use Rattle.sv_history.specs.Connection.{free, is_idle, next_call, open_role}
 use Rattle.sv_history.specs.declared.event.Refused.TheVariants.{NoRoom}
 use Rattle.sv_history.specs.History.{turn_refusal}
-use Rattle.sv_history.specs.CoreCall.{CoreCall}
+use Rattle.sv_history.specs.CoreCall.{CoreCall, creates_link}
 use Rattle.sv_server.specs.Device.Representation.{Device}
-use Rattle.sv_server.specs.Server.Inside.Ending.{EndsAs, Holds, HeldAs}
+use Rattle.sv_server.specs.Device.Inside.Outcome.{MayWait}
+use Rattle.sv_server.specs.Server.Inside.Ending.{EndsAs, IsSuspended, asks_for_link}
 use Rattle.sv_server.specs.Connection.Inside.Requests.{xid_of}
 use Rattle.sv_server.specs.declared.server.execution.Executed.{Executed}
 use Rattle.sv_history.specs.Effect.{Effect}
@@ -67,14 +68,15 @@ core_alone role (Err BadHeader) call e = absurd (let z : NoCall ≡ CoreRequest 
 pub held_as : (executed : Executed) (c : ℕ) (role : Role) (bytes : List ℕ) (request : Request) (device : Device) (config : Config)
     (acts : List DeviceAct) (effect : Effect) (old new : List Entry)
     → request ≡ request_of role (call_at bytes) → EndsAs executed (xid_of request) device config acts effect
-    → Holds executed c request old new → HeldAs effect c (core_call bytes) old new
+    → MayWait (IsSuspended executed request) c (asks_for_link request) old new
+    → MayWait (effect.own ≡ []) c (creates_link (core_call bytes)) old new
 held_as executed c role bytes request device config acts effect old new asks ends (inl same) = inl same
-held_as executed c role bytes request device config acts effect old new asks ends (inr (is, call, core, behind)) =
+held_as executed c role bytes request device config acts effect old new asks ends (inr ((is, call, core), behind)) =
     let known = sym asks ∙ core in
     let read : core_call bytes ≡ Some call =
     ap (λ (r : Role). core_call_of (request_of r (call_at bytes))) (sym (core_alone role (call_at bytes) call known))
     ∙ ap core_call_of known in
-    inr ((rw is at ends).0, rw read behind)
+    inr ((rw is at ends).0, rw read (rw core at behind))
 
 -- a Turn that finds room is not refused
 pub refusal_none : (acts : List ConnAct) → nat_lt (free acts) longest_reply ≡ false → turn_refusal acts ≡ None

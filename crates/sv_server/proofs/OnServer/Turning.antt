@@ -40,12 +40,12 @@ taken_wants c call effect (Some d) log none wants =
 pub turn_refused : (config : Config) (c : ℕ) (log : List Act) (old : List Entry) (r : Refused) (kept : Connection) (device : KeptDevice)
     (new : State) → is_shut c log ≡ false → Turns config c log old (Err r) kept device → Acts config (Turn c) log (Err r) new
 turn_refused config c log old NoMemory kept device new open_now (none, call, request, (next, asks, wants)) = (
-  λ told tells. rw open_now none,
+  λ channel_log tells. rw open_now none,
   λ polled said. rw (asks, next)
       (taken_wants c call (request_effect config polled c request (device_acts log)) (aborts request (device_acts log)) log
       (λ d e. (request_aborts config polled c request (device_acts log) d e).0) (wants polled said)),
 )
-turn_refused config c log old _ kept device new open_now why = λ told tells. rw open_now why
+turn_refused config c log old _ kept device new open_now why = λ channel_log tells. rw open_now why
 
 -- ---- a Turn that finds no call
 
@@ -58,7 +58,7 @@ pub turn_idle : (state : State) (config : Config) (log : List Act) (c : ℕ) (ke
     → Turns config c log state.device.waiting (Ok Idle) kept device
     → Acts config (Turn c) log (Ok DidNothing) (record state { connections = set state.connections c kept; device = device })
 turn_idle state config log c kept device rep sixteen lt open_now (none, idle, mine, all, same) = (
-  λ told tells. rw open_now none,
+  λ channel_log tells. rw open_now none,
   rw idle refl,
   λ polled said. rw (none_next (next_call (of c log)) idle)
       (acted state config log log c kept device rep sixteen lt mine all (λ d ne. refl)
@@ -83,7 +83,7 @@ pub turn_done : (state new : State) (config : Config) (log : List Act) (c : ℕ)
     → ((d : ℕ) → aborted ≡ Some d → waits d (wait_acts (device_acts mid)) ≡ None → ⊥) → Represents new k (abort_acts aborted mid ++ mid))
     → Acts config (Turn c) log (Ok DidSo) new
 turn_done state new config log c aborted kept device rep sixteen lt open_now (none, idle, call, request, is, (next, asks, so)) ends = (
-  λ told tells. rw open_now none,
+  λ channel_log tells. rw open_now none,
   rw idle refl,
   λ polled said.
       let effect = request_effect config polled c request (device_acts log) in

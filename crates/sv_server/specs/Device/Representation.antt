@@ -39,7 +39,8 @@ AreOwned links acts = AllByRecursion (λ link. owner link.lid acts ≡ Some link
 
 -- The interrupt channels keep what they were told.
 abbrev pub AreTold : Channels → List DeviceAct → Type 0
-AreTold kept acts = (told : List ChannelAct) × HearsOf acts told × AreChannels kept told × AreOwned kept.enabled (link_acts acts)
+AreTold kept acts = (channel_log : List ChannelAct) × HearsOf acts channel_log × AreChannels kept channel_log
+    × AreOwned kept.enabled (link_acts acts)
 
 -- One that a create_intr_chan waits for can be opened.
 abbrev pub AreReady : Channels → List WaitAct → Type 0

@@ -21,13 +21,13 @@ use Rattle.sv_server.specs.Replay.TakenByWriter.{IsFront}
 abbrev pub IsReplayWritten : Result Did Refused → List ChannelAct → List Act → List PlainEvent → Result ⊤ ReplayFault → List ℕ
     → List PlainEvent
     → Type 0
-IsReplayWritten did told log history (Ok all) text after = (did ≢ Err refused.NoMemory) × (text ≡ print_of did told log)
-    × (after ≡ with_tooks told (ports_after did) log history)
-IsReplayWritten did told log history (Err NoMemory) text after =
-    (did ≡ Err refused.NoMemory) × (text ≡ print_of did told log) × (after ≡ history)
-IsReplayWritten did told log history (Err Write) text after = (IsFront text (head_of did) × (after ≡ history))
-    ⊎ ((shown others : List Port) × (part : List ℕ) × (ports_after did ≡ shown ++ others) × IsFront part (lines_of told others log)
-    × (text ≡ head_of did ++ (lines_of told shown log ++ part)) × (after ≡ with_tooks told shown log history))
+IsReplayWritten did channel_log log history (Ok all) text after = (did ≢ Err refused.NoMemory) × (text ≡ print_of did channel_log log)
+    × (after ≡ with_tooks channel_log (ports_after did) log history)
+IsReplayWritten did channel_log log history (Err NoMemory) text after =
+    (did ≡ Err refused.NoMemory) × (text ≡ print_of did channel_log log) × (after ≡ history)
+IsReplayWritten did channel_log log history (Err Write) text after = (IsFront text (head_of did) × (after ≡ history))
+    ⊎ ((shown others : List Port) × (part : List ℕ) × (ports_after did ≡ shown ++ others) × IsFront part (lines_of channel_log others log)
+    × (text ≡ head_of did ++ (lines_of channel_log shown log ++ part)) × (after ≡ with_tooks channel_log shown log history))
 
 -- The event is done or refused, as the history says, and then its print is written, by the log of the history that this leaves.
 pub record Replays (config : Config) (history : List PlainEvent) (event : PlainEvent) (result : Result ⊤ ReplayFault) (text : List ℕ)
@@ -39,5 +39,5 @@ pub record Replays (config : Config) (history : List PlainEvent) (event : PlainE
   pub log : List Act
   pub is_log : IsLogOf config (history_after event did history) log
   pub told : List ChannelAct
-  pub tells : HearsOf (device_acts log) told
-  pub writes : IsReplayWritten did told log (history_after event did history) result text after
+  pub tells : HearsOf (device_acts log) channel_log
+  pub writes : IsReplayWritten did channel_log log (history_after event did history) result text after

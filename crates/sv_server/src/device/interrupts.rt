@@ -186,9 +186,10 @@ impl<A: Allocator> Device<A> {
     /// The bytes that wait on the interrupt channel of a connection; none where it isn't open.
     pub fn channel_waiting(&self, conn: Conn) -> &[u8]
         ensures same { result.now ≡ bytes_of self.now.intr conn.number }
-        ensures answer { (config : Configured) (acts : List DeviceAct) (told : List ChannelAct)
-            → IsDevice self.now config acts → HearsOf acts told
-            → result.now ≡ channel_bytes conn.number told }
+        ensures answer { (config : Configured) (acts : List DeviceAct)
+            (channel_log : List ChannelAct)
+            → IsDevice self.now config acts → HearsOf acts channel_log
+            → result.now ≡ channel_bytes conn.number channel_log }
         ensures bounded { length result.now ≤ max_queued }
     {
         self.intr.waiting(conn.number)

@@ -12,7 +12,8 @@ ghost use Rattle.sv_history.specs.CoreCall.{failure as failed};
 ghost use Rattle.sv_history.specs.Interrupts.{is_dial};
 ghost use Rattle.sv_history.specs.Resuming.{next_wait};
 ghost use Rattle.sv_server.specs.Device.Representation.{IsDevice};
-ghost use Rattle.sv_server.specs.Device.Inside.Outcome.{IsDeviceAt, MayMake, MayGoOn, GoesOnAs, OutcomeIs, ResumedAs, Resumes, IsBrief, IsNearer, is_able};
+ghost use Rattle.sv_server.specs.declared.device.call_outcome.CallOutcome.TheVariants as outcomes;
+ghost use Rattle.sv_server.specs.Device.Inside.Outcome.{IsDeviceAt, MayMake, MayResume, GoesOnAs, OutcomeIs, ResumedAs, MayWaitAnew, IsBrief, IsNearer, is_able};
 
 use crate::conn::Conn;
 use crate::device::Device;
@@ -39,11 +40,13 @@ impl<A: Allocator> Device<A> {
         requires { IsNearer cause conn.number self.old.waiting }
         ensures ends { (config : Config) (polled : ℕ) (acts : List DeviceAct)
             → IsDeviceAt self.old config polled acts
-            → MayGoOn cause conn.number (plain_arguments args.now) self.old acts
+            → MayResume cause conn.number (MayMake (plain_arguments args.now) conn.number
+            self.old acts) acts
             → GoesOnAs cause result self.new config polled conn.number (plain_arguments args.now)
             acts }
         ensures short { IsBrief result }
-        ensures waiting { Resumes result conn.number (makes_link (plain_arguments args.now))
+        ensures waiting { MayWaitAnew (result ≡ outcomes.Suspended) conn.number
+            (makes_link (plain_arguments args.now))
             self.old.waiting self.new.waiting }
         ensures left { is_able cause ≡ false
             → self.new.waiting ≡ without conn.number self.old.waiting }
@@ -69,7 +72,8 @@ impl<A: Allocator> Device<A> {
             → ResumedAs (next_wait wait (plain_arguments args.now) acts) result self.new config
             polled conn.number (plain_arguments args.now) acts }
         ensures short { IsBrief result }
-        ensures waiting { Resumes result conn.number (makes_link (plain_arguments args.now))
+        ensures waiting { MayWaitAnew (result ≡ outcomes.Suspended) conn.number
+            (makes_link (plain_arguments args.now))
             self.old.waiting self.new.waiting }
         ensures measure { queue_measure self.new.waiting < queue_measure self.old.waiting }
     {
@@ -104,7 +108,8 @@ impl<A: Allocator> Device<A> {
             → ResumedAs (next_wait Wait.Lock (plain_arguments args.now) acts) result self.new config
             polled conn.number (plain_arguments args.now) acts }
         ensures short { IsBrief result }
-        ensures waiting { Resumes result conn.number (makes_link (plain_arguments args.now))
+        ensures waiting { MayWaitAnew (result ≡ outcomes.Suspended) conn.number
+            (makes_link (plain_arguments args.now))
             self.old.waiting self.new.waiting }
         ensures measure { queue_measure self.new.waiting < queue_measure self.old.waiting }
     {

@@ -95,9 +95,9 @@ impl<A: Allocator> Server<A> {
 
     /// The bytes that wait on an interrupt channel; none where it isn't open.
     pub(crate) fn sent(&self, conn: u8) -> &[u8]
-        ensures exact { (config : Config) (log : List Act) (told : List ChannelAct)
-            → Represents self.now config log → HearsOf (device_acts log) told
-            → result.now ≡ channel_bytes conn told }
+        ensures exact { (config : Config) (log : List Act) (channel_log : List ChannelAct)
+            → Represents self.now config log → HearsOf (device_acts log) channel_log
+            → result.now ≡ channel_bytes conn channel_log }
         ensures bounded { length result.now ≤ max_output }
     {
         match Conn::new(conn) {

@@ -7,8 +7,8 @@ ghost use Rattle.sv_history.specs.Act.{ConnAct, DeviceAct};
 ghost use Rattle.sv_history.specs.Connection.{unanswered, is_busy};
 ghost use Rattle.sv_history.specs.Request.{core_call_in};
 ghost use Rattle.sv_server.specs.Connection.Representation.{IsConnection};
-ghost use Rattle.sv_server.specs.Device.Inside.Outcome.{IsDeviceAt, IsNearer, is_able};
-ghost use Rattle.sv_server.specs.Server.Inside.Ending.{MayTakeUp, WentOn, taken_up};
+ghost use Rattle.sv_server.specs.Device.Inside.Outcome.{IsDeviceAt, IsNearer, MayResume, is_able};
+ghost use Rattle.sv_server.specs.Server.Inside.Ending.{HasPlaceOfLink, ConcludesResumed, taken_up};
 
 use crate::conn::Conn;
 use crate::connection::Connection;
@@ -29,8 +29,9 @@ pub fn take_up<A: Allocator>(
     ensures concludes { (config : Config) (polled : ℕ) (acts : List ConnAct)
         (before : List DeviceAct) → IsConnection connection.old acts → is_busy acts ≡ true
         → IsDeviceAt device.old config polled before
-        → MayTakeUp cause conn.number (core_call_in (unanswered acts)) device.old before
-        → WentOn (taken_up cause config polled conn.number (core_call_in (unanswered acts))
+        → MayResume cause conn.number (HasPlaceOfLink (core_call_in (unanswered acts))
+        conn.number device.old before) before
+        → ConcludesResumed (taken_up cause config polled conn.number (core_call_in (unanswered acts))
         before) conn.number (core_call_in (unanswered acts)) config acts before device.old.waiting
         connection.new device.new }
     ensures left { is_able cause ≡ false

@@ -108,7 +108,7 @@ pub fn conclude_call<A: Allocator>(
     ensures waiting { device.new.waiting ≡ device.old.waiting }
 {
     match outcome {
-        CallOutcome::Result(told) => connection.answer(xid, &Answer::Result(told)),
+        CallOutcome::Result(result) => connection.answer(xid, &Answer::Result(result)),
         CallOutcome::Reads { most, term } => answer_response(xid, most, term, connection, device),
         CallOutcome::Suspended => {}
     }

@@ -45,7 +45,7 @@ IsBrief _ = ⊤
 
 -- A call has this result.
 abbrev pub IsResult : Option VxiOutcome → VxiOutcome → Type 0
-IsResult (Some told) result = told ≡ result
+IsResult (Some encoded) result = encoded ≡ result
 IsResult None result = ⊥
 
 -- A call comes to this. What it reads of the response is still to be read.
@@ -69,8 +69,9 @@ abbrev pub IsBehind : ℕ → Bool → List Entry → List Entry → Type 0
 IsBehind c makes old new =
     (entry : Entry) × (entry.conn ≡ c) × (new ≡ without c old ++ entry ∷ []) × (makes ≡ true → creates entry ≡ true)
 
-abbrev pub Enters : Outcome → ℕ → Bool → List Entry → List Entry → Type 0
-Enters outcome c makes old new = (new ≡ old) ⊎ ((outcome ≡ outcomes.Suspended) × IsBehind c makes old new)
+-- The queue is as it was; or, if this is so, the call stands behind all that wait.
+abbrev pub MayWait : Type 0 → ℕ → Bool → List Entry → List Entry → Type 0
+MayWait IsSuspended c makes old new = (new ≡ old) ⊎ (IsSuspended × IsBehind c makes old new)
 
 -- A call or a record comes to this, which is as brief as this; or memory is wanting and nothing changed.
 pub record Does {O : Type 0} (IsSo : Config → ℕ → List DeviceAct → O → Type 0) (Wants : Config → ℕ → List DeviceAct → Type 0)
@@ -87,7 +88,7 @@ abbrev pub Begins : (List DeviceAct → Type 0) → {E : Type 0} → Result Outc
 Begins IsAt result c arguments old new =
     Does (λ config polled acts outcome. IsAt acts
     → OutcomeIs outcome new config acts (admitted config polled c arguments (stop_of c arguments acts) acts)
-    × Enters outcome c (is_create_link arguments) old.waiting new.waiting)
+    × MayWait (outcome ≡ outcomes.Suspended) c (is_create_link arguments) old.waiting new.waiting)
     (λ config polled acts. IsAt acts → wants_memory (admitted config polled c arguments (stop_of c arguments acts) acts).adds ≡ true)
     IsBrief result old new
 
@@ -112,10 +113,10 @@ ResumedAs (Some wait) outcome device config polled c arguments acts =
 ResumedAs None outcome device config polled c arguments acts =
     OutcomeIs outcome device config (Waited (Left c) ∷ acts) (own_call config polled c arguments (Waited (Left c) ∷ acts))
 
--- It stands among those that wait no more; or it waits for something else, and makes no link.
-abbrev pub Resumes : Outcome → ℕ → Bool → List Entry → List Entry → Type 0
-Resumes outcome c makes old new = (new ≡ without c old)
-    ⊎ ((outcome ≡ outcomes.Suspended) × (wait : Wait) × (deadline : Option ℕ) × (new ≡ map (anew c wait deadline) old) × (makes ≡ false))
+-- The call waits no more; or, if this is so, it waits anew in its place, and makes no link.
+abbrev pub MayWaitAnew : Type 0 → ℕ → Bool → List Entry → List Entry → Type 0
+MayWaitAnew IsSuspended c makes old new = (new ≡ without c old)
+    ⊎ (IsSuspended × (wait : Wait) × (deadline : Option ℕ) × (new ≡ map (anew c wait deadline) old) × (makes ≡ false))
 
 -- It is taken up again for this: what it waits for is there, its peer was called, or it fails.
 abbrev pub is_able : Cause → Bool
@@ -127,10 +128,11 @@ abbrev pub IsNearer : Cause → ℕ → List Entry → Type 0
 IsNearer (causes.Able wait) c old = queue_measure (without c old) + wait_measure wait ≤ queue_measure old
 IsNearer _ c old = ⊤
 
-abbrev pub MayGoOn : Cause → ℕ → Arguments → Device → List DeviceAct → Type 0
-MayGoOn (causes.Able wait) c arguments kept acts = (waits c (wait_acts acts) ≡ None → ⊥) × MayMake arguments c kept acts
-MayGoOn (causes.Dialed ok) c arguments kept acts = is_dialing c (wait_acts acts) ≡ true
-MayGoOn (causes.Failed error) c arguments kept acts = ⊤
+-- It may be taken up for this, if a link that it makes has its place.
+abbrev pub MayResume : Cause → ℕ → Type 0 → List DeviceAct → Type 0
+MayResume (causes.Able wait) c HasPlaceOfLink acts = (waits c (wait_acts acts) ≡ None → ⊥) × HasPlaceOfLink
+MayResume (causes.Dialed ok) c HasPlaceOfLink acts = is_dialing c (wait_acts acts) ≡ true
+MayResume (causes.Failed error) c HasPlaceOfLink acts = ⊤
 
 abbrev pub GoesOnAs : Cause → Outcome → Device → Config → ℕ → ℕ → Arguments → List DeviceAct → Type 0
 GoesOnAs (causes.Able wait) outcome device config polled c arguments acts =

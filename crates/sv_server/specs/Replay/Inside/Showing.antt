@@ -17,8 +17,8 @@ use Rattle.sv_server.specs.Replay.TakenByWriter.{IsFront}
 
 -- The server stands for a history by this log, which tells this to interrupt channels.
 abbrev pub StandsBy : State → Config → List PlainEvent → List ChannelAct → List Act → Type 0
-StandsBy state config history told log =
-    IsLogOf config history log × Represents state config log × IsSettled config log × HearsOf (device_acts log) told
+StandsBy state config history channel_log log =
+    IsLogOf config history log × Represents state config log × IsSettled config log × HearsOf (device_acts log) channel_log
 
 -- the log in which the peer took these bytes from a port
 abbrev pub log_with_took : Port → List ℕ → List Act → List Act
@@ -27,22 +27,24 @@ log_with_took (Conn c) (byte ∷ bytes) log = On c (BytesTaken (length (byte ∷
 log_with_took (Intr c) (byte ∷ bytes) log = OnDevice (Channel (ChannelTaken c (length (byte ∷ bytes)))) ∷ log
 
 abbrev pub told_with_took : Port → List ℕ → List ChannelAct → List ChannelAct
-told_with_took port [] told = told
-told_with_took (Conn c) (byte ∷ bytes) told = told
-told_with_took (Intr c) (byte ∷ bytes) told = ChannelTaken c (length (byte ∷ bytes)) ∷ told
+told_with_took port [] told = channel_log
+told_with_took (Conn c) (byte ∷ bytes) told = channel_log
+told_with_took (Intr c) (byte ∷ bytes) told = ChannelTaken c (length (byte ∷ bytes)) ∷ channel_log
 
 -- The line of a port was written, and then the peer took what it shows; or a front of it was written, and nothing was taken.
 abbrev pub ShowsPort : Port → Config → List PlainEvent → List ChannelAct → List Act → Result ⊤ WriteFault → State → List ℕ → Type 0
-ShowsPort port config history told log (Ok all) new text = let bytes = waiting_on told port log in (text ≡ port_line port bytes)
-    × StandsBy new config (with_took port bytes history) (told_with_took port bytes told) (log_with_took port bytes log)
-ShowsPort port config history told log (Err fault) new text =
-    IsFront text (port_line port (waiting_on told port log)) × StandsBy new config history told log
+ShowsPort port config history channel_log log (Ok all) new text = let bytes = waiting_on channel_log port log in
+    (text ≡ port_line port bytes)
+    × StandsBy new config (with_took port bytes history) (told_with_took port bytes channel_log) (log_with_took port bytes log)
+ShowsPort port config history channel_log log (Err fault) new text =
+    IsFront text (port_line port (waiting_on channel_log port log)) × StandsBy new config history channel_log log
 
 -- All lines were written, and what they show was taken; or those of some first ports were, and of the others' lines a front was written.
 abbrev pub ShowsAll : Config → List PlainEvent → List ChannelAct → List Act → Result ⊤ WriteFault → State → List ℕ → Type 0
-ShowsAll config history told log (Ok all) new text = (text ≡ lines_of told ports log) × (after : List ChannelAct) × (now : List Act)
-    × StandsBy new config (with_tooks told ports log history) after now
-ShowsAll config history told log (Err fault) new text =
-    (shown others : List Port) × (part : List ℕ) × (ports ≡ shown ++ others) × IsFront part (lines_of told others log)
-    × (text ≡ lines_of told shown log ++ part) × (after : List ChannelAct) × (now : List Act)
-    × StandsBy new config (with_tooks told shown log history) after now
+ShowsAll config history channel_log log (Ok all) new text = (text ≡ lines_of channel_log ports log) × (after : List ChannelAct)
+    × (now : List Act)
+    × StandsBy new config (with_tooks channel_log ports log history) after now
+ShowsAll config history channel_log log (Err fault) new text =
+    (shown others : List Port) × (part : List ℕ) × (ports ≡ shown ++ others) × IsFront part (lines_of channel_log others log)
+    × (text ≡ lines_of channel_log shown log ++ part) × (after : List ChannelAct) × (now : List Act)
+    × StandsBy new config (with_tooks channel_log shown log history) after now

@@ -15,7 +15,7 @@ use Rattle.sv_links.specs.Channels.{ChannelAct}
 use Rattle.sv_history.specs.Event.{PlainEvent, Open, Bytes, Took}
 use Rattle.sv_history.specs.Requests.{HearsOf}
 use Rattle.sv_history.specs.Act.{Act, ConnAct, CallTaken, Replied, of, device_acts}
-use Rattle.sv_history.specs.CoreCall.{CoreCall}
+use Rattle.sv_history.specs.CoreCall.{CoreCall, creates_link}
 use Rattle.sv_history.specs.Request.{Request, core_call, next_request}
 use Rattle.sv_history.specs.Effect.{Effect}
 use Rattle.sv_history.specs.Execution.{request_effect, aborts}
@@ -26,12 +26,14 @@ use Rattle.sv_history.specs.Refusing.{refusable, refused_reply}
 use Rattle.sv_history.specs.History.{refusal, turn_refusal, refuse_refusal, own_acts, did, wants_memory, is_beyond, input_refusal}
 use Rattle.sv_server.specs.Connection.Representation.{Connection, IsConnection}
 use Rattle.sv_server.specs.Device.Representation.{Device, IsDevice}
+use Rattle.sv_server.specs.Device.Inside.Outcome.{MayWait}
 use Rattle.sv_server.specs.Server.State.{State, Represents}
-use Rattle.sv_server.specs.Server.Inside.Ending.{Concludes, HeldAs}
+use Rattle.sv_server.specs.Server.Inside.Ending.{Concludes}
 
 -- This is what refuses an event.
 abbrev pub IsRefusal : Config → PlainEvent → List Act → Option Refused → Type 0
-IsRefusal config event log what = (told : List ChannelAct) → HearsOf (device_acts log) told → refusal config told event log ≡ what
+IsRefusal config event log what = (channel_log : List ChannelAct) → HearsOf (device_acts log) channel_log
+    → refusal config channel_log event log ≡ what
 
 -- An event that isn't refused adds its own acts.
 abbrev pub Acts : Config → PlainEvent → List Act → Result Did Refused → State → Type 0
@@ -59,7 +61,7 @@ Turns config c log old (Ok Idle) connection device = (turn_refusal (of c log) �
 Turns config c log old (Ok (Done aborted)) connection device = (turn_refusal (of c log) ≡ None) × (is_idle (of c log) ≡ false)
     × (call : List ℕ) × (request : Request) × (aborted ≡ aborts request (device_acts log))
     × TakesCall config c log call request (λ effect. Concludes effect config (CallTaken call ∷ of c log) (device_acts log) connection device
-    × HeldAs effect c (core_call call) old device.waiting)
+    × MayWait (effect.own ≡ []) c (creates_link (core_call call)) old device.waiting)
 Turns config c log old (Err NoMemory) connection device = (turn_refusal (of c log) ≡ None) × (call : List ℕ) × (request : Request)
     × TakesCall config c log call request (λ effect. wants_memory effect.adds ≡ true)
 Turns config c log old (Err refused) connection device = turn_refusal (of c log) ≡ Some refused

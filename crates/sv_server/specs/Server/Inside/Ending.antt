@@ -29,7 +29,7 @@ use Rattle.sv_server.specs.Connection.Representation.{Connection, IsConnection}
 use Rattle.sv_server.specs.Connection.Inside.Requests.{xid_of}
 use Rattle.sv_server.specs.Connection.Inside.Replies.{answer_bytes, IsShort}
 use Rattle.sv_server.specs.Device.Representation.{Device, IsDevice}
-use Rattle.sv_server.specs.Device.Inside.Outcome.{IsBrief, IsBehind, Does}
+use Rattle.sv_server.specs.Device.Inside.Outcome.{IsBrief, MayWait, MayWaitAnew, Does}
 
 -- ---- how it ends
 
@@ -69,33 +69,28 @@ Concludes effect config acts before connection device =
 
 -- ---- a record that was taken
 
--- Where it waits, it is a call, which stands behind all that wait.
-abbrev pub Holds : Executed → ℕ → Request → List Entry → List Entry → Type 0
-Holds executed c request old new = (new ≡ old)
-    ⊎ ((executed ≡ executions.Call outcomes.Suspended) × (call : CoreCall) × (request ≡ CoreRequest call)
-    × IsBehind c (is_create_link call.arguments) old new)
+-- whether it asks for a create_link
+abbrev pub asks_for_link : Request → Bool
+asks_for_link (CoreRequest call) = is_create_link call.arguments
+asks_for_link _ = false
 
--- the same of what the definitions say
-abbrev pub HeldAs : Effect → ℕ → Option CoreCall → List Entry → List Entry → Type 0
-HeldAs effect c call old new = (new ≡ old) ⊎ ((effect.own ≡ []) × IsBehind c (creates_link call) old new)
+-- It is a call, which is suspended.
+abbrev pub IsSuspended : Executed → Request → Type 0
+IsSuspended executed request = (executed ≡ executions.Call outcomes.Suspended) × (call : CoreCall) × (request ≡ CoreRequest call)
 
 -- What a record asks for is done.
 abbrev pub Executes : Request → {E : Type 0} → Result Executed E → ℕ → Device → Device → Type 0
 Executes request result c old new =
     Does (λ config polled acts executed. EndsAs executed (xid_of request) new config acts (request_effect config polled c request acts)
-    × Holds executed c request old.waiting new.waiting × (aborted_by executed ≡ aborts request acts))
+    × MayWait (IsSuspended executed request) c (asks_for_link request) old.waiting new.waiting × (aborted_by executed ≡ aborts request acts))
     (λ config polled acts. wants_memory (request_effect config polled c request acts).adds ≡ true) IsBriefly result old new
 
 -- ---- a call that was suspended
 
--- It can be taken up again for this: where it can resume, what it waits for is there, and where it makes a link, it waits for the lock as
--- such.
-abbrev pub MayTakeUp : Cause → ℕ → Option CoreCall → Device → List DeviceAct → Type 0
-MayTakeUp (causes.Able wait) c call kept acts = (waits c (wait_acts acts) ≡ None → ⊥)
-    × (creates_link call ≡ true → (creations (without c kept.waiting) < creations kept.waiting)
-    × (is_locked_out (holder (link_acts acts)) None ≡ false))
-MayTakeUp (causes.Dialed ok) c call kept acts = is_dialing c (wait_acts acts) ≡ true
-MayTakeUp (causes.Failed error) c call kept acts = ⊤
+-- Where it makes a link, it waits for the lock as a create_link does, and the lock is free.
+abbrev pub HasPlaceOfLink : Option CoreCall → ℕ → Device → List DeviceAct → Type 0
+HasPlaceOfLink call c kept acts = creates_link call ≡ true
+    → (creations (without c kept.waiting) < creations kept.waiting) × (is_locked_out (holder (link_acts acts)) None ≡ false)
 
 -- What comes of it.
 abbrev pub taken_up : Cause → Config → ℕ → ℕ → Option CoreCall → List DeviceAct → Effect
@@ -103,12 +98,7 @@ taken_up (causes.Able wait) config polled c call acts = resumed config polled c 
 taken_up (causes.Dialed ok) config polled c call acts = connected c ok call
 taken_up (causes.Failed error) config polled c call acts = failed error c call
 
--- It waits no more; or, where it isn't answered, it waits for something else, and makes no link.
-abbrev pub WaitsOn : Effect → ℕ → Option CoreCall → List Entry → List Entry → Type 0
-WaitsOn effect c call old new = (new ≡ without c old)
-    ⊎ ((effect.own ≡ []) × (wait : Wait) × (deadline : Option ℕ) × (new ≡ map (anew c wait deadline) old) × (creates_link call ≡ false))
-
 -- It went on so.
-abbrev pub WentOn : Effect → ℕ → Option CoreCall → Config → List ConnAct → List DeviceAct → List Entry → Connection → Device → Type 0
-WentOn effect c call config acts before old connection device =
-    Concludes effect config acts before connection device × WaitsOn effect c call old device.waiting
+abbrev pub ConcludesResumed : Effect → ℕ → Option CoreCall → Config → List ConnAct → List DeviceAct → List Entry → Connection → Device → Type 0
+ConcludesResumed effect c call config acts before old connection device =
+    Concludes effect config acts before connection device × MayWaitAnew (effect.own ≡ []) c (creates_link call) old device.waiting

@@ -9,7 +9,7 @@ use Rattle.sv_layers.proofs.layers.Layers.apply.Goals as goal
 pub returns-clause-applied : goal.returns-clause-applied
 returns-clause-applied g c = λ log h.
     let act = act_of c.args.change in
-    let begins = c.begin.ensures.stands (seen log) h.told h.joined in
-    rw (← c.begin.ensures.requests, ← c.end.ensures.requests) (c.tell.ensures.applied log act h.told h.are
-    (subst (λ (told : List StatusAct). Represents c.end.new.self (seen (act ∷ log)) told) (unpolled c.args.change h.told)
-    (c.end.ensures.stands log act h.told ((λ name acts. refl), (λ acts. refl)) begins)))
+    let begins = c.begin.ensures.stands (seen log) h.status_log h.joined in
+    rw (← c.begin.ensures.requests, ← c.end.ensures.requests) (c.tell.ensures.applied log act h.status_log h.are
+    (subst (λ (status_log : List StatusAct). Represents c.end.new.self (seen (act ∷ log)) status_log) (unpolled c.args.change h.status_log)
+    (c.end.ensures.stands log act h.status_log ((λ name acts. refl), (λ acts. refl)) begins)))

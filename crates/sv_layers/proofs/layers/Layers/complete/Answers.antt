@@ -9,7 +9,7 @@ use Rattle.sv_layers.proofs.Booleans.{bit_is}
 use Rattle.sv_layers.proofs.layers.Layers.complete.Goals as goal
 
 pub returns-clause-stands : goal.returns-clause-stands
-returns-clause-stands g c = λ at told h.
+returns-clause-stands g c = λ at status_log h.
     let j = rw (← c.self.view_is) at h in
     let idle : c.is_idle-idle.result ≡ idles at =
     c.is_idle-idle.ensures ∙ ap (λ (s : State). is_idle s) (c.state.ensures.answer at.scanner j.scanner) in

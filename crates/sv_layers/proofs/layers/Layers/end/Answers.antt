@@ -16,7 +16,7 @@ use Rattle.sv_layers.proofs.Followed.{counted_leaves, begun_scans, begun_stands,
 use Rattle.sv_layers.proofs.layers.Layers.end.Goals as goal
 
 pub returns-clause-stands : goal.returns-clause-stands
-returns-clause-stands g c = λ log act told same h.
+returns-clause-stands g c = λ log act status_log same h.
     let other = act_of c.args.change.now in
     let j = rw (← c.self.view_is) at h in
     let scans = begun_scans _ act log j.scanner in
@@ -44,7 +44,7 @@ returns-clause-stands g c = λ log act told same h.
     ∙ ap (λ (b : Bool). scan.questionable (counted log) + scan.bit 9 b) moved ∙ sym (same_words Questionable log).0))) in
     let k = rw (← c.self-2.view_is) at (c.complete.ensures.stands (record (begun act (seen log)) {
       registers = λ name. register_acts name (seen (act ∷ log));
-    }) told (record {
+    }) status_log (record {
       exchange = j.exchange;
       errors = j.errors;
       registers = elim [ Operation ↦ operation | Questionable ↦ questionable | Limit ↦ limit ];

@@ -5,7 +5,7 @@ use Rattle.sv_layers.proofs.layers.Layers.new.Goals as goal
 pub returns : goal.returns
 returns g c = record {
   stands = record {
-    told = [];
+    status_log = [];
     are = refl;
     joined = record {
       exchange = c.in_ok-new.ensures.1;

@@ -7,13 +7,13 @@ use Rattle.sv_layers.proofs.layers.Layers.poll.Goals as goal
 pub returns-clause-status : goal.returns-clause-status
 returns-clause-status g c = λ log h k.
     let j = rw (← c.self.view_is) at h.joined in
-    then_same (c.poll-status.ensures.answer h.told j.status k) (same_status log h.told h.are k).0
+    then_same (c.poll-status.ensures.answer h.status_log j.status k) (same_status log h.status_log h.are k).0
 
 pub returns-clause-applied : goal.returns-clause-applied
 returns-clause-applied g c = λ log h.
     let j = rw (← c.self.view_is) at h.joined in
     rw (← c.self.view_is) (c.update_status.ensures.applied log Polled (record {
-      told = h.told;
+      status_log = h.status_log;
       are = h.are;
       joined = record {
         exchange = j.exchange;

@@ -6,7 +6,7 @@ pub returns-clause-applied : goal.returns-clause-applied
 returns-clause-applied g c = λ log h.
     let j = rw (← c.self.view_is) at h.joined in
     rw (← c.self.view_is) (c.update_status.ensures.applied log Purged (record {
-      told = h.told;
+      status_log = h.status_log;
       are = h.are;
       joined = record {
         exchange = c.clear.ensures.stands _ j.exchange;

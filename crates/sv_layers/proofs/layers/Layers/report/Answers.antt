@@ -8,7 +8,7 @@ use Rattle.sv_layers.proofs.Booleans.{bit_is}
 use Rattle.sv_layers.proofs.layers.Layers.report.Goals as goal
 
 pub returns-clause-stands : goal.returns-clause-stands
-returns-clause-stands g c = λ at told h.
+returns-clause-stands g c = λ at status_log h.
     let j = rw (← c.self.view_is) at h in
     let overflow : c.mask_if.result ≡ bit 3 (is_full at.errors) =
     c.mask_if.ensures ∙ bit_is 3 c.report-overflows.result ∙ ap (bit 3) (c.report-overflows.ensures.answer at.errors j.errors) in

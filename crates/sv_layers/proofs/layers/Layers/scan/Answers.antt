@@ -2,7 +2,7 @@ use Rattle.std.proofs.Common.{Bool, not, ◌&&◌, ap, ◌∙◌}
 use Rattle.sv_layers.proofs.layers.Layers.scan.Goals as goal
 
 pub returns-clause-stands : goal.returns-clause-stands
-returns-clause-stands g c = λ at told h.
+returns-clause-stands g c = λ at status_log h.
     let j = rw (← c.self.view_is) at h in
     record {
       exchange = j.exchange;

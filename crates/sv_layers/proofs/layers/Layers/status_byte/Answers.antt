@@ -5,4 +5,4 @@ use Rattle.sv_layers.proofs.layers.Layers.status_byte.Goals as goal
 pub returns : goal.returns
 returns g c = λ log h k.
     let j = rw (← c.self.view_is) at h.joined in
-    then_same (c.status.ensures h.told j.status k) (same_status log h.told h.are k).1
+    then_same (c.status.ensures h.status_log j.status k) (same_status log h.status_log h.are k).1

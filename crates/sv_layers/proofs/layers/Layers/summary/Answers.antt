@@ -7,7 +7,7 @@ use Rattle.sv_layers.proofs.Booleans.{bit_is, any_is}
 use Rattle.sv_layers.proofs.layers.Layers.summary.Goals as goal
 
 pub returns : goal.returns
-returns g c = λ at told h.
+returns g c = λ at status_log h.
     let j = rw (← c.self.view_is) at h in
     let available : c.mask_if-3.result ≡ bit 4 (is_something (response at.exchange)) =
     c.mask_if-3.ensures ∙ bit_is 4 c.readable.result ∙ ap (bit 4) (c.readable.ensures.answer at.exchange j.exchange) in

@@ -13,9 +13,9 @@ use Rattle.sv_layers.proofs.layers.Layers.tell.Goals as goal
 pub returns-clause-applied : goal.returns-clause-applied
 returns-clause-applied g c = λ log act before is h.
     let j = rw (← c.self.view_is) at h in
-    let told : List StatusAct = Update c.summary-bits.result (seen (act ∷ log)).service ∷ own_status act before in
-    let are : IsStatus (act ∷ log) told = (c.summary-bits.result, before, c.summary-bits.ensures _ _ h, is, refl) in
-    let status : Statuses c.update-raised.new.self told =
+    let status_log : List StatusAct = Update c.summary-bits.result (seen (act ∷ log)).service ∷ own_status act before in
+    let are : IsStatus (act ∷ log) status_log = (c.summary-bits.result, before, c.summary-bits.ensures _ _ h, is, refl) in
+    let status : Statuses c.update-raised.new.self status_log =
     subst (λ (n : ℕ). Statuses c.update-raised.new.self (Update c.summary-bits.result n ∷ own_status act before)) j.service
     (c.update-raised.ensures.stands _ j.status) in
     let raised =
@@ -23,7 +23,7 @@ returns-clause-applied g c = λ log act before is h.
     (c.update-raised.ensures.answer _ j.status) in
     record {
       stands = record {
-        told = told;
+        status_log = status_log;
         are = are;
         joined = record {
           exchange = j.exchange;
@@ -37,7 +37,7 @@ returns-clause-applied g c = λ log act before is h.
         };
       };
       raised = c.update-raised.result;
-      requests = then_same raised (told_raised (act ∷ log) told are);
+      requests = then_same raised (told_raised (act ∷ log) status_log are);
       count = rw (← c.self.view_is) (c.saturating_add-self-inside.ensures
           ∙ ap (λ (n : ℕ). min (c.self.inside.requests + n) max_count) (c.from.ensures ∙ byte_is c.update-raised.result));
     }

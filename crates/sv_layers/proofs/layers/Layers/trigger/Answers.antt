@@ -12,7 +12,7 @@ returns-in-Ok-clause-applied g c = λ log h.
     let j = rw (← c.self.view_is) at h.joined in (
       no_fault _ (c.in-Ok.ensures.answer (scan_acts log) (lent_scanner _ log (rw (← c.self.view_is) at h))),
       rw (← c.self.view_is) (c.update_status.ensures.applied log (Scanned (Trigger c.args.source)) (record {
-        told = h.told;
+        status_log = h.status_log;
         are = h.are;
         joined = record {
           exchange = j.exchange;

@@ -5,4 +5,5 @@ use Rattle.sv_layers.proofs.layers.Layers.update_status.Goals as goal
 pub returns-clause-applied : goal.returns-clause-applied
 returns-clause-applied g c = λ log act b plain.
     rw (← c.end.ensures.requests)
-    (c.tell.ensures.applied log act b.told b.are (c.end.ensures.stands log act (own_status act b.told) (plain_leaves act plain) b.joined))
+    (c.tell.ensures.applied log act b.status_log b.are
+    (c.end.ensures.stands log act (own_status act b.status_log) (plain_leaves act plain) b.joined))

@@ -8,5 +8,5 @@ pub returns-clause-stands : goal.returns-clause-stands
 returns-clause-stands g c = λ config acts old there.
     let is = rw (← c.self.view_is) at old in
     device_channel _ c.take.new.self config acts (ChannelTaken c.args.conn.number c.args.count) is
-    (λ told tells are. c.take.ensures.stands told are (has_channel_told c.args.conn.number acts told tells ∙ there))
+    (λ channel_log tells are. c.take.ensures.stands channel_log are (has_channel_told c.args.conn.number acts channel_log tells ∙ there))
     (rw c.take.ensures.enabled is.6.3) (λ d dials. c.take.ensures.ready d (is.7 d dials))

@@ -5,7 +5,7 @@ use Rattle.sv_history.proofs.Telling.{tells_once}
 use Rattle.sv_server.proofs.device.Device.channel_waiting.Goals as goal
 
 pub returns-clause-answer : goal.returns-clause-answer
-returns-clause-answer g c = λ config acts told old tells.
+returns-clause-answer g c = λ config acts channel_log old tells.
     let is = rw (← c.self.view_is) at old in
-    c.waiting.ensures.answer told
-    (subst (λ (l : List ChannelAct). AreChannels c.self.inside.intr l) (tells_once acts is.6.0 told is.6.1 tells) is.6.2)
+    c.waiting.ensures.answer channel_log
+    (subst (λ (l : List ChannelAct). AreChannels c.self.inside.intr l) (tells_once acts is.6.0 channel_log is.6.1 tells) is.6.2)

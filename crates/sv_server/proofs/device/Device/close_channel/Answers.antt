@@ -5,5 +5,6 @@ use Rattle.sv_server.proofs.device.Device.close_channel.Goals as goal
 pub returns-clause-stands : goal.returns-clause-stands
 returns-clause-stands g c = λ config acts old.
     let is = rw (← c.self.view_is) at old in
-    device_channel _ c.close.new.self config acts (ChannelClosed c.args.conn.number) is (λ told tells are. c.close.ensures.stands told are)
+    device_channel _ c.close.new.self config acts (ChannelClosed c.args.conn.number) is
+    (λ channel_log tells are. c.close.ensures.stands channel_log are)
     (rw c.close.ensures.enabled is.6.3) (λ d dials. c.close.ensures.others d (is.7 d dials))

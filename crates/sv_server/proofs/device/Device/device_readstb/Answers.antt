@@ -15,5 +15,5 @@ returns-clause-ends g c = λ config polled acts known.
     let same = one_word (λ k. PolledBit k log) polled c.poll.result known.1 (c.poll.ensures.status log is.1) in (
       ap (λ (byte : ℕ). Status NoError byte) same,
       device_ran _ c.poll.new.self _ config acts (Polled ∷ []) 0 is (c.poll.ensures.ran log is.1) (λ config acts adds done raised.
-          device_raised _ _ config acts adds 0 done raised (λ told are. are) refl (λ d ready. ready)),
+          device_raised _ _ config acts adds 0 done raised (λ channel_log are. are) refl (λ d ready. ready)),
     )

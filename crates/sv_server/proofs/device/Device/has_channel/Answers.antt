@@ -5,5 +5,5 @@ use Rattle.sv_server.proofs.device.Device.has_channel.Goals as goal
 pub returns : goal.returns
 returns g c = λ config acts old.
     let is = rw (← c.self.view_is) at old in
-    let (told, tells, are, owned) = is.6 in
-    c.is_open.ensures told are ∙ has_channel_told c.args.conn.number acts told tells
+    let (channel_log, tells, are, owned) = is.6 in
+    c.is_open.ensures channel_log are ∙ has_channel_told c.args.conn.number acts channel_log tells

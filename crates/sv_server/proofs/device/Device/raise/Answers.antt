@@ -6,7 +6,7 @@ use Rattle.sv_server.proofs.device.Device.raise.Goals as goal
 
 pub loop-init : goal.loop-init
 loop-init g c = rw (← c.self.view_is) (record {
-  tolls = λ told are. are;
+  tolls = λ channel_log are. are;
   enabled = refl;
   ready = λ d ready. ready;
   links = refl;
@@ -18,8 +18,8 @@ loop-init g c = rw (← c.self.view_is) (record {
 
 pub loop-preserved : goal.loop-preserved
 loop-preserved g c = record {
-  tolls = λ told are. subst (λ l. AreChannels c.raise.new.self l) (sym (requests_one c.loop.counter true told))
-      (c.raise.ensures.stands (requests c.loop.counter told) (c.loop.invariant.tolls told are));
+  tolls = λ channel_log are. subst (λ l. AreChannels c.raise.new.self l) (sym (requests_one c.loop.counter true channel_log))
+      (c.raise.ensures.stands (requests c.loop.counter channel_log) (c.loop.invariant.tolls channel_log are));
   enabled = c.raise.ensures.enabled ∙ c.loop.invariant.enabled;
   ready = λ d ready. c.raise.ensures.ready d (c.loop.invariant.ready d ready);
   links = c.loop.invariant.links;

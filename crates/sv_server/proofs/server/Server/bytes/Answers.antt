@@ -10,7 +10,7 @@ use Rattle.sv_server.proofs.server.Server.bytes.Goals as goal
 pub returns-in_err-conn-clause-acts : goal.returns-in_err-conn-clause-acts
 returns-in_err-conn-clause-acts g c = λ config log rep.
     no_connection config (Bytes c.args.conn c.args.piece.now) log c.from_residual.result _ _ c.from_residual.ensures
-    (c.in_err-conn.ensures.answer config log rep) (λ shut told tells. rw shut refl)
+    (c.in_err-conn.ensures.answer config log rep) (λ shut channel_log tells. rw shut refl)
 
 pub returns-then-room-piece-clause-acts : goal.returns-then-room-piece-clause-acts
 returns-then-room-piece-clause-acts g c = λ config log rep.
@@ -20,7 +20,7 @@ returns-then-room-piece-clause-acts g c = λ config log rep.
     let is = connection_of _ config log conn.number c.index_mut-connection.result.now state conn.within at in
     let unshut = rw (← c.in_ok-conn.ensures.same) at (c.in_ok-conn.ensures.answer config log rep) in
     let room = c.room.ensures.answer _ is in
-    rw (← c.in_ok-conn.ensures.same) (λ told tells. rw (unshut, lt-ltb _ _ (rw room at c.if-room-piece.true)) refl)
+    rw (← c.in_ok-conn.ensures.same) (λ channel_log tells. rw (unshut, lt-ltb _ _ (rw room at c.if-room-piece.true)) refl)
 
 pub returns-clause-acts : goal.returns-clause-acts
 returns-clause-acts g c = λ config log rep.
@@ -31,7 +31,7 @@ returns-clause-acts g c = λ config log rep.
     let unshut = rw (← c.in_ok-conn.ensures.same) at (c.in_ok-conn.ensures.answer config log rep) in
     let room = c.room.ensures.answer _ is in
     rw (← c.in_ok-conn.ensures.same) (
-      λ told tells. rw (unshut, le-ltb _ _ (rw room at c.if-room-piece.false)) refl,
+      λ channel_log tells. rw (unshut, le-ltb _ _ (rw room at c.if-room-piece.false)) refl,
       refl,
       λ polled said. rw c.index.ensures (one_act _ config log conn.number c.index_mut-connection.result.now c.push.new.self
           (Piece c.args.piece.now) state c.self.invariant conn.within at (c.push.ensures (of conn.number log)) (λ call known. known) _

@@ -11,14 +11,14 @@ use Rattle.sv_server.proofs.server.Server.dialed.Goals as goal
 pub returns-in_err-conn-clause-acts : goal.returns-in_err-conn-clause-acts
 returns-in_err-conn-clause-acts g c = λ config log rep.
     no_connection config (Dialed c.args.conn c.args.ok) log c.from_residual.result _ _ c.from_residual.ensures
-    (c.in_err-conn.ensures.answer config log rep) (λ shut told tells. rw shut refl)
+    (c.in_err-conn.ensures.answer config log rep) (λ shut channel_log tells. rw shut refl)
 
 pub returns-then-not-is_dialing-clause-acts : goal.returns-then-not-is_dialing-clause-acts
 returns-then-not-is_dialing-clause-acts g c = λ config log rep.
     let state = rw (← c.self.view_is) at rep in
     let unshut = rw (← c.in_ok-conn.ensures.same) at (c.in_ok-conn.ensures.answer config log rep) in
     rw (← c.in_ok-conn.ensures.same)
-    (λ told tells. rw (unshut, sym (c.if-not-is_dialing.ensures config (device_acts log) state.device)) refl)
+    (λ channel_log tells. rw (unshut, sym (c.if-not-is_dialing.ensures config (device_acts log) state.device)) refl)
 
 pub returns-clause-acts : goal.returns-clause-acts
 returns-clause-acts g c = λ config log rep.
@@ -30,7 +30,7 @@ returns-clause-acts g c = λ config log rep.
     let dialing = sym (c.if-not-is_dialing.ensures config (device_acts log) state.device) in
     let (call, known) = taken_of _ config log conn.number state (dialing_waits conn.number (wait_acts (device_acts log)) dialing) in
     rw (← c.in_ok-conn.ensures.same) (
-      λ told tells. rw (unshut, dialing) refl,
+      λ channel_log tells. rw (unshut, dialing) refl,
       refl,
       λ polled said. rw c.index.ensures (gave_up_stands _ config log conn.number _ c.take_up.new.connection c.take_up.new.device state
           c.self.invariant conn.within

@@ -20,7 +20,7 @@ returns-in-Ok-clause-acts g c = λ config log rep.
     subst (λ (m : ℤ). IsDevice c.input.new.self config (Applied (Scanned (Input c.args.channel m)) ∷ device_acts log)) same
     (c.input.ensures.stands config (device_acts log) state.device) in
     let near : is_beyond c.args.microvolts ≡ false = search (rules, known.2) in (
-      λ told tells. rw (known.1, near) refl,
+      λ channel_log tells. rw (known.1, near) refl,
       known.0,
       λ polled said. shared_acts _ config log c.input.new.self (_ ∷ []) state all c.input.ensures.waiting,
     )

@@ -13,7 +13,7 @@ returns-clause-acts g c = λ config log rep.
     let is = connection_of _ config log conn.number c.index_mut-connection.result.now state conn.within at in
     let shut = open_is c.index_mut-connection.result.now _ _ is (sym c.is_open.ensures.value ∙ c.if-is_open.false) in
     rw (← c.in-Some.ensures) (
-      λ told tells. rw (le-ltb 15 conn.number (omega (arith, conn.within)), shut) refl,
+      λ channel_log tells. rw (le-ltb 15 conn.number (omega (arith, conn.within)), shut) refl,
       refl,
       λ polled said. rw c.index.ensures (one_act _ config log conn.number c.index_mut-connection.result.now c.open.new.self
           (Opened c.args.role) state c.self.invariant conn.within at (c.open.ensures (of conn.number log))

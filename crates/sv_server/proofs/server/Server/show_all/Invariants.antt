@@ -10,7 +10,7 @@ use Rattle.sv_server.proofs.server.Server.show_all.Given as goal
 
 -- the lines of the ports below the number were written
 abbrev pub invariant-loop-number : goal.invariant-loop-number
-invariant-loop-number g l = (config : Config) (history : List PlainEvent) (told : List ChannelAct) (log : List Act)
-    → StandsBy l.fn.self config history told log
+invariant-loop-number g l = (config : Config) (history : List PlainEvent) (channel_log : List ChannelAct) (log : List Act)
+    → StandsBy l.fn.self config history channel_log log
     → (text : List ℕ) × Appends (g.W.Write.contents l.fn.writer) (g.W.Write.contents l.writer) text
-    × SoFar config history told log l.number l.self text
+    × SoFar config history channel_log log l.number l.self text

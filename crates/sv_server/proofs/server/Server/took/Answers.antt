@@ -12,7 +12,7 @@ use Rattle.sv_server.proofs.server.Server.took.Goals as goal
 pub returns-in_err-conn-clause-acts : goal.returns-in_err-conn-clause-acts
 returns-in_err-conn-clause-acts g c = λ config log rep.
     no_connection config (Took (Conn c.args.conn) c.args.count) log c.from_residual.result _ _ c.from_residual.ensures
-    (c.in_err-conn.ensures.answer config log rep) (λ shut told tells. rw shut refl)
+    (c.in_err-conn.ensures.answer config log rep) (λ shut channel_log tells. rw shut refl)
 
 pub returns-then-waiting-count-clause-acts : goal.returns-then-waiting-count-clause-acts
 returns-then-waiting-count-clause-acts g c = λ config log rep.
@@ -22,7 +22,7 @@ returns-then-waiting-count-clause-acts g c = λ config log rep.
     let is = connection_of _ config log conn.number c.index_mut-connection.result.now state conn.within at in
     let unshut = rw (← c.in_ok-conn.ensures.same) at (c.in_ok-conn.ensures.answer config log rep) in
     let bytes = c.waiting.ensures.answer _ is in
-    rw (← c.in_ok-conn.ensures.same) (λ told tells. rw (
+    rw (← c.in_ok-conn.ensures.same) (λ channel_log tells. rw (
       unshut,
       lt-ltb (length (waiting (of conn.number log))) c.args.count
           (omega (arith, ap length bytes, c.if-waiting-count.true)),
@@ -37,7 +37,7 @@ returns-clause-acts g c = λ config log rep.
     let unshut = rw (← c.in_ok-conn.ensures.same) at (c.in_ok-conn.ensures.answer config log rep) in
     let bytes = c.waiting.ensures.answer _ is in
     rw (← c.in_ok-conn.ensures.same) (
-      λ told tells. rw (
+      λ channel_log tells. rw (
         unshut,
         le-ltb (length (waiting (of conn.number log))) c.args.count
             (omega (arith, ap length bytes, c.if-waiting-count.false)),

@@ -10,7 +10,7 @@ use Rattle.sv_server.proofs.server.Server.turn.Goals as goal
 pub returns-in_err-conn-clause-acts : goal.returns-in_err-conn-clause-acts
 returns-in_err-conn-clause-acts g c = λ config log rep.
     no_connection config (Turn c.args.conn) log c.from_residual.result _ _ c.from_residual.ensures
-    (c.in_err-conn.ensures.answer config log rep) (λ shut told tells. rw shut refl)
+    (c.in_err-conn.ensures.answer config log rep) (λ shut channel_log tells. rw shut refl)
 
 pub returns-in-Err-clause-acts : goal.returns-in-Err-clause-acts
 returns-in-Err-clause-acts g c = λ config log rep.
