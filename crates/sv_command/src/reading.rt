@@ -16,10 +16,10 @@ use sv_lexer::Unit;
 /// parameters.
 ///
 /// # Errors
-/// The first fault of the unit: the one that was told of its spelling; [`Code::UndefinedHeader`];
-/// [`Code::InvalidExpression`] and [`Code::SyntaxError`] of the parameters' spelling;
-/// [`Code::ParameterNotAllowed`], [`Code::MissingParameter`]; then those of the parameter's value.
-/// A range may be any voltage here: whether there is such a range is the scanner's to tell.
+/// The first of these: the fault that `lexed` is; [`Code::UndefinedHeader`] if the header names no
+/// command; [`Code::InvalidExpression`], then [`Code::SyntaxError`], of the parameters' spelling;
+/// [`Code::ParameterNotAllowed`]; [`Code::MissingParameter`]; then those of the parameter's value.
+/// A range may be any voltage here: the scanner checks that there is such a range.
 pub fn read_unit<A: Allocator>(
     table: &Table<A>,
     path: &mut Path,

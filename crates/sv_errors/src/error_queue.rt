@@ -56,7 +56,10 @@ impl<A: Allocator> Model for ErrorQueue<A> {
 }
 
 impl<A: Allocator> ErrorQueue<A> {
-    /// An empty queue. Takes the memory of all its entries.
+    /// An empty queue. It allocates the memory of all its entries.
+    ///
+    /// # Errors
+    /// If memory is refused.
     pub fn new(alloc: A) -> Result<ErrorQueue<A>, AllocError>
         ensures { IfOk result (λ queue. StandsFor queue []) }
     {

@@ -82,7 +82,10 @@ impl<A: Allocator> Model for Exchange<A> {
 }
 
 impl<A: Allocator + Copy> Exchange<A> {
-    /// An exchange with no text and no response. It takes all the memory that it ever uses.
+    /// An exchange with no text and no response. It allocates all the memory that it ever uses.
+    ///
+    /// # Errors
+    /// If memory is refused.
     pub fn new(alloc: A) -> Result<Exchange<A>, AllocError>
         ensures { IfOk result (λ exchange. (exchange ≡ empty) × StandsFor exchange []) }
     {

@@ -42,7 +42,7 @@ impl<A: Allocator + Copy> Instrument<A> {
     /// The instrument as it is when power comes on. Takes all the memory that it ever uses.
     ///
     /// # Errors
-    /// Where memory is refused.
+    /// If memory is refused.
     pub fn new(alloc: A) -> Result<Instrument<A>, AllocError>
         ensures { IfOk result (λ instrument. StandsFor instrument []) }
     {

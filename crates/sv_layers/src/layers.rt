@@ -71,7 +71,7 @@ impl<A: Allocator + Copy> Layers<A> {
     /// All layers as they are when power comes on. Takes the memory of all of them.
     ///
     /// # Errors
-    /// Where memory is refused.
+    /// If memory is refused.
     pub fn new(alloc: A) -> Result<Layers<A>, AllocError>
         ensures { IfOk result (λ layers. AllRead layers []) }
     {

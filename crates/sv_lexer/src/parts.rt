@@ -49,8 +49,8 @@ impl<'a> Unit<'a> {
     /// The parameters behind the header.
     ///
     /// # Errors
-    /// [`Code::InvalidExpression`] where a parenthesis has none behind it that closes it; then
-    /// [`Code::SyntaxError`] where a parameter is empty.
+    /// [`Code::InvalidExpression`] if a parenthesis isn't closed; then [`Code::SyntaxError`] if a
+    /// parameter is empty.
     pub fn parameters(&self) -> Result<Params<'a>, Code>
         ensures { MatchResult result (λ params. (params ≡ self.now)
             × (parameters_fault self.now ≡ None)) (λ code. parameters_fault self.now ≡ Some code) }

@@ -41,7 +41,7 @@ impl<A: Allocator + Copy> Intr<A> {
     /// No link asks, and no channel is open. Takes the memory of all handles.
     ///
     /// # Errors
-    /// Where memory is refused.
+    /// If memory is refused.
     pub fn new(alloc: A) -> Result<Intr<A>, AllocError>
         ensures { IfOk result (λ intr. AreChannels intr []) }
     {
@@ -68,7 +68,7 @@ impl<A: Allocator> Intr<A> {
     /// be opened; where it is open nothing changes.
     ///
     /// # Errors
-    /// Where memory is refused; nothing changes then.
+    /// If memory is refused; nothing changes then.
     pub fn prepare(&mut self, conn: u8) -> Result<(), AllocError>
         requires { conn < max_connections }
         ensures ready { OnOk result ((acts : List ChannelAct) → AreChannels self.old acts

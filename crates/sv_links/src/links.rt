@@ -98,7 +98,7 @@ impl<A: Allocator> Links<A> {
     /// `create` finds it.
     ///
     /// # Errors
-    /// Where memory is refused; nothing changes then.
+    /// If memory is refused; nothing changes then.
     pub fn reserve(&mut self, count: u8) -> Result<(), AllocError>
         ensures room { OnOk result (count ≤ self.new.spare) }
         ensures rest { OnOk result (self.new ≡ record self.old { spare = self.new.spare }) }
@@ -118,8 +118,8 @@ impl<A: Allocator> Links<A> {
     /// wanting only where none was reserved.
     ///
     /// # Errors
-    /// Where there are [`MAX_LINKS`] links or no number is left; else where memory is refused.
-    /// Nothing changes then.
+    /// `OutOfResources` if there are [`MAX_LINKS`] links or no number is left; else `NoMemory` if
+    /// memory is refused. Nothing changes then.
     pub fn create(&mut self, conn: u8) -> Result<u32, CreateRefused>
         ensures number { IfOk result (λ lid. lid < 2 ^ 31) }
         ensures ok { (acts : List LinkAct) → IsTable self.old acts → IfOk result

@@ -120,7 +120,7 @@ impl<A: Allocator> Waiting<A> {
     /// No call waits. Takes the memory of all that may.
     ///
     /// # Errors
-    /// Where memory is refused.
+    /// If memory is refused.
     pub fn new(alloc: A) -> Result<Waiting<A>, AllocError>
         ensures { IfOk result (λ waiting. IsQueue waiting []) }
     {

@@ -99,7 +99,7 @@ impl<N: Network + Drop, A: Allocator, S: Stream> Net<N, A, S> {
     /// Listens on the ports of the core channel, the abort channel and the port mapper.
     ///
     /// # Errors
-    /// Where a port can't be listened on, or memory is refused (`ErrorKind::OutOfMemory`).
+    /// If a port can't be listened on, or memory is refused (`ErrorKind::OutOfMemory`).
     pub(crate) fn listen(
         network: N,
         alloc: A,

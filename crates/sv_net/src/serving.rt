@@ -28,7 +28,7 @@ const LOOKS: u32 = 1_000;
 /// something of late.
 ///
 /// # Errors
-/// Where the system tells no time, or fails to wait.
+/// If the system tells no time, or fails to wait.
 pub fn serve<N: Network + Drop, A: Allocator, S: Stream>(
     clock: &impl Clock,
     watch: &mut Watch<A>,

@@ -14,13 +14,13 @@ pub trait Stream: Read + Write + Source + Drop {
     /// Begins to call a peer.
     ///
     /// # Errors
-    /// Where the system can't begin to.
+    /// If the system can't begin to.
     fn call(network: &impl Network, dial: Dial) -> io::Result<Self>;
 
     /// Whether the peer that it calls answered.
     ///
     /// # Errors
-    /// Where the peer refused, or can't be reached.
+    /// If the peer refused, or can't be reached.
     fn is_connected(&self) -> io::Result<bool>;
 }
 

@@ -25,7 +25,7 @@ impl<A: Allocator + Copy> Watch<A> {
     /// of 127.0.0.1, of the core channel, the abort channel and the port mapper.
     ///
     /// # Errors
-    /// Where a port can't be listened on, or memory is refused (`ErrorKind::OutOfMemory`).
+    /// If a port can't be listened on, or memory is refused (`ErrorKind::OutOfMemory`).
     pub fn listen<N: Network + Drop>(
         network: N,
         alloc: A,
@@ -45,7 +45,7 @@ impl<A: Allocator> Watch<A> {
     /// something was.
     ///
     /// # Errors
-    /// Where the system fails to wait.
+    /// If the system fails to wait.
     pub(crate) fn wait(&mut self, limit: Option<Duration>) -> io::Result<bool> {
         self.poll.poll(&mut self.events, limit)?;
         Ok(!self.events.is_empty())

@@ -21,7 +21,7 @@ pub trait Source: Read {
     /// Reads once, into a buffer with room. An interrupted read gives no bytes, but another may.
     ///
     /// # Errors
-    /// Where the reader fails.
+    /// If the reader fails.
     fn give(&mut self, buffer: &mut [u8]) -> Result<Option<usize>, InputFault>
         requires { 0 < length buffer.old }
         ensures came { IsBehind (Self.Read.remaining self.old) (Self.Read.remaining self.new)

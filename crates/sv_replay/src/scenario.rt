@@ -25,7 +25,7 @@ pub enum ScenarioFault {
 /// front of it.
 ///
 /// # Errors
-/// `BadLine` at the first line that isn't so, and `Memory` where memory was refused to an entry.
+/// `BadLine` at the first line that isn't so; `Memory` if memory is refused to an entry before it.
 pub fn read_scenario<A: Allocator + Copy>(
     alloc: A,
     text: &[u8],

@@ -72,7 +72,10 @@ impl<A: Allocator> Model for RecordBuf<A> {
 }
 
 impl<A: Allocator + Copy> RecordBuf<A> {
-    /// A buffer in which nothing stands. It takes all the memory that it ever uses.
+    /// An empty buffer. It allocates all the memory that it ever uses.
+    ///
+    /// # Errors
+    /// If memory is refused.
     pub fn new(alloc: A) -> Result<RecordBuf<A>, NoMemory>
         ensures { IfOk result (λ buffer. (buffer ≡ no_records) × StandsFor buffer [] 0) }
     {
@@ -104,8 +107,11 @@ impl<A: Allocator> RecordBuf<A> {
         CAPACITY.saturating_sub(4 * self.lengths.len() + self.bytes.len() + 4 + begun)
     }
 
-    /// The first record that wasn't dropped, a slice of the buffer; or none yet. Behind the last
-    /// record in front of one that is too long, that fault.
+    /// The first complete record that wasn't dropped, a slice of the buffer; `None` if there is no
+    /// such record yet.
+    ///
+    /// # Errors
+    /// `RecordTooLong` if no complete record is left in front of one that is too long.
     pub fn next(&self) -> Result<Option<&[u8]>, RpcFault>
         ensures value { plain_record result ≡ next_among self.now.records self.now.tail }
         ensures answer { (stream : List ℕ) (dropped : ℕ) → StandsFor self.now stream dropped

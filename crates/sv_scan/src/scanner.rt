@@ -58,8 +58,11 @@ impl<A: Allocator> Model for Scanner<A> {
 }
 
 impl<A: Allocator> Scanner<A> {
-    /// A scanner whose settings are their defaults and whose inputs are 0. Takes the memory of all
-    /// readings.
+    /// A scanner whose settings are their defaults and whose inputs are 0. It allocates the memory
+    /// of all readings.
+    ///
+    /// # Errors
+    /// If memory is refused.
     pub fn new(alloc: A) -> Result<Scanner<A>, AllocError>
         ensures { IfOk result (λ scanner. StandsFor scanner []) }
     {

@@ -62,7 +62,7 @@ impl<W: Wire + Drop, A: Allocator> Driver<W, A> {
     /// is read.
     ///
     /// # Errors
-    /// Where memory is refused.
+    /// If memory is refused.
     pub fn new(
         alloc: A,
         server: Server<A>,

@@ -46,9 +46,11 @@ impl From<WriteFault> for ReplayFault {
 
 impl<A: Allocator> Server<A> {
     /// Applies an event and writes what follows from it: `refused` and the number of the refusal,
-    /// if it was refused, and then a line for each port on which bytes wait, which the peer takes.
-    /// Where memory was refused, it writes `refused 1` alone and answers `NoMemory`; where the
-    /// writer failed, `Write`, and nothing is taken that wasn't written.
+    /// if it was refused; then a line for each port on which bytes wait, which the peer takes.
+    ///
+    /// # Errors
+    /// `NoMemory` if memory was refused to the event; then `refused 1` is all that is written.
+    /// `Write` if the writer failed; then nothing is taken that wasn't written.
     pub fn replay<W: Write>(&mut self, event: Event<'_>, writer: &mut W) -> Result<(), ReplayFault>
         ensures { (config : Config) (history : List PlainEvent) → StandsFor self.old config history
             → (text : List ℕ) × (after : List PlainEvent)

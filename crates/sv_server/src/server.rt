@@ -76,8 +76,11 @@ fn connections<A: Allocator + Copy>(alloc: A) -> Result<Vec<Connection<A>, A>, A
 }
 
 impl<A: Allocator> Server<A> {
-    /// A server to which nothing happened. It takes all the memory that it ever uses, but for that
-    /// of links.
+    /// A server to which nothing happened. It allocates all the memory that it ever uses, but for
+    /// that of links and interrupt channels.
+    ///
+    /// # Errors
+    /// If memory is refused.
     pub fn new(alloc: A, config: Config) -> Result<Server<A>, AllocError>
     where
         A: Copy,
@@ -428,9 +431,18 @@ impl<A: Allocator> Server<A> {
         }
     }
 
-    /// Does an event, or refuses it; a refused event changes nothing. Of the refusals that hold,
-    /// the first in the order of checks is given. `NoMemory` comes only at a Turn whose call makes
-    /// a link or an interrupt channel, which may be tried again.
+    /// Applies an event, or refuses it; a refused event changes nothing.
+    ///
+    /// # Errors
+    /// The first check that fails. `NoConn` comes first: an Open has a number above 15, another
+    /// event names a connection or an interrupt channel that isn't open. Then an Open may fail with
+    /// `ConnInUse`, Bytes with `NoRoom`, a Took with `NotSent`, a Dialed with `NoDial`. A Turn that
+    /// finds a call fails with `NoRoom` if fewer than 8,232 outgoing bytes are free; a Refuse with
+    /// `NotRefusable`, then with that `NoRoom`. An Input fails with `BadChannel`, then `BadInput`,
+    /// a Tick with `TimeOver`.
+    ///
+    /// If no check fails, a Turn may be refused with `NoMemory`: only one whose call makes a link,
+    /// waits for the lock to make one, or asks for an interrupt channel. It may be tried again.
     pub fn apply(&mut self, event: Event<'_>) -> Result<Did, Refused>
         ensures answers { (config : Config) (history : List PlainEvent)
             → StandsFor self.old config history

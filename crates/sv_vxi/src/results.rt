@@ -90,8 +90,11 @@ fn data_unless_error(error: ErrorCode, bytes: &[u8]) -> &[u8]
     }
 }
 
-/// Writes a result. The fault is `NoRoom`, and the whole fields in front of the one that has no
-/// room stay written; or, for data that no length can tell, `TooLong`, and nothing is written.
+/// Writes a result.
+///
+/// # Errors
+/// `TooLong` for data longer than a length field can express, 4,294,967,295 bytes; nothing is
+/// written. Else `NoRoom` at the first field that doesn't fit; those in front of it stay written.
 pub fn write_result(writer: &mut Writer<'_>, outcome: &VxiResult<'_>) -> Result<(), XdrFault>
     ensures same_buffer { writer.new.out.ghost_name ≡ writer.old.out.ghost_name }
     ensures writes { length (data_of (plain_result outcome.now)) < 2 ^ 32

@@ -43,7 +43,7 @@ pub struct Serve<'a> {
 /// to 10 decimal digits. There is no other word, nor a `--` behind them.
 ///
 /// # Errors
-/// `BadWords` for all others, and where memory is refused its fault.
+/// `Run(Memory)` if memory is refused, `BadWords` for all other words.
 pub fn read_words<'a, S: AsStr>(alloc: Global, words: &'a [S]) -> Result<Words<'a>, ProgramFault>
     ensures { ReadsWords (AsksFor (map S.text words.now)) result }
 {

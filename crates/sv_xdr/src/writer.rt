@@ -44,7 +44,10 @@ impl<'b> Writer<'b> {
         &self.out[..self.written]
     }
 
-    /// Writes an unsigned integer (RFC 4506, section 4.2). The fault is `NoRoom`.
+    /// Writes an unsigned integer (RFC 4506, section 4.2).
+    ///
+    /// # Errors
+    /// `NoRoom` if fewer than 4 bytes of the buffer are left. Nothing is written.
     pub fn u32(&mut self, number: u32) -> Result<(), XdrFault>
         ensures same_buffer { self.new.out.ghost_name ≡ self.old.out.ghost_name }
         ensures spelled { OnOk result (AppendsField (Unsigned number) self.old self.new) }
@@ -55,7 +58,10 @@ impl<'b> Writer<'b> {
         self.bytes(&number.to_be_bytes())
     }
 
-    /// Writes a signed integer (RFC 4506, section 4.1). The fault is `NoRoom`.
+    /// Writes a signed integer (RFC 4506, section 4.1).
+    ///
+    /// # Errors
+    /// `NoRoom` if fewer than 4 bytes of the buffer are left. Nothing is written.
     pub fn i32(&mut self, integer: i32) -> Result<(), XdrFault>
         ensures same_buffer { self.new.out.ghost_name ≡ self.old.out.ghost_name }
         ensures spelled { OnOk result (AppendsField (Signed integer) self.old self.new) }
@@ -64,7 +70,10 @@ impl<'b> Writer<'b> {
         self.bytes(&integer.to_be_bytes())
     }
 
-    /// Writes a boolean (RFC 4506, section 4.4). The fault is `NoRoom`.
+    /// Writes a boolean (RFC 4506, section 4.4).
+    ///
+    /// # Errors
+    /// `NoRoom` if fewer than 4 bytes of the buffer are left. Nothing is written.
     pub fn boolean(&mut self, value: bool) -> Result<(), XdrFault>
         ensures same_buffer { self.new.out.ghost_name ≡ self.old.out.ghost_name }
         ensures spelled { OnOk result (AppendsField (Boolean value) self.old self.new) }
@@ -73,8 +82,11 @@ impl<'b> Writer<'b> {
         self.bytes(&u32::from(value).to_be_bytes())
     }
 
-    /// Writes variable-length opaque data (RFC 4506, section 4.10). The faults are `TooLong`, for
-    /// data that no length can tell, and then `NoRoom`.
+    /// Writes variable-length opaque data (RFC 4506, section 4.10).
+    ///
+    /// # Errors
+    /// `TooLong` for data longer than a length field can express, 4,294,967,295 bytes; then
+    /// `NoRoom` if length, data and padding don't all fit. Nothing is written.
     pub fn opaque(&mut self, text: &[u8]) -> Result<(), XdrFault>
         ensures same_buffer { self.new.out.ghost_name ≡ self.old.out.ghost_name }
         ensures spelled { OnOk result (AppendsField (Opaque text.now) self.old self.new) }
