@@ -1,5 +1,5 @@
-//! The replay of an event: it is done, and what then waits is written and taken. It asks of the
-//! server what any caller may.
+//! The replay of an event: it is applied, and what then waits is printed and taken. It uses only
+//! what any caller of the server may.
 
 ghost use Rattle.std.specs.Prelude.{◌≡◌, ℕ, List};
 ghost use Rattle.std.specs.Io.KnownBytes.{Appends};

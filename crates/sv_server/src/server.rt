@@ -1,5 +1,5 @@
-//! The server: it joins the connections and the device. An event is refused or done, and then the
-//! steps that are due are taken.
+//! The server joins the connections and the device. An event is refused or applied; then the steps
+//! that are due are taken.
 
 ghost use Rattle.std.specs.Prelude.{◌≡◌, ◌<◌, ◌≤◌, ◌++◌, ℕ, not, List, [], length, slice_index_or, true, false, if◌then◌else◌, MatchOption, MatchResult, Some, None, IfOk, OnErr};
 ghost use Rattle.sv_history.specs.declared.event.Config.{Config};
@@ -76,8 +76,8 @@ fn connections<A: Allocator + Copy>(alloc: A) -> Result<Vec<Connection<A>, A>, A
 }
 
 impl<A: Allocator> Server<A> {
-    /// A server to which nothing happened. It allocates all the memory that it ever uses, but for
-    /// that of links and interrupt channels.
+    /// A server with an empty history. It allocates all the memory that it ever uses, but for that
+    /// of links and interrupt channels.
     ///
     /// # Errors
     /// If memory is refused.
@@ -94,8 +94,7 @@ impl<A: Allocator> Server<A> {
         })
     }
 
-    /// The bytes that wait on a port, in the order in which they are to be sent; none where it
-    /// isn't open.
+    /// The bytes that wait to be sent on a port, in order; none if it isn't open.
     pub fn waiting(&self, port: Port) -> &[u8]
         ensures waiting { (config : Config) (history : List PlainEvent)
             → StandsFor self.now config history → WaitOn port config history result.now }
@@ -120,7 +119,7 @@ impl<A: Allocator> Server<A> {
         }
     }
 
-    /// How many bytes of a piece the connection has room for; 0 where it isn't open.
+    /// How many bytes a connection has room for; 0 if it isn't open.
     pub fn room(&self, conn: u8) -> u32
         ensures { (config : Config) (history : List PlainEvent) → StandsFor self.now config history
             → Answered (λ log. room (of conn log)) config history result }
@@ -131,7 +130,7 @@ impl<A: Allocator> Server<A> {
         }
     }
 
-    /// Whether a connection or an interrupt channel is open; none of a number above 15 is.
+    /// Whether a connection or an interrupt channel is open. None above 15 ever is.
     pub fn is_open(&self, port: Port) -> bool
         ensures { (config : Config) (history : List PlainEvent) → StandsFor self.now config history
             → Answered (λ log. not (is_port_shut port log)) config history result }
@@ -153,7 +152,8 @@ impl<A: Allocator> Server<A> {
         }
     }
 
-    /// Whether there is a call for a Turn to take; it may still find no room for the reply.
+    /// Whether there is a call for a Turn to take. The Turn is still refused if its reply may not
+    /// fit.
     pub fn ready(&self, conn: u8) -> bool
         ensures { (config : Config) (history : List PlainEvent) → StandsFor self.now config history
             → Answered (λ log. not (is_idle (of conn log))) config history result }
@@ -164,8 +164,8 @@ impl<A: Allocator> Server<A> {
         }
     }
 
-    /// Whether the connection only waits to be closed: a record that is no call was taken on it, or
-    /// all records in front of one that is too long came to their end.
+    /// Whether the connection can only be closed: a record that is no call was taken, or a record
+    /// that is too long came and all records in front of it are done.
     pub fn faulted(&self, conn: u8) -> bool
         ensures { (config : Config) (history : List PlainEvent) → StandsFor self.now config history
             → Answered (λ log. is_faulted (of conn log)) config history result }
@@ -176,8 +176,8 @@ impl<A: Allocator> Server<A> {
         }
     }
 
-    /// Whether a record came on the connection that is too long: nothing behind it is taken in, and
-    /// there is no room any more. Whole records in front of it still wait for their Turns.
+    /// Whether a record that is too long came on the connection. Nothing behind it is taken in, so
+    /// there is no room any more. Complete records in front of it are still executed.
     pub fn overlong(&self, conn: u8) -> bool
         ensures { (config : Config) (history : List PlainEvent) → StandsFor self.now config history
             → Answered (λ log. is_overlong (of conn log)) config history result }
@@ -188,8 +188,8 @@ impl<A: Allocator> Server<A> {
         }
     }
 
-    /// How many numbers were used: one more than the highest number of a connection that was ever
-    /// opened; 0 where none was. Nothing is to do on those that weren't.
+    /// One more than the highest number of a connection that was ever opened; 0 if none was. On the
+    /// others there is nothing to do.
     pub fn connections_used(&self) -> u8
         ensures { (config : Config) (history : List PlainEvent) → StandsFor self.now config history
             → (log : List Act) × IsLogOf config history log × IsUsed result log }
@@ -197,9 +197,9 @@ impl<A: Allocator> Server<A> {
         self.connections_used
     }
 
-    /// Whether nothing waits for one of the next so many milliseconds: no scan is under way, and no
-    /// deadline of a call that waits is that near. They only count, then, as long as nothing else
-    /// happens.
+    /// Whether nothing waits for time to pass within so many milliseconds: no scan is under way,
+    /// and no suspended call has a deadline in them. Until something else happens, these ticks
+    /// change nothing but the clock.
     pub fn is_still(&self, ticks: u32) -> bool
         ensures { (config : Config) (history : List PlainEvent) → StandsFor self.now config history
             → Decided (λ log. IsStill ticks config (device_acts log)) config history result }

@@ -55,8 +55,8 @@ fn dial_to(addr: u32, port: u32) -> Option<Dial>
 }
 
 impl<A: Allocator> Server<A> {
-    /// Where an interrupt channel of the connection is to be opened, until a Dialed says what came
-    /// of it; none where no create_intr_chan waits.
+    /// Where to connect the interrupt channel of a connection; `None` if no create_intr_chan of it
+    /// is suspended. A Dialed reports whether that succeeded.
     pub fn dial(&self, conn: u8) -> Option<Dial>
         ensures { (config : Config) (history : List PlainEvent) → StandsFor self.now config history
             → Answered (λ log. dial_of conn log) config history result }
