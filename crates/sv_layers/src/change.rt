@@ -1,10 +1,10 @@
-//! What happens to the layers but the exchange.
+//! The changes of the layers, but those of message exchange.
 
 use sv_errors::Code;
 use sv_scan::ScanAct;
 use sv_status::RegisterName;
 
-/// What a unit answers that is held until no measurement is under way.
+/// What a held unit will answer once no measurement is under way.
 #[derive(Clone, Copy)]
 pub enum Awaited {
     /// Nothing: `*WAI` (IEEE 488.2, 12.5.1).
@@ -15,7 +15,7 @@ pub enum Awaited {
     Readings,
 }
 
-/// A change of the instrument, other than of program text and the response.
+/// A change of the instrument, but of program text and response.
 #[derive(Drop)]
 pub enum Change {
     /// Something happens to the scanner.
