@@ -25,7 +25,7 @@ pub struct Call<'a> {
     pub args: &'a [u8],
 }
 
-/// Why a record is no call that can be answered by a program.
+/// Why a record is no call that a program can answer.
 #[derive(Clone, Copy, Debug, PartialEq, Eq, Error)]
 pub enum CallFault {
     /// The record is no call: it is too short, its message type isn't 0, or under version 2 of RPC

@@ -7,7 +7,7 @@ ghost use Rattle.sv_rpc.specs.Reply.{reply_fields, call_fields};
 
 use sv_xdr::{Writer, XdrFault};
 
-/// How a call was taken (RFC 5531, section 9).
+/// How a call is answered (RFC 5531, section 9).
 #[derive(Clone, Copy, Debug, PartialEq, Eq)]
 pub enum Reply {
     /// It was executed, and its result follows.

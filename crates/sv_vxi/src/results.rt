@@ -10,8 +10,8 @@ use crate::error_code::ErrorCode;
 use crate::reason::Reason;
 use sv_xdr::{Writer, XdrFault};
 
-/// The result of a call, a variant for each shape. Behind an error all other fields are written as
-/// 0 or empty, whatever they are.
+/// The result of a call, a variant for each shape. Behind an error each other field is written as 0
+/// or empty, whatever it is.
 #[derive(Clone, Copy)]
 pub enum VxiResult<'a> {
     /// Of create_link.

@@ -1,4 +1,4 @@
--- Reading fields one behind the other, where any fault of one is garbage.
+-- Reading fields in order, where any fault makes the whole garbage.
 use Rattle.std.specs.Prelude.{Result, Ok, Err}
 use Rattle.sv_xdr.specs.declared.fault.XdrFault.{XdrFault}
 use Rattle.sv_xdr.specs.declared.garbage.Garbage.{Garbage}

@@ -8,8 +8,8 @@ ghost use Rattle.sv_xdr.specs.Reader.{IsRead, unsigned_at, signed_at, boolean_at
 use crate::fault::XdrFault;
 use std::marker::Model;
 
-/// A place in some bytes, from which fields are read from left to right. Contracts see it as the
-/// bytes from that place on.
+/// A place in bytes, from which fields are read in order. Contracts see it as the bytes from that
+/// place on.
 #[derive(Debug, Drop)]
 pub struct Reader<'a> {
     rest: &'a [u8],
@@ -24,14 +24,14 @@ impl<'a> Model for Reader<'a> {
 }
 
 impl<'a> Reader<'a> {
-    /// At the front of these bytes.
+    /// A reader at the front of these bytes.
     pub fn new(bytes: &'a [u8]) -> Reader<'a>
         ensures { result ≡ bytes.now }
     {
         Reader { rest: bytes }
     }
 
-    /// The bytes from this place on.
+    /// The bytes from the reader's place on.
     pub fn rest(&self) -> &'a [u8]
         ensures { result.now ≡ self.now }
     {

@@ -5,8 +5,8 @@ ghost use Rattle.std.specs.Prelude.{◌≡◌, ◌<◌, ◌≤◌, ◌^◌, [], 
 use crate::fault::XdrFault;
 use crate::reader::pad_len;
 
-/// A buffer of the caller's into which fields are written from left to right. Contracts see what
-/// was written and the rest of the buffer.
+/// A caller's buffer, into which fields are written in order. Contracts see what was written, and
+/// the rest of the buffer.
 #[derive(Debug, Drop)]
 pub struct Writer<'b> {
     out: &'b mut [u8],
@@ -18,7 +18,7 @@ impl<'b> Writer<'b> {
     ghost use Rattle.sv_xdr.specs.Spelling.{Unsigned, Signed, Boolean, Opaque, spelling};
     ghost use Rattle.sv_xdr.specs.Writer.{text_of, rest_of, Appends, AppendsField, Stays, Writes};
 
-    /// At the front of this buffer.
+    /// A writer at the front of this buffer.
     pub fn new(buffer: &'b mut [u8]) -> Writer<'b>
         ensures same_buffer { result.out.ghost_name ≡ buffer.entry.ghost_name }
         ensures text { text_of result ≡ [] }
@@ -37,7 +37,7 @@ impl<'b> Writer<'b> {
         self.written
     }
 
-    /// What was written.
+    /// The bytes that were written.
     pub fn text(&self) -> &[u8]
         ensures { result.now ≡ text_of self.now }
     {
