@@ -4,8 +4,7 @@ use sv_header::{Action, Question};
 use sv_scan::{ScanList, Setting};
 use sv_status::RegisterName;
 
-/// What a unit asks for, with values of its own. A mask of a register may have bit 15, which the
-/// register drops.
+/// What a unit asks for, with its values. A register's mask may have bit 15; the register drops it.
 #[derive(Drop)]
 pub enum Order {
     /// Something that needs no value.

@@ -11,9 +11,9 @@ use sv_errors::Code;
 use sv_header::{CommandId, Path, Table};
 use sv_lexer::Unit;
 
-/// Reads a unit behind a path, as what it asks for. It is given as it was lexed, or the fault that
-/// it has then. Where its header names a command, the path follows it, whatever is wrong with the
-/// parameters.
+/// Reads a unit, with the path before it, as what it asks for. `lexed` is the unit as `sv_lexer`
+/// read it, or its fault. If the header names a command, the path follows it, even if the
+/// parameters are wrong.
 ///
 /// # Errors
 /// The first of these: the fault that `lexed` is; [`Code::UndefinedHeader`] if the header names no

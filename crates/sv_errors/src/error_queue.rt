@@ -12,7 +12,7 @@ use std::marker::Model;
 /// How many entries there may be.
 pub const MOST_ERRORS: usize = 64;
 
-/// What happens to the error queue.
+/// An act of the error queue.
 #[derive(Clone, Copy, Debug, PartialEq, Eq)]
 pub enum QueueAct {
     /// An error is reported.
@@ -23,7 +23,7 @@ pub enum QueueAct {
     Clear,
 }
 
-/// What it tells of that.
+/// The answer to an act of the error queue.
 #[derive(Clone, Copy, Debug, PartialEq, Eq)]
 pub enum QueueAnswer {
     /// Whether the report overflowed.
@@ -67,8 +67,8 @@ impl<A: Allocator> ErrorQueue<A> {
         Ok(ErrorQueue { codes })
     }
 
-    /// Reports an error, and tells whether it overflowed: a full queue shows -350 in place of its
-    /// newest entry, and the error itself is lost.
+    /// Reports an error, and returns whether the queue was full: then its newest entry becomes
+    /// -350, and this error is lost.
     pub fn report(&mut self, code: Code) -> bool
         ensures stands { (acts : List QueueAct) → StandsFor self.old acts
             → StandsFor self.new (QueueAct.Report code ∷ acts) }
@@ -85,7 +85,7 @@ impl<A: Allocator> ErrorQueue<A> {
         full
     }
 
-    /// Takes the oldest entry, where there is one.
+    /// Takes the oldest entry; `None` if there is none.
     pub fn take(&mut self) -> Option<Code>
         ensures stands { (acts : List QueueAct) → StandsFor self.old acts
             → StandsFor self.new (QueueAct.Take ∷ acts) }
@@ -95,7 +95,7 @@ impl<A: Allocator> ErrorQueue<A> {
         self.codes.pop_front()
     }
 
-    /// The oldest entry, which stays, where there is one.
+    /// The oldest entry, which stays; `None` if there is none.
     pub fn oldest(&self) -> Option<Code>
         ensures { (acts : List QueueAct) → StandsFor self.now acts → result ≡ oldest_of acts }
     {

@@ -1,9 +1,9 @@
-//! What happens to the scanner.
+//! The acts of the scanner.
 
 use crate::setting::Setting;
 use sv_errors::{Code, Source};
 
-/// What happens to the scanner.
+/// An act of the scanner.
 #[derive(Clone, Copy, Debug)]
 pub enum ScanAct {
     /// The voltage of a channel's input, in microvolts.
@@ -22,7 +22,7 @@ pub enum ScanAct {
     Sample,
 }
 
-/// What it tells of that.
+/// The answer to an act of the scanner.
 #[derive(Clone, Copy, Debug, PartialEq, Eq)]
 pub enum ScanAnswer {
     /// There is nothing to tell.

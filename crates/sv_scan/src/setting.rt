@@ -3,8 +3,8 @@
 use crate::scan_list::ScanList;
 use sv_errors::Source;
 
-/// A setting and its value. Each but [`Setting::Monitor`] and those of the limits can be changed in
-/// the idle state alone.
+/// A setting and its value. All but [`Setting::Monitor`] and those of the limits can only be
+/// changed in the idle state.
 #[derive(Clone, Copy, Debug)]
 pub enum Setting {
     /// The channels that a scan reads, in their order; at least one. At first
@@ -28,7 +28,7 @@ pub enum Setting {
     Count(u8),
 }
 
-/// What the trigger system does (SCPI-1999, volume 2, chapter 24).
+/// The state of the trigger system (SCPI-1999, volume 2, chapter 24).
 #[derive(Clone, Copy, Debug, PartialEq, Eq)]
 pub enum State {
     /// No measurement is under way.
@@ -39,7 +39,7 @@ pub enum State {
     Scanning,
 }
 
-/// What one sample gives.
+/// The reading of one sample.
 #[derive(Clone, Copy, Debug, PartialEq, Eq)]
 pub enum Reading {
     /// A voltage within the range, in microvolts.

@@ -14,7 +14,7 @@ pub enum Lead {
     Onward,
 }
 
-/// A header in its parts. Any bytes have them, also such as are no header.
+/// A header in its parts. Any bytes have them, even if they are no header.
 #[derive(Clone, Copy, Debug)]
 pub struct Header<'a> {
     /// What leads it.
@@ -25,7 +25,7 @@ pub struct Header<'a> {
     pub query: bool,
 }
 
-/// The parts of a header.
+/// Takes a header apart.
 pub fn header_parts(header: &[u8]) -> Header<'_>
     ensures lead { result.lead ≡ lead_of header.now }
     ensures body { result.body.now ≡ body header.now }
