@@ -1,9 +1,9 @@
-//! What a header names.
+//! The commands that headers name.
 
 use sv_status::RegisterName;
 
-/// What a header names. A header with the query sign and the same one without it name different
-/// commands.
+/// The command that a header names. A query is another command than the same header without the
+/// question mark.
 #[derive(Clone, Copy, Debug, PartialEq, Eq)]
 pub enum CommandId {
     /// A command without a parameter, or a query that isn't answered at once.
@@ -19,7 +19,7 @@ pub enum CommandId {
     Measure,
 }
 
-/// What is done without a parameter.
+/// A command, or a query that waits, without a parameter.
 #[derive(Clone, Copy, Debug, PartialEq, Eq)]
 pub enum Action {
     /// `*CLS`: clear events and the error queue (IEEE 488.2, 10.3).
@@ -71,7 +71,7 @@ pub enum Question {
     Value(SettingName),
 }
 
-/// What has a value that a command sets and its query tells.
+/// A value that a command sets and a query returns.
 #[derive(Clone, Copy, Debug, PartialEq, Eq)]
 pub enum SettingName {
     /// `*ESE`: which standard events are enabled.

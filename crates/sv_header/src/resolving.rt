@@ -19,7 +19,7 @@ use sv_errors::Code;
 /// How many of them are of common commands; these stand in front.
 const COMMON_NODES: usize = 11;
 
-/// The table of commands, in memory: a tree of nodes, one for each mnemonic at its place.
+/// The table of commands in memory: a tree of nodes, one for each mnemonic at its place.
 #[derive(Drop)]
 pub struct Table<A: Allocator = Global> {
     branches: Vec<Branch, A>,
@@ -50,7 +50,7 @@ impl<A: Allocator> Table<A> {
         Ok(Table { branches })
     }
 
-    /// The command that a header behind a path names (SCPI-1999, volume 1, chapter 6).
+    /// The command that a header names, with the path before it (SCPI-1999, volume 1, chapter 6).
     ///
     /// # Errors
     /// [`Code::UndefinedHeader`] if it names none.

@@ -10,7 +10,7 @@ use crate::token::Token;
 use std::marker::Model;
 use sv_errors::Code;
 
-/// A unit whose header is spelled as a header. Contracts see it as the bytes that it was read from.
+/// A unit whose header is spelled as one. Contracts see it as the bytes that it was read from.
 #[derive(Debug, Drop)]
 pub struct Unit<'a> {
     /// The bytes that it was read from.

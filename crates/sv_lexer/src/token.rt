@@ -3,7 +3,7 @@
 ghost use Rattle.std.specs.Prelude.{◌≡◌, min};
 ghost use Rattle.sv_lexer.specs.Token.{kind_of, told};
 
-/// What kind of data a token is, told by its first byte.
+/// The kind of data of a token, by its first byte.
 #[derive(Clone, Copy, Debug, PartialEq, Eq)]
 pub enum Kind {
     /// A decimal number: a digit, a sign or a point begins it.

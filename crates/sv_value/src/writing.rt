@@ -8,9 +8,9 @@ use itoa::Buffer;
 /// How many microvolts a volt has.
 const VOLT: u64 = 1_000_000;
 
-/// Prints a voltage of so many microvolts, up to 1,000 V in magnitude: a sign (`+` for 0), whole
-/// volts, a point and six digits. Writes it at the front of at least 16 bytes, and tells how many
-/// it took, at most 12.
+/// Prints a voltage in microvolts, up to 1,000 V in magnitude: a sign (`+` for 0), whole volts, a
+/// point and six digits. It is written at the front of at least 16 bytes; the result is its length,
+/// at most 12.
 #[tactic(auto, using(crate::proofs::Printed::volts_short))]
 pub fn write_microvolts(value: i64, out: &mut [u8]) -> usize
     requires room { 16 ≤ length out.old }
