@@ -1,4 +1,4 @@
-//! What a loop of sweeps waits by.
+//! The clock and the waits of a loop of sweeps.
 
 ghost use Rattle.std.specs.Prelude.{IfOk};
 

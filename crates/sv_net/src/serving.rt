@@ -1,4 +1,4 @@
-//! Sweep after sweep.
+//! The loop of sweeps.
 
 ghost use Rattle.std.specs.Prelude.{◌≡◌, ◌≤◌, ℕ, OnOk, OnErr, IfOk};
 ghost use Rattle.sv_net.specs.Sockets.{Hears};
@@ -21,11 +21,10 @@ use sv_serve::Driver;
 /// How often it looks again without sleeping, at most.
 const LOOKS: u32 = 1_000;
 
-/// Makes so many sweeps. Behind each it waits until a socket is reported, or time matters: for the
-/// next whole millisecond, or up to 100 of them where nothing waits for so many. Where nothing ever
+/// Makes so many sweeps. After each it waits until a socket is reported or time matters: until the
+/// next whole millisecond, or up to 100 of them if nothing waits for time in these. If nothing ever
 /// waits for time, and more than a million sweeps are left, it waits for sockets alone. For 50
-/// microseconds after something was reported it looks again without sleeping, where that found
-/// something of late.
+/// microseconds after a report it looks again without sleeping, if that paid of late.
 ///
 /// # Errors
 /// If the system tells no time, or fails to wait.

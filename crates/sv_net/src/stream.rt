@@ -6,7 +6,7 @@ use std::io::{self, ErrorKind, Read, Write};
 use std::net::{Ipv4Addr, Net as Network, SocketAddr, SocketAddrV4};
 use sv_server::Dial;
 
-/// A stream between this machine and a peer. No call of it waits.
+/// A stream between this machine and a peer. No call of it blocks.
 pub trait Stream: Read + Write + Source + Drop {
     /// The stream of a connection that was accepted.
     fn accepted(stream: TcpStream) -> Self;

@@ -1,4 +1,4 @@
-//! Why a replay stops.
+//! Why a replay stopped.
 
 ghost use Rattle.std.specs.Prelude.{◌≡◌};
 

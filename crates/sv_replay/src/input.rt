@@ -1,4 +1,4 @@
-//! What a replay is read from, and what a read gives.
+//! The reader of a replay, and what each read gives.
 
 ghost use Rattle.std.specs.Prelude.{◌<◌, length};
 ghost use Rattle.sv_replay.specs.Text.{IsBehind};
@@ -9,8 +9,8 @@ use std::io::{ErrorKind, Read};
 #[derive(Clone, Copy, Debug, PartialEq, Eq)]
 pub struct InputFault;
 
-/// A reader whose reads a contract can name. Each reader is one; of what its reads lead to nothing
-/// is known.
+/// A reader whose reads a contract can name. Every reader is one; nothing is known of what the
+/// system's give.
 pub trait Source: Read {
     ghost use Rattle.std.specs.Prelude.{⊤};
     ghost use Rattle.sv_replay.specs.Reads.{Gave};

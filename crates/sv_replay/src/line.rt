@@ -21,7 +21,8 @@ pub enum Line<'a> {
     Ticks(u32),
 }
 
-/// Reads a line, without its new line. The bytes of a `bytes` line are put into `buffer`.
+/// Reads a line, without its new line; `None` if it says nothing that a replay knows. The bytes of
+/// a `bytes` line are put into `buffer`, which has to be as long as the line.
 pub fn read_line<'a>(line: &[u8], buffer: &'a mut [u8]) -> Option<Line<'a>>
     requires { length line.now ≤ length buffer.old }
     // What is read is said there.

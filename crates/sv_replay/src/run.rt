@@ -38,9 +38,9 @@ struct Run<A: Allocator> {
     ghost room: { length bytes.items ≡ 65536 },
 }
 
-/// Runs the replay that the reader gives, onto the writer. The writer is flushed before each read,
-/// so that whoever waits for an answer before more is sent gets it, and before the answer, so that
-/// what was printed has left the buffer whatever stopped the run.
+/// Runs the replay of a script that is read line by line, and prints it onto the writer. The writer
+/// is flushed before each read, so that whoever waits for an answer before sending more gets it;
+/// and at the end, whatever stopped the run.
 ///
 /// # Errors
 /// The first of these that happens. `Memory`: memory was refused at the start or to an event.
