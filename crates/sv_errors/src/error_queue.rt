@@ -28,7 +28,7 @@ pub enum QueueAct {
 pub enum QueueAnswer {
     /// Whether the report overflowed.
     Reported(bool),
-    /// What was taken, where there was any.
+    /// The entry that was taken; `None` if there was none.
     Taken(Option<Code>),
     /// All entries were dropped.
     Cleared,

@@ -8,18 +8,18 @@ ghost use Rattle.std.specs.Prelude.{◌≡◌, List, ◌∷◌, ◌++◌, revers
 /// act in front, and the answer is the one that a search of the list gives. Lists of acts have the
 /// newest first.
 pub trait Layer {
-    /// What can happen to it.
+    /// An act of the layer.
     type Act;
-    /// What it tells of an act.
+    /// The answer to an act.
     type Answer;
 
     /// The value stands for a list of acts.
     ghost stands_for: { Self → List Self.Act → Type 0 };
 
-    /// An act behind this list is answered so.
+    /// The answer to an act after this list is this one.
     ghost gives: { List Self.Act → Self.Act → Self.Answer → Type 0 };
 
-    /// Lets an act happen.
+    /// Performs an act, and gives its answer.
     fn act(&mut self, act: Self::Act) -> Self::Answer
         ensures stands { (log : List Self.Act) → stands_for self.old log
             → stands_for self.new (act ∷ log) }

@@ -21,11 +21,11 @@ use sv_lexer::Unit;
 /// What is due.
 #[derive(Clone, Copy)]
 pub enum Next<'a> {
-    /// Nothing, before more text comes.
+    /// Nothing, until more text comes.
     Nothing,
-    /// The current message is too long, which is to be told.
+    /// The current message is too long, which is to be reported.
     Overrun,
-    /// A unit is about to be executed while a response stands, which is dropped before.
+    /// A unit is to be executed, but a response is still there, which has to be dropped before.
     Interrupt,
     /// This unit is to be executed.
     Unit(&'a [u8]),
@@ -53,7 +53,7 @@ pub struct Exchange<A: Allocator = Global> {
     end_pending: bool,
     /// Whether the current message is too long, whose bytes are dropped then.
     overlong: bool,
-    /// Whether that was told.
+    /// Whether that was reported.
     overrun_reported: bool,
     /// Whether the answers of the current message were dropped.
     answers_dropped: bool,
@@ -144,7 +144,9 @@ impl<A: Allocator> Exchange<A> {
             .look_on(&self.text[self.cursor..self.end], self.overlong);
     }
 
-    /// What is due. A message that is too long, or lost its answers, has no unit that is due.
+    /// What is due: a report that the message is too long, the end of a response that is
+    /// interrupted, a unit to execute, or the end of the message. A message that is too long, or
+    /// lost its answers, has no unit that is due.
     pub fn next_unit(&self) -> Next<'_>
         ensures value { plain_next result ≡ next_of self.now }
         ensures answer { (acts : List ExchangeAct) → StandsFor self.now acts

@@ -1,4 +1,4 @@
-//! Nodes at their places in the tree of headers.
+//! Nodes of the tree of headers, at their places.
 
 ghost use Rattle.std.specs.Prelude.{◌≡◌, [], MatchOption};
 ghost use Rattle.sv_header.specs.Plain.{left_of};

@@ -1,4 +1,4 @@
-//! A header behind a path, as the tree is asked about it.
+//! A header with the path before it, as it is looked up in the tree.
 
 ghost use Rattle.std.specs.Prelude.{◌≡◌};
 ghost use Rattle.sv_text.specs.Header.{is_query, lead as lead_of};

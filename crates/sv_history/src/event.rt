@@ -151,7 +151,7 @@ pub enum Refused {
 impl Refused {
     ghost use Rattle.sv_history.specs.Print.{number};
 
-    /// Its number, from 1 to 10, as a replay prints it.
+    /// The number of a refusal, from 1 to 10, as a replay prints it.
     pub fn number(self) -> u8
         ensures { result ≡ number self }
     {

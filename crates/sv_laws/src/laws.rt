@@ -10,20 +10,18 @@ pub fn one_log()
 {}
 
 /// While a link holds the lock, other connections change nothing that is sent on its connection and
-/// on its interrupt channel (VXI-11 revision 1.0, section B.4.4). No device_abort may name a link
-/// of this connection, no create_link may come on it, and at the beginning no read or write of
-/// another connection may be suspended for input or output.
+/// on its interrupt channel (VXI-11 revision 1.0, section B.4.4), if no device_abort names a link
+/// of its connection, no create_link comes on it, and at the beginning no read or write of another
+/// connection is suspended for input or output.
 pub fn isolation()
     ensures { Isolation }
 {}
 
 /// How input is split into pieces, records into fragments and text into writes changes nothing but
-/// the writes' own replies.
-///
-/// Pieces and fragments: both histories must be possible, so that each piece finds room (RFC 5531,
-/// section 11: record marking). Writes: only the last has END, each is answered without error for
-/// all its bytes, a new line stands only in the last, and no read or write was suspended before
-/// (VXI-11 revision 1.0, section B.6, device_write; IEEE 488.2, 6.1).
+/// the writes' own replies, if each piece finds room, each write is answered without error for all
+/// its bytes, only the last one has END or a new line, and no read or write was suspended before
+/// (RFC 5531, section 11: record marking; VXI-11 revision 1.0, section B.6, device_write; IEEE
+/// 488.2, 6.1).
 pub fn cuts()
     ensures pieces { RecordsCut }
     ensures writes { WritesCut }

@@ -22,7 +22,7 @@ use sv_scan::ScanAct;
 const DEVICE: u8 = 1 << 3;
 
 impl<A: Allocator> Layers<A> {
-    /// Applies a change.
+    /// Applies a change to its own layer, then to each register, then to the status byte.
     pub fn apply(&mut self, change: Change)
         ensures applied { (log : List Act) → StandsFor self.old log
             → IsApplied self.old.requests self.new (act_of change ∷ log) }

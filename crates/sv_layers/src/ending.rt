@@ -1,4 +1,4 @@
-//! How a change ends: in one register after the other.
+//! The end of a change: each register is updated, one after the other.
 
 ghost use Rattle.std.specs.Prelude.{◌≡◌, ℕ, false, List, ◌∷◌};
 ghost use Rattle.sv_status.specs.declared.register.RegisterAct.{RegisterAct};

@@ -87,7 +87,7 @@ impl Partial {
         }
     }
 
-    /// The unit. `text` must be the bytes that were read.
+    /// Ends the unit and gives it. `text` must be the bytes that were read.
     ///
     /// # Errors
     /// Those of [`unit`](crate::unit).

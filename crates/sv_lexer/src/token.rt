@@ -23,9 +23,9 @@ pub enum Kind {
 pub struct Token<'a> {
     /// Its bytes, without white space around them.
     pub text: &'a [u8],
-    /// Where it stands in the unit, in bytes; 4,294,967,295 where that is more.
+    /// Where it stands in the unit, in bytes; 4,294,967,295 if that is more.
     pub start: u32,
-    /// What its first byte tells.
+    /// Its kind, by its first byte.
     pub kind: Kind,
 }
 

@@ -196,8 +196,8 @@ impl<A: Allocator> Links<A> {
         self.holder
     }
 
-    /// Gives a link the lock, unless another link holds it. Returns whether it holds the lock now;
-    /// if not, nothing changes.
+    /// Gives a link the lock, unless another link holds it, and returns whether it holds the lock
+    /// now. If not, nothing changes.
     pub fn lock(&mut self, lid: u32) -> bool
         ensures answer { (acts : List LinkAct) → IsTable self.old acts
             → result ≡ not (is_locked_out (holder acts) (Some lid)) }

@@ -21,10 +21,10 @@ use sv_serve::Driver;
 /// How often it looks again without sleeping, at most.
 const LOOKS: u32 = 1_000;
 
-/// Makes so many sweeps. After each it waits until a socket is reported or time matters: until the
-/// next whole millisecond, or up to 100 of them if nothing waits for time in these. If nothing ever
-/// waits for time, and more than a million sweeps are left, it waits for sockets alone. For 50
-/// microseconds after a report it looks again without sleeping, if that paid of late.
+/// Makes so many sweeps, and waits between them until a socket is reported or time matters. A wait
+/// ends at the next whole millisecond, or at the hundredth if nothing waits for time in these. If
+/// nothing ever waits for time, and more than a million sweeps are left, it ends at a report alone.
+/// For 50 microseconds after a report it looks again without sleeping, if that paid of late.
 ///
 /// # Errors
 /// If the system tells no time, or fails to wait.

@@ -15,7 +15,7 @@ pub trait Source: Read {
     ghost use Rattle.std.specs.Prelude.{⊤};
     ghost use Rattle.sv_replay.specs.Reads.{Gave};
 
-    /// What a read leads to that gives so many bytes, or none at the reader's end, or a fault.
+    /// What a read leads to, by what it gave: so many bytes; none, at the reader's end; or a fault.
     ghost gives: { Self → Gave → Self → Type 0 } = { λ before gave after. ⊤ };
 
     /// Reads once, into a buffer with room. An interrupted read gives no bytes, but another may.

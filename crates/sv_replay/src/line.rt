@@ -15,9 +15,9 @@ use sv_server::{Event, Port, Role};
 pub enum Line<'a> {
     /// Nothing.
     Blank,
-    /// That this happens.
+    /// This event happens.
     One(Event<'a>),
-    /// That so many milliseconds pass.
+    /// So many milliseconds pass.
     Ticks(u32),
 }
 

@@ -6,7 +6,7 @@ use sv_errors::{Code, Source};
 /// An act of the scanner.
 #[derive(Clone, Copy, Debug)]
 pub enum ScanAct {
-    /// The voltage of a channel's input, in microvolts.
+    /// The input of a channel becomes this voltage, in microvolts.
     Input(u8, i64),
     /// A setting is changed.
     Configure(Setting),
@@ -25,7 +25,7 @@ pub enum ScanAct {
 /// The answer to an act of the scanner.
 #[derive(Clone, Copy, Debug, PartialEq, Eq)]
 pub enum ScanAnswer {
-    /// There is nothing to tell.
+    /// The act has no answer.
     Done,
     /// The act was done, or refused with this error.
     Answered(Result<(), Code>),

@@ -1,4 +1,4 @@
-//! Whether there is nothing to do but by the wire.
+//! Whether there is nothing to do until the wire reports something.
 
 ghost use Rattle.std.specs.Prelude.{◌≡◌, ◌↔◌, ◌+◌, true, false, List, []};
 ghost use Rattle.sv_history.specs.declared.event.Config.{Config};

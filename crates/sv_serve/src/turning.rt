@@ -1,4 +1,4 @@
-//! Taking calls.
+//! Taking calls by Turns.
 
 ghost use Rattle.std.specs.Prelude.{◌≡◌, ◌<◌};
 ghost use Rattle.sv_history.specs.Print.{is_no_memory};

@@ -16,22 +16,22 @@ const ALL: u16 = 32767;
 /// An act of a register.
 #[derive(Clone, Copy, Debug, PartialEq, Eq)]
 pub enum RegisterAct {
-    /// Its condition becomes this.
+    /// The condition becomes this.
     Condition(u16),
-    /// Its transition filters are set.
+    /// The transition filters are set.
     SetFilter {
-        /// Which bits pass when they rise.
+        /// The positive transition filter.
         rise: u16,
-        /// Which bits pass when they fall.
+        /// The negative transition filter.
         fall: u16,
     },
-    /// Its enable is set.
+    /// The enable is set.
     SetEnable(u16),
-    /// Its event register is read, and cleared thereby.
+    /// The event register is read, which clears it.
     ReadEvent,
-    /// Its filters and its enable are preset.
+    /// Filters and enable are preset.
     Preset,
-    /// Its event register is cleared.
+    /// The event register is cleared.
     Clear,
 }
 
@@ -40,7 +40,7 @@ pub enum RegisterAct {
 pub enum RegisterAnswer {
     /// The event register as it was before it was read.
     Event(u16),
-    /// There is nothing to tell.
+    /// The act has no answer.
     Done,
 }
 

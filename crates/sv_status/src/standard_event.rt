@@ -14,13 +14,13 @@ const POWER_ON: u8 = 1 << 7;
 /// An act of the register.
 #[derive(Clone, Copy, Debug, PartialEq, Eq)]
 pub enum StandardAct {
-    /// Events occur: the bits of this word.
+    /// Events occur: those with these bits.
     Occur(u8),
-    /// It is read, and cleared thereby.
+    /// The register is read, which clears it.
     Read,
-    /// Its enable is set.
+    /// The enable is set.
     SetEnable(u8),
-    /// It is cleared.
+    /// The register is cleared.
     Clear,
 }
 
@@ -29,7 +29,7 @@ pub enum StandardAct {
 pub enum StandardAnswer {
     /// The register as it was before it was read.
     Event(u8),
-    /// There is nothing to tell.
+    /// The act has no answer.
     Done,
 }
 

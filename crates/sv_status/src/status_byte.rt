@@ -13,14 +13,14 @@ const REQUEST: u8 = 1 << 6;
 /// An act of the status byte.
 #[derive(Clone, Copy, Debug, PartialEq, Eq)]
 pub enum StatusAct {
-    /// The summary bits and the enable become these.
+    /// Summary bits and service request enable become these.
     Update {
-        /// The summary bits; bit 6 is ignored. Bits 1 and 0 are the caller's, who keeps them 0.
+        /// The summary bits. Bit 6 is ignored; the caller keeps bits 1 and 0 at 0.
         bits: u8,
-        /// Which of them ask for service; bit 6 is ignored.
+        /// The service request enable; bit 6 is ignored.
         enable: u8,
     },
-    /// It is polled, which ends a request for service.
+    /// A poll, which ends a request for service.
     Poll,
 }
 
@@ -61,8 +61,8 @@ impl StatusByte {
         }
     }
 
-    /// Sets summary bits and service request enable. True if this raises a request for service:
-    /// some bit is set and enabled that wasn't both before, and no request stood.
+    /// Sets summary bits and service request enable, and returns whether this raises a request for
+    /// service: some bit is set and enabled that wasn't both before, and no request stood.
     pub fn update(&mut self, bits: u8, enable: u8) -> bool
         ensures stands { (acts : List StatusAct) → StandsFor self.old acts
             → StandsFor self.new (StatusAct.Update bits enable ∷ acts) }

@@ -10,7 +10,7 @@ pub enum Lead {
     Common,
     /// A colon: the header starts at the root.
     Root,
-    /// Nothing: the header goes on from the one before it.
+    /// Nothing: the header continues the path.
     Onward,
 }
 
@@ -21,7 +21,7 @@ pub struct Header<'a> {
     pub lead: Lead,
     /// The mnemonics and the colons between them.
     pub body: &'a [u8],
-    /// Whether a query sign stands at its end.
+    /// Whether a question mark ends it.
     pub query: bool,
 }
 

@@ -1,4 +1,4 @@
-//! Numbers before it is known whether they are in range.
+//! Numbers whose range isn't checked yet.
 
 ghost use Rattle.std.specs.Prelude.{◌≡◌, ◌≤◌, ◌++◌, ◌==◌, ℤ, not, true, length, position, Result, Ok, Err, MatchResult, IfOk, IfSome, unsigned_abs};
 ghost use Rattle.std.specs.Char.{is_ascii_digit};

@@ -1,4 +1,4 @@
-//! What comes of a call of the core channel.
+//! The outcome of a call of the core channel.
 
 use sv_vxi::VxiResult;
 

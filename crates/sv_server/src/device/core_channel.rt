@@ -1,4 +1,4 @@
-//! What each call of the core channel does, once it needn't wait (VXI-11 revision 1.0, B.6).
+//! What each call of the core channel does, once nothing stops it (VXI-11 revision 1.0, B.6).
 
 ghost use Rattle.std.specs.Prelude.{◌≡◌, ◌<◌, ◌≤◌, ◌^◌, ℕ, pos, List, [], ◌∷◌, length, map, Some, None, true, false};
 ghost use Rattle.sv_vxi.specs.Arguments.{Generic, OnLink};

@@ -1,4 +1,4 @@
-//! Results of calls that fail, or that tell little, in the shape of each.
+//! Results of calls that fail, or that only say that they succeeded, in the shape of each.
 
 ghost use Rattle.std.specs.Prelude.{◌≡◌, ℤ, pos, []};
 ghost use Rattle.sv_vxi.specs.Arguments.{OnLink};

@@ -1,4 +1,4 @@
-//! A call that was suspended goes on, or is given up.
+//! A suspended call resumes, times out, or ends with another error.
 
 ghost use Rattle.std.specs.Prelude.{◌≡◌, ◌+◌, ◌<◌, ◌≤◌, ℕ, List, Some, None, IfSome, true, false, ◌∷◌};
 ghost use Rattle.sv_vxi.specs.Arguments.{is_create_link as makes_link};

@@ -1,4 +1,4 @@
-//! Refusing a connection's next call for want of resources.
+//! Refusing a connection's next call for want of resources: error 9.
 
 ghost use Rattle.std.specs.Prelude.{◌≡◌, List, Some, OnErr, option_map};
 ghost use Rattle.sv_rpc.specs.Call.{call_at};

@@ -1,4 +1,4 @@
-//! The record of a suspended call is read once more, and the call is taken up again.
+//! The record of a suspended call is read once more, and the call resumes.
 
 ghost use Rattle.std.specs.Prelude.{◌≡◌, ◌<◌, ℕ, List, true, false, is_some};
 ghost use Rattle.sv_links.specs.Queue.{without, queue_measure};

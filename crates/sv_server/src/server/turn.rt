@@ -1,4 +1,4 @@
-//! A connection's next call is taken and done.
+//! A connection's next call is taken and executed.
 
 ghost use Rattle.std.specs.Prelude.{◌≡◌, List, Some, OnErr, true, is_some};
 ghost use Rattle.sv_exchange.specs.Exchange.{response};
