@@ -1,4 +1,4 @@
--- Types of the code as plain data.
+-- Types of the code in sv_header, as plain data.
 use Rattle.std.specs.Prelude.{ℕ, Bool, nat_le, length, List, [], ◌∷◌, ◌++◌, Option, Some, None}
 use Rattle.std.specs.Borrow.{Bor}
 use Rattle.sv_text.specs.Cut.{cut_at}

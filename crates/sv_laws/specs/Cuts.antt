@@ -1,5 +1,5 @@
--- How input is split changes nothing that is sent on any port: bytes into pieces, records into fragments (RFC 5531, section 11: record
--- marking), text into writes (VXI-11 revision 1.0, section B.6, device_write).
+-- Cuts: how bytes are split into pieces, records into fragments (RFC 5531, section 11: record marking), and text into writes (VXI-11
+-- revision 1.0, section B.6, device_write) changes nothing that is sent but the writes' own replies, under the premises below.
 use Rattle.std.specs.Prelude.{◌≡◌, ◌≢◌, ◌↔◌, not, ℕ, pos, Bool, true, false, List, [], ◌∷◌, ◌++◌, length, drop, filter, map, Some}
 use Rattle.std.specs.Int.{bit_at}
 use Rattle.std.specs.List.{AllByRecursion}

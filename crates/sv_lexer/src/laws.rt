@@ -1,4 +1,4 @@
-//! A law of the definitions.
+//! A law of the tokens of a unit.
 
 ghost use Rattle.sv_lexer.specs.Order.{InOrder};
 

@@ -21,10 +21,14 @@ use sv_serve::Driver;
 /// How often it looks again without sleeping, at most.
 const LOOKS: u32 = 1_000;
 
-/// Makes so many sweeps, and waits between them until a socket is reported or time matters. A wait
-/// ends at the next whole millisecond, or at the hundredth if nothing waits for time in these. If
-/// nothing ever waits for time, and more than a million sweeps are left, it ends at a report alone.
-/// For 50 microseconds after a report it looks again without sleeping, if that paid of late.
+/// Makes so many sweeps, and waits between them until a socket is reported or time matters. Each
+/// sweep gets the whole milliseconds since the one before, at most 1,000.
+///
+/// A wait ends at the next whole millisecond, or at the hundredth if nothing waits for time in
+/// these. If nothing ever waits for time, and more than a million sweeps are left, it ends at a
+/// report alone. For 50 microseconds after a report it looks again without sleeping, if that paid
+/// of late. The clock is read behind each wait, so that deadlines come while many peers ask without
+/// a pause.
 ///
 /// # Errors
 /// If the system tells no time, or fails to wait.

@@ -1,4 +1,4 @@
--- Laws of the definitions.
+-- Laws of lines and scenarios.
 use Rattle.std.specs.Prelude.{◌≡◌, ℕ, List}
 use Rattle.sv_replay.specs.declared.entry.Entry.{Entry}
 use Rattle.sv_replay.specs.Line.{Line, Says}

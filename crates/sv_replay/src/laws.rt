@@ -1,4 +1,4 @@
-//! Laws of the definitions. Each is the contract of a function that does nothing.
+//! Laws of lines and scenarios. Each is the contract of a function that does nothing.
 
 ghost use Rattle.sv_replay.specs.Laws.{OneLine, OneScenario, ToldInOrder};
 

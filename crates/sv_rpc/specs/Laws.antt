@@ -1,4 +1,4 @@
--- Laws of the definitions.
+-- Laws of records, calls, replies and GETPORT.
 use Rattle.std.specs.Prelude.{◌≡◌, ℕ, ◌<◌, List, All, Result}
 use Rattle.sv_xdr.specs.Spelling.{BeginsAll}
 use Rattle.sv_rpc.specs.declared.call.CallFault.{CallFault}

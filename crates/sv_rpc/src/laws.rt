@@ -1,4 +1,5 @@
-//! Laws of the definitions. Each is the contract of a function that does nothing.
+//! Laws of records, calls, replies and GETPORT. Each is the contract of a function that does
+//! nothing.
 
 ghost use Rattle.sv_rpc.specs.Laws.{OneReading, ReadAsSplit, ReadAlone, OneCall, CallAsSpelled, PortAsSpelled, CallsPrefixFree, RepliesPrefixFree};
 

@@ -25,7 +25,7 @@ use thiserror::Error;
 /// Why a replay stopped.
 #[derive(Clone, Copy, Debug, PartialEq, Eq, Error)]
 pub enum ReplayFault {
-    /// Memory was refused for a link.
+    /// Memory was refused to an event.
     #[error("no memory was left")]
     NoMemory,
     /// The writer failed.
@@ -104,7 +104,7 @@ impl<A: Allocator> Server<A> {
     }
 }
 
-/// Whether this is want of memory.
+/// Whether this is out of memory.
 fn is_no_memory(refused: Refused) -> bool
     ensures { result ≡ is_no_memory refused }
 {

@@ -207,7 +207,7 @@ impl<A: Allocator> Server<A> {
         self.device.is_still(ticks)
     }
 
-    /// The connection of this number; none above 15, of which nothing is ever recorded.
+    /// The connection of this number; `None` above 15, where nothing is ever recorded.
     pub(crate) fn connection(&self, conn: u8) -> Option<&Connection<A>>
         ensures { (config : Config) (log : List Act) → Represents self.now config log
             → MatchOption result (of conn log ≡ [])
@@ -217,7 +217,7 @@ impl<A: Allocator> Server<A> {
         Some(&self.connections[conn.index()])
     }
 
-    /// The connection of this number, which is open, and what it is open for; else `NoConn`.
+    /// The open connection of this number, and its role; `NoConn` if it isn't open.
     pub(crate) fn open_connection(&self, conn: u8) -> Result<(Conn, Role), Refused>
         ensures answer { (config : Config) (log : List Act) → Represents self.now config log
             → MatchResult result (λ found. is_shut conn log ≡ false)
@@ -269,7 +269,7 @@ impl<A: Allocator> Server<A> {
         Ok(Did::Done)
     }
 
-    /// Lets bytes go that the peer took.
+    /// Drops bytes that the peer took.
     fn took(&mut self, conn: u8, count: u32) -> Result<Did, Refused>
         ensures acts { (config : Config) (log : List Act) → Represents self.old config log
             → Acts config (Took (Port.Conn conn) count) log result self.new }
@@ -284,8 +284,8 @@ impl<A: Allocator> Server<A> {
         Ok(Did::Done)
     }
 
-    /// Closes a connection: its links are destroyed, its interrupt channel is closed, and what
-    /// waits goes.
+    /// Closes a connection: its links are destroyed, its interrupt channel is closed, its suspended
+    /// call and its outgoing bytes are dropped.
     fn close(&mut self, conn: u8) -> Result<Did, Refused>
         ensures acts { (config : Config) (log : List Act) → Represents self.old config log
             → Acts config (Close (Port.Conn conn)) log result self.new }
@@ -311,7 +311,7 @@ impl<A: Allocator> Server<A> {
         Ok(Did::Done)
     }
 
-    /// The voltage of a channel's input is another from now on.
+    /// Sets the input of a channel to another voltage.
     fn input(&mut self, channel: u8, microvolts: i64) -> Result<Did, Refused>
         ensures acts { (config : Config) (log : List Act) → Represents self.old config log
             → Acts config (Input channel microvolts) log result self.new }
@@ -326,7 +326,7 @@ impl<A: Allocator> Server<A> {
         }
     }
 
-    /// A trigger comes in at the trigger input.
+    /// A trigger at the trigger input.
     fn external(&mut self) -> Result<Did, Refused>
         ensures acts { (config : Config) (log : List Act) → Represents self.old config log
             → Acts config External log result self.new }
@@ -336,7 +336,7 @@ impl<A: Allocator> Server<A> {
         Ok(Did::Done)
     }
 
-    /// Takes the next call of a connection and does it.
+    /// Takes the next call of a connection and executes it.
     fn turn(&mut self, conn: u8) -> Result<Did, Refused>
         ensures acts { (config : Config) (log : List Act) → Represents self.old config log
             → Acts config (Turn conn) log result self.new }
@@ -354,7 +354,7 @@ impl<A: Allocator> Server<A> {
         }
     }
 
-    /// Takes the next call of a connection, and answers that resources are wanting.
+    /// Takes the next call of a connection, and answers it with error 9.
     fn refuse(&mut self, conn: u8) -> Result<Did, Refused>
         ensures acts { (config : Config) (log : List Act) → Represents self.old config log
             → Acts config (Refuse conn) log result self.new }
@@ -368,7 +368,7 @@ impl<A: Allocator> Server<A> {
         }
     }
 
-    /// Ends the call of a connection, which waits, by device_abort; of none where there is none.
+    /// Ends the suspended call of a connection by device_abort; of no connection if it is `None`.
     fn abort(&mut self, aborts: Option<u8>)
         ensures { (config : Config) (log : List Act) → Represents self.old config log
             → ((conn : ℕ) → aborts ≡ Some conn → waits conn (wait_acts (device_acts log)) ≡ None
@@ -383,7 +383,7 @@ impl<A: Allocator> Server<A> {
         }
     }
 
-    /// Lets bytes of a port go that the peer took.
+    /// Drops bytes of a port that the peer took.
     pub(crate) fn port_took(&mut self, port: Port, count: u32) -> Result<Did, Refused>
         ensures acts { (config : Config) (log : List Act) → Represents self.old config log
             → Acts config (Took port count) log result self.new }
@@ -407,7 +407,7 @@ impl<A: Allocator> Server<A> {
         }
     }
 
-    /// Does what an event asks for, but for the steps that follow it.
+    /// Applies an event, without the steps that follow it.
     fn act(&mut self, event: Event<'_>) -> Result<Did, Refused>
         ensures within { IsEvent (plain event.entry) }
         ensures acts { (config : Config) (log : List Act) → Represents self.old config log

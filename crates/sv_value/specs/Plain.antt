@@ -1,4 +1,4 @@
--- Types of the code as plain data.
+-- Types of the code in sv_value, as plain data.
 use Rattle.std.specs.Prelude.{◌≡◌, ℕ, ℤ, min, List, Option, Some, None, Result, Ok, if◌then◌else◌}
 use Rattle.sv_errors.specs.declared.code.Code.{Code}
 use Rattle.sv_value.specs.declared.amount.Amount.{Amount}

@@ -1,4 +1,4 @@
-//! Laws of the definitions.
+//! Laws of numbers, voltages and channel lists.
 
 ghost use Rattle.sv_value.specs.Value.{ReadIsChannelList};
 ghost use Rattle.sv_value.specs.Spelling.{ReadAsSpelled};

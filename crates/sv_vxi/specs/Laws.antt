@@ -1,4 +1,4 @@
--- Laws of the spelling.
+-- Laws of the spelling of arguments and results.
 use Rattle.std.specs.Prelude.{◌≡◌, ℕ, ◌<◌, List, ◌++◌, All, true}
 use Rattle.sv_xdr.specs.Spelling.{BeginsAll}
 use Rattle.sv_vxi.specs.Arguments.{Arguments, procedure_of, BeginsWith, ArgumentsAre, core_calls, abort_calls, is_one_of}

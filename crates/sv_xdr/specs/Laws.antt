@@ -1,4 +1,4 @@
--- Laws of the spelling.
+-- Laws of the spelling of fields.
 use Rattle.std.specs.Prelude.{◌≡◌, ℕ, List, ◌++◌}
 use Rattle.sv_xdr.specs.Spelling.{Field, Unsigned, Signed, Boolean, Opaque, Spells, spelling}
 

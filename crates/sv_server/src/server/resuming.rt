@@ -17,7 +17,7 @@ use crate::device::resuming::Cause;
 use crate::server::turn::conclude_call;
 use std::alloc::Allocator;
 
-/// A suspended call is taken up again: it is done, or it waits anew. Its record reads as when it
+/// A suspended call goes on: it is executed, suspended anew, or ends. Its record reads as when it
 /// was taken.
 pub fn take_up<A: Allocator>(
     connection: &mut Connection<A>,
