@@ -14,7 +14,7 @@ use sv_text::{Lead, header_parts};
 pub(crate) struct Sent<'a> {
     /// Whether it is a common command.
     pub(crate) common: bool,
-    /// Whether a query sign ends it.
+    /// Whether a question mark ends it.
     pub(crate) query: bool,
     /// Its mnemonics: those of the path, unless it starts at the root or is a common command, and
     /// its own behind them.

@@ -53,7 +53,7 @@ impl<A: Allocator> Instrument<A> {
         }
     }
 
-    /// Takes the step that is due, and tells whether one was.
+    /// Takes the step that is due. Returns whether one was.
     fn take_step(&mut self) -> bool
         ensures { Steps result self.old self.new }
     {

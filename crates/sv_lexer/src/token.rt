@@ -40,7 +40,7 @@ pub(crate) fn token_at(text: &[u8], place: usize) -> Token<'_>
     Token { text, start, kind }
 }
 
-/// The kind that the first byte tells.
+/// The kind, by the first byte.
 fn kind_in(text: &[u8]) -> Kind
     ensures { result ≡ kind_of text.now }
 {

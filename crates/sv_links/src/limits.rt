@@ -13,8 +13,8 @@ pub(crate) const MAX_CALLS: usize = 32;
 /// How long the handle of a service request may be, in bytes (VXI-11 revision 1.0, section B.6,
 /// device_enable_srq).
 pub const MAX_HANDLE: usize = 40;
-/// How long a call may be that tells a service request, in bytes: its header (40), the length of
-/// the handle (4), and the longest handle, which wants no padding.
+/// The length of the longest device_intr_srq, in bytes: its header (40), the length of the handle
+/// (4), and the longest handle, which needs no padding.
 pub(crate) const LONGEST_TEXT: usize = 44 + MAX_HANDLE;
 /// How long its record may be, in bytes: the header of its one fragment (4; RFC 5531, section 11),
 /// and the call.

@@ -83,7 +83,7 @@ impl Entry {
         }
     }
 
-    /// Where this is the call of the connection, it waits anew.
+    /// If this is the call of the connection, it is suspended anew.
     fn renew(&mut self, conn: u8, wait: Wait, deadline: Option<u64>)
         ensures { self.new ≡ anew conn wait deadline self.old }
     {

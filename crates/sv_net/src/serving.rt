@@ -47,7 +47,7 @@ pub fn serve<N: Network + Drop, A: Allocator, S: Stream>(
     run(&mut machine, driver, sweeps)
 }
 
-/// Makes so many sweeps, at the times that a machine tells.
+/// Makes so many sweeps, by the clock and the waits of a machine.
 fn run<M: Machine<S>, N: Network + Drop, A: Allocator, S: Stream>(
     machine: &mut M,
     driver: &mut Driver<Net<N, A, S>, A>,

@@ -178,7 +178,7 @@ impl<A: Allocator> RecordBuf<A> {
         }
     }
 
-    /// Takes in some of the bytes, and tells how many.
+    /// Takes in some of the bytes, and returns how many.
     fn take_in(&mut self, piece: &[u8]) -> usize
         requires some { 0 < length piece.now }
         requires fits { InRoom self.old (length piece.now) }

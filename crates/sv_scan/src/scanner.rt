@@ -307,7 +307,7 @@ impl<A: Allocator> Scanner<A> {
         state_in(&self.run, self.readings.len())
     }
 
-    /// The newest reading of the measurement, where there is one.
+    /// The newest reading of the measurement; `None` if there is none.
     fn last_reading(&self) -> Option<Reading>
         ensures { (acts : List ScanAct) → StandsFor self.now acts → result ≡ last_of (kept acts) }
     {

@@ -11,7 +11,7 @@ use crate::wire::Wire;
 use std::alloc::Allocator;
 use sv_server::{Did, Event, Refused};
 
-/// Whether this is want of memory.
+/// Whether this is out of memory.
 fn is_no_memory(refused: Refused) -> bool
     ensures { result ≡ is_no_memory refused }
 {

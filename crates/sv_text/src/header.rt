@@ -52,7 +52,7 @@ fn lead_in(header: &[u8]) -> Lead
     }
 }
 
-/// A header without the query sign at its end.
+/// A header without the question mark at its end.
 fn without_sign(header: &[u8]) -> &[u8]
     ensures { result.now ≡ unsigned header.now }
 {
@@ -62,7 +62,7 @@ fn without_sign(header: &[u8]) -> &[u8]
     }
 }
 
-/// Whether a header ends in a query sign.
+/// Whether a header ends in a question mark.
 fn has_sign(header: &[u8]) -> bool
     ensures { result ≡ is_query header.now }
 {

@@ -60,7 +60,7 @@ impl Amount {
         })
     }
 
-    /// The voltage, in microvolts, where it is within 1,000 V.
+    /// The voltage, in microvolts, if it is within 1,000 V.
     pub(crate) fn in_volts(self) -> Result<i64, Code>
         ensures value { (answer : Result ℤ ErrorCode) → StandsFor self answer
             → result ≡ within_volts answer }
@@ -73,7 +73,7 @@ impl Amount {
         Ok(if self.negative { -value } else { value })
     }
 
-    /// The number, where it is from the lowest to the highest.
+    /// The number, if it is in this range.
     pub(crate) fn in_range(self, low: u16, high: u16) -> Result<u16, Code>
         ensures value { (answer : Result ℤ ErrorCode) → StandsFor self answer
             → result ≡ within low high answer }

@@ -63,7 +63,7 @@ pub enum VxiResult<'a> {
 }
 
 impl<'a> VxiResult<'a> {
-    /// The data of the result, where it has any.
+    /// The data of the result; empty if it has none.
     fn data(&self) -> &'a [u8]
         ensures { result.now ≡ data_of (plain_result self.now) }
     {

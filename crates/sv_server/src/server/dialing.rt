@@ -24,7 +24,7 @@ use std::alloc::Allocator;
 use sv_history::{Dial, Did, Refused};
 use sv_vxi::Args;
 
-/// Where a create_intr_chan asks to connect; `None` for another call.
+/// Where a create_intr_chan asks to connect; `None` for another call or a port above 65535.
 fn dial_by(args: &Args<'_>) -> Option<Dial>
     ensures { result ≡ called_by (plain_arguments args.now) }
 {

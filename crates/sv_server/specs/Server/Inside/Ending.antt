@@ -103,7 +103,7 @@ taken_up (causes.Able wait) config polled c call acts = resumed config polled c 
 taken_up (causes.Dialed ok) config polled c call acts = connected c ok call
 taken_up (causes.Failed error) config polled c call acts = failed error c call
 
--- It waits no more; or, where it isn't answered, it waits for something else, and makes no link.
+-- It isn't suspended any more; or, if it isn't answered, it waits for something else, and makes no link.
 abbrev pub WaitsOn : Effect → ℕ → Option CoreCall → List Entry → List Entry → Type 0
 WaitsOn effect c call old new = (new ≡ without c old)
     ⊎ ((effect.own ≡ []) × (wait : Wait) × (deadline : Option ℕ) × (new ≡ map (anew c wait deadline) old) × (creates_link call ≡ false))
