@@ -26,7 +26,7 @@ is_channel number = nat_le 1 number && nat_le number channel_count
 abbrev pub is_channel_list : List ℕ → Bool
 is_channel_list channels = nat_le 1 (length channels) && (nat_le (length channels) longest_list && list_all is_channel channels)
 
--- the largest magnitude of an input or a limit, in microvolts: 1,000 V
+-- the largest magnitude of a voltage that is given to the instrument, in microvolts: 1,000 V
 abbrev pub most_microvolts : ℕ
 most_microvolts = 1000000000
 

@@ -12,7 +12,7 @@ pub const LONGEST_LIST: usize = 128;
 pub const MOST_SCANS: u8 = 16;
 /// How many readings a measurement may have: 16 scans of the longest list.
 pub const MOST_READINGS: usize = MOST_SCANS as usize * LONGEST_LIST;
-/// The largest magnitude of an input or a limit, in microvolts: 1,000 V.
+/// The largest magnitude of a voltage that is given to the instrument, in microvolts: 1,000 V.
 pub const MOST_MICROVOLTS: u32 = 1_000_000_000;
 
 /// Whether there is a channel of this number: 1 to [`CHANNELS`].

@@ -155,7 +155,7 @@ AnswersBy config told event log (Err NoMemory) = (refusal config told event log 
     × (wants_memory (device_acts (own_acts config polled event log)) ≡ true)
 AnswersBy config told event log (Err refused) = refusal config told event log ≡ Some refused
 
--- The same, with what the log tells interrupt channels.
+-- The result of an event, with what the log tells interrupt channels.
 abbrev pub Answers : Config → PlainEvent → List Act → Result Did Refused → Type 0
 Answers config event log result = (told : List ChannelAct) × HearsOf (device_acts log) told × AnswersBy config told event log result
 

@@ -47,7 +47,7 @@ dial_by (CreateIntrChan host_addr host_port prog_num prog_vers prog_family) =
     if nat_lt host_port 65536 then Some (record { addr = host_addr; port = host_port }) else None
 dial_by _ = None
 
--- the same of a call that may be missing
+-- the address and the port that a call names; `None` without a call, or for one that names none
 abbrev pub dial_in : Option CoreCall → Option Dial
 dial_in (Some call) = dial_by call.arguments
 dial_in None = None

@@ -35,7 +35,7 @@ abbrev pub core_request : ℕ → Result Arguments Garbage → Request
 core_request xid (Ok arguments) = CoreRequest (record { xid = xid; arguments = arguments })
 core_request xid (Err garbage) = Decided xid GarbageArgs
 
--- a call of the abort channel, likewise
+-- a call of the abort channel, by its arguments; garbage is answered with GARBAGE_ARGS
 abbrev pub abort_request : ℕ → Result Arguments Garbage → Request
 abort_request xid (Ok (OnLink lid call)) = AbortRequest xid lid
 abort_request xid _ = Decided xid GarbageArgs
@@ -79,7 +79,7 @@ core_call_of _ = None
 abbrev pub core_call : List ℕ → Option CoreCall
 core_call bytes = core_call_of (request_of Core (call_at bytes))
 
--- the same of a record that may be missing
+-- the call of the core channel that a record is; `None` if there is no record, or it is none
 abbrev pub core_call_in : Option (List ℕ) → Option CoreCall
 core_call_in (Some bytes) = core_call bytes
 core_call_in None = None

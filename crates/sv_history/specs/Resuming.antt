@@ -30,7 +30,7 @@ abbrev pub continued : Config → ℕ → ℕ → Arguments → Option (Wait × 
 continued config polled c arguments (Some wait) acts = suspended (Again c wait.0 (deadline config (Some wait.1) acts))
 continued config polled c arguments None acts = leaving c (own_call config polled c arguments (Waited (Left c) ∷ acts))
 
--- the effect of the call that a record is; a record that is none only leaves
+-- the effect of a suspended call with this outcome; if its record is no such call, it only isn't suspended any more
 abbrev pub effect_of : ℕ → (Arguments → CallOutcome) → Option CoreCall → Effect
 effect_of c does (Some call) = call_effect call.xid (does call.arguments)
 effect_of c does None = record { own = []; adds = Waited (Left c) ∷ [] }

@@ -11,6 +11,6 @@ use Rattle.sv_history.specs.Act.{DeviceAct, wait_acts, instrument_acts, ticks}
 abbrev pub IsUnhurried : ℕ → Config → List DeviceAct → Type 0
 IsUnhurried most config acts = (c : ℕ) → IsExpired (config.clock + ticks acts + most) (wait_acts acts) c → ⊥
 
--- Nor is a scan under way, in which each millisecond reads a channel.
+-- No suspended call has a deadline within so many milliseconds, and no scan is under way, in which each millisecond reads a channel.
 abbrev pub IsStill : ℕ → Config → List DeviceAct → Type 0
 IsStill most config acts = (is_scanning (state (counted (instrument_acts acts))) ≡ false) × IsUnhurried most config acts

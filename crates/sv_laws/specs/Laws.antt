@@ -34,8 +34,8 @@ abbrev pub NoneLate : Type 0
 NoneLate = (config : Config) (history : List PlainEvent) (log : List Act) (c : ℕ) → IsLogOf config history log
     → (IsExpired (config.clock + ticks (device_acts log)) (wait_acts (device_acts log)) c → ⊥) × (CanResume (device_acts log) c → ⊥)
 
--- An event that fits the answers of the queries at this moment: as many bytes as there is room for, at most; as many taken as wait, at
--- most; a port that is open; a connection that is asked for.
+-- The event fits the answers of the queries at this moment: an Open of a free number; Bytes that fit the room; a Took of at most what
+-- waits, if anything waits; a Close of an open port; a Dialed that is waited for; an Input that isn't refused; the external trigger.
 abbrev pub Suits : PlainEvent → List ChannelAct → List Act → Type 0
 Suits (Open c role) told log = (c < 16) × (is_open (of c log) ≡ false)
 Suits (Bytes c piece) told log = (c < 16) × (0 < room (of c log)) × (length piece ≤ room (of c log))

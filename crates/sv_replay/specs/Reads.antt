@@ -45,6 +45,6 @@ abbrev pub IsTurned : {S : Type 0} → (S → Gave → S → Type 0) → S → S
 IsTurned gives first last count result = (reads : List Gave) × Made gives first reads last × WhileGoing result (length reads ≡ count)
     × OnInput result (IsLast reads)
 
--- These reads were made in a run, no more than there may be. If its result is the input's fault, no read might follow.
+-- These reads were made in a run, no more than there may be. If its result is the input's fault, no further read was allowed.
 abbrev pub IsReadOut : {S : Type 0} → (S → Gave → S → Type 0) → S → S → Result ⊤ RunFault → Type 0
 IsReadOut gives first last result = (reads : List Gave) × Made gives first reads last × OnInput result (IsLast reads)

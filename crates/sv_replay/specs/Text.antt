@@ -17,7 +17,7 @@ nothing_held = record { text = []; reads = 0 }
 abbrev pub first_end : List ℕ → Option ℕ
 first_end text = position (λ b. b == 10) text
 
--- What a read gave, and what the reader has left: nothing at its end or after a fault.
+-- At the reader's end, and after a fault, a read gave nothing; at its end the reader has nothing left.
 abbrev pub IsGiven : List ℕ → Option (List ℕ) → Result Bool InputFault → Type 0
 IsGiven more rest (Ok true) = Unit {0}
 IsGiven more rest (Ok false) = (more ≡ []) × IsAtEnd rest

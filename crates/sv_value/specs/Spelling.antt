@@ -13,7 +13,7 @@ AreDigits text = list_all is_ascii_digit text ≡ true
 abbrev pub IsSpace : List ℕ → Type 0
 IsSpace text = list_all is_white text ≡ true
 
--- The text is a sign or empty; it may be a minus.
+-- The text is a sign or empty; the other value says whether it is a minus.
 abbrev pub IsSign : List ℕ → Bool → Type 0
 IsSign text minus = ((text ≡ []) × (minus ≡ false)) ⊎ ((text ≡ 43 ∷ []) × (minus ≡ false)) ⊎ ((text ≡ 45 ∷ []) × (minus ≡ true))
 
