@@ -45,6 +45,46 @@ def head(path, mark):
     return " ".join(said)
 
 
+def above(text, at):
+    """What is said over a place of a file, in lines that begin with three strokes."""
+    said = []
+    for line in reversed(text[:at].split("\n")[:-1]):
+        line = line.strip()
+        if line.startswith("///"):
+            said.append(line[3:].strip())
+        elif not line.startswith("#["):
+            break
+    return re.sub(r"\[(`[^`]*`)\](?:\([^)]*\))?", r"\1", " ".join(reversed(said)))
+
+
+def of_type(text, at):
+    """The type in whose `impl`, or the trait in which, a place of a file stands, with two colons behind it; and whether it is a trait."""
+    impl, trait = text.rfind("\nimpl", 0, at), text.rfind("\npub trait", 0, at)
+    start = max(impl, trait)
+    line = text[start + 1:text.index("\n", start + 1)]
+    name = re.sub(r"^(?:impl|pub trait)(?:<.*?>)? +", "", line)
+    return re.match(r"\w*", re.sub(r".* for ", "", name)).group(0) + "::", trait > impl
+
+
+def exported(crate, find):
+    """The functions of a crate that other crates may call, of those that `find` finds in the text of a file, with indent and name: the
+    path of the file, its text, what was found, and the name that is shown. Those of an open trait are among them."""
+    with open("crates/%s/src/lib.rt" % crate, encoding="utf-8") as file:
+        root = file.read()
+    given = set(re.findall(r"\w+", " ".join(re.findall(r"^pub use ([^;]*);", root, flags=re.M))))
+    open_modules = set(re.findall(r"^pub mod (\w+);", root, flags=re.M))
+    for path in sorted(glob.glob("crates/%s/src/**/*.rt" % crate, recursive=True)):
+        with open(path, encoding="utf-8") as file:
+            text = file.read()
+        module = os.path.basename(path)[:-3]
+        for found in find(text):
+            name = found.group("name")
+            owner, is_trait = of_type(text, found.start()) if found.group("indent") else ("", False)
+            if (found.group("pub") or is_trait) and (module in open_modules or (owner[:-2] or name) in given):
+                shown = module + "::" + name if module in open_modules and not owner else owner + name
+                yield path, text, found, shown
+
+
 def crates():
     """The crates, lowest first, each with what it stands on."""
     with open("crates.txt", encoding="utf-8") as file:

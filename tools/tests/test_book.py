@@ -105,11 +105,12 @@ class Books(unittest.TestCase):
         })
 
     def test_all_that_other_crates_may_call(self):
-        self.assertEqual({name for name, *_ in self.book.exported("one")},
+        self.assertEqual({name for *_, name in self.book.exported("one", self.book.found_in)},
                          {"laws::law", "Goes::go", "Goes::rest", "Some::new", "Some::take"})
 
     def test_conditions(self):
-        contract = next(contract for name, _, _, contract in self.book.exported("one") if name == "Some::take")
+        contract = next(found.group("contract") for _, _, found, name in self.book.exported("one", self.book.found_in)
+                        if name == "Some::take")
         self.assertEqual(list(self.book.conditions(contract)), ["count < 8", "(λ n. { n }) count ≤ 7"])
 
     def test_errors_that_tell_of_memory(self):

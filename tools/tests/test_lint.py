@@ -9,6 +9,7 @@ TOOLS = os.path.dirname(os.path.dirname(os.path.abspath(__file__)))
 PASSES = "#!/bin/sh\n"
 # A repository of one crate, in which nothing falls short.
 FILES = {
+    "tools/lint-errors": PASSES,
     "tools/header-rows": PASSES,
     "tools/rows": PASSES,
     "tools/lint-documents": PASSES,
@@ -55,8 +56,8 @@ class Linting(unittest.TestCase):
         self.assertEqual(self.lint(), (0, ""))
 
     def test_a_part_that_crashes_is_told(self):
-        for name in ("tools/header-rows", "tools/rows", "tools/lint-documents", "tools/lint-numbers", "tools/book",
-                     "tools/pictures"):
+        for name in ("tools/lint-errors", "tools/header-rows", "tools/rows", "tools/lint-documents", "tools/lint-numbers",
+                     "tools/book", "tools/pictures"):
             for crash, status in (("exit 1", 1), ("exit 3", 3), ("kill -9 $$", 137)):
                 self.write(name, PASSES + crash + "\n")
                 self.assertEqual(self.lint(), (1, "lint: %s ended with status %d\n" % (name, status)))

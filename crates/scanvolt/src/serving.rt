@@ -9,7 +9,7 @@ use sv_serve::Driver;
 use sv_server::{Config, Server};
 use sv_words::{ProgramFault, Serve};
 
-/// What a failure of the system is told as: want of memory, or else this.
+/// The fault that a failure of the system is: out of memory, or else this.
 fn fault_or(error: &Error, other: ProgramFault) -> ProgramFault {
     match error.kind() {
         ErrorKind::OutOfMemory => ProgramFault::Run(RunFault::Memory),

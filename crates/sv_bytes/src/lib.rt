@@ -1,6 +1,6 @@
 //! Bytes: pieces put behind others, and bytes dropped from the front.
 //!
-//! No call takes memory.
+//! Nothing allocates.
 #![tactic(auto)]
 
 mod piece;

@@ -4,7 +4,7 @@ ghost use Rattle.std.specs.Prelude.{◌≡◌, ◌+◌, ◌≤◌, ◌++◌, dro
 
 use std::alloc::Allocator;
 
-/// Puts a piece behind bytes that have room for it. It takes no memory.
+/// Puts a piece behind bytes that have room for it. It doesn't allocate.
 pub fn append<A: Allocator>(bytes: &mut Vec<u8, A>, piece: &[u8])
     requires { vec_len bytes.old + length piece.now ≤ vec_capacity bytes.old }
     ensures items { bytes.new.items ≡ bytes.old.items ++ piece.now }
@@ -13,7 +13,7 @@ pub fn append<A: Allocator>(bytes: &mut Vec<u8, A>, piece: &[u8])
     bytes.extend_from_slice(piece).unwrap();
 }
 
-/// Drops so many bytes from the front, in one step where that is all. It takes no memory.
+/// Drops so many bytes from the front. It doesn't allocate.
 pub fn drop_front<A: Allocator>(bytes: &mut Vec<u8, A>, count: usize)
     requires { count ≤ vec_len bytes.old }
     ensures items { bytes.new.items ≡ drop count bytes.old.items }

@@ -14,29 +14,29 @@ use Rattle.sv_scan.specs.declared.setting.Setting.TheVariants as setting
 use Rattle.sv_command.specs.declared.order.Order.{Order}
 use Rattle.sv_command.specs.declared.order.Order.TheVariants as order
 
--- a parameter: what kind of data it is, and its bytes
+-- a parameter: the kind of its data, and its bytes
 pub record Parameter : Type 0 where
   pub kind : Kind
   pub text : List ℕ
 
--- what is made of a value
+-- what is made of a value; its error if it has one
 abbrev pub then_value : {A B : Type 0} → (A → B) → Result A Code → Result B Code
 then_value make (Ok value) = Ok (make value)
 then_value make (Err code) = Err code
 
--- the channels of a list that may be absent
+-- the channels of a list; `None` if the list is absent
 abbrev pub channels_in : Option Parameter → Result (Option (List ℕ)) Code
 channels_in None = Ok None
 channels_in (Some parameter) = then_value Some (read_channels parameter.kind parameter.text)
 
--- the one channel of a list; more are too many
+-- the one channel of a list; -223 if there are more
 abbrev pub only_channel : Result (List ℕ) Code → Result ℕ Code
 only_channel (Ok []) = Err InvalidExpression
 only_channel (Ok (channel ∷ [])) = Ok channel
 only_channel (Ok (channel ∷ other ∷ others)) = Err TooMuchData
 only_channel (Err code) = Err code
 
--- what a setting is set to; bit 6 of the service request enable is dropped
+-- what a command that sets a value asks for; bit 6 of the service request enable is dropped
 abbrev pub set_order : SettingName → Kind → List ℕ → Result Order Code
 set_order name.StandardEnable kind text = then_value order.EnableStandard (read_whole 0 255 kind text)
 set_order name.ServiceEnable kind text = then_value (λ mask. order.EnableService (bit_and mask 191)) (read_whole 0 255 kind text)
@@ -52,7 +52,7 @@ set_order name.Limits kind text = then_value (λ on. order.Set (setting.Limits o
 set_order name.Source kind text = then_value (λ source. order.Set (setting.Source source)) (read_source kind text)
 set_order name.Count kind text = then_value (λ scans. order.Set (setting.Count scans)) (read_whole 1 most_scans kind text)
 
--- what a command asks for, with its parameter if it has one: a setting has to have one, and a measurement may have a channel list
+-- what a command asks for, with its parameter if it has one. A setting needs one (-109); a measurement may have a channel list.
 abbrev pub order_of : CommandId → Option Parameter → Result Order Code
 order_of (id.Do action) given = Ok (order.Do action)
 order_of (id.Ask question) given = Ok (order.Ask question)

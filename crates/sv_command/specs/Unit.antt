@@ -1,4 +1,4 @@
--- What a program message unit asks for, and its faults in their order (SCPI-1999, volume 1, chapters 6 and 7; volume 2, 21.8).
+-- What a program message unit asks for, and its errors in the order of the checks (SCPI-1999, volume 1, chapters 6 and 7; volume 2, 21.8).
 use Rattle.std.specs.Prelude.{◌≡◌, ◌⊎◌, ℕ, ◌==◌, List, Option, Some, None, Result, Err, nat_lt, if◌then◌else◌}
 use Rattle.sv_errors.specs.declared.code.Code.{Code}
 use Rattle.sv_errors.specs.declared.code.Code.TheVariants.{ParameterNotAllowed, UndefinedHeader}
@@ -11,28 +11,30 @@ use Rattle.sv_header.specs.Resolve.{Resolves, kept}
 use Rattle.sv_command.specs.declared.order.Order.{Order}
 use Rattle.sv_command.specs.Order.{Parameter, order_of}
 
--- the first parameter, where there is one
+-- the first parameter; `None` if there is none
 abbrev pub first_parameter : List ℕ → Option Parameter
 first_parameter unit = if count unit == 0 then None else Some (record { kind = kind_of (parameter unit 0); text = parameter unit 0 })
 
+-- the error if there is one, else the other result
 abbrev pub unless : Option Code → Result Order Code → Result Order Code
 unless (Some code) outcome = Err code
 unless None outcome = outcome
 
--- what a command asks for in a unit: the spelling of its parameters is looked at, then whether there are too many, then their values
+-- What a command asks for in a unit: the spelling of the parameters is checked, then whether there are too many (-108), then their values.
 abbrev pub order_of_unit : CommandId → List ℕ → Result Order Code
 order_of_unit command unit =
     unless (parameters_fault unit)
     (if nat_lt (most_parameters command) (count unit) then Err ParameterNotAllowed else order_of command (first_parameter unit))
 
--- The header names a command, or none does.
+-- The header names a command, or none does (-113). The path follows a header that does.
 abbrev pub IsNamed : List (List ℕ) → List ℕ → Result Order Code → List (List ℕ) → Type 0
 IsNamed path unit outcome behind =
     ((command : CommandId) × Resolves path (header unit) command × (outcome ≡ order_of_unit command unit) × (behind ≡ kept path
     (header unit)))
     ⊎ (((command : CommandId) → Resolves path (header unit) command → ⊥) × (outcome ≡ Err UndefinedHeader) × (behind ≡ path))
 
--- A unit behind a path asks for this, and leaves a path: the header follows it where it names a command.
+-- A unit, with the path before it, asks for this, and leaves this path. The path follows a header that is well spelled and names a command;
+-- else it stays.
 abbrev pub IsReadAs : List (List ℕ) → List ℕ → Result Order Code → List (List ℕ) → Type 0
 IsReadAs path unit outcome behind = ((code : Code) × (unit_fault unit ≡ Some code) × (outcome ≡ Err code) × (behind ≡ path))
     ⊎ ((unit_fault unit ≡ None) × IsNamed path unit outcome behind)

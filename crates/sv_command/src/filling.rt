@@ -1,4 +1,4 @@
-//! What a command asks for, with its parameter.
+//! What a command asks for, with the value of its parameter.
 
 ghost use Rattle.std.specs.Prelude.{◌≡◌};
 ghost use Rattle.sv_command.specs.Order.{given as given_by, order_of, set_order};

@@ -1,7 +1,7 @@
-//! What a program message unit says, as a value: its header, how many parameters it has, their
-//! values, and its faults in their order.
+//! What a program message unit asks for, as a value: its command, its parameters' values, or its
+//! first error.
 //!
-//! No call takes memory.
+//! Nothing allocates.
 #![tactic(auto)]
 
 mod filling;

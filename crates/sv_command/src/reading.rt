@@ -11,15 +11,15 @@ use sv_errors::Code;
 use sv_header::{CommandId, Path, Table};
 use sv_lexer::Unit;
 
-/// Reads a unit behind a path, as what it asks for. It is given as it was lexed, or the fault that
-/// it has then. Where its header names a command, the path follows it, whatever is wrong with the
-/// parameters.
+/// Reads a unit, with the path before it, as what it asks for. `lexed` is the unit as `sv_lexer`
+/// read it, or its fault. If the header names a command, the path follows it, even if the
+/// parameters are wrong.
 ///
 /// # Errors
-/// The first fault of the unit: the one that was told of its spelling; [`Code::UndefinedHeader`];
-/// [`Code::InvalidExpression`] and [`Code::SyntaxError`] of the parameters' spelling;
-/// [`Code::ParameterNotAllowed`], [`Code::MissingParameter`]; then those of the parameter's value.
-/// A range may be any voltage here: whether there is such a range is the scanner's to tell.
+/// The first of these: the fault that `lexed` is; [`Code::UndefinedHeader`] if the header names no
+/// command; [`Code::InvalidExpression`], then [`Code::SyntaxError`], of the parameters' spelling;
+/// [`Code::ParameterNotAllowed`]; [`Code::MissingParameter`]; then those of the parameter's value.
+/// A range may be any voltage here: the scanner checks that there is such a range.
 pub fn read_unit<A: Allocator>(
     table: &Table<A>,
     path: &mut Path,

@@ -40,7 +40,7 @@ pub(crate) fn list(token: &Token<'_>) -> Result<ScanList, Code>
     }
 }
 
-/// Those of a list, where there is one.
+/// The channels of a list; `None` if the list is absent.
 pub(crate) fn list_if_given(given: Option<Token<'_>>) -> Result<Option<ScanList>, Code>
     ensures { result ≡ channels_in (given_by given.entry) }
 {

@@ -3,7 +3,7 @@ use Rattle.std.specs.Prelude.{ℤ, ℕ, ◌/◌, ◌^◌, ◌==◌, pos, neg_ℤ
 use Rattle.sv_errors.specs.declared.code.Code.{Code}
 use Rattle.sv_errors.specs.declared.code.Code.TheVariants.{NoError, InvalidCharacter, SyntaxError, DataTypeError, ParameterNotAllowed, MissingParameter, ProgramMnemonicTooLong, UndefinedHeader, InvalidCharacterInNumber, ExponentTooLarge, TooManyDigits, InvalidSuffix, SuffixNotAllowed, InvalidCharacterData, InvalidExpression, TriggerIgnored, InitIgnored, TriggerDeadlock, SettingsConflict, DataOutOfRange, TooMuchData, IllegalParameterValue, DataCorruptOrStale, QueueOverflow, InputBufferOverrun, QueryInterrupted, QueryUnterminated, QueryDeadlocked}
 
--- number, without its minus, and text
+-- the number of an error, without its minus, and its text
 abbrev pub entry : Code → ℕ × List ℕ
 entry NoError = (0, codes "No error")
 entry InvalidCharacter = (101, codes "Invalid character")
@@ -34,14 +34,16 @@ entry QueryInterrupted = (410, codes "Query INTERRUPTED")
 entry QueryUnterminated = (420, codes "Query UNTERMINATED")
 entry QueryDeadlocked = (430, codes "Query DEADLOCKED")
 
+-- the number of an error
 abbrev pub number_of : Code → ℤ
 number_of code = neg_ℤ (pos (entry code).0)
 
+-- the text of an error
 abbrev pub text_of : Code → List ℕ
 text_of code = (entry code).1
 
--- The standard event that an error of a class is, as a word with its bit (IEEE 488.2, 11.5.1; SCPI-1999, volume 2, 21.8): command error,
--- execution error, device-specific error, query error. The class is the hundreds of its number.
+-- The standard event of a class of errors, as a word with its bit (IEEE 488.2, 11.5.1; SCPI-1999, volume 2, 21.8): command error, execution
+-- error, device-specific error, query error. The class is the hundreds of the number.
 abbrev pub class_event : ℕ → ℕ
 class_event class =
     if class == 1 then 2 ^ 5
@@ -50,5 +52,6 @@ class_event class =
     else if class == 4 then 2 ^ 2
     else 0
 
+-- the standard event of an error
 abbrev pub standard_event_of : Code → ℕ
 standard_event_of code = class_event ((entry code).0 / 100)

@@ -1,5 +1,5 @@
--- The error queue (SCPI-1999, volume 2, section 21.8): what is queued, found by a search of its acts, which are read from the newest. A
--- place of the acts is told by how many acts there are up to it.
+-- The error queue (SCPI-1999, volume 2, section 21.8), as a search of its acts, the newest first. A place of the acts is given as the
+-- number of acts up to it.
 use Rattle.std.specs.Prelude.{◌≡◌, ℕ, ◌+◌, ◌-◌, ◌==◌, ◌&&◌, Bool, List, [], ◌∷◌, ◌++◌, length, map, drop, Option, Some, None, is_some, unwrap_or, nat_lt, slice_get, if◌then◌else◌}
 use Rattle.sv_errors.specs.declared.code.Code.{Code}
 use Rattle.sv_errors.specs.declared.code.Code.TheVariants.{NoError, QueueOverflow}
@@ -15,28 +15,30 @@ pub record Counted : Type 0 where
   pub admitted : List ℕ
   pub taken : ℕ
 
--- what is left of them
+-- those that weren't taken
 abbrev pub left : Counted → List ℕ
 left counted = drop counted.taken counted.admitted
 
--- a report finds room where fewer than the most entries are left; taking from an empty queue takes none
+-- a report finds room if fewer than 64 entries are left
 abbrev pub admit : Counted → ℕ → Counted
 admit before place = if nat_lt (length (left before)) most then record before { admitted = before.admitted ++ place ∷ [] } else before
 
+-- an entry is taken, if there is one
 abbrev pub take_one : Counted → Counted
 take_one before = if is_some (slice_get (left before) 0) then record before { taken = before.taken + 1 } else before
 
+-- what is counted of all acts
 abbrev pub counted : List QueueAct → Counted
 counted [] = record { admitted = []; taken = 0 }
 counted (Report code ∷ acts) = admit (counted acts) (length acts + 1)
 counted (Take ∷ acts) = take_one (counted acts)
 counted (Clear ∷ acts) = record { admitted = []; taken = 0 }
 
--- the entries, oldest first, each by the place of its report
+-- the entries, oldest first, each as the place of its report
 abbrev pub entries : List QueueAct → List ℕ
 entries acts = left (counted acts)
 
--- whether a report overflows: it finds the most entries
+-- whether the queue is full, so that a report overflows
 abbrev pub is_full : List QueueAct → Bool
 is_full acts = length (entries acts) == most
 
@@ -44,28 +46,28 @@ is_full acts = length (entries acts) == most
 abbrev pub up_to : ℕ → List QueueAct → List QueueAct
 up_to place acts = drop (length acts - place) acts
 
--- what the newest act reports, if it reports anything
+-- the error that the newest act reports; `None` if it reports none
 abbrev pub reported : List QueueAct → Option Code
 reported = elim [ Report code ∷ acts ↦ Some code | _ ↦ None ]
 
--- whether another report came next, and not a taking
+-- whether the act behind this place is another report
 abbrev pub is_overtaken : ℕ → List QueueAct → Bool
 is_overtaken place acts = nat_lt place (length acts) && is_some (reported (up_to (place + 1) acts))
 
--- An entry shows its report's code; but the one that made the queue full shows the overflow, once another report came before the next
+-- What an entry reads: the error of its report; but of the entry that made the queue full -350, if another report came before the next
 -- taking.
 abbrev pub shown : List QueueAct → ℕ → Code
 shown acts place =
     if is_full (up_to place acts) && is_overtaken place acts then QueueOverflow else unwrap_or (reported (up_to place acts)) NoError
 
--- what can be taken, oldest first
+-- the errors in the queue, oldest first
 abbrev pub queued : List QueueAct → List Code
 queued acts = map (shown acts) (entries acts)
 
--- the oldest of it, where there is any
+-- the oldest of them; `None` if there is none
 abbrev pub oldest : List QueueAct → Option Code
 oldest acts = slice_get (queued acts) 0
 
--- The codes are those that the acts leave queued.
+-- These errors are those that the acts leave queued.
 abbrev pub StandsFor : List Code → List QueueAct → Type 0
 StandsFor codes acts = codes ≡ queued acts

@@ -1,4 +1,4 @@
--- How far the instrument's numbers reach.
+-- The ranges of the instrument's numbers.
 use Rattle.std.specs.Prelude.{ℕ, ◌*◌, ℤ, pos, neg_ℤ, int_le, ◌&&◌, Bool, List, length, nat_le}
 use Rattle.std.specs.List.{list_all}
 
@@ -14,7 +14,7 @@ longest_list = 128
 abbrev pub most_scans : ℕ
 most_scans = 16
 
--- how many readings
+-- how many readings a measurement may have
 abbrev pub most_readings : ℕ
 most_readings = most_scans * longest_list
 
@@ -22,7 +22,7 @@ most_readings = most_scans * longest_list
 abbrev pub is_channel : ℕ → Bool
 is_channel number = nat_le 1 number && nat_le number channel_count
 
--- whether a list is one of channels
+-- whether a list has 1 to 128 numbers, all of channels
 abbrev pub is_channel_list : List ℕ → Bool
 is_channel_list channels = nat_le 1 (length channels) && (nat_le (length channels) longest_list && list_all is_channel channels)
 
@@ -30,6 +30,6 @@ is_channel_list channels = nat_le 1 (length channels) && (nat_le (length channel
 abbrev pub most_microvolts : ℕ
 most_microvolts = 1000000000
 
--- whether a voltage is up to that in magnitude
+-- whether a voltage, in microvolts, has at most that magnitude
 abbrev pub is_within : ℤ → Bool
 is_within value = int_le (neg_ℤ (pos most_microvolts)) value && int_le value (pos most_microvolts)

@@ -12,7 +12,7 @@ const DEVICE_ERROR: u8 = 1 << 3;
 /// A query error's bit.
 const QUERY_ERROR: u8 = 1 << 2;
 
-/// What the instrument can answer when it is asked for errors: one of them, or that there is none.
+/// An error of the instrument, or that there is none.
 #[derive(Clone, Copy, Debug, PartialEq, Eq)]
 pub enum Code {
     /// Nothing is wrong.
@@ -74,7 +74,7 @@ pub enum Code {
 }
 
 impl Code {
-    /// The number of the error: 0, or below it.
+    /// The number of the error, which isn't positive.
     pub fn number(self) -> i16
         ensures { result ≡ number_of self }
     {
@@ -110,10 +110,10 @@ impl Code {
         }
     }
 
-    /// Which standard event a report of the error is, as a word with its bit in the standard event
+    /// The standard event of the error, as a word with its bit in the standard event status
     /// register (IEEE 488.2, 11.5.1; SCPI-1999, volume 2, 21.8): 32, a command error, for -1xx; 16,
     /// an execution error, for -2xx; 8, a device-specific error, for -3xx; 4, a query error, for
-    /// -4xx; 0 if there is none.
+    /// -4xx; 0 for no error.
     pub fn standard_event(self) -> u8
         ensures { result ≡ standard_event_of self }
     {

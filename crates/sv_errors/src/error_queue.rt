@@ -12,7 +12,7 @@ use std::marker::Model;
 /// How many entries there may be.
 pub const MOST_ERRORS: usize = 64;
 
-/// What happens to the error queue.
+/// An act of the error queue.
 #[derive(Clone, Copy, Debug, PartialEq, Eq)]
 pub enum QueueAct {
     /// An error is reported.
@@ -23,12 +23,12 @@ pub enum QueueAct {
     Clear,
 }
 
-/// What it tells of that.
+/// The answer to an act of the error queue.
 #[derive(Clone, Copy, Debug, PartialEq, Eq)]
 pub enum QueueAnswer {
     /// Whether the report overflowed.
     Reported(bool),
-    /// What was taken, where there was any.
+    /// The entry that was taken; `None` if there was none.
     Taken(Option<Code>),
     /// All entries were dropped.
     Cleared,
@@ -56,7 +56,10 @@ impl<A: Allocator> Model for ErrorQueue<A> {
 }
 
 impl<A: Allocator> ErrorQueue<A> {
-    /// An empty queue. Takes the memory of all its entries.
+    /// An empty queue. It allocates the memory of all its entries.
+    ///
+    /// # Errors
+    /// If memory is refused.
     pub fn new(alloc: A) -> Result<ErrorQueue<A>, AllocError>
         ensures { IfOk result (λ queue. StandsFor queue []) }
     {
@@ -64,8 +67,8 @@ impl<A: Allocator> ErrorQueue<A> {
         Ok(ErrorQueue { codes })
     }
 
-    /// Reports an error, and tells whether it overflowed: a full queue shows -350 in place of its
-    /// newest entry, and the error itself is lost.
+    /// Reports an error, and returns whether the queue was full: then its newest entry becomes
+    /// -350, and this error is lost.
     pub fn report(&mut self, code: Code) -> bool
         ensures stands { (acts : List QueueAct) → StandsFor self.old acts
             → StandsFor self.new (QueueAct.Report code ∷ acts) }
@@ -82,7 +85,7 @@ impl<A: Allocator> ErrorQueue<A> {
         full
     }
 
-    /// Takes the oldest entry, where there is one.
+    /// Takes the oldest entry; `None` if there is none.
     pub fn take(&mut self) -> Option<Code>
         ensures stands { (acts : List QueueAct) → StandsFor self.old acts
             → StandsFor self.new (QueueAct.Take ∷ acts) }
@@ -92,7 +95,7 @@ impl<A: Allocator> ErrorQueue<A> {
         self.codes.pop_front()
     }
 
-    /// The oldest entry, which stays, where there is one.
+    /// The oldest entry, which stays; `None` if there is none.
     pub fn oldest(&self) -> Option<Code>
         ensures { (acts : List QueueAct) → StandsFor self.now acts → result ≡ oldest_of acts }
     {

@@ -1,32 +1,32 @@
-//! A layer of the instrument: what it answers is what a search of its acts gives.
+//! A layer of the instrument: its answers are those that a search of its acts gives.
 
 ghost use Rattle.std.specs.Prelude.{◌≡◌, List, ◌∷◌, ◌++◌, reverse};
 
-/// A part of the instrument that acts happen to, one after the other.
+/// A part of the instrument, to which acts happen one after the other.
 ///
-/// Its law: a value that stands for a list of acts stands, after `act`, for the list with that act
-/// at its newest end, and the answer is the one that a search of the list gives. Lists of acts are
-/// read from the newest.
+/// Its law: if a value stands for a list of acts, then after `act` it stands for the list with that
+/// act in front, and the answer is the one that a search of the list gives. Lists of acts have the
+/// newest first.
 pub trait Layer {
-    /// What can happen to it.
+    /// An act of the layer.
     type Act;
-    /// What it tells of an act.
+    /// The answer to an act.
     type Answer;
 
     /// The value stands for a list of acts.
     ghost stands_for: { Self → List Self.Act → Type 0 };
 
-    /// An act behind this list is answered so.
+    /// The answer to an act after this list is this one.
     ghost gives: { List Self.Act → Self.Act → Self.Answer → Type 0 };
 
-    /// Lets an act happen.
+    /// Performs an act, and gives its answer.
     fn act(&mut self, act: Self::Act) -> Self::Answer
         ensures stands { (log : List Self.Act) → stands_for self.old log
             → stands_for self.new (act ∷ log) }
         ensures answer { (log : List Self.Act) → stands_for self.old log → gives log act result };
 }
 
-/// Lets acts happen in their order, and forgets the answers.
+/// Performs acts in order, and drops the answers.
 pub fn act_each<L: Layer>(layer: &mut L, acts: &[L::Act])
 where
     L::Act: Copy,

@@ -1,7 +1,7 @@
-//! What all layers of the instrument share: the error codes, the error queue, what a layer is, how
-//! far numbers reach, and where triggers come from.
+//! What all layers of the instrument share: the error codes, the error queue, the trait of a layer,
+//! the ranges of numbers, and the sources of triggers.
 //!
-//! Only [`ErrorQueue::new`] takes memory.
+//! Only [`ErrorQueue::new`] allocates.
 #![tactic(auto)]
 
 mod code;

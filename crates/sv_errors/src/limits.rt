@@ -1,4 +1,4 @@
-//! How far the instrument's numbers reach.
+//! The ranges of the instrument's numbers.
 
 ghost use Rattle.std.specs.Prelude.{◌≡◌};
 ghost use Rattle.std.specs.List.{list_all};
@@ -10,7 +10,7 @@ pub const CHANNELS: usize = 128;
 pub const LONGEST_LIST: usize = 128;
 /// How many scans a measurement may have.
 pub const MOST_SCANS: u8 = 16;
-/// How many readings: those of so many scans of the longest list.
+/// How many readings a measurement may have: 16 scans of the longest list.
 pub const MOST_READINGS: usize = MOST_SCANS as usize * LONGEST_LIST;
 /// The largest magnitude of a voltage that is given to the instrument, in microvolts: 1,000 V.
 pub const MOST_MICROVOLTS: u32 = 1_000_000_000;
@@ -29,7 +29,7 @@ fn are_channels(numbers: &[u8]) -> bool
     numbers.iter().all(|number| is_channel(u64::from(*number)))
 }
 
-/// Whether these can be listed as channels: 1 to [`LONGEST_LIST`] numbers, each of a channel.
+/// Whether a list has 1 to [`LONGEST_LIST`] numbers, all of channels.
 pub fn is_channel_list(channels: &[u8]) -> bool
     ensures { result ≡ is_list_of_channels channels.now }
 {

@@ -1,6 +1,6 @@
-//! Where triggers come from (SCPI-1999, volume 2, chapter 24).
+//! The sources of triggers (SCPI-1999, volume 2, chapter 24).
 
-/// Where triggers come from.
+/// A source of triggers.
 #[derive(Clone, Copy, Debug, PartialEq, Eq)]
 pub enum Source {
     /// From the instrument itself, as soon as it waits for one: `IMMediate`.

@@ -6,11 +6,11 @@ use Rattle.sv_lexer.specs.Partial.{Reads}
 use Rattle.sv_exchange.specs.Exchange.{units, is_something}
 use Rattle.sv_exchange.specs.declared.ahead.Ahead.{Ahead}
 
--- a semicolon
+-- whether a byte is a semicolon
 abbrev pub is_separator : ℕ → Bool
 is_separator b = b == 59
 
--- No semicolon came behind the unit so far, and only white space did.
+-- No semicolon follows the unit so far, only white space.
 pub record IsOpen (seen unit space : List ℕ) : Type 0 where
   pub left : (more : List ℕ) → units (seen ++ more) ≡ units ((unit ++ space) ++ more)
   pub single : list_any is_separator (unit ++ space) ≡ false
@@ -19,12 +19,12 @@ pub record IsOpen (seen unit space : List ℕ) : Type 0 where
   pub starts : is_something unit ≡ true → (more : List ℕ) → trim_start (unit ++ more) ≡ unit ++ more
   pub ends : trim_end unit ≡ unit
 
--- The unit is the first one, whatever comes.
+-- The unit is the first one, whatever follows; or it may still go on.
 abbrev pub IsFound : Bool → (seen unit space : List ℕ) → Type 0
 IsFound true seen unit space = (is_something unit ≡ true) × ((more : List ℕ) → units (seen ++ more) ≡ unit ∷ units more)
 IsFound false seen unit space = IsOpen seen unit space
 
--- This was looked at: what is no unit, the unit so far, and what stands behind it.
+-- What was looked at: bytes that are no unit, the unit so far, and what follows it.
 pub record IsAhead (ahead : Ahead) (seen : List ℕ) : Type 0 where
   pub before : List ℕ
   pub unit : List ℕ
@@ -36,22 +36,22 @@ pub record IsAhead (ahead : Ahead) (seen : List ℕ) : Type 0 where
   pub reads : Reads ahead.partial unit
   pub found : IsFound ahead.closed seen unit space
 
--- The front of a text was looked at.
+-- A prefix of the text was looked at.
 pub record IsBegun (ahead : Ahead) (text : List ℕ) : Type 0 where
   pub within : ahead.looked ≤ length text
   pub seen : IsAhead ahead (take ahead.looked text)
 
--- It was looked at up to the semicolon behind the first unit, or to its end.
+-- The text was looked at up to the semicolon behind the first unit, or to its end.
 pub record IsLooked (ahead : Ahead) (text : List ℕ) : Type 0 where
   pub begun : IsBegun ahead text
   pub all : ahead.closed ≡ false → ahead.looked ≡ length text
 
--- a semicolon more
+-- one more semicolon was looked at
 abbrev pub behind_semicolon : Ahead → Ahead
 behind_semicolon ahead = if nat_lt ahead.start ahead.end then record ahead { looked = ahead.looked + 1; closed = true }
     else record ahead { start = ahead.looked + 1; end = ahead.looked + 1; looked = ahead.looked + 1 }
 
--- white space more
+-- one more byte of white space was looked at
 abbrev pub behind_space : Ahead → Ahead
 behind_space ahead = if nat_lt ahead.start ahead.end then record ahead { looked = ahead.looked + 1 }
     else record ahead { start = ahead.looked + 1; end = ahead.looked + 1; looked = ahead.looked + 1 }

@@ -1,12 +1,12 @@
--- What a message exchange holds of its acts.
+-- What message exchange keeps, and which acts it stands for.
 use Rattle.std.specs.Prelude.{◌≡◌, ◌≢◌, ℕ, ◌+◌, ◌*◌, ◌==◌, Bool, true, false, not, ◌&&◌, List, [], ◌∷◌, ◌++◌, length, drop, map, Option, None, nat_lt, slice_get, if◌then◌else◌}
 use Rattle.sv_exchange.specs.declared.exchange.Next.{Next}
 use Rattle.sv_exchange.specs.declared.exchange.Next.TheVariants as next
 use Rattle.sv_exchange.specs.Exchange.{ExchangeAct, Symbol, Byte, end_mark, text, messages, finished, current, units_done, has_overrun, has_dropped, answers, units, is_something, joined, response, Due, NothingDue, OverrunDue, InterruptDue, UnitDue, FinishDue, due_unit}
 use Rattle.sv_exchange.specs.Limits.{max_message}
 
--- what is left of the current message, whether it has ended, and then the text behind it with its mark; what happened to the message; and
--- the answers that were given to it, or else what can be read
+-- what is kept: the rest of the current message, and whether it has ended; the text behind it, and whether END follows that; what happened
+-- to the message; and its answers, or else what can be read
 pub record Contents : Type 0 where
   pub rest : List ℕ
   pub ended : Bool
@@ -33,21 +33,21 @@ empty = record {
   output = [];
 }
 
--- bytes, and a mark behind them
+-- bytes, and a mark behind them if END follows
 abbrev pub symbols : List ℕ → Bool → List Symbol
 symbols bytes end_pending = map Byte bytes ++ end_mark end_pending
 
--- the messages behind the current one, where that has ended
+-- the messages behind the current one, if that has ended
 abbrev pub following : Bool → List ℕ → Bool → List (List ℕ)
 following true later end_pending = messages (symbols later end_pending)
 following false later end_pending = []
 
--- What is kept is the answers of the current message, joined, or the response.
+-- What is kept is the answers of the current message, joined; or the response.
 abbrev pub IsShown : Bool → List ℕ → List (List ℕ) → List ℕ → Type 0
 IsShown true output given readable = (given ≢ []) × (output ≡ joined given) × (readable ≡ [])
 IsShown false output given readable = (given ≡ []) × (readable ≡ output)
 
--- The exchange holds what these acts leave: with the current message, and its units that were executed.
+-- What is kept stands for the acts: there is a current message, some of whose units were executed.
 pub record StandsFor (contents : Contents) (acts : List ExchangeAct) : Type 0 where
   pub message : List ℕ
   pub executed : List (List ℕ)
@@ -63,7 +63,7 @@ pub record StandsFor (contents : Contents) (acts : List ExchangeAct) : Type 0 wh
   pub answers_dropped : has_dropped (current acts) ≡ contents.answers_dropped
   pub shows : IsShown contents.answering contents.output (answers acts) (response acts)
 
--- no ended message waits to be finished
+-- whether no ended message waits to be finished
 abbrev pub is_open : Contents → Bool
 is_open contents = not contents.ended
 
@@ -72,11 +72,11 @@ abbrev pub shown : Bool → List ℕ → List ℕ
 shown true output = []
 shown false output = output
 
--- what can be read of what is held
+-- what can be read of what is kept
 abbrev pub shown_by : Contents → List ℕ
 shown_by contents = shown contents.answering contents.output
 
--- the next unit: of a message that has ended, is not too long, and lost no answers
+-- the next unit, of a message that has ended, isn't too long, and lost no answers
 abbrev pub unit_of : Contents → Option (List ℕ)
 unit_of contents = if contents.ended && (not contents.overlong && not contents.answers_dropped) then slice_get (units contents.rest) 0
     else None
@@ -90,11 +90,11 @@ next_of contents = if contents.overlong && not contents.overrun_reported then Ov
 abbrev pub IsUnitDue : Due → Type 0
 IsUnitDue due = (unit : List ℕ) × (due ≡ UnitDue unit)
 
--- The current message has ended, its answers weren't dropped, and nothing can be read, as where a unit was executed.
+-- whether an answer may be given: the current message has ended and lost no answers, and nothing can be read
 abbrev pub may_respond : Contents → Bool
 may_respond contents = contents.ended && (not contents.answers_dropped && not (is_something (shown_by contents)))
 
--- 1 for true
+-- 1 if so, else 0
 abbrev pub bit : Bool → ℕ
 bit true = 1
 bit false = 0
@@ -104,12 +104,12 @@ abbrev pub text_size : Bool → ℕ → ℕ → Bool → ℕ
 text_size true rest later end_pending = rest + (1 + (later + bit end_pending))
 text_size false rest later end_pending = rest
 
--- how much is left to be done, so that whoever does what is due comes to an end
+-- how much is left to do: each step that is due makes it less, so repeated stepping terminates
 abbrev pub exchange_measure : Contents → ℕ
 exchange_measure contents = 3 * text_size contents.ended (length contents.rest) (length contents.later) contents.end_pending +
     (bit (contents.overlong && not contents.overrun_reported) + bit (is_something (shown_by contents)))
 
--- what is due as plain data
+-- what is due, as plain data
 abbrev pub plain_next : Next → Due
 plain_next next.Nothing = NothingDue
 plain_next next.Overrun = OverrunDue

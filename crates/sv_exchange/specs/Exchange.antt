@@ -1,5 +1,5 @@
--- Message exchange (IEEE 488.2, 6.1 and 6.3): program text, its messages and units, and the response, each found by a search of the acts,
--- which are read from the newest.
+-- Message exchange (IEEE 488.2, 6.1 and 6.3): program text, its messages and units, and the response, each by a search of the acts, the
+-- newest first.
 use Rattle.std.specs.Prelude.{ℕ, ◌+◌, ◌==◌, Bool, true, false, not, ◌&&◌, List, [], ◌∷◌, ◌++◌, length, drop, map, filter, Option, Some, None, nat_lt, slice_get, slice_index_or, if◌then◌else◌}
 use Rattle.std.specs.List.{list_any, join_with_byte, onto_first}
 use Rattle.sv_logs.specs.Since.{since, newest}
@@ -7,7 +7,8 @@ use Rattle.sv_text.specs.Cut.{cut_at}
 use Rattle.sv_text.specs.White.{trim}
 use Rattle.sv_exchange.specs.Limits.{max_message, max_response}
 
--- what happens to program text and responses
+-- what happens to program text and responses: bytes of a write are accepted, the text is dropped, a message that is too long is reported, a
+-- unit is done, an answer is given, the answers are dropped, a message is finished, the response is interrupted, bytes of it are read
 pub data ExchangeAct : Type 0 where
   Accepted : (bytes : List ℕ) (ended : Bool) → ExchangeAct
   TextDropped : ExchangeAct
@@ -24,20 +25,21 @@ pub data Symbol : Type 0 where
   Byte : ℕ → Symbol
   End : Symbol
 
+-- the mark of a write with END
 abbrev pub end_mark : Bool → List Symbol
 end_mark ended = if ended then End ∷ [] else []
 
--- what drops program text
+-- whether the newest act drops the program text
 abbrev pub drops_text : List ExchangeAct → Bool
 drops_text = elim [ TextDropped ∷ acts ↦ true | _ ↦ false ]
 
--- what some acts bring, in order
+-- the text that acts bring, in order
 abbrev pub brought : List ExchangeAct → List Symbol
 brought [] = []
 brought (Accepted bytes ended ∷ acts) = brought acts ++ (map Byte bytes ++ end_mark ended)
 brought (_ ∷ acts) = brought acts
 
--- what was accepted since text was last dropped
+-- the text that was accepted since text was last dropped
 abbrev pub text : List ExchangeAct → List Symbol
 text acts = brought (since drops_text acts)
 
@@ -51,26 +53,29 @@ messages (Byte b ∷ symbols) = if b == 10 then [] ∷ messages symbols else ont
 abbrev pub finished : List ExchangeAct → ℕ
 finished acts = length (filter (elim [ Finished ↦ true | _ ↦ false ]) (since drops_text acts))
 
--- the acts since the current message began: those since a message was finished, or text dropped
+-- the acts since the current message began: since a message was finished, or text dropped
 abbrev pub current : List ExchangeAct → List ExchangeAct
 current acts = since (elim [ Finished ∷ older ↦ true | TextDropped ∷ older ↦ true | _ ↦ false ]) acts
 
--- how many units of it were done, whether it was told to be too long, whether its answers were dropped, and which answers it had
+-- how many units are done, in these acts
 abbrev pub units_done : List ExchangeAct → ℕ
 units_done acts = length (filter (elim [ UnitDone ↦ true | _ ↦ false ]) acts)
 
+-- whether the message was reported as too long, in these acts
 abbrev pub has_overrun : List ExchangeAct → Bool
 has_overrun acts = list_any (elim [ Overran ↦ true | _ ↦ false ]) acts
 
+-- whether the answers were dropped, in these acts
 abbrev pub has_dropped : List ExchangeAct → Bool
 has_dropped acts = list_any (elim [ AnswersDropped ↦ true | _ ↦ false ]) acts
 
+-- the answers that were given, in these acts
 abbrev pub answered : List ExchangeAct → List (List ℕ)
 answered [] = []
 answered (Answered answer ∷ acts) = answered acts ++ answer ∷ []
 answered (_ ∷ acts) = answered acts
 
--- the answers of the current message, none once they were dropped
+-- the answers of the current message; none once they were dropped
 abbrev pub answers : List ExchangeAct → List (List ℕ)
 answers acts = if has_dropped (current acts) then [] else answered (current acts)
 
@@ -78,22 +83,24 @@ answers acts = if has_dropped (current acts) then [] else answered (current acts
 abbrev pub message : List ExchangeAct → List ℕ
 message acts = slice_index_or (messages (text acts)) (finished acts) []
 
+-- whether the current message has ended
 abbrev pub has_ended : List ExchangeAct → Bool
 has_ended acts = nat_lt (finished acts + 1) (length (messages (text acts)))
 
+-- whether the current message is too long: above 4,096 bytes
 abbrev pub is_long : List ExchangeAct → Bool
 is_long acts = nat_lt max_message (length (message acts))
 
--- whether a list has anything
+-- whether a list isn't empty
 abbrev pub is_something : {A : Type 0} → List A → Bool
 is_something [] = false
 is_something (x ∷ xs) = true
 
--- the units of a message: what stands between semicolons, without white space around it, where anything is left
+-- the units of a message: the parts between semicolons, without white space around them, if anything is left
 abbrev pub units : List ℕ → List (List ℕ)
 units bytes = filter is_something (map trim (cut_at 59 bytes))
 
--- the unit to execute next: of a message that has ended, is not too long, and lost no answers
+-- the unit to execute next, of a message that has ended, isn't too long, and lost no answers
 abbrev pub next_unit : List ExchangeAct → Option (List ℕ)
 next_unit acts =
     if has_ended acts && (not (is_long acts) && not (has_dropped (current acts))) then slice_get (units (message acts))
@@ -103,13 +110,13 @@ next_unit acts =
 abbrev pub joined : List (List ℕ) → List ℕ
 joined = join_with_byte 59
 
--- At the newest act the response is another: a message that had answers is finished, or the response is interrupted.
+-- The newest act makes a new response: a message that had answers is finished, or the response is interrupted.
 abbrev pub renews : List ExchangeAct → Bool
 renews (Finished ∷ acts) = is_something (answers acts)
 renews (Interrupted ∷ acts) = true
 renews _ = false
 
--- what it is then: the answers, joined and ended by a new line; none once interrupted
+-- that response: the answers, joined and ended by a new line; none once interrupted
 abbrev pub renewed : List ExchangeAct → List ℕ
 renewed (Finished ∷ acts) = joined (answers acts) ++ 10 ∷ []
 renewed _ = []
@@ -120,12 +127,12 @@ bytes_read [] = 0
 bytes_read (ResponseRead count ∷ acts) = bytes_read acts + count
 bytes_read (_ ∷ acts) = bytes_read acts
 
--- what can be read: the response as it was when it began, without the bytes that were read since
+-- what can be read: the response as it was made, without the bytes that were read since
 abbrev pub response : List ExchangeAct → List ℕ
 response acts = drop (bytes_read (since renews acts)) (renewed (newest renews acts))
 
--- what is due: an overlong message is told once; a unit starts, and where it is the first and a response stands, that is dropped before;
--- else a message that has ended is finished
+-- What is due: a message that is too long is reported once; a unit starts, and before the first unit a response that is still there is
+-- interrupted; a message that has ended is finished.
 pub data Due : Type 0 where
   NothingDue : Due
   OverrunDue : Due
@@ -133,15 +140,17 @@ pub data Due : Type 0 where
   UnitDue : (text : List ℕ) → Due
   FinishDue : Due
 
+-- what is due of this next unit, if there is one: it starts, or interrupts a response
 abbrev pub due_unit : Option (List ℕ) → Bool → Bool → Due
 due_unit (Some unit) interrupts ended = if interrupts then InterruptDue else UnitDue unit
 due_unit None interrupts ended = if ended then FinishDue else NothingDue
 
+-- what is due
 abbrev pub due : List ExchangeAct → Due
 due acts =
     if is_long acts && not (has_overrun (current acts)) then OverrunDue
     else due_unit (next_unit acts) ((units_done (current acts) == 0) && is_something (response acts)) (has_ended acts)
 
--- whether an answer has room in a response, behind the answers before it and with the new line
+-- whether an answer fits the response, behind the answers before it and with the new line
 abbrev pub fits_response : List (List ℕ) → List ℕ → Bool
 fits_response before answer = nat_lt (length (joined (before ++ answer ∷ []))) max_response

@@ -1,4 +1,4 @@
--- How the fields of a message exchange keep what it holds, and how that changes.
+-- How the fields of message exchange keep its contents, and how that changes.
 use Rattle.std.specs.Prelude.{◌≡◌, ℕ, ◌+◌, ◌==◌, ◌<◌, ◌≤◌, Bool, true, false, ◌&&◌, ◌||◌, List, [], ◌∷◌, ◌++◌, length, take, drop, nat_lt, slice_range, if◌then◌else◌}
 use Rattle.std.specs.List.{position_or_len}
 use Rattle.sv_exchange.specs.Contents.{Contents}
@@ -8,7 +8,7 @@ use Rattle.sv_exchange.specs.Limits.{max_message, max_text, max_response}
 abbrev pub first_size : List ℕ → ℕ
 first_size bytes = position_or_len (λ b. b == 10) bytes
 
--- a new line ends it
+-- whether a new line ends it
 abbrev pub has_line : List ℕ → Bool
 has_line bytes = nat_lt (first_size bytes) (length bytes)
 
@@ -16,7 +16,7 @@ has_line bytes = nat_lt (first_size bytes) (length bytes)
 abbrev pub second_at : List ℕ → ℕ
 second_at bytes = if has_line bytes then first_size bytes + 1 else length bytes
 
--- more text
+-- more text was accepted
 abbrev pub after_accept : Contents → List ℕ → Bool → Contents
 after_accept contents bytes ended =
     let overlong = contents.overlong || nat_lt max_message (length contents.rest + first_size bytes) in
@@ -42,17 +42,17 @@ after_finish contents = record {
   output = if contents.answering then contents.output ++ 10 ∷ [] else contents.output;
 }
 
--- an answer behind those before it
+-- the answers with one more
 abbrev pub with_answer : Bool → List ℕ → List ℕ → List ℕ
 with_answer true output answer = output ++ 59 ∷ answer
 with_answer false output answer = answer
 
--- an answer was put there, or was too long, and all answers are dropped
+-- an answer was given, or it didn't fit and all answers were dropped
 abbrev pub after_answer : Contents → List ℕ → Bool → Contents
 after_answer contents answer true = record contents { answering = true; output = with_answer contents.answering contents.output answer }
 after_answer contents answer false = record contents { answers_dropped = true; answering = false; output = [] }
 
--- the fields as what is held
+-- the contents that the fields keep
 abbrev pub contents_of : List ℕ → ℕ → ℕ → ℕ → Bool → Bool → Bool → Bool → Bool → Bool → List ℕ → ℕ → Contents
 contents_of text cursor end next_start ended end_pending overlong overrun_reported answers_dropped answering response read = record {
   rest = slice_range text cursor end;
@@ -66,17 +66,17 @@ contents_of text cursor end next_start ended end_pending overlong overrun_report
   output = drop read response;
 }
 
--- While answers are collected none of them was read, and a new line fits behind them.
+-- While answers are collected, none of them was read, and a new line fits behind them.
 abbrev pub IsOut : Bool → ℕ → ℕ → Type 0
 IsOut true size read = (size < max_response) × (read ≡ 0)
 IsOut false size read = (size ≤ max_response) × (read ≤ size)
 
--- Of a message that hasn't ended no more is kept than it may be long.
+-- Of a message that hasn't ended, at most 4,096 bytes are kept.
 abbrev pub IsText : Bool → ℕ → ℕ → ℕ → ℕ → Type 0
 IsText true size cursor end next_start = (size ≤ max_text) × (size ≤ next_start + max_message)
 IsText false size cursor end next_start = (end ≡ size) × (next_start ≡ size) × (end ≤ cursor + max_message)
 
--- The fields are in order, and what they hold has room.
+-- The fields are in order, and there is memory for what they keep.
 pub record IsValid (text : List ℕ) (cursor end next_start : ℕ) (ended : Bool) (space : ℕ) (response : List ℕ) (read : ℕ) (answering : Bool)
     (slots : ℕ) : Type 0 where
   pub order : (cursor ≤ end) × (end ≤ next_start) × (next_start ≤ length text)

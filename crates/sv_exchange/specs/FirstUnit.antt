@@ -1,8 +1,8 @@
--- The first unit of a message, and what is left behind it.
+-- The first unit of a message, and what follows it.
 use Rattle.std.specs.Prelude.{◌≡◌, ◌≢◌, ℕ, ◌<◌, ◌≤◌, List, [], ◌∷◌, length, drop}
 use Rattle.sv_exchange.specs.Exchange.{units}
 
--- The message has this unit first, and the units of what is left behind so many bytes.
+-- The message has this unit first; what follows after so many bytes has its other units.
 pub record IsFirst (message unit : List ℕ) (count : ℕ) : Type 0 where
   pub units : units message ≡ unit ∷ units (drop count message)
   pub some : unit ≢ []

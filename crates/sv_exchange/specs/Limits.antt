@@ -1,7 +1,7 @@
--- How much the exchange takes, holds and gives, in bytes.
+-- How much message exchange takes, keeps and gives, in bytes.
 use Rattle.std.specs.Prelude.{ℕ}
 
--- how long a program message may be, and how much is written at once
+-- how long a program message may be, and how long one write may be
 abbrev pub max_message : ℕ
 max_message = 4096
 
@@ -13,6 +13,6 @@ max_text = 8192
 abbrev pub max_response : ℕ
 max_response = 32768
 
--- how much of it a read gives at once
+-- how many bytes one read gives, at most
 abbrev pub max_read : ℕ
 max_read = 8192

@@ -4,17 +4,16 @@ use Rattle.std.specs.List.{position_or_len}
 use Rattle.std.specs.Option.{option_map_or}
 use Rattle.sv_exchange.specs.Limits.{max_read}
 
--- how many bytes there are up to the first termination character, with it; all bytes where there is none
+-- how many bytes there are up to the first termination character, with it; all bytes if there is none
 abbrev pub term_end : Option ℕ → List ℕ → ℕ
 term_end (Some term) bytes = min (position_or_len (λ b. b == term) bytes + 1) (length bytes)
 term_end None bytes = length bytes
 
--- the shortest of the prefixes that end at the termination character, at the count asked for, at the most that a read gives, and at the
--- response's end
+-- how many bytes are read: up to the termination character, the request, 8,192 bytes, or the end of the response, whichever comes first
 abbrev pub read_count : List ℕ → ℕ → Option ℕ → ℕ
 read_count response most term = min (term_end term response) (min most (min max_read (length response)))
 
--- whether the prefix of this length, which isn't empty, ends at the termination character
+-- whether these bytes, if there are any, end at the termination character
 abbrev pub ends_at_term : List ℕ → ℕ → Option ℕ → Bool
 ends_at_term response count (Some term) = nat_lt 0 count && option_map_or (λ b. b == term) (slice_get response (count - 1)) false
 ends_at_term response count None = false

@@ -1,9 +1,9 @@
--- What a read gives, part by part.
+-- The parts of what a read gives.
 use Rattle.std.specs.Prelude.{◌≡◌, ℕ, ◌≤◌, ◌==◌, List, length, take, Option}
 use Rattle.sv_exchange.specs.declared.read.Read.{Read}
 use Rattle.sv_exchange.specs.Read.{read_count, ends_at_term}
 
--- A read of at most so many bytes gives this of a response: its bytes, and the reasons why it ends there.
+-- A read of at most so many bytes of a response gives these bytes, and these reasons for which it ends there.
 pub record IsReadOf (read : Read) (response : List ℕ) (most : ℕ) (term : Option ℕ) : Type 0 where
   pub bytes : read.bytes.now ≡ take (read_count response most term) response
   pub size : length read.bytes.now ≡ read_count response most term

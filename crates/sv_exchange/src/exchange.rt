@@ -1,4 +1,4 @@
-//! Program messages in, and responses out.
+//! Message exchange: program messages in, responses out.
 
 ghost use Rattle.std.specs.Prelude.{◌≡◌, ℕ, ◌+◌, ◌*◌, ◌<◌, ◌≤◌, ◌==◌, Bool, true, false, not, List, [], ◌∷◌, ◌++◌, Option, length, take, drop, nat_lt, vec_len, vec_capacity, IsTrue, IfOk, if◌then◌else◌};
 ghost use Rattle.sv_lexer.specs.Unit.{IsLexed};
@@ -21,11 +21,11 @@ use sv_lexer::Unit;
 /// What is due.
 #[derive(Clone, Copy)]
 pub enum Next<'a> {
-    /// Nothing, before more text comes.
+    /// Nothing, until more text comes.
     Nothing,
-    /// The current message is too long, which is to be told.
+    /// The current message is too long, which is to be reported.
     Overrun,
-    /// A unit is about to be executed while a response stands, which is dropped before.
+    /// A unit is to be executed, but a response is still there, which has to be dropped before.
     Interrupt,
     /// This unit is to be executed.
     Unit(&'a [u8]),
@@ -33,9 +33,9 @@ pub enum Next<'a> {
     Finish,
 }
 
-/// The exchange of messages with an instrument (IEEE 488.2, 6.1 and 6.3): program text that waits,
-/// cut into messages and units, and the response. It holds no more
-/// than [`MAX_TEXT`] bytes of the one, and [`MAX_RESPONSE`] of the other.
+/// The exchange of messages with an instrument (IEEE 488.2, 6.1 and 6.3): program text, cut into
+/// messages and units, and the response. It keeps at most [`MAX_TEXT`] bytes of text, and
+/// [`MAX_RESPONSE`] of the response.
 #[derive(Drop)]
 pub struct Exchange<A: Allocator = Global> {
     /// Program text, whose units are executed up to `cursor`.
@@ -53,7 +53,7 @@ pub struct Exchange<A: Allocator = Global> {
     end_pending: bool,
     /// Whether the current message is too long, whose bytes are dropped then.
     overlong: bool,
-    /// Whether that was told.
+    /// Whether that was reported.
     overrun_reported: bool,
     /// Whether the answers of the current message were dropped.
     answers_dropped: bool,
@@ -82,7 +82,10 @@ impl<A: Allocator> Model for Exchange<A> {
 }
 
 impl<A: Allocator + Copy> Exchange<A> {
-    /// An exchange with no text and no response. It takes all the memory that it ever uses.
+    /// An exchange with no text and no response. It allocates all the memory that it ever uses.
+    ///
+    /// # Errors
+    /// If memory is refused.
     pub fn new(alloc: A) -> Result<Exchange<A>, AllocError>
         ensures { IfOk result (λ exchange. (exchange ≡ empty) × StandsFor exchange []) }
     {
@@ -105,7 +108,7 @@ impl<A: Allocator + Copy> Exchange<A> {
 }
 
 impl<A: Allocator> Exchange<A> {
-    /// Whether no ended message waits to be finished, so that more text is taken.
+    /// Whether text is accepted: no ended message waits to be finished.
     pub fn open_for_write(&self) -> bool
         ensures value { result ≡ is_open self.now }
         ensures answer { (acts : List ExchangeAct) → StandsFor self.now acts
@@ -114,10 +117,10 @@ impl<A: Allocator> Exchange<A> {
         !self.ended
     }
 
-    /// Takes in the bytes of a write, and whether END came with the last of them (VXI-11,
-    /// device_write). A message ends at END or at a new line (IEEE 488.2, 7.5). Of one that is too
-    /// long, above [`MAX_MESSAGE`] bytes, none are kept. It has to be open for a write, of at most
-    /// as many.
+    /// Accepts the bytes of a write, with END after the last of them or without (VXI-11,
+    /// device_write). A message ends at END or at a new line (IEEE 488.2, 7.5). Of one above
+    /// [`MAX_MESSAGE`] bytes none are kept. The exchange has to be open for a write, of at most as
+    /// many bytes.
     pub fn accept(&mut self, bytes: &[u8], ended: bool)
         requires open { IsTrue (is_open self.old) }
         requires short { length bytes.now ≤ max_message }
@@ -141,7 +144,9 @@ impl<A: Allocator> Exchange<A> {
             .look_on(&self.text[self.cursor..self.end], self.overlong);
     }
 
-    /// What is due. Of a message that is too long or lost its answers no unit is.
+    /// What is due: a report that the message is too long, the end of a response that is
+    /// interrupted, a unit to execute, or the end of the message. A message that is too long, or
+    /// lost its answers, has no unit that is due.
     pub fn next_unit(&self) -> Next<'_>
         ensures value { plain_next result ≡ next_of self.now }
         ensures answer { (acts : List ExchangeAct) → StandsFor self.now acts
@@ -171,7 +176,7 @@ impl<A: Allocator> Exchange<A> {
     /// The unit that is due, as it was read while its bytes came.
     ///
     /// # Errors
-    /// What is wrong with it, as [`unit`](sv_lexer::unit) tells it.
+    /// Those of [`unit`](sv_lexer::unit) for its bytes.
     pub fn lexed(&self) -> Result<Unit<'_>, Code>
         requires { IsUnitDue (next_of self.now) }
         ensures { (unit : List ℕ) → next_of self.now ≡ UnitDue unit → IsLexed result unit }
@@ -179,7 +184,7 @@ impl<A: Allocator> Exchange<A> {
         self.ahead.lexed(&self.text[self.cursor..self.end])
     }
 
-    /// Steps over the unit that was due, which was executed.
+    /// Steps over the unit that was due: it was executed.
     pub fn done(&mut self)
         requires { IsUnitDue (next_of self.old) }
         ensures value { self.new ≡ record self.old { rest = self.new.rest } }
@@ -195,7 +200,7 @@ impl<A: Allocator> Exchange<A> {
         }
     }
 
-    /// The message that is too long was told. It is dropped up to its end.
+    /// The message that is too long was reported. It is dropped up to its end.
     pub fn overran(&mut self)
         requires { next_of self.old ≡ OverrunDue }
         ensures value { self.new ≡ record self.old { overrun_reported = true } }
@@ -207,7 +212,7 @@ impl<A: Allocator> Exchange<A> {
         self.overrun_reported = true;
     }
 
-    /// Drops the response, which is interrupted by a new message (IEEE 488.2, 6.3.2.3).
+    /// Drops the response: a new message interrupts it (IEEE 488.2, 6.3.2.3).
     pub fn drop_response(&mut self)
         requires { next_of self.old ≡ InterruptDue }
         ensures value { self.new ≡ record self.old { output = [] } }
@@ -220,7 +225,7 @@ impl<A: Allocator> Exchange<A> {
         self.read = self.response.len();
     }
 
-    /// Goes on to the next message. Where there were answers, they become the response, with a new
+    /// Finishes the message that has ended. Its answers, if any, become the response, with a new
     /// line (IEEE 488.2, 8.5).
     pub fn finish(&mut self)
         requires { next_of self.old ≡ FinishDue }
@@ -243,10 +248,10 @@ impl<A: Allocator> Exchange<A> {
         self.answering = false;
     }
 
-    /// Puts an answer behind those of the units before, with a semicolon between (IEEE 488.2,
-    /// 8.4.1); a unit has to have been executed before. It tells whether it fits: where the
-    /// response would be longer than [`MAX_RESPONSE`] bytes, all answers of the message are
-    /// dropped, and no further unit of it is executed.
+    /// Adds an answer behind those of the units before, separated by a semicolon (IEEE 488.2,
+    /// 8.4.1); a unit has to have been executed before. Returns whether it fits. If the response
+    /// would exceed [`MAX_RESPONSE`] bytes, all answers of the message are dropped, and no further
+    /// unit of it is executed.
     pub fn respond(&mut self, answer: &[u8]) -> bool
         requires { IsTrue (may_respond self.old) }
         ensures value { self.new ≡ after_answer self.old answer.now result }
@@ -275,8 +280,8 @@ impl<A: Allocator> Exchange<A> {
         true
     }
 
-    /// Whether there are bytes of a response to read. The answers of a message are a response once
-    /// it is finished.
+    /// Whether there is a response to read. The answers of a message become a response once it is
+    /// finished.
     pub fn readable(&self) -> bool
         ensures value { result ≡ is_something (shown_by self.now) }
         ensures answer { (acts : List ExchangeAct) → StandsFor self.now acts
@@ -285,8 +290,8 @@ impl<A: Allocator> Exchange<A> {
         !self.shown().is_empty()
     }
 
-    /// The next bytes of the response: at most as many as asked for, and no further than to the
-    /// first termination character (VXI-11, device_read). There are none where nothing is readable.
+    /// The next bytes of the response: at most as many as asked for, and up to the first
+    /// termination character (VXI-11, device_read). None without a response.
     pub fn peek(&self, most: u32, term: Option<u8>) -> Read<'_>
         ensures value { IsReadOf result (shown_by self.now) most term }
         ensures answer { (acts : List ExchangeAct) → StandsFor self.now acts
@@ -306,7 +311,7 @@ impl<A: Allocator> Exchange<A> {
         self.read += count;
     }
 
-    /// Drops the text of the current message, which must not have ended (IEEE 488.2, 6.3.2.2).
+    /// Drops the text of the current message, which mustn't have ended (IEEE 488.2, 6.3.2.2).
     pub fn drop_unfinished(&mut self)
         requires { IsTrue (is_open self.old) }
         ensures value { self.new ≡ record empty {
@@ -321,7 +326,7 @@ impl<A: Allocator> Exchange<A> {
         self.drop_text();
     }
 
-    /// Drops program text, answers and response, as a device clear does (IEEE 488.2, 5.8).
+    /// Device clear: drops program text, answers and response (IEEE 488.2, 5.8).
     pub fn clear(&mut self)
         ensures value { self.new ≡ empty }
         ensures stands { (acts : List ExchangeAct) → StandsFor self.old acts

@@ -2,8 +2,7 @@
 //! response.
 //!
 //! [`Exchange`] takes the bytes of writes, says what is due, and gives the response to reads. It
-//! reads the unit that comes next while its bytes come, with `sv_lexer`. Only [`Exchange::new`]
-//! takes memory.
+//! reads the next unit while its bytes come, with `sv_lexer`. Only [`Exchange::new`] allocates.
 #![tactic(auto)]
 
 mod ahead;

@@ -3,7 +3,7 @@ use Rattle.std.specs.Prelude.{ℕ}
 use Rattle.sv_header.specs.declared.command.CommandId.{CommandId}
 use Rattle.sv_header.specs.declared.command.CommandId.TheVariants.{Do, Ask}
 
--- at most: the value of a setting, or a channel list; all others, queries too, take nothing
+-- how many parameters a command takes at most: one for a value or a channel list, else none
 abbrev pub most_parameters : CommandId → ℕ
 most_parameters (Do action) = 0
 most_parameters (Ask question) = 0

@@ -4,44 +4,45 @@ use Prim.Native.String.{String}
 use Rattle.std.specs.Char.{to_ascii_lowercase}
 use Rattle.sv_header.specs.declared.command.CommandId.{CommandId}
 
--- a node of a pattern: the short and the long form of its mnemonic, and whether it may be absent
+-- a node of a pattern: the short and the long form of its mnemonic, and whether it is optional
 pub record Part : Type 0 where
   pub short : List ℕ
   pub long : List ℕ
   pub optional : Bool
 
--- a row of the table: whether its headers are common commands, whether the query sign ends them, their nodes, and the command
+-- a row of the table: whether it is a common command, whether it is a query, its nodes, and the command
 pub record Row : Type 0 where
   pub common : Bool
   pub query : Bool
   pub parts : List Part
   pub command : CommandId
 
--- a node that is always there: its short form, and what the long form has behind it
+-- a node that isn't optional, by its short form and the rest of its long form
 abbrev pub node : String → String → Part
 node short more = record { short = codes short; long = codes short ++ codes more; optional = false }
 
--- one that may be absent
+-- an optional node, likewise
 abbrev pub maybe : String → String → Part
 maybe short more = record { short = codes short; long = codes short ++ codes more; optional = true }
 
+-- a row of these parts
 abbrev pub row : Bool → Bool → List Part → CommandId → Row
 row common query parts command = record { common = common; query = query; parts = parts; command = command }
 
--- The same letters, in any case.
+-- Both have the same letters, in any case.
 abbrev pub Same : List ℕ → List ℕ → Type 0
 Same sent form = map to_ascii_lowercase sent ≡ map to_ascii_lowercase form
 
--- A mnemonic is the short or the long form of a node, in any case, and nothing between.
+-- The mnemonic is the short or the long form of the node, in any case, and nothing between.
 abbrev pub IsForm : List ℕ → Part → Type 0
 IsForm sent part = Same sent part.short ⊎ Same sent part.long
 
--- The first mnemonic is a node's, and the others are so.
+-- The first mnemonic is that of the node, and this holds of the others.
 abbrev IsThere : List (List ℕ) → Part → (List (List ℕ) → Type 0) → Type 0
 IsThere [] part Others = ⊥
 IsThere (sent ∷ others) part Others = IsForm sent part × Others others
 
--- Mnemonics fit nodes: each node is there, or absent where it may be.
+-- The mnemonics fit the nodes: each node is there, or absent if it is optional.
 abbrev pub Fits : List (List ℕ) → List Part → Type 0
 Fits sent [] = sent ≡ []
 Fits sent (part ∷ parts) = IsThere sent part (λ others. Fits others parts) ⊎ ((part.optional ≡ true) × Fits sent parts)

@@ -1,4 +1,4 @@
--- What the types of the code say, in those of the definitions.
+-- Types of the code in sv_header, as plain data.
 use Rattle.std.specs.Prelude.{ℕ, Bool, nat_le, length, List, [], ◌∷◌, ◌++◌, Option, Some, None}
 use Rattle.std.specs.Borrow.{Bor}
 use Rattle.sv_text.specs.Cut.{cut_at}
@@ -6,21 +6,21 @@ use Rattle.sv_header.specs.declared.pattern.Node.{Node}
 use Rattle.sv_header.specs.declared.left.Mnemonics.{Mnemonics}
 use Rattle.sv_header.specs.Pattern.{Part}
 
--- a node of the table
+-- a node of the code
 abbrev pub part : Node → Part
 part node = record { short = node.short.now; long = node.long.now; optional = node.optional }
 
--- the mnemonics of a text, where there is one
+-- the mnemonics of a text; none without a text
 abbrev pub sent_of : Option (Bor (List ℕ)) → List (List ℕ)
 sent_of None = []
 sent_of (Some text) = cut_at 58 text.now
 
--- a mnemonic and those behind it, where there is one
+-- a mnemonic and those behind it; none without it
 abbrev pub led_by : Option (Bor (List ℕ)) → List (List ℕ) → List (List ℕ)
 led_by None others = []
 led_by (Some first) others = first.now ∷ others
 
--- the mnemonics that are left: the first, and behind it those of the path and those of the text
+-- the mnemonics that are left: the first one, those of the path, and those of the text
 abbrev pub left_of : Mnemonics → List (List ℕ)
 left_of left = led_by left.first (left.kept.now ++ sent_of left.sent)
 

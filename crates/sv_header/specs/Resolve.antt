@@ -8,38 +8,41 @@ use Rattle.sv_header.specs.declared.command.CommandId.{CommandId}
 use Rattle.sv_header.specs.Pattern.{Row, Fits}
 use Rattle.sv_header.specs.Table.{table}
 
--- what stands in front of a header: the path, unless it starts at the root or is a common command
+-- the mnemonics before those of a header: the path, unless the header starts at the root or is a common command
 abbrev pub path_before : Lead → List (List ℕ) → List (List ℕ)
 path_before Onward path = path
 path_before _ path = []
 
--- the header with the path in front of it
+-- the mnemonics of a header, with the path before them
 abbrev pub full : List (List ℕ) → List ℕ → List (List ℕ)
 full path header = path_before (lead header) path ++ mnemonics header
 
+-- whether an asterisk leads the header
 abbrev pub leads_common : Lead → Bool
 leads_common Common = true
 leads_common _ = false
 
--- A header behind a path fits a row: both are common commands or neither is, both have the query sign or neither has, and the mnemonics
--- fit.
+-- A header, with the path before it, fits a row: both are common commands or neither, both are queries or neither, and the mnemonics fit
+-- the nodes.
 abbrev pub FitsRow : List (List ℕ) → List ℕ → Row → Type 0
 FitsRow path header row = (leads_common (lead header) ≡ row.common) × (is_query header ≡ row.query) × Fits (full path header) row.parts
 
--- A header behind a path names a command: it fits that command's row.
+-- A header, with the path before it, names a command: it fits a row of that command.
 abbrev pub Resolves : List (List ℕ) → List ℕ → CommandId → Type 0
 Resolves path header command = (row : Row) × Contains table row × (row.command ≡ command) × FitsRow path header row
 
--- all but the last
+-- all mnemonics but the last
 abbrev pub but_last : List (List ℕ) → List (List ℕ)
 but_last [] = []
 but_last (part ∷ []) = []
 but_last (part ∷ other ∷ others) = part ∷ but_last (other ∷ others)
 
+-- the path that a header leaves, by what leads it
 abbrev pub kept_by : Lead → List (List ℕ) → List (List ℕ) → List (List ℕ)
 kept_by Common path all = path
 kept_by _ path all = but_last all
 
--- the path behind a header: its mnemonics and those in front of it, as they were sent, without the last; a common command leaves the path
+-- The path that a header leaves: its mnemonics with the path before them, as they were sent, without the last one. A common command leaves
+-- the path as it was.
 abbrev pub kept : List (List ℕ) → List ℕ → List (List ℕ)
 kept path header = kept_by (lead header) path (full path header)

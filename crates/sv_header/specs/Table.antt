@@ -1,4 +1,4 @@
--- The table of commands: each with its pattern, and what it does, asks for or sets.
+-- The table of commands: the pattern of each, and what it does, asks for or sets.
 use Rattle.std.specs.Prelude.{true, false, List, [], ◌∷◌, ◌++◌}
 use Prim.Native.String.{String}
 use Rattle.sv_status.specs.declared.register_name.RegisterName.{RegisterName}
@@ -11,20 +11,23 @@ use Rattle.sv_header.specs.declared.command.SettingName.{SettingName}
 use Rattle.sv_header.specs.declared.command.SettingName.TheVariants.{StandardEnable, ServiceEnable, Enable, Rise, Fall, ScanList, Monitor, Range, UpperLimit, LowerLimit, Limits, Source, Count}
 use Rattle.sv_header.specs.Pattern.{Part, Row, row, node, maybe}
 
--- a common command, which is one mnemonic, and a common query; another command by its nodes, and another query
+-- a common command, of one mnemonic
 abbrev common : String → CommandId → Row
 common name id = row true false (node name "" ∷ []) id
 
+-- a common query
 abbrev common_query : String → CommandId → Row
 common_query name id = row true true (node name "" ∷ []) id
 
+-- another command, by its nodes
 abbrev command : List Part → CommandId → Row
 command nodes id = row false false nodes id
 
+-- another query
 abbrev query : List Part → CommandId → Row
 query nodes id = row false true nodes id
 
--- a setting and the query of its value
+-- the command that sets a value, and the query of the value
 abbrev setting : List Part → SettingName → List Row
 setting nodes name = command nodes (Set name) ∷ query nodes (Ask (Value name)) ∷ []
 
@@ -47,7 +50,7 @@ common_commands =
     ∷ common "WAI" (Do Wait)
     ∷ []
 
--- the queries of the system (SCPI-1999, volume 2)
+-- the queries of SYSTem (SCPI-1999, volume 2)
 abbrev pub system_commands : List Row
 system_commands =
     query (node "SYST" "EM" ∷ node "ERR" "OR" ∷ maybe "NEXT" "" ∷ []) (Ask Error)
@@ -55,7 +58,7 @@ system_commands =
     ∷ query (node "SYST" "EM" ∷ node "VERS" "ION" ∷ []) (Ask Version)
     ∷ []
 
--- a status register, whose nodes stand behind these
+-- the commands of a status register, below these nodes
 abbrev register : List Part → RegisterName → List Row
 register place name =
     query (place ++ maybe "EVEN" "T" ∷ []) (Ask (Events name))
@@ -64,7 +67,7 @@ register place name =
     ++ (setting (place ++ node "PTR" "ANSITION" ∷ []) (Rise name)
     ++ setting (place ++ node "NTR" "ANSITION" ∷ []) (Fall name)))
 
--- the status registers, and their preset
+-- the commands of STATus
 abbrev pub status_commands : List Row
 status_commands =
     command (node "STAT" "US" ∷ node "PRES" "ET" ∷ []) (Do Preset)
@@ -72,7 +75,7 @@ status_commands =
     ++ (register (node "STAT" "US" ∷ node "QUES" "TIONABLE" ∷ []) Questionable
     ++ register (node "STAT" "US" ∷ node "QUES" "TIONABLE" ∷ node "LIM" "IT" ∷ []) Limit))
 
--- what is measured, and how
+-- the commands that set up a measurement
 abbrev pub setting_commands : List Row
 setting_commands =
     setting (node "ROUT" "E" ∷ node "SCAN" "" ∷ []) ScanList
@@ -84,7 +87,7 @@ setting_commands =
     ++ (setting (node "TRIG" "GER" ∷ node "SOUR" "CE" ∷ []) Source
     ++ setting (node "TRIG" "GER" ∷ node "COUN" "T" ∷ []) Count))))))
 
--- measuring
+-- the commands that measure
 abbrev pub measuring_commands : List Row
 measuring_commands =
     command (node "INIT" "IATE" ∷ maybe "IMM" "EDIATE" ∷ []) (Do Initiate)
@@ -95,9 +98,10 @@ measuring_commands =
     ∷ query (node "MEAS" "URE" ∷ node "VOLT" "AGE" ∷ maybe "DC" "" ∷ []) Measure
     ∷ []
 
--- all of them
+-- all commands but the common ones
 abbrev pub other_commands : List Row
 other_commands = system_commands ++ (status_commands ++ (setting_commands ++ measuring_commands))
 
+-- all commands
 abbrev pub table : List Row
 table = common_commands ++ other_commands

@@ -7,7 +7,7 @@ use crate::command::CommandId;
 
 impl CommandId {
     /// How many parameters the command takes at most (IEEE 488.2, chapter 10; SCPI-1999, volume 2):
-    /// one where it has a value or a list of channels, else none.
+    /// one for a value or a channel list, else none.
     pub fn most_parameters(self) -> usize
         ensures { result ≡ most_of self }
     {

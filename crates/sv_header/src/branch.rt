@@ -1,4 +1,4 @@
-//! Nodes at their places in the tree of headers.
+//! Nodes of the tree of headers, at their places.
 
 ghost use Rattle.std.specs.Prelude.{◌≡◌, [], MatchOption};
 ghost use Rattle.sv_header.specs.Plain.{left_of};
@@ -17,7 +17,7 @@ pub(crate) struct Branch {
     pub(crate) node: Node,
     /// How many nodes stand below it.
     pub(crate) below: usize,
-    /// The command of the headers that end here without the query sign.
+    /// The command of the headers that end here without the question mark.
     pub(crate) plain: Option<CommandId>,
     /// The command of those that end here with it.
     pub(crate) query: Option<CommandId>,

@@ -1,9 +1,9 @@
-//! What a header names.
+//! The commands that headers name.
 
 use sv_status::RegisterName;
 
-/// What a header names. A header with the query sign and the same one without it name different
-/// commands.
+/// The command that a header names. A query is another command than the same header without the
+/// question mark.
 #[derive(Clone, Copy, Debug, PartialEq, Eq)]
 pub enum CommandId {
     /// A command without a parameter, or a query that isn't answered at once.
@@ -12,21 +12,20 @@ pub enum CommandId {
     Ask(Question),
     /// A setting, whose value is the parameter.
     Set(SettingName),
-    /// `CONFigure:VOLTage[:DC]`: a measurement is configured, with the channels that are given, if
-    /// any.
+    /// `CONFigure:VOLTage[:DC]`: configure a measurement, with the given channels, if any.
     Configure,
-    /// `MEASure:VOLTage[:DC]?`: as [`CommandId::Configure`], and then it is made and answered.
+    /// `MEASure:VOLTage[:DC]?`: the same, and then measure and answer the readings.
     Measure,
 }
 
-/// What is done without a parameter.
+/// A command, or a query that waits, without a parameter.
 #[derive(Clone, Copy, Debug, PartialEq, Eq)]
 pub enum Action {
     /// `*CLS`: clear events and the error queue (IEEE 488.2, 10.3).
     ClearStatus,
     /// `*RST`: abort, and every setting takes its default (IEEE 488.2, 10.32).
     Reset,
-    /// `*OPC`: tell the end of the measurement in the standard events (IEEE 488.2, 10.18).
+    /// `*OPC`: set operation complete at the end of the measurement (IEEE 488.2, 10.18).
     TellComplete,
     /// `*WAI`: wait for the end of the measurement (IEEE 488.2, 10.39).
     Wait,
@@ -47,46 +46,46 @@ pub enum Action {
 /// What a query asks for that is answered at once.
 #[derive(Clone, Copy, Debug, PartialEq, Eq)]
 pub enum Question {
-    /// `*IDN?`: who the instrument is.
+    /// `*IDN?`: the identification of the instrument.
     Identification,
-    /// `*TST?`: how the self-test ended.
+    /// `*TST?`: the result of the self-test.
     SelfTest,
     /// `SYSTem:VERSion?`: the version of SCPI.
     Version,
-    /// `*ESR?`: the standard events, which are cleared thereby.
+    /// `*ESR?`: the standard events, which this clears.
     StandardEvents,
     /// `*STB?`: the status byte, with the master summary in bit 6.
     StatusByte,
-    /// `SYSTem:ERRor[:NEXT]?`: the oldest entry of the error queue, which is taken thereby.
+    /// `SYSTem:ERRor[:NEXT]?`: the oldest entry of the error queue, which this takes.
     Error,
     /// `SYSTem:ERRor:COUNt?`: how many entries the error queue has.
     ErrorCount,
-    /// `STATus:..[:EVENt]?`: the events of a register, which are cleared thereby.
+    /// `STATus:..[:EVENt]?`: the event bits of a register, which this clears.
     Events(RegisterName),
     /// `STATus:..:CONDition?`: the condition of a register.
     Condition(RegisterName),
     /// `FETCh?`: the readings of the last measurement.
     Readings,
-    /// The header of a setting with the query sign: its value.
+    /// The query of a setting: its value.
     Value(SettingName),
 }
 
-/// What has a value that a command sets and its query tells.
+/// A value that a command sets and a query returns.
 #[derive(Clone, Copy, Debug, PartialEq, Eq)]
 pub enum SettingName {
-    /// `*ESE`: which standard events are enabled.
+    /// `*ESE`: the enable of the standard events.
     StandardEnable,
-    /// `*SRE`: which bits of the status byte ask for service.
+    /// `*SRE`: the service request enable.
     ServiceEnable,
-    /// `STATus:..:ENABle`: which events of a register are enabled.
+    /// `STATus:..:ENABle`: the enable of a register.
     Enable(RegisterName),
-    /// `STATus:..:PTRansition`: which bits of a register count where they rise.
+    /// `STATus:..:PTRansition`: the positive transition filter of a register.
     Rise(RegisterName),
-    /// `STATus:..:NTRansition`: which bits of a register count where they fall.
+    /// `STATus:..:NTRansition`: the negative transition filter of a register.
     Fall(RegisterName),
-    /// `ROUTe:SCAN`: the channels that a scan reads.
+    /// `ROUTe:SCAN`: the channels of a scan.
     ScanList,
-    /// `ROUTe:MONitor`: the channel whose live input is compared with the limits.
+    /// `ROUTe:MONitor`: the monitored channel.
     Monitor,
     /// `[SENSe:]VOLTage[:DC]:RANGe[:UPPer]`: the range.
     Range,
@@ -94,9 +93,9 @@ pub enum SettingName {
     UpperLimit,
     /// `CALCulate:LIMit:LOWer`: the lower limit.
     LowerLimit,
-    /// `CALCulate:LIMit:STATe`: whether the limits count.
+    /// `CALCulate:LIMit:STATe`: whether the limits are on.
     Limits,
-    /// `TRIGger:SOURce`: where triggers come from.
+    /// `TRIGger:SOURce`: the source of triggers.
     Source,
     /// `TRIGger:COUNt`: how many scans a measurement has.
     Count,

@@ -1,9 +1,9 @@
-//! What is so of the table.
+//! A law of the table of commands.
 
 ghost use Rattle.sv_header.specs.Laws.{OneCommand, OnePattern};
 
-/// A header behind a path names at most one command, and fits at most one pattern (SCPI-1999,
-/// volume 1, chapter 6).
+/// A header, with the path before it, names at most one command, and fits at most one pattern
+/// (SCPI-1999, volume 1, chapter 6).
 pub fn one_pattern()
     ensures command { OneCommand }
     ensures pattern { OnePattern }

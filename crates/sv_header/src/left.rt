@@ -1,4 +1,4 @@
-//! The mnemonics of a header behind a path.
+//! The mnemonics of a header that are still to be looked up.
 
 ghost use Rattle.std.specs.Prelude.{◌≡◌, ◌++◌};
 ghost use Rattle.sv_header.specs.Plain.{left_of, sent_of};

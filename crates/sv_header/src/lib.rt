@@ -1,7 +1,7 @@
-//! Headers of commands: which command one names, how many parameters it takes, and what the header
-//! leaves for the next (SCPI-1999, volume 1, chapter 6).
+//! Headers of commands: which command a header names, how many parameters it takes, and which path
+//! it leaves for the next header (SCPI-1999, volume 1, chapter 6).
 //!
-//! [`Table::new`] takes the memory of the table; no other call takes any.
+//! Only [`Table::new`] allocates.
 #![tactic(auto)]
 
 mod arity;

@@ -56,8 +56,8 @@ impl Mnemonic {
     }
 }
 
-/// The mnemonics, as they were sent, that stand in front of a header which neither starts at the
-/// root nor is a common command. At most four, since no pattern has more than five.
+/// The path: the mnemonics, as they were sent, that come before those of the next header, unless it
+/// starts at the root or is a common command. At most four, since no pattern has more than five.
 #[derive(Debug, Drop)]
 pub struct Path {
     mnemonics: ArrayVec<Mnemonic, 4>,
@@ -72,7 +72,7 @@ impl Model for Path {
 }
 
 impl Path {
-    /// The path at the beginning of a message: nothing.
+    /// The empty path, at the beginning of a message.
     pub fn root() -> Path
         ensures { result ≡ [] }
     {
@@ -81,9 +81,9 @@ impl Path {
         }
     }
 
-    /// Follows a header that names a command: its mnemonics but the last are the path from now on,
-    /// with the path in front of them where it didn't start at the root. A common command leaves
-    /// the path.
+    /// Follows a header that names a command: all its mnemonics but the last, with the path before
+    /// them unless it started at the root, become the path. A common command leaves the path as it
+    /// was.
     pub fn follow(&mut self, header: &[u8])
         requires { (command : Command) × Resolves self.old header.now command }
         ensures { self.new ≡ kept self.old header.now }

@@ -19,7 +19,7 @@ use sv_errors::Code;
 /// How many of them are of common commands; these stand in front.
 const COMMON_NODES: usize = 11;
 
-/// The table of commands, in memory: a tree of nodes, one for each mnemonic at its place.
+/// The table of commands in memory: a tree of nodes, one for each mnemonic at its place.
 #[derive(Drop)]
 pub struct Table<A: Allocator = Global> {
     branches: Vec<Branch, A>,
@@ -36,7 +36,10 @@ impl<A: Allocator> Model for Table<A> {
 }
 
 impl<A: Allocator> Table<A> {
-    /// Takes the memory of the table.
+    /// The table of all commands. It allocates all the memory that it ever uses.
+    ///
+    /// # Errors
+    /// If memory is refused.
     pub fn new(alloc: A) -> Result<Table<A>, AllocError> {
         let mut branches = Vec::with_capacity(alloc, NODES)?;
         branches.extend_from_slice(&COMMON_COMMANDS)?;
@@ -47,8 +50,10 @@ impl<A: Allocator> Table<A> {
         Ok(Table { branches })
     }
 
-    /// The command that a header behind a path names (SCPI-1999, volume 1, chapter 6), or
-    /// [`Code::UndefinedHeader`] where it names none.
+    /// The command that a header names, with the path before it (SCPI-1999, volume 1, chapter 6).
+    ///
+    /// # Errors
+    /// [`Code::UndefinedHeader`] if it names none.
     pub fn resolve(&self, path: &Path, header: &[u8]) -> Result<CommandId, Code>
         ensures { MatchResult result (λ command. Resolves path.now header.now command)
             (λ code. (code ≡ UndefinedHeader)

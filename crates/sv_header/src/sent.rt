@@ -1,4 +1,4 @@
-//! A header behind a path, as the tree is asked about it.
+//! A header with the path before it, as it is looked up in the tree.
 
 ghost use Rattle.std.specs.Prelude.{◌≡◌};
 ghost use Rattle.sv_text.specs.Header.{is_query, lead as lead_of};
@@ -14,7 +14,7 @@ use sv_text::{Lead, header_parts};
 pub(crate) struct Sent<'a> {
     /// Whether it is a common command.
     pub(crate) common: bool,
-    /// Whether a query sign ends it.
+    /// Whether a question mark ends it.
     pub(crate) query: bool,
     /// Its mnemonics: those of the path, unless it starts at the root or is a common command, and
     /// its own behind them.

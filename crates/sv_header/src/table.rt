@@ -21,7 +21,7 @@ macro_rules! group {
     };
 }
 
-/// A node with how many stand below it, and its commands without the query sign and with it.
+/// A node with how many stand below it, and its commands without the question mark and with it.
 macro_rules! ending {
     ($node:ident, $below:literal, $plain:expr, $query:expr) => {
         Branch {

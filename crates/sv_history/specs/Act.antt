@@ -1,6 +1,5 @@
--- What is recorded of each event, act by act. A log is a list of acts, the newest first. Each act is one of a connection's, or one of what
--- all connections share: links, calls that wait,
--- interrupt channels, the instrument and the clock.
+-- The acts that are recorded of events. A log is a list of acts, the newest first. Each act is of one connection, or of the device: what
+-- all connections share, which is links, suspended calls, interrupt channels, the instrument and the clock.
 use Rattle.std.specs.Prelude.{ℕ, ◌+◌, ◌==◌, List, [], ◌∷◌, if◌then◌else◌}
 use Rattle.sv_links.specs.Links.{LinkAct}
 use Rattle.sv_links.specs.Waiting.{WaitAct}
@@ -9,7 +8,8 @@ use Rattle.sv_exchange.specs.Exchange.{ExchangeAct}
 use Rattle.sv_layers.specs.Act.{Act as InstrumentAct, exchange_acts as exchanged}
 use Rattle.sv_history.specs.declared.event.Role.{Role}
 
--- of a connection
+-- an act of one connection: it opened, a piece of bytes came, a call was taken, the record that was taken is no call, a reply was sent, the
+-- peer took bytes, it closed
 pub data ConnAct : Type 0 where
   Opened : (role : Role) → ConnAct
   Piece : (bytes : List ℕ) → ConnAct
@@ -19,7 +19,7 @@ pub data ConnAct : Type 0 where
   BytesTaken : (count : ℕ) → ConnAct
   PortClosed : ConnAct
 
--- of what all connections share
+-- an act of the device: of a link, of a suspended call, of an interrupt channel, of the instrument; or a millisecond passed
 pub data DeviceAct : Type 0 where
   Linked : (act : LinkAct) → DeviceAct
   Waited : (act : WaitAct) → DeviceAct
@@ -27,47 +27,52 @@ pub data DeviceAct : Type 0 where
   Applied : (act : InstrumentAct) → DeviceAct
   Ticked : DeviceAct
 
+-- an act of a log
 pub data Act : Type 0 where
   On : (conn : ℕ) (act : ConnAct) → Act
   OnDevice : (act : DeviceAct) → Act
 
--- the acts of one connection, and those of what all share
+-- the acts of one connection
 abbrev pub of : ℕ → List Act → List ConnAct
 of c [] = []
 of c (On d act ∷ log) = if d == c then act ∷ of c log else of c log
 of c (OnDevice act ∷ log) = of c log
 
+-- the acts of the device
 abbrev pub device_acts : List Act → List DeviceAct
 device_acts [] = []
 device_acts (On c act ∷ log) = device_acts log
 device_acts (OnDevice act ∷ log) = act ∷ device_acts log
 
--- of these the acts of links, those of calls that wait, those of interrupt channels, those of the instrument, and the milliseconds that
--- passed
+-- of the device's acts those of links
 abbrev pub link_acts : List DeviceAct → List LinkAct
 link_acts [] = []
 link_acts (Linked act ∷ acts) = act ∷ link_acts acts
 link_acts (_ ∷ acts) = link_acts acts
 
+-- of the device's acts those of suspended calls
 abbrev pub wait_acts : List DeviceAct → List WaitAct
 wait_acts [] = []
 wait_acts (Waited act ∷ acts) = act ∷ wait_acts acts
 wait_acts (_ ∷ acts) = wait_acts acts
 
+-- of the device's acts those of interrupt channels
 abbrev pub channel_acts : List DeviceAct → List ChannelAct
 channel_acts [] = []
 channel_acts (Channel act ∷ acts) = act ∷ channel_acts acts
 channel_acts (_ ∷ acts) = channel_acts acts
 
+-- of the device's acts those of the instrument
 abbrev pub instrument_acts : List DeviceAct → List InstrumentAct
 instrument_acts [] = []
 instrument_acts (Applied act ∷ acts) = act ∷ instrument_acts acts
 instrument_acts (_ ∷ acts) = instrument_acts acts
 
--- what of it happens to messages
+-- of the instrument's acts those of message exchange
 abbrev pub exchange_acts : List DeviceAct → List ExchangeAct
 exchange_acts acts = exchanged (instrument_acts acts)
 
+-- how many milliseconds passed
 abbrev pub ticks : List DeviceAct → ℕ
 ticks [] = 0
 ticks (Ticked ∷ acts) = ticks acts + 1

@@ -1,5 +1,5 @@
--- What stands in front of a call of the core channel (VXI-11 revision 1.0, sections B.4.4 and B.6): its link, the lock, and what it waits
--- for.
+-- What stops a call of the core channel (VXI-11 revision 1.0, sections B.4.4 and B.6), in the order of the checks: its link, its size, the
+-- lock, what it waits for.
 use Rattle.std.specs.Prelude.{ℕ, ◌+◌, ◌==◌, not, Bool, List, length, Option, Some, None, option_map, is_some, codes, nat_lt, ◌&&◌, if◌then◌else◌}
 use Rattle.std.specs.Str.{bytes_eq}
 use Rattle.sv_vxi.specs.declared.error_code.ErrorCode.{ErrorCode}
@@ -21,24 +21,25 @@ use Rattle.sv_history.specs.CoreCall.{lid_of, is_too_long, failure}
 use Rattle.sv_history.specs.Interrupts.{has_channel, is_peer}
 use Rattle.sv_history.specs.CoreChannel.{owns, own_call}
 
--- what stops a call: it fails, or it waits, at most so many milliseconds
+-- what stops a call: it fails with an error, or it is suspended, at most for so many milliseconds if there is a timeout
 pub data Stop : Type 0 where
   Fails : (error : ErrorCode) → Stop
   Awaits : (wait : Wait) (timeout : Option ℕ) → Stop
 
--- where another link holds the lock, a call that minds it waits for it or fails
+-- what stops a call while another link holds the lock: it waits for the lock if its flag says so, else it fails with error 11
 abbrev pub lock_stop : LockWait → Stop
 lock_stop wait = if wait.waits then Awaits Lock (Some wait.timeout) else Fails DeviceLocked
 
--- what a call waits for that isn't kept out, and how long, in milliseconds: a write until no ended message waits to be finished, a read
--- until there is something to answer
+-- What a call waits for besides the lock, and its timeout in milliseconds. A write waits while an ended message is unfinished, a read until
+-- it can be answered.
 abbrev pub device_wait : LinkCall → List DeviceAct → Option (Wait × ℕ)
 device_wait (DeviceWrite timeout lock_timeout flags bytes) acts = if has_ended (exchange_acts acts) then Some (Input, timeout) else None
 device_wait (DeviceRead request_size timeout lock_timeout flags term_char) acts =
     if is_answerable (instrument_acts acts) then None else Some (Response, timeout)
 device_wait _ acts = None
 
--- What stops a call on a link: the link is looked at first, then how much a write brings, then the lock, and then what it waits for.
+-- What stops a call on a link, the first of these: the connection doesn't own the link, a write is too long, another link holds the lock,
+-- it has to wait.
 abbrev pub call_stop : ℕ → Option ℕ → LinkCall → List DeviceAct → Option Stop
 call_stop c lid call acts =
     if not (owns c lid acts) then Some (Fails InvalidLink)
@@ -46,26 +47,28 @@ call_stop c lid call acts =
     else (if is_some (lock_wait call) && is_locked_out (holder (link_acts acts)) lid then option_map lock_stop (lock_wait call)
     else option_map (λ wait. Awaits wait.0 (Some wait.1)) (device_wait call acts)))
 
--- whether a link more may be made, with those for which create_links wait, and while there are numbers
+-- whether one more link may be made: the live links, and those for which create_links are suspended, are fewer than 32, and a number is
+-- left
 abbrev pub may_make_more : List DeviceAct → Bool
 may_make_more acts = nat_lt (length (live (link_acts acts)) + creating (wait_acts acts)) max_links && lids_left (link_acts acts)
 
--- a link has the name inst0, is made while one more may be, and, where it asks for the lock, once no link has it
+-- What stops create_link, the first of these: the device's name isn't inst0; no link more may be made; it asks for the lock, which a link
+-- holds.
 abbrev pub link_stop : Bool → ℕ → List ℕ → List DeviceAct → Option Stop
 link_stop lock_device timeout device acts =
     if not (bytes_eq device (codes "inst0")) then Some (Fails NotAccessible)
     else (if not (may_make_more acts) then Some (Fails OutOfResources)
     else (if lock_device && is_locked_out (holder (link_acts acts)) None then Some (Awaits Lock (Some timeout)) else None))
 
--- an interrupt channel can't be opened where one is, over anything but TCP (0), or to anyone but a peer; else it is opened once its peer
--- was called, for which the call waits without a deadline
+-- What stops create_intr_chan, the first of these: a channel is open, the protocol isn't TCP (0), the address is no peer. Else it waits
+-- without a deadline until its peer is connected.
 abbrev pub channel_stop : Bool → ℕ → ℕ → ℕ → Stop
 channel_stop there host_addr host_port prog_family =
     if there then Fails AlreadyEstablished
     else (if not (prog_family == 0) then Fails NotSupported
     else (if not (is_peer host_addr host_port) then Fails InvalidAddress else Awaits Dial None))
 
--- What stops a call.
+-- what stops a call; `None` if nothing does
 abbrev pub stop_of : ℕ → Arguments → List DeviceAct → Option Stop
 stop_of c (CreateLink client_id lock_device lock_timeout device) acts = link_stop lock_device lock_timeout device acts
 stop_of c (OnLink lid call) acts = call_stop c (lid_of (Some lid)) call acts
@@ -73,11 +76,11 @@ stop_of c (CreateIntrChan host_addr host_port prog_num prog_vers prog_family) ac
     Some (channel_stop (has_channel c acts) host_addr host_port prog_family)
 stop_of c DestroyIntrChan acts = None
 
--- so many milliseconds from now
+-- the clock's time at which a wait that begins now times out; `None` without a timeout
 abbrev pub deadline : Config → Option ℕ → List DeviceAct → Option ℕ
 deadline config timeout acts = option_map (λ milliseconds. config.clock + ticks acts + milliseconds) timeout
 
--- A call is done, unless something stops it.
+-- The outcome of a call: it is executed, unless something stops it.
 abbrev pub admitted : Config → ℕ → ℕ → Arguments → Option Stop → List DeviceAct → CallOutcome
 admitted config polled c arguments None acts = own_call config polled c arguments acts
 admitted config polled c arguments (Some (Fails error)) acts = only (failure arguments error)

@@ -1,5 +1,4 @@
--- What each call of the core channel does, once it needn't wait (VXI-11 revision 1.0, section B.6). What it waits for stands in front
--- (Admission); a write or a read for which that isn't there finds nothing in time.
+-- What each call of the core channel does once nothing stops it (VXI-11 revision 1.0, section B.6). `Admission` says what stops it.
 use Rattle.std.specs.Prelude.{ℕ, ◌+◌, ◌%◌, ◌==◌, not, pos, negsuc, Bool, false, List, [], ◌∷◌, ◌++◌, length, map, take, Option, Some, None, nat_lt, if◌then◌else◌}
 use Rattle.std.specs.Int.{bit_at}
 use Rattle.sv_errors.specs.declared.code.Code.TheVariants.{QueryUnterminated}
@@ -22,12 +21,12 @@ use Rattle.sv_history.specs.CallOutcome.{CallOutcome, answered, only}
 use Rattle.sv_history.specs.CoreCall.{no_bytes, failure}
 use Rattle.sv_history.specs.Interrupts.{has_channel, enable_srq}
 
--- whether a link is one of this connection: it lives, and this one made it
+-- whether a connection owns a link: the link lives, and this connection made it
 abbrev pub owns : ℕ → Option ℕ → List DeviceAct → Bool
 owns c (Some lid) acts = is_of c (owner lid (link_acts acts))
 owns c None acts = false
 
--- a link is made, with the lock where it asks for it, while there are numbers
+-- create_link: a link is made, and gets the lock if it asks for it; error 9 if no number is left
 abbrev pub make_link : Config → ℕ → Bool → List DeviceAct → CallOutcome
 make_link config c lock_device acts =
     if not (lids_left (link_acts acts)) then only (Link OutOfResources (pos 0) 0 0)
@@ -35,46 +34,48 @@ make_link config c lock_device acts =
     answered ((if lock_device then Linked (Locked lid) ∷ [] else []) ++ Linked (Made lid c) ∷ [])
     (Link NoError (pos lid) config.abort max_message))
 
--- a link gets the lock, also where it has it, unless another has it
+-- device_lock: the link gets the lock, also if it holds it already; error 11 if another link holds it
 abbrev pub device_lock : ℕ → List DeviceAct → CallOutcome
 device_lock lid acts = if is_locked_out (holder (link_acts acts)) (Some lid) then only (Plain DeviceLocked)
     else answered (Linked (Locked lid) ∷ []) (Plain NoError)
 
--- the lock is free, where this link had it
+-- device_unlock: the lock is freed; error 12 if this link doesn't hold it
 abbrev pub device_unlock : ℕ → List DeviceAct → CallOutcome
 device_unlock lid acts =
     if is_this lid (holder (link_acts acts)) then answered (Linked (Unlocked lid) ∷ []) (Plain NoError) else only (Plain NoLock)
 
--- the bytes of a write are accepted where no message waits to be executed
+-- device_write: the bytes are accepted; error 5 above 4,096 bytes, error 15 if an ended message waits to be finished
 abbrev pub device_write : ℕ → List ℕ → List DeviceAct → CallOutcome
 device_write flags bytes acts =
     if nat_lt max_message (length bytes) then only (Size ParameterError 0)
     else (if has_ended (exchange_acts acts) then only (Size IoTimeout 0)
     else answered (Applied (Exchanged (Accepted bytes (bit_at flags 3 == 1))) ∷ []) (Size NoError (length bytes)))
 
--- the termination character, where the flag for it is set: the low eight bits
+-- the termination character: the low eight bits of the argument if its flag (bit 7) is set, else none
 abbrev pub term_of : ℕ → ℕ → Option ℕ
 term_of flags term_char = if bit_at flags 7 == 1 then Some (term_char % 256) else None
 
--- what a read gives of a response, and why it ends there
+-- the result of a read of these bytes: as many as the request, or up to the termination character; and each reason for which it ends there
 abbrev pub read_of : List ℕ → ℕ → Option ℕ → Outcome
 read_of bytes most term =
     let count = read_count bytes most term in
     Read NoError (record { request_count = count == most; character = ends_at_term bytes count term; end = count == length bytes })
     (take count bytes)
 
+-- a read of a response that is there
 abbrev pub reads : List ℕ → ℕ → Option ℕ → CallOutcome
 reads bytes most term = answered (Applied (Exchanged (ResponseRead (read_count bytes most term))) ∷ []) (read_of bytes most term)
 
--- a read gives what stands of the response; without one, where none can come, the unfinished text is dropped, and that is reported
+-- device_read: bytes of the response, if there is one. Else error 15; if no response can come any more, the unfinished text is also
+-- dropped, and -420 is reported.
 abbrev pub device_read : ℕ → Option ℕ → List DeviceAct → CallOutcome
 device_read most term acts =
     if is_something (response (exchange_acts acts)) then reads (response (exchange_acts acts)) most term
     else (if not (is_answerable (instrument_acts acts)) then only (no_bytes IoTimeout)
     else answered (Applied (Reported QueryUnterminated) ∷ Applied (Exchanged TextDropped) ∷ []) (no_bytes IoTimeout))
 
--- A call on a link of this number by what it is, once it needn't wait, where a poll of the status byte would give this. device_remote and
--- device_local do nothing. device_docmd isn't supported; nor, here, is device_abort, which is none of this channel.
+-- What a call on this link does, if a poll of the status byte would give `polled`. device_remote and device_local do nothing. device_docmd
+-- isn't supported (error 8). device_abort, which isn't a call of this channel, gets error 8 too.
 abbrev pub link_call : ℕ → ℕ → ℕ → LinkCall → List DeviceAct → CallOutcome
 link_call polled c lid (DeviceWrite io_timeout lock_timeout flags bytes) acts = device_write flags bytes acts
 link_call polled c lid (DeviceRead request_size io_timeout lock_timeout flags term_char) acts =
@@ -91,7 +92,8 @@ link_call polled c lid (DeviceEnableSrq enable handle) acts =
 link_call polled c lid DestroyLink acts = answered (Linked (Destroyed lid) ∷ []) (Plain NoError)
 link_call polled c lid call acts = only (failure (OnLink (pos lid) call) NotSupported)
 
--- And any call. A negative number is no link's. create_intr_chan, which waits until its peer was called (Interrupts), isn't supported here.
+-- What any call of the core channel does. No link has a negative number. create_intr_chan gets error 8 here: it is always stopped before
+-- (`Admission`), and its outcome is that of `dialed` (`Interrupts`).
 abbrev pub own_call : Config → ℕ → ℕ → Arguments → List DeviceAct → CallOutcome
 own_call config polled c (CreateLink client_id lock_device lock_timeout device) acts = make_link config c lock_device acts
 own_call config polled c (OnLink (pos lid) call) acts = link_call polled c lid call acts

@@ -1,4 +1,4 @@
--- Events as plain data, and the ranges of their numbers and of the configuration's.
+-- Events as plain data, and the ranges of their numbers and of those of the configuration.
 use Rattle.std.specs.Prelude.{ℕ, ◌<◌, ◌^◌, ℤ, pos, neg_ℤ, ◌≤ℤ◌, ◌<ℤ◌, Bool, List, All, ⊤}
 use Rattle.sv_history.specs.declared.event.Role.{Role}
 use Rattle.sv_history.specs.declared.event.Port.{Port}
@@ -7,7 +7,7 @@ use Rattle.sv_history.specs.declared.event.Config.{Config}
 use Rattle.sv_history.specs.declared.event.Event.{Event}
 use Rattle.sv_history.specs.declared.event.Event.TheVariants as events
 
--- an event without where its bytes lie in memory
+-- an event as plain data: its bytes are a list, whatever memory they lie in
 pub data PlainEvent : Type 0 where
   Open : (conn : ℕ) (role : Role) → PlainEvent
   Bytes : (conn : ℕ) (piece : List ℕ) → PlainEvent
@@ -20,6 +20,7 @@ pub data PlainEvent : Type 0 where
   External : PlainEvent
   Tick : PlainEvent
 
+-- an event of the code, as plain data
 abbrev pub plain : Event → PlainEvent
 plain (events.Open conn role) = Open conn role
 plain (events.Bytes conn piece) = Bytes conn piece.now
@@ -37,7 +38,7 @@ abbrev pub port_number : Port → ℕ
 port_number (Conn c) = c
 port_number (Intr c) = c
 
--- An event that can come: each number lies in the range of its field's type, and each byte is below 256.
+-- An event that can happen: each number lies in the range of its type, and each byte is below 256.
 abbrev pub IsEvent : PlainEvent → Type 0
 IsEvent (Open conn role) = conn < 256
 IsEvent (Bytes conn piece) = (conn < 256) × All (λ b. b < 256) piece
@@ -49,6 +50,6 @@ IsEvent (Dialed conn ok) = conn < 256
 IsEvent (Input channel microvolts) = (channel < 256) × (neg_ℤ (pos (2 ^ 63)) ≤ℤ microvolts) × (microvolts <ℤ pos (2 ^ 63))
 IsEvent _ = ⊤
 
--- A configuration that can be given: its numbers lie in theirs.
+-- A configuration that can be given: each number lies in the range of its type.
 abbrev pub IsConfig : Config → Type 0
 IsConfig config = (config.core < 2 ^ 16) × (config.abort < 2 ^ 16) × (config.clock < 2 ^ 64)

@@ -13,12 +13,12 @@ use Rattle.sv_history.specs.CoreCall.{lid_of}
 use Rattle.sv_history.specs.Admission.{stop_of, admitted}
 use Rattle.sv_history.specs.AbortChannel.{owner_of, if_waiting, abort_result}
 
--- what the port mapper tells (RFC 1833, section 3)
+-- the reply of the port mapper (RFC 1833, section 3)
 abbrev pub port_reply : ℕ → Result ℕ Garbage → List ℕ
 port_reply xid (Ok port) = reply_record xid Success (Unsigned port ∷ [])
 port_reply xid (Err garbage) = reply_record xid GarbageArgs []
 
--- What a request does, where a poll of the status byte would give this. A record that is no call faults its connection.
+-- The effect of a request, if a poll of the status byte would give `polled`. A record that is no call faults its connection.
 abbrev pub request_effect : Config → ℕ → ℕ → Request → List DeviceAct → Effect
 request_effect config polled c NoCall acts = record { own = Faulted ∷ []; adds = [] }
 request_effect config polled c (Decided xid reply) acts = replied (reply_record xid reply [])
@@ -28,7 +28,7 @@ request_effect config polled c (AbortRequest xid lid) acts = replied (result_rep
 request_effect config polled c (PortRequest xid args) acts =
     replied (port_reply xid (port_at (record { core = config.core; abort = config.abort }) args))
 
--- the connection whose suspended call it ends beside
+-- the connection whose suspended call a device_abort ends; `None` if it ends none
 abbrev pub aborts : Request → List DeviceAct → Option ℕ
 aborts (AbortRequest xid lid) acts = if_waiting (owner_of (lid_of (Some lid)) acts) (lid_of (Some lid)) acts
 aborts _ acts = None

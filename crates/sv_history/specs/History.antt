@@ -1,4 +1,4 @@
--- The log of a history, and what the history refuses. Histories are lists of events that weren't refused, the newest first.
+-- The log of a history, and which events are refused. A history is a list of events that weren't refused, the newest first.
 use Rattle.std.specs.Prelude.{◌≡◌, ℕ, ◌+◌, ◌||◌, ◌==◌, not, ℤ, pos, negsuc, Bool, true, List, [], ◌∷◌, ◌++◌, length, map, Option, Some, None, is_none, Result, Ok, Err, nat_lt, if◌then◌else◌}
 use Rattle.sv_errors.specs.Limits.{is_channel, most_microvolts}
 use Rattle.sv_vxi.specs.declared.error_code.ErrorCode.TheVariants.{Abort}
@@ -30,29 +30,29 @@ use Rattle.sv_history.specs.PolledStatus.{IsPolled}
 use Rattle.sv_history.specs.Settling.{Settles}
 use Rattle.sv_history.specs.Limits.{longest_reply}
 
--- the acts of a suspended call of this connection that another one's call ends
+-- the acts of the suspended call that a device_abort ends, if it ends one: error 23
 abbrev pub abort_acts : Option ℕ → List Act → List Act
 abort_acts (Some c) log = acts_of c (failed Abort c (core_call_in (unanswered (of c log))))
 abort_acts None log = []
 
--- the acts of a record that was taken
+-- the acts of a record that was taken: those of the call that it aborts, its own effect, and that it was taken
 abbrev pub taken_acts : ℕ → List ℕ → Effect → Option ℕ → List Act → List Act
 taken_acts c bytes effect aborts log =
     let acts = acts_of c effect ++ On c (CallTaken bytes) ∷ [] in abort_acts aborts (acts ++ log) ++ acts
 
--- the acts of a Turn: those of what the connection's next call asks for, where there is one to take
+-- the acts of a Turn: those of the connection's next call; none if there is no call to take
 abbrev pub turn_acts : Config → ℕ → ℕ → Option (List ℕ) → Option Request → List Act → List Act
 turn_acts config polled c (Some bytes) (Some request) log =
     taken_acts c bytes (request_effect config polled c request (device_acts log)) (aborts request (device_acts log)) log
 turn_acts config polled c _ _ log = []
 
--- the acts of a Refuse: the call is taken, and answered at once
+-- the acts of a Refuse: the call is taken and answered at once
 abbrev pub refuse_acts : ℕ → Option (List ℕ) → Option CoreCall → List Act
 refuse_acts c (Some bytes) (Some call) = On c (Replied (refused_reply call)) ∷ On c (CallTaken bytes) ∷ []
 refuse_acts c _ _ = []
 
--- The acts that an event adds to the log by itself, where a poll of the status byte would give this. Closing a connection
--- ends the wait of its call, destroys its links, by rising number, and closes its interrupt channel.
+-- The acts that an event itself adds to the log, if a poll of the status byte would give `polled`. Closing a connection ends its suspended
+-- call, destroys its links by rising number, and closes its interrupt channel.
 abbrev pub own_acts : Config → ℕ → PlainEvent → List Act → List Act
 own_acts config polled (Open c role) log = On c (Opened role) ∷ []
 own_acts config polled (Bytes c piece) log = On c (Piece piece) ∷ []
@@ -69,49 +69,51 @@ own_acts config polled (Input channel microvolts) log = OnDevice (Applied (Scann
 own_acts config polled External log = map OnDevice (map Applied (external_acts (instrument_acts (device_acts log))))
 own_acts config polled Tick log = map OnDevice (map Applied (tick_acts (instrument_acts (device_acts log)))) ++ OnDevice Ticked ∷ []
 
--- whether a number isn't that of an open connection
+-- whether no connection of this number is open
 abbrev pub is_shut : ℕ → List Act → Bool
 is_shut c log = nat_lt 15 c || not (is_open (of c log))
 
--- whether the interrupt channel of this number isn't open
+-- whether no interrupt channel of this number is open
 abbrev pub is_channel_shut : ℕ → List Act → Bool
 is_channel_shut c log = nat_lt 15 c || not (has_channel c (device_acts log))
 
--- and of either
+-- whether a port isn't open
 abbrev pub is_port_shut : Port → List Act → Bool
 is_port_shut (Conn c) log = is_shut c log
 is_port_shut (Intr c) log = is_channel_shut c log
 
--- whether a voltage is beyond 1,000 V in either direction
+-- whether a voltage, in microvolts, is beyond plus or minus 1,000 V
 abbrev pub is_beyond : ℤ → Bool
 is_beyond (pos n) = nat_lt most_microvolts n
 is_beyond (negsuc n) = nat_lt most_microvolts (n + 1)
 
--- why a voltage can't be at an input
+-- why an Input is refused: there is no such channel, or the voltage is beyond plus or minus 1,000 V
 abbrev pub input_refusal : ℕ → ℤ → Option Refused
 input_refusal channel microvolts =
     if not (is_channel channel) then Some BadChannel else (if is_beyond microvolts then Some BadInput else None)
 
+-- the last value of the clock, in milliseconds
 abbrev pub last_clock : ℕ
 last_clock = 9223372036854775807
 
--- why a Turn of an open connection is refused: only one that isn't idle wants room for the longest reply
+-- why a Turn of an open connection is refused: there is a call to take, and no room for the longest reply
 abbrev pub turn_refusal : List ConnAct → Option Refused
 turn_refusal acts = if is_idle acts then None else (if nat_lt (free acts) longest_reply then Some NoRoom else None)
 
--- why a Refuse of an open connection is
+-- why a Refuse of an open connection is refused: the next call can't be, or there is no room for the longest reply
 abbrev pub refuse_refusal : List ConnAct → Option Refused
 refuse_refusal acts =
     if is_none (refusable acts) then Some NotRefusable else (if nat_lt (free acts) longest_reply then Some NoRoom else None)
 
--- why so many bytes can't have been taken, of those that wait
+-- why a Took is refused: it takes more bytes than wait
 abbrev pub took_refusal : ℕ → List ℕ → Option Refused
 took_refusal count bytes = if nat_lt (length bytes) count then Some NotSent else None
 
+-- `NoConn` if the connection isn't open, else the other refusal
 abbrev pub unless_shut : ℕ → List Act → Option Refused → Option Refused
 unless_shut c log other = if is_shut c log then Some NoConn else other
 
--- What refuses an event, where this was told to interrupt channels: the first, in the order of checks, that holds. Want of memory isn't
+-- Which check an event fails, the first in their order; `None` if none. `told` is what interrupt channels were told. Out of memory isn't
 -- among them.
 abbrev pub refusal : Config → List ChannelAct → PlainEvent → List Act → Option Refused
 refusal config channel_log (Open c role) log = if nat_lt 15 c then Some NoConn else (if is_open (of c log) then Some ConnInUse else None)
@@ -128,7 +130,7 @@ refusal config channel_log (Input channel microvolts) log = input_refusal channe
 refusal config channel_log External log = None
 refusal config channel_log Tick log = if config.clock + ticks (device_acts log) == last_clock then Some TimeOver else None
 
--- The log of a history: each event's own acts, and then the steps that are due. Each number of a history lies in its range.
+-- The log of a history: for each event its own acts, and then the steps that are due. No event is refused, and each number is in range.
 abbrev pub IsLogOf : Config → List PlainEvent → List Act → Type 0
 IsLogOf config [] log = IsConfig config × (log ≡ [])
 IsLogOf config (event ∷ history) log = (before : List Act) × (polled : ℕ) × (channel_log : List ChannelAct) × IsEvent event
@@ -136,17 +138,17 @@ IsLogOf config (event ∷ history) log = (before : List Act) × (polled : ℕ) �
     × IsPolled polled (device_acts before)
     × Settles config (own_acts config polled event before ++ before) log
 
--- what an event that wasn't refused does: a Turn that finds no call to take is idle
+-- what an event that wasn't refused did: a Turn that finds no call is idle
 abbrev pub did : PlainEvent → List Act → Did
 did (Turn c) log = if is_idle (of c log) then Idle else Done
 did _ log = Done
 
--- whether acts make a link, or let a create_link or a create_intr_chan wait: what alone wants memory
+-- whether acts need memory: they make a link, or suspend a create_link or a create_intr_chan
 abbrev pub wants_memory : List DeviceAct → Bool
 wants_memory acts = nat_lt 0 (made (link_acts acts)) || (nat_lt 0 (creating (wait_acts acts)) || nat_lt 0 (dialing (wait_acts acts)))
 
--- What a call of the server answers: what the event does, or what refuses it. Memory may be wanting only for an event that nothing else
--- refuses, and that makes a link, or lets a create_link or a create_intr_chan wait.
+-- The result of an event: what it did, or the first check that failed. Out of memory is possible only if no check fails, and the event
+-- makes a link, or suspends a create_link or a create_intr_chan.
 abbrev pub AnswersBy : Config → List ChannelAct → PlainEvent → List Act → Result Did Refused → Type 0
 AnswersBy config channel_log event log (Ok what) = (refusal config channel_log event log ≡ None) × (what ≡ did event log)
 AnswersBy config channel_log event log (Err NoMemory) = (refusal config channel_log event log ≡ None) × (polled : ℕ)
@@ -154,11 +156,12 @@ AnswersBy config channel_log event log (Err NoMemory) = (refusal config channel_
     × (wants_memory (device_acts (own_acts config polled event log)) ≡ true)
 AnswersBy config channel_log event log (Err refused) = refusal config channel_log event log ≡ Some refused
 
+-- The result of an event, with what the log tells interrupt channels.
 abbrev pub Answers : Config → PlainEvent → List Act → Result Did Refused → Type 0
 Answers config event log result = (channel_log : List ChannelAct) × HearsOf (device_acts log) channel_log
     × AnswersBy config channel_log event log result
 
--- the history with the event, unless it was refused
+-- the history after an event: with the event, unless it was refused
 abbrev pub history_after : PlainEvent → Result Did Refused → List PlainEvent → List PlainEvent
 history_after event (Ok what) history = event ∷ history
 history_after event (Err refused) history = history

@@ -1,4 +1,4 @@
--- Calls for interrupt channels (VXI-11 revision 1.0, section B.6: device_enable_srq, create_intr_chan, destroy_intr_chan).
+-- The calls for interrupt channels (VXI-11 revision 1.0, section B.6: device_enable_srq, create_intr_chan, destroy_intr_chan).
 use Rattle.std.specs.Prelude.{ℕ, ◌/◌, ◌==◌, ◌&&◌, Bool, true, false, List, [], ◌∷◌, length, filter, Option, Some, None, nat_lt, if◌then◌else◌}
 use Rattle.sv_vxi.specs.declared.error_code.ErrorCode.TheVariants.{NoError, ParameterError, NotEstablished}
 use Rattle.sv_vxi.specs.Arguments.{Arguments, CreateIntrChan, max_handle}
@@ -18,43 +18,45 @@ use Rattle.sv_history.specs.Request.{core_call_in}
 abbrev pub has_channel : ℕ → List DeviceAct → Bool
 has_channel c acts = is_channel_open c (channel_acts acts)
 
--- a link asks for service requests, with a handle, or asks no more
+-- device_enable_srq: a link enables service requests, with a handle of at most 40 bytes (else error 5), or disables them
 abbrev pub enable_srq : ℕ → Bool → ℕ → List ℕ → CallOutcome
 enable_srq c true lid handle = if nat_lt max_handle (length handle) then only (Plain ParameterError)
     else answered (Channel (SrqEnabled lid c handle) ∷ []) (Plain NoError)
 enable_srq c false lid handle = answered (Channel (SrqDisabled lid) ∷ []) (Plain NoError)
 
--- whether it may be a peer: an address in 127.0.0.0/8, and a port of 1 to 65535
+-- whether an interrupt channel may go there: to an address in 127.0.0.0/8, on a port of 1 to 65535
 abbrev pub is_peer : ℕ → ℕ → Bool
 is_peer host_addr host_port = (host_addr / 16777216 == 127) && nat_lt 0 host_port && nat_lt host_port 65536
 
--- whether a create_intr_chan of a connection waits for its peer to be called
+-- whether a call waits for the connection to its peer
 abbrev pub is_dial : Option Wait → Bool
 is_dial (Some Dialing) = true
 is_dial _ = false
 
+-- whether a create_intr_chan of this connection is suspended until its peer is connected
 abbrev pub is_dialing : ℕ → List WaitAct → Bool
 is_dialing c acts = is_dial (waits c acts)
 
--- how many do, of sixteen connections
+-- how many connections have such a call
 abbrev pub dialing : List WaitAct → ℕ
 dialing acts = length (filter (λ c. is_dialing c acts) connections)
 
--- whom to call
+-- the address and the port that a create_intr_chan names; `None` for another call, or a port above 65535
 abbrev pub dial_by : Arguments → Option Dial
 dial_by (CreateIntrChan host_addr host_port prog_num prog_vers prog_family) =
     if nat_lt host_port 65536 then Some (record { addr = host_addr; port = host_port }) else None
 dial_by _ = None
 
+-- the address and the port that a call names; `None` without a call, or for one that names none
 abbrev pub dial_in : Option CoreCall → Option Dial
 dial_in (Some call) = dial_by call.arguments
 dial_in None = None
 
--- of the call of a connection that waits for it
+-- where to connect the interrupt channel of a connection; `None` if no create_intr_chan of it is suspended
 abbrev pub dial_of : ℕ → List Act → Option Dial
 dial_of c log = if is_dialing c (wait_acts (device_acts log)) then dial_in (core_call_in (unanswered (of c log))) else None
 
--- what a create_intr_chan comes to whose peer was called: the channel is open, or it can't be
+-- the outcome of a suspended create_intr_chan whose peer was connected, or couldn't be: the channel opens, or the call gets error 6
 abbrev pub dialed : ℕ → Bool → Arguments → CallOutcome
 dialed c true (CreateIntrChan host_addr host_port prog_num prog_vers prog_family) =
     answered (Channel (ChannelOpened c (record { prog = prog_num; vers = prog_vers })) ∷ []) (Plain NoError)

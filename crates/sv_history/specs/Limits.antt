@@ -1,8 +1,9 @@
--- How many bytes wait on their way out of a connection.
+-- How many bytes may wait to be sent on a connection.
 use Rattle.std.specs.Prelude.{ℕ, ◌+◌}
 use Rattle.sv_exchange.specs.Limits.{max_read}
 
--- how long a reply may be, with its record mark: that of a read has ten words and its bytes (RFC 5531, 9 and 11; VXI-11, device_read)
+-- the length of the longest reply in bytes, with its record mark: that of a read has ten words and the bytes that were read (RFC 5531,
+-- sections 9 and 11; VXI-11, device_read)
 abbrev pub longest_reply : ℕ
 longest_reply = 40 + max_read
 

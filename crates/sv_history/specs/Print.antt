@@ -1,4 +1,4 @@
--- What a replay prints: the refusal of an event, and the lines of what waits.
+-- What a replay prints of an event: its refusal, and a line for each port on which bytes wait.
 use Rattle.std.specs.Prelude.{ℕ, zero, suc, ◌-◌, Bool, true, false, List, [], ◌∷◌, ◌++◌, map, length, codes, decimal, nat_lt, Result, Ok, Err, if◌then◌else◌}
 use Rattle.hex.specs.Hex.{encode_lower}
 use Rattle.sv_links.specs.Channels.{ChannelAct}
@@ -24,61 +24,64 @@ number BadChannel = 8
 number BadInput = 9
 number TimeOver = 10
 
+-- the line of a refusal: `refused` and its number
 abbrev pub refusal_line : Refused → List ℕ
 refusal_line refusal = codes "refused " ++ (decimal (number refusal) ++ 10 ∷ [])
 
--- a letter and a number
+-- the name of a port: c of a connection, i of an interrupt channel, and the number
 abbrev pub port_name : Port → List ℕ
 port_name (Conn c) = 99 ∷ decimal c
 port_name (Intr c) = 105 ∷ decimal c
 
--- the line of a port: all bytes that wait there, in lower case; no line where none wait
+-- the line of a port: all bytes that wait there, as lower-case hex digits; no line if none wait
 abbrev pub port_line : Port → List ℕ → List ℕ
 port_line port [] = []
 port_line port (byte ∷ bytes) = port_name port ++ 32 ∷ (encode_lower (byte ∷ bytes) ++ 10 ∷ [])
 
--- 0, 1, .., up to a number, without it
+-- the numbers from 0 up to this one, without it
 abbrev pub below : ℕ → List ℕ
 below zero = []
 below (suc n) = below n ++ n ∷ []
 
--- the ports in the order of their lines: connections 0 to 15, and then their interrupt channels
+-- the ports in the order of their lines: connections 0 to 15, then their interrupt channels
 abbrev pub port_of : ℕ → Port
 port_of n = if nat_lt n 16 then Conn n else Intr (n - 16)
 
+-- all ports, in that order
 abbrev pub ports : List Port
 ports = map port_of (below 32)
 
--- the lines of ports, by a log that told this to interrupt channels
+-- the lines of these ports, by a log and what it tells interrupt channels
 abbrev pub lines_of : List ChannelAct → List Port → List Act → List ℕ
 lines_of channel_log [] log = []
 lines_of channel_log (port ∷ others) log = port_line port (waiting_on channel_log port log) ++ lines_of channel_log others log
 
--- the history in which the peer took these bytes from a port; where there are none, nothing happened
+-- the history in which the peer took these bytes of a port; the same history if there are none
 abbrev pub with_took : Port → List ℕ → List PlainEvent → List PlainEvent
 with_took port [] history = history
 with_took port (byte ∷ bytes) history = Took port (length (byte ∷ bytes)) ∷ history
 
--- the history in which the peer took all that waits at ports by a log, from one port after the other
+-- the history in which the peers took all that waits on these ports, one port after the other
 abbrev pub with_tooks : List ChannelAct → List Port → List Act → List PlainEvent → List PlainEvent
 with_tooks channel_log [] log history = history
 with_tooks channel_log (port ∷ others) log history = with_tooks channel_log others log
     (with_took port (waiting_on channel_log port log) history)
 
--- the line of a refusal
+-- the line of a refusal; nothing for an event that isn't refused
 abbrev pub head_of : Result Did Refused → List ℕ
 head_of (Ok did) = []
 head_of (Err refusal) = refusal_line refusal
 
+-- whether an event was refused for out of memory
 abbrev pub is_no_memory : Refused → Bool
 is_no_memory NoMemory = true
 is_no_memory _ = false
 
--- the ports whose lines follow: none where memory was refused
+-- the ports whose lines are printed: none after out of memory
 abbrev pub ports_after : Result Did Refused → List Port
 ports_after (Ok did) = ports
 ports_after (Err refusal) = if is_no_memory refusal then [] else ports
 
--- the print of an event, by what it answered and by the log that it left
+-- what is printed of an event, by its result and the log after it
 abbrev pub print_of : Result Did Refused → List ChannelAct → List Act → List ℕ
 print_of did channel_log log = head_of did ++ lines_of channel_log (ports_after did) log

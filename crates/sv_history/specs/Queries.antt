@@ -1,4 +1,4 @@
--- What the server answers when it is asked, recomputed from a history alone.
+-- What each query of the server returns, recomputed from the history alone.
 use Rattle.std.specs.Prelude.{◌≡◌, ◌≢◌, ◌↔◌, ℕ, suc, ◌≤◌, Bool, true, List, []}
 use Rattle.sv_links.specs.Channels.{ChannelAct}
 use Rattle.sv_history.specs.declared.event.Config.{Config}
@@ -9,17 +9,17 @@ use Rattle.sv_history.specs.Connection.{waiting_on}
 use Rattle.sv_history.specs.Requests.{HearsOf}
 use Rattle.sv_history.specs.History.{IsLogOf}
 
--- These are the bytes that wait on a port, by the history's log and what it tells to interrupt channels.
+-- These bytes wait on a port, by the log of the history and what it tells interrupt channels.
 abbrev pub WaitOn : Port → Config → List PlainEvent → List ℕ → Type 0
 WaitOn port config history bytes = (log : List Act) × (channel_log : List ChannelAct) × IsLogOf config history log
     × HearsOf (device_acts log) channel_log
     × (bytes ≡ waiting_on channel_log port log)
 
--- The result is this function of the history's log.
+-- The result is this function of the log of the history.
 abbrev pub Answered : {A : Type 0} → (List Act → A) → Config → List PlainEvent → A → Type 0
 Answered answer config history result = (log : List Act) × IsLogOf config history log × (result ≡ answer log)
 
--- The result tells whether the history's log is such.
+-- The result is true exactly if this holds of the log of the history.
 abbrev pub Decided : (List Act → Type 0) → Config → List PlainEvent → Bool → Type 0
 Decided IsSuch config history result = (log : List Act) × IsLogOf config history log × ((result ≡ true) ↔ IsSuch log)
 
@@ -27,6 +27,6 @@ Decided IsSuch config history result = (log : List Act) × IsLogOf config histor
 abbrev pub IsUnused : ℕ → List Act → Type 0
 IsUnused n log = (c : ℕ) → n ≤ c → of c log ≡ []
 
--- And of the one below it something was.
+-- The number is the least one from which on nothing was recorded.
 abbrev pub IsUsed : ℕ → List Act → Type 0
 IsUsed n log = IsUnused n log × ((c : ℕ) → n ≡ suc c → of c log ≢ [])

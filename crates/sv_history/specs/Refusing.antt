@@ -1,5 +1,4 @@
--- Refusing a call for want of resources (VXI-11 revision 1.0, section B.5, error 9): one that would take memory, a create_link or a
--- create_intr_chan that passes the checks in front of its own.
+-- Refusing a call for want of resources (VXI-11 revision 1.0, section B.5, error 9): a create_link or a create_intr_chan, which allocate.
 use Rattle.std.specs.Prelude.{ℕ, Bool, true, false, List, Option, Some, None, if◌then◌else◌}
 use Rattle.sv_vxi.specs.declared.error_code.ErrorCode.TheVariants.{OutOfResources}
 use Rattle.sv_vxi.specs.Arguments.{Arguments, CreateLink, CreateIntrChan}
@@ -8,21 +7,21 @@ use Rattle.sv_history.specs.CoreCall.{CoreCall, failure}
 use Rattle.sv_history.specs.Request.{Request, CoreRequest, next_request}
 use Rattle.sv_history.specs.Effect.{result_reply}
 
--- whether it makes a link or an interrupt channel
+-- whether a call may allocate: create_link and create_intr_chan
 abbrev pub takes_memory : Arguments → Bool
 takes_memory (CreateLink client_id lock_device lock_timeout device) = true
 takes_memory (CreateIntrChan host_addr host_port prog_num prog_vers prog_family) = true
 takes_memory _ = false
 
--- the call that may be refused
+-- the call that may be refused; `None` if this request may not be
 abbrev pub refusable_call : Option Request → Option CoreCall
 refusable_call (Some (CoreRequest call)) = if takes_memory call.arguments then Some call else None
 refusable_call _ = None
 
--- the connection's next call, where it is one
+-- the next call of a connection, if it may be refused
 abbrev pub refusable : List ConnAct → Option CoreCall
 refusable acts = refusable_call (next_request acts)
 
--- its reply
+-- the reply to a call that is refused: error 9
 abbrev pub refused_reply : CoreCall → List ℕ
 refused_reply call = result_reply call.xid (failure call.arguments OutOfResources)

@@ -1,5 +1,5 @@
--- What a record asks for: its header is looked at, in this order, and then it is a call of the program that its connection serves
--- (RFC 5531, section 9; VXI-11 revision 1.0, section B.6; RFC 1833, section 3).
+-- What a record asks for (RFC 5531, section 9; VXI-11 revision 1.0, section B.6; RFC 1833, section 3). Its header is checked first; then it
+-- is a call of the program that its connection serves.
 use Rattle.std.specs.Prelude.{ℕ, ℤ, ◌==◌, not, List, [], ◌∷◌, Option, Some, None, Result, Ok, Err, if◌then◌else◌}
 use Rattle.sv_xdr.specs.declared.garbage.Garbage.{Garbage}
 use Rattle.sv_rpc.specs.declared.reply.Reply.{Reply}
@@ -15,7 +15,8 @@ use Rattle.sv_history.specs.Act.{ConnAct}
 use Rattle.sv_history.specs.Connection.{next_call, open_role}
 use Rattle.sv_history.specs.CoreCall.{CoreCall}
 
--- it is no call; its header or its arguments alone decide the reply; or it is a call of the core channel, device_abort, or GETPORT
+-- what a record is: no call; a call whose reply its header or its unreadable arguments decide; a call of the core channel; device_abort; or
+-- GETPORT
 pub data Request : Type 0 where
   NoCall : Request
   Decided : (xid : ℕ) (reply : Reply) → Request
@@ -23,27 +24,29 @@ pub data Request : Type 0 where
   AbortRequest : (xid : ℕ) (lid : ℤ) → Request
   PortRequest : (xid : ℕ) (args : List ℕ) → Request
 
--- the program that a connection serves, its version, and its procedures beside 0, which does nothing
+-- the program that a connection serves, its version, and its procedures besides 0, the null procedure
 abbrev pub program_of : Role → ℕ × ℕ × List ℕ
 program_of Core = (395183, 1, core_calls)
 program_of Abort = (395184, 1, abort_calls)
 program_of Portmap = (100000, 2, 3 ∷ [])
 
--- a call of one of its program's procedures
+-- a call of the core channel, by its arguments; garbage is answered with GARBAGE_ARGS
 abbrev pub core_request : ℕ → Result Arguments Garbage → Request
 core_request xid (Ok arguments) = CoreRequest (record { xid = xid; arguments = arguments })
 core_request xid (Err garbage) = Decided xid GarbageArgs
 
+-- a call of the abort channel, by its arguments; garbage is answered with GARBAGE_ARGS
 abbrev pub abort_request : ℕ → Result Arguments Garbage → Request
 abort_request xid (Ok (OnLink lid call)) = AbortRequest xid lid
 abort_request xid _ = Decided xid GarbageArgs
 
+-- a call of one of its program's procedures
 abbrev pub procedure_request : Role → PlainCall → Request
 procedure_request Core call = core_request call.xid (arguments_at call.proc call.args)
 procedure_request Abort call = abort_request call.xid (arguments_at call.proc call.args)
 procedure_request Portmap call = PortRequest call.xid call.args
 
--- what a call asks for: its header decides the reply where it names another program, another version, nothing to do, or another procedure
+-- What a call asks for. The first of these decides the reply: another program, another version, the null procedure, an unknown procedure.
 abbrev pub call_request : Role → PlainCall → Request
 call_request role call =
     let (program, version, procedures) = program_of role in
@@ -52,28 +55,31 @@ call_request role call =
     else (if call.proc == 0 then Decided call.xid Success
     else (if not (is_one_of procedures call.proc) then Decided call.xid ProcUnavail else procedure_request role call)))
 
--- Another version of RPC is denied.
+-- What a record asks for, by how it reads as a call: another version of RPC is denied, and a bad header is no call.
 abbrev pub request_of : Role → Result PlainCall CallFault → Request
 request_of role (Ok call) = call_request role call
 request_of role (Err (Version xid)) = Decided xid Mismatch
 request_of role (Err BadHeader) = NoCall
 
--- what the next call of a connection asks for, where there is one
+-- what the next call of a connection asks for, by its role and the bytes of the call; `None` if there is no call
 abbrev pub request_for : Option Role → Option (List ℕ) → Option Request
 request_for (Some role) (Some bytes) = Some (request_of role (call_at bytes))
 request_for _ _ = None
 
+-- what the next call of a connection asks for; `None` if there is no call
 abbrev pub next_request : List ConnAct → Option Request
 next_request acts = request_for (open_role acts) (next_call acts)
 
--- the call of the core channel that a record is, where it is one
+-- the call of the core channel that a request is; `None` if it is another
 abbrev pub core_call_of : Request → Option CoreCall
 core_call_of (CoreRequest call) = Some call
 core_call_of _ = None
 
+-- the call of the core channel that a record is; `None` if it is none
 abbrev pub core_call : List ℕ → Option CoreCall
 core_call bytes = core_call_of (request_of Core (call_at bytes))
 
+-- the call of the core channel that a record is; `None` if there is no record, or it is none
 abbrev pub core_call_in : Option (List ℕ) → Option CoreCall
 core_call_in (Some bytes) = core_call bytes
 core_call_in None = None

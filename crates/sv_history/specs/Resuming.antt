@@ -1,4 +1,4 @@
--- What becomes of a call that was suspended: it resumes, its peer was called, or it times out.
+-- What becomes of a suspended call: it resumes, its peer was connected, or it ends with an error.
 use Rattle.std.specs.Prelude.{ℕ, Bool, List, [], ◌∷◌, ◌++◌, Option, Some, None}
 use Rattle.sv_vxi.specs.declared.error_code.ErrorCode.{ErrorCode}
 use Rattle.sv_vxi.specs.declared.error_code.ErrorCode.TheVariants.{IoTimeout}
@@ -16,39 +16,40 @@ use Rattle.sv_history.specs.CoreChannel.{own_call}
 use Rattle.sv_history.specs.Interrupts.{dialed}
 use Rattle.sv_history.specs.Admission.{device_wait, deadline}
 
--- it is suspended no more, and does this
+-- the call isn't suspended any more, and has this outcome
 abbrev pub leaving : ℕ → CallOutcome → CallOutcome
 leaving c outcome = record outcome { adds = outcome.adds ++ Waited (Left c) ∷ [] }
 
--- what a call waits for next that waited for the lock, and how long; one that waited for something else is done
+-- what a call that got past the lock waits for next, and its timeout in milliseconds; `None` if nothing
 abbrev pub next_wait : Wait → Arguments → List DeviceAct → Option (Wait × ℕ)
 next_wait Lock (OnLink lid call) acts = device_wait call acts
 next_wait _ arguments acts = None
 
+-- the outcome of a call that resumes: it is suspended anew, or executed
 abbrev pub continued : Config → ℕ → ℕ → Arguments → Option (Wait × ℕ) → List DeviceAct → CallOutcome
 continued config polled c arguments (Some wait) acts = suspended (Again c wait.0 (deadline config (Some wait.1) acts))
 continued config polled c arguments None acts = leaving c (own_call config polled c arguments (Waited (Left c) ∷ acts))
 
--- What becomes of the call of a connection, if its record is one.
+-- the effect of a suspended call with this outcome; if its record is no such call, it only isn't suspended any more
 abbrev pub effect_of : ℕ → (Arguments → CallOutcome) → Option CoreCall → Effect
 effect_of c does (Some call) = call_effect call.xid (does call.arguments)
 effect_of c does None = record { own = []; adds = Waited (Left c) ∷ [] }
 
--- A call that waited for this resumes: it is done, or waits anew with its place kept, from now on. The link and the lock aren't looked at
--- again.
+-- The effect of a call that resumes after this wait: it is executed, or suspended anew, in its place of the order, from now on. Link and
+-- lock aren't checked again.
 abbrev pub resumed : Config → ℕ → ℕ → Wait → Option CoreCall → List DeviceAct → Effect
 resumed config polled c wait call acts =
     effect_of c (λ arguments. continued config polled c arguments (next_wait wait arguments acts) acts) call
 
--- It ends with this error.
+-- the effect of a call that ends with this error
 abbrev pub failed : ErrorCode → ℕ → Option CoreCall → Effect
 failed error c call = effect_of c (λ arguments. leaving c (only (failure arguments error))) call
 
--- The peer of its interrupt channel was called.
+-- the effect of a create_intr_chan whose peer was connected, or couldn't be
 abbrev pub connected : ℕ → Bool → Option CoreCall → Effect
 connected c ok call = effect_of c (λ arguments. leaving c (dialed c ok arguments)) call
 
--- the error of a call that waited too long for this
+-- the error of a call that times out: 11 if it waited for the lock, else 15
 abbrev pub late : Wait → ErrorCode
 late Lock = DeviceLocked
 late _ = IoTimeout

@@ -1,4 +1,4 @@
--- What follows an event's own acts: the steps that are due, one after the other, until none is.
+-- The steps that follow an event's own acts, one after the other, until none is due.
 use Rattle.std.specs.Prelude.{◌≡◌, ◌⊎◌, not, ℕ, ◌+◌, zero, suc, Some, List, ◌++◌, map}
 use Rattle.sv_links.specs.declared.waiting.Wait.{Wait}
 use Rattle.sv_links.specs.Links.{holder}
@@ -15,13 +15,13 @@ use Rattle.sv_history.specs.Request.{core_call_in}
 use Rattle.sv_history.specs.Effect.{acts_of}
 use Rattle.sv_history.specs.Resuming.{resumed, failed, late}
 
--- The instrument does what is due of this kind.
+-- The instrument takes a step of this kind, which adds acts to its log.
 abbrev pub InstrumentDoes : (List InstrumentAct → List InstrumentAct → Type 0) → List Act → List Act → Type 0
 InstrumentDoes IsSuch log new = (adds : List InstrumentAct)
     × IsSuch (instrument_acts (device_acts log)) (adds ++ instrument_acts (device_acts log))
     × (new ≡ map OnDevice (map Applied adds) ++ log)
 
--- The suspended call of a connection can resume.
+-- The suspended call of this connection can resume.
 abbrev pub CanResume : List DeviceAct → ℕ → Type 0
 CanResume acts = IsAble (holder (link_acts acts)) (not (has_ended (exchange_acts acts))) (is_answerable (instrument_acts acts))
     (wait_acts acts)
@@ -40,12 +40,12 @@ TimesOut config log new = (c : ℕ) × (wait : Wait)
     × (waits c (wait_acts (device_acts log)) ≡ Some wait)
     × (new ≡ acts_of c (failed (late wait) c (core_call_in (unanswered (of c log)))) ++ log)
 
--- The first step is taken, or, where there is none, the second.
+-- The first of two steps is taken; the second only if the first isn't possible.
 abbrev pub First : (List Act → Type 0) → (List Act → Type 0) → List Act → Type 0
 First IsOne IsOther new = IsOne new ⊎ (((one : List Act) → IsOne one → ⊥) × IsOther new)
 
--- The step that is due in a log makes another of it: a trigger that comes at once; else a suspended call resumes; else a step of
--- message exchange; else a suspended call times out.
+-- The step that is due makes the new log, the first of these: an immediate trigger; a suspended call resumes; a step of message exchange; a
+-- suspended call times out.
 abbrev pub IsNext : Config → List Act → List Act → Type 0
 IsNext config log =
     First (InstrumentDoes IsFired log) (First (Resumes config log) (First (InstrumentDoes IsStep log) (TimesOut config log)))
@@ -54,10 +54,11 @@ IsNext config log =
 abbrev pub IsSettled : Config → List Act → Type 0
 IsSettled config log = (new : List Act) → IsNext config log new → ⊥
 
--- In so many steps, each the one that is due, the first log becomes the second, at which none is due.
+-- In so many steps, each the one that is due, the first log becomes the second, in which none is due.
 abbrev pub SettlesIn : ℕ → Config → List Act → List Act → Type 0
 SettlesIn zero config log new = IsSettled config log × (new ≡ log)
 SettlesIn (suc n) config log new = (middle : List Act) × IsNext config log middle × SettlesIn n config middle new
 
+-- In some number of steps the first log becomes the second, in which none is due.
 abbrev pub Settles : Config → List Act → List Act → Type 0
 Settles config log new = (n : ℕ) × SettlesIn n config log new

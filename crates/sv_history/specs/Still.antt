@@ -1,4 +1,4 @@
--- Moments at which nothing waits for time.
+-- When nothing waits for time to pass.
 use Rattle.std.specs.Prelude.{◌≡◌, ℕ, ◌+◌, false, List}
 use Rattle.sv_links.specs.Waiting.{IsExpired}
 use Rattle.sv_scan.specs.Counted.{is_scanning}
@@ -7,10 +7,10 @@ use Rattle.sv_layers.specs.Condition.{counted}
 use Rattle.sv_history.specs.declared.event.Config.{Config}
 use Rattle.sv_history.specs.Act.{DeviceAct, wait_acts, instrument_acts, ticks}
 
--- No call that waits has a deadline that comes within so many milliseconds (VXI-11 revision 1.0, section B.4.4).
+-- No suspended call has a deadline within so many milliseconds (VXI-11 revision 1.0, section B.4.4).
 abbrev pub IsUnhurried : ℕ → Config → List DeviceAct → Type 0
 IsUnhurried most config acts = (c : ℕ) → IsExpired (config.clock + ticks acts + most) (wait_acts acts) c → ⊥
 
--- And no scan is under way, of which each millisecond reads a channel.
+-- No suspended call has a deadline within so many milliseconds, and no scan is under way, in which each millisecond reads a channel.
 abbrev pub IsStill : ℕ → Config → List DeviceAct → Type 0
 IsStill most config acts = (is_scanning (state (counted (instrument_acts acts))) ≡ false) × IsUnhurried most config acts

@@ -1,4 +1,4 @@
-//! What happens to the server, and what it answers.
+//! Events, and what the server answers to them.
 
 ghost use Rattle.std.specs.Prelude.{◌≡◌};
 
@@ -46,7 +46,7 @@ pub enum Event<'a> {
         /// Its number.
         conn: u8,
     },
-    /// The next call of a connection is answered with want of resources.
+    /// The next call of a connection is refused: it is answered with error 9, out of resources.
     Refuse {
         /// Its number.
         conn: u8,
@@ -63,11 +63,11 @@ pub enum Event<'a> {
         /// Which.
         port: Port,
     },
-    /// An interrupt channel was dialed.
+    /// The connection to the peer of an interrupt channel was tried.
     Dialed {
-        /// The number of its connection.
+        /// The number of the channel's connection.
         conn: u8,
-        /// Whether it opened.
+        /// Whether it was made, so that the channel opens.
         ok: bool,
     },
     /// The live voltage of a channel changes.
@@ -92,7 +92,7 @@ pub enum Did {
     Idle,
 }
 
-/// What the server is set up with.
+/// The configuration of a server.
 #[derive(Clone, Copy, Debug, PartialEq, Eq)]
 pub struct Config {
     /// The port of the core channel.
@@ -103,7 +103,7 @@ pub struct Config {
     pub clock: u64,
 }
 
-/// Where an interrupt channel is to be opened.
+/// Where to connect an interrupt channel.
 #[derive(Clone, Copy, Debug, PartialEq, Eq)]
 pub struct Dial {
     /// The address, most significant byte first.
@@ -115,7 +115,7 @@ pub struct Dial {
 /// Why an event was refused. It changed nothing, and isn't in the history.
 #[derive(Clone, Copy, Debug, PartialEq, Eq, Error)]
 pub enum Refused {
-    /// No memory was left for a link.
+    /// Out of memory for a link or an interrupt channel.
     #[error("no memory was left")]
     NoMemory = 1,
     /// The connection's number is in use.
@@ -124,14 +124,14 @@ pub enum Refused {
     /// The number is above 15, or nothing of that number is open.
     #[error("there is no such connection")]
     NoConn = 3,
-    /// Bytes are more than the connection's room; a Turn finds fewer than 8,232 outgoing bytes
-    /// free.
+    /// There are more Bytes than the connection has room for; or a Turn or a Refuse finds fewer
+    /// than 8,232 outgoing bytes free.
     #[error("there is no room")]
     NoRoom = 4,
     /// More bytes were taken than waited.
     #[error("so many bytes were not sent")]
     NotSent = 5,
-    /// No interrupt channel of the connection is being dialed.
+    /// No create_intr_chan of the connection is suspended.
     #[error("nothing is being dialed")]
     NoDial = 6,
     /// The next call can't be refused.
@@ -151,7 +151,7 @@ pub enum Refused {
 impl Refused {
     ghost use Rattle.sv_history.specs.Print.{number};
 
-    /// Its number, from 1 to 10, as a replay prints it.
+    /// The number of a refusal, from 1 to 10, as a replay prints it.
     pub fn number(self) -> u8
         ensures { result ≡ number self }
     {

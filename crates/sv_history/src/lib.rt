@@ -1,6 +1,8 @@
-//! The specification of the server: events, the log of a history of events, and what is recomputed
-//! from it. Nothing here runs but `Refused::number`; `sv_server` is the code, and its contracts
-//! cite these definitions.
+//! The specification of the server: events, the log of a history of events, and the answers that
+//! are recomputed from it.
+//!
+//! Nothing here runs but `Refused::number`. `sv_server` is the code; its contracts cite these
+//! definitions.
 #![tactic(auto)]
 
 mod event;

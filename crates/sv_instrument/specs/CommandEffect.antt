@@ -1,5 +1,5 @@
--- What an order does (IEEE 488.2, chapter 10; SCPI-1999, volume 2): its acts, in their order, and then the unit is done and its answer is
--- given. An order that the state refuses reports that, and does nothing else.
+-- What an order does (IEEE 488.2, chapter 10; SCPI-1999, volume 2). Its acts come in order; then the unit is done and its answer is given.
+-- An order that the state refuses reports its error, and does nothing else.
 use Rattle.std.specs.Prelude.{◌≡◌, ℕ, List, ◌∷◌, Option, Some, None, pos, if◌then◌else◌}
 use Rattle.sv_errors.specs.declared.code.Code.{Code}
 use Rattle.sv_errors.specs.declared.code.Code.TheVariants.{QueryDeadlocked, DataCorruptOrStale}
@@ -24,22 +24,24 @@ use Rattle.sv_instrument.specs.QueryResponse.{Says}
 abbrev pub done : List Act → List Act
 done log = Exchanged UnitDone ∷ log
 
--- an answer is given, or, where it has no room, all answers of the message are dropped
+-- An answer joins the response; if it doesn't fit, all answers of the message are dropped and -430 is reported.
 abbrev pub answered : List ℕ → List Act → List Act
 answered text log =
     if fits_response (answers (exchange_acts log)) text then Exchanged (Answered text) ∷ log
     else Reported QueryDeadlocked ∷ Exchanged AnswersDropped ∷ log
 
--- where there is a fault, that is reported, and the unit is done
+-- If there is an error, it is reported and the unit is done; else these acts happen.
 abbrev pub unless : Option Code → List Act → List Act → List Act
 unless (Some code) acts log = done (Reported code ∷ log)
 unless None acts log = acts
 
--- a measurement is configured: it is aborted, and range, source and count take their defaults, and the list is set if one is given
+-- the scan list is set, if one is given
 abbrev pub set_list : Option (List ℕ) → List Act → List Act
 set_list None log = log
 set_list (Some channels) log = Scanned (scan.Configure (setting.List channels)) ∷ log
 
+-- A measurement is configured: it is aborted; range (10 V), source (immediate) and count (1) take their defaults; the list is set, if one
+-- is given.
 abbrev pub configured : Option (List ℕ) → List Act → List Act
 configured list log = set_list list
     (Scanned (scan.Configure (setting.Count 1)) ∷ Scanned (scan.Configure (setting.Source Immediate))
@@ -52,16 +54,17 @@ taken question.Error log = EntryTaken ∷ log
 taken (question.Events name) log = EventRead name ∷ log
 taken asked log = log
 
--- readings that aren't complete, or were aborted, can't be fetched
+-- why a query is refused: its readings aren't complete, or were aborted (-230)
 abbrev pub question_fault : Question → List Act → Option Code
 question_fault question.Readings log = if is_complete (counted log) then None else Some DataCorruptOrStale
 question_fault asked log = None
 
+-- A query answers with its text, after it took or cleared what it does; or its error is reported.
 abbrev pub Replies : Option Code → Question → List Act → List Act → Type 0
 Replies (Some code) asked log new = new ≡ done (Reported code ∷ log)
 Replies None asked log new = (text : List ℕ) × Says asked log text × (new ≡ answered text (done (taken asked log)))
 
--- what is done without a value
+-- the effect of a command without a value
 abbrev pub acted : Action → List Act → List Act
 acted action.ClearStatus log = done (Cleared ∷ log)
 acted action.Reset log = done (Scanned scan.Reset ∷ log)
@@ -74,7 +77,7 @@ acted action.Initiate log = unless (init_fault (counted log)) (done (Scanned sca
 acted action.Abort log = done (Scanned scan.Abort ∷ log)
 acted action.Read log = unless (read_fault (counted log)) (Held awaited.Readings ∷ Scanned scan.Init ∷ Scanned scan.Abort ∷ log) log
 
--- What an order makes of a log.
+-- The effect of an order on the log.
 abbrev pub Performs : Order → List Act → List Act → Type 0
 Performs (order.Do action) log new = new ≡ acted action log
 Performs (order.Ask asked) log new = Replies (question_fault asked log) asked log new

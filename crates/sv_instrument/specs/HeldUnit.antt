@@ -1,10 +1,10 @@
--- A unit that is held until no measurement is under way (IEEE 488.2, 12.5).
+-- A unit that is held until no measurement is under way: `*WAI`, `*OPC?`, `READ?`, `MEASure?` (IEEE 488.2, 12.5).
 use Rattle.std.specs.Prelude.{List, [], ◌∷◌, Option, Some, None}
 use Rattle.sv_exchange.specs.Exchange.{UnitDone, TextDropped}
 use Rattle.sv_layers.specs.declared.change.Awaited.{Awaited}
 use Rattle.sv_layers.specs.Act.{Act, Exchanged, Purged, Held}
 
--- what the unit will answer that is held now: it was held, and since then no unit was done and no text dropped
+-- what the held unit will answer; `None` if no unit is held. It is held until it is done, or the text is dropped.
 abbrev pub held : List Act → Option Awaited
 held [] = None
 held (Held awaited ∷ log) = Some awaited

@@ -1,5 +1,5 @@
--- The path in front of the next unit of a message (SCPI-1999, volume 1, 6.2.4): the units before it are read in their order, each behind
--- the path that the one before leaves.
+-- The path before the next unit of a message (SCPI-1999, volume 1, 6.2.4). The units before it are read in order, each with the path that
+-- the one before leaves.
 use Rattle.std.specs.Prelude.{◌≡◌, ℕ, ◌+◌, List, [], ◌∷◌, Option, Some, None, Result, take, reverse}
 use Rattle.sv_errors.specs.declared.code.Code.{Code}
 use Rattle.sv_exchange.specs.Exchange.{units, message, units_done, current}
@@ -9,17 +9,18 @@ use Rattle.sv_layers.specs.declared.change.Awaited.{Awaited}
 use Rattle.sv_layers.specs.Act.{Act, exchange_acts}
 use Rattle.sv_instrument.specs.HeldUnit.{held}
 
--- Units, the last first, leave this path.
+-- These units, the last one first, leave this path.
 abbrev pub Leaves : List (List ℕ) → List (List ℕ) → Type 0
 Leaves [] path = path ≡ []
 Leaves (unit ∷ before) path =
     (front : List (List ℕ)) × (outcome : Result Order Code) × Leaves before front × IsReadAs front unit outcome path
 
+-- 1 if a unit is held, else 0
 abbrev pub one_if_held : Option Awaited → ℕ
 one_if_held None = 0
 one_if_held (Some awaited) = 1
 
--- how many units of the current message began: those that were done, and one that is held
+-- how many units of the current message began: those that are done, and the one that is held
 abbrev pub units_begun : List Act → ℕ
 units_begun log = units_done (current (exchange_acts log)) + one_if_held (held log)
 

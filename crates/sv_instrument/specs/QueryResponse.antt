@@ -1,5 +1,4 @@
--- What a query answers (IEEE 488.2, chapter 10; SCPI-1999, volume 2): a text, by the log as it stands before the query takes or clears
--- anything.
+-- The answer of each query (IEEE 488.2, chapter 10; SCPI-1999, volume 2): a text, by the log before the query takes or clears anything.
 use Rattle.std.specs.Prelude.{◌≡◌, ◌↔◌, ℕ, ◌<◌, true, false, List, [], ◌∷◌, Option, length, codes, decimal, unwrap_or}
 use Rattle.std.specs.List.{join_by}
 use Rattle.std.specs.Int.{bit_at}
@@ -23,7 +22,7 @@ use Rattle.sv_layers.specs.Filter.{rise, fall, enable}
 use Rattle.sv_layers.specs.Standard.{Stands, enable as standard_enable}
 use Rattle.sv_layers.specs.StatusByte.{MasterBit, service}
 
--- a word in decimal, whose bits say so
+-- The text is a word of 16 bits in decimal, with exactly these bits.
 pub record IsWord (Bit : ℕ → Type 0) (text : List ℕ) : Type 0 where
   pub word : ℕ
   pub fits : word < 65536
@@ -36,11 +35,11 @@ reading_text (Value microvolts) = voltage_text microvolts
 reading_text Over = overload_text false
 reading_text Under = overload_text true
 
--- readings, with commas between
+-- readings, separated by commas
 abbrev pub readings_text : List Reading → List ℕ
 readings_text given = join_by reading_text (codes ",") given
 
--- the oldest entry of the error queue, or that there is none
+-- the oldest entry of the error queue, or `0,"No error"`
 abbrev pub oldest_text : Option Code → List ℕ
 oldest_text oldest = error_text (unwrap_or oldest NoError)
 
@@ -60,6 +59,7 @@ value_text name.Limits log = switch_text (limits (counted log))
 value_text name.Source log = source_text (source (counted log))
 value_text name.Count log = decimal (count (counted log))
 
+-- The answer of a query.
 abbrev pub Says : Question → List Act → List ℕ → Type 0
 Says question.Identification log text = text ≡ codes "SCANVOLT,SV32,0,1.0"
 Says question.SelfTest log text = text ≡ codes "0"

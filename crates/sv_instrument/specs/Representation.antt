@@ -1,4 +1,4 @@
--- What the instrument keeps, and that it stands for a log.
+-- What the instrument keeps, and which log it stands for.
 use Rattle.std.specs.Prelude.{◌≡◌, ℕ, ◌+◌, ◌*◌, ⊤, List, Option, Some, None}
 use Rattle.sv_scan.specs.declared.setting.State.{State}
 use Rattle.sv_scan.specs.declared.setting.State.TheVariants.{Idle, Waiting, Scanning}
@@ -10,6 +10,7 @@ use Rattle.sv_instrument.specs.HeldUnit.{held}
 use Rattle.sv_instrument.specs.Path.{IsPath}
 use Rattle.sv_instrument.specs.RequestCount.{Raises}
 
+-- what is kept: the layers, what the held unit will answer, and the path
 pub record Kept : Type 0 where
   pub layers : LayerState
   pub held : Option Awaited
@@ -26,28 +27,28 @@ pub record Ran (kept : Kept) (count : ℕ) (log new : List Act) : Type 0 where
   pub stands : StandsFor kept new
   pub raises : Raises log new count
 
--- A step that is due was taken, or none is due.
+-- The step that is due was taken, and raised so many requests; or none is due.
 abbrev pub Takes : (List Act → List Act → Type 0) → Kept → Option ℕ → List Act → Type 0
 Takes IsNext kept None log = (new : List Act) → IsNext log new → ⊥
 Takes IsNext kept (Some count) log = (new : List Act) × IsNext log new × Ran kept count log new
 
--- one where no unit is held, which starts then
+-- 1 if no unit is held, so that one may start; else 0
 abbrev pub unheld : Option Awaited → ℕ
 unheld None = 1
 unheld (Some awaited) = 0
 
--- one where a trigger is waited for
+-- 1 if a trigger is waited for, else 0
 abbrev pub waits : State → ℕ
 waits Waiting = 1
 waits Idle = 0
 waits Scanning = 0
 
--- how much is left to be done, so that whoever triggers and steps comes to an end
+-- how much is left to do: a trigger or a step always makes it less, so repeated stepping terminates
 abbrev pub instrument_measure : Kept → ℕ
 instrument_measure kept = 2 * (2 * exchange_measure kept.layers.exchange + unheld kept.held)
     + waits (state_by kept.layers)
 
--- Where a unit is held, it is the one that is due.
+-- If a unit is held, it is the one that is due.
 abbrev pub IsHeldRight : Option Awaited → LayerState → Type 0
 IsHeldRight None layers = ⊤
 IsHeldRight (Some awaited) layers = IsUnitDue (next_of layers.exchange)

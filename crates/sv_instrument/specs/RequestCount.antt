@@ -1,16 +1,16 @@
--- How many requests for service are raised from a log on.
+-- How many requests for service are raised between two logs.
 use Rattle.std.specs.Prelude.{◌≡◌, ◌↔◌, ℕ, ◌+◌, Bool, true, List, [], ◌∷◌, ◌++◌}
 use Rattle.sv_scan.specs.Condition.{bit}
 use Rattle.sv_layers.specs.Act.{Act}
 use Rattle.sv_layers.specs.StatusByte.{IsRaised}
 
--- So many of these acts, behind a log, raise one.
+-- So many of these acts, after a log, raise a request.
 abbrev pub Raise : List Act → List Act → ℕ → Type 0
 Raise [] log count = count ≡ 0
 Raise (act ∷ acts) log count = (raised : Bool) × (before : ℕ) × ((raised ≡ true) ↔ IsRaised (act ∷ (acts ++ log))) × Raise acts log before
     × (count ≡ before + bit 0 raised)
 
--- From a log on to a new one, so many requests are raised.
+-- From one log to another, so many requests are raised.
 pub record Raises (log new : List Act) (count : ℕ) : Type 0 where
   pub acts : List Act
   pub new_is : new ≡ acts ++ log

@@ -1,5 +1,5 @@
--- The step of message exchange that is due (IEEE 488.2, 6.1.4 and 6.3): a held unit ends, or the next unit starts, or a message that is
--- too long is reported, or one that has ended is finished.
+-- The step of message exchange that is due (IEEE 488.2, 6.1.4 and 6.3): a held unit ends, the next unit starts, a message that is too long
+-- is reported, or one that has ended is finished.
 use Rattle.std.specs.Prelude.{◌≡◌, ℕ, Bool, true, false, not, ◌&&◌, ◌||◌, List, ◌∷◌, Option, Some, None, Result, Ok, Err, codes}
 use Rattle.sv_errors.specs.declared.code.Code.{Code}
 use Rattle.sv_errors.specs.declared.code.Code.TheVariants.{InputBufferOverrun, QueryInterrupted}
@@ -16,26 +16,27 @@ use Rattle.sv_instrument.specs.Path.{IsPath}
 use Rattle.sv_instrument.specs.QueryResponse.{readings_text}
 use Rattle.sv_instrument.specs.CommandEffect.{Performs, done, answered}
 
--- the end of a unit that is held
+-- a held unit ends: it is done, and its answer is given
 abbrev pub released : Awaited → List Act → List Act
 released Nothing log = done log
 released One log = answered (codes "1") (done log)
 released Readings log = answered (readings_text (readings (counted log))) (done log)
 
--- A unit does what it asks for, or its fault is reported.
+-- A unit does what it asks for, or its error is reported.
 abbrev pub Does : Result Order Code → List Act → List Act → Type 0
 Does (Err code) log new = new ≡ done (Reported code ∷ log)
 Does (Ok order) log new = Performs order log new
 
--- A unit starts: it is read behind the path that the units before it leave.
+-- A unit starts: it is read with the path that the units before it leave.
 abbrev pub Starts : List ℕ → List Act → List Act → Type 0
 Starts unit log new = (path behind : List (List ℕ)) × (outcome : Result Order Code) × IsPath log path × IsReadAs path unit outcome behind
     × Does outcome log new
 
--- the response is interrupted by a new message
+-- the response is dropped, interrupted by a new message, and -410 is reported
 abbrev pub interrupted : List Act → List Act
 interrupted log = Reported QueryInterrupted ∷ Exchanged Interrupted ∷ log
 
+-- The step, by whether a unit is held and by what is due. A held unit ends only while no measurement is under way.
 abbrev pub StepOf : Option Awaited → Due → List Act → List Act → Type 0
 StepOf (Some awaited) next log new = (is_idle log ≡ true) × (new ≡ released awaited log)
 StepOf None NothingDue log new = ⊥
@@ -44,7 +45,7 @@ StepOf None InterruptDue log new = (unit : List ℕ) × (next_unit (exchange_act
 StepOf None (UnitDue unit) log new = Starts unit log new
 StepOf None FinishDue log new = new ≡ Exchanged Finished ∷ log
 
--- The step that is due makes this of a log.
+-- The step that is due makes this log of the other.
 abbrev pub IsStep : List Act → List Act → Type 0
 IsStep log new = StepOf (held log) (due (exchange_acts log)) log new
 
@@ -53,6 +54,6 @@ abbrev pub is_held : Option Awaited → Bool
 is_held None = false
 is_held (Some awaited) = true
 
--- whether a read is answered: there is a response, or nothing is under way that could make one
+-- whether a read is answered now: there is a response, or nothing is under way that could make one
 abbrev pub is_answerable : List Act → Bool
 is_answerable log = is_something (response (exchange_acts log)) || (not (is_held (held log)) && not (has_ended (exchange_acts log)))

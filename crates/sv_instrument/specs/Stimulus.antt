@@ -1,4 +1,4 @@
--- What happens to the instrument from outside of program messages, and triggers that come at once.
+-- What happens to the instrument besides program messages: triggers, time, and immediate triggers.
 use Rattle.std.specs.Prelude.{◌≡◌, List, [], ◌∷◌, Option, Some, None}
 use Rattle.sv_errors.specs.declared.code.Code.{Code}
 use Rattle.sv_errors.specs.declared.source.Source.TheVariants.{Immediate, Bus, External}
@@ -10,30 +10,33 @@ use Rattle.sv_scan.specs.Scan.{state}
 use Rattle.sv_layers.specs.Act.{Act, Scanned, Reported}
 use Rattle.sv_layers.specs.Condition.{counted}
 
--- a trigger from the controller: where none is waited for, that is reported (VXI-11, device_trigger)
+-- the controller's trigger, or the error with which it is ignored
 abbrev pub or_reported : Option Code → Act
 or_reported None = Scanned (Trigger Bus)
 or_reported (Some code) = Reported code
 
+-- a trigger from the controller (VXI-11, device_trigger): if none from there is waited for, -211 is reported
 abbrev pub trigger_acts : List Act → List Act
 trigger_acts log = or_reported (trigger_fault (counted log) Bus) ∷ []
 
--- a trigger from the trigger input: where none is waited for, nothing happens
+-- the trigger input's trigger, or nothing
 abbrev pub or_nothing : Option Code → List Act
 or_nothing None = Scanned (Trigger External) ∷ []
 or_nothing (Some code) = []
 
+-- a trigger at the trigger input: if none from there is waited for, nothing happens
 abbrev pub external_acts : List Act → List Act
 external_acts log = or_nothing (trigger_fault (counted log) External)
 
--- a millisecond: in a scan the next channel is read
+-- the next channel is read, in a scan
 abbrev pub where_scanning : State → List Act
 where_scanning Scanning = Scanned Sample ∷ []
 where_scanning _ = []
 
+-- a millisecond passes: in a scan the next channel is read
 abbrev pub tick_acts : List Act → List Act
 tick_acts log = where_scanning (state (counted log))
 
--- An immediate trigger: it comes as soon as one is waited for.
+-- An immediate trigger comes, as soon as one is waited for.
 abbrev pub IsFired : List Act → List Act → Type 0
 IsFired log new = (trigger_fault (counted log) Immediate ≡ None) × (new ≡ Scanned (Trigger Immediate) ∷ log)

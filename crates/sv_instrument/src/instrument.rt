@@ -9,7 +9,7 @@ use sv_exchange::MAX_RESPONSE;
 use sv_header::{Path, Table};
 use sv_layers::{Awaited, Layers};
 
-/// The instrument: what happens to it, and what it answers.
+/// A simulated instrument.
 #[derive(Drop)]
 pub struct Instrument<A: Allocator = Global> {
     /// Which command a header names.
@@ -39,10 +39,10 @@ impl<A: Allocator> Model for Instrument<A> {
 }
 
 impl<A: Allocator + Copy> Instrument<A> {
-    /// The instrument as it is when power comes on. Takes all the memory that it ever uses.
+    /// The instrument as at power on. It allocates all the memory that it ever uses.
     ///
     /// # Errors
-    /// Where memory is refused.
+    /// If memory is refused.
     pub fn new(alloc: A) -> Result<Instrument<A>, AllocError>
         ensures { IfOk result (λ instrument. StandsFor instrument []) }
     {

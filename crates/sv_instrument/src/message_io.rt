@@ -18,7 +18,7 @@ use sv_header::Path;
 use sv_layers::Change;
 
 impl<A: Allocator> Instrument<A> {
-    /// Whether a write is taken now: no message that has ended waits to be finished.
+    /// Whether a write is accepted now: no ended message waits to be finished.
     pub fn can_write(&self) -> bool
         ensures value { result ≡ is_open self.now.layers.exchange }
         ensures answer { (log : List Act) → StandsFor self.now log
@@ -27,9 +27,10 @@ impl<A: Allocator> Instrument<A> {
         self.layers.exchange().open_for_write()
     }
 
-    /// Takes in the bytes of a write, and whether END came with the last of them (VXI-11,
-    /// device_write). A write has to be taken now, of at most [`MAX_MESSAGE`] bytes. It tells how
-    /// many requests for service were raised, as all calls here do that change something.
+    /// Accepts the bytes of a write, with END after the last of them or without (VXI-11,
+    /// device_write). A write must be acceptable now, and have at most [`MAX_MESSAGE`] bytes. The
+    /// result is how many requests for service were raised, as of all calls here that change
+    /// something.
     pub fn write(&mut self, bytes: &[u8], ended: bool) -> u8
         requires open { IsTrue (is_open self.old.layers.exchange) }
         requires short { length bytes.now ≤ max_message }
@@ -49,7 +50,7 @@ impl<A: Allocator> Instrument<A> {
         self.layers.exchange().readable()
     }
 
-    /// Whether a read is answered now: there is a response, or none is to be waited for.
+    /// Whether a read is answered now: there is a response, or none is on its way.
     pub fn can_read(&self) -> bool
         ensures value { result ≡ (is_something (shown_by self.now.layers.exchange)
             || is_open self.now.layers.exchange) }
@@ -58,9 +59,8 @@ impl<A: Allocator> Instrument<A> {
         self.layers.exchange().readable() || self.can_write()
     }
 
-    /// The next bytes of the response: at most as many as asked for, and no further than to the
-    /// first termination character (VXI-11, device_read). There are none where there is no
-    /// response.
+    /// The next bytes of the response: at most as many as asked for, and up to the first
+    /// termination character (VXI-11, device_read). None without a response.
     pub fn peek(&self, most: u32, term: Option<u8>) -> Read<'_>
         ensures value { IsReadOf result (shown_by self.now.layers.exchange) most term }
         ensures answer { (log : List Act) → StandsFor self.now log
@@ -79,9 +79,8 @@ impl<A: Allocator> Instrument<A> {
         self.take_requests()
     }
 
-    /// Drops the text of a message that hasn't ended, and reports that a response was asked for
-    /// where there is none (IEEE 488.2, 6.3.2.2). No message that has ended may wait to be
-    /// finished.
+    /// A read where no response will come: the text of the unfinished message is dropped, and -420
+    /// is reported (IEEE 488.2, 6.3.2.2). No ended message may wait to be finished.
     pub fn unterminated(&mut self) -> u8
         requires { IsTrue (is_open self.old.layers.exchange) }
         ensures { (log : List Act) → StandsFor self.old log → Ran self.new result log
@@ -94,8 +93,8 @@ impl<A: Allocator> Instrument<A> {
         self.take_requests()
     }
 
-    /// Drops program text, the held unit and the response, and cancels an `*OPC` (VXI-11,
-    /// device_clear; IEEE 488.2, 5.8).
+    /// Device clear: drops program text, the held unit and the response, and cancels an `*OPC`
+    /// (VXI-11, device_clear; IEEE 488.2, 5.8).
     pub fn clear(&mut self) -> u8
         ensures { (log : List Act) → StandsFor self.old log
             → Ran self.new result log (Purged ∷ log) }

@@ -20,9 +20,8 @@ use sv_layers::{Awaited, Change};
 use sv_scan::State;
 
 impl<A: Allocator> Instrument<A> {
-    /// Triggers at once, where the source is immediate and a trigger is waited for. It tells how
-    /// many requests for service were raised; none is told where no trigger was due, and then
-    /// nothing changes.
+    /// Triggers if the source is immediate and a trigger is waited for. The result is how many
+    /// requests for service were raised; `None` if no trigger was due, and then nothing changes.
     pub fn fire(&mut self) -> Option<u8>
         ensures fires { (log : List Act) → StandsFor self.old log
             → Takes IsFired self.new result log }
@@ -36,10 +35,10 @@ impl<A: Allocator> Instrument<A> {
         }
     }
 
-    /// Takes the step of message exchange that is due: a held unit ends, or the next unit starts,
-    /// or a message that is too long is reported, or one that has ended is finished (IEEE 488.2,
-    /// 6.1.4 and 6.3). It tells how many requests for service were raised; none is told where no
-    /// step was due, and then nothing changes.
+    /// Takes the step of message exchange that is due: a held unit ends, the next unit starts, a
+    /// message that is too long is reported, or one that has ended is finished (IEEE 488.2, 6.1.4
+    /// and 6.3). The result is how many requests for service were raised; `None` if no step was
+    /// due, and then nothing changes.
     pub fn step(&mut self) -> Option<u8>
         ensures steps { (log : List Act) → StandsFor self.old log
             → Takes IsStep self.new result log }
@@ -54,7 +53,7 @@ impl<A: Allocator> Instrument<A> {
         }
     }
 
-    /// Takes the step that is due, and tells whether one was.
+    /// Takes the step that is due. Returns whether one was.
     fn take_step(&mut self) -> bool
         ensures { Steps result self.old self.new }
     {

@@ -1,4 +1,4 @@
-//! What happens to the instrument from outside of messages: inputs, triggers and time.
+//! What happens to the instrument besides messages: inputs, triggers and time.
 
 ghost use Rattle.std.specs.Prelude.{◌≡◌, List, ◌∷◌, ◌++◌};
 ghost use Rattle.sv_scan.specs.declared.acts.ScanAct.TheVariants.{Input};
@@ -16,9 +16,9 @@ use sv_layers::Change;
 use sv_scan::{ScanAct, State};
 
 impl<A: Allocator> Instrument<A> {
-    /// The voltage of a channel's input is this from now on, in microvolts. A channel that there
-    /// isn't has no input: nothing changes. It tells how many requests for service were raised, as
-    /// all calls below do.
+    /// Sets the input of a channel to this voltage, in microvolts; nothing changes if there is no
+    /// such channel. The result is how many requests for service were raised, as of all calls
+    /// below.
     pub fn input(&mut self, channel: u8, microvolts: i64) -> u8
         ensures { (log : List Act) → StandsFor self.old log
             → Ran self.new result log (Scanned (Input channel microvolts) ∷ log) }
@@ -28,8 +28,8 @@ impl<A: Allocator> Instrument<A> {
         self.take_requests()
     }
 
-    /// A trigger comes in at the trigger input: the next scan begins where an external trigger is
-    /// waited for; else nothing happens.
+    /// A trigger at the trigger input: the next scan begins if an external trigger is waited for;
+    /// else nothing happens.
     pub fn external(&mut self) -> u8
         ensures { (log : List Act) → StandsFor self.old log
             → Ran self.new result log (external_acts log ++ log) }
@@ -40,8 +40,8 @@ impl<A: Allocator> Instrument<A> {
         }
     }
 
-    /// A trigger comes from the controller: the next scan begins where one from there is waited
-    /// for; else that is reported (VXI-11, device_trigger).
+    /// A trigger from the controller: the next scan begins if one from there is waited for; else
+    /// -211 is reported (VXI-11, device_trigger).
     pub fn trigger(&mut self) -> u8
         ensures { (log : List Act) → StandsFor self.old log
             → Ran self.new result log (trigger_acts log ++ log) }
@@ -53,7 +53,7 @@ impl<A: Allocator> Instrument<A> {
         self.take_requests()
     }
 
-    /// A millisecond goes by: in a scan the next channel is read.
+    /// A millisecond passes: in a scan the next channel is read.
     pub fn tick(&mut self) -> u8
         ensures { (log : List Act) → StandsFor self.old log
             → Ran self.new result log (tick_acts log ++ log) }
@@ -68,7 +68,7 @@ impl<A: Allocator> Instrument<A> {
         }
     }
 
-    /// Whether a scan is under way, of which the next millisecond reads a channel.
+    /// Whether a scan is under way, so that the next millisecond reads a channel.
     pub fn is_scanning(&self) -> bool
         ensures { (log : List Act) → StandsFor self.now log
             → result ≡ scans (state (counted log)) }

@@ -45,7 +45,7 @@ pub(crate) fn hold<A: Allocator>(layers: &mut Layers<A>, awaited: Awaited) -> Op
     Some(awaited)
 }
 
-/// An answer is given, where it has room; else all answers of the message are dropped, and that is
+/// An answer is given, if it fits; else all answers of the message are dropped, and that is
 /// reported.
 fn respond<A: Allocator>(layers: &mut Layers<A>, text: &[u8])
     requires { IsTrue (may_respond layers.old.exchange) }

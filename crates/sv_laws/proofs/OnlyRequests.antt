@@ -112,7 +112,7 @@ adds_linked c (Unlocked lid) channel_log = adds_none c channel_log
 adds_requested : (c : ℕ) (raised : Bool) (channel_log : List ChannelAct) → OnlyAdds c channel_log (request_told raised channel_log)
 adds_requested c true channel_log = λ opened.
     let more = fold_adds (peer c channel_log) (taken c channel_log) (calls c channel_log) (handles_of c (enabled channel_log)) in
-        (opened, refl, more.0, more.1)
+    (opened, refl, more.0, more.1)
 adds_requested c false channel_log = adds_none c channel_log
 
 adds_closed : (c conn : ℕ) (channel_log : List ChannelAct) → OnlyAdds c channel_log (ChannelClosed conn ∷ channel_log)
@@ -133,19 +133,19 @@ plain_tells c (Channel (SrqDisabled lid) ∷ adds) acts channel_log later h x (b
     subst (OnlyAdds c channel_log) (sym is) (plain_tells c adds acts channel_log before h x y)
 plain_tells c (Channel (ChannelClosed conn) ∷ adds) acts channel_log later h x (before, y, is) =
     subst (OnlyAdds c channel_log) (sym is)
-        (adds_then c channel_log before (ChannelClosed conn ∷ before) (plain_tells c adds acts channel_log before h x y)
+    (adds_then c channel_log before (ChannelClosed conn ∷ before) (plain_tells c adds acts channel_log before h x y)
     (adds_closed c conn before))
 plain_tells c (Channel Requested ∷ adds) acts channel_log later h x (before, y, is) =
     subst (OnlyAdds c channel_log) (sym is)
-        (adds_then c channel_log before (Requested ∷ before) (plain_tells c adds acts channel_log before h x y)
+    (adds_then c channel_log before (Requested ∷ before) (plain_tells c adds acts channel_log before h x y)
     (adds_requested c true before))
 plain_tells c (Linked act ∷ adds) acts channel_log later h x (before, y, is) =
     subst (OnlyAdds c channel_log) (sym is)
-        (adds_then c channel_log before (link_told act before) (plain_tells c adds acts channel_log before h x y)
+    (adds_then c channel_log before (link_told act before) (plain_tells c adds acts channel_log before h x y)
     (adds_linked c act before))
 plain_tells c (Applied act ∷ adds) acts channel_log later h x (before, raised, y, so, is) =
     subst (OnlyAdds c channel_log) (sym is)
-        (adds_then c channel_log before (request_told raised before) (plain_tells c adds acts channel_log before h x y)
+    (adds_then c channel_log before (request_told raised before) (plain_tells c adds acts channel_log before h x y)
     (adds_requested c raised before))
 plain_tells c (Waited act ∷ adds) acts channel_log later h x y = plain_tells c adds acts channel_log later h x y
 plain_tells c (Ticked ∷ adds) acts channel_log later h x y = absurd h

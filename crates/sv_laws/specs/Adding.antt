@@ -1,5 +1,5 @@
--- What a history sends on a port, in all, and what events add to that: the bytes of all replies, or of all calls for service requests, also
--- of those that were sent before the port was closed.
+-- All bytes that a history sends on a port, and what further events add to them. They are totalled across reconnects: the bytes of all
+-- replies, or of all calls for service requests, also those of a port that was closed since.
 use Rattle.std.specs.Prelude.{◌≡◌, ℕ, List, [], ◌∷◌, ◌++◌}
 use Rattle.std.specs.List.{concat}
 use Rattle.sv_links.specs.Channels.{ChannelAct, all_calls}
@@ -11,24 +11,24 @@ use Rattle.sv_history.specs.Act.{Act, ConnAct, Replied, of, device_acts}
 use Rattle.sv_history.specs.Requests.{HearsOf}
 use Rattle.sv_history.specs.History.{IsLogOf}
 
--- all bytes of a connection's replies, over its openings
+-- all bytes of the replies of a connection, across its openings
 abbrev pub all_replies : List ConnAct → List ℕ
 all_replies [] = []
 all_replies (Replied bytes ∷ acts) = all_replies acts ++ bytes
 all_replies (_ ∷ acts) = all_replies acts
 
--- all bytes of a port, where this was told to interrupt channels
+-- all bytes that were sent on a port, by a log and what it tells interrupt channels
 abbrev pub all_sent : Port → List ChannelAct → List Act → List ℕ
 all_sent (Conn c) channel_log log = all_replies (of c log)
 all_sent (Intr c) channel_log log = concat (all_calls c channel_log)
 
--- A history sends these bytes on a port, in all.
+-- A history sends these bytes on a port, in total.
 abbrev pub Sends : Port → Config → List PlainEvent → List ℕ → Type 0
 Sends port config history bytes = (log : List Act) × (channel_log : List ChannelAct) × IsLogOf config history log
     × HearsOf (device_acts log) channel_log
     × (bytes ≡ all_sent port channel_log log)
 
--- Behind a history these events add these bytes to a port.
+-- After a history, these events add these bytes to a port.
 abbrev pub Adds : Port → Config → List PlainEvent → List PlainEvent → List ℕ → Type 0
 Adds port config past events bytes =
     (before : List ℕ) × Sends port config past before × Sends port config (events ++ past) (before ++ bytes)

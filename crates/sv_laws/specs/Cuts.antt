@@ -1,5 +1,5 @@
--- Cuts: where writes, the bytes that come, and the records in them are cut changes nothing that is sent on any port (VXI-11 revision 1.0,
--- section B.6, device_write; RFC 5531, section 11: record marking).
+-- Cuts: how bytes are split into pieces, records into fragments (RFC 5531, section 11: record marking), and text into writes (VXI-11
+-- revision 1.0, section B.6, device_write) changes nothing that is sent but the writes' own replies, under the premises below.
 use Rattle.std.specs.Prelude.{◌≡◌, ◌≢◌, ◌↔◌, not, ℕ, pos, Bool, true, false, List, [], ◌∷◌, ◌++◌, length, drop, filter, map, Some}
 use Rattle.std.specs.Int.{bit_at}
 use Rattle.std.specs.List.{AllByRecursion}
@@ -22,41 +22,42 @@ use Rattle.sv_laws.specs.Adding.{Sends, Adds}
 
 -- ---- writes
 
--- Bytes come on this connection, or its next call is taken.
+-- The event is bytes on this connection, or a Turn of it.
 abbrev pub IsFeeding : ℕ → PlainEvent → Type 0
 IsFeeding c (Bytes d piece) = d ≡ c
 IsFeeding c (Turn d) = d ≡ c
 IsFeeding c _ = ⊥
 
--- a connection's acts beside the bytes that came
+-- whether an act of a connection is a piece of bytes that came
 abbrev pub is_piece : ConnAct → Bool
 is_piece (Piece bytes) = true
 is_piece _ = false
 
+-- the acts of a connection without those
 abbrev pub without_pieces : List ConnAct → List ConnAct
 without_pieces = filter (λ act. not (is_piece act))
 
--- The newest acts are a write of these bytes on a link, with the END flag or without it: it was taken, and answered without error and with
--- all its bytes.
+-- The newest acts are a device_write of these bytes on a link, with or without the END flag. It was answered without error, for all its
+-- bytes.
 abbrev pub IsWritten : ℕ → List ℕ → Bool → List ConnAct → List ConnAct → Type 0
 IsWritten lid bytes ended before acts = (xid io_timeout lock_timeout flags : ℕ) × (call : List ℕ)
     × (core_call call ≡ Some (record { xid = xid; arguments = OnLink (pos lid) (DeviceWrite io_timeout lock_timeout flags bytes) }))
     × ((bit_at flags 3 ≡ 1) ↔ (ended ≡ true))
     × (acts ≡ Replied (result_reply xid (Size NoError (length bytes))) ∷ CallTaken call ∷ before)
 
--- Behind a history such events of a connection lead from its log to another, and leave no whole record.
+-- After a history such events of a connection lead from its log to another one, and leave no complete record to take.
 pub record Feeds (c : ℕ) (config : Config) (past events : List PlainEvent) (before log : List Act) : Type 0 where
   pub feeding : AllByRecursion (IsFeeding c) events
   pub was : IsLogOf config past before
   pub is_log : IsLogOf config (events ++ past) log
   pub none_left : drop (completed (of c log)) (records_of (stream (of c log))) ≡ []
 
--- No read or write waits for input or output.
+-- No read or write is suspended for input or output.
 abbrev pub NoneWaits : List WaitAct → Type 0
 NoneWaits acts = (c : ℕ) → (waits c acts ≢ Some ForInput) × (waits c acts ≢ Some ForResponse)
 
--- Behind a history the one events are a write of x and y, and the other events a write of x without the END flag, and then one of y; both
--- leave the same unfinished record.
+-- After a history, `one` is a write of x and y. `two` is a write of x without the END flag, and then one of y. Both leave the same
+-- unfinished record. No byte of x is a new line, and no read or write was suspended before.
 pub record AreCut (c lid : ℕ) (x y : List ℕ) (ended : Bool) (config : Config) (past one two : List PlainEvent) : Type 0 where
   pub before : List Act
   pub whole : List Act
@@ -71,8 +72,8 @@ pub record AreCut (c lid : ℕ) (x y : List ℕ) (ended : Bool) (config : Config
   pub writes_first : IsWritten lid x false (without_pieces (of c before)) middle
   pub writes_second : IsWritten lid y ended middle (without_pieces (of c cut))
 
--- Then what comes behind them adds the same bytes to each port, if both are histories; and they themselves do to each port but the
--- connection.
+-- Then further events add the same bytes to each port after both, if both are histories. The writes themselves add the same bytes to each
+-- port but their connection.
 abbrev pub WritesCut : Type 0
 WritesCut = (c lid : ℕ) (x y : List ℕ) (ended : Bool) (config : Config) (past one two events : List PlainEvent) (log other : List Act)
     → AreCut c lid x y ended config past one two → IsLogOf config (events ++ (one ++ past)) log
@@ -82,8 +83,8 @@ WritesCut = (c lid : ℕ) (x y : List ℕ) (ended : Bool) (config : Config) (pas
 
 -- ---- pieces and fragments
 
--- Two histories differ only in how bytes that come next to one another on a connection are cut into pieces, and their records into
--- fragments: of the stream up to there the same is read, whole records and an unfinished one.
+-- Two histories differ only in how adjacent bytes on a connection are split into pieces, and their records into fragments: the streams up
+-- to there read as the same records and the same unfinished one.
 pub data Recut (config : Config) : List PlainEvent → List PlainEvent → Type 0 where
   Nothing : Recut config [] []
   Same : {past other : List PlainEvent} (event : PlainEvent) → Recut config past other → Recut config (event ∷ past) (event ∷ other)

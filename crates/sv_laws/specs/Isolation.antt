@@ -1,5 +1,5 @@
--- Isolation: while a link holds the lock, what other connections do changes nothing that is sent on its connection and on its interrupt
--- channel (VXI-11 revision 1.0, section B.4.4: device locking).
+-- Isolation: while a link holds the lock, other connections change nothing that is sent on its connection and on its interrupt channel
+-- (VXI-11 revision 1.0, section B.4.4: device locking).
 use Rattle.std.specs.Prelude.{◌≡◌, ◌≢◌, ◌↔◌, ◌==◌, not, ℕ, Bool, false, ⊤, List, [], ◌∷◌, ◌++◌, filter, Option, Some, None}
 use Rattle.sv_vxi.specs.Arguments.{is_create_link}
 use Rattle.sv_links.specs.declared.waiting.Wait.TheVariants.{Input as ForInput, Response as ForResponse}
@@ -15,7 +15,7 @@ use Rattle.sv_history.specs.AbortChannel.{owner_of}
 use Rattle.sv_history.specs.History.{IsLogOf}
 use Rattle.sv_laws.specs.Adding.{Adds}
 
--- whether an event is of another connection than this, or of the interrupt channel of another
+-- whether an event is of another connection than this, or of another's interrupt channel
 abbrev pub is_foreign : ℕ → PlainEvent → Bool
 is_foreign c (Open d role) = not (d == c)
 is_foreign c (Bytes d piece) = not (d == c)
@@ -32,38 +32,39 @@ is_foreign c Tick = false
 abbrev pub own_events : ℕ → List PlainEvent → List PlainEvent
 own_events c = filter (λ event. not (is_foreign c event))
 
--- the link that a request names where it is a device_abort, and whether it is a create_link
+-- the link that a device_abort names; `None` for another request
 abbrev pub aborted_link : Option Request → Option ℕ
 aborted_link (Some (AbortRequest xid lid)) = lid_of (Some lid)
 aborted_link _ = None
 
+-- whether a request is create_link
 abbrev pub makes_link : Option Request → Bool
 makes_link (Some (CoreRequest call)) = is_create_link call.arguments
 makes_link _ = false
 
--- The event takes no device_abort that names a link of this connection, and neither takes nor refuses a create_link on it.
+-- The event takes no device_abort of a link of this connection, and neither takes nor refuses a create_link on this connection.
 abbrev pub LeavesLinksAlone : ℕ → PlainEvent → List Act → Type 0
 LeavesLinksAlone c (Turn d) log = (owner_of (aborted_link (next_request (of d log))) (device_acts log) ≢ Some c)
     × (d ≡ c → makes_link (next_request (of d log)) ≡ false)
 LeavesLinksAlone c (Refuse d) log = d ≡ c → makes_link (next_request (of d log)) ≡ false
 LeavesLinksAlone c _ log = ⊤
 
--- Behind a history each of these events is such, in the log of what is in front of it.
+-- After a history this holds of each of these events, in the log of all before it.
 abbrev pub EachIs : (PlainEvent → List Act → Type 0) → Config → List PlainEvent → List PlainEvent → Type 0
 EachIs IsSuch config past [] = ⊤
 EachIs IsSuch config past (event ∷ events) =
     EachIs IsSuch config past events × ((log : List Act) → IsLogOf config (events ++ past) log → IsSuch event log)
 
--- The link holds the lock at each place from the end of one log to that of another.
+-- The link holds the lock at each place from the end of one log to the end of another.
 abbrev pub HoldsFrom : ℕ → List Act → List Act → Type 0
 HoldsFrom lid before log = (later since : List Act) → log ≡ later ++ (since ++ before)
     → holder (link_acts (device_acts (since ++ before))) ≡ Some lid
 
--- No read or write of another connection waits for input or output.
+-- No read or write of another connection is suspended for input or output.
 abbrev pub NoOtherWaits : ℕ → List WaitAct → Type 0
 NoOtherWaits c acts = (d : ℕ) → d ≢ c → (waits d acts ≢ Some ForInput) × (waits d acts ≢ Some ForResponse)
 
--- Behind a history these events come, through which a link of this connection holds the lock.
+-- After a history these events come, during which a link of this connection holds the lock.
 pub record IsLocked (c lid : ℕ) (config : Config) (past events : List PlainEvent) : Type 0 where
   pub before : List Act
   pub log : List Act
@@ -74,7 +75,7 @@ pub record IsLocked (c lid : ℕ) (config : Config) (past events : List PlainEve
   pub rest : NoOtherWaits c (wait_acts (device_acts before))
   pub left_alone : EachIs (LeavesLinksAlone c) config past events
 
--- Then the events without those of other connections make a history too, and both add the same bytes to the connection and to its interrupt
+-- Then the events without those of other connections are a history too, and both add the same bytes to this connection and to its interrupt
 -- channel.
 abbrev pub Isolation : Type 0
 Isolation = (c lid : ℕ) (config : Config) (past events : List PlainEvent) → IsLocked c lid config past events

@@ -1,4 +1,4 @@
--- Laws of the whole, over the definitions alone.
+-- Laws of the whole specification: one log, calls and replies, what is never refused, and time.
 use Rattle.std.specs.Prelude.{◌≡◌, ◌⊎◌, ℕ, ◌+◌, ◌<◌, ◌≤◌, Bool, true, false, List, [], ◌∷◌, ◌++◌, length, take, drop, filter, replicate, Some, None, is_some, Result, Ok, Err, ⊤}
 use Rattle.sv_rpc.specs.declared.call.CallFault.TheVariants.{BadHeader}
 use Rattle.sv_rpc.specs.Call.{call_at}
@@ -23,18 +23,19 @@ use Rattle.sv_history.specs.History.{is_port_shut, input_refusal, last_clock, Is
 abbrev pub OneLog : Type 0
 OneLog = (config : Config) (history : List PlainEvent) (a b : List Act) → IsLogOf config history a → IsLogOf config history b → a ≡ b
 
--- While nothing waits for time, milliseconds only count: that they passed is all that the log gains, unless the clock comes to its end.
+-- While nothing waits for time, ticks change nothing but the clock, up to its last value: they are all that the log gains.
 abbrev pub TimeOnlyCounts : Type 0
 TimeOnlyCounts = (config : Config) (history : List PlainEvent) (log : List Act) (most : ℕ) → IsLogOf config history log
     → IsStill most config (device_acts log) → config.clock + ticks (device_acts log) + most ≤ last_clock
     → IsLogOf config (replicate most Tick ++ history) (replicate most (OnDevice Ticked) ++ log)
 
--- Between two events no call waits past its deadline, and none waits for what is there (VXI-11 revision 1.0, section B.4.4).
+-- Between two events no suspended call is past its deadline, and none waits for what is there (VXI-11 revision 1.0, section B.4.4).
 abbrev pub NoneLate : Type 0
 NoneLate = (config : Config) (history : List PlainEvent) (log : List Act) (c : ℕ) → IsLogOf config history log
     → (IsExpired (config.clock + ticks (device_acts log)) (wait_acts (device_acts log)) c → ⊥) × (CanResume (device_acts log) c → ⊥)
 
--- An event that suits what the server answers when it is asked.
+-- The event fits the answers of the queries at this moment: an Open of a free number; Bytes that fit the room; a Took of at most what
+-- waits, if anything waits; a Close of an open port; a Dialed that is waited for; an Input that isn't refused; the external trigger.
 abbrev pub Suits : PlainEvent → List ChannelAct → List Act → Type 0
 Suits (Open c role) channel_log log = (c < 16) × (is_open (of c log) ≡ false)
 Suits (Bytes c piece) channel_log log = (c < 16) × (0 < room (of c log)) × (length piece ≤ room (of c log))
@@ -46,7 +47,7 @@ Suits (Input channel microvolts) channel_log log = input_refusal channel microvo
 Suits External channel_log log = ⊤
 Suits _ channel_log log = ⊥
 
--- It is never refused: who brings as many bytes as there is room for, and takes as many as wait, loses none.
+-- Such an event is never refused.
 abbrev pub NothingLost : Type 0
 NothingLost = (config : Config) (history : List PlainEvent) (event : PlainEvent) (channel_log : List ChannelAct) (log : List Act)
     (result : Result Did Refused) → IsLogOf config history log → HearsOf (device_acts log) channel_log → Suits event channel_log log
@@ -56,30 +57,31 @@ NothingLost = (config : Config) (history : List PlainEvent) (event : PlainEvent)
 abbrev pub taken : List ConnAct → ℕ
 taken acts = length (filter (elim [ CallTaken call ↦ true | _ ↦ false ]) (lived acts))
 
+-- 1 if so, else 0
 abbrev pub one_if : Bool → ℕ
 one_if true = 1
 one_if false = 0
 
--- as many as were answered (or were no calls), and the one that waits
+-- As many records were taken on a connection as were answered or are no calls, and one more if a call of it is suspended.
 abbrev pub IsPaid : ℕ → List Act → Type 0
 IsPaid c log = taken (of c log) ≡ completed (of c log) + one_if (is_some (waits c (wait_acts (device_acts log))))
 
--- Each call that is taken is answered once, or waits for its answer.
+-- Each call that is taken is answered once, or is suspended.
 abbrev pub EachAnswered : Type 0
 EachAnswered = (config : Config) (history : List PlainEvent) (log : List Act) (c : ℕ) → IsLogOf config history log → IsPaid c log
 
--- A reply has a call's xid: behind its record mark it begins with the four bytes with which the call begins (RFC 5531, sections 9 and 11).
+-- The reply has the call's xid: the four bytes behind its record mark are the first four of the call (RFC 5531, sections 9 and 11).
 abbrev pub HasXidOf : List ℕ → List ℕ → Type 0
 HasXidOf call reply = (4 ≤ length call) × (take 4 (drop 4 reply) ≡ take 4 call)
 
--- Each reply answers the call that had no answer until then, and has its xid.
+-- Each reply answers the call that was unanswered until then, and has its xid.
 abbrev pub RepliesMatch : Type 0
 RepliesMatch = (config : Config) (history : List PlainEvent) (log : List Act) (c : ℕ) (newer older : List ConnAct) (reply : List ℕ)
     → IsLogOf config history log → of c log ≡ newer ++ Replied reply ∷ older
     → (call : List ℕ) × (unanswered older ≡ Some call) × HasXidOf call reply
 
--- A call that a Turn takes is answered; or it is no call, which faults its connection; or it waits, for what isn't there (VXI-11 revision
--- 1.0, section B.4.4).
+-- A call that a Turn takes is answered; or it is no call, which faults its connection; or it is suspended, for what isn't there (VXI-11
+-- revision 1.0, section B.4.4).
 abbrev pub TurnAnswered : Type 0
 TurnAnswered = (config : Config) (history : List PlainEvent) (before log : List Act) (c : ℕ) (call : List ℕ) → IsLogOf config history before
     → IsLogOf config (Turn c ∷ history) log → next_call (of c before) ≡ Some call

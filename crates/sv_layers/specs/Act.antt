@@ -1,5 +1,5 @@
--- What happens to the instrument, an act for each change, and what of it happens to its exchange, its error queue and its scanner. Acts
--- are read from the newest.
+-- The acts of the instrument, and which of them are those of message exchange, error queue and scanner. Lists of acts have the newest
+-- first.
 use Rattle.std.specs.Prelude.{ℕ, List, [], ◌∷◌, Some, None}
 use Rattle.std.specs.List.{filter_map}
 use Rattle.sv_errors.specs.declared.code.Code.{Code}
@@ -10,6 +10,7 @@ use Rattle.sv_scan.specs.declared.acts.ScanAct.{ScanAct}
 use Rattle.sv_layers.specs.declared.change.Awaited.{Awaited}
 use Rattle.sv_exchange.specs.Exchange.{ExchangeAct, TextDropped, Interrupted}
 
+-- an act of the instrument
 pub data Act : Type 0 where
   -- program text and responses; all of it is dropped by a device clear
   Exchanged : (act : ExchangeAct) → Act
@@ -34,18 +35,18 @@ pub data Act : Type 0 where
   ServiceEnabled : (mask : ℕ) → Act
   Polled : Act
 
--- what happens to the exchange
+-- the acts of message exchange; a device clear interrupts the response and drops the text
 abbrev pub exchange_acts : List Act → List ExchangeAct
 exchange_acts [] = []
 exchange_acts (Exchanged act ∷ log) = act ∷ exchange_acts log
 exchange_acts (Purged ∷ log) = Interrupted ∷ TextDropped ∷ exchange_acts log
 exchange_acts (_ ∷ log) = exchange_acts log
 
--- what happens to the scanner
+-- the acts of the scanner
 abbrev pub scan_acts : List Act → List ScanAct
 scan_acts = filter_map (elim [ Scanned act ↦ Some act | _ ↦ None ])
 
--- what happens to the error queue
+-- the acts of the error queue
 abbrev pub queue_acts : List Act → List QueueAct
 queue_acts [] = []
 queue_acts (Reported code ∷ log) = queue.Report code ∷ queue_acts log

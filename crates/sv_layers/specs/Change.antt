@@ -1,8 +1,9 @@
--- The act that a change is.
+-- Which act a change of the code is.
 use Rattle.sv_layers.specs.declared.change.Change.{Change}
 use Rattle.sv_layers.specs.declared.change.Change.TheVariants as changes
 use Rattle.sv_layers.specs.Act.{Act, Scanned, Held, Reported, EntryTaken, Cleared, Preset, OpcAsked, StandardRead, StandardEnabled, EventRead, Enabled, RiseSet, FallSet, ServiceEnabled}
 
+-- the act that a change is
 abbrev pub act_of : Change → Act
 act_of (changes.Scan act) = Scanned act
 act_of (changes.Hold awaited) = Held awaited

@@ -1,4 +1,4 @@
--- The condition words (SCPI-1999, chapter 20) and the state of the trigger system, at a place of the log.
+-- The condition words (SCPI-1999, chapter 20) and the state of the trigger system, by the log.
 use Rattle.std.specs.Prelude.{ℕ, ◌+◌, Bool, ◌&&◌, List}
 use Rattle.std.specs.List.{list_any, range_with_len}
 use Rattle.sv_logs.specs.Since.{is_since}
@@ -11,7 +11,7 @@ use Rattle.sv_scan.specs.Condition as scan
 use Rattle.sv_layers.specs.Act.{Act, scan_acts}
 use Rattle.sv_layers.specs.Filter.{enable, has_bit, passes, leaves}
 
--- the acts of the scanner that count
+-- the acts of the scanner that count: one that is refused stands in the log, and counts for nothing
 abbrev pub counted : List Act → List ScanAct
 counted log = kept (scan_acts log)
 
@@ -19,21 +19,22 @@ counted log = kept (scan_acts log)
 abbrev pub is_idle : List Act → Bool
 is_idle log = idles (state (counted log))
 
--- what the measurement tells a register
+-- the condition of a register, by the acts of the scanner
 abbrev pub scan_word : RegisterName → List ScanAct → ℕ
 scan_word Operation acts = scan.operation acts
 scan_word Questionable acts = scan.questionable acts
 scan_word Limit acts = scan.limit acts
 
+-- the same, by the log
 abbrev pub word : RegisterName → List Act → ℕ
 word name log = scan_word name (counted log)
 
--- The summary of a register with none below it: some bit that is enabled passed its filter after the last clearing.
+-- The summary of a register with none nested in it: some enabled bit passed its filter after the last clearing.
 abbrev pub summary : RegisterName → List Act → Bool
 summary name log =
     list_any (λ k. is_since (passes (word name) name k) (leaves name) log && has_bit (enable name log) k) (range_with_len 0 16)
 
--- Bit 9 of the questionable condition is the summary of the register below it.
+-- The condition of a register. Bit 9 of the questionable one is the summary of the register nested in it, that of the limits.
 abbrev pub condition : RegisterName → List Act → ℕ
 condition Questionable log = word Questionable log + scan.bit 9 (summary Limit log)
 condition name log = word name log

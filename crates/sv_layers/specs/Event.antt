@@ -1,4 +1,4 @@
--- The events and the summaries of the event registers (SCPI-1999, chapter 20, STATus), by searches of the instrument's log.
+-- Event bits and summaries of the event registers (SCPI-1999, chapter 20, STATus), by searches of the log.
 use Rattle.std.specs.Prelude.{◌≡◌, ℕ, true, List}
 use Rattle.std.specs.Int.{bit_at}
 use Rattle.sv_logs.specs.Since.{Since}
@@ -7,10 +7,10 @@ use Rattle.sv_layers.specs.Act.{Act}
 use Rattle.sv_layers.specs.Condition.{condition}
 use Rattle.sv_layers.specs.Filter.{enable, passes, leaves}
 
--- A bit of an event register stands exactly if a transition passed its filter after the last clearing.
+-- A bit of an event register is set: a transition passed its filter after the last clearing.
 abbrev pub EventStands : RegisterName → ℕ → List Act → Type 0
 EventStands name k log = Since (λ place. passes (condition name) name k place ≡ true) (λ place. leaves name place ≡ true) log
 
--- Some bit of it stands that is enabled.
+-- Some bit of it is set and enabled.
 abbrev pub Summary : RegisterName → List Act → Type 0
 Summary name log = (k : ℕ) × EventStands name k log × (bit_at (enable name log) k ≡ 1)

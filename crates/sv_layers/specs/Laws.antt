@@ -1,4 +1,5 @@
--- The laws that tie what the layers see to the definitions in the words of the standards.
+-- Laws of the layers: what each layer sees of the log (`seen`, in Inside/LayerLogs.antt) is what the definitions beside this file say of
+-- it.
 use Rattle.std.specs.Prelude.{◌≡◌, ◌↔◌, ℕ, Bool, true, List, ◌∷◌}
 use Rattle.std.specs.Int.{bit_at}
 use Rattle.sv_status.specs.declared.register_name.RegisterName.{RegisterName}
@@ -17,12 +18,12 @@ use Rattle.sv_layers.specs.StatusByte.{service, SummaryBit, Request, IsRaised, P
 use Rattle.sv_layers.specs.Inside.LayerLogs.{seen, begun, completed, register_acts}
 use Rattle.sv_layers.specs.Inside.Representation.{IsSummary, IsStatus, RaisedAt}
 
--- Exchange, error queue and scanner see the acts that are theirs, and the service request enable is the one that was set last.
+-- Message exchange, error queue and scanner see exactly their own acts; the service request enable is the one that was set last.
 abbrev pub OwnActs : Type 0
 OwnActs = (log : List Act) → ((seen log).exchange ≡ exchange_acts log) × ((seen log).errors ≡ queue_acts log)
     × ((seen log).scanner ≡ scan_acts log) × ((seen log).service ≡ service log)
 
--- Condition, filters and enable of a status register are those of the log.
+-- Condition, filters and enable of a register are those of the log.
 abbrev pub SameWords : Type 0
 SameWords = (name : RegisterName) (log : List Act) → (register.condition (register_acts name (seen log)) ≡ condition name log)
     × (register.rise (register_acts name (seen log)) ≡ rise name log) × (register.fall (register_acts name (seen log)) ≡ fall name log)
@@ -32,30 +33,30 @@ SameWords = (name : RegisterName) (log : List Act) → (register.condition (regi
 abbrev pub SameEnable : Type 0
 SameEnable = (log : List Act) → standard.enable (seen log).standard ≡ standard_enable log
 
--- A bit of a status register stands exactly if it does by the log.
+-- A bit of an event register is set exactly if it is by the log.
 abbrev pub SameEvents : Type 0
 SameEvents = (name : RegisterName) (k : ℕ) (log : List Act)
     → register.EventStands k (register_acts name (seen log)) ↔ EventStands name k log
 
--- An `*OPC` waits exactly if it does by the log.
+-- An `*OPC` is pending exactly if it is by the log.
 abbrev pub SameWaiting : Type 0
 SameWaiting = (log : List Act) → ((seen log).waits ≡ true) ↔ Waits log
 
--- At an act operation complete occurs exactly if an `*OPC` completes at that act.
+-- Operation complete occurs at an act exactly if an `*OPC` completes at that act.
 abbrev pub SameCompletion : Type 0
 SameCompletion = (act : Act) (before : List Act) → (completes : Bool)
     × ((completed (begun act (seen before))).standard ≡ Occur (bit 0 completes) ∷ (begun act (seen before)).standard)
     × ((completes ≡ true) ↔ Completes (act ∷ before))
 
--- A standard event stands exactly if it does by the log.
+-- A standard event is set exactly if it is by the log.
 abbrev pub SameStandardEvents : Type 0
 SameStandardEvents = (k : ℕ) (log : List Act) → standard.Stands k (seen log).standard ↔ Stands k log
 
--- A word of the summary bits of what the layers see has those of the log.
+-- The summary bits of the layers are those of the log.
 abbrev pub SameSummaries : Type 0
 SameSummaries = (word : ℕ) (log : List Act) → IsSummary word (seen log) → (k : ℕ) → (bit_at word k ≡ 1) ↔ SummaryBit k log
 
--- For each log there is one list of acts that the status byte is told.
+-- For each log, the status byte is told exactly one list of acts.
 abbrev pub OneAccount : Type 0
 OneAccount = (log : List Act) → (status_log : List StatusAct) × IsStatus log status_log
     × ((other : List StatusAct) → IsStatus log other → other ≡ status_log)
@@ -68,7 +69,7 @@ SameRequests = (log : List Act) (status_log : List StatusAct) → IsStatus log s
 abbrev pub SameRaising : Type 0
 SameRaising = (log : List Act) → RaisedAt log ↔ IsRaised log
 
--- A bit of the status byte is as the log tells, as a poll gives it and as `*STB?` does.
+-- The bits of the status byte, as a poll gives them and as `*STB?` does, are those of the log.
 abbrev pub SameStatus : Type 0
 SameStatus = (log : List Act) (status_log : List StatusAct) → IsStatus log status_log → (k : ℕ)
     → (status.StatusBit k status_log ↔ PolledBit k log) × (status.MasterBit k status_log ↔ MasterBit k log)

@@ -1,4 +1,4 @@
--- Standard events (IEEE 488.2, 11.5.1) and the completion of operations (12.5.2), by searches of the instrument's log.
+-- Standard events (IEEE 488.2, 11.5.1) and operation complete (12.5.2), by searches of the log.
 use Rattle.std.specs.Prelude.{◌≡◌, ◌⊎◌, ℕ, Bool, true, false, ⊤, List, [], ◌∷◌, Some, None}
 use Rattle.std.specs.Int.{bit_at}
 use Rattle.sv_logs.specs.Since.{Since, last_given}
@@ -12,44 +12,44 @@ use Rattle.sv_layers.specs.Condition.{is_idle}
 abbrev pub IsAsked : List Act → Type 0
 IsAsked = elim [ OpcAsked ∷ log ↦ ⊤ | _ ↦ ⊥ ]
 
--- what cancels an `*OPC` that isn't complete: `*CLS`, `*RST` and a device clear
+-- whether an act cancels a pending `*OPC`: `*CLS`, `*RST` and device clear do
 abbrev pub cancels : Act → Bool
 cancels = elim [ Cleared ↦ true | Scanned Reset ↦ true | Purged ↦ true | _ ↦ false ]
 
--- An `*OPC` isn't complete at the newest place: a measurement is under way, and it isn't cancelled.
+-- At the newest act a measurement is under way, and the act doesn't cancel.
 abbrev pub IsPending : List Act → Type 0
 IsPending [] = ⊤
 IsPending (act ∷ log) = (is_idle (act ∷ log) ≡ false) × (cancels act ≡ false)
 
--- An `*OPC` waits for the end of a measurement.
+-- An `*OPC` is pending: there was one, and at each place since a measurement was under way and nothing cancelled it.
 abbrev pub Waits : List Act → Type 0
 Waits log = Since IsAsked IsPending log
 
--- At the newest place an `*OPC` is complete: it is the first idle place since, and it wasn't cancelled.
+-- At the newest act an `*OPC` completes: it is the first place since at which no measurement is under way, and it wasn't cancelled.
 abbrev pub Completes : List Act → Type 0
 Completes [] = ⊥
 Completes (act ∷ before) = (is_idle (act ∷ before) ≡ true) × (IsAsked (act ∷ before) ⊎ (Waits before × (cancels act ≡ false)))
 
--- An event occurs at the newest act: bit 7 power on, before all acts; bit 0 an operation is complete; bits 5 to 2 an error of that class
--- is reported; bit 3 the error queue overflows.
+-- An event occurs at the newest act. Bit 7: power on, before all acts. Bit 0: an operation completes. Bits 5 to 2: an error of that class
+-- is reported. Bit 3 also: the error queue overflows.
 abbrev pub Occurs : ℕ → List Act → Type 0
 Occurs k [] = k ≡ 7
 Occurs k (Reported code ∷ log) = (bit_at (standard_event_of code) k ≡ 1) ⊎ ((k ≡ 3) × (is_full (queue_acts log) ≡ true))
     ⊎ ((k ≡ 0) × Completes (Reported code ∷ log))
 Occurs k log = (k ≡ 0) × Completes log
 
--- The newest act doesn't clear the register: it is no `*CLS` and no `*ESR?`.
+-- The newest act doesn't clear the register: it is neither `*CLS` nor `*ESR?`.
 abbrev pub NotCleared : List Act → Type 0
 NotCleared = elim [ StandardRead ∷ log ↦ ⊥ | Cleared ∷ log ↦ ⊥ | _ ↦ ⊤ ]
 
--- A bit stands exactly if its event occurred after the last clearing.
+-- A bit is set exactly if its event occurred after the last clearing.
 abbrev pub Stands : ℕ → List Act → Type 0
 Stands k log = Since (Occurs k) NotCleared log
 
--- the enable that was set last
+-- the enable that was set last; 0 at first
 abbrev pub enable : List Act → ℕ
 enable = last_given (elim [ StandardEnabled mask ↦ Some mask | _ ↦ None ]) 0
 
--- Some event stands that is enabled.
+-- Some event is set and enabled.
 abbrev pub Summary : List Act → Type 0
 Summary log = (k : ℕ) × Stands k log × (bit_at (enable log) k ≡ 1)

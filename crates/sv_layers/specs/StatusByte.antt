@@ -9,36 +9,36 @@ use Rattle.sv_layers.specs.Act.{Act, ServiceEnabled, Polled, exchange_acts, queu
 use Rattle.sv_layers.specs.Event.{Summary}
 use Rattle.sv_layers.specs.Standard.{Summary as StandardSummary}
 
--- A summary bit stands: 7 of the operation register, 5 of the standard events, 4 a message is available, 3 of the questionable register,
--- 2 the error queue isn't empty.
+-- A summary bit is set: 7 the operation register, 5 the standard events, 4 a message is available, 3 the questionable register, 2 the error
+-- queue isn't empty.
 abbrev pub SummaryBit : ℕ → List Act → Type 0
 SummaryBit k log = ((k ≡ 7) × Summary Operation log) ⊎ ((k ≡ 5) × StandardSummary log)
     ⊎ ((k ≡ 4) × (is_something (response (exchange_acts log)) ≡ true)) ⊎ ((k ≡ 3) × Summary Questionable log)
     ⊎ ((k ≡ 2) × (is_something (entries (queue_acts log)) ≡ true))
 
--- the service request enable that was set last
+-- the service request enable that was set last; 0 at first. The mask is taken as it is given: sv_command drops bit 6 from that of `*SRE`.
 abbrev pub service : List Act → ℕ
 service = last_given (elim [ ServiceEnabled mask ↦ Some mask | _ ↦ None ]) 0
 
--- A summary bit stands and is enabled.
+-- A summary bit is set and enabled.
 abbrev pub ServiceRequested : ℕ → List Act → Type 0
 ServiceRequested k log = SummaryBit k log × (bit_at (service log) k ≡ 1)
 
--- the master summary
+-- The master summary is set: some summary bit is set and enabled.
 abbrev pub Master : List Act → Type 0
 Master log = (k : ℕ) × ServiceRequested k log
 
--- A reason arises at the newest act: some bit asks that didn't before.
+-- A reason for service arises at the newest act: some bit is set and enabled that wasn't both before.
 abbrev pub Reason : List Act → Type 0
 Reason [] = ⊥
 Reason (act ∷ before) = (k : ℕ) × ServiceRequested k (act ∷ before) × (ServiceRequested k before → ⊥)
 
--- The newest act leaves a request: it is no poll, and the master summary stands.
+-- The newest act keeps a request: it is no poll, and the master summary is set.
 abbrev pub Lasts : List Act → Type 0
 Lasts (Polled ∷ log) = ⊥
 Lasts log = Master log
 
--- A request stands exactly if a reason arose, and since then the master summary stood at each place and no poll came.
+-- A request for service stands: a reason arose, and since then the master summary was set at each place and no poll came.
 abbrev pub Request : List Act → Type 0
 Request log = Since Reason Lasts log
 
@@ -47,10 +47,10 @@ abbrev pub IsRaised : List Act → Type 0
 IsRaised [] = ⊥
 IsRaised (act ∷ before) = Request (act ∷ before) × (Request before → ⊥)
 
--- a bit of the status byte as a poll gives it: bit 6 is the request
+-- A bit of the status byte as a poll gives it: bit 6 is the request.
 abbrev pub PolledBit : ℕ → List Act → Type 0
 PolledBit k log = SummaryBit k log ⊎ ((k ≡ 6) × Request log)
 
--- a bit of it as `*STB?` gives it (IEEE 488.2, 11.2.2.2): bit 6 is the master summary
+-- A bit of the status byte as `*STB?` gives it (IEEE 488.2, 11.2.2.2): bit 6 is the master summary.
 abbrev pub MasterBit : ℕ → List Act → Type 0
 MasterBit k log = SummaryBit k log ⊎ ((k ≡ 6) × Master log)

@@ -1,10 +1,10 @@
-//! What happens to the layers but the exchange.
+//! The changes of the layers, but those of message exchange.
 
 use sv_errors::Code;
 use sv_scan::ScanAct;
 use sv_status::RegisterName;
 
-/// What a unit answers that is held until no measurement is under way.
+/// What a held unit will answer once no measurement is under way.
 #[derive(Clone, Copy)]
 pub enum Awaited {
     /// Nothing: `*WAI` (IEEE 488.2, 12.5.1).
@@ -15,10 +15,10 @@ pub enum Awaited {
     Readings,
 }
 
-/// A change of the instrument, other than of program text and the response.
+/// A change of the instrument, but of program text and response.
 #[derive(Drop)]
 pub enum Change {
-    /// Something happens to the scanner.
+    /// An act of the scanner.
     Scan(ScanAct),
     /// A unit is held, and will answer this.
     Hold(Awaited),
@@ -30,19 +30,19 @@ pub enum Change {
     ClearStatus,
     /// `STATus:PRESet`: enables and filters of all registers are preset.
     Preset,
-    /// `*OPC`: the end of the measurement is to be told.
+    /// `*OPC`: operation complete is asked for.
     AskComplete,
-    /// The standard events are read, and cleared thereby.
+    /// The standard events are read, which clears them.
     ReadStandard,
     /// The enable of the standard events is set.
     EnableStandard(u8),
-    /// An event register is read, and cleared thereby.
+    /// An event register is read, which clears it.
     ReadEvent(RegisterName),
     /// The enable of a register is set.
     Enable(RegisterName, u16),
-    /// The filter of a register for rising bits is set.
+    /// The positive transition filter of a register is set.
     SetRise(RegisterName, u16),
-    /// The filter of a register for falling bits is set.
+    /// The negative transition filter of a register is set.
     SetFall(RegisterName, u16),
     /// The service request enable is set.
     EnableService(u8),

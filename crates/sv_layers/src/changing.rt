@@ -22,7 +22,7 @@ use sv_scan::ScanAct;
 const DEVICE: u8 = 1 << 3;
 
 impl<A: Allocator> Layers<A> {
-    /// Lets a change happen.
+    /// Applies a change to its own layer, then to each register, then to the status byte.
     pub fn apply(&mut self, change: Change)
         ensures applied { (log : List Act) → StandsFor self.old log
             → IsApplied self.old.requests self.new (act_of change ∷ log) }
@@ -89,11 +89,11 @@ impl<A: Allocator> Layers<A> {
         self.standard.occur(mask_if(DEVICE, overflows));
     }
 
-    /// A trigger from this source, where one from there is waited for.
+    /// A trigger from this source begins the next scan.
     ///
     /// # Errors
-    /// [`Code::TriggerIgnored`] where none is waited for, or one from another source; then nothing
-    /// happens.
+    /// [`Code::TriggerIgnored`] if no trigger is waited for, or one from another source; then
+    /// nothing happens.
     pub fn trigger(&mut self, source: Source) -> Result<(), Code>
         ensures applied { (log : List Act) → StandsFor self.old log
             → MatchResult result (λ done. (trigger_fault (counted log) source ≡ None)

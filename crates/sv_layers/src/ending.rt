@@ -1,4 +1,4 @@
-//! How a change ends: in one register after the other.
+//! The end of a change: each register is updated, one after the other.
 
 ghost use Rattle.std.specs.Prelude.{◌≡◌, ℕ, false, List, ◌∷◌};
 ghost use Rattle.sv_status.specs.declared.register.RegisterAct.{RegisterAct};
@@ -76,14 +76,14 @@ fn differ(first: bool, second: bool) -> bool
     if first { !second } else { second }
 }
 
-/// Bit 9 of the condition of the register above a nested one, where the summary of that stands.
+/// Bit 9 of the condition of the register above a nested one, if the summary of that is set.
 fn summary_bit(stands: bool) -> u16
     ensures { result ≡ bit 9 stands }
 {
     if stands { SUMMARY } else { 0 }
 }
 
-/// Tells a register its condition, where that may have changed.
+/// Gives a register its condition, if that may have changed.
 fn compare(register: &mut Register, touched: bool, word: u16)
     ensures { (start : ℕ) (acts : List RegisterAct) → Registers start register.old acts
         → (touched ≡ false → word ≡ condition acts)

@@ -1,8 +1,8 @@
-//! What the layers see is what the standards say of the log.
+//! Laws of the layers: what each layer sees is what the standards say of the log.
 
 ghost use Rattle.sv_layers.specs.Laws.{OwnActs, SameWords, SameEvents, SameWaiting, SameCompletion, SameStandardEvents, SameEnable, SameSummaries, OneAccount, SameRequests, SameRaising, SameStatus};
 
-/// Exchange, error queue and scanner see the acts that are theirs, and the service request enable
+/// Message exchange, error queue and scanner see exactly their own acts; the service request enable
 /// is the one that was set last.
 pub fn own_acts()
     ensures { OwnActs }
@@ -13,12 +13,12 @@ pub fn same_words()
     ensures { SameWords }
 {}
 
-/// A bit of a status register stands exactly if it does by the log (SCPI-1999, chapter 20).
+/// A bit of an event register is set exactly if it is by the log (SCPI-1999, chapter 20).
 pub fn same_events()
     ensures { SameEvents }
 {}
 
-/// An `*OPC` waits exactly if it does by the log (IEEE 488.2, 12.5.2).
+/// An `*OPC` is pending exactly if it is by the log (IEEE 488.2, 12.5.2).
 pub fn same_waiting()
     ensures { SameWaiting }
 {}
@@ -29,7 +29,7 @@ pub fn same_completion()
     ensures { SameCompletion }
 {}
 
-/// A standard event stands exactly if it does by the log (IEEE 488.2, 11.5.1).
+/// A standard event is set exactly if it is by the log (IEEE 488.2, 11.5.1).
 pub fn same_standard_events()
     ensures { SameStandardEvents }
 {}
@@ -45,7 +45,7 @@ pub fn same_summaries()
     ensures { SameSummaries }
 {}
 
-/// For each log there is one list of acts that the status byte is told.
+/// For each log, the status byte is told exactly one list of acts.
 pub fn one_account()
     ensures { OneAccount }
 {}
@@ -55,7 +55,8 @@ pub fn same_requests()
     ensures { SameRequests }
 {}
 
-/// A request for service is raised exactly where it is by the log (IEEE 488.2, 11.3).
+/// A request for service is raised exactly at the acts at which it is by the log (IEEE 488.2,
+/// 11.3).
 pub fn same_raising()
     ensures { SameRaising }
 {}

@@ -68,10 +68,10 @@ impl<A: Allocator> Model for Layers<A> {
 }
 
 impl<A: Allocator + Copy> Layers<A> {
-    /// All layers as they are when power comes on. Takes the memory of all of them.
+    /// All layers as at power on. It allocates all the memory that they ever use.
     ///
     /// # Errors
-    /// Where memory is refused.
+    /// If memory is refused.
     pub fn new(alloc: A) -> Result<Layers<A>, AllocError>
         ensures { IfOk result (λ layers. AllRead layers []) }
     {
@@ -92,7 +92,7 @@ impl<A: Allocator + Copy> Layers<A> {
 }
 
 impl<A: Allocator> Layers<A> {
-    /// Program text and the response.
+    /// Message exchange: program text and the response.
     pub fn exchange(&self) -> &Exchange<A>
         ensures value { result.now ≡ self.now.exchange }
         ensures stands { (log : List Act) → StandsFor self.now log
@@ -101,14 +101,14 @@ impl<A: Allocator> Layers<A> {
         &self.exchange
     }
 
-    /// The errors that were reported.
+    /// The error queue.
     pub fn errors(&self) -> &ErrorQueue<A>
         ensures { (log : List Act) → StandsFor self.now log → Queues result.now (queue_acts log) }
     {
         &self.errors
     }
 
-    /// Inputs, settings, the trigger state and the readings.
+    /// The scanner: inputs, settings, the trigger state and the readings.
     pub fn scanner(&self) -> &Scanner<A>
         ensures value { result.now ≡ self.now.scanner }
         ensures stands { (log : List Act) → StandsFor self.now log

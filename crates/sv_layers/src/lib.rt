@@ -1,7 +1,7 @@
-//! The layers of the instrument, joined: an act of the instrument happens to the layer that it is
-//! of, then it ends in one register after the other, and then the status byte is told.
+//! The layers of the instrument, joined: an act changes its own layer, then each register is
+//! updated, one after the other, and then the status byte.
 //!
-//! [`Layers::new`] takes the memory of all layers, and no other call takes any.
+//! Only [`Layers::new`] allocates.
 #![tactic(auto)]
 
 mod change;

@@ -11,7 +11,7 @@ use crate::layers::Layers;
 use std::alloc::Allocator;
 
 impl<A: Allocator> Layers<A> {
-    /// Takes in the bytes of a write, and whether END came with the last of them. It has to be open
+    /// Accepts the bytes of a write, with END after the last of them or without. It has to be open
     /// for a write, of at most [`MAX_MESSAGE`](sv_exchange::MAX_MESSAGE) bytes.
     pub fn accept(&mut self, bytes: &[u8], ended: bool)
         requires open { IsTrue (is_open self.old.exchange) }
@@ -25,7 +25,7 @@ impl<A: Allocator> Layers<A> {
         self.update_status();
     }
 
-    /// Steps over the unit that was due, which was executed.
+    /// Steps over the unit that was due: it was executed.
     pub fn done(&mut self)
         requires { IsUnitDue (next_of self.old.exchange) }
         ensures applied { (log : List Act) → StandsFor self.old log
@@ -38,7 +38,7 @@ impl<A: Allocator> Layers<A> {
         self.update_status();
     }
 
-    /// The message that is too long was told.
+    /// The message that is too long was reported.
     pub fn overran(&mut self)
         requires { next_of self.old.exchange ≡ OverrunDue }
         ensures applied { (log : List Act) → StandsFor self.old log
@@ -50,7 +50,7 @@ impl<A: Allocator> Layers<A> {
         self.update_status();
     }
 
-    /// Drops the response, which is interrupted by a new message.
+    /// Drops the response: a new message interrupts it.
     pub fn interrupt(&mut self)
         requires { next_of self.old.exchange ≡ InterruptDue }
         ensures applied { (log : List Act) → StandsFor self.old log
@@ -63,7 +63,7 @@ impl<A: Allocator> Layers<A> {
         self.update_status();
     }
 
-    /// Goes on to the next message; the answers become the response.
+    /// Finishes the message that has ended: its answers become the response.
     pub fn finish(&mut self)
         requires { next_of self.old.exchange ≡ FinishDue }
         ensures applied { (log : List Act) → StandsFor self.old log
@@ -74,8 +74,8 @@ impl<A: Allocator> Layers<A> {
         self.update_status();
     }
 
-    /// Puts an answer behind those of the units before, and tells whether it has room; where it has
-    /// none, all answers of the message are dropped.
+    /// Adds an answer behind those of the units before, and returns whether it fits; if it doesn't,
+    /// all answers of the message are dropped.
     pub fn respond(&mut self, answer: &[u8]) -> bool
         requires { IsTrue (may_respond self.old.exchange) }
         ensures fits { (log : List Act) → StandsFor self.old log
@@ -104,7 +104,7 @@ impl<A: Allocator> Layers<A> {
         self.update_status();
     }
 
-    /// Drops the text of the current message, which must not have ended.
+    /// Drops the text of the current message, which mustn't have ended.
     pub fn drop_unfinished(&mut self)
         requires { IsTrue (is_open self.old.exchange) }
         ensures applied { (log : List Act) → StandsFor self.old log
@@ -115,7 +115,7 @@ impl<A: Allocator> Layers<A> {
         self.update_status();
     }
 
-    /// Drops program text, answers and response, and cancels an `*OPC`, as a device clear does.
+    /// Device clear: drops program text, answers and response, and cancels an `*OPC`.
     pub fn purge(&mut self)
         ensures applied { (log : List Act) → StandsFor self.old log
             → IsApplied self.old.requests self.new (Purged ∷ log) }

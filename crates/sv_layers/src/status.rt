@@ -1,4 +1,4 @@
-//! Telling the status byte what an act ended in, and counting the requests for service.
+//! Updating the status byte at the end of an act, and counting the requests for service.
 
 ghost use Rattle.std.specs.Prelude.{◌≡◌, true, List, ◌∷◌, if◌then◌else◌};
 ghost use Rattle.sv_status.specs.declared.status_byte.StatusAct.{StatusAct};
@@ -47,8 +47,7 @@ impl<A: Allocator> Layers<A> {
         self.requests = self.requests.saturating_add(u8::from(raised));
     }
 
-    /// How many requests for service were raised since this was asked last; 255 where there are
-    /// more.
+    /// How many requests for service were raised since this was asked last; 255 if there are more.
     pub fn take_requests(&mut self) -> u8
         ensures count { result ≡ self.old.requests }
         ensures stands { (log : List Act) → StandsFor self.old log → AllRead self.new log }

@@ -1,4 +1,4 @@
-//! The words that queries ask for.
+//! The words that queries of the status ask for.
 
 ghost use Rattle.std.specs.Prelude.{◌≡◌, ◌↔◌, ℕ, List};
 ghost use Rattle.std.specs.Int.{bit_at};
@@ -15,7 +15,7 @@ use std::alloc::Allocator;
 use sv_status::RegisterName;
 
 impl<A: Allocator> Layers<A> {
-    /// The standard events, which stay (IEEE 488.2, 11.5.1).
+    /// The standard events, which aren't cleared by this (IEEE 488.2, 11.5.1).
     pub fn standard_events(&self) -> u8
         ensures { (log : List Act) → StandsFor self.now log → (k : ℕ)
             → (bit_at result k ≡ 1) ↔ Stands k log }
@@ -23,7 +23,7 @@ impl<A: Allocator> Layers<A> {
         self.standard.event()
     }
 
-    /// Which standard events are enabled (IEEE 488.2, 11.5.1).
+    /// The enable of the standard events (IEEE 488.2, 11.5.1).
     pub fn standard_enable(&self) -> u8
         ensures { (log : List Act) → StandsFor self.now log → result ≡ standard_enable_of log }
     {
@@ -45,7 +45,7 @@ impl<A: Allocator> Layers<A> {
         self.service
     }
 
-    /// The events of a register, which stay (SCPI-1999, chapter 20).
+    /// The event bits of a register, which aren't cleared by this (SCPI-1999, chapter 20).
     pub fn events(&self, name: RegisterName) -> u16
         ensures { (log : List Act) → StandsFor self.now log → (k : ℕ)
             → (bit_at result k ≡ 1) ↔ EventStands name k log }
@@ -60,21 +60,21 @@ impl<A: Allocator> Layers<A> {
         self.register(name).condition_word()
     }
 
-    /// Which events of a register are enabled (SCPI-1999, chapter 20).
+    /// The enable of a register (SCPI-1999, chapter 20).
     pub fn enabled(&self, name: RegisterName) -> u16
         ensures { (log : List Act) → StandsFor self.now log → result ≡ enable_of name log }
     {
         self.register(name).enable()
     }
 
-    /// Which bits of a register count where they rise (SCPI-1999, chapter 20).
+    /// The positive transition filter of a register (SCPI-1999, chapter 20).
     pub fn rise(&self, name: RegisterName) -> u16
         ensures { (log : List Act) → StandsFor self.now log → result ≡ rise_of name log }
     {
         self.register(name).rise()
     }
 
-    /// Which bits of a register count where they fall (SCPI-1999, chapter 20).
+    /// The negative transition filter of a register (SCPI-1999, chapter 20).
     pub fn fall(&self, name: RegisterName) -> u16
         ensures { (log : List Act) → StandsFor self.now log → result ≡ fall_of name log }
     {

@@ -7,22 +7,22 @@ use Rattle.sv_errors.specs.declared.code.Code.TheVariants.{InvalidExpression, Sy
 use Rattle.sv_text.specs.White.{trim}
 use Rattle.sv_lexer.specs.Unit.{rest, rest_place, white_size}
 
--- whether a parenthesis is open behind some bytes, which are read from the last: the last parenthesis is one that opens
+-- whether a parenthesis is open behind these bytes, which are read from the last one: the last parenthesis among them is an opening one
 abbrev pub is_open : List ℕ → Bool
 is_open [] = false
 is_open (b ∷ before) = if b == 40 then true else if b == 41 then false else is_open before
 
--- the bytes cut at each comma in front of which no parenthesis is open
+-- the bytes cut at each comma outside parentheses
 abbrev pub cut_outside : (before bytes : List ℕ) → List (List ℕ)
 cut_outside before [] = [] ∷ []
 cut_outside before (b ∷ bytes) = if b == 44 && not (is_open before) then []
     ∷ cut_outside (b ∷ before) bytes else onto_first b (cut_outside (b ∷ before) bytes)
 
--- the parts between these commas; none where there is no text
+-- the parts between these commas; none if there is no text
 abbrev pub parts : List ℕ → List (List ℕ)
 parts text = if is_empty text then [] else cut_outside [] text
 
--- where a part stands: behind the parts before it, and their commas
+-- where a part begins: behind the parts before it, and their commas
 abbrev pub part_place : ℕ → List (List ℕ) → ℕ
 part_place index parts = sum_by (λ part. length part + 1) (take index parts)
 
@@ -30,6 +30,7 @@ part_place index parts = sum_by (λ part. length part + 1) (take index parts)
 abbrev pub count : List ℕ → ℕ
 count unit = length (parts (rest unit))
 
+-- the part with this index, from 0
 abbrev part : List ℕ → ℕ → List ℕ
 part unit index = slice_index_or (parts (rest unit)) index []
 
@@ -37,25 +38,26 @@ part unit index = slice_index_or (parts (rest unit)) index []
 abbrev pub parameter : List ℕ → ℕ → List ℕ
 parameter unit index = trim (part unit index)
 
--- and where it stands
+-- where a parameter begins in the unit
 abbrev pub parameter_place : List ℕ → ℕ → ℕ
 parameter_place unit index = rest_place unit + part_place index (parts (rest unit)) + white_size (part unit index)
 
+-- whether a part has only white space
 abbrev pub is_blank : List ℕ → Bool
 is_blank part = is_empty (trim part)
 
--- what is wrong with the parameters, the first of these: a parenthesis stays open, or one of them is empty
+-- the first fault of the parameters: a parenthesis isn't closed (-171), or a parameter is empty (-102); `None` if there is no fault
 abbrev pub parameters_fault : List ℕ → Option Code
 parameters_fault unit =
     if is_open (reverse (rest unit)) then Some InvalidExpression
     else if list_any is_blank (parts (rest unit)) then Some SyntaxError
     else None
 
--- whether a parenthesis is open behind a byte, if one was in front of it
+-- whether a parenthesis is open behind a byte, given whether one was before it
 abbrev pub opens : Bool → ℕ → Bool
 opens inside b = if b == 40 then true else if b == 41 then false else inside
 
--- how long the first part is, if a parenthesis is open in front of it or none is
+-- how long the first part is, given whether a parenthesis is open before it
 abbrev pub first_size : Bool → List ℕ → ℕ
 first_size inside [] = 0
 first_size inside (b ∷ bytes) = if b == 44 && not inside then 0 else 1 + first_size (opens inside b) bytes

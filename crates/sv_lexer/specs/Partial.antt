@@ -9,7 +9,7 @@ use Rattle.sv_lexer.specs.declared.stage.Stage.{Stage}
 use Rattle.sv_lexer.specs.declared.stage.Stage.TheVariants.{WhiteSpace, Asterisk, Colon, CommonMnemonic, Mnemonic, QuerySign, HeaderSeparator, ProgramData, DataSpace, Misspelled, Illegal}
 
 -- what the unit ends in, and how many bytes it has; where its header begins and ends; how many characters the last mnemonic has, and the
--- longest one in front of that; where its program data begin, and where they end without white space behind them
+-- longest one before it; where its program data begin, and where they end, without white space behind them
 pub record Progress : Type 0 where
   pub stage : Stage
   pub size : ℕ
@@ -24,48 +24,50 @@ pub record Progress : Type 0 where
 abbrev pub kept : ℕ → ℕ
 kept n = min n (2 ^ 64 - 1)
 
--- where the header of a unit ends, and where its program data end
+-- where the header of a unit ends
 abbrev pub header_end : List ℕ → ℕ
 header_end unit = header_place unit + length (header unit)
 
+-- where the program data of a unit end
 abbrev pub rest_end : List ℕ → ℕ
 rest_end unit = rest_place unit + length (rest unit)
 
--- the last of some words, and the others
+-- the last of these words; empty if there is none
 abbrev pub last : List (List ℕ) → List ℕ
 last [] = []
 last (word ∷ []) = word
 last (word ∷ next ∷ words) = last (next ∷ words)
 
+-- these words without the last
 abbrev pub others : List (List ℕ) → List (List ℕ)
 others [] = []
 others (word ∷ []) = []
 others (word ∷ next ∷ words) = word ∷ others (next ∷ words)
 
--- how many characters the longest of them has
+-- how many characters the longest of these words has
 abbrev pub longest : List (List ℕ) → ℕ
 longest [] = 0
 longest (word ∷ words) = max (length word) (longest words)
 
--- an asterisk leads it
+-- whether an asterisk leads the text
 abbrev pub is_common : List ℕ → Bool
 is_common [] = false
 is_common (b ∷ text) = b == 42
 
--- A mnemonic has to follow: its last word is empty, and the others are mnemonics.
+-- A mnemonic must follow: the last word of the text is empty, and the others are mnemonics.
 pub record Awaits (text : List ℕ) : Type 0 where
   pub some : is_empty text ≡ false
   pub unsigned : is_query text ≡ false
   pub empty : last (words text) ≡ []
   pub mnemonics : list_all is_mnemonic (others (words text)) ≡ true
 
--- It is a header, without the query sign that may stand behind it.
+-- The text is a header, without the question mark that may follow it.
 pub record IsUnsigned (text : List ℕ) : Type 0 where
   pub header : is_header text ≡ true
   pub unsigned : is_query text ≡ false
 
--- A header so far ends in this (7.6.1): it is nothing, an asterisk, what a mnemonic has to follow, a common command, another header, or
--- one of these with its query sign. Behind the header it is a whole one.
+-- What a header ends in so far (7.6.1): nothing, an asterisk, a place where a mnemonic must follow, a common command, another header, or
+-- one of these with its question mark. Behind a header it is complete.
 abbrev pub HeaderEnds : Stage → List ℕ → Type 0
 HeaderEnds WhiteSpace text = text ≡ []
 HeaderEnds Asterisk text = text ≡ 42 ∷ []
@@ -75,13 +77,13 @@ HeaderEnds Mnemonic text = (is_common text ≡ false) × IsUnsigned text
 HeaderEnds QuerySign text = (front : List ℕ) × (text ≡ front ++ 63 ∷ []) × IsUnsigned front
 HeaderEnds _ text = is_header text ≡ true
 
--- There are program data, and this is where they begin and end.
+-- There are program data, which begin and end there.
 pub record HasData (p : Progress) (unit : List ℕ) : Type 0 where
   pub some : is_empty (rest unit) ≡ false
   pub begins : p.data_start ≡ kept (rest_place unit)
   pub ends : p.data_end ≡ kept (rest_end unit)
 
--- A unit ends there (7.3): with its header, in white space behind that, with its program data, or in white space behind these.
+-- What a unit ends in (7.3): its header, white space behind that, its program data, or white space behind these.
 abbrev pub UnitEnds : Stage → Progress → List ℕ → Type 0
 UnitEnds HeaderSeparator p unit = (rest unit ≡ []) × (header_end unit < length unit) × (p.data_start ≡ kept (length unit))
 UnitEnds ProgramData p unit = HasData p unit × (rest_end unit ≡ length unit)
@@ -97,18 +99,18 @@ pub record IsRead (stage : Stage) (p : Progress) (unit : List ℕ) : Type 0 wher
   pub mnemonic : p.mnemonic ≡ kept (length (last (words (header unit))))
   pub front : p.longest ≡ kept (longest (others (words (header unit))))
 
--- What is so at each stage: of a unit that is misspelled, that it has no header, whatever bytes come.
+-- What holds at each stage. A unit that is misspelled has no header, whatever bytes follow.
 abbrev pub At : Stage → Progress → List ℕ → Type 0
 At Misspelled p unit = (more : List ℕ) → is_header (header (unit ++ more)) ≡ false
 At Illegal p unit = ⊤
 At stage p unit = IsRead stage p unit
 
--- an illegal byte came
+-- whether an illegal byte came
 abbrev pub is_illegal : Stage → Bool
 is_illegal Illegal = true
 is_illegal _ = false
 
--- These bytes were read: the stage is illegal exactly if one of them is.
+-- These bytes were read; the stage is illegal exactly if one of them is.
 pub record Reads (p : Progress) (unit : List ℕ) : Type 0 where
   pub size : p.size ≡ kept (length unit)
   pub legal : list_all is_legal unit ≡ not (is_illegal p.stage)

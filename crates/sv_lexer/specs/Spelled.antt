@@ -6,16 +6,16 @@ use Rattle.sv_text.specs.Cut.{cut_at}
 use Rattle.sv_text.specs.Header.{lead, body}
 use Rattle.sv_text.specs.declared.header.Lead.TheVariants.{Common}
 
--- a letter, a digit or an underscore
+-- whether a byte is a letter, a digit or an underscore
 abbrev pub is_word_byte : ℕ → Bool
 is_word_byte b = is_ascii_alphanumeric b || b == 95
 
--- a letter, then letters, digits and underscores
+-- whether a text is a mnemonic: a letter, then letters, digits and underscores
 abbrev pub is_mnemonic : List ℕ → Bool
 is_mnemonic [] = false
 is_mnemonic (b ∷ bytes) = is_letter b && list_all is_word_byte bytes
 
--- what has to be a mnemonic: all behind an asterisk, else each part between colons
+-- the parts that must be mnemonics: all that follows an asterisk, else each part between colons
 abbrev pub words : List ℕ → List (List ℕ)
 words text = elim (lead text) [ Common ↦ body text ∷ [] | _ ↦ cut_at 58 (body text) ]
 

@@ -1,15 +1,15 @@
--- Tokens of a unit: their kinds, and where they stand.
+-- The tokens of a unit: their kinds, and where they stand.
 use Rattle.std.specs.Prelude.{◌≡◌, ℕ, min, ◌==◌, ◌||◌, Bool, List, [], ◌∷◌, ◌++◌, length, if◌then◌else◌}
 use Rattle.std.specs.Char.{is_ascii_digit, is_ascii_alphabetic as is_letter}
 use Rattle.sv_lexer.specs.declared.token.Kind.{Kind}
 use Rattle.sv_lexer.specs.declared.token.Kind.TheVariants.{Number, Base, Word, Expression, Other}
 use Rattle.sv_lexer.specs.declared.token.Token.{Token}
 
--- a digit, a sign or a point
+-- whether a byte is a digit, a sign or a point
 abbrev begins_number : ℕ → Bool
 begins_number b = is_ascii_digit b || (b == 43 || (b == 45 || b == 46))
 
--- the kind of data, told by its first byte (IEEE 488.2, 7.7)
+-- the kind of data, by its first byte (IEEE 488.2, 7.7)
 abbrev pub kind_of : List ℕ → Kind
 kind_of [] = Other
 kind_of (b ∷ text) =
@@ -19,11 +19,11 @@ kind_of (b ∷ text) =
 abbrev pub told : ℕ → ℕ
 told place = min place 4294967295
 
--- A text stands in a unit at a place.
+-- The text stands in the unit at this place.
 abbrev pub StandsAt : List ℕ → ℕ → List ℕ → Type 0
 StandsAt unit place text = (front behind : List ℕ) × (unit ≡ front ++ (text ++ behind)) × (length front ≡ place)
 
--- A token is the text at a place of a unit.
+-- The token is the text at this place of the unit.
 pub record IsToken (unit : List ℕ) (place : ℕ) (slice : List ℕ) (token : Token) : Type 0 where
   pub text : token.text.now ≡ slice
   pub start : token.start ≡ told place

@@ -1,4 +1,4 @@
--- The header of a program message unit, what stands behind it, and the faults of its spelling (IEEE 488.2, 7.3 and 7.6).
+-- The header of a program message unit, the text behind it, and the faults of its spelling (IEEE 488.2, 7.3 and 7.6).
 use Rattle.std.specs.Prelude.{◌≡◌, ℕ, ◌+◌, ◌&&◌, ◌||◌, not, Bool, List, take, drop, Option, Some, None, Result, MatchResult, nat_lt, nat_le, length, if◌then◌else◌}
 use Rattle.std.specs.List.{prefix_len, position_or_len, list_all}
 use Rattle.sv_errors.specs.declared.code.Code.{Code}
@@ -6,37 +6,40 @@ use Rattle.sv_errors.specs.declared.code.Code.TheVariants.{InvalidCharacter, Syn
 use Rattle.sv_text.specs.White.{is_white, trim, trim_start}
 use Rattle.sv_lexer.specs.Spelled.{is_header, words}
 
--- how many bytes of white space stand in front
+-- how many bytes of white space the text begins with
 abbrev pub white_size : List ℕ → ℕ
 white_size bytes = prefix_len is_white bytes
 
--- how many bytes there are up to the first white space
+-- how many bytes the header has: those up to the first white space
 abbrev pub header_size : List ℕ → ℕ
 header_size unit = position_or_len is_white (trim unit)
 
--- the header, and where it stands
+-- the header of a unit
 abbrev pub header : List ℕ → List ℕ
 header unit = take (header_size unit) (trim unit)
 
+-- where the header begins
 abbrev pub header_place : List ℕ → ℕ
 header_place unit = white_size unit
 
--- what stands behind the header
+-- the text behind the header
 abbrev behind : List ℕ → List ℕ
 behind unit = drop (header_size unit) (trim unit)
 
--- the text of the parameters, and where it stands
+-- the text of the parameters
 abbrev pub rest : List ℕ → List ℕ
 rest unit = trim_start (behind unit)
 
+-- where the text of the parameters begins
 abbrev pub rest_place : List ℕ → ℕ
 rest_place unit = header_place unit + header_size unit + white_size (behind unit)
 
--- a byte that a unit may have: white space, or a printable one but the space
+-- whether a unit may have this byte: white space, or 33 to 126
 abbrev pub is_legal : ℕ → Bool
 is_legal b = is_white b || (nat_lt 32 b && nat_lt b 127)
 
--- what is wrong with the bytes or the header of a unit, the first of these; a mnemonic has at most 12 characters
+-- the first fault of a unit: an illegal byte (-101), a header that isn't spelled as one (-102), a mnemonic above 12 characters (-112);
+-- `None` if there is no fault
 abbrev pub unit_fault : List ℕ → Option Code
 unit_fault unit =
     if not (list_all is_legal unit) then Some InvalidCharacter
@@ -44,6 +47,6 @@ unit_fault unit =
     else if not (list_all (λ word. nat_le (length word) 12) (words (header unit))) then Some ProgramMnemonicTooLong
     else None
 
--- What reading a unit gives: the unit, or what is wrong with it.
+-- The unit as it was read: its bytes, or its fault.
 abbrev pub IsLexed : Result (List ℕ) Code → List ℕ → Type 0
 IsLexed outcome bytes = MatchResult outcome (λ unit. (unit ≡ bytes) × (unit_fault bytes ≡ None)) (λ code. unit_fault bytes ≡ Some code)

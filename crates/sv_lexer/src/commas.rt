@@ -1,4 +1,4 @@
-//! Commas outside of parentheses.
+//! Commas outside parentheses.
 
 ghost use Rattle.std.specs.Prelude.{◌≡◌, ◌<◌, ◌≤◌, ◌+◌, ◌++◌, [], ◌∷◌, true, false, reverse, length, slice_index_or, MatchOption};
 ghost use Rattle.std.specs.List.{list_any};

@@ -1,8 +1,8 @@
-//! A law of the definitions.
+//! A law of the tokens of a unit.
 
 ghost use Rattle.sv_lexer.specs.Order.{InOrder};
 
-/// The tokens of a unit stand in it in their order, and none reaches into another.
+/// The tokens of a unit stand in order, and none overlaps another.
 pub fn tokens_in_order()
     ensures { InOrder }
 {}

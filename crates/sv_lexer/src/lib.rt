@@ -1,8 +1,8 @@
 //! Program message units: the header and the parameters of one, each a slice of it at its place
 //! (IEEE 488.2, 7.6 and 7.7).
 //!
-//! A unit is read at once by [`unit`], and by [`Partial`] while its bytes come one by one. Nothing
-//! here takes memory.
+//! A unit is read at once by [`unit`], or by [`Partial`] while its bytes come one by one. Nothing
+//! allocates.
 #![tactic(auto)]
 
 mod commas;

@@ -12,8 +12,8 @@ use std::marker::Model;
 use sv_errors::Code;
 use sv_text::trim;
 
-/// The parameters of a unit: what stands between commas outside of parentheses. Contracts see them
-/// as the bytes of the unit.
+/// The parameters of a unit: the parts between commas outside parentheses. Contracts see them as
+/// the bytes of the unit.
 #[derive(Debug, Drop)]
 pub struct Params<'a> {
     /// The bytes of the unit.
@@ -72,7 +72,7 @@ impl<'a> Params<'a> {
         self.count
     }
 
-    /// The parameter at this place of their order, from 0; none where there are fewer.
+    /// The parameter with this index, from 0; `None` if there are fewer.
     pub fn get(&self, index: usize) -> Option<Token<'a>>
         ensures { MatchOption result (count_of self.now ≤ index)
             (λ token. (index < count_of self.now)

@@ -53,7 +53,7 @@ impl Model for Partial {
 }
 
 impl Partial {
-    /// A unit of which no byte came.
+    /// A unit without bytes.
     pub fn new() -> Partial
         ensures { Reads result [] }
     {
@@ -69,7 +69,7 @@ impl Partial {
         }
     }
 
-    /// The next byte comes.
+    /// Reads the next byte.
     pub fn push(&mut self, byte: u8)
         ensures { (bytes : List ℕ) → Reads self.old bytes → Reads self.new (bytes ++ byte ∷ []) }
     {
@@ -77,7 +77,7 @@ impl Partial {
         self.move_to(stage);
     }
 
-    /// The next bytes come.
+    /// Reads the next bytes.
     pub fn push_all(&mut self, bytes: &[u8])
         ensures { (before : List ℕ) → Reads self.old before
             → Reads self.new (before ++ bytes.now) }
@@ -87,10 +87,10 @@ impl Partial {
         }
     }
 
-    /// The unit, whose bytes are those that came.
+    /// Ends the unit and gives it. `text` must be the bytes that were read.
     ///
     /// # Errors
-    /// Those of [`unit`](crate::unit), by the same rules.
+    /// Those of [`unit`](crate::unit).
     pub fn finish<'a>(&self, text: &'a [u8]) -> Result<Unit<'a>, Code>
         requires { Reads self.now text.now }
         ensures { MatchResult result (λ unit. (unit ≡ text.now) × (unit_fault text.now ≡ None))

@@ -10,7 +10,7 @@ use crate::token::Token;
 use std::marker::Model;
 use sv_errors::Code;
 
-/// A unit whose header is spelled as a header. Contracts see it as the bytes that it was read from.
+/// A unit whose header is spelled as one. Contracts see it as the bytes that it was read from.
 #[derive(Debug, Drop)]
 pub struct Unit<'a> {
     /// The bytes that it was read from.
@@ -49,8 +49,8 @@ impl<'a> Unit<'a> {
     /// The parameters behind the header.
     ///
     /// # Errors
-    /// [`Code::InvalidExpression`] where a parenthesis has none behind it that closes it; then
-    /// [`Code::SyntaxError`] where a parameter is empty.
+    /// [`Code::InvalidExpression`] if a parenthesis isn't closed; then [`Code::SyntaxError`] if a
+    /// parameter is empty.
     pub fn parameters(&self) -> Result<Params<'a>, Code>
         ensures { MatchResult result (λ params. (params ≡ self.now)
             × (parameters_fault self.now ≡ None)) (λ code. parameters_fault self.now ≡ Some code) }

@@ -9,13 +9,13 @@ use crate::parts::Unit;
 use sv_errors::Code;
 use sv_text::without_start;
 
-/// Reads a unit: its header is what stands in front of the first white space, and its parameters
-/// are what stands behind that. White space around the unit doesn't count.
+/// Reads a unit: its header reaches up to the first white space, and its parameters follow. White
+/// space around the unit is ignored.
 ///
 /// # Errors
-/// The first of these: [`Code::InvalidCharacter`] where a byte is neither white space nor 33 to
-/// 126; [`Code::SyntaxError`] where the header isn't spelled as one;
-/// [`Code::ProgramMnemonicTooLong`] where one of its mnemonics has more than 12 characters.
+/// The first of these: [`Code::InvalidCharacter`] if a byte is neither white space nor 33 to 126;
+/// [`Code::SyntaxError`] if the header isn't spelled as one; [`Code::ProgramMnemonicTooLong`] if
+/// one of its mnemonics has more than 12 characters.
 pub fn unit(bytes: &[u8]) -> Result<Unit<'_>, Code>
     ensures { MatchResult result (λ unit. (unit ≡ bytes.now) × (unit_fault bytes.now ≡ None))
         (λ code. unit_fault bytes.now ≡ Some code) }

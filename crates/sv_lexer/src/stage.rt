@@ -19,7 +19,7 @@ pub(crate) enum Stage {
     CommonMnemonic,
     /// A program mnemonic of another header.
     Mnemonic,
-    /// The query sign at the end of the header.
+    /// The question mark at the end of the header.
     QuerySign,
     /// White space behind the header: the program header separator.
     HeaderSeparator,

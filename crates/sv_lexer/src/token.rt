@@ -3,7 +3,7 @@
 ghost use Rattle.std.specs.Prelude.{◌≡◌, min};
 ghost use Rattle.sv_lexer.specs.Token.{kind_of, told};
 
-/// What kind of data a token is, told by its first byte.
+/// The kind of data of a token, by its first byte.
 #[derive(Clone, Copy, Debug, PartialEq, Eq)]
 pub enum Kind {
     /// A decimal number: a digit, a sign or a point begins it.
@@ -23,9 +23,9 @@ pub enum Kind {
 pub struct Token<'a> {
     /// Its bytes, without white space around them.
     pub text: &'a [u8],
-    /// Where it stands in the unit, in bytes; 4,294,967,295 where that is more.
+    /// Where it stands in the unit, in bytes; 4,294,967,295 if that is more.
     pub start: u32,
-    /// What its first byte tells.
+    /// Its kind, by its first byte.
     pub kind: Kind,
 }
 
@@ -40,7 +40,7 @@ pub(crate) fn token_at(text: &[u8], place: usize) -> Token<'_>
     Token { text, start, kind }
 }
 
-/// The kind that the first byte tells.
+/// The kind, by the first byte.
 fn kind_in(text: &[u8]) -> Kind
     ensures { result ≡ kind_of text.now }
 {

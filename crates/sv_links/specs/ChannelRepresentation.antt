@@ -1,4 +1,4 @@
--- What is kept of interrupt channels.
+-- What is kept of interrupt channels, and which acts it stands for.
 use Rattle.std.specs.Prelude.{◌≡◌, ℕ, ◌-◌, ◌==◌, ◌<◌, ◌≤◌, nat_lt, not, Bool, true, false, List, [], ◌∷◌, length, map, filter, Option, Some, None, is_some, slice_get, slice_index_or, if◌then◌else◌, ⊤}
 use Rattle.std.specs.List.{concat, AllByRecursion}
 use Rattle.sv_links.specs.declared.enabled.Enabled.{Enabled}
@@ -8,43 +8,46 @@ use Rattle.sv_links.specs.declared.channel.Stage.TheVariants.{Closed, Prepared, 
 use Rattle.sv_links.specs.Limits.{max_connections, max_enabled}
 use Rattle.sv_links.specs.Channels.{ChannelAct, enabled, peer, taken, calls, untaken}
 
--- how far it is; how many calls were sent on it; the bytes that wait, and of each call that isn't taken to its end how many they are
+-- one channel: its stage, how many calls were sent on it, how many bytes wait of each call, and these bytes
 pub record Channel : Type 0 where
   pub stage : Stage
   pub made : ℕ
   pub sizes : List ℕ
   pub bytes : List ℕ
 
+-- the links that have service requests enabled, and the channel of each connection
 pub record Channels : Type 0 where
   pub enabled : List Enabled
   pub channels : List Channel
 
--- what a channel is open for
+-- the program that a channel is open for; `None` if it isn't open
 abbrev pub opened_for : Stage → Option Peer
 opened_for (Open what) = Some what
 opened_for Closed = None
 opened_for Prepared = None
 
+-- whether a channel is prepared
 abbrev pub is_prepared : Stage → Bool
 is_prepared Prepared = true
 is_prepared Closed = false
 is_prepared (Open what) = false
 
--- what is left of these sizes, where so much of them all is taken
+-- what is left of these sizes, once so many bytes in total are taken
 abbrev pub left_in : ℕ → List ℕ → List ℕ
 left_in count [] = []
 left_in count (size ∷ sizes) = if nat_lt count size then (size - count) ∷ sizes else left_in (count - size) sizes
 
--- It keeps these calls, of which the peer took so many bytes, no more than there are.
+-- The channel keeps these calls, of which the peer took so many bytes, no more than there are.
 abbrev pub IsQueued : Channel → ℕ → List (List ℕ) → Type 0
 IsQueued kept count calls = (kept.made ≡ length calls) × (kept.sizes ≡ map length (untaken count calls))
     × (kept.bytes ≡ concat (untaken count calls)) × (count ≤ length (concat calls))
 
--- It keeps what the acts say of the channel of a connection.
+-- If the channel is open, it keeps these calls.
 abbrev pub IsChannelFor : Option Peer → Channel → ℕ → List (List ℕ) → Type 0
 IsChannelFor (Some what) kept count calls = IsQueued kept count calls
 IsChannelFor None kept count calls = ⊤
 
+-- The channel of a connection keeps what the acts say.
 abbrev pub IsChannel : Channel → ℕ → List ChannelAct → Type 0
 IsChannel kept c acts = (opened_for kept.stage ≡ peer c acts) × IsChannelFor (peer c acts) kept (taken c acts) (calls c acts)
 
@@ -53,23 +56,25 @@ abbrev pub IsSorted : List Enabled → Type 0
 IsSorted [] = ⊤
 IsSorted (link ∷ links) = AllByRecursion (λ other. link.lid < other.lid) links × IsSorted links
 
--- There is room for a link to ask: it asks already, or fewer than max_enabled do.
+-- There is room for a link to enable service requests: it has already, or fewer than 32 links have.
 abbrev pub HasRoomFor : ℕ → Channels → Type 0
 HasRoomFor lid kept = length (filter (λ other. not (other.lid == lid)) kept.enabled) < max_enabled
 
--- the links without those of these numbers, and without those of a connection
+-- the links without those of these numbers
 abbrev pub disabled : List ℕ → List Enabled → List Enabled
 disabled [] links = links
 disabled (lid ∷ lids) links = filter (λ other. not (other.lid == lid)) (disabled lids links)
 
+-- the links without those of a connection
 abbrev pub of_others : ℕ → List Enabled → List Enabled
 of_others c links = filter (λ other. not (other.conn == c)) links
 
--- the bytes that wait on the channel of a connection
+-- the bytes that wait on a channel, if it is open
 abbrev pub bytes_in : Option Channel → List ℕ
 bytes_in (Some channel) = if is_some (opened_for channel.stage) then channel.bytes else []
 bytes_in None = []
 
+-- the bytes that wait on the channel of a connection
 abbrev pub bytes_of : Channels → ℕ → List ℕ
 bytes_of kept c = bytes_in (slice_get kept.channels c)
 
@@ -77,7 +82,7 @@ bytes_of kept c = bytes_in (slice_get kept.channels c)
 abbrev pub IsReady : Channels → ℕ → Type 0
 IsReady kept c = (other : Channel) → is_prepared (slice_index_or kept.channels c other).stage ≡ true
 
--- These are kept, and no other channel is open.
+-- These are kept as the acts say, and no other channel is open.
 pub record AreChannels (kept : Channels) (acts : List ChannelAct) : Type 0 where
   pub enabled : kept.enabled ≡ enabled acts
   pub each : (c : ℕ) (other : Channel) → c < max_connections → IsChannel (slice_index_or kept.channels c other) c acts

@@ -1,5 +1,5 @@
 -- Interrupt channels (VXI-11 revision 1.0, section B.6: device_enable_srq, create_intr_chan, destroy_intr_chan, device_intr_srq): which
--- links ask for service requests, and what is sent on the channel of a connection. Acts are read from the newest.
+-- links have service requests enabled, and what is sent on each channel. Lists of acts have the newest first.
 use Rattle.std.specs.Prelude.{ℕ, ◌+◌, ◌-◌, ◌==◌, max, ◌&&◌, Bool, List, [], ◌∷◌, ◌++◌, length, map, filter, drop, Option, Some, None, is_some, nat_lt, if◌then◌else◌}
 use Rattle.std.specs.List.{concat, filter_map, fold, range_with_len}
 use Rattle.sv_links.specs.declared.enabled.Enabled.{Enabled}
@@ -7,8 +7,8 @@ use Rattle.sv_links.specs.declared.request.Peer.{Peer}
 use Rattle.sv_links.specs.Limits.{max_calls}
 use Rattle.sv_links.specs.Request.{request}
 
--- what happens to them: a link of a connection asks for service requests, with a handle, or asks no more; the channel of a connection
--- opens, for a program and its version, or closes; a service request is raised; the peer takes bytes of a channel
+-- what happens: a link enables service requests, with a handle, or disables them; the channel of a connection opens, for a program and its
+-- version, or closes; a service request is raised; the peer takes bytes of a channel
 pub data ChannelAct : Type 0 where
   SrqEnabled : (lid conn : ℕ) (handle : List ℕ) → ChannelAct
   SrqDisabled : (lid : ℕ) → ChannelAct
@@ -17,7 +17,7 @@ pub data ChannelAct : Type 0 where
   Requested : ChannelAct
   ChannelTaken : (conn count : ℕ) → ChannelAct
 
--- how a link asks for service requests, if it does: the newest act counts that says whether it asks
+-- the service requests of a link, if it has them enabled: as its newest enabling or disabling says
 abbrev pub srq_enabled : ℕ → List ChannelAct → Option Enabled
 srq_enabled lid [] = None
 srq_enabled lid (SrqEnabled other conn handle ∷ acts) =
@@ -25,13 +25,13 @@ srq_enabled lid (SrqEnabled other conn handle ∷ acts) =
 srq_enabled lid (SrqDisabled other ∷ acts) = if other == lid then None else srq_enabled lid acts
 srq_enabled lid (_ ∷ acts) = srq_enabled lid acts
 
--- a number above those of all links that ever asked
+-- a number above those of all links that ever enabled service requests
 abbrev pub past : List ChannelAct → ℕ
 past [] = 0
 past (SrqEnabled lid conn handle ∷ acts) = max (lid + 1) (past acts)
 past (_ ∷ acts) = past acts
 
--- the links that ask for service requests, by rising number, each with the handle that it gave last
+-- the links that have service requests enabled, by rising number, each with its newest handle
 abbrev pub enabled : List ChannelAct → List Enabled
 enabled acts = filter_map (λ lid. srq_enabled lid acts) (range_with_len 0 (past acts))
 
@@ -39,17 +39,18 @@ enabled acts = filter_map (λ lid. srq_enabled lid acts) (range_with_len 0 (past
 abbrev pub handles_of : ℕ → List Enabled → List (List ℕ)
 handles_of c links = map (λ link. link.handle) (filter (λ link. link.conn == c) links)
 
--- what the channel of a connection was opened for, while it is open
+-- the program that the channel of a connection was opened for; `None` if it isn't open
 abbrev pub peer : ℕ → List ChannelAct → Option Peer
 peer c [] = None
 peer c (ChannelOpened conn what ∷ acts) = if conn == c then Some what else peer c acts
 peer c (ChannelClosed conn ∷ acts) = if conn == c then None else peer c acts
 peer c (_ ∷ acts) = peer c acts
 
+-- whether the channel of a connection is open
 abbrev pub is_channel_open : ℕ → List ChannelAct → Bool
 is_channel_open c acts = is_some (peer c acts)
 
--- how many bytes of it the peer took since it was opened
+-- how many bytes of a channel the peer took since it was opened
 abbrev pub taken : ℕ → List ChannelAct → ℕ
 taken c [] = 0
 taken c (ChannelOpened conn what ∷ acts) = if conn == c then 0 else taken c acts
@@ -57,22 +58,21 @@ taken c (ChannelClosed conn ∷ acts) = if conn == c then 0 else taken c acts
 taken c (ChannelTaken conn count ∷ acts) = if conn == c then taken c acts + count else taken c acts
 taken c (_ ∷ acts) = taken c acts
 
--- what the peer didn't take of calls, from the first that it didn't take to its end
+-- the calls that the peer didn't take completely, the first without the bytes that it took
 abbrev pub untaken : ℕ → List (List ℕ) → List (List ℕ)
 untaken count [] = []
 untaken count (call ∷ calls) = if nat_lt count (length call) then drop count call ∷ calls else untaken (count - length call) calls
 
--- whether a call more may be sent behind these: while fewer than max_calls aren't taken to their end, and while there are numbers
+-- whether one more call may be sent: fewer than 32 aren't taken completely, and a number is left
 abbrev pub may_call : ℕ → List (List ℕ) → Bool
 may_call count calls = nat_lt (length (untaken count calls)) max_calls && nat_lt (length calls) 4294967295
 
--- these calls with one more behind them, for a handle, if it may be sent; its number is how many were sent so far, and one
+-- these calls, with one more for this handle if it may be sent; the calls of a channel are numbered from 1
 abbrev pub called : Option Peer → ℕ → List (List ℕ) → List ℕ → List (List ℕ)
 called (Some what) count calls handle = if may_call count calls then calls ++ request (length calls + 1) what handle ∷ [] else calls
 called None count calls handle = calls
 
--- the calls that were sent on the channel of a connection since it was opened: where a request is raised, one after the other for each of
--- its links that ask for them
+-- the calls that were sent on the channel of a connection since it was opened: one for each of its links at each request
 abbrev pub calls : ℕ → List ChannelAct → List (List ℕ)
 calls c [] = []
 calls c (ChannelOpened conn what ∷ acts) = if conn == c then [] else calls c acts
@@ -80,12 +80,12 @@ calls c (ChannelClosed conn ∷ acts) = if conn == c then [] else calls c acts
 calls c (Requested ∷ acts) = fold (called (peer c acts) (taken c acts)) (calls c acts) (handles_of c (enabled acts))
 calls c (_ ∷ acts) = calls c acts
 
--- all calls that were ever sent on it, also before it was opened anew: those that each request added
+-- all calls that were ever sent on it, also before it was opened anew
 abbrev pub all_calls : ℕ → List ChannelAct → List (List ℕ)
 all_calls c [] = []
 all_calls c (Requested ∷ acts) = all_calls c acts ++ drop (length (calls c acts)) (calls c (Requested ∷ acts))
 all_calls c (_ ∷ acts) = all_calls c acts
 
--- the bytes that wait to be sent on it; none where it isn't open
+-- the bytes that wait to be sent on the channel of a connection; none if it isn't open
 abbrev pub waiting : ℕ → List ChannelAct → List ℕ
 waiting c acts = if is_channel_open c acts then concat (untaken (taken c acts) (calls c acts)) else []

@@ -1,4 +1,4 @@
--- What is kept of the calls that wait.
+-- What is kept of suspended calls, and which acts it stands for.
 use Rattle.std.specs.Prelude.{◌≡◌, ◌≢◌, ℕ, ◌==◌, ◌<◌, nat_le, Bool, false, List, [], ◌∷◌, Option, Some, None, is_none, option_map, find, filter, length, not, ◌&&◌, ◌+◌, if◌then◌else◌, ⊤}
 use Rattle.std.specs.List.{AllByRecursion}
 use Rattle.sv_links.specs.declared.waiting.Entry.{Entry}
@@ -10,7 +10,7 @@ use Rattle.sv_links.specs.Waiting.{WaitAct, waits, deadline, link, arrival, is_l
 abbrev pub IsFree : ℕ → List Entry → Type 0
 IsFree conn entries = AllByRecursion (λ entry. entry.conn ≢ conn) entries
 
--- No connection stands twice.
+-- No connection has two entries.
 abbrev pub IsOnce : List Entry → Type 0
 IsOnce [] = ⊤
 IsOnce (entry ∷ entries) = IsFree entry.conn entries × IsOnce entries
@@ -23,24 +23,24 @@ IsBelow most entries = AllByRecursion (λ entry. entry.conn < most) entries
 abbrev pub entry_of : ℕ → List Entry → Option Entry
 entry_of conn entries = find (λ entry. entry.conn == conn) entries
 
--- It is what the acts say of its connection.
+-- The entry is what the acts say of its connection.
 abbrev pub IsEntry : List WaitAct → Entry → Type 0
 IsEntry acts entry = (waits entry.conn acts ≡ Some entry.wait) × (deadline entry.conn acts ≡ entry.deadline)
     × (link entry.conn acts ≡ entry.lid)
 
--- They stand in the order in which they came.
+-- The entries stand in order of arrival.
 abbrev pub IsOrdered : List WaitAct → List Entry → Type 0
 IsOrdered acts [] = ⊤
 IsOrdered acts (entry ∷ entries) =
     AllByRecursion (λ other. arrival entry.conn acts < arrival other.conn acts) entries × IsOrdered acts entries
 
--- These are kept, and no other call waits.
+-- These calls are suspended, and no others.
 pub record IsQueue (entries : List Entry) (acts : List WaitAct) : Type 0 where
   pub each : AllByRecursion (IsEntry acts) entries
   pub ordered : IsOrdered acts entries
   pub all : (conn : ℕ) → waits conn acts ≡ option_map (λ entry. entry.wait) (entry_of conn entries)
 
--- an entry, where the call of this connection waits anew
+-- an entry; if it is of this connection, suspended anew
 abbrev pub anew : ℕ → Wait → Option ℕ → Entry → Entry
 anew conn wait deadline entry = if entry.conn == conn then record entry { wait = wait; deadline = deadline } else entry
 
@@ -49,11 +49,11 @@ abbrev pub is_past : ℕ → Option ℕ → Bool
 is_past clock (Some deadline) = nat_le deadline clock
 is_past clock None = false
 
--- whether it is a create_link that waits
+-- whether it is a suspended create_link
 abbrev pub creates : Entry → Bool
 creates entry = is_lock (Some entry.wait) && is_none entry.lid
 
--- and how many of these are
+-- how many of these there are
 abbrev pub creations : List Entry → ℕ
 creations entries = length (filter creates entries)
 
@@ -61,13 +61,14 @@ creations entries = length (filter creates entries)
 abbrev pub without : ℕ → List Entry → List Entry
 without conn entries = filter (λ entry. not (entry.conn == conn)) entries
 
--- how often a call may still begin to wait or end: one that waits for the lock may wait once more
+-- how often a call may still be suspended anew or leave: one that waits for the lock may be suspended once more
 abbrev pub wait_measure : Wait → ℕ
 wait_measure Lock = 2
 wait_measure Input = 1
 wait_measure Response = 1
 wait_measure Dial = 1
 
+-- the sum over all entries
 abbrev pub queue_measure : List Entry → ℕ
 queue_measure [] = 0
 queue_measure (entry ∷ entries) = wait_measure entry.wait + queue_measure entries

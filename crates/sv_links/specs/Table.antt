@@ -1,10 +1,10 @@
--- What the table of links keeps of the acts.
+-- What the table of links keeps, and which acts it stands for.
 use Rattle.std.specs.Prelude.{◌≡◌, ℕ, ◌<◌, ◌≤◌, List, [], ◌∷◌, ◌++◌, is_some, count_by, Option, Some, None, ⊤}
 use Rattle.std.specs.List.{AllByRecursion}
 use Rattle.sv_links.specs.declared.links.Link.{Link}
 use Rattle.sv_links.specs.Links.{LinkAct, made, live, is_locked, is_this}
 
--- how many links were ever made; a live link or nothing at each key of the slab; the link that holds the lock; and for how many links more
+-- how many links were ever made; a live link or nothing at each key of the slab; the link that holds the lock; for how many more links
 -- there is memory
 pub record Table : Type 0 where
   pub made : ℕ
@@ -16,14 +16,14 @@ pub record Table : Type 0 where
 abbrev pub count_of : Table → ℕ
 count_of table = count_by is_some table.slots
 
--- These slots hold these links, each once: the link of the first one taken out of them, the other slots hold the rest.
+-- These slots hold these links, each once, in any order.
 abbrev pub IsKept : List (Option Link) → List Link → Type 0
 IsKept [] links = links ≡ []
 IsKept (None ∷ slots) links = IsKept slots links
 IsKept (Some link ∷ slots) links =
     (before : List Link) × (after : List Link) × (links ≡ before ++ link ∷ after) × IsKept slots (before ++ after)
 
--- Their numbers rise, up to this one.
+-- The numbers of the links rise, up to this one.
 abbrev pub IsRising : List Link → ℕ → Type 0
 IsRising [] last = ⊤
 IsRising (link ∷ links) last = (link.lid ≤ last) × AllByRecursion (λ other. link.lid < other.lid) links × IsRising links last

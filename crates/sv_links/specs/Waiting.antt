@@ -1,5 +1,5 @@
--- Calls that wait (VXI-11 revision 1.0, section B.4.4: locks and timeouts): which, for what, until when, and in which order they came. Acts
--- are read from the newest.
+-- Suspended calls (VXI-11 revision 1.0, section B.4.4: locks and timeouts): what each waits for, until when, and in which order they came.
+-- Lists of acts have the newest first.
 use Rattle.std.specs.Prelude.{◌≡◌, ℕ, ◌==◌, ◌≤◌, not, ◌&&◌, Bool, true, false, List, [], ◌∷◌, length, filter, is_none, option_map, Option, Some, None, if◌then◌else◌}
 use Rattle.std.specs.List.{range_with_len}
 use Rattle.sv_logs.specs.Since.{newest}
@@ -8,73 +8,75 @@ use Rattle.sv_links.specs.Limits.{max_connections}
 use Rattle.sv_links.specs.Links.{is_locked_out}
 use Rattle.sv_links.specs.declared.waiting.Wait.TheVariants.{Lock, Input, Response}
 
--- what happens to the call of a connection: it begins to wait, with the link that it names, if any; it waits anew, for something else; it
--- waits no more. A wait has a deadline, or none
+-- What happens to the call of a connection: it is suspended, with the link that it names, if any; it is suspended anew, for something else;
+-- it isn't suspended any more. A wait may have a deadline, in milliseconds of the clock.
 pub data WaitAct : Type 0 where
   Entered : (conn : ℕ) (link : Option ℕ) (wait : Wait) (deadline : Option ℕ) → WaitAct
   Again : (conn : ℕ) (wait : Wait) (deadline : Option ℕ) → WaitAct
   Left : (conn : ℕ) → WaitAct
 
--- for what the call of a connection waits, if it waits, and until when
+-- what the call of a connection waits for; `None` if none is suspended
 abbrev pub waits : ℕ → List WaitAct → Option Wait
 waits c [] = None
 waits c (Entered conn link wait deadline ∷ acts) = if conn == c then Some wait else waits c acts
 waits c (Again conn wait deadline ∷ acts) = if conn == c then option_map (λ before. wait) (waits c acts) else waits c acts
 waits c (Left conn ∷ acts) = if conn == c then None else waits c acts
 
+-- the deadline of the newest wait of a connection; `None` without one
 abbrev pub deadline : ℕ → List WaitAct → Option ℕ
 deadline c [] = None
 deadline c (Entered conn link wait last ∷ acts) = if conn == c then last else deadline c acts
 deadline c (Again conn wait last ∷ acts) = if conn == c then last else deadline c acts
 deadline c (Left conn ∷ acts) = deadline c acts
 
--- the newest act is the beginning of its wait
+-- whether the newest act suspends a call of this connection
 abbrev pub enters : ℕ → List WaitAct → Bool
 enters c = elim [ Entered conn link wait deadline ∷ acts ↦ conn == c | _ ↦ false ]
 
--- when it came: how many acts there were
+-- when the call came: how many acts there were then
 abbrev pub arrival : ℕ → List WaitAct → ℕ
 arrival c acts = length (newest (enters c) acts)
 
--- the link that it names
+-- the link that the newest act names
 abbrev link_of : List WaitAct → Option ℕ
 link_of = elim [ Entered conn link wait deadline ∷ acts ↦ link | _ ↦ None ]
 
+-- the link that the suspended call of a connection names; `None` if it names none
 abbrev pub link : ℕ → List WaitAct → Option ℕ
 link c acts = link_of (newest (enters c) acts)
 
--- whether it is the lock that is waited for
+-- whether the lock is waited for
 abbrev pub is_lock : Option Wait → Bool
 is_lock = elim [ Some Lock ↦ true | _ ↦ false ]
 
--- the numbers of connections, rising from 0
+-- the numbers of all connections, rising from 0
 abbrev pub connections : List ℕ
 connections = range_with_len 0 max_connections
 
--- whether what a call waits for is there, with this holder of the lock, and where a write, or a read, would be taken
+-- whether what a call waits for is there: the lock is free for its link, a write is accepted now, or a read is answered now
 abbrev pub is_there : Option ℕ → Bool → Bool → Option ℕ → Option Wait → Bool
 is_there holder can_write can_read named (Some Lock) = not (is_locked_out holder named)
 is_there holder can_write can_read named (Some Input) = can_write
 is_there holder can_write can_read named (Some Response) = can_read
 is_there holder can_write can_read named _ = false
 
--- The call of a connection can go on.
+-- The suspended call of a connection can resume.
 abbrev pub IsAble : Option ℕ → Bool → Bool → List WaitAct → ℕ → Type 0
 IsAble holder can_write can_read acts c = is_there holder can_write can_read (link c acts) (waits c acts) ≡ true
 
--- The call of a connection waits, and its deadline has come.
+-- The suspended call of a connection has a deadline, which has come.
 abbrev pub IsExpired : ℕ → List WaitAct → ℕ → Type 0
 IsExpired clock acts c = (wait : Wait) × (last : ℕ) × (waits c acts ≡ Some wait) × (deadline c acts ≡ Some last) × (last ≤ clock)
 
--- whether a create_link of a connection waits: for the lock, with no link to name
+-- whether a create_link of this connection is suspended: it waits for the lock, and names no link
 abbrev pub is_creating : List WaitAct → ℕ → Bool
 is_creating acts c = is_lock (waits c acts) && is_none (link c acts)
 
--- how many do, of all connections
+-- how many connections have one
 abbrev pub creating : List WaitAct → ℕ
 creating acts = length (filter (is_creating acts) connections)
 
--- Of the connections that are such, this is the one whose call came first; or there is none.
+-- Of the connections of which this holds, it is the one whose call came first; or there is none.
 abbrev pub IsOldest : List WaitAct → (ℕ → Type 0) → Option ℕ → Type 0
 IsOldest acts IsSuch None = (c : ℕ) → IsSuch c → ⊥
 IsOldest acts IsSuch (Some c) = IsSuch c × ((d : ℕ) → IsSuch d → arrival c acts ≤ arrival d acts)

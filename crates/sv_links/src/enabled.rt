@@ -1,4 +1,4 @@
-//! Links that ask for service requests (VXI-11 revision 1.0, device_enable_srq).
+//! Links that have service requests enabled (VXI-11 revision 1.0, device_enable_srq).
 
 ghost use Rattle.std.specs.Prelude.{◌≡◌, ◌≤◌, length};
 ghost use Rattle.sv_links.specs.Limits.{max_handle};

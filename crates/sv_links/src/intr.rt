@@ -1,4 +1,4 @@
-//! Interrupt channels: which links ask for service requests, and what waits to be sent on the
+//! Interrupt channels: which links have service requests enabled, and what waits to be sent on the
 //! channel of each connection.
 
 ghost use Rattle.std.specs.Prelude.{◌≡◌, ◌<◌, ◌≤◌, ◌==◌, ◌++◌, ℕ, List, [], ◌∷◌, map, length, filter, not, IfOk, OnOk, OnErr, false, true};
@@ -13,7 +13,7 @@ use crate::request::Peer;
 use std::alloc::{AllocError, Allocator, Global};
 use std::marker::Model;
 
-/// The links that ask for service requests, and the interrupt channels, at most one of each
+/// The links that have service requests enabled, and the interrupt channels: at most one of each
 /// connection.
 #[derive(Drop)]
 pub struct Intr<A: Allocator = Global> {
@@ -38,10 +38,11 @@ impl<A: Allocator> Model for Intr<A> {
 }
 
 impl<A: Allocator + Copy> Intr<A> {
-    /// No link asks, and no channel is open. Takes the memory of all handles.
+    /// No link has service requests enabled, and no channel is open. It allocates the memory of all
+    /// handles.
     ///
     /// # Errors
-    /// Where memory is refused.
+    /// If memory is refused.
     pub fn new(alloc: A) -> Result<Intr<A>, AllocError>
         ensures { IfOk result (λ intr. AreChannels intr []) }
     {
@@ -64,11 +65,11 @@ impl<A: Allocator> Intr<A> {
         self.channels[usize::from(conn)].is_open()
     }
 
-    /// Takes the memory of the channel of a connection, below [`MAX_CONNECTIONS`], so that it may
-    /// be opened; where it is open nothing changes.
+    /// Allocates the memory of the channel of a connection, below [`MAX_CONNECTIONS`], so that it
+    /// may be opened; if it is open, nothing changes.
     ///
     /// # Errors
-    /// Where memory is refused; nothing changes then.
+    /// If memory is refused; nothing changes then.
     pub fn prepare(&mut self, conn: u8) -> Result<(), AllocError>
         requires { conn < max_connections }
         ensures ready { OnOk result ((acts : List ChannelAct) → AreChannels self.old acts
@@ -83,7 +84,8 @@ impl<A: Allocator> Intr<A> {
         self.channels[usize::from(conn)].prepare()
     }
 
-    /// The channel of a connection, below [`MAX_CONNECTIONS`], isn't to be opened any more.
+    /// The channel of a connection, below [`MAX_CONNECTIONS`], won't be opened: it isn't prepared
+    /// any more. An open one stays open.
     pub fn cancel(&mut self, conn: u8)
         requires { conn < max_connections }
         ensures unready { IsReady self.new conn → ⊥ }
@@ -96,8 +98,8 @@ impl<A: Allocator> Intr<A> {
         self.channels[usize::from(conn)].cancel();
     }
 
-    /// Opens the channel of a connection, below [`MAX_CONNECTIONS`], which has to be prepared, with
-    /// nothing to send.
+    /// Opens the channel of a connection, below [`MAX_CONNECTIONS`], with nothing to send. It has
+    /// to be prepared.
     pub fn open(&mut self, conn: u8, peer: Peer)
         requires { conn < max_connections }
         ensures others { (other : ℕ) → (other ≡ conn → ⊥) → IsReady self.old other
@@ -110,8 +112,8 @@ impl<A: Allocator> Intr<A> {
         self.channels[usize::from(conn)].open(peer);
     }
 
-    /// Closes the channel of a connection, below [`MAX_CONNECTIONS`], with what waits on it; tells
-    /// whether it was open.
+    /// Closes the channel of a connection, below [`MAX_CONNECTIONS`], and drops what waits on it.
+    /// Returns whether it was open.
     pub fn close(&mut self, conn: u8) -> bool
         requires { conn < max_connections }
         ensures answer { (acts : List ChannelAct) → AreChannels self.old acts
@@ -127,8 +129,9 @@ impl<A: Allocator> Intr<A> {
         was_open
     }
 
-    /// A link of a connection asks for service requests with this handle, of at most
-    /// [`MAX_HANDLE`](crate::MAX_HANDLE) bytes. It has to ask already, or fewer links do than may.
+    /// Enables service requests of a link, with this handle of at most
+    /// [`MAX_HANDLE`](crate::MAX_HANDLE) bytes. It has to have them enabled already, or fewer than
+    /// 32 links have.
     pub fn enable(&mut self, lid: u32, conn: u8, handle: &[u8])
         ensures stands { length handle.now ≤ max_handle → HasRoomFor lid self.old
             → (acts : List ChannelAct) → AreChannels self.old acts
@@ -143,7 +146,7 @@ impl<A: Allocator> Intr<A> {
         let _ = self.enabled.insert(place, Enabled::new(lid, conn, handle));
     }
 
-    /// A link asks for no more service requests.
+    /// Disables service requests of a link.
     pub fn disable(&mut self, lid: u32)
         ensures value { self.new.enabled
             ≡ filter (λ other. not (other.lid == lid)) self.old.enabled }
@@ -154,8 +157,7 @@ impl<A: Allocator> Intr<A> {
         self.enabled.retain(|other| other.lid != lid);
     }
 
-    /// The links of a connection ask for no more service requests: those of these numbers, where
-    /// these are all of its links that ask.
+    /// Disables service requests of all links of a connection.
     pub fn disable_connection(&mut self, conn: u8)
         ensures stands { (lids : List ℕ) (acts : List ChannelAct) → AreChannels self.old acts
             → disabled lids self.old.enabled ≡ of_others conn self.old.enabled
@@ -166,8 +168,9 @@ impl<A: Allocator> Intr<A> {
         self.enabled.retain(|other| other.conn != conn);
     }
 
-    /// A service request is raised: a call is sent on the channel of each link that asks, by rising
-    /// number.
+    /// Raises a service request: a call is sent on the channel of each link that has them enabled,
+    /// by rising number of the links. A call is left out while 32 of its channel are pending, or
+    /// once its numbers are used up.
     pub fn raise(&mut self)
         ensures stands { (acts : List ChannelAct) → AreChannels self.old acts
             → AreChannels self.new (Requested ∷ acts) }
@@ -179,7 +182,7 @@ impl<A: Allocator> Intr<A> {
         }
     }
 
-    /// The bytes that wait on the channel of a connection, below [`MAX_CONNECTIONS`]; none where it
+    /// The bytes that wait on the channel of a connection, below [`MAX_CONNECTIONS`]; none if it
     /// isn't open.
     pub fn waiting(&self, conn: u8) -> &[u8]
         requires { conn < max_connections }
@@ -196,8 +199,8 @@ impl<A: Allocator> Intr<A> {
         }
     }
 
-    /// Lets bytes go that the peer took from the channel of a connection, below
-    /// [`MAX_CONNECTIONS`]; so many have to wait there.
+    /// Drops bytes that the peer took of the channel of a connection, below [`MAX_CONNECTIONS`]. So
+    /// many have to wait there.
     pub fn take(&mut self, conn: u8, count: usize)
         requires within { conn < max_connections }
         requires waits { count ≤ length (bytes_of self.old conn) }

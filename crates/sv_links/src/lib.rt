@@ -1,12 +1,11 @@
-//! Links (VXI-11 revision 1.0): who owns one while it lives, which holds the lock, which calls
-//! wait, and what is sent on interrupt channels.
+//! Links (VXI-11 revision 1.0): who owns one, which holds the lock, which calls are suspended, and
+//! what is sent on interrupt channels.
 //!
 //! [`Links`] gives a link its number, finds the connection that made it, and keeps the lock.
-//! [`Waiting`] keeps the calls that wait, in the order in which they came, and finds the oldest
-//! that can go on, or that has waited long enough. [`Intr`] keeps the links that ask for service
-//! requests, and the calls that wait on interrupt channels. Only [`Links::create`],
-//! [`Links::reserve`], [`Waiting::new`], [`Intr::new`] and [`Intr::prepare`] are written to take
-//! memory; no contract says so.
+//! [`Waiting`] keeps the suspended calls in order of arrival, and finds the oldest that can resume,
+//! or whose deadline has come. [`Intr`] keeps the links that have service requests enabled, and the
+//! calls that wait on interrupt channels. Only [`Links::create`], [`Links::reserve`],
+//! [`Waiting::new`], [`Intr::new`] and [`Intr::prepare`] allocate; no contract says so.
 #![tactic(auto)]
 
 mod channel;

@@ -1,4 +1,4 @@
-//! How many connections, links, calls and handles there may be, and how long calls and handles.
+//! How many connections, links and calls there may be, and how long calls and handles may be.
 
 /// How many connections there may be; they are numbered from 0.
 pub const MAX_CONNECTIONS: usize = 16;
@@ -10,11 +10,11 @@ pub const MAX_LINKS: usize = 32;
 pub(crate) const MAX_ENABLED: usize = MAX_LINKS;
 /// How many calls of an interrupt channel may wait that its peer didn't take to their end.
 pub(crate) const MAX_CALLS: usize = 32;
-/// How long the handle may be that a link asks with, in bytes (VXI-11 revision 1.0, section B.6,
+/// How long the handle of a service request may be, in bytes (VXI-11 revision 1.0, section B.6,
 /// device_enable_srq).
 pub const MAX_HANDLE: usize = 40;
-/// How long a call may be that tells a service request, in bytes: its header (40), the length of
-/// the handle (4), and the longest handle, which wants no padding.
+/// The length of the longest device_intr_srq, in bytes: its header (40), the length of the handle
+/// (4), and the longest handle, which needs no padding.
 pub(crate) const LONGEST_TEXT: usize = 44 + MAX_HANDLE;
 /// How long its record may be, in bytes: the header of its one fragment (4; RFC 5531, section 11),
 /// and the call.

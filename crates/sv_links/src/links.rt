@@ -1,4 +1,4 @@
-//! Links: which connection made one, while it lives, and which holds the lock.
+//! Links: which live, which connection made one, and which holds the lock.
 
 ghost use Rattle.std.specs.Prelude.{◌≡◌, ◌+◌, ◌<◌, ◌≤◌, ◌^◌, ◌↔◌, not, ℕ, List, [], ◌∷◌, ◌++◌, length, IfOk, OnOk, OnErr, IsOk, Some, Err, true, false};
 ghost use Rattle.sv_links.specs.Limits.{max_links};
@@ -29,12 +29,12 @@ pub enum CreateRefused {
     /// There are [`MAX_LINKS`], or no number is left (VXI-11 error 9).
     #[error("no further link may be made")]
     OutOfResources,
-    /// No memory was left.
+    /// Out of memory.
     #[error("no memory was left")]
     NoMemory,
 }
 
-/// The live links, at most [`MAX_LINKS`], how many were ever made, and which holds the lock.
+/// The live links, at most [`MAX_LINKS`]; how many were ever made; and which holds the lock.
 #[derive(Drop)]
 pub struct Links<A: Allocator = Global> {
     made: u32,
@@ -65,7 +65,7 @@ impl<A: Allocator> Model for Links<A> {
 }
 
 impl<A: Allocator> Links<A> {
-    /// No link was made, and none is locked.
+    /// A table in which no link was made.
     pub fn new(alloc: A) -> Links<A>
         ensures { IsTable result [] }
     {
@@ -94,11 +94,10 @@ impl<A: Allocator> Links<A> {
         self.made < LAST
     }
 
-    /// Takes the memory for so many links, unless it is there. They are made later, and then
-    /// `create` finds it.
+    /// Allocates the memory for so many links, unless it is there. A later `create` uses it.
     ///
     /// # Errors
-    /// Where memory is refused; nothing changes then.
+    /// If memory is refused; nothing changes then.
     pub fn reserve(&mut self, count: u8) -> Result<(), AllocError>
         ensures room { OnOk result (count ≤ self.new.spare) }
         ensures rest { OnOk result (self.new ≡ record self.old { spare = self.new.spare }) }
@@ -114,12 +113,12 @@ impl<A: Allocator> Links<A> {
         Ok(())
     }
 
-    /// Makes a link, and gives its number: one above the last, the first being 1. Memory may be
-    /// wanting only where none was reserved.
+    /// Makes a link and returns its number: one above the last; the first is 1. With reserved
+    /// memory it never runs out of memory.
     ///
     /// # Errors
-    /// Where there are [`MAX_LINKS`] links or no number is left; else where memory is refused.
-    /// Nothing changes then.
+    /// `OutOfResources` if there are [`MAX_LINKS`] links or no number is left; else `NoMemory` if
+    /// memory is refused. Nothing changes then.
     pub fn create(&mut self, conn: u8) -> Result<u32, CreateRefused>
         ensures number { IfOk result (λ lid. lid < 2 ^ 31) }
         ensures ok { (acts : List LinkAct) → IsTable self.old acts → IfOk result
@@ -143,7 +142,7 @@ impl<A: Allocator> Links<A> {
         Ok(lid)
     }
 
-    /// The connection that made the link of this number, while it lives; else none.
+    /// The connection that made the link of this number; `None` if it doesn't live.
     pub fn owner(&self, lid: u32) -> Option<u8>
         ensures { (acts : List LinkAct) → IsTable self.now acts → result ≡ owner lid acts }
     {
@@ -151,7 +150,7 @@ impl<A: Allocator> Links<A> {
         Some(link.conn)
     }
 
-    /// The least number of a connection's live links; none where it has none.
+    /// The lowest number of a connection's live links; `None` if it has none.
     pub fn lowest(&self, conn: u8) -> Option<u32>
         ensures { (acts : List LinkAct) → IsTable self.now acts → result ≡ lowest conn acts }
     {
@@ -162,8 +161,7 @@ impl<A: Allocator> Links<A> {
             .min()
     }
 
-    /// Destroys a link, which frees the lock where it holds it; one that doesn't live changes
-    /// nothing else.
+    /// Destroys a link, which frees the lock if it holds it. If it doesn't live, nothing changes.
     pub fn destroy(&mut self, lid: u32)
         ensures stands { (acts : List LinkAct) → IsTable self.old acts
             → IsTable self.new (Destroyed lid ∷ acts) }
@@ -175,8 +173,8 @@ impl<A: Allocator> Links<A> {
         }
     }
 
-    /// Destroys the links of a connection, which frees the lock where one of them holds it. Their
-    /// numbers don't come again.
+    /// Destroys the links of a connection, which frees the lock if one of them holds it. Their
+    /// numbers are never used again.
     pub fn close_connection(&mut self, conn: u8)
         ensures stands { (acts : List LinkAct) → IsTable self.old acts
             → IsTable self.new (closing conn acts ++ acts) }
@@ -190,7 +188,7 @@ impl<A: Allocator> Links<A> {
         self.links.retain(|_key, link| link.conn != conn);
     }
 
-    /// The link that holds the lock, where one does.
+    /// The link that holds the lock; `None` if it is free.
     pub fn holder(&self) -> Option<u32>
         ensures value { result ≡ self.now.holder }
         ensures answer { (acts : List LinkAct) → IsTable self.now acts → result ≡ holder acts }
@@ -198,8 +196,8 @@ impl<A: Allocator> Links<A> {
         self.holder
     }
 
-    /// Gives a link the lock, also where it holds it already, unless another link does. Tells
-    /// whether it has it then; else nothing changes.
+    /// Gives a link the lock, unless another link holds it, and returns whether it holds the lock
+    /// now. If not, nothing changes.
     pub fn lock(&mut self, lid: u32) -> bool
         ensures answer { (acts : List LinkAct) → IsTable self.old acts
             → result ≡ not (is_locked_out (holder acts) (Some lid)) }
@@ -215,7 +213,7 @@ impl<A: Allocator> Links<A> {
         true
     }
 
-    /// Frees the lock where this link holds it, and tells whether it did; else nothing changes.
+    /// Frees the lock if this link holds it, and returns whether it did; if not, nothing changes.
     pub fn unlock(&mut self, lid: u32) -> bool
         ensures answer { (acts : List LinkAct) → IsTable self.old acts
             → result ≡ is_this lid (holder acts) }

@@ -1,4 +1,4 @@
-//! The call that tells a service request (VXI-11 revision 1.0, device_intr_srq).
+//! The call that reports a service request (VXI-11 revision 1.0, device_intr_srq).
 
 ghost use Rattle.std.specs.Prelude.{◌≡◌, ◌+◌, ◌≤◌, ◌++◌, length, vec_len, vec_capacity};
 ghost use Rattle.sv_links.specs.Limits.{max_handle, longest_call};
@@ -12,7 +12,7 @@ use sv_xdr::Writer;
 /// The procedure device_intr_srq.
 const DEVICE_INTR_SRQ: u32 = 30;
 
-/// Whom an interrupt channel calls.
+/// The program that an interrupt channel calls.
 #[derive(Clone, Copy, Debug, PartialEq, Eq)]
 pub struct Peer {
     /// Its program.

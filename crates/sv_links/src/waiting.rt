@@ -1,4 +1,4 @@
-//! Calls that wait (VXI-11 revision 1.0, section B.4.4).
+//! Suspended calls (VXI-11 revision 1.0, section B.4.4).
 
 ghost use Rattle.std.specs.Prelude.{◌≡◌, ◌<◌, ◌≤◌, ◌++◌, ℕ, List, [], ◌∷◌, ◌+◌, map, option_map, Some, None, true, IfOk, IfSome, MatchOption};
 ghost use Rattle.sv_links.specs.Limits.{max_connections, max_waiting};
@@ -10,20 +10,20 @@ use crate::limits::MAX_WAITING;
 use std::alloc::{AllocError, Allocator, Global};
 use std::marker::Model;
 
-/// What a call waits for.
+/// What a suspended call waits for.
 #[derive(Clone, Copy, Debug, PartialEq, Eq)]
 pub enum Wait {
     /// That no other link holds the lock.
     Lock,
-    /// That a write is taken.
+    /// That a write is accepted.
     Input,
     /// That a read is answered.
     Response,
-    /// That the interrupt channel's peer was called.
+    /// That the interrupt channel's peer is connected, or can't be.
     Dial,
 }
 
-/// A call that waits.
+/// A suspended call.
 #[derive(Clone, Copy, Debug, PartialEq, Eq)]
 pub struct Entry {
     /// Its connection, below [`MAX_CONNECTIONS`](crate::MAX_CONNECTIONS).
@@ -32,12 +32,12 @@ pub struct Entry {
     pub lid: Option<u32>,
     /// What it waits for.
     pub wait: Wait,
-    /// The clock at which it has waited long enough, in milliseconds; none where it waits without
-    /// end.
+    /// The clock at which it times out, in milliseconds; `None` if it never does.
     pub deadline: Option<u64>,
 }
 
-/// Whether another link holds the lock; for a call that names none, whether any does.
+/// Whether another link than the one named holds the lock; for a call that names no link, whether
+/// any link does.
 pub fn is_locked_out(holder: Option<u32>, named: Option<u32>) -> bool
     ensures { result ≡ locked_out holder named }
 {
@@ -83,7 +83,7 @@ impl Entry {
         }
     }
 
-    /// Where this is the call of the connection, it waits anew.
+    /// If this is the call of the connection, it is suspended anew.
     fn renew(&mut self, conn: u8, wait: Wait, deadline: Option<u64>)
         ensures { self.new ≡ anew conn wait deadline self.old }
     {
@@ -94,7 +94,7 @@ impl Entry {
     }
 }
 
-/// The calls that wait, at most one of each connection, in the order in which they came.
+/// The suspended calls, at most one of each connection, in order of arrival.
 #[derive(Drop)]
 pub struct Waiting<A: Allocator = Global> {
     entries: Vec<Entry, A>,
@@ -117,10 +117,10 @@ impl<A: Allocator> Model for Waiting<A> {
 }
 
 impl<A: Allocator> Waiting<A> {
-    /// No call waits. Takes the memory of all that may.
+    /// No call is suspended. It allocates the memory of all that may be.
     ///
     /// # Errors
-    /// Where memory is refused.
+    /// If memory is refused.
     pub fn new(alloc: A) -> Result<Waiting<A>, AllocError>
         ensures { IfOk result (λ waiting. IsQueue waiting []) }
     {
@@ -129,8 +129,8 @@ impl<A: Allocator> Waiting<A> {
         })
     }
 
-    /// The call of a connection, below [`MAX_CONNECTIONS`](crate::MAX_CONNECTIONS), begins to wait,
-    /// behind all that wait.
+    /// Suspends the call of a connection, below [`MAX_CONNECTIONS`](crate::MAX_CONNECTIONS), behind
+    /// all others.
     pub fn enter(&mut self, entry: Entry)
         requires { entry.conn < max_connections }
         ensures value { self.new ≡ without entry.conn self.old ++ entry ∷ [] }
@@ -141,7 +141,7 @@ impl<A: Allocator> Waiting<A> {
         self.entries.push_reserved(entry);
     }
 
-    /// The call of a connection that waits.
+    /// The suspended call of a connection; `None` if it has none.
     pub fn of(&self, conn: u8) -> Option<Entry>
         ensures { (acts : List WaitAct) → IsQueue self.now acts
             → MatchOption result (waits_for conn acts ≡ None)
@@ -153,7 +153,7 @@ impl<A: Allocator> Waiting<A> {
             .copied()
     }
 
-    /// For what the call of a connection waits; none where it doesn't.
+    /// What the suspended call of a connection waits for; `None` if it has none.
     pub fn waits(&self, conn: u8) -> Option<Wait>
         ensures { (acts : List WaitAct) → IsQueue self.now acts → result ≡ waits_for conn acts }
     {
@@ -161,7 +161,7 @@ impl<A: Allocator> Waiting<A> {
         Some(entry.wait)
     }
 
-    /// How many create_links wait for the lock.
+    /// How many create_links are suspended: they wait for the lock.
     pub fn creating(&self) -> u8
         ensures value { result ≡ creations self.now }
         ensures bounded { result ≤ max_waiting }
@@ -170,8 +170,8 @@ impl<A: Allocator> Waiting<A> {
         self.entries.iter().filter(|entry| entry.creates()).count() as u8
     }
 
-    /// The call of a connection waits anew, until another deadline, in its place of the order.
-    /// Where it doesn't wait nothing changes.
+    /// Suspends the call of a connection anew, until another deadline, in its place of the order.
+    /// If it isn't suspended, nothing changes.
     pub fn again(&mut self, conn: u8, wait: Wait, deadline: Option<u64>)
         ensures value { self.new ≡ map (anew conn wait deadline) self.old }
         ensures stands { (acts : List WaitAct) → IsQueue self.old acts
@@ -186,7 +186,7 @@ impl<A: Allocator> Waiting<A> {
         }
     }
 
-    /// The call of a connection waits no more.
+    /// The call of a connection isn't suspended any more.
     pub fn leave(&mut self, conn: u8)
         ensures value { self.new ≡ without conn self.old }
         ensures stands { (acts : List WaitAct) → IsQueue self.old acts
@@ -195,8 +195,8 @@ impl<A: Allocator> Waiting<A> {
         self.entries.retain(|entry| entry.conn != conn);
     }
 
-    /// The oldest call that can go on, with this holder of the lock, and where a write, or a read,
-    /// would be taken; none where none can.
+    /// The oldest call that can resume, given who holds the lock, and whether a write is accepted
+    /// and a read is answered now; `None` if none can.
     pub fn oldest_able(&self, holder: Option<u32>, can_write: bool, can_read: bool) -> Option<Entry>
         ensures answer { (acts : List WaitAct) → IsQueue self.now acts
             → IsOldest acts (IsAble holder can_write can_read acts)
@@ -216,7 +216,7 @@ impl<A: Allocator> Waiting<A> {
             .copied()
     }
 
-    /// The oldest call whose deadline has come at this clock; none where none's has.
+    /// The oldest call whose deadline has come at this clock; `None` if there is none.
     pub fn expired(&self, clock: u64) -> Option<Entry>
         ensures answer { (acts : List WaitAct) → IsQueue self.now acts
             → IsOldest acts (IsExpired clock acts) (option_map (λ entry. entry.conn) result) }

@@ -1,4 +1,5 @@
-//! Searches of logs. A log is a list of acts, the newest first; a place of it is one of its rests.
+//! Searches of logs. A log is a list of acts, the newest first; a place of it is one of its
+//! suffixes.
 //!
 //! There is no code here: `specs/` defines the searches, and `proofs/` has their laws.
 #![tactic(auto)]

@@ -1,4 +1,4 @@
--- What a loop of sweeps does: a sweep, and waits behind it; the newest comes first.
+-- What a loop of sweeps does: sweeps, and waits between them. Lists have the newest first.
 use Rattle.std.specs.Prelude.{◌≡◌, ℕ, ◌-◌, ◌/◌, ◌<◌, min, Bool, true, false, List, [], ◌∷◌, length, Option, Some, None}
 use Rattle.std.specs.declared.time.Duration.{Duration}
 use Rattle.sv_logs.specs.Since.{last_given}
@@ -8,42 +8,43 @@ use Rattle.sv_serve.specs.DriverView.{DriverState, Steps}
 use Rattle.sv_serve.specs.Sweep.{Sweeps}
 use Rattle.sv_net.specs.Sleep.{MaySleep}
 
--- A sweep; a wait for reports, at most so long, whether some came, and at which nanosecond since the beginning it ended; and that they
--- were told to a wire, as it was then.
+-- A sweep; or a wait for reports: its limit, whether some came, and the nanosecond since the beginning at which it ended; or passing these
+-- reports to a wire, as it was then.
 pub data Doing (W : Type 0) : Type 0 where
   MadeSweep : Doing W
   Waited : (limit : Option Duration) (reported : Bool) (ended : ℕ) → Doing W
   Told : (wire : W) → Doing W
 
--- the nanosecond at which the last wait ended, and the one at which the last sweep began; 0 in front of both
+-- the nanosecond at which the last wait ended; 0 before the first
 abbrev pub time_of : {W : Type 0} → List (Doing W) → ℕ
 time_of = last_given (elim [ Waited limit reported ended ↦ Some ended | _ ↦ None ]) 0
 
+-- the nanosecond at which the last sweep began; 0 before the first
 abbrev pub swept_at : {W : Type 0} → List (Doing W) → ℕ
 swept_at [] = 0
 swept_at (MadeSweep ∷ doings) = time_of doings
 swept_at (_ ∷ doings) = swept_at doings
 
--- how many whole milliseconds came between two nanoseconds, at most 1,000
+-- how many whole milliseconds lie between two nanoseconds, at most 1,000
 abbrev pub ticks_between : ℕ → ℕ → ℕ
 ticks_between before now = min (now / 1000000 - before / 1000000) 1000
 
--- the milliseconds that each sweep is handed: those since the sweep in front of it
+-- the milliseconds that each sweep gets: those since the sweep before it
 abbrev pub handed_in : {W : Type 0} → List (Doing W) → List ℕ
 handed_in [] = []
 handed_in (MadeSweep ∷ doings) = ticks_between (swept_at doings) (time_of doings) ∷ handed_in doings
 handed_in (_ ∷ doings) = handed_in doings
 
--- whether a wait was the last thing, so nothing of it was told
+-- whether the last thing was a wait, whose reports weren't passed on yet
 abbrev pub is_fresh : {W : Type 0} → List (Doing W) → Bool
 is_fresh = elim [ MadeSweep ∷ doings ↦ false | Told wire ∷ doings ↦ false | _ ↦ true ]
 
--- whether all was told that came in waits
+-- whether all reports were passed on
 abbrev pub is_told : {W : Type 0} → List (Doing W) → Bool
 is_told = last_given (elim [ Waited limit true ended ↦ Some false | Told wire ↦ Some true | _ ↦ None ]) true
 
--- Doings lead from one driver to another: each sweep is handed its milliseconds, which pass in front of what was reported meanwhile; no
--- wait is longer than it may be, and none comes before all was told.
+-- The loop leads from one state of the driver to another. Each sweep gets its milliseconds, which pass before what was reported meanwhile.
+-- No wait is longer than it may be, and none begins before all reports were passed on.
 abbrev pub Serves : {W : Type 0} → (W → Heard → W → Type 0) → List (Doing W) → DriverState W → DriverState W → Type 0
 Serves hears [] start now = now ≡ start
 Serves hears (MadeSweep ∷ doings) start now = let ticks = ticks_between (swept_at doings) (time_of doings) in
@@ -53,13 +54,13 @@ Serves hears (Waited limit reported ended ∷ doings) start now =
     Serves hears doings start now × MaySleep (swept_at doings) (time_of doings) limit now × (is_told doings ≡ true)
 Serves hears (Told wire ∷ doings) start now = Serves hears doings start now × (wire ≡ now.wire)
 
--- A machine was asked for these waits, one after the other, and answered so, and told these wires what was reported.
+-- A machine was asked for these waits in order, gave these answers, and passed the reports to these wires.
 abbrev pub Waits : {W M : Type 0} → (M → Doing W → M → Type 0) → List (Doing W) → M → M → Type 0
 Waits answers [] start now = now ≡ start
 Waits answers (MadeSweep ∷ doings) start now = Waits answers doings start now
 Waits answers (doing ∷ doings) start now = (between : _) × Waits answers doings start between × answers between doing now
 
--- Doings with such a number of sweeps lead from one driver to another, and so do sweeps that were handed those milliseconds.
+-- A loop with such a number of sweeps leads from one state of the driver to another; and so do sweeps with these milliseconds.
 abbrev pub Served : {W : Type 0} → (W → Heard → W → Type 0) → (ℕ → Type 0) → DriverState W → DriverState W → Type 0
 Served hears IsCount old new = (doings : List (Doing _)) × IsCount (length (handed_in doings)) × Serves hears doings old new
     × Swept hears (handed_in doings) old new

@@ -9,22 +9,22 @@ use Rattle.sv_serve.specs.Asked.{IsReady}
 use Rattle.sv_serve.specs.DriverView.{DriverState, driver_view}
 use Rattle.sv_serve.specs.Still.{StaysStill}
 
--- No call is there to be taken on any connection, whatever happened before.
+-- No connection has a call to take, whatever happened before.
 abbrev pub NoneReady : {W : Type 0} → DriverState W → Type 0
 NoneReady driving = (config : Config) (history : List PlainEvent) → StandsFor driving.server config history
     → (c : ℕ) → IsReady c config (driver_view driving history) false
 
--- Nor does anything wait for one of so many milliseconds.
+-- No connection has a call to take, and nothing waits for time within so many milliseconds.
 abbrev pub IsIdle : {W : Type 0} → ℕ → DriverState W → Type 0
 IsIdle most driving = NoneReady driving × ((config : Config) (history : List PlainEvent) → StandsFor driving.server config history
     → StaysStill most config (driver_view driving history) true)
 
--- the nanoseconds from now until so many whole milliseconds passed since the one of the last sweep
+-- the nanoseconds from now until so many whole milliseconds have passed since that of the last sweep
 abbrev pub left_until : ℕ → ℕ → ℕ → ℕ
 left_until ticks swept now = ticks * 1000000 - (now - swept / 1000000 * 1000000)
 
--- It sleeps without a limit where it is idle for as many milliseconds as a timeout can have (32 bits: VXI-11 revision 1.0, B.4.4), and no
--- entry of the scenario is to come; until the hundredth millisecond where it is idle for so many; and else until the next one.
+-- The server sleeps without a limit if it is idle for as many milliseconds as a timeout may have (32 bits: VXI-11 revision 1.0, B.4.4) and
+-- the scenario has no entry left; until the hundredth millisecond if it is idle for so many; else until the next one.
 abbrev pub MaySleep : {W : Type 0} → ℕ → ℕ → Option Duration → DriverState W → Type 0
 MaySleep swept now None driving = (driving.ahead ≡ []) × IsIdle 4294967295 driving
 MaySleep swept now (Some limit) driving =

@@ -1,4 +1,4 @@
--- The sockets of a wire, by their numbers, and what each call of the wire does to them.
+-- The sockets of a wire, by number, and what each call of the wire does to them.
 use Rattle.std.specs.Prelude.{◌≡◌, ℕ, ◌+◌, Bool, true, false, List, take, Option, Some, None, slice_set, slice_index_or}
 use Rattle.std.specs.Io.KnownBytes.{Keeps, Appends, Consumes}
 use Rattle.sv_history.specs.declared.event.Port.{Port}
@@ -7,37 +7,37 @@ use Rattle.sv_serve.specs.declared.wire.Answer.{Answer}
 use Rattle.sv_serve.specs.declared.wire.Answer.TheVariants.{Got, Pending, Failed}
 use Rattle.sv_serve.specs.Heard.{Heard, WasAccepted, WasRead, WasProbed, WasWritten, WasDialed, PeerAnswered, WasClosed}
 
--- The connections come first, and then their interrupt channels.
+-- the number of a port's socket: connections first, then their interrupt channels
 abbrev pub socket_number : Port → ℕ
 socket_number (Conn c) = c
 socket_number (Intr c) = 16 + c
 
--- A read gives the next bytes that a stream has left to read, and takes them out; where it gives none, they stay.
+-- A read gives the next bytes that a stream has left, and takes them out; if it gives none, they stay.
 abbrev pub Gives : {S : Type 0} → (S → Option (List ℕ)) → Answer (List ℕ) → S → S → Type 0
 Gives left (Got bytes) old new = Consumes (left old) (left new) bytes
 Gives left answer old new = Keeps (left old) (left new)
 
--- A probe reads and drops what comes, if so said; else it leaves all.
+-- With `drops`, a probe reads and drops what comes; else all stays.
 abbrev pub Skips : {S : Type 0} → (S → Option (List ℕ)) → Bool → S → S → Type 0
 Skips left true old new = (dropped : Answer (List ℕ)) × Gives left dropped old new
 Skips left false old new = Keeps (left old) (left new)
 
--- A write puts as many of the bytes behind what a stream was sent as it answers, and none where it takes none.
+-- A write puts as many of the bytes as it answers behind what the stream was sent; none if it takes none.
 abbrev pub Takes : {S : Type 0} → (S → Option (List ℕ)) → List ℕ → Answer ℕ → S → S → Type 0
 Takes sent bytes (Got n) old new = Appends (sent old) (sent new) (take n bytes)
 Takes sent bytes answer old new = Keeps (sent old) (sent new)
 
--- The stream that is at a place does this; where there is none, the call fails.
+-- The stream in this place does this; if there is none, the call fails.
 abbrev pub Does : {S A : Type 0} → (S → S → Type 0) → Answer A → Option S → Option S → Type 0
 Does step answer None after = (answer ≡ Failed) × (after ≡ None)
 Does step answer (Some old) after = (new : _) × step old new × (after ≡ Some new)
 
--- It does so under this number, and all other sockets stay.
+-- The socket of this number does this, and all others stay.
 abbrev pub At : {S A : Type 0} → ℕ → (S → S → Type 0) → Answer A → List (Option S) → List (Option S) → Type 0
 At n step answer before after =
     (place : Option _) × Does step answer (slice_index_or before n None) place × (after ≡ slice_set before n place)
 
--- What a call of the wire and its answer lead to: it touches the socket of its port alone. Known of a stream may be the bytes that it has
+-- What a call of the wire and its answer lead to: only the socket of its port changes. What is known of a stream are the bytes that it has
 -- left to read, and those that it was sent.
 abbrev pub Hears : {S : Type 0} → (S → Option (List ℕ)) → (S → Option (List ℕ)) → List (Option S) → Heard → List (Option S) → Type 0
 Hears left sent before (WasAccepted role (Some c) (Got all)) after = (stream : _) × (after ≡ slice_set before c (Some stream))

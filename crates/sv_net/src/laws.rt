@@ -1,4 +1,4 @@
-//! Laws of sockets, each on a function that does nothing.
+//! Laws of the sockets. Each is the contract of a function that does nothing.
 
 ghost use Rattle.std.specs.Prelude.{◌≡◌, ◌<◌};
 ghost use Rattle.sv_history.specs.declared.event.Port.{Port};
@@ -11,15 +11,14 @@ use crate::stream::Stream;
 use std::alloc::Allocator;
 use std::net::Net as Network;
 
-/// Each of the sixteen connections has a socket of its own, and so has each interrupt channel.
+/// Each connection and each interrupt channel has a socket of its own.
 pub fn own_sockets()
     ensures { (port other : Port) → port_number port < 16 → port_number other < 16
         → socket_number port ≡ socket_number other → port ≡ other }
 {}
 
-/// What a driver carries over any wire, it carries over these sockets: what was read of them and
-/// written to them, and what happened to its server, are one. [`serve`](crate::serve) makes such
-/// sweeps.
+/// What holds of a driver over any wire holds over these sockets: what was read of them and written
+/// to them is what happened to its server. [`serve`](crate::serve) makes such sweeps.
 pub fn carried<N: Network + Drop, A: Allocator, S: Stream>()
     ensures { Carried (Hears S.remaining S.contents) }
 {

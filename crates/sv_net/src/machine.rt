@@ -1,4 +1,4 @@
-//! What a loop of sweeps waits by.
+//! The clock and the waits of a loop of sweeps.
 
 ghost use Rattle.std.specs.Prelude.{IfOk};
 
@@ -22,7 +22,7 @@ pub(crate) trait Machine<S: Stream> {
     /// was, and at which nanosecond since the beginning the wait ended.
     ///
     /// # Errors
-    /// Where the system tells no time, or fails to wait.
+    /// If the system tells no time, or fails to wait.
     fn wait(&mut self, limit: Option<Duration>) -> io::Result<(bool, u64)>
         ensures { IfOk result (λ ended. answers self.old (Waited limit ended.0 ended.1) self.new) };
 
@@ -43,7 +43,7 @@ impl<'a, C: Clock, A: Allocator> System<'a, C, A> {
     /// A machine at its beginning.
     ///
     /// # Errors
-    /// Where the system tells no time.
+    /// If the system tells no time.
     pub(crate) fn begin(clock: &'a C, watch: &'a mut Watch<A>) -> io::Result<System<'a, C, A>> {
         let start = Instant::now(clock)?;
         Ok(System {

@@ -23,8 +23,8 @@ const SOCKETS: usize = 32;
 /// Sixteen connections and their interrupt channels as sockets, with three ports of 127.0.0.1 on
 /// which connections come.
 ///
-/// No call waits, and none asks the system where nothing was reported since it last said that it
-/// would wait.
+/// No call blocks, and none asks the system unless something was reported since it last said that
+/// it would block.
 #[derive(Drop)]
 pub struct Net<N: Network + Drop, A: Allocator = Global, S: Stream = TcpStream> {
     network: N,
@@ -99,7 +99,7 @@ impl<N: Network + Drop, A: Allocator, S: Stream> Net<N, A, S> {
     /// Listens on the ports of the core channel, the abort channel and the port mapper.
     ///
     /// # Errors
-    /// Where a port can't be listened on, or memory is refused (`ErrorKind::OutOfMemory`).
+    /// If a port can't be listened on, or memory is refused (`ErrorKind::OutOfMemory`).
     pub(crate) fn listen(
         network: N,
         alloc: A,

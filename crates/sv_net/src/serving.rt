@@ -1,4 +1,4 @@
-//! Sweep after sweep.
+//! The loop of sweeps.
 
 ghost use Rattle.std.specs.Prelude.{◌≡◌, ◌≤◌, ℕ, OnOk, OnErr, IfOk};
 ghost use Rattle.sv_net.specs.Sockets.{Hears};
@@ -21,14 +21,17 @@ use sv_serve::Driver;
 /// How often it looks again without sleeping, at most.
 const LOOKS: u32 = 1_000;
 
-/// Makes so many sweeps. Behind each it waits until a socket is reported, or time matters: for the
-/// next whole millisecond, or up to 100 of them where nothing waits for so many. Where nothing ever
-/// waits for time, and more than a million sweeps are left, it waits for sockets alone. For 50
-/// microseconds after something was reported it looks again without sleeping, where that found
-/// something of late.
+/// Makes so many sweeps, and waits between them until a socket is reported or time matters. Each
+/// sweep gets the whole milliseconds since the one before, at most 1,000.
+///
+/// A wait ends at the next whole millisecond, or at the hundredth if nothing waits for time in
+/// these. If nothing ever waits for time, and more than a million sweeps are left, it ends at a
+/// report alone. For 50 microseconds after a report it looks again without sleeping, if that paid
+/// of late. The clock is read behind each wait, so that deadlines come while many peers ask without
+/// a pause.
 ///
 /// # Errors
-/// Where the system tells no time, or fails to wait.
+/// If the system tells no time, or fails to wait.
 pub fn serve<N: Network + Drop, A: Allocator, S: Stream>(
     clock: &impl Clock,
     watch: &mut Watch<A>,
@@ -44,7 +47,7 @@ pub fn serve<N: Network + Drop, A: Allocator, S: Stream>(
     run(&mut machine, driver, sweeps)
 }
 
-/// Makes so many sweeps, at the times that a machine tells.
+/// Makes so many sweeps, by the clock and the waits of a machine.
 fn run<M: Machine<S>, N: Network + Drop, A: Allocator, S: Stream>(
     machine: &mut M,
     driver: &mut Driver<Net<N, A, S>, A>,

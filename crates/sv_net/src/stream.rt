@@ -6,7 +6,7 @@ use std::io::{self, ErrorKind, Read, Write};
 use std::net::{Ipv4Addr, Net as Network, SocketAddr, SocketAddrV4};
 use sv_server::Dial;
 
-/// A stream between this machine and a peer. No call of it waits.
+/// A stream between this machine and a peer. No call of it blocks.
 pub trait Stream: Read + Write + Source + Drop {
     /// The stream of a connection that was accepted.
     fn accepted(stream: TcpStream) -> Self;
@@ -14,13 +14,13 @@ pub trait Stream: Read + Write + Source + Drop {
     /// Begins to call a peer.
     ///
     /// # Errors
-    /// Where the system can't begin to.
+    /// If the system can't begin to.
     fn call(network: &impl Network, dial: Dial) -> io::Result<Self>;
 
     /// Whether the peer that it calls answered.
     ///
     /// # Errors
-    /// Where the peer refused, or can't be reached.
+    /// If the peer refused, or can't be reached.
     fn is_connected(&self) -> io::Result<bool>;
 }
 

@@ -13,7 +13,7 @@ use std::time::Duration;
 /// How many reports are taken at once.
 const REPORTS: usize = 64;
 
-/// What waits for reports of the system.
+/// Waits for reports of the system.
 #[derive(Drop)]
 pub struct Watch<A: Allocator = Global> {
     poll: Poll,
@@ -21,11 +21,11 @@ pub struct Watch<A: Allocator = Global> {
 }
 
 impl<A: Allocator + Copy> Watch<A> {
-    /// A watch over no socket, and the sockets that it is to watch: those that come on three ports
-    /// of 127.0.0.1, of the core channel, the abort channel and the port mapper.
+    /// Listens on three ports of 127.0.0.1: of the core channel, the abort channel and the port
+    /// mapper. Gives the sockets, without a connection yet, and what waits for their reports.
     ///
     /// # Errors
-    /// Where a port can't be listened on, or memory is refused (`ErrorKind::OutOfMemory`).
+    /// If a port can't be listened on, or memory is refused (`ErrorKind::OutOfMemory`).
     pub fn listen<N: Network + Drop>(
         network: N,
         alloc: A,
@@ -45,7 +45,7 @@ impl<A: Allocator> Watch<A> {
     /// something was.
     ///
     /// # Errors
-    /// Where the system fails to wait.
+    /// If the system fails to wait.
     pub(crate) fn wait(&mut self, limit: Option<Duration>) -> io::Result<bool> {
         self.poll.poll(&mut self.events, limit)?;
         Ok(!self.events.is_empty())

@@ -1,5 +1,6 @@
-//! How many milliseconds pass at a sweep, and how long a server waits behind it: whether it looks
-//! again without sleeping, which costs the core, or sleeps at once, which costs a wake-up.
+//! The busy-polling policy of a server, and the clock of a sweep: whether to look again without
+//! sleeping, which costs a core, or to sleep at once, which costs a wake-up; and how many
+//! milliseconds a sweep gets.
 #![tactic(auto)]
 
 mod pace;

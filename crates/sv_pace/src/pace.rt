@@ -5,10 +5,10 @@ ghost use Rattle.sv_pace.specs.Pace.{Wait, StandsFor, IsDue, after_wait, longer}
 
 use std::marker::Model;
 
-/// How many milliseconds a server sleeps at most, where nothing waits for so many.
+/// How many milliseconds a server sleeps at most, if nothing waits for time within so many.
 pub const STILL: u32 = 100;
-/// While more sweeps than these are left, a server for which time does nothing sleeps until it is
-/// called. Of the last ones it makes one each [`STILL`] milliseconds, and so comes to their end.
+/// With more sweeps left than these, a server for which nothing waits for time sleeps until it is
+/// called. The last ones are made every [`STILL`] milliseconds, so that they end.
 pub const FEW: u32 = 1_000_000;
 /// Most milliseconds that pass at a sweep.
 const MOST_TICKS: u64 = 1_000;
@@ -21,8 +21,8 @@ const MOST_SLEEPS: u32 = 1_024;
 
 /// What a loop of sweeps keeps of the time, in nanoseconds since its beginning, and of its waits.
 ///
-/// Looking has to earn its keep: where it found nothing of late, as on a machine whose cores are
-/// busy, the server sleeps at once, and looks again now and then.
+/// Looking has to pay: if it found nothing of late, as on a machine whose cores are busy, the
+/// server sleeps at once, and looks again now and then.
 #[derive(Drop)]
 pub struct Pace {
     /// When the last sweep began.
@@ -68,7 +68,7 @@ fn longer(missed: bool, pause: u32) -> u32
 }
 
 impl Pace {
-    /// At the beginning, where nothing was waited for.
+    /// A policy with no history.
     pub fn new() -> Pace
         ensures times { (result.swept ≡ 0) × (result.worked ≡ 0) }
         ensures stands { StandsFor result [] }
@@ -82,7 +82,7 @@ impl Pace {
         }
     }
 
-    /// How many whole milliseconds came since the last sweep, at most 1,000. This is one, now.
+    /// A sweep begins now: how many whole milliseconds passed since the last one, at most 1,000.
     pub fn ticks(&mut self, now: u64) -> u32
         ensures count { result ≡ min (now / 1000000 - self.old.swept / 1000000) 1000 }
         ensures kept { self.new ≡ record self.old { swept = now } }
@@ -92,15 +92,15 @@ impl Pace {
         whole.min(MOST_TICKS) as u32
     }
 
-    /// Keeps when something was reported.
+    /// Something was reported now.
     pub fn work(&mut self, now: u64)
         ensures { self.new ≡ record self.old { worked = now } }
     {
         self.worked = now;
     }
 
-    /// Whether it looks again without sleeping: something was reported less than 50 microseconds
-    /// ago, and looking earned its keep of late, or is to be tried again.
+    /// Whether to look again without sleeping: something was reported less than 50 microseconds
+    /// ago, and looking paid of late, or is due to be tried again.
     pub fn is_spinning(&self, now: u64) -> bool
         ensures { (waits : List Wait) → StandsFor self.now waits
             → (result ≡ true) ↔ ((now - self.now.worked < 50000) × IsDue waits) }
@@ -108,7 +108,7 @@ impl Pace {
         (self.left == 0) & (now.saturating_sub(self.worked) < WINDOW)
     }
 
-    /// Keeps how a wait ended: how often it looked before it found something, or gave up and slept.
+    /// A wait ended: the server looked so often before it found something, or gave up and slept.
     pub fn end(&mut self, looks: u32, found: bool)
         ensures times { (self.new.swept ≡ self.old.swept) × (self.new.worked ≡ self.old.worked) }
         ensures stands { (waits : List Wait) → StandsFor self.old waits
@@ -152,8 +152,8 @@ impl Pace {
         self.left = self.pause;
     }
 
-    /// How many nanoseconds it may sleep: until so many milliseconds came since the last sweep. Of
-    /// the first of them a part was gone already; 0 where they came.
+    /// How many nanoseconds the server may sleep, until so many whole milliseconds have passed
+    /// since the last sweep; 0 if they have.
     pub fn rest(&self, now: u64, ticks: u32) -> u64
         ensures { result ≡ ticks * 1000000 - (now - self.now.swept / 1000000 * 1000000) }
     {

@@ -1,4 +1,4 @@
--- What a wire keeps of its calls.
+-- What a recorder keeps of the calls of a wire.
 use Rattle.std.specs.Prelude.{◌≡◌, ℕ, Bool, true, List, ◌∷◌, ◌++◌}
 use Rattle.sv_serve.specs.declared.wire.Answer.{Answer}
 use Rattle.sv_serve.specs.declared.wire.Answer.TheVariants.{Got, Pending, Failed}
@@ -7,7 +7,7 @@ use Rattle.sv_serve.specs.Served.{Through}
 use Rattle.sv_recording.specs.declared.call.Call.{Call}
 use Rattle.sv_recording.specs.declared.call.Call.TheVariants.{Accept, Read, Probe, Write, Dial, Dialed, Close}
 
--- what a call that was kept says
+-- a kept call, as the call of a wire with its answer
 abbrev pub heard_of : Call → Heard
 heard_of (Accept role conn answer) = WasAccepted role conn answer
 heard_of (Read conn most Pending) = WasRead conn most Pending
@@ -19,21 +19,21 @@ heard_of (Dial conn dial answer) = WasDialed conn dial answer
 heard_of (Dialed conn answer) = PeerAnswered conn answer
 heard_of (Close port) = WasClosed port
 
--- the wire that answers, what was kept, the newest first, and whether that is all
+-- the wire that answers, the calls that were kept, the newest first, and whether those are all
 pub record Recording (W : Type 0) : Type 0 where
   pub wire : W
   pub trace : List Heard
   pub is_whole : Bool
 
--- One more call was kept, if all are.
+-- If all calls are kept, this one is too.
 abbrev pub Keeps : {W : Type 0} → Recording W → Heard → Recording W → Type 0
 Keeps before heard after = after.is_whole ≡ true → (before.is_whole ≡ true) × (after.trace ≡ heard ∷ before.trace)
 
--- The other wire was asked, and answered so; and that was kept.
+-- The other wire was asked, and gave this answer; and the call was kept.
 abbrev pub Passes : {W : Type 0} → (W → Heard → W → Type 0) → Recording W → Heard → Recording W → Type 0
 Passes hears before heard after = hears before.wire heard after.wire × Keeps before heard after
 
--- What such a wire was asked is what the other one was asked; and it is what was kept, if that is all.
+-- A recorder was asked what the other wire was asked; and this is what was kept, if all calls are.
 abbrev pub TraceIsKept : {W : Type 0} → (W → Heard → W → Type 0) → (Recording W → Heard → Recording W → Type 0) → Type 0
 TraceIsKept hears recorded = (trace : List Heard) (start now : Recording _) → Through recorded trace start now
     → Through hears trace start.wire now.wire × (now.is_whole ≡ true → now.trace ≡ trace ++ start.trace)

@@ -6,31 +6,31 @@ use sv_server::{Dial, Port, Role};
 /// One call of a wire, with its answer.
 #[derive(Drop)]
 pub enum Call {
-    /// Whether a connection came for this purpose, under this number.
+    /// Whether a connection of this role was accepted, under this number.
     Accept {
         role: Role,
         conn: Option<u8>,
         answer: Answer<()>,
     },
-    /// The bytes that were read of a connection, of so many that were asked for at most.
+    /// The bytes that were read of a connection; at most so many were asked for.
     Read {
         conn: u8,
         most: usize,
         answer: Answer<Vec<u8>>,
     },
-    /// Whether a connection that isn't read is gone; what came on it was dropped, if so said.
+    /// Whether a connection that isn't read is gone; with `drops` what came on it was dropped.
     Probe {
         conn: u8,
         drops: bool,
         answer: Answer<()>,
     },
-    /// How many of these bytes were taken for a port.
+    /// How many of these bytes the wire took for a port.
     Write {
         port: Port,
         bytes: Vec<u8>,
         answer: Answer<usize>,
     },
-    /// What came of calling a peer for the interrupt channel of a connection.
+    /// The result of calling a peer for the interrupt channel of a connection.
     Dial {
         conn: u8,
         dial: Dial,

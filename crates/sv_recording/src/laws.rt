@@ -1,4 +1,4 @@
-//! What a recorder keeps is what it was asked, on a function that does nothing.
+//! A law of recorders. It is the contract of a function that does nothing.
 
 ghost use Rattle.sv_recording.specs.Recorded.{TraceIsKept};
 

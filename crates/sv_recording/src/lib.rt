@@ -1,8 +1,7 @@
-//! A wire that keeps what it was asked and what it answered, over any other one.
+//! A wire that records each call with its answer, over any other wire.
 //!
-//! What is proved of a driver over every wire speaks of what the wire answered. Over this one that
-//! can be held in hand: the trace of which the laws of `sv_serve` speak is the list of calls that
-//! it kept.
+//! The laws of `sv_serve` speak of a trace: what the wire of a driver was asked and answered. Over
+//! this wire the trace is the list of calls that it kept.
 #![tactic(auto)]
 
 mod call;

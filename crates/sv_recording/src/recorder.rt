@@ -10,7 +10,7 @@ use std::marker::Model;
 use sv_serve::{Answer, Wire};
 use sv_server::{Dial, Port, Role};
 
-/// A wire that keeps each call of it, in order. Once memory is refused it isn't whole any more.
+/// A wire that keeps each of its calls, in order. Once memory was refused, it isn't whole any more.
 #[derive(Drop)]
 pub struct Recorder<W: Wire + Drop> {
     alloc: Global,
@@ -72,7 +72,7 @@ fn write_call(
 }
 
 impl<W: Wire + Drop> Recorder<W> {
-    /// A wire that was asked nothing yet.
+    /// A recorder without calls, over this wire.
     pub fn new(alloc: Global, wire: W) -> Recorder<W>
         ensures { result ≡ record { wire = wire; trace = []; is_whole = true } }
     {
@@ -91,7 +91,7 @@ impl<W: Wire + Drop> Recorder<W> {
         &self.wire
     }
 
-    /// What was kept, the first call first.
+    /// The calls that were kept, the first call first.
     pub fn calls(&self) -> &[Call]
         ensures { self.now.trace ≡ reverse (map heard_of result.now) }
     {

@@ -1,4 +1,4 @@
--- An entry of a scenario, as a relation between the bytes of a line and what it says, and the event of a stimulus.
+-- The entries of a scenario: what the bytes of a line say as an entry, and the event of a stimulus.
 use Rattle.std.specs.Prelude.{◌≡◌, ℕ, ◌≤◌, List, ◌∷◌, ◌++◌, length, None, ⊤}
 use Rattle.sv_history.specs.Event.{PlainEvent, Input, External}
 use Rattle.sv_history.specs.History.{input_refusal}
@@ -12,12 +12,12 @@ abbrev pub stimulus_event : Stimulus → PlainEvent
 stimulus_event (stimuli.Input channel microvolts) = Input channel microvolts
 stimulus_event stimuli.External = External
 
--- The server doesn't refuse it: an input is at one of its channels, and within its range.
+-- The server doesn't refuse it: an input is of one of its channels, and in range.
 abbrev pub IsAccepted : Stimulus → Type 0
 IsAccepted (stimuli.Input channel microvolts) = input_refusal channel microvolts ≡ None
 IsAccepted stimuli.External = ⊤
 
--- The line is a tick of at most 18 digits, a space, and what a line of a replay says the stimulus with.
+-- The line is a tick of at most 18 digits, a space, and the stimulus as a line of a replay says it.
 abbrev pub SaysEntry : List ℕ → Entry → Type 0
 SaysEntry line entry = (digits text : List ℕ) × IsNumber digits entry.tick × (length digits ≤ 18)
     × SaysEvent text (stimulus_event entry.stimulus) × IsAccepted entry.stimulus × (line ≡ digits ++ 32 ∷ text)

@@ -1,4 +1,4 @@
--- Reading a line of a scenario, from left to right.
+-- The function that reads a line of a scenario from left to right.
 use Rattle.std.specs.Prelude.{ℕ, List, length, codes, Option, Some, None, is_none, nat_lt, if◌then◌else◌}
 use Rattle.std.specs.Str.{bytes_eq}
 use Rattle.sv_history.specs.History.{input_refusal}
@@ -18,20 +18,20 @@ accepted_at text = do
 unfoldable pub lone_stimulus_at : List ℕ → Option Stimulus
 lone_stimulus_at word = if bytes_eq word (codes "external") then Some External else None
 
--- a stimulus of words, the first of which is this
+-- a stimulus with this first word and this text behind it
 unfoldable pub worded_stimulus_at : List ℕ → List ℕ → Option Stimulus
 worded_stimulus_at word text = if bytes_eq word (codes "input") then accepted_at text else None
 
--- a stimulus whose text was cut at its first space, if it has one
+-- a stimulus, by its text and by that text cut at its first space
 abbrev pub cut_stimulus_at : List ℕ → Option (List ℕ × List ℕ) → Option Stimulus
 cut_stimulus_at text None = lone_stimulus_at text
 cut_stimulus_at text (Some cut) = worded_stimulus_at cut.0 cut.1
 
--- what is to happen
+-- a stimulus
 unfoldable pub stimulus_at : List ℕ → Option Stimulus
 stimulus_at text = cut_stimulus_at text (cut_at text)
 
--- a tick, a space, and what is to happen
+-- a tick, a space, and a stimulus
 unfoldable pub entry_at : List ℕ → Option Entry
 entry_at line = do
   cut ← cut_at line
@@ -39,7 +39,7 @@ entry_at line = do
   stimulus ← stimulus_at cut.1
   Some (record { tick = tick; stimulus = stimulus })
 
--- an entry of this tick or a later one, if the line isn't too long
+-- an entry at this tick or later, if the line isn't too long
 unfoldable pub entry_from : ℕ → List ℕ → Option Entry
 entry_from least line =
     if nat_lt 65536 (length line) then None

@@ -1,4 +1,4 @@
--- Laws of the definitions alone.
+-- Laws of lines and scenarios.
 use Rattle.std.specs.Prelude.{◌≡◌, ℕ, List}
 use Rattle.sv_replay.specs.declared.entry.Entry.{Entry}
 use Rattle.sv_replay.specs.Line.{Line, Says}
@@ -9,10 +9,10 @@ use Rattle.sv_replay.specs.Scenario.{Tells, IsScenario}
 abbrev pub OneLine : Type 0
 OneLine = (line : List ℕ) (a b : Line) → Says line a → Says line b → a ≡ b
 
--- A text tells at most one list of entries.
+-- A text says at most one list of entries.
 abbrev pub OneScenario : Type 0
 OneScenario = (text : List ℕ) (a b : List Entry) → Tells 0 (parts text) a → Tells 0 (parts text) b → a ≡ b
 
--- What a text tells is a scenario.
+-- What a text says is a scenario: the server accepts each entry, and the ticks never fall.
 abbrev pub ToldInOrder : Type 0
 ToldInOrder = (text : List ℕ) (entries : List Entry) → Tells 0 (parts text) entries → IsScenario 0 entries

@@ -1,4 +1,4 @@
--- A line of a replay, as a relation between its bytes and what it says.
+-- What a line of a replay says, as a relation to its bytes.
 use Rattle.std.specs.Prelude.{◌≡◌, ◌≢◌, ◌⊎◌, ℕ, ◌+◌, ◌-◌, ◌*◌, ◌<◌, ◌≤◌, ℤ, pos, negsuc, Bool, true, false, List, [], ◌∷◌, ◌++◌, length, codes, fold}
 use Rattle.std.specs.List.{AllByRecursion}
 use Rattle.sv_history.specs.declared.event.Role.{Role}
@@ -12,50 +12,55 @@ pub data Line : Type 0 where
   One : PlainEvent → Line
   Ticks : ℕ → Line
 
--- Decimal digits, at least one, and the number that they spell.
+-- the number that decimal digits spell
 abbrev pub value_of : List ℕ → ℕ
 value_of digits = fold (λ n digit. 10 * n + (digit - 48)) 0 digits
 
+-- At least one decimal digit, which spell this number.
 abbrev pub IsNumber : List ℕ → ℕ → Type 0
 IsNumber digits n = (digits ≢ []) × AllByRecursion (λ digit. (48 ≤ digit) × (digit ≤ 57)) digits × (n ≡ value_of digits)
 
+-- The digits have no leading zero.
 abbrev pub HasNoLeadingZero : List ℕ → Type 0
 HasNoLeadingZero (digit ∷ other ∷ digits) = digit ≢ 48
 HasNoLeadingZero digits = Unit {0}
 
--- a number without leading zeros, of at most this
+-- A number without leading zeros, at most this.
 abbrev pub IsPlain : ℕ → List ℕ → ℕ → Type 0
 IsPlain most digits n = IsNumber digits n × HasNoLeadingZero digits × (n ≤ most)
 
--- a hexadecimal digit, in either case
+-- A hexadecimal digit, in either case, of this value.
 abbrev pub IsHexDigit : ℕ → ℕ → Type 0
 IsHexDigit digit n = (n < 16) × (((n < 10) × (digit ≡ n + 48)) ⊎ (((10 ≤ n) × (digit ≡ n + 55)) ⊎ ((10 ≤ n) × (digit ≡ n + 87))))
 
+-- Two hexadecimal digits, which spell this byte.
 abbrev pub IsPair : ℕ → ℕ → ℕ → Type 0
 IsPair high low byte = (h l : ℕ) × IsHexDigit high h × IsHexDigit low l × (byte ≡ 16 * h + l)
 
--- bytes of two digits each, with at most one space between them
+-- Bytes of two digits each, with at most one space between them.
 abbrev pub IsHex : List ℕ → List ℕ → Type 0
 IsHex text [] = ⊥
 IsHex text (byte ∷ []) = (high low : ℕ) × IsPair high low byte × (text ≡ high ∷ low ∷ [])
 IsHex text (byte ∷ other ∷ bytes) = (high low : ℕ) × (rest : List ℕ) × IsPair high low byte × IsHex rest (other ∷ bytes)
     × ((text ≡ high ∷ low ∷ rest) ⊎ (text ≡ high ∷ low ∷ 32 ∷ rest))
 
--- a voltage: a sign where it is below zero (and allowed in front of zero), and at most 18 digits, which may begin with zeros
+-- A voltage in microvolts: a minus if it is below zero (zero may have one too), and at most 18 digits, which may begin with zeros.
 abbrev pub IsVoltage : List ℕ → ℤ → Type 0
 IsVoltage text (pos n) = (digits : List ℕ) × IsNumber digits n × (length digits ≤ 18) × ((text ≡ digits) ⊎ ((n ≡ 0) × (text ≡ 45 ∷ digits)))
 IsVoltage text (negsuc n) = (digits : List ℕ) × IsNumber digits (n + 1) × (length digits ≤ 18) × (text ≡ 45 ∷ digits)
 
+-- the word of a role
 abbrev pub role_word : Role → List ℕ
 role_word Core = codes "core"
 role_word Abort = codes "abort"
 role_word Portmap = codes "portmap"
 
+-- the word of the result of connecting
 abbrev pub ok_word : Bool → List ℕ
 ok_word true = codes "ok"
 ok_word false = codes "failed"
 
--- words are separated by one space
+-- The line says this event; its words are separated by one space.
 abbrev pub SaysEvent : List ℕ → PlainEvent → Type 0
 SaysEvent line (Open c role) = (number : List ℕ) × IsPlain 255 number c × (line ≡ codes "open " ++ (number ++ 32 ∷ role_word role))
 SaysEvent line (Bytes c piece) = (number hex : List ℕ) × IsPlain 255 number c × IsHex hex piece
@@ -71,6 +76,7 @@ SaysEvent line (Input channel microvolts) = (number voltage : List ℕ) × IsPla
 SaysEvent line External = line ≡ codes "external"
 SaysEvent line Tick = line ≡ codes "tick"
 
+-- The line says this.
 abbrev pub Says : List ℕ → Line → Type 0
 Says line Blank = line ≡ []
 Says line (One event) = SaysEvent line event

@@ -4,7 +4,7 @@ use Rattle.sv_replay.specs.Line.{Line as Said, Blank, One, Ticks}
 use Rattle.sv_replay.specs.declared.line.Line.{Line}
 use Rattle.sv_replay.specs.declared.line.Line.TheVariants as lines
 
--- a line without where its bytes lie in memory
+-- a line of the code, as plain data
 abbrev pub plain_line : Line → Said
 plain_line lines.Blank = Blank
 plain_line (lines.One event) = One (plain event)

@@ -1,4 +1,4 @@
--- Reading a line, from left to right.
+-- The function that reads a line from left to right.
 use Rattle.std.specs.Prelude.{ℕ, ◌+◌, ◌-◌, ◌*◌, ℤ, pos, neg_ℤ, Bool, true, false, ◌&&◌, List, [], ◌∷◌, length, drop, codes, Option, Some, None, option_and_then, option_map, nat_le, nat_lt, ◌==◌, if◌then◌else◌}
 use Rattle.sv_text.specs.Front.{has_minus}
 use Rattle.std.specs.Char.{is_ascii_digit}
@@ -10,12 +10,12 @@ use Rattle.sv_history.specs.declared.event.Port.TheVariants.{Conn, Intr}
 use Rattle.sv_history.specs.Event.{PlainEvent, Open, Bytes, Turn, Refuse, Close, Dialed, Input, External, Tick}
 use Rattle.sv_replay.specs.Line.{Line, Blank, One, Ticks}
 
--- a part that is read, or else nothing is
+-- a part that is read, and what is read after it; nothing if it can't be read
 infixl 10 ◌>>=◌
 abbrev pub ◌>>=◌ : {A B : Type 0} → Option A → (A → Option B) → Option B
 o >>= f = option_and_then f o
 
--- the number n with these digits behind it, as long as it is at most this
+-- the number n with these digits behind it, if it is at most this
 unfoldable pub digits_onto : ℕ → ℕ → List ℕ → Option ℕ
 digits_onto most n [] = Some n
 digits_onto most n (digit ∷ digits) =
@@ -28,7 +28,7 @@ unfoldable pub number_at : ℕ → List ℕ → Option ℕ
 number_at most [] = None
 number_at most (digit ∷ digits) = digits_onto most 0 (digit ∷ digits)
 
--- a zero with more digits behind it
+-- whether a zero has more digits behind it
 abbrev pub has_leading_zero : List ℕ → Bool
 has_leading_zero [] = false
 has_leading_zero (digit ∷ []) = false
@@ -47,7 +47,7 @@ unfoldable pub voltage_at : List ℕ → Option ℤ
 voltage_at text =
     if has_minus text then option_map (λ n. neg_ℤ (pos n)) (short_at (drop 1 text)) else option_map pos (short_at text)
 
--- a hexadecimal digit
+-- the value of a hexadecimal digit
 unfoldable pub hex_digit_at : ℕ → Option ℕ
 hex_digit_at digit =
     if nat_le 48 digit && nat_le digit 57 then Some (digit - 48)
@@ -74,30 +74,30 @@ hex_at (high ∷ low ∷ []) = pair_at high low >>= (λ byte. Some (byte ∷ [])
 hex_at (high ∷ low ∷ next ∷ rest) =
     pair_at high low >>= (λ byte. option_map (λ bytes. byte ∷ bytes) (if next == 32 then hex_at rest else hex_at (next ∷ rest)))
 
--- what stands in front of the first space, and behind it
+-- the text before the first space, and the text behind it; `None` without a space
 unfoldable pub cut_at : List ℕ → Option (List ℕ × List ℕ)
 cut_at [] = None
 cut_at (byte ∷ bytes) = if byte == 32 then Some ([], bytes) else option_map (λ cut. (byte ∷ cut.0, cut.1)) (cut_at bytes)
 
--- a number of at most 255, a space, and what follows
+-- a number of at most 255, and the text behind the space that follows it
 unfoldable pub numbered_at : List ℕ → Option (ℕ × List ℕ)
 numbered_at text = do
   cut ← cut_at text
   n ← plain_at 255 cut.0
   Some (n, cut.1)
 
--- what a connection is for, from its word
+-- the role with this word
 unfoldable pub role_at : List ℕ → Option Role
 role_at word =
     if bytes_eq word (codes "core") then Some Core
     else (if bytes_eq word (codes "abort") then Some Abort
     else (if bytes_eq word (codes "portmap") then Some Portmap else None))
 
--- whether dialing went well, from its word
+-- the result of connecting with this word
 unfoldable pub ok_at : List ℕ → Option Bool
 ok_at word = if bytes_eq word (codes "ok") then Some true else (if bytes_eq word (codes "failed") then Some false else None)
 
--- what closes: a letter and a number
+-- a port: a letter and a number
 unfoldable pub port_at : List ℕ → Option Port
 port_at [] = None
 port_at (letter ∷ number) =
@@ -110,66 +110,66 @@ ticks_at number = do
   n ← plain_at 1000000 number
   if n == 0 then None else Some (Ticks n)
 
--- that a connection opens, and what for
+-- an Open, by the text behind its word
 unfoldable pub open_at : List ℕ → Option PlainEvent
 open_at text = do
   x ← numbered_at text
   role ← role_at x.1
   Some (Open x.0 role)
 
--- bytes that come on a connection
+-- Bytes, likewise
 unfoldable pub bytes_at : List ℕ → Option PlainEvent
 bytes_at text = do
   x ← numbered_at text
   piece ← hex_at x.1
   Some (Bytes x.0 piece)
 
--- what became of dialing
+-- a Dialed, likewise
 unfoldable pub dialed_at : List ℕ → Option PlainEvent
 dialed_at text = do
   x ← numbered_at text
   ok ← ok_at x.1
   Some (Dialed x.0 ok)
 
--- a voltage at a channel
+-- an Input, likewise
 unfoldable pub input_at : List ℕ → Option PlainEvent
 input_at text = do
   x ← numbered_at text
   microvolts ← voltage_at x.1
   Some (Input x.0 microvolts)
 
--- bytes on a connection, or one of its calls, in words, the first of which is this
+-- Bytes, a Turn or a Refuse, by the first word and the text behind it
 unfoldable pub traffic_at : List ℕ → List ℕ → Option PlainEvent
 traffic_at word text =
     if bytes_eq word (codes "bytes") then bytes_at text
     else (if bytes_eq word (codes "turn") then option_map Turn (plain_at 255 text)
     else (if bytes_eq word (codes "refuse") then option_map Refuse (plain_at 255 text) else None))
 
--- an event of a connection, in words, the first of which is this
+-- an event of a connection, likewise
 unfoldable pub event_at : List ℕ → List ℕ → Option PlainEvent
 event_at word text =
     if bytes_eq word (codes "open") then open_at text
     else (if bytes_eq word (codes "close") then option_map Close (port_at text)
     else (if bytes_eq word (codes "dialed") then dialed_at text else traffic_at word text))
 
--- a line of one word
+-- a line of one word, or an empty one
 unfoldable pub lone_at : List ℕ → Option Line
 lone_at word =
     if bytes_eq word [] then Some Blank
     else (if bytes_eq word (codes "external") then Some (One External)
     else (if bytes_eq word (codes "tick") then Some (One Tick) else None))
 
--- a line of words, the first of which is this
+-- a line of more words, by the first word and the text behind it
 unfoldable pub words_at : List ℕ → List ℕ → Option Line
 words_at word text =
     if bytes_eq word (codes "tick") then ticks_at text
     else (if bytes_eq word (codes "input") then option_map One (input_at text) else option_map One (event_at word text))
 
--- a line that was cut at its first space, if it has one
+-- a line, by the line and by it cut at its first space
 abbrev pub cut_line_at : List ℕ → Option (List ℕ × List ℕ) → Option Line
 cut_line_at line None = lone_at line
 cut_line_at line (Some cut) = words_at cut.0 cut.1
 
--- what a line says
+-- what a line says; `None` if nothing
 unfoldable pub line_at : List ℕ → Option Line
 line_at line = cut_line_at line (cut_at line)

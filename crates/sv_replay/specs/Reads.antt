@@ -1,11 +1,11 @@
--- How often a reader was read, and what its reads gave.
+-- How often a reader was read, and what each read gave.
 use Rattle.std.specs.Prelude.{◌≡◌, ◌⊎◌, ℕ, ◌≤◌, List, [], ◌∷◌, length, Option, Bool, Result, Ok, Err, ⊤}
 use Rattle.sv_replay.specs.declared.fault.RunFault.{RunFault}
 use Rattle.sv_replay.specs.declared.fault.RunFault.TheVariants.{Input}
 use Rattle.sv_replay.specs.declared.input.InputFault.{InputFault}
 use Rattle.sv_replay.specs.Stage.{WhileGoing}
 
--- what a read gave: so many bytes, or none at the reader's end, or a fault
+-- what a read gave: so many bytes; none, at the reader's end; or a fault
 abbrev pub Gave : Type 0
 Gave = Result (Option ℕ) InputFault
 
@@ -18,33 +18,33 @@ Reads gives first (gave ∷ reads) last = (between : _) × Reads gives first rea
 abbrev pub most_reads : ℕ
 most_reads = 4294967294
 
--- They did, and there are no more of them than there may be.
+-- They did, and there are at most so many.
 abbrev pub Made : {S : Type 0} → (S → Gave → S → Type 0) → S → List Gave → S → Type 0
 Made gives first reads last = Reads gives first reads last × (length reads ≤ most_reads)
 
--- the newest read failed
+-- The newest read failed.
 abbrev pub HasFailed : List Gave → Type 0
 HasFailed = elim [ Err fault ∷ reads ↦ ⊤ | _ ↦ ⊥ ]
 
--- No read is to follow: the newest one failed, or there were as many as there may be.
+-- No read may follow: the newest one failed, or there were as many as there may be.
 abbrev pub IsLast : List Gave → Type 0
 IsLast reads = HasFailed reads ⊎ (length reads ≡ most_reads)
 
--- The reader was read so often as is counted, where reading goes on or is at the reader's end; a fault comes where no read is to follow.
+-- The reader was read as often as is counted, unless it failed. A fault comes only if no read may follow.
 abbrev pub IsReadOn : {S : Type 0} → (S → Gave → S → Type 0) → S → S → ℕ → Result Bool InputFault → Type 0
 IsReadOn gives first last count (Ok more) = (reads : List Gave) × Made gives first reads last × (length reads ≡ count)
 IsReadOn gives first last count (Err fault) = (reads : List Gave) × Made gives first reads last × IsLast reads
 
--- This holds where the answer is the input's fault.
+-- This holds if the result is the input's fault.
 abbrev pub OnInput : {A : Type 0} → Result A RunFault → Type 0 → Type 0
 OnInput (Err Input) fact = fact
 OnInput answer fact = ⊤
 
--- The same of a turn of a run.
+-- The same of one step of a run.
 abbrev pub IsTurned : {S : Type 0} → (S → Gave → S → Type 0) → S → S → ℕ → Result Bool RunFault → Type 0
 IsTurned gives first last count result = (reads : List Gave) × Made gives first reads last × WhileGoing result (length reads ≡ count)
     × OnInput result (IsLast reads)
 
--- These reads were made in a run, no more than there may be. Where its answer is the input's fault, none was to follow.
+-- These reads were made in a run, no more than there may be. If its result is the input's fault, no further read was allowed.
 abbrev pub IsReadOut : {S : Type 0} → (S → Gave → S → Type 0) → S → S → Result ⊤ RunFault → Type 0
 IsReadOut gives first last result = (reads : List Gave) × Made gives first reads last × OnInput result (IsLast reads)

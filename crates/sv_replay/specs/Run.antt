@@ -1,4 +1,4 @@
--- What a run prints of the text that it read, and what it answers.
+-- What a run prints of the text that it read, and what it returns.
 use Rattle.std.specs.Prelude.{◌≡◌, ◌≢◌, ◌⊎◌, ℕ, ◌+◌, ◌<◌, List, [], ◌∷◌, ◌++◌, length, Option, Result, Ok, Err, ⊤}
 use Rattle.std.specs.Io.KnownBytes.{IsAtEnd}
 use Rattle.sv_history.specs.declared.event.Config.{Config}
@@ -9,30 +9,30 @@ use Rattle.sv_replay.specs.declared.fault.RunFault.{RunFault}
 use Rattle.sv_replay.specs.declared.fault.RunFault.TheVariants.{BadLine, Input, Output, Memory}
 use Rattle.sv_replay.specs.Script.{parts, IsScript, IsBad, Prints, Stops}
 
--- how a replay's fault is told
+-- the fault of a run whose replay stops with this fault
 abbrev pub run_fault : ReplayFault → RunFault
 run_fault NoMemory = Memory
 run_fault Write = Output
 
--- what the replay's server is set up with
+-- the configuration of the replay's server
 abbrev pub set_up : Config
 set_up = record { core = 4096; abort = 4097; clock = 0 }
 
--- What the lines say is printed, by a server to which nothing happened.
+-- What these lines say was printed, by a new server.
 abbrev pub Printed : List (List ℕ) → List ℕ → Type 0
 Printed lines text = (events after : List PlainEvent) × IsScript lines events × Prints set_up [] events text after
 
--- What the lines say is printed up to an event at which the replay stopped.
+-- What these lines say was printed, up to an event at which the replay stopped.
 abbrev pub PrintedUpTo : List (List ℕ) → ReplayFault → List ℕ → Type 0
 PrintedUpTo lines fault text = (events after : List PlainEvent) × IsScript lines events × Stops set_up [] events fault text after
 
--- A line is whole: another part stands behind it, or the reader is at its end.
+-- A line is complete: another part follows it, or the reader is at its end.
 abbrev pub IsWhole : List (List ℕ) → Option (List ℕ) → Type 0
 IsWhole behind rest = (behind ≢ []) ⊎ IsAtEnd rest
 
--- Of the text that was read this is printed: all that its lines say; at a bad line what those in front of it say; where the input failed
--- what the whole lines say; where memory was refused, or the output failed (perhaps behind another fault), what some first lines say, the
--- last of them perhaps in part.
+-- This is printed of the text that was read. Success: all that its lines say. A bad line: what the lines before it say. The input failed:
+-- what the complete lines say. Memory was refused, or the output failed, perhaps after another fault: what some first lines say, the last
+-- of them perhaps in part.
 abbrev pub Runs : List ℕ → Option (List ℕ) → Result ⊤ RunFault → List ℕ → Type 0
 Runs read rest (Ok all) text = Printed (parts read) text
 Runs read rest (Err (BadLine n)) text = (lines behind : List (List ℕ)) × (line : List ℕ) × (parts read ≡ lines ++ line ∷ behind)

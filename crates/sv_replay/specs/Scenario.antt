@@ -1,4 +1,4 @@
--- The entries that the lines of a scenario tell.
+-- The entries that the lines of a scenario say.
 use Rattle.std.specs.Prelude.{◌≡◌, ◌≢◌, ◌⊎◌, ℕ, ◌+◌, ◌<◌, ◌≤◌, List, [], ◌∷◌, ◌++◌, length, Result, Ok, Err, fold, ⊤}
 use Rattle.sv_replay.specs.declared.entry.Entry.{Entry}
 use Rattle.sv_replay.specs.declared.scenario.ScenarioFault.{ScenarioFault}
@@ -10,27 +10,27 @@ use Rattle.sv_replay.specs.Script.{parts}
 abbrev pub SaysFrom : ℕ → List ℕ → Entry → Type 0
 SaysFrom least line entry = (length line ≤ 65536) × SaysEntry line entry × (least ≤ entry.tick)
 
--- The lines that aren't empty say these entries, each at the tick of the one in front of it or later, and the first at this tick or later.
+-- The lines that aren't empty say these entries. None is earlier than the one before it, and the first not earlier than this tick.
 abbrev pub Tells : ℕ → List (List ℕ) → List Entry → Type 0
 Tells least [] entries = entries ≡ []
 Tells least (line ∷ lines) entries = ((line ≡ []) × Tells least lines entries)
     ⊎ ((entry : Entry) × (others : List Entry) × SaysFrom least line entry × Tells entry.tick lines others × (entries ≡ entry ∷ others))
 
--- Each entry is one that the server accepts, at the tick of the one in front of it or later, and the first at this tick or later.
+-- The server accepts each entry. None is earlier than the one before it, and the first not earlier than this tick.
 abbrev pub IsScenario : ℕ → List Entry → Type 0
 IsScenario least [] = ⊤
 IsScenario least (entry ∷ entries) = (least ≤ entry.tick) × IsAccepted entry.stimulus × IsScenario entry.tick entries
 
--- the tick of the last entry, or this where there is none
+-- the tick of the last entry; this one if there is none
 abbrev pub last_tick : ℕ → List Entry → ℕ
 last_tick least entries = fold (λ tick entry. entry.tick) least entries
 
--- A line that is too long; or that isn't empty, and says no entry of this tick or a later one.
+-- The line is too long; or it isn't empty, and says no entry of this tick or a later one.
 abbrev pub IsBadFrom : ℕ → List ℕ → Type 0
 IsBadFrom least line = (65536 < length line) ⊎ ((line ≢ []) × ((entry : Entry) → SaysEntry line entry → entry.tick < least))
 
--- A text is read as the entries that all its lines tell. At a bad line the lines in front of it tell entries, and it is bad behind those.
--- Memory is refused to the entry of a line.
+-- Success: the entries that all lines of the text say. A bad line: the lines before it say entries, and it can't follow them. Memory was
+-- refused: to the entry of a line that follows the lines before it.
 abbrev pub Reads : List ℕ → Result (List Entry) ScenarioFault → Type 0
 Reads text (Ok entries) = Tells 0 (parts text) entries
 Reads text (Err (BadLine n)) = (front behind : List (List ℕ)) × (line : List ℕ) × (entries : List Entry)

@@ -1,4 +1,4 @@
--- How far a run is, and how it goes on.
+-- How far a run came, and what its next step does.
 use Rattle.std.specs.Prelude.{◌≡◌, ℕ, ◌+◌, ◌*◌, ◌≤◌, List, [], ◌++◌, length, Bool, true, false, Option, Result, Ok, Err, ⊤}
 use Rattle.std.specs.Io.KnownBytes.{IsAtEnd}
 use Rattle.sv_server.specs.declared.replay.ReplayFault.{ReplayFault}
@@ -12,13 +12,13 @@ use Rattle.sv_replay.specs.Script.{parts, events_of, IsScript, IsBad, Prints, St
 use Rattle.sv_replay.specs.Text.{Held}
 use Rattle.sv_replay.specs.Run.{set_up, Runs}
 
--- Some lines of what was read are done, so many, and this is left of it; what they say is printed.
+-- So many lines of what was read are done, and this is left; what they say was printed.
 abbrev pub IsStage : State → List ℕ → ℕ → List ℕ → List ℕ → Type 0
 IsStage server left number read text = (lines : List (List ℕ)) × (events history : List PlainEvent) × (parts read ≡ lines ++ parts left)
     × (number ≡ length lines) × IsScript lines events
     × Prints set_up [] events text history × StandsFor server set_up history
 
--- A replay stops at an event of a line.
+-- The replay stops at an event of this line.
 abbrev pub StopsAt : List ℕ → List PlainEvent → ReplayFault → List ℕ → List PlainEvent → Type 0
 StopsAt line history fault text after = (said : Line) × (length line ≤ 65536) × Says line said
     × Stops set_up history (events_of said) fault text after
@@ -32,19 +32,19 @@ LineRuns line number history (Err Input) text after = ⊥
 LineRuns line number history (Err Output) text after = StopsAt line history Write text after
 LineRuns line number history (Err Memory) text after = StopsAt line history NoMemory text after
 
--- A run goes on, is at the end of what the reader gives, or stops.
+-- A run goes on, or is done since the reader is at its end, or stops.
 abbrev pub Goes : State → List ℕ → ℕ → Option (List ℕ) → Result Bool RunFault → List ℕ → List ℕ → Type 0
 Goes server left number rest (Ok true) read text = IsStage server left number read text
 Goes server left number rest (Ok false) read text = IsAtEnd rest × Runs read rest (Ok tt) text
 Goes server left number rest (Err fault) read text = Runs read rest (Err fault) text
 
--- This holds where the run goes on.
+-- This holds if the run goes on.
 abbrev pub WhileGoing : {E : Type 0} → Result Bool E → Type 0 → Type 0
 WhileGoing (Ok true) fact = fact
 WhileGoing answer fact = Unit {0}
 
--- How far a turn came that goes on: one line more is done, or one read more was made; no more text is held than that many reads bring;
--- and the reader isn't read more often than it may be.
+-- The progress of a step that goes on: one more line is done, or one more read was made. No more text is kept than so many reads bring, and
+-- the reader isn't read more often than it may be.
 pub record Progress (lines : ℕ) (held : Held) (done : ℕ) (left : Held) : Type 0 where
   pub counted : done + left.reads ≡ lines + held.reads + 1
   pub bounded : lines + length held.text ≤ 131072 * held.reads → done + length left.text ≤ 131072 * left.reads

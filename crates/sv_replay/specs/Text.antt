@@ -9,39 +9,39 @@ pub record Held : Type 0 where
   pub text : List ℕ
   pub reads : ℕ
 
--- no text, and nothing was read
+-- no text, and no read
 abbrev pub nothing_held : Held
 nothing_held = record { text = []; reads = 0 }
 
--- where the first new line stands
+-- where the first new line stands; `None` if there is none
 abbrev pub first_end : List ℕ → Option ℕ
 first_end text = position (λ b. b == 10) text
 
--- What a read gave, and what is left of the reader: after the end of the reader or a fault it is nothing.
+-- At the reader's end, and after a fault, a read gave nothing; at its end the reader has nothing left.
 abbrev pub IsGiven : List ℕ → Option (List ℕ) → Result Bool InputFault → Type 0
 IsGiven more rest (Ok true) = Unit {0}
 IsGiven more rest (Ok false) = (more ≡ []) × IsAtEnd rest
 IsGiven more rest (Err fault) = more ≡ []
 
--- What the reader lost stands behind the text.
+-- What the reader gave stands behind the text.
 abbrev pub Filled : Option (List ℕ) → Option (List ℕ) → List ℕ → List ℕ → Result Bool InputFault → Type 0
 Filled before rest old new result = (more : List ℕ) × Consumes before rest more × (new ≡ old ++ more) × IsGiven more rest result
 
--- What one read put in front of a buffer's free part: so many bytes; or none at the reader's end, or after a fault.
+-- What one read put at the front of a buffer's free part: so many bytes; or none, at the reader's end or after a fault.
 abbrev pub IsBehind : Option (List ℕ) → Option (List ℕ) → List ℕ → Result (Option ℕ) InputFault → Type 0
 IsBehind before rest free (Ok (Some count)) = (count ≤ length free) × Consumes before rest (take count free)
 IsBehind before rest free (Ok None) = Consumes before rest [] × IsAtEnd rest
 IsBehind before rest free (Err fault) = Consumes before rest []
 
--- the fields as what is held
+-- what the fields keep
 abbrev pub held_of : List ℕ → ℕ → ℕ → ℕ → Held
 held_of buffer start end reads = record { text = slice_range buffer start end; reads = reads }
 
--- how many bytes stand in front of the first new line, or all of them
+-- how many bytes stand before the first new line; all if there is none
 abbrev pub line_size : List ℕ → ℕ
 line_size text = position_or_len (λ b. b == 10) text
 
--- The fields are in order, the buffer has its size, and no new line stands in front of `clean`.
+-- The fields are in order, the buffer has its size, and no new line stands before `clean`.
 pub record IsKept (buffer : List ℕ) (start clean end reads : ℕ) : Type 0 where
   pub order : (start ≤ clean) × (clean ≤ end) × (end ≤ 131072)
   pub size : length buffer ≡ 131072

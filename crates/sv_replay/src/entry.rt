@@ -1,4 +1,4 @@
-//! What a scenario lets happen and when, and reading it from a line.
+//! The entries of a scenario: what happens and when.
 
 ghost use Rattle.std.specs.Prelude.{◌≡◌};
 ghost use Rattle.sv_history.specs.Event.{plain};
@@ -10,7 +10,7 @@ use crate::number::{short, voltage};
 use crate::text::LONGEST_LINE;
 use sv_server::{Event, input_refusal};
 
-/// What a scenario lets happen to a server.
+/// What happens to a server in a scenario.
 #[derive(Clone, Copy, Debug, PartialEq, Eq)]
 pub enum Stimulus {
     /// The live voltage of a channel changes.
@@ -24,7 +24,7 @@ pub enum Stimulus {
     External,
 }
 
-/// What happens, and when.
+/// An entry of a scenario: what happens, and when.
 #[derive(Clone, Copy, Debug, PartialEq, Eq)]
 pub struct Entry {
     /// When, in ticks of a millisecond, from 0 to 999,999,999,999,999,999.
@@ -34,7 +34,7 @@ pub struct Entry {
 }
 
 impl Stimulus {
-    /// The server's event of it.
+    /// The server's event of this stimulus.
     pub fn event(self) -> Event<'static>
         ensures { plain result ≡ stimulus_event self }
     {

@@ -1,4 +1,4 @@
-//! Why a replay stops.
+//! Why a replay stopped.
 
 ghost use Rattle.std.specs.Prelude.{◌≡◌};
 
@@ -13,7 +13,7 @@ pub enum RunFault {
     /// The line of this number, from 1, is above 65,536 bytes or says nothing that a replay knows.
     #[error("bad line {0}")]
     BadLine(u64),
-    /// The input failed, or was read 4,294,967,295 times.
+    /// The input failed, or was read 4,294,967,294 times.
     #[error("input")]
     Input,
     /// The output failed.

@@ -1,4 +1,4 @@
-//! What a replay is read from, and what a read gives.
+//! The reader of a replay, and what each read gives.
 
 ghost use Rattle.std.specs.Prelude.{◌<◌, length};
 ghost use Rattle.sv_replay.specs.Text.{IsBehind};
@@ -9,19 +9,19 @@ use std::io::{ErrorKind, Read};
 #[derive(Clone, Copy, Debug, PartialEq, Eq)]
 pub struct InputFault;
 
-/// A reader whose reads a contract can name. Each reader is one; of what its reads lead to nothing
-/// is known.
+/// A reader whose reads a contract can name. Every reader is one; nothing is known of what the
+/// system's give.
 pub trait Source: Read {
     ghost use Rattle.std.specs.Prelude.{⊤};
     ghost use Rattle.sv_replay.specs.Reads.{Gave};
 
-    /// What a read leads to that gives so many bytes, or none at the reader's end, or a fault.
+    /// What a read leads to, by what it gave: so many bytes; none, at the reader's end; or a fault.
     ghost gives: { Self → Gave → Self → Type 0 } = { λ before gave after. ⊤ };
 
     /// Reads once, into a buffer with room. An interrupted read gives no bytes, but another may.
     ///
     /// # Errors
-    /// Where the reader fails.
+    /// If the reader fails.
     fn give(&mut self, buffer: &mut [u8]) -> Result<Option<usize>, InputFault>
         requires { 0 < length buffer.old }
         ensures came { IsBehind (Self.Read.remaining self.old) (Self.Read.remaining self.new)

@@ -1,5 +1,5 @@
-//! The replay of a script: its lines are read, what they say happens to a server, and what follows
-//! is printed. And the reading of a scenario: what happens to a server, and when.
+//! Scripts and scenarios. A script is replayed: its lines are read, what they say happens to a
+//! server, and what follows is printed. A scenario is read: what happens to a server, and when.
 #![tactic(auto)]
 
 mod entry;

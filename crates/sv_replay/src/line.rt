@@ -15,13 +15,14 @@ use sv_server::{Event, Port, Role};
 pub enum Line<'a> {
     /// Nothing.
     Blank,
-    /// That this happens.
+    /// This event happens.
     One(Event<'a>),
-    /// That so many milliseconds pass.
+    /// So many milliseconds pass.
     Ticks(u32),
 }
 
-/// Reads a line, without its new line. The bytes of a `bytes` line are put into `buffer`.
+/// Reads a line, without its new line; `None` if it says nothing that a replay knows. The bytes of
+/// a `bytes` line are put into `buffer`, which has to be as long as the line.
 pub fn read_line<'a>(line: &[u8], buffer: &'a mut [u8]) -> Option<Line<'a>>
     requires { length line.now ≤ length buffer.old }
     // What is read is said there.

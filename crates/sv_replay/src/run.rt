@@ -38,15 +38,15 @@ struct Run<A: Allocator> {
     ghost room: { length bytes.items ≡ 65536 },
 }
 
-/// Runs the replay that the reader gives, onto the writer. The writer is flushed before each read,
-/// so that whoever waits for an answer before more is sent gets it, and before the answer, so that
-/// what was printed has left the buffer whatever stopped the run.
+/// Runs the replay of a script that is read line by line, and prints it onto the writer. The writer
+/// is flushed before each read, so that whoever waits for an answer before sending more gets it;
+/// and at the end, whatever stopped the run.
 ///
 /// # Errors
-/// `BadLine` at the first line that isn't one of a replay, `Input` where the reader failed or was
-/// read 4,294,967,294 times, `Memory` where memory was refused at the start or to an event, and
-/// `Output` where the writer failed, also where it failed to pass on what was printed before
-/// another fault.
+/// The first of these that happens. `Memory`: memory was refused at the start or to an event.
+/// `Input`: the reader failed, or was read 4,294,967,294 times. `BadLine`: a line isn't one of a
+/// replay. `Output`: the writer failed; this also replaces another fault if what was printed
+/// before it can't be flushed.
 pub fn run_replay<A: Allocator + Copy, R: Source, W: Write + Drop, B: Allocator>(
     alloc: A,
     reader: &mut R,

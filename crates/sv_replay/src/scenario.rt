@@ -9,7 +9,7 @@ use std::alloc::{AllocError, Allocator};
 use sv_text::first_part;
 use thiserror::Error;
 
-/// Why a scenario isn't read.
+/// Why a scenario can't be read.
 #[derive(Clone, Copy, Debug, PartialEq, Eq, Error)]
 pub enum ScenarioFault {
     /// The line of this number, from 1, is above 65,536 bytes, says nothing that a scenario knows,
@@ -21,11 +21,11 @@ pub enum ScenarioFault {
     Memory,
 }
 
-/// Reads a scenario: each of its lines is empty or says an entry, and no entry is before the one in
-/// front of it.
+/// Reads a scenario: each line is empty or says an entry, and no entry is earlier than the one
+/// before it.
 ///
 /// # Errors
-/// `BadLine` at the first line that isn't so, and `Memory` where memory was refused to an entry.
+/// Line by line: `BadLine` if the line isn't so, `Memory` if memory is refused to its entry.
 pub fn read_scenario<A: Allocator + Copy>(
     alloc: A,
     text: &[u8],

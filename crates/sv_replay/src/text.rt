@@ -44,7 +44,7 @@ impl<A: Allocator> Model for Text<A> {
 }
 
 impl<A: Allocator> Text<A> {
-    /// No text. It takes all the memory that it ever uses.
+    /// No text. It allocates all the memory that it ever uses.
     pub fn new(alloc: A) -> Result<Text<A>, AllocError>
         ensures { IfOk result (λ text. text ≡ nothing_held) }
     {

@@ -1,4 +1,4 @@
--- The header of a call (RFC 5531, section 9), as a relation between bytes and its fields, and reading it.
+-- The header of a call (RFC 5531, section 9): a relation between bytes and its fields, and the function that reads it.
 use Rattle.std.specs.Prelude.{◌≢◌, ℕ, ◌≤◌, List, [], ◌∷◌, length, Result, Ok, Err, ◌==◌, if◌then◌else◌}
 use Rattle.sv_xdr.specs.declared.fault.XdrFault.{XdrFault}
 use Rattle.sv_xdr.specs.Spelling.{Field, Unsigned, Opaque, BeginsAll}
@@ -8,7 +8,7 @@ use Rattle.sv_rpc.specs.declared.call.Call.{Call}
 use Rattle.sv_rpc.specs.declared.call.CallFault.{CallFault}
 use Rattle.sv_rpc.specs.declared.call.CallFault.TheVariants.{BadHeader, Version}
 
--- a call without where it lies in memory
+-- a call as plain data
 pub record PlainCall : Type 0 where
   pub xid : ℕ
   pub prog : ℕ
@@ -16,21 +16,22 @@ pub record PlainCall : Type 0 where
   pub proc : ℕ
   pub args : List ℕ
 
+-- a call of the code, as plain data
 abbrev pub plain_call : Call → PlainCall
 plain_call call = record { xid = call.xid; prog = call.prog; vers = call.vers; proc = call.proc; args = call.args.now }
 
--- who asks, which nothing depends on (8.2): a flavor, and a body of at most max_auth bytes
+-- a credential or a verifier (8.2): a flavor, and a body of at most 400 bytes. Nothing depends on them.
 pub record Auth : Type 0 where
   pub flavor : ℕ
   pub body : List ℕ
 
--- the fields in front of the arguments: the message type is 0, a call, and the version of RPC is 2
+-- the fields before the arguments: the message type is 0, a call, and the version of RPC is 2
 abbrev pub heading : PlainCall → Auth → Auth → List Field
 heading call credential verifier =
     Unsigned call.xid ∷ Unsigned 0 ∷ Unsigned 2 ∷ Unsigned call.prog ∷ Unsigned call.vers ∷ Unsigned call.proc
     ∷ Unsigned credential.flavor ∷ Opaque credential.body ∷ Unsigned verifier.flavor ∷ Opaque verifier.body ∷ []
 
--- The record is this call, under some credential and verifier.
+-- The record is this call, with some credential and verifier.
 abbrev pub IsCall : List ℕ → PlainCall → Type 0
 IsCall bytes call = (credential verifier : Auth) × (length credential.body ≤ max_auth) × (length verifier.body ≤ max_auth)
     × BeginsAll bytes (heading call credential verifier) call.args
@@ -40,19 +41,19 @@ abbrev pub IsOtherVersion : List ℕ → ℕ → Type 0
 IsOtherVersion bytes xid = (version : ℕ) × (after : List ℕ) × (version ≢ 2)
     × BeginsAll bytes (Unsigned xid ∷ Unsigned 0 ∷ Unsigned version ∷ []) after
 
--- What a record is as a call.
+-- What a record is: this call, one under another version of RPC, or neither.
 abbrev pub CallIs : List ℕ → Result PlainCall CallFault → Type 0
 CallIs bytes (Ok call) = IsCall bytes call
 CallIs bytes (Err (Version xid)) = IsOtherVersion bytes xid
 CallIs bytes (Err BadHeader) = ((call : PlainCall) → IsCall bytes call → ⊥) × ((xid : ℕ) → IsOtherVersion bytes xid → ⊥)
 
--- a field that is read, or else a bad header
+-- a field that is read; any fault is a bad header
 infixl 10 ◌>>=◌
 abbrev pub ◌>>=◌ : {A B : Type 0} → Result A XdrFault → (A → Result B CallFault) → Result B CallFault
 (Ok x) >>= f = f x
 (Err fault) >>= f = Err BadHeader
 
--- behind the version
+-- the part of a call behind the version of RPC
 unfoldable pub body_at : ℕ → List ℕ → Result PlainCall CallFault
 body_at xid bytes = do
   prog ← unsigned_at bytes
@@ -73,7 +74,7 @@ call_at bytes = do
     version ← unsigned_at kind.1
     if version.0 == 2 then body_at xid.0 version.1 else Err (Version xid.0)) else Err BadHeader
 
--- what was read, as plain data
+-- what the code read, as plain data
 abbrev pub plain_call_result : Result Call CallFault → Result PlainCall CallFault
 plain_call_result (Ok call) = Ok (plain_call call)
 plain_call_result (Err fault) = Err fault

@@ -1,4 +1,4 @@
--- Laws of the definitions alone.
+-- Laws of records, calls, replies and GETPORT.
 use Rattle.std.specs.Prelude.{◌≡◌, ℕ, ◌<◌, List, All, Result}
 use Rattle.sv_xdr.specs.Spelling.{BeginsAll}
 use Rattle.sv_rpc.specs.declared.call.CallFault.{CallFault}
@@ -14,20 +14,20 @@ use Rattle.sv_rpc.specs.Reply.{reply_fields}
 abbrev pub OneReading : Type 0
 OneReading = (stream : List ℕ) (a b : List (List ℕ)) (s t : Tail) → Splits stream a s → Splits stream b t → (a ≡ b) × (s ≡ t)
 
--- Every stream of bytes splits as it is read.
+-- Every stream of bytes splits into `records_of` and `tail_of` of it.
 abbrev pub ReadAsSplit : Type 0
 ReadAsSplit = (stream : List ℕ) → All (λ byte. byte < 256) stream → Splits stream (records_of stream) (tail_of stream)
 
--- A stream splits in no other way than it is read.
+-- A stream splits into nothing else.
 abbrev pub ReadAlone : Type 0
 ReadAlone = (stream : List ℕ) (records : List (List ℕ)) (tail : Tail) → Splits stream records tail
     → (records ≡ records_of stream) × (tail ≡ tail_of stream)
 
--- What `call_at` gives of a record of bytes is what the record is as a call.
+-- `call_at` of a record of bytes is what the record is as a call.
 abbrev pub CallAsSpelled : Type 0
 CallAsSpelled = (bytes : List ℕ) → All (λ byte. byte < 256) bytes → CallIs bytes (call_at bytes)
 
--- What `port_at` gives of bytes is the answer to what is spelled there.
+-- `port_at` of bytes is the answer to these arguments.
 abbrev pub PortAsSpelled : Type 0
 PortAsSpelled = (ports : Ports) (args : List ℕ) → All (λ byte. byte < 256) args → PortIs ports args (port_at ports args)
 
@@ -35,13 +35,13 @@ PortAsSpelled = (ports : Ports) (args : List ℕ) → All (λ byte. byte < 256) 
 abbrev pub OneCall : Type 0
 OneCall = (bytes : List ℕ) (a b : Result PlainCall CallFault) → CallIs bytes a → CallIs bytes b → a ≡ b
 
--- Where two headers of calls begin the same bytes, they are one, and what follows them too. So none is a proper prefix of another.
+-- If two headers of calls begin the same bytes, they are the same, and so is what follows. So none is a proper prefix of another.
 abbrev pub CallsPrefixFree : Type 0
 CallsPrefixFree = (x y : PlainCall) (c d v w : Auth) (bytes after behind : List ℕ) → BeginsAll bytes (heading x c v) after
     → BeginsAll bytes (heading y d w) behind
     → (heading x c v ≡ heading y d w) × (after ≡ behind)
 
--- Likewise the headers of replies.
+-- The same of headers of replies.
 abbrev pub RepliesPrefixFree : Type 0
 RepliesPrefixFree = (x y : ℕ) (r s : Reply) (bytes after behind : List ℕ) → BeginsAll bytes (reply_fields x r) after
     → BeginsAll bytes (reply_fields y s) behind

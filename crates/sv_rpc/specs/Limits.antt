@@ -1,15 +1,15 @@
 -- How long records and their parts may be.
 use Rattle.std.specs.Prelude.{ℕ, ◌/◌}
 
--- how many bytes the records in a buffer may take, with 4 for each
+-- how many bytes the records of a buffer may take, with 4 for each
 abbrev pub capacity : ℕ
 capacity = 16384
 
--- how many records may stand in a buffer: the shortest is empty and takes 4 bytes
+-- how many records a buffer may hold: an empty one takes 4 bytes
 abbrev pub max_records : ℕ
 max_records = capacity / 4
 
--- how long a record may be that is taken, in bytes
+-- how long a record may be, in bytes
 abbrev pub max_record : ℕ
 max_record = 8192
 

@@ -6,23 +6,24 @@ use Rattle.sv_xdr.specs.Garbage.{◌>>=◌}
 use Rattle.sv_rpc.specs.declared.ports.Ports.{Ports}
 use Rattle.sv_xdr.specs.declared.garbage.Garbage.{Garbage}
 
--- what is asked for: a program, its version and a protocol; a port stands behind them, which nothing depends on
+-- what GETPORT asks for: a program, its version and a protocol. A port follows, on which nothing depends.
 pub record Mapping : Type 0 where
   pub prog : ℕ
   pub vers : ℕ
   pub prot : ℕ
   pub port : ℕ
 
+-- its fields, in order
 abbrev pub mapping_fields : Mapping → List Field
 mapping_fields m = Unsigned m.prog ∷ Unsigned m.vers ∷ Unsigned m.prot ∷ Unsigned m.port ∷ []
 
--- the ports of the core channel (0x0607AF) and the abort channel (0x0607B0), each at version 1 over TCP (6), and 0 for all else
+-- the port that is answered: of the core channel (0x0607AF) or the abort channel (0x0607B0), each at version 1 over TCP (6); 0 for all else
 abbrev pub port_of : Ports → Mapping → ℕ
 port_of ports m =
     if (m.prog == 395183) && ((m.vers == 1) && (m.prot == 6)) then ports.core
     else (if (m.prog == 395184) && ((m.vers == 1) && (m.prot == 6)) then ports.abort else 0)
 
--- The answer to these arguments: bytes behind them are ignored, and arguments that aren't spelled are garbage.
+-- The answer to these arguments. Bytes after them are ignored; if they aren't spelled, they are garbage.
 abbrev pub PortIs : Ports → List ℕ → Result ℕ Garbage → Type 0
 PortIs ports args (Ok port) = (m : Mapping) × (after : List ℕ) × BeginsAll args (mapping_fields m) after × (port ≡ port_of ports m)
 PortIs ports args (Err garbage) = (m : Mapping) (after : List ℕ) → BeginsAll args (mapping_fields m) after → ⊥

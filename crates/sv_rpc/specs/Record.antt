@@ -4,7 +4,7 @@ use Rattle.std.specs.List.{concat, flat_map, AllByRecursion}
 use Rattle.sv_xdr.specs.Spelling.{Unsigned, spelling}
 use Rattle.sv_rpc.specs.Limits.{max_record}
 
--- A fragment's header is a word: its top bit marks the last fragment of a record, the 31 low bits are the length of the fragment's data.
+-- the header of a fragment, a word: its top bit marks the last fragment of a record, the low 31 bits are the length of the data
 abbrev pub header_of : Bool → ℕ → List ℕ
 header_of last size = spelling (Unsigned (if last then size + 2 ^ 31 else size))
 
@@ -12,11 +12,12 @@ header_of last size = spelling (Unsigned (if last then size + 2 ^ 31 else size))
 abbrev pub fragment : Bool → List ℕ → List ℕ
 fragment last text = header_of last (length text) ++ text
 
--- a record as it is sent: the data of the fragments in front of the last one, and those of the last
+-- a record as it is sent: the data of all fragments but the last, and those of the last
 pub record Sent : Type 0 where
   pub front : List (List ℕ)
   pub final : List ℕ
 
+-- the bytes of such a record on the stream
 abbrev pub bytes_of : Sent → List ℕ
 bytes_of sent = flat_map (fragment false) sent.front ++ fragment true sent.final
 
@@ -24,21 +25,23 @@ bytes_of sent = flat_map (fragment false) sent.front ++ fragment true sent.final
 abbrev pub record_of : Sent → List ℕ
 record_of sent = concat sent.front ++ sent.final
 
+-- The record isn't too long.
 abbrev pub IsTaken : Sent → Type 0
 IsTaken sent = length (record_of sent) ≤ max_record
 
--- What stands behind the last whole record. In front of Header and in Data the payload is that of the unfinished record so far.
+-- what follows the last complete record: an unfinished one, which lacks (the rest of) a fragment's header, or data of a fragment; or one
+-- that is too long. The payload is what came of the record.
 pub data Tail : Type 0 where
   Header : (payload header : List ℕ) → Tail
   Data : (payload : List ℕ) (missing : ℕ) (last : Bool) → Tail
   TooLong : Tail
 
--- whether they are of a record that is too long
+-- whether it is of a record that is too long
 abbrev pub ends_overlong : Tail → Bool
 ends_overlong = elim [ TooLong ↦ true | _ ↦ false ]
 
--- Behind whole fragments that aren't the last of their record stands less than a header, or a header and less than its data, or the header
--- that makes the record too long, and then anything.
+-- These bytes are that tail: complete fragments, none the last of its record; then less than a header, or a header and less than its data,
+-- or a header that makes the record too long and anything after it.
 abbrev pub IsTail : List ℕ → Tail → Type 0
 IsTail bytes (Header payload header) = (front : List (List ℕ)) × (bytes ≡ flat_map (fragment false) front ++ header)
     × (payload ≡ concat front) × (length header < 4) × (length payload ≤ max_record)

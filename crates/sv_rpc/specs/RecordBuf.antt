@@ -6,23 +6,24 @@ use Rattle.sv_rpc.specs.declared.record_buf.RpcFault.TheVariants.{RecordTooLong}
 use Rattle.sv_rpc.specs.Limits.{capacity}
 use Rattle.sv_rpc.specs.Record.{Tail, Header, Data, TooLong, Splits}
 
--- the whole records that weren't dropped, and what stands behind them
+-- the complete records that weren't dropped, and what follows them
 pub record Records : Type 0 where
   pub records : List (List ℕ)
   pub tail : Tail
 
+-- an empty buffer
 abbrev pub no_records : Records
 no_records = record { records = []; tail = Header [] [] }
 
--- The buffer holds what is in the stream behind the records that were dropped, which are the first so many.
+-- The buffer holds the records of the stream, without the first so many, which were dropped.
 pub record StandsFor (held : Records) (stream : List ℕ) (dropped : ℕ) : Type 0 where
   pub all : List (List ℕ)
   pub splits : Splits stream all held.tail
   pub bounded : dropped ≤ length all
   pub kept : held.records ≡ drop dropped all
 
--- how many bytes are counted, in all, for whole records that stand there and for the unfinished one, which counts 4 even when nothing of it
--- came
+-- how many bytes count against the room: 4 and its bytes for each complete record; the same for the unfinished one, even if nothing of it
+-- came; and what came of an unfinished header. Once a record is too long, all of the capacity counts.
 abbrev pub used_by : List (List ℕ) → Tail → ℕ
 used_by records (Header payload header) = sum_by (λ r. 4 + length r) records + (4 + length payload + length header)
 used_by records (Data payload missing last) = sum_by (λ r. 4 + length r) records + (4 + length payload)
@@ -32,27 +33,28 @@ used_by records TooLong = capacity
 abbrev pub room_of : Records → ℕ
 room_of held = capacity - used_by held.records held.tail
 
--- the next record; behind the last one its fault, or none yet
+-- what `next` answers once no complete record is left: none yet, or that a record is too long
 abbrev pub at_end : Tail → Result (Option (List ℕ)) RpcFault
 at_end (Header payload header) = Ok None
 at_end (Data payload missing last) = Ok None
 at_end TooLong = Err RecordTooLong
 
+-- what `next` answers
 abbrev pub next_among : List (List ℕ) → Tail → Result (Option (List ℕ)) RpcFault
 next_among [] tail = at_end tail
 next_among (r ∷ rs) tail = Ok (Some r)
 
--- Of the stream's records the one behind those that were dropped is next.
+-- The answer is the record of the stream that follows the dropped ones.
 abbrev pub IsNext : List ℕ → ℕ → Result (Option (List ℕ)) RpcFault → Type 0
 IsNext stream dropped answer = (all : List (List ℕ)) × (tail : Tail) × Splits stream all tail × (dropped ≤ length all)
     × (answer ≡ next_among (drop dropped all) tail)
 
--- The room is counted over the stream's records without those that were dropped.
+-- The room is counted over the records of the stream without the dropped ones.
 abbrev pub IsRoom : List ℕ → ℕ → ℕ → Type 0
 IsRoom stream dropped room = (all : List (List ℕ)) × (tail : Tail) × Splits stream all tail × (dropped ≤ length all)
     × (room ≡ capacity - used_by (drop dropped all) tail)
 
--- the answer as plain data
+-- the answer of the code, as plain data
 abbrev pub plain_record : Result (Option (Bor (List ℕ))) RpcFault → Result (Option (List ℕ)) RpcFault
 plain_record (Ok found) = Ok (option_map (λ r. r.now) found)
 plain_record (Err fault) = Err fault

@@ -1,19 +1,19 @@
--- The fields of a reply in front of its result (RFC 5531, section 9), and those of a call in front of its arguments, as they are written
--- here.
+-- The fields of a reply before its result, and of a call before its arguments, as they are written here (RFC 5531, section 9).
 use Rattle.std.specs.Prelude.{ℕ, List, [], ◌∷◌, ◌++◌}
 use Rattle.sv_xdr.specs.Spelling.{Field, Unsigned, Opaque}
 use Rattle.sv_rpc.specs.declared.reply.Reply.{Reply}
 use Rattle.sv_rpc.specs.declared.reply.Reply.TheVariants.{Success, Mismatch, ProgUnavail, ProgMismatch, ProcUnavail, GarbageArgs}
 
--- no credential and no verifier: AUTH_NONE, of length 0 (8.2)
+-- AUTH_NONE, of length 0 (8.2): no credential, or no verifier
 abbrev pub no_auth : List Field
 no_auth = Unsigned 0 ∷ Opaque [] ∷ []
 
--- the message type 1 is a reply; 0 says that the call was accepted
+-- a reply (message type 1) to a call that was accepted (0), with this status
 abbrev pub accepted : ℕ → ℕ → List Field
 accepted xid status = Unsigned xid ∷ Unsigned 1 ∷ Unsigned 0 ∷ no_auth ++ Unsigned status ∷ []
 
--- A call under another version of RPC than 2 is denied (1), for that reason (0), with the lowest and the highest version.
+-- The fields of a reply. A call under another version of RPC than 2 is denied (1) as RPC_MISMATCH (0), with the lowest and the highest
+-- version.
 abbrev pub reply_fields : ℕ → Reply → List Field
 reply_fields xid Success = accepted xid 0
 reply_fields xid ProgUnavail = accepted xid 1
@@ -22,5 +22,6 @@ reply_fields xid ProcUnavail = accepted xid 3
 reply_fields xid GarbageArgs = accepted xid 4
 reply_fields xid Mismatch = Unsigned xid ∷ Unsigned 1 ∷ Unsigned 1 ∷ Unsigned 0 ∷ Unsigned 2 ∷ Unsigned 2 ∷ []
 
+-- the fields of a call, with neither credential nor verifier
 abbrev pub call_fields : ℕ → ℕ → ℕ → ℕ → List Field
 call_fields xid prog vers proc = Unsigned xid ∷ Unsigned 0 ∷ Unsigned 2 ∷ Unsigned prog ∷ Unsigned vers ∷ Unsigned proc ∷ no_auth ++ no_auth

@@ -1,4 +1,4 @@
--- How the fields of a record buffer keep what it holds, and how that changes byte by byte and piece by piece.
+-- How the fields of a record buffer keep what it holds, and how pieces and bytes change that.
 use Rattle.std.specs.Prelude.{◌≡◌, ℕ, ◌+◌, ◌-◌, ◌*◌, ◌%◌, ◌<◌, ◌≤◌, ◌^◌, Bool, List, [], ◌∷◌, ◌++◌, length, take, drop, sum, nat_lt, nat_le, if◌then◌else◌}
 use Rattle.std.specs.Int.{w32, from_be_bytes}
 use Rattle.sv_rpc.specs.declared.record_buf.Place.{Place}
@@ -12,39 +12,44 @@ abbrev pub cut : List ℕ → List ℕ → List (List ℕ)
 cut [] bytes = []
 cut (n ∷ ns) bytes = take n bytes ∷ cut ns (drop n bytes)
 
+-- the tail that the fields keep
 abbrev pub tail_of : Place → List ℕ → List ℕ → Tail
 tail_of place.Header payload header = Header payload header
 tail_of (place.Data missing last) payload header = Data payload missing last
 tail_of place.TooLong payload header = TooLong
 
+-- the records and the tail that the fields keep
 abbrev pub held_of : List ℕ → List ℕ → List ℕ → Place → Records
 held_of bytes lengths header place = record { records = cut lengths bytes; tail = tail_of place (drop (sum lengths) bytes) header }
 
--- More bytes fit. While no header of the unfinished record is whole, the 4 that it counts are still free.
+-- how many more bytes fit: before the first header of a record is complete, the 4 bytes that it counts are still free
 abbrev pub spare_of : List ℕ → ℕ
 spare_of [] = 4
 spare_of (b ∷ payload) = 0
 
+-- So many bytes fit behind this.
 abbrev pub Fits : List (List ℕ) → Tail → ℕ → Type 0
 Fits records (Header payload header) n = used_by records (Header payload header) + n ≤ capacity + spare_of payload
 Fits records (Data payload missing last) n = used_by records (Data payload missing last) + n ≤ capacity
 Fits records TooLong n = Unit {0}
 
+-- The same of what a buffer holds.
 abbrev pub InRoom : Records → ℕ → Type 0
 InRoom held n = Fits held.records held.tail n
 
--- what of an unfinished header counts, or all the room
+-- what counts of an unfinished header; all of the room if a record is too long
 abbrev pub begun_of : Place → ℕ → ℕ
 begun_of place.Header header_len = header_len
 begun_of (place.Data missing last) header_len = 0
 begun_of place.TooLong header_len = capacity
 
--- the place is one that a record may be at
+-- The place is possible, after so much of the record and of a header.
 abbrev pub IsPlace : Place → ℕ → ℕ → Type 0
 IsPlace place.Header payload header_len = (payload ≤ max_record) × (header_len < 4)
 IsPlace (place.Data missing last) payload header_len = (0 < missing) × (payload + missing ≤ max_record) × (header_len ≡ 0)
 IsPlace place.TooLong payload header_len = Unit {0}
 
+-- what always holds of the fields: their lengths agree, and there is memory for the capacity
 pub record IsValid (bytes lengths header : List ℕ) (space slots payload header_len : ℕ) (place : Place) : Type 0 where
   pub whole : sum lengths + payload ≡ length bytes
   pub four : length header ≡ 4
@@ -53,16 +58,19 @@ pub record IsValid (bytes lengths header : List ℕ) (space slots payload header
   pub many : max_records ≤ slots
   pub counted : 4 * length lengths + length bytes ≤ capacity
 
+-- A header comes next, or the rest of one.
 abbrev pub IsInHeader : Tail → Type 0
 IsInHeader (Header payload header) = Unit {0}
 IsInHeader (Data payload missing last) = ⊥
 IsInHeader TooLong = ⊥
 
+-- A header comes next.
 abbrev pub IsBeforeHeader : Tail → Type 0
 IsBeforeHeader (Header payload header) = header ≡ []
 IsBeforeHeader (Data payload missing last) = ⊥
 IsBeforeHeader TooLong = ⊥
 
+-- Data come next: so many bytes, of the last fragment or not.
 abbrev pub IsInData : Tail → ℕ → Bool → Type 0
 IsInData (Header payload header) n b = ⊥
 IsInData (Data payload missing last) n b = (missing ≡ n) × (last ≡ b)
@@ -74,11 +82,11 @@ payload_of (Header payload header) = payload
 payload_of (Data payload missing last) = payload
 payload_of TooLong = []
 
--- the unfinished record is whole
+-- the unfinished record becomes complete
 abbrev pub finished : List (List ℕ) → Tail → Records
 finished records tail = record { records = records ++ payload_of tail ∷ []; tail = Header [] [] }
 
--- a header is whole
+-- a header is complete
 abbrev pub after_header : List (List ℕ) → Tail → ℕ → Bool → Records
 after_header records tail size last =
     let payload = payload_of tail in
@@ -86,7 +94,7 @@ after_header records tail size last =
     else (if nat_lt 0 size then record { records = records; tail = Data payload size last }
     else (if last then finished records tail else record { records = records; tail = Header payload [] }))
 
--- one more byte of a header
+-- one more byte of a header came
 abbrev pub after_byte : List (List ℕ) → Tail → ℕ → Records
 after_byte records (Header payload header) byte =
     if nat_lt (length header) 3 then record { records = records; tail = Header payload (header ++ byte ∷ []) }
@@ -95,7 +103,7 @@ after_byte records (Header payload header) byte =
 after_byte records (Data payload missing last) byte = record { records = records; tail = Data payload missing last }
 after_byte records TooLong byte = record { records = records; tail = TooLong }
 
--- more of a fragment's data
+-- more of a fragment's data came
 abbrev pub after_data : List (List ℕ) → Tail → List ℕ → Records
 after_data records (Header payload header) piece = record { records = records; tail = Header payload header }
 after_data records (Data payload missing last) piece =
@@ -107,10 +115,10 @@ after_data records (Data payload missing last) piece =
     })
 after_data records TooLong piece = record { records = records; tail = TooLong }
 
--- What is held goes on from old to new by these bytes of the stream.
+-- With these bytes of the stream, the buffer stands for it as before.
 abbrev pub GoesOn : Records → Records → List ℕ → Type 0
 GoesOn old new front = (stream : List ℕ) (dropped : ℕ) → StandsFor old stream dropped → StandsFor new (stream ++ front) dropped
 
--- The records that stood there stand in front of those that came.
+-- The records that were there stay, in front of those that came.
 abbrev pub Keeps : Records → Records → Type 0
 Keeps old new = (more : List (List ℕ)) × (new.records ≡ old.records ++ more)

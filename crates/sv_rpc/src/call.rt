@@ -25,7 +25,7 @@ pub struct Call<'a> {
     pub args: &'a [u8],
 }
 
-/// Why a record is no call that can be answered by a program.
+/// Why a record is no call that a program can answer.
 #[derive(Clone, Copy, Debug, PartialEq, Eq, Error)]
 pub enum CallFault {
     /// The record is no call: it is too short, its message type isn't 0, or under version 2 of RPC
@@ -49,10 +49,13 @@ impl From<XdrFault> for CallFault {
     }
 }
 
-/// Reads the bytes of a record as a call (RFC 5531, section 9). The transaction, the message type
-/// and the version of RPC are read first, so `Version` comes whatever follows them; any fault of
-/// another field is `BadHeader`, as where a credential or a verifier is longer than it may be.
-/// Neither is looked at.
+/// Reads the bytes of a record as a call (RFC 5531, section 9). What a credential or a verifier
+/// says is ignored.
+///
+/// # Errors
+/// `BadHeader` if the transaction, the message type or the version of RPC is missing, or the
+/// message type isn't 0. Then `Version`, whatever follows, if the version isn't 2. Then `BadHeader`
+/// if a later field can't be read, or the body of a credential or a verifier is above 400 bytes.
 pub fn read_call(bytes: &[u8]) -> Result<Call<'_>, CallFault>
     // What is read is spelled there.
     ensures found { CallIs bytes.now (plain_call_result result) }

@@ -1,4 +1,5 @@
-//! Laws of the definitions alone, each on a function that does nothing.
+//! Laws of records, calls, replies and GETPORT. Each is the contract of a function that does
+//! nothing.
 
 ghost use Rattle.sv_rpc.specs.Laws.{OneReading, ReadAsSplit, ReadAlone, OneCall, CallAsSpelled, PortAsSpelled, CallsPrefixFree, RepliesPrefixFree};
 
@@ -7,15 +8,14 @@ pub fn one_reading()
     ensures { OneReading }
 {}
 
-/// The functions `records_of` and `tail_of` give the reading of a stream: every stream of bytes
-/// splits into what they give, and in no other way.
+/// Every stream of bytes splits into `records_of` and `tail_of` of it, and into nothing else.
 pub fn read_as_split()
     ensures every { ReadAsSplit }
     ensures alone { ReadAlone }
 {}
 
-/// The functions `call_at` and `port_at` give what is spelled in a record of bytes, and in the
-/// arguments of GETPORT: what it is as a call, and the port that is answered.
+/// The functions `call_at` and `port_at` give what a record spells as a call, and what is answered
+/// to the arguments of GETPORT.
 pub fn read_as_spelled()
     ensures call { CallAsSpelled }
     ensures port { PortAsSpelled }
@@ -26,8 +26,8 @@ pub fn one_call()
     ensures { OneCall }
 {}
 
-/// No header of a call is a proper prefix of another's, and no header of a reply of another
-/// reply's: where two begin the same bytes, they are equal, and so is what follows them.
+/// No header of a call is a proper prefix of another, nor is one of a reply: if two begin the same
+/// bytes, they are equal, and so is what follows.
 pub fn prefix_free()
     ensures calls { CallsPrefixFree }
     ensures replies { RepliesPrefixFree }

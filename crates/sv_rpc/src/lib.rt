@@ -1,7 +1,7 @@
-//! Remote procedure calls over a stream (RFC 5531): records, the headers of calls and replies, and
-//! the port mapper's GETPORT (RFC 1833).
+//! RPC over a stream (RFC 5531): records, the headers of calls and replies, and the port mapper's
+//! GETPORT (RFC 1833).
 //!
-//! Only [`RecordBuf::new`] takes memory.
+//! Only [`RecordBuf::new`] allocates.
 #![tactic(auto)]
 
 use std::alloc::AllocError;
@@ -20,5 +20,5 @@ pub use reply::{Reply, write_call, write_reply};
 pub use sending::put_record;
 pub use sv_xdr::Garbage;
 
-/// No memory was left.
+/// Out of memory.
 pub type NoMemory = AllocError;

@@ -25,6 +25,9 @@ pub struct Ports {
 
 /// Answers GETPORT: the port of the core or the abort channel, each at version 1 over TCP, and 0
 /// for every other program, version or protocol. Bytes behind the arguments are ignored.
+///
+/// # Errors
+/// [`Garbage`] if fewer than 16 bytes are there, the four numbers of the arguments.
 #[tactic(auto, unfolding(crate::specs::Ports::port_at))]
 pub fn getport(args: &[u8], ports: Ports) -> Result<u32, Garbage>
     ensures answer { PortIs ports args.now result }

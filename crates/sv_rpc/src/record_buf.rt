@@ -1,4 +1,4 @@
-//! The records of a stream, which comes in any pieces.
+//! The records of a stream, which comes in pieces of any size.
 
 ghost use Rattle.std.specs.Prelude.{◌≡◌, ◌≢◌, ℕ, ◌+◌, ◌-◌, ◌%◌, ◌<◌, ◌≤◌, ◌^◌, List, [], ◌∷◌, ◌++◌, length, take, drop, nat_le, vec_len, vec_capacity, IfOk};
 ghost use Rattle.std.specs.Int.{w32, from_be_bytes};
@@ -39,8 +39,8 @@ enum Place {
     TooLong,
 }
 
-/// The records of a stream of bytes (record marking, RFC 5531, section 11), in the order in which
-/// they come. A record stays in the buffer, and counts there, until it is dropped.
+/// The records of a stream of bytes (record marking, RFC 5531, section 11), in order. A record
+/// stays in the buffer, and counts against its room, until it is dropped.
 #[derive(Drop)]
 pub struct RecordBuf<A: Allocator = Global> {
     /// The records, and behind them what came of the unfinished one.
@@ -72,7 +72,10 @@ impl<A: Allocator> Model for RecordBuf<A> {
 }
 
 impl<A: Allocator + Copy> RecordBuf<A> {
-    /// A buffer in which nothing stands. It takes all the memory that it ever uses.
+    /// An empty buffer. It allocates all the memory that it ever uses.
+    ///
+    /// # Errors
+    /// If memory is refused.
     pub fn new(alloc: A) -> Result<RecordBuf<A>, NoMemory>
         ensures { IfOk result (λ buffer. (buffer ≡ no_records) × StandsFor buffer [] 0) }
     {
@@ -88,9 +91,9 @@ impl<A: Allocator + Copy> RecordBuf<A> {
 }
 
 impl<A: Allocator> RecordBuf<A> {
-    /// How many bytes may be pushed: of the capacity, what is left behind 4 and the length of each
-    /// whole record that wasn't dropped, 4 and what came of the unfinished one, and what came of an
-    /// unfinished fragment header. It is 0 once a record was too long.
+    /// How many bytes may be pushed. Of the capacity of 16,384 bytes these are taken: 4 and its
+    /// bytes for each complete record that wasn't dropped; 4 and its bytes for the unfinished one;
+    /// and what came of an unfinished fragment header. It is 0 once a record was too long.
     pub fn room(&self) -> usize
         ensures value { result ≡ room_of self.now }
         ensures answer { (stream : List ℕ) (dropped : ℕ) → StandsFor self.now stream dropped
@@ -104,8 +107,11 @@ impl<A: Allocator> RecordBuf<A> {
         CAPACITY.saturating_sub(4 * self.lengths.len() + self.bytes.len() + 4 + begun)
     }
 
-    /// The first record that wasn't dropped, a slice of the buffer; or none yet. Behind the last
-    /// record in front of one that is too long, that fault.
+    /// The first complete record that wasn't dropped, a slice of the buffer; `None` if there is no
+    /// such record yet.
+    ///
+    /// # Errors
+    /// `RecordTooLong` if no complete record is left in front of one that is too long.
     pub fn next(&self) -> Result<Option<&[u8]>, RpcFault>
         ensures value { plain_record result ≡ next_among self.now.records self.now.tail }
         ensures answer { (stream : List ℕ) (dropped : ℕ) → StandsFor self.now stream dropped
@@ -120,7 +126,7 @@ impl<A: Allocator> RecordBuf<A> {
         }
     }
 
-    /// Whether a record is too long: behind it nothing can be pushed.
+    /// Whether a record is too long, so that nothing can be pushed any more.
     pub fn is_overlong(&self) -> bool
         ensures { result ≡ ends_overlong self.now.tail }
     {
@@ -130,7 +136,7 @@ impl<A: Allocator> RecordBuf<A> {
         }
     }
 
-    /// Drops the first record, which the caller is done with.
+    /// Drops the first record.
     pub fn drop_first(&mut self)
         requires { self.old.records ≢ [] }
         ensures value { self.new ≡ record {
@@ -145,7 +151,7 @@ impl<A: Allocator> RecordBuf<A> {
         drop_front(&mut self.bytes, size);
     }
 
-    /// Forgets everything, as when it was new.
+    /// Drops everything: the buffer is as a new one.
     pub fn clear(&mut self)
         ensures value { self.new ≡ no_records }
         ensures stands { StandsFor self.new [] 0 }
@@ -157,7 +163,8 @@ impl<A: Allocator> RecordBuf<A> {
         self.place = Place::Header;
     }
 
-    /// Takes in the next bytes of the stream. The records that stand in the buffer stay.
+    /// Takes in the next bytes of the stream, which have to fit the room. The records in the buffer
+    /// stay.
     pub fn push(&mut self, piece: &[u8])
         requires { length piece.now ≤ room_of self.old }
         ensures stands { GoesOn self.old self.new piece.now }
@@ -171,7 +178,7 @@ impl<A: Allocator> RecordBuf<A> {
         }
     }
 
-    /// Takes in some of the bytes, and tells how many.
+    /// Takes in some of the bytes, and returns how many.
     fn take_in(&mut self, piece: &[u8]) -> usize
         requires some { 0 < length piece.now }
         requires fits { InRoom self.old (length piece.now) }

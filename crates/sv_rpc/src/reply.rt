@@ -7,7 +7,7 @@ ghost use Rattle.sv_rpc.specs.Reply.{reply_fields, call_fields};
 
 use sv_xdr::{Writer, XdrFault};
 
-/// How a call was taken (RFC 5531, section 9).
+/// How a call is answered (RFC 5531, section 9).
 #[derive(Clone, Copy, Debug, PartialEq, Eq)]
 pub enum Reply {
     /// It was executed, and its result follows.
@@ -30,8 +30,10 @@ pub enum Reply {
 }
 
 /// Writes the header of a reply, without the fragment header in front of it and the result behind
-/// it. The fault is `NoRoom`, and the whole fields in front of the one that has no room stay
-/// written.
+/// it.
+///
+/// # Errors
+/// `NoRoom` at the first field that doesn't fit. The fields in front of it stay written.
 pub fn write_reply(writer: &mut Writer<'_>, xid: u32, reply: Reply) -> Result<(), XdrFault>
     ensures same_buffer { writer.new.out.ghost_name ≡ writer.old.out.ghost_name }
     ensures writes { WritesEach (map spelling (reply_fields xid reply)) result writer.old
@@ -48,7 +50,10 @@ pub fn write_reply(writer: &mut Writer<'_>, xid: u32, reply: Reply) -> Result<()
 }
 
 /// Writes the header of a call without credential and verifier, and without the fragment header in
-/// front of it and the arguments behind it. The fault is as with [`write_reply`].
+/// front of it and the arguments behind it.
+///
+/// # Errors
+/// `NoRoom` at the first field that doesn't fit. The fields in front of it stay written.
 pub fn write_call(
     writer: &mut Writer<'_>,
     xid: u32,

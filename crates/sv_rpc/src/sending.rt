@@ -1,4 +1,4 @@
-//! Records as they are sent (RFC 5531, section 11).
+//! Sending records (RFC 5531, section 11).
 
 ghost use Rattle.std.specs.Prelude.{◌≡◌, ◌+◌, ◌<◌, ◌≤◌, ◌^◌, ◌++◌, true, length, vec_len, vec_capacity};
 ghost use Rattle.sv_rpc.specs.Record.{fragment};
@@ -6,8 +6,8 @@ ghost use Rattle.sv_rpc.specs.Record.{fragment};
 use std::alloc::Allocator;
 use sv_bytes::append;
 
-/// Puts a record of one fragment behind the outgoing bytes, which have to have room for it; it has
-/// to be shorter than 2,147,483,648 bytes.
+/// Puts a record of one fragment behind the outgoing bytes, which must have room for it. It must be
+/// shorter than 2,147,483,648 bytes.
 pub fn put_record<A: Allocator>(out: &mut Vec<u8, A>, text: &[u8])
     requires fits { vec_len out.old + 4 + length text.now ≤ vec_capacity out.old }
     requires short { length text.now < 2 ^ 31 }

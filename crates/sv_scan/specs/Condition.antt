@@ -7,37 +7,40 @@ use Rattle.sv_scan.specs.Setting.{limits, upper, lower, monitor, input}
 use Rattle.sv_scan.specs.Scan.{state, last_reading}
 use Rattle.sv_scan.specs.Counted.{is_idle, is_waiting, is_scanning}
 
--- a bit of a word, where its condition holds
+-- a word with this bit, if so; else 0
 abbrev pub bit : ℕ → Bool → ℕ
 bit place holds = if holds then 2 ^ place else 0
 
+-- the operation word: bit 4 a scan is under way, bit 5 a trigger is waited for, bit 8 a measurement is under way
 abbrev pub operation : List ScanAct → ℕ
 operation log = bit 4 (is_scanning (state log)) + bit 5 (is_waiting (state log)) + bit 8 (not (is_idle (state log)))
 
+-- whether a reading is an overload
 abbrev pub is_overload : Option Reading → Bool
 is_overload = elim [ Some Over ↦ true | Some Under ↦ true | _ ↦ false ]
 
--- a reading below a limit: a negative overload is below every limit
+-- whether a reading is below a limit; a negative overload is below every limit
 abbrev pub is_below : Option Reading → ℤ → Bool
 is_below (Some (Value value)) limit = int_lt value limit
 is_below (Some Under) limit = true
 is_below _ limit = false
 
--- a reading above a limit: a positive overload is above every limit
+-- whether a reading is above a limit; a positive overload is above every limit
 abbrev pub is_above : Option Reading → ℤ → Bool
 is_above (Some (Value value)) limit = int_lt limit value
 is_above (Some Over) limit = true
 is_above _ limit = false
 
--- whether the live input of the monitored channel is outside the limits
+-- whether the input of the monitored channel is outside the limits
 abbrev pub is_outside : List ScanAct → Bool
 is_outside log = int_lt (input (monitor log) log) (lower log) || int_lt (upper log) (input (monitor log) log)
 
--- what the scanner adds to the questionable word
+-- what the scanner adds to the questionable word: bit 0 the last reading is an overload
 abbrev pub questionable : List ScanAct → ℕ
 questionable log = bit 0 (is_overload (last_reading log))
 
--- the limits that are passed, while they count
+-- the word of limits, 0 while they are off: bit 0 the last reading is below the lower one, bit 1 above the upper one, bit 2 the monitored
+-- input is outside
 abbrev pub limit : List ScanAct → ℕ
 limit log = bit 0 (limits log && is_below (last_reading log) (lower log)) + bit 1 (limits log && is_above (last_reading log) (upper log))
     + bit 2 (limits log && is_outside log)

@@ -1,4 +1,4 @@
--- Which acts count: a call that is refused doesn't, nor a sample outside a scan, nor the input of a channel that isn't there.
+-- Which acts count. These don't: a call that is refused, a sample outside a scan, an input of a channel that there isn't.
 use Rattle.std.specs.Prelude.{◌&&◌, not, Bool, true, false, List, [], ◌∷◌, Option, Some, None, is_none, if◌then◌else◌}
 use Rattle.sv_errors.specs.declared.code.Code.{Code}
 use Rattle.sv_errors.specs.declared.code.Code.TheVariants.{DataOutOfRange, SettingsConflict, TriggerIgnored, InitIgnored, TriggerDeadlock}
@@ -13,39 +13,44 @@ use Rattle.sv_errors.specs.Limits.{is_channel}
 use Rattle.sv_scan.specs.Setting.{is_possible, is_fixed, source}
 use Rattle.sv_scan.specs.Scan.{state}
 
+-- whether no measurement is under way
 abbrev pub is_idle : State → Bool
 is_idle = elim [ Idle ↦ true | _ ↦ false ]
 
+-- whether a trigger is waited for
 abbrev pub is_waiting : State → Bool
 is_waiting = elim [ Waiting ↦ true | _ ↦ false ]
 
+-- whether a scan is under way
 abbrev pub is_scanning : State → Bool
 is_scanning = elim [ Scanning ↦ true | _ ↦ false ]
 
+-- whether two sources of triggers are the same
 abbrev pub same_source : Source → Source → Bool
 same_source Immediate Immediate = true
 same_source Bus Bus = true
 same_source External External = true
 same_source _ _ = false
 
--- what a setting is refused with behind these acts
+-- why a setting is refused after these acts: -222 for its value, -221 if it can't be changed during a measurement
 abbrev pub setting_fault : List ScanAct → Setting → Option Code
 setting_fault log setting =
     if not (is_possible setting) then Some DataOutOfRange
     else if is_fixed setting && not (is_idle (state log)) then Some SettingsConflict else None
 
+-- why an initiation is refused: -213 if a measurement is under way
 abbrev pub init_fault : List ScanAct → Option Code
 init_fault log = if is_idle (state log) then None else Some InitIgnored
 
--- a trigger has to be waited for, from that source
+-- why a trigger is refused: -211 if none is waited for, or one from another source
 abbrev pub trigger_fault : List ScanAct → Source → Option Code
 trigger_fault log from = if is_waiting (state log) && same_source (source log) from then None else Some TriggerIgnored
 
--- a reading that the controller would have to trigger can't be waited for
+-- why a reading can't be waited for: -214 if the controller, which would wait, would have to trigger it
 abbrev pub read_fault : List ScanAct → Option Code
 read_fault log = if same_source (source log) Bus then Some TriggerDeadlock else None
 
--- whether an act counts behind those that count
+-- whether an act counts, after those that count
 abbrev pub counts : List ScanAct → ScanAct → Bool
 counts log (Input channel microvolts) = is_channel channel
 counts log (Configure setting) = is_none (setting_fault log setting)
@@ -54,7 +59,7 @@ counts log (Trigger source) = is_none (trigger_fault log source)
 counts log Sample = is_scanning (state log)
 counts log _ = true
 
--- the acts that count, of all that happened
+-- the acts that count, of all acts
 abbrev pub kept : List ScanAct → List ScanAct
 kept [] = []
 kept (act ∷ acts) = if counts (kept acts) act then act ∷ kept acts else kept acts

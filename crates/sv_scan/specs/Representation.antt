@@ -1,4 +1,4 @@
--- What is true of all that the scanner holds.
+-- What is always true of what the scanner keeps.
 use Rattle.std.specs.Prelude.{◌≡◌, ℕ, ◌*◌, ◌==◌, ◌≤◌, ℤ, pos, int_le, unsigned_abs, Bool, true, false, List, length, Option, Some, None}
 use Rattle.std.specs.List.{list_all}
 use Rattle.sv_scan.specs.declared.setting.Setting.TheVariants.{Count}
@@ -12,7 +12,7 @@ use Rattle.sv_scan.specs.Setting.{is_possible}
 use Rattle.sv_scan.specs.Scan.{state_by, is_bounded}
 use Rattle.sv_scan.specs.Stands.{Run, Contents}
 
--- the state of a measurement behind so many samples; idle without one
+-- the state of a measurement after so many samples; idle without one
 abbrev pub run_state : Option Run → ℕ → State
 run_state None samples = Idle
 run_state (Some run) samples = state_by run.triggers samples (length run.channels) run.scans
@@ -22,20 +22,21 @@ abbrev pub run_complete : Option Run → ℕ → Bool
 run_complete None samples = false
 run_complete (Some run) samples = samples == run.scans * length run.channels
 
--- A measurement has a list that may be scanned, no more scans than there may be, no more triggers than scans, and no more samples than
--- its triggered scans have.
+-- A measurement has a legal scan list, at most 16 scans, at most as many triggers as scans, and at most as many samples as its triggered
+-- scans have channels.
 pub record IsRun (run : Run) (samples : ℕ) : Type 0 where
   pub channels : is_channel_list run.channels ≡ true
   pub scans : run.scans ≤ most_scans
   pub triggers : run.triggers ≤ run.scans
   pub read : samples ≤ run.triggers * length run.channels
 
+-- The same if there is a measurement; without one there are no samples.
 abbrev pub IsRunOf : Option Run → ℕ → Type 0
 IsRunOf None samples = samples ≡ 0
 IsRunOf (Some run) samples = IsRun run samples
 
--- There are inputs of all channels and room for all readings; list, monitor, range, limits, count and measurement are legal, and no
--- reading is beyond 1,000 V.
+-- There are inputs of all channels and room for all readings. Scan list, monitored channel, range, limits, count and measurement are legal,
+-- and no reading is beyond 1,000 V.
 pub record IsValid (contents : Contents) (capacity : ℕ) : Type 0 where
   pub inputs : length contents.inputs ≡ channel_count
   pub room : most_readings ≤ capacity
@@ -49,7 +50,7 @@ pub record IsValid (contents : Contents) (capacity : ℕ) : Type 0 where
   pub run : IsRunOf contents.run (length contents.readings)
   pub readings : list_all is_bounded contents.readings ≡ true
 
--- the contents, by their parts
+-- the contents, of the fields that keep them
 abbrev pub contents_of : List ℤ → Settings → Option Run → List Reading → Touched → Contents
 contents_of inputs settings run readings touched = record {
   inputs = inputs;

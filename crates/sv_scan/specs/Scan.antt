@@ -1,4 +1,4 @@
--- The trigger state and the readings (SCPI-1999, volume 2, chapter 24), by counts over the acts that count, which are read from the newest.
+-- The trigger state and the readings (SCPI-1999, volume 2, chapter 24), by counts over the acts that count, the newest first.
 use Rattle.std.specs.Prelude.{ℕ, ◌-◌, ◌*◌, ◌%◌, ◌==◌, ℤ, neg_ℤ, int_lt, nat_le, unsigned_abs, Bool, true, false, List, [], ◌∷◌, ◌++◌, length, filter, Option, Some, None, slice_get, slice_index_or, if◌then◌else◌}
 use Rattle.sv_errors.specs.Limits.{most_microvolts}
 use Rattle.std.specs.Option.{option_map_or}
@@ -11,45 +11,46 @@ use Rattle.sv_scan.specs.declared.acts.ScanAct.{ScanAct}
 use Rattle.sv_scan.specs.declared.acts.ScanAct.TheVariants.{Init, Abort, Reset, Trigger, Sample}
 use Rattle.sv_scan.specs.Setting.{scan_list, count, range, input}
 
--- what begins a measurement or ends it
+-- whether the newest act begins or ends a measurement
 abbrev pub starts_or_ends : List ScanAct → Bool
 starts_or_ends = elim [ Init ∷ log ↦ true | Abort ∷ log ↦ true | Reset ∷ log ↦ true | _ ↦ false ]
 
--- the acts in front of the newest of these, where it was an initiation
+-- the acts before the initiation of the measurement; `None` if it was aborted or reset since, or there was none
 abbrev pub before_init : List ScanAct → Option (List ScanAct)
 before_init log = elim (newest starts_or_ends log) [ Init ∷ before ↦ Some before | _ ↦ None ]
 
--- how many triggers and samples came since
+-- how many triggers came since
 abbrev pub triggers : List ScanAct → ℕ
 triggers log = length (filter (elim [ Trigger source ↦ true | _ ↦ false ]) (since starts_or_ends log))
 
+-- how many samples came since
 abbrev pub samples : List ScanAct → ℕ
 samples log = length (filter (elim [ Sample ↦ true | _ ↦ false ]) (since starts_or_ends log))
 
--- the state of a measurement, by how many triggers and samples it had, how many channels its list has, and how many scans are wanted
+-- the state of a measurement after so many triggers and samples, of so many channels and scans
 abbrev pub state_by : ℕ → ℕ → ℕ → ℕ → State
 state_by triggers samples channels scans =
     if samples == scans * channels then Idle else if samples == triggers * channels then Waiting else Scanning
 
--- the state: that of the measurement since the last initiation, whose list and count are those of that moment; idle without one
+-- the state: that of the measurement since its initiation, with scan list and count as they were then; idle without one
 abbrev pub state : List ScanAct → State
 state log =
     option_map_or (λ before. state_by (triggers log) (samples log) (length (scan_list before)) (count before)) (before_init log) Idle
 
--- a voltage as it reads in a range
+-- the reading of a voltage in a range: the voltage, or an overload beyond the range
 abbrev pub reading_in : ℤ → ℤ → Reading
 reading_in range value = if int_lt range value then Over else if int_lt value (neg_ℤ range) then Under else Value value
 
--- whether a reading has no voltage beyond 1,000 V in magnitude
+-- whether a reading is no voltage beyond 1,000 V in magnitude
 abbrev pub is_bounded : Reading → Bool
 is_bounded (Value microvolts) = nat_le (unsigned_abs microvolts) most_microvolts
 is_bounded _ = true
 
--- the channel of the sample that has so many before it: they go round the list
+-- the channel of the sample after so many others: the list is read over and over
 abbrev pub channel_at : List ℕ → ℕ → ℕ
 channel_at channels before = slice_index_or channels (before % length channels) 0
 
--- what a sample reads behind these acts: the channel whose turn it is, with its input and the range as they stand there
+-- the reading of a sample after these acts: the next channel, with its input and the range as they are then
 abbrev pub reading : List ScanAct → Reading
 reading log = reading_in (range log) (input (channel_at (option_map_or scan_list (before_init log) []) (samples log)) log)
 
@@ -59,10 +60,10 @@ readings [] = []
 readings (Sample ∷ log) = readings log ++ reading log ∷ []
 readings (act ∷ log) = if starts_or_ends (act ∷ log) then [] else readings log
 
--- the newest of them
+-- the newest of them; `None` if there is none
 abbrev pub last_reading : List ScanAct → Option Reading
 last_reading log = slice_get (readings log) (length (readings log) - 1)
 
--- whether the readings are valid: each channel of each scan was read
+-- whether the readings are complete: each channel of each scan was read
 abbrev pub is_complete : List ScanAct → Bool
 is_complete log = option_map_or (λ before. samples log == count before * length (scan_list before)) (before_init log) false

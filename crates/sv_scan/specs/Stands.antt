@@ -1,4 +1,4 @@
--- What the scanner holds, and the acts that it stands for.
+-- What the scanner keeps, and which acts it stands for.
 use Rattle.std.specs.Prelude.{◌≡◌, ℕ, ◌-◌, ℤ, pos, Bool, true, List, Option, slice_index_or}
 use Rattle.std.specs.Prelude.{option_map}
 use Rattle.sv_scan.specs.declared.setting.Reading.{Reading}
@@ -11,17 +11,17 @@ use Rattle.sv_scan.specs.Scan.{before_init, triggers, readings}
 use Rattle.sv_scan.specs.Counted.{kept}
 use Rattle.sv_scan.specs.Touched.{IsTouched}
 
--- a measurement: its list and its count, fixed when it was initiated, and how many triggers it had
+-- a measurement: its scan list and count, as they were when it was initiated, and how many triggers it had
 pub record Run : Type 0 where
   pub channels : List ℕ
   pub scans : ℕ
   pub triggers : ℕ
 
--- the measurement since the last initiation
+-- the measurement since the last initiation; `None` if it was aborted or reset, or there was none
 abbrev pub run : List ScanAct → Option Run
 run log = option_map (λ before. record { channels = scan_list before; scans = count before; triggers = triggers log }) (before_init log)
 
--- what the scanner holds
+-- what the scanner keeps
 pub record Contents : Type 0 where
   pub inputs : List ℤ
   pub list : List ℕ
@@ -36,7 +36,7 @@ pub record Contents : Type 0 where
   pub readings : List Reading
   pub touched : Touched
 
--- Each thing that it holds is what a search of the acts that count finds.
+-- Each part is what a search of the acts that count finds.
 pub record Holds (contents : Contents) (log : List ScanAct) : Type 0 where
   pub inputs : (channel : ℕ) → is_channel channel ≡ true → slice_index_or contents.inputs (channel - 1) (pos 0) ≡ input channel log
   pub list : contents.list ≡ scan_list log
@@ -51,6 +51,6 @@ pub record Holds (contents : Contents) (log : List ScanAct) : Type 0 where
   pub readings : contents.readings ≡ readings log
   pub touched : IsTouched contents.touched log
 
--- What it holds stands for all that happened, of which some counts.
+-- What it keeps stands for all acts, of which some count.
 abbrev pub StandsFor : Contents → List ScanAct → Type 0
 StandsFor contents acts = Holds contents (kept acts)

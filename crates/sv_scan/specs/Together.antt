@@ -1,4 +1,4 @@
--- The settings, all together: what they are, and what setting one of them makes of them.
+-- All settings together, and what setting one of them changes.
 use Rattle.std.specs.Prelude.{◌≡◌, List}
 use Rattle.sv_scan.specs.declared.acts.ScanAct.{ScanAct}
 use Rattle.sv_scan.specs.declared.setting.Setting.{Setting}
@@ -6,7 +6,7 @@ use Rattle.sv_scan.specs.declared.setting.Setting.TheVariants.{List as SetList, 
 use Rattle.sv_scan.specs.declared.settings.Settings.{Settings}
 use Rattle.sv_scan.specs.Setting.{least_range, scan_list, monitor, range, upper, lower, limits, source, count}
 
--- Each is what the acts say.
+-- Each setting is what the acts say.
 pub record AreOf (settings : Settings) (log : List ScanAct) : Type 0 where
   pub list : settings.list ≡ scan_list log
   pub monitor : settings.monitor ≡ monitor log
@@ -17,7 +17,7 @@ pub record AreOf (settings : Settings) (log : List ScanAct) : Type 0 where
   pub source : settings.source ≡ source log
   pub count : settings.count ≡ count log
 
--- The one that is given has its value now, and each other is as it was.
+-- The setting that is given has its value now; the others are as before.
 abbrev pub IsSet : Setting → Settings → Settings → Type 0
 IsSet (SetList channels) old new = new ≡ record old { list = channels }
 IsSet (Monitor channel) old new = new ≡ record old { monitor = channel }

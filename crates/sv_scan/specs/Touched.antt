@@ -4,7 +4,7 @@ use Rattle.sv_scan.specs.declared.touched.Touched.{Touched}
 use Rattle.sv_scan.specs.declared.acts.ScanAct.{ScanAct}
 use Rattle.sv_scan.specs.Condition.{operation, questionable, limit}
 
--- Where a field is false, that word is what it was before the newest act. Of a new scanner nothing is said.
+-- If a field is false, that word is what it was before the newest act. Nothing is said of a new scanner.
 abbrev pub IsTouched : Touched → List ScanAct → Type 0
 IsTouched touched [] = ⊤
 IsTouched touched (act ∷ log) = (touched.operation ≡ false → operation (act ∷ log) ≡ operation log)

@@ -1,12 +1,12 @@
-//! What happens to the scanner.
+//! The acts of the scanner.
 
 use crate::setting::Setting;
 use sv_errors::{Code, Source};
 
-/// What happens to the scanner.
+/// An act of the scanner.
 #[derive(Clone, Copy, Debug)]
 pub enum ScanAct {
-    /// The voltage of a channel's input, in microvolts.
+    /// The input of a channel becomes this voltage, in microvolts.
     Input(u8, i64),
     /// A setting is changed.
     Configure(Setting),
@@ -22,10 +22,10 @@ pub enum ScanAct {
     Sample,
 }
 
-/// What it tells of that.
+/// The answer to an act of the scanner.
 #[derive(Clone, Copy, Debug, PartialEq, Eq)]
 pub enum ScanAnswer {
-    /// There is nothing to tell.
+    /// The act has no answer.
     Done,
     /// The act was done, or refused with this error.
     Answered(Result<(), Code>),

@@ -12,7 +12,7 @@ use std::alloc::Allocator;
 use sv_errors::Source;
 
 impl<A: Allocator> Scanner<A> {
-    /// The channels that a scan reads, in their order; at least one.
+    /// The channels of a scan, in order; at least one.
     pub fn list(&self) -> &[u8]
         ensures answer { (acts : List ScanAct) → StandsFor self.now acts
             → result.now ≡ scan_list_of (kept acts) }
@@ -21,7 +21,7 @@ impl<A: Allocator> Scanner<A> {
         self.settings.list.channels()
     }
 
-    /// The channel whose live input is compared with the limits.
+    /// The monitored channel, whose input is compared with the limits.
     pub fn monitor(&self) -> u8
         ensures answer { (acts : List ScanAct) → StandsFor self.now acts
             → result ≡ monitor_of (kept acts) }
@@ -57,7 +57,7 @@ impl<A: Allocator> Scanner<A> {
         self.settings.lower
     }
 
-    /// Whether the limits count.
+    /// Whether the limits are on.
     pub fn limits(&self) -> bool
         ensures { (acts : List ScanAct) → StandsFor self.now acts
             → result ≡ limits_of (kept acts) }

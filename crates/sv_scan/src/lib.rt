@@ -1,8 +1,7 @@
-//! The scanner: input voltages, settings, the trigger state, the readings of a scan, and the
-//! conditions that the status registers watch (SCPI-1999: chapter 20, and chapter 24 of volume 2).
+//! The scanner: inputs, settings, the trigger state, the readings of a scan, and the conditions
+//! that the status registers watch (SCPI-1999: chapter 20, and chapter 24 of volume 2).
 //!
-//! Voltages are in microvolts. [`Scanner::new`] takes the memory of all readings, and no other call
-//! takes any.
+//! Voltages are in microvolts. Only [`Scanner::new`] allocates: the memory of all readings.
 #![tactic(auto)]
 
 mod acts;

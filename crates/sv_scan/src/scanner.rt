@@ -58,8 +58,11 @@ impl<A: Allocator> Model for Scanner<A> {
 }
 
 impl<A: Allocator> Scanner<A> {
-    /// A scanner whose settings are their defaults and whose inputs are 0. Takes the memory of all
-    /// readings.
+    /// A scanner whose settings are their defaults and whose inputs are 0. It allocates the memory
+    /// of all readings.
+    ///
+    /// # Errors
+    /// If memory is refused.
     pub fn new(alloc: A) -> Result<Scanner<A>, AllocError>
         ensures { IfOk result (λ scanner. StandsFor scanner []) }
     {
@@ -76,9 +79,8 @@ impl<A: Allocator> Scanner<A> {
         })
     }
 
-    /// The voltage of a channel's input is this from now on, in microvolts. It touches no condition
-    /// where the channel isn't the monitored one. A channel that there isn't has no input:
-    /// nothing changes.
+    /// Sets the input of a channel to this voltage, in microvolts. Nothing changes if there is no
+    /// such channel. No condition is touched if it isn't the monitored one.
     pub fn input(&mut self, channel: u8, microvolts: i64)
         ensures stands { (acts : List ScanAct) → StandsFor self.old acts
             → StandsFor self.new (ScanAct.Input channel microvolts ∷ acts) }
@@ -98,8 +100,8 @@ impl<A: Allocator> Scanner<A> {
     /// Changes a setting.
     ///
     /// # Errors
-    /// [`Code::DataOutOfRange`] where it may not have this value, then [`Code::SettingsConflict`]
-    /// where it can't be changed now; then nothing changes.
+    /// [`Code::DataOutOfRange`] if it may not have this value, then [`Code::SettingsConflict`] if
+    /// it can't be changed now. Nothing changes.
     pub fn configure(&mut self, setting: Setting) -> Result<(), Code>
         ensures stands { (acts : List ScanAct) → StandsFor self.old acts
             → StandsFor self.new (ScanAct.Configure setting ∷ acts) }
@@ -121,11 +123,11 @@ impl<A: Allocator> Scanner<A> {
         }
     }
 
-    /// Whether [`Scanner::configure`] would change a setting so.
+    /// Whether [`Scanner::configure`] would change a setting.
     ///
     /// # Errors
-    /// [`Code::DataOutOfRange`] where it may not have this value, then [`Code::SettingsConflict`]
-    /// where it can't be changed now.
+    /// The error that it would answer: [`Code::DataOutOfRange`] if the setting may not have this
+    /// value, then [`Code::SettingsConflict`] if it can't be changed now.
     pub fn may_set(&self, setting: &Setting) -> Result<(), Code>
         ensures answer { (acts : List ScanAct) → StandsFor self.now acts
             → result ≡ refused_by (setting_fault (kept acts) setting.now) }
@@ -140,10 +142,10 @@ impl<A: Allocator> Scanner<A> {
         Ok(())
     }
 
-    /// Initiates a measurement, with the scan list and the count as they are set now.
+    /// Initiates a measurement, with scan list and count as they are now.
     ///
     /// # Errors
-    /// [`Code::InitIgnored`] where one is under way; then nothing changes.
+    /// [`Code::InitIgnored`] if a measurement is under way. Nothing changes.
     pub fn init(&mut self) -> Result<(), Code>
         ensures stands { (acts : List ScanAct) → StandsFor self.old acts
             → StandsFor self.new (ScanAct.Init ∷ acts) }
@@ -169,7 +171,7 @@ impl<A: Allocator> Scanner<A> {
     /// Whether [`Scanner::init`] would initiate a measurement.
     ///
     /// # Errors
-    /// [`Code::InitIgnored`] where one is under way.
+    /// [`Code::InitIgnored`] if a measurement is under way.
     pub fn may_init(&self) -> Result<(), Code>
         ensures { (acts : List ScanAct) → StandsFor self.now acts
             → result ≡ refused_by (init_fault (kept acts)) }
@@ -183,7 +185,7 @@ impl<A: Allocator> Scanner<A> {
     /// Whether a reading can be waited for.
     ///
     /// # Errors
-    /// [`Code::TriggerDeadlock`] where triggers come from the controller, which would be waiting.
+    /// [`Code::TriggerDeadlock`] if triggers come from the controller, which would be waiting.
     pub fn may_read(&self) -> Result<(), Code>
         ensures { (acts : List ScanAct) → StandsFor self.now acts
             → result ≡ refused_by (read_fault (kept acts)) }
@@ -194,7 +196,7 @@ impl<A: Allocator> Scanner<A> {
         Ok(())
     }
 
-    /// Ends the measurement; its readings are gone.
+    /// Ends the measurement, and drops its readings.
     pub fn abort(&mut self)
         ensures { (acts : List ScanAct) → StandsFor self.old acts
             → StandsFor self.new (ScanAct.Abort ∷ acts) }
@@ -226,7 +228,7 @@ impl<A: Allocator> Scanner<A> {
     /// A trigger from this source: the next scan begins.
     ///
     /// # Errors
-    /// [`Code::TriggerIgnored`] where none is waited for, or one from another source; then nothing
+    /// [`Code::TriggerIgnored`] if no trigger is waited for, or one from another source. Nothing
     /// changes.
     pub fn trigger(&mut self, source: Source) -> Result<(), Code>
         ensures stands { (acts : List ScanAct) → StandsFor self.old acts
@@ -255,11 +257,10 @@ impl<A: Allocator> Scanner<A> {
         }
     }
 
-    /// Whether a trigger from this source is waited for, so that [`Scanner::trigger`] would begin
-    /// the next scan.
+    /// Whether [`Scanner::trigger`] with this source would begin the next scan.
     ///
     /// # Errors
-    /// [`Code::TriggerIgnored`] where none is waited for, or one from another source.
+    /// [`Code::TriggerIgnored`] if no trigger is waited for, or one from another source.
     pub fn may_trigger(&self, source: Source) -> Result<(), Code>
         ensures answer { (acts : List ScanAct) → StandsFor self.now acts
             → result ≡ refused_by (trigger_fault (kept acts) source) }
@@ -272,8 +273,8 @@ impl<A: Allocator> Scanner<A> {
         Ok(())
     }
 
-    /// Reads the next channel of the scan, and tells whether one was read: outside of a scan
-    /// nothing changes.
+    /// Reads the next channel of the scan, and returns whether one was read. Outside a scan nothing
+    /// changes.
     pub fn sample(&mut self) -> bool
         ensures stands { (acts : List ScanAct) → StandsFor self.old acts
             → StandsFor self.new (ScanAct.Sample ∷ acts) }
@@ -297,7 +298,7 @@ impl<A: Allocator> Scanner<A> {
         true
     }
 
-    /// What the trigger system does.
+    /// The state of the trigger system.
     pub fn state(&self) -> State
         ensures value { result ≡ run_state self.now.run (length self.now.readings) }
         ensures answer { (acts : List ScanAct) → StandsFor self.now acts
@@ -306,7 +307,7 @@ impl<A: Allocator> Scanner<A> {
         state_in(&self.run, self.readings.len())
     }
 
-    /// The newest reading of the measurement, where there is one.
+    /// The newest reading of the measurement; `None` if there is none.
     fn last_reading(&self) -> Option<Reading>
         ensures { (acts : List ScanAct) → StandsFor self.now acts → result ≡ last_of (kept acts) }
     {
@@ -345,10 +346,10 @@ impl<A: Allocator> Scanner<A> {
     }
 
     /// The readings of the last measurement, oldest first: scan by scan, each in the order of its
-    /// list; as by [`Scanner::readings_so_far`].
+    /// list.
     ///
     /// # Errors
-    /// [`Code::DataCorruptOrStale`] where they aren't complete, or were aborted.
+    /// [`Code::DataCorruptOrStale`] if they aren't complete, or were aborted.
     pub fn readings(&self) -> Result<&[Reading], Code>
         ensures { (acts : List ScanAct) → StandsFor self.now acts
             → MatchResult result (λ found. (completes (kept acts) ≡ true)
@@ -362,10 +363,8 @@ impl<A: Allocator> Scanner<A> {
         }
     }
 
-    /// The readings of the measurement that is under way or was the last, oldest first, whether
-    /// they are complete or not. There are at most
-    /// [`MOST_READINGS`], and no voltage of them is beyond 1,000 V in
-    /// magnitude.
+    /// The readings of the measurement that is under way or was the last, oldest first, complete or
+    /// not. There are at most [`MOST_READINGS`], and none is a voltage beyond 1,000 V in magnitude.
     pub fn readings_so_far(&self) -> &[Reading]
         ensures answer { (acts : List ScanAct) → StandsFor self.now acts
             → result.now ≡ readings_of (kept acts) }

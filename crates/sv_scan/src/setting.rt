@@ -1,25 +1,25 @@
-//! What can be set, and what a scan gives.
+//! Settings, trigger states and readings.
 
 use crate::scan_list::ScanList;
 use sv_errors::Source;
 
-/// A setting and its value. Each but [`Setting::Monitor`] and those of the limits can be changed in
-/// the idle state alone.
+/// A setting and its value. All but [`Setting::Monitor`] and those of the limits can only be
+/// changed in the idle state.
 #[derive(Clone, Copy, Debug)]
 pub enum Setting {
-    /// The channels that a scan reads, in their order; at least one. At first
+    /// The channels of a scan, in order; at least one. At first
     /// channel 1.
     List(ScanList),
-    /// The channel whose live input is compared with the limits. At first 1.
+    /// The monitored channel, whose input is compared with the limits. At first 1.
     Monitor(u8),
-    /// The range, in microvolts, 0 to 100 V: the least of 1, 10 and 100 V that isn't below it. At
-    /// first 10 V.
+    /// The range, in microvolts, 0 to 100 V: the lowest of 1, 10 and 100 V that isn't below it is
+    /// set. At first 10 V.
     Range(i64),
     /// The upper limit, in microvolts, up to 1,000 V in magnitude. At first 1,000 V.
     Upper(i64),
     /// The lower limit, in microvolts, up to 1,000 V in magnitude. At first -1,000 V.
     Lower(i64),
-    /// Whether the limits count. At first they don't.
+    /// Whether the limits are on. At first they are off.
     Limits(bool),
     /// Where triggers come from. At first [`Source::Immediate`].
     Source(Source),
@@ -28,24 +28,24 @@ pub enum Setting {
     Count(u8),
 }
 
-/// What the trigger system does (SCPI-1999, volume 2, chapter 24).
+/// The state of the trigger system (SCPI-1999, volume 2, chapter 24).
 #[derive(Clone, Copy, Debug, PartialEq, Eq)]
 pub enum State {
     /// No measurement is under way.
     Idle,
-    /// The next scan waits for its trigger.
+    /// A trigger is waited for.
     Waiting,
-    /// A scan was triggered and isn't complete.
+    /// A scan is under way.
     Scanning,
 }
 
-/// What one sample gives.
+/// The reading of one sample.
 #[derive(Clone, Copy, Debug, PartialEq, Eq)]
 pub enum Reading {
     /// A voltage within the range, in microvolts.
     Value(i64),
     /// A voltage above the range.
     Over,
-    /// A voltage below the range's negative.
+    /// A voltage below the negative range.
     Under,
 }

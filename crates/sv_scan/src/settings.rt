@@ -1,4 +1,4 @@
-//! The settings, all together.
+//! All settings together.
 
 use crate::possible::least_range;
 use crate::scan_list::ScanList;

@@ -22,8 +22,8 @@ pub struct Touched {
 }
 
 impl<A: Allocator> Scanner<A> {
-    /// Which condition words the newest act that counts may have changed. An act that is refused
-    /// changes none of them, and doesn't count.
+    /// Which condition words the last effective act may have changed. A refused act is not
+    /// effective, and changes none.
     pub fn touched(&self) -> Touched
         ensures value { result ≡ self.now.touched }
         ensures stands { (acts : List ScanAct) → StandsFor self.now acts

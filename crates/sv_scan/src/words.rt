@@ -29,7 +29,7 @@ pub struct Conditions {
     /// Bit 0 the last reading is an overload. Bit 9, the summary of the register of limits, is 0.
     pub questionable: u16,
     /// With limits on: bit 0 the last reading is below the lower limit, bit 1 above the upper one,
-    /// bit 2 the live input of the monitored channel is outside of them.
+    /// bit 2 the input of the monitored channel is outside them.
     pub limit: u16,
 }
 

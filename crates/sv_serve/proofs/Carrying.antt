@@ -123,7 +123,7 @@ pub read_by : {W : Type 0} (hears : W → Heard → W → Type 0) (May : Subject
 read_by hears May config c may read_may most (Got bytes) wire before between after log was heard is applied =
     let channel_log = some_told (device_acts log) in
     answer_keeps hears May config (WasRead c most (Got bytes)) read_may
-        (Bytes c bytes) wire before between after channel_log.0 log was channel_log.1
+    (Bytes c bytes) wire before between after channel_log.0 log was channel_log.1
     heard (ap (λ m. m.wire) is) (ap (λ m. m.history) is) applied refl refl (λ d. refl) (λ p b a e. absurd cc) (λ n e. absurd cc)
     (λ d e. absurd cc)
     (λ trace d. step_read c most bytes trace d (of d log) channel_log.0)
@@ -266,7 +266,7 @@ write_by hears May config (Conn c) may bytes (Got n) wire before between after l
     (Conn c) n) wire before between after channel_log log was tells_so
     heard (ap (λ m. m.wire) is) (ap (λ m. m.history) is) applied refl refl (λ d. refl) (written_fits (Conn c) bytes
     (Got n) config before.history (log, channel_log, was, tells_so, waits)) (λ n e. absurd cc)
-        (λ d e. written_else (Conn c) bytes (Got n) d e)
+    (λ d e. written_else (Conn c) bytes (Got n) d e)
     (λ trace d. step_took c n bytes trace d (of d log) channel_log few
     (λ e. waits ∙ ap (λ (m : ℕ). waiting (of m log)) (eqb-true c d e)))
 write_by hears May config (Intr c) may bytes (Got n) wire before between after log channel_log was tells_so waits few heard is applied =
@@ -274,7 +274,7 @@ write_by hears May config (Intr c) may bytes (Got n) wire before between after l
     (Intr c) n) wire before between after channel_log log was tells_so
     heard (ap (λ m. m.wire) is) (ap (λ m. m.history) is) applied refl refl (λ d. refl) (written_fits (Intr c) bytes
     (Got n) config before.history (log, channel_log, was, tells_so, waits)) (λ n e. absurd cc)
-        (λ d e. written_else (Intr c) bytes (Got n) d e)
+    (λ d e. written_else (Intr c) bytes (Got n) d e)
     (λ trace d. step_sent c n bytes trace d (of d log) channel_log few
     (λ e. waits ∙ ap (λ (m : ℕ). channel_waiting m channel_log) (eqb-true c d e)))
 write_by hears May config (Conn c) may bytes Pending wire before between after log channel_log was tells_so waits few heard is same =

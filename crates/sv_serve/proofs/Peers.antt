@@ -131,7 +131,7 @@ rings hears May config c may dial (Got all) wire before between after log was wa
     tt tt tt (λ p b a e. absurd cc) None (adds_nothing None) (λ n e. none_hung n e) (λ n e. absurd cc) (ap (λ m. m.history) notes ∙ ap
     (λ m. m.history) is) refl (λ d. refl) (λ d e. absurd cc)
     (λ channel_log. step_dialed c dial (WasDialed c dial (Got all)) log channel_log wanted (λ d. refl) (λ d. refl) (λ port. refl)
-        (λ d. refl)) applied
+    (λ d. refl)) applied
 rings hears May config c may dial Pending wire before between after log was wanted heard is notes =
     quiet_keeps hears May config None before after (quiet_one hears May None (WasDialed c dial Pending) may wire before after heard
     (ap (λ m. m.wire) notes ∙ ap (λ m. m.wire) is) (ap (λ m. m.history) notes ∙ ap (λ m. m.history) is)
@@ -157,7 +157,7 @@ picks hears May config c may dial (Got all) wire before between after log was wa
     tt tt tt (λ p b a e. absurd cc) None (adds_nothing None) (λ n e. none_hung n e) (λ n e. absurd cc) (ap (λ m. m.history) is) refl
     (λ d. refl) (λ d e. absurd cc)
     (λ channel_log. step_dialed c dial (PeerAnswered c (Got all)) log channel_log wanted (λ d. refl) (λ d. refl) (λ port. refl)
-        (λ d. refl)) applied
+    (λ d. refl)) applied
 picks hears May config c may dial Pending wire before between after log was wanted heard is same =
     only_heard hears May config (PeerAnswered c Pending) may wire before between after heard is
     (refl, (λ port. refl), (λ port. refl), (λ port. refl)) (λ d. refl) (λ p b a e. absurd cc) (λ n e. absurd cc) same
@@ -169,7 +169,7 @@ picks hears May config c may dial Failed wire before between after log was wante
     q.silent q.calm q.unwritten (λ p b a e. absurd cc) (Some c) q.adds (λ n e. eq-eqb c n (hung_same c n e)) (λ n e. absurd cc)
     (q.same ∙ ap (λ m. m.history) is) refl (λ d. refl) (λ d e. absurd cc)
     (λ channel_log. step_else (Dialed c false) (PeerAnswered c Failed) log channel_log (λ d. refl) refl (λ port. refl) (λ d. refl)
-        (λ port. refl)) applied
+    (λ port. refl)) applied
 
 pub calls_for : {W : Type 0} (hears : W → Heard → W → Type 0) (May : Subject
     → Type 0) (config : Config) (c : ℕ) (may : May OfNone) (wanted called : Option Dial)

@@ -127,9 +127,13 @@ open_suits c role config at (lt, (log, was, is), lower) =
 pub bytes_suit : {W : Type 0} (c room : ℕ) (bytes : List ℕ) (config : Config) (at : DriverView W) → c < 16 → 0 < room
     → length bytes ≤ min room longest_piece → HasRoom c config at room → IsSuited (Bytes c bytes) config at
 bytes_suit c n bytes config at lt some few (log, was, is) =
-    let channel_log = some_told (device_acts log) in
-    (log, channel_log.0, was, channel_log.1,
-        (lt, subst (λ (m : ℕ). 0 < m) is some, subst (λ (m : ℕ). length bytes ≤ m) is (grind (arith, few))))
+    let channel_log = some_told (device_acts log) in (
+      log,
+      channel_log.0,
+      was,
+      channel_log.1,
+      (lt, subst (λ (m : ℕ). 0 < m) is some, subst (λ (m : ℕ). length bytes ≤ m) is (grind (arith, few))),
+    )
 
 pub close_suits : {W : Type 0} (port : Port) (config : Config) (at : DriverView W) → IsOpen port config at true
     → IsSuited (Close port) config at

@@ -1,4 +1,4 @@
--- What the server answers at a moment, by what happened to it.
+-- What the server answers to the driver's queries at a moment, by its history.
 use Rattle.std.specs.Prelude.{ℕ, ◌<◌, not, Bool, true, false, List, Option, Some, None}
 use Rattle.sv_history.specs.declared.event.Config.{Config}
 use Rattle.sv_history.specs.declared.event.Dial.{Dial}
@@ -11,39 +11,39 @@ use Rattle.sv_history.specs.History.{is_port_shut, IsLogOf}
 use Rattle.sv_history.specs.Queries.{Answered, WaitOn, IsUnused}
 use Rattle.sv_serve.specs.DriverView.{DriverView}
 
--- whether a connection or an interrupt channel is open
+-- The answer says whether a connection or an interrupt channel is open.
 abbrev pub IsOpen : {W : Type 0} → Port → Config → DriverView W → Bool → Type 0
 IsOpen port config at answer = Answered (λ log. not (is_port_shut port log)) config at.history answer
 
--- for how many bytes a connection has room
+-- The answer is for how many bytes a connection has room.
 abbrev pub HasRoom : {W : Type 0} → ℕ → Config → DriverView W → ℕ → Type 0
 HasRoom c config at answer = Answered (λ log. room (of c log)) config at.history answer
 
--- whether a call is there to be taken
+-- The answer says whether a connection has a call to take.
 abbrev pub IsReady : {W : Type 0} → ℕ → Config → DriverView W → Bool → Type 0
 IsReady c config at answer = Answered (λ log. not (is_idle (of c log))) config at.history answer
 
--- whether nothing more is taken in on it
+-- The answer says whether a record that is too long came on a connection, so that nothing more is taken in.
 abbrev pub IsOverlong : {W : Type 0} → ℕ → Config → DriverView W → Bool → Type 0
 IsOverlong c config at answer = Answered (λ log. is_overlong (of c log)) config at.history answer
 
--- whether it only waits to be closed
+-- The answer says whether a connection can only be closed.
 abbrev pub IsFaulted : {W : Type 0} → ℕ → Config → DriverView W → Bool → Type 0
 IsFaulted c config at answer = Answered (λ log. is_faulted (of c log)) config at.history answer
 
--- whom it wants to be called
+-- The answer is where to connect the interrupt channel of a connection, if that is asked for.
 abbrev pub Wants : {W : Type 0} → ℕ → Config → DriverView W → Option Dial → Type 0
 Wants c config at answer = Answered (λ log. dial_of c log) config at.history answer
 
--- the bytes that wait
+-- These bytes wait to be sent on a port.
 abbrev pub Waits : {W : Type 0} → Port → Config → DriverView W → List ℕ → Type 0
 Waits port config at bytes = WaitOn port config at.history bytes
 
--- no connection of this number or above was ever open
+-- No connection of this number or above was ever opened.
 abbrev pub NoneUsed : {W : Type 0} → ℕ → Config → DriverView W → Type 0
 NoneUsed n config at = (log : List Act) × IsLogOf config at.history log × IsUnused n log
 
--- The lowest number of sixteen of which no connection is open, or none is.
+-- The lowest of the numbers 0 to 15 whose connection isn't open; `None` if all are.
 abbrev pub IsLowest : {W : Type 0} → Option ℕ → Config → DriverView W → Type 0
 IsLowest (Some c) config at = (c < 16) × IsOpen (Conn c) config at false × ((d : ℕ) → d < c → IsOpen (Conn d) config at true)
 IsLowest None config at = (d : ℕ) → d < 16 → IsOpen (Conn d) config at true

@@ -1,5 +1,5 @@
--- What a driver carries, over any number of sweeps: what its wire answered and what happened to its server are one, in order. Traces and
--- histories are read from the newest.
+-- What a driver carries, over any number of sweeps: the answers of its wire and the events of its server are the same, in order. Traces and
+-- histories have the newest first.
 use Rattle.std.specs.Prelude.{◌≡◌, ◌⊎◌, ℕ, ◌-◌, ◌≤◌, min, ◌==◌, Bool, true, false, List, [], ◌∷◌, ◌++◌, take, filter, flat_map, Option, Some, None, if◌then◌else◌, ⊤}
 use Rattle.sv_links.specs.Channels.{ChannelAct}
 use Rattle.sv_history.specs.declared.event.Config.{Config}
@@ -21,18 +21,20 @@ use Rattle.sv_serve.specs.Sweep.{Sweeps}
 use Rattle.sv_serve.specs.Timed.{is_timed, timed, handed}
 use Rattle.sv_serve.specs.Served.{Through, event_of, is_outer, IsServed}
 
--- Sweeps lead from one driver to another, each with the milliseconds that it was handed.
+-- Sweeps lead from one state of the driver to another, each with the milliseconds that it was given.
 abbrev pub Swept : {W : Type 0} → (W → Heard → W → Type 0) → List ℕ → DriverState W → DriverState W → Type 0
 Swept hears [] start now = now ≡ start
 Swept hears (ticks ∷ passed) start now = (between : DriverState _) × Swept hears passed start between × Steps
     (Sweeps hears ticks) between now
 
+-- whether two ports are the same
 abbrev pub is_same : Port → Port → Bool
 is_same (Conn c) (Conn d) = d == c
 is_same (Intr c) (Intr d) = d == c
 is_same _ _ = false
 
--- whether a port is opened by it, or a connection closed
+-- whether an answer of the wire begins the bytes of a port anew: its connection was accepted or closed, or its interrupt channel was
+-- connected
 abbrev pub begins : Port → Heard → Bool
 begins port (WasAccepted role (Some d) (Got all)) = is_same port (Conn d)
 begins port (WasDialed d dial (Got all)) = is_same port (Intr d)
@@ -40,22 +42,23 @@ begins port (PeerAnswered d (Got all)) = is_same port (Intr d)
 begins port (WasClosed (Conn d)) = is_same port (Conn d)
 begins _ _ = false
 
--- the bytes that were read on a port, or that the wire took for it
+-- the bytes that were read on a port
 abbrev pub read : Port → Heard → List ℕ
 read port (WasRead d most (Got bytes)) = if is_same port (Conn d) then bytes else []
 read _ _ = []
 
+-- the bytes that the wire took for a port
 abbrev pub taken : Port → Heard → List ℕ
 taken port (WasWritten other bytes (Got n)) = if is_same port other then take n bytes else []
 taken _ _ = []
 
--- those since it was opened, the oldest first
+-- those since the port began, the oldest first
 abbrev pub since : Port → (Heard → List ℕ) → List Heard → List ℕ
 since port bytes [] = []
 since port bytes (heard ∷ trace) = if begins port heard then [] else since port bytes trace ++ bytes heard
 
--- whether this ends a port: reading or writing failed there, or it is gone; or its channel's peer can't be reached, or its connection was
--- closed
+-- whether an answer ends a port: a read or write of it failed, or its peer is gone; of an interrupt channel also that its peer can't be
+-- reached, or that its connection was closed
 abbrev pub ends_port : Port → Heard → Bool
 ends_port (Conn c) (WasRead d most Failed) = d == c
 ends_port (Conn c) (WasProbed d drops Failed) = d == c
@@ -70,24 +73,24 @@ ClosesAtOnce next [] = ⊤
 ClosesAtOnce next (heard ∷ trace) = ((c : ℕ) → ends_port (Conn c) heard ≡ true
     → next ≡ Some (WasClosed (Conn c))) × ClosesAtOnce (Some heard) trace
 
--- Each answer is such, with those in front of it.
+-- This holds of each answer of a trace, with those before it.
 abbrev pub EachHeard : (Heard → List Heard → Type 0) → List Heard → Type 0
 EachHeard IsSuch [] = ⊤
 EachHeard IsSuch (heard ∷ trace) = IsSuch heard trace × EachHeard IsSuch trace
 
--- the newest of these is such
+-- This holds of the newest answer of a trace.
 abbrev pub Follows : (Heard → Bool) → List Heard → Type 0
 Follows is_such trace = (last : Heard) × (older : List Heard) × (trace ≡ last ∷ older) × (is_such last ≡ true)
 
--- So it was at a place of the history, when the wire had answered these.
+-- This held at some earlier moment of the history, when the wire had given exactly these answers.
 abbrev pub Once : (List PlainEvent → Type 0) → List PlainEvent → List Heard → Type 0
 Once IsSo history trace = (later earlier : List PlainEvent) × (history ≡ later ++ earlier)
     × (filter is_outer earlier ≡ flat_map event_of trace) × IsSo earlier
 
--- The wire's events are those that it answered, in order. Every byte that is read goes into its connection's stream, and every byte that
--- the wire takes comes out of what the history sends: in order, none lost, none invented, none twice. Each write hands over all that waits
--- then. A connection is closed next where it failed, and else where it was at fault and nothing waited on it; the socket of an interrupt
--- channel behind what ends it, or where it isn't open.
+-- The wire's events are exactly its answers, in order. Every byte that is read enters its connection's stream, and every byte that the wire
+-- takes comes out of what the history sends: in order, none lost, invented or doubled. Each write hands over all that waits. A connection
+-- is closed right after it failed, else only if it was at fault and nothing waited on it; the socket of an interrupt channel only after
+-- what ends it, or if the channel isn't open.
 pub record IsCarried (config : Config) (history : List PlainEvent) (trace : List Heard) : Type 0 where
   pub events : filter is_outer history ≡ flat_map event_of trace
   pub streams : (c : ℕ) → Answered (λ log. stream (of c log)) config history (since (Conn c) (read (Conn c)) trace)
@@ -102,9 +105,9 @@ pub record IsCarried (config : Config) (history : List PlainEvent) (trace : List
   pub lets_go : EachHeard (λ heard older. (c : ℕ) → heard ≡ WasClosed (Intr c) → Follows (ends_port (Intr c)) older ⊎ Once (λ earlier.
       (log : List Act) × IsLogOf config earlier log × (is_port_shut (Intr c) log ≡ true)) history older) trace
 
--- Each sweep goes on from what was carried before it, with its own part of the history and of the trace, and serves each connection there.
--- Behind it time has brought the milliseconds that were handed in, up to the end of the clock, and what of the scenario was due before each
--- and after the last one: no more, no less. The clock is to be within its range, no millisecond counted at the start.
+-- Each sweep continues what was carried before it, with its own part of history and trace, and serves each connection. After it, time has
+-- brought the milliseconds that sweeps were given, up to the end of the clock, and exactly the entries of the scenario that were due. This
+-- supposes a clock in range, and a driver that counted no millisecond at the start.
 abbrev pub InSweeps : {W : Type 0} (hears : W → Heard → W → Type 0) → Config → (start : DriverState W) (passed : List ℕ)
     (now : DriverState W)
     → Swept hears passed start now → List PlainEvent → List Heard → Type 0
@@ -115,7 +118,7 @@ InSweeps hears config start (ticks ∷ passed) now (between, swept, goes) histor
     × (config.clock ≤ last_clock → start.ticks ≡ 0 → IsScenario 0 start.ahead
     → filter is_timed history ≡ timed (min (handed (ticks ∷ passed)) (last_clock - config.clock)) start.ahead)
 
--- So it is after any number of sweeps of a driver whose server is new, over every wire.
+-- This holds after any number of sweeps of a driver whose server is new, over every wire.
 abbrev pub Carried : {W : Type 0} → (W → Heard → W → Type 0) → Type 0
 Carried hears = (config : Config) (passed : List ℕ) (start now : DriverState _) → StandsFor start.server config []
     → (swept : Swept hears passed start now) → (trace : List Heard) × (history : List PlainEvent) × Through hears trace start.wire now.wire

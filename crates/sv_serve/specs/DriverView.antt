@@ -1,4 +1,4 @@
--- What is seen of a driver at a moment, and the steps that lead from one moment to another one.
+-- The state of a driver at a moment, and steps from one moment to another.
 use Rattle.std.specs.Prelude.{◌≡◌, ℕ, zero, suc, List, Option}
 use Rattle.sv_history.specs.declared.event.Config.{Config}
 use Rattle.sv_history.specs.declared.event.Dial.{Dial}
@@ -6,7 +6,7 @@ use Rattle.sv_history.specs.Event.{PlainEvent}
 use Rattle.sv_server.specs.Server.State.{State, StandsFor}
 use Rattle.sv_replay.specs.declared.entry.Entry.{Entry}
 
--- What a driver has: a server, a wire, whom it called for the interrupt channel of each connection, the entries of the scenario that are
+-- The state of a driver: a server, a wire, whom it called for the interrupt channel of each connection, the entries of the scenario still
 -- to come, and how many milliseconds passed.
 pub record DriverState (W : Type 0) : Type 0 where
   pub server : State
@@ -15,7 +15,7 @@ pub record DriverState (W : Type 0) : Type 0 where
   pub ahead : List Entry
   pub ticks : ℕ
 
--- The same, with what happened to the server in its place: the newest event first.
+-- The same, with the history of the server in its place.
 pub record DriverView (W : Type 0) : Type 0 where
   pub wire : W
   pub history : List PlainEvent
@@ -23,11 +23,12 @@ pub record DriverView (W : Type 0) : Type 0 where
   pub ahead : List Entry
   pub ticks : ℕ
 
+-- a state, seen with this history
 abbrev pub driver_view : {W : Type 0} → DriverState W → List PlainEvent → DriverView W
 driver_view driving history =
     record { wire = driving.wire; history = history; called = driving.called; ahead = driving.ahead; ticks = driving.ticks }
 
--- nothing changes
+-- Nothing changes.
 abbrev pub Unchanged : {W : Type 0} → Config → DriverView W → DriverView W → Type 0
 Unchanged config before after = after ≡ before
 
@@ -37,12 +38,12 @@ abbrev pub ◌then◌ : {W : Type 0} → (Config → DriverView W → DriverView
     → Config → DriverView W → DriverView W → Type 0
 (first then next) config before after = (between : DriverView _) × first config before between × next config between after
 
--- a step for each number below this one, by rising number
+-- a step for each number below this one, in rising order
 abbrev pub ForEach : {W : Type 0} → ℕ → (ℕ → Config → DriverView W → DriverView W → Type 0) → Config → DriverView W → DriverView W → Type 0
 ForEach zero step config before after = after ≡ before
 ForEach (suc n) step config before after = (between : DriverView _) × ForEach n step config before between × step n config between after
 
--- Whatever happened to the server before, the driver goes on by this step.
+-- Whatever happened to the server before, the driver takes this step.
 abbrev pub Steps : {W : Type 0} → (Config → DriverView W → DriverView W → Type 0) → DriverState W → DriverState W → Type 0
 Steps step old new = (config : Config) (history : List PlainEvent) → StandsFor old.server config history
     → (after : List PlainEvent) × StandsFor new.server config after × step config (driver_view old history) (driver_view new after)

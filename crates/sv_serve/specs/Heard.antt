@@ -1,4 +1,4 @@
--- What a wire is asked, and what it answers.
+-- The calls of a wire, with their answers.
 use Rattle.std.specs.Prelude.{ℕ, ◌≤◌, Bool, List, length, take, Option, ⊤}
 use Rattle.sv_history.specs.declared.event.Role.{Role}
 use Rattle.sv_history.specs.declared.event.Port.{Port}
@@ -6,8 +6,8 @@ use Rattle.sv_history.specs.declared.event.Dial.{Dial}
 use Rattle.sv_serve.specs.declared.wire.Answer.{Answer}
 use Rattle.sv_serve.specs.declared.wire.Answer.TheVariants.{Got, Pending, Failed}
 
--- One call of a wire, with its answer; of a read, how many bytes were asked for at most. A probe asks whether a connection that isn't read
--- is gone, and drops what comes on it, if so said.
+-- One call of a wire, with its answer. A read has how many bytes were asked for at most. A probe asks whether a connection that isn't read
+-- is gone; with `drops` it discards what comes on it.
 pub data Heard : Type 0 where
   WasAccepted : (role : Role) (conn : Option ℕ) (answer : Answer ⊤) → Heard
   WasRead : (conn : ℕ) (most : ℕ) (answer : Answer (List ℕ)) → Heard
@@ -17,18 +17,18 @@ pub data Heard : Type 0 where
   PeerAnswered : (conn : ℕ) (answer : Answer ⊤) → Heard
   WasClosed : (port : Port) → Heard
 
--- so many bytes of a buffer were read
+-- the answer of a read, with the bytes that it put into the buffer
 abbrev pub bytes_of : Answer ℕ → List ℕ → Answer (List ℕ)
 bytes_of (Got n) buffer = Got (take n buffer)
 bytes_of Pending buffer = Pending
 bytes_of Failed buffer = Failed
 
--- at most so many were read or written
+-- At most so many bytes were read or written.
 abbrev pub IsWithin : Answer ℕ → ℕ → Type 0
 IsWithin (Got n) most = n ≤ most
 IsWithin answer most = ⊤
 
--- a piece of at most so many bytes
+-- At most so many bytes were read.
 abbrev pub IsPiece : Answer (List ℕ) → ℕ → Type 0
 IsPiece (Got bytes) most = length bytes ≤ most
 IsPiece answer most = ⊤

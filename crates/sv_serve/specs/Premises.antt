@@ -1,4 +1,4 @@
--- What steps inside a driver take for granted at the moment at which they begin.
+-- What the inner steps of a driver require of the moment at which they begin.
 use Rattle.std.specs.Prelude.{◌≡◌, ℕ, ◌<◌, Bool, true, List, length, Some, Result, Err}
 use Rattle.sv_links.specs.Channels.{ChannelAct}
 use Rattle.sv_history.specs.declared.event.Config.{Config}
@@ -18,34 +18,35 @@ use Rattle.sv_serve.specs.Heard.{IsWithin}
 use Rattle.sv_serve.specs.DriverView.{DriverState, DriverView, driver_view}
 use Rattle.sv_serve.specs.Asked.{Wants, Waits}
 
--- Wherever this is so, the driver goes on by this step.
+-- Wherever this holds, the driver takes this step.
 abbrev pub From : {W : Type 0} → (Config → DriverView W → Type 0) → (Config → DriverView W → DriverView W → Type 0) → DriverState W
     → DriverState W → Type 0
 From IsSo step old new = (config : Config) (history : List PlainEvent) → StandsFor old.server config history
     → IsSo config (driver_view old history)
     → (after : List PlainEvent) × StandsFor new.server config after × step config (driver_view old history) (driver_view new after)
 
--- the event suits what the server answers
+-- The event fits the answers of the queries.
 abbrev pub IsSuited : {W : Type 0} → PlainEvent → Config → DriverView W → Type 0
 IsSuited event config at = (log : List Act) × (channel_log : List ChannelAct) × IsLogOf config at.history log
     × HearsOf (device_acts log) channel_log
     × Suits event channel_log log
 
--- a peer is wanted for a call that waits
+-- The interrupt channel of a connection is to be connected.
 abbrev pub IsAwaited : {W : Type 0} → ℕ → Config → DriverView W → Type 0
 IsAwaited c config at = (dial : Dial) × Wants c config at (Some dial)
 
--- these bytes waited, and some of them were handed to the wire
+-- These bytes waited, and the wire took some of them.
 abbrev pub Handed : {W : Type 0} → Port → Answer ℕ → Config → DriverView W → Type 0
 Handed port answer config at = (bytes : List ℕ) × Waits port config at bytes × (0 < length bytes) × IsWithin answer (length bytes)
 
--- a call was to be taken, and found no memory
+-- There was a call to take, and memory for it was refused.
 abbrev pub FoundNone : {W : Type 0} → ℕ → Config → DriverView W → Type 0
 FoundNone c config at = (log : List Act) × IsLogOf config at.history log × Answers config (Turn c) log (Err NoMemory)
 
--- if this is its answer
+-- If the answer is out of memory, that was so.
 abbrev pub MayFindNone : {W : Type 0} → ℕ → Result Did Refused → Config → DriverView W → Type 0
 MayFindNone c answer config at = answer ≡ Err NoMemory → FoundNone c config at
 
+-- If so, there was a call to take, and memory for it was refused.
 abbrev pub FindsNoneIf : {W : Type 0} → ℕ → Bool → Config → DriverView W → Type 0
 FindsNoneIf c so config at = so ≡ true → FoundNone c config at

@@ -1,4 +1,4 @@
--- What a wire answers as events, and what a sweep does for each connection. Traces and histories are read from the newest.
+-- The answers of a wire as events, and what a sweep does for each connection. Traces and histories have the newest first.
 use Rattle.std.specs.Prelude.{◌≡◌, ◌⊎◌, ℕ, ◌<◌, not, Bool, true, false, List, [], ◌∷◌, ◌++◌, filter, flat_map, Some, Err}
 use Rattle.std.specs.List.{AllByRecursion}
 use Rattle.sv_history.specs.declared.event.Config.{Config}
@@ -17,7 +17,7 @@ use Rattle.sv_serve.specs.DriverView.{DriverState, Steps}
 use Rattle.sv_serve.specs.Sweep.{Sweeps}
 use Rattle.sv_serve.specs.Timed.{is_timed}
 
--- The wire was asked these, one after the other, and answered so.
+-- The wire was asked these, one after the other, and gave these answers.
 abbrev pub Through : {W : Type 0} → (W → Heard → W → Type 0) → List Heard → W → W → Type 0
 Through hears [] start now = now ≡ start
 Through hears (heard ∷ trace) start now = (between : _) × Through hears trace start between × hears between heard now
@@ -35,37 +35,37 @@ event_of (PeerAnswered c Failed) = Dialed c false ∷ []
 event_of (WasClosed (Conn c)) = Close (Conn c) ∷ []
 event_of _ = []
 
--- whether an event is of the wire: a driver's own are its turns, and what time brings
+-- whether an event comes from the wire; a driver's own are its Turns and Refuses, and what time brings
 abbrev pub is_outer : PlainEvent → Bool
 is_outer (Turn c) = false
 is_outer (Refuse c) = false
 is_outer event = not (is_timed event)
 
--- A call is taken, or refused for want of memory, unless none is there to be taken, or no room for a reply.
+-- A Turn takes a call, or it is refused for out of memory; unless there is no call to take, or no room for a reply.
 abbrev pub Takes : Config → ℕ → List Act → List PlainEvent → Type 0
 Takes config c before turn = (turn ≡ Turn c ∷ []) ⊎ (((turn ≡ Refuse c ∷ []) × Answers config (Turn c) before (Err NoMemory))
     ⊎ ((turn ≡ []) × ((is_idle (of c before) ≡ true) ⊎ (free (of c before) < longest_reply))))
 
--- The bytes that wait, if any do, are handed to the wire in one piece, with others behind them.
+-- The bytes that wait on a connection, if any, are given to the wire in one write, perhaps with more behind them.
 abbrev pub Offers : ℕ → List Act → List Heard → Type 0
 Offers c log piece = (waiting (of c log) ≡ []) ⊎ ((more : List ℕ) × (answer : Answer ℕ) × (newer older : List Heard)
     × (piece ≡ newer ++ (WasWritten (Conn c) (waiting (of c log) ++ more) answer ∷ older)))
 
--- In a sweep a connection has its turn behind all that is read, and what waits then is handed to the wire in the same sweep.
+-- In a sweep a connection has its turn after all reads, and what waits then is given to the wire in the same sweep.
 abbrev pub Serves : Config → ℕ → List PlainEvent → List PlainEvent → List Heard → Type 0
 Serves config c history events piece = (first turn behind : List PlainEvent) × (before after : List Act)
     × (events ≡ behind ++ (turn ++ first)) × AllByRecursion (λ event. (d : ℕ) (bytes : List ℕ) → event ≡ Bytes d bytes → ⊥) behind
     × IsLogOf config (first ++ history) before × IsLogOf config (turn ++ (first ++ history)) after
     × Takes config c before turn × Offers c after piece
 
--- A sweep has these events and these answers of the wire, which are one, and serves each connection.
+-- A sweep has these events and these answers of the wire, which agree, and serves each connection.
 abbrev pub IsServed : {W : Type 0} → (W → Heard → W → Type 0) → Config → DriverState W → DriverState W → List PlainEvent → List PlainEvent
     → List Heard → Type 0
 IsServed hears config old new history events piece = StandsFor old.server config history × StandsFor new.server config (events ++ history)
     × Through hears piece old.wire new.wire × (filter is_outer events ≡ flat_map event_of piece)
     × ((c : ℕ) → c < 16 → Serves config c history events piece)
 
--- So it is of every sweep, whatever happened before.
+-- This holds of every sweep, whatever happened before.
 abbrev pub Served : {W : Type 0} → (W → Heard → W → Type 0) → Type 0
 Served hears = (config : Config) (ticks : ℕ) (history : List PlainEvent) (old new : DriverState _) → StandsFor old.server config history
     → Steps (Sweeps hears ticks) old new → (done : List PlainEvent) × (piece : List Heard)

@@ -1,5 +1,5 @@
--- The steps of a driver. In each the wire is asked once at most, and what it answers happens to the server. Only a Turn, a Tick and an
--- entry of the scenario may be refused.
+-- The steps of a driver. In each the wire is asked at most once, and its answer is applied to the server. Only a Turn, a Tick and an entry
+-- of the scenario may be refused.
 use Rattle.std.specs.Prelude.{◌≡◌, ◌⊎◌, ℕ, ◌<◌, min, ◌==◌, ◌&&◌, ◌||◌, Bool, true, false, List, [], length, Option, Some, None, Result, Ok, Err, ⊤, slice_set, slice_index_or}
 use Rattle.sv_history.specs.declared.event.Config.{Config}
 use Rattle.sv_history.specs.declared.event.Dial.{Dial}
@@ -19,135 +19,144 @@ use Rattle.sv_serve.specs.Heard.{Heard, WasAccepted, WasRead, WasProbed, WasWrit
 use Rattle.sv_serve.specs.DriverView.{DriverView, Unchanged, ◌then◌}
 use Rattle.sv_serve.specs.Asked.{IsOpen, HasRoom, IsReady, IsOverlong, IsFaulted, Wants, Waits, IsLowest}
 
--- the wire was asked, and answered so
+-- The wire is asked, and gives this answer.
 abbrev pub Hears : {W : Type 0} → (W → Heard → W → Type 0) → Heard → Config → DriverView W → DriverView W → Type 0
 Hears hears heard config before after = (wire : _) × hears before.wire heard wire × (after ≡ record before { wire = wire })
 
--- the server was given an event, and answered so
+-- The server is given an event, and answers this.
 abbrev pub Given : {W : Type 0} → PlainEvent → Result Did Refused → Config → DriverView W → DriverView W → Type 0
 Given event result config before after = (log : List Act) × IsLogOf config before.history log × Answers config event log result
     × (after ≡ record before { history = history_after event result before.history })
 
--- and it was done
+-- The server applies an event.
 abbrev pub IsApplied : {W : Type 0} → PlainEvent → Config → DriverView W → DriverView W → Type 0
 IsApplied event = Given event (Ok Done)
 
--- who was called for the interrupt channel of a connection
+-- whom the driver called for the interrupt channel of a connection
 abbrev pub called_of : {W : Type 0} → ℕ → DriverView W → Option Dial
 called_of c at = slice_index_or at.called c None
 
+-- The driver keeps whom it called for the interrupt channel of a connection.
 abbrev pub Remembers : {W : Type 0} → ℕ → Option Dial → Config → DriverView W → DriverView W → Type 0
 Remembers c dial config before after = after ≡ record before { called = slice_set before.called c dial }
 
--- A connection comes, for a purpose, and gets the lowest free number; where none is free, it is dropped.
+-- A connection was accepted, and opens under its number.
 abbrev pub Opens : {W : Type 0} → Role → Option ℕ → Answer ⊤ → Config → DriverView W → DriverView W → Type 0
 Opens role (Some c) (Got all) = IsApplied (Open c role)
 Opens role number answer = Unchanged
 
+-- A connection is accepted, under the lowest free number; if none is free, it is dropped.
 abbrev pub Accepts : {W : Type 0} → (W → Heard → W → Type 0) → Role → Config → DriverView W → DriverView W → Type 0
 Accepts hears role config before after = (number : Option ℕ) × (answer : Answer ⊤) × IsLowest number config before
     × (Hears hears (WasAccepted role number answer) then Opens role number answer) config before after
 
--- The socket of an interrupt channel is closed, where somebody was called.
+-- The socket of an interrupt channel is closed, if somebody was called.
 abbrev pub ClosesChannelOn : {W : Type 0} → (W → Heard → W → Type 0) → ℕ → Option Dial → Config → DriverView W → DriverView W → Type 0
 ClosesChannelOn hears c None = Unchanged
 ClosesChannelOn hears c (Some dial) = Hears hears (WasClosed (Intr c)) then Remembers c None
 
+-- The same of a connection's channel.
 abbrev pub ClosesChannel : {W : Type 0} → (W → Heard → W → Type 0) → ℕ → Config → DriverView W → DriverView W → Type 0
 ClosesChannel hears c config before after = ClosesChannelOn hears c (called_of c before) config before after
 
--- a connection is closed, with its interrupt channel
+-- A connection is closed, with its interrupt channel.
 abbrev pub Closes : {W : Type 0} → (W → Heard → W → Type 0) → ℕ → Config → DriverView W → DriverView W → Type 0
 Closes hears c = Hears hears (WasClosed (Conn c)) then ClosesChannel hears c then IsApplied (Close (Conn c))
 
--- if this is so
+-- The same, if so said.
 abbrev pub ClosesIf : {W : Type 0} → (W → Heard → W → Type 0) → ℕ → Bool → Config → DriverView W → DriverView W → Type 0
 ClosesIf hears c true = Closes hears c
 ClosesIf hears c false = Unchanged
 
--- What was read on a connection comes to the server; where reading failed, the connection is closed.
+-- What was read on a connection is given to the server; if reading failed, the connection is closed.
 abbrev pub Comes : {W : Type 0} → (W → Heard → W → Type 0) → ℕ → Answer (List ℕ) → Config → DriverView W → DriverView W → Type 0
 Comes hears c (Got bytes) = IsApplied (Bytes c bytes)
 Comes hears c Pending = Unchanged
 Comes hears c Failed = Closes hears c
 
--- the most bytes that are asked for at once
+-- how many bytes are read at once, at most
 abbrev pub longest_piece : ℕ
 longest_piece = 16384
 
--- a connection that is gone is closed
+-- A connection that is gone is closed.
 abbrev pub Drops : {W : Type 0} → (W → Heard → W → Type 0) → ℕ → Answer ⊤ → Config → DriverView W → DriverView W → Type 0
 Drops hears c Failed = Closes hears c
 Drops hears c answer = Unchanged
 
+-- If the connection is open, the wire is asked whether it is gone.
 abbrev pub ProbesIf : {W : Type 0} → (W → Heard → W → Type 0) → ℕ → Bool → Config → DriverView W → DriverView W → Type 0
 ProbesIf hears c false config before after = after ≡ before
 ProbesIf hears c true config before after = (drops : Bool) × (answer : Answer ⊤) × IsOverlong c config before drops
     × (Hears hears (WasProbed c drops answer) then Drops hears c answer) config before after
 
--- One that is open and has no room isn't read, but asked whether it is gone. What comes behind a record that is too long is dropped.
+-- An open connection without room isn't read, but the wire is asked whether it is gone. What comes behind a record that is too long is
+-- discarded.
 abbrev pub Probes : {W : Type 0} → (W → Heard → W → Type 0) → ℕ → Config → DriverView W → DriverView W → Type 0
 Probes hears c config before after = (opened : Bool) × IsOpen (Conn c) config before opened × ProbesIf hears c opened config before after
 
--- Where there is room for so many bytes, as many are asked for, but no more than a piece has.
+-- With room for so many bytes, as many are read, at most 16,384; without room the connection is probed.
 abbrev pub ReadsUpTo : {W : Type 0} → (W → Heard → W → Type 0) → ℕ → ℕ → Config → DriverView W → DriverView W → Type 0
 ReadsUpTo hears room c config before after = ((room ≡ 0) × Probes hears c config before after)
     ⊎ ((0 < room) × (answer : Answer (List ℕ)) × IsPiece answer (min room longest_piece)
     × (Hears hears (WasRead c (min room longest_piece) answer) then Comes hears c answer) config before after)
 
--- as many as the connection has room for
+-- A connection is read, for as many bytes as it has room.
 abbrev pub ReadsFrom : {W : Type 0} → (W → Heard → W → Type 0) → ℕ → Config → DriverView W → DriverView W → Type 0
 ReadsFrom hears c config before after = (room : ℕ) × HasRoom c config before room × ReadsUpTo hears room c config before after
 
--- a call is answered that there is no room for it, if this is so
+-- The call is refused with error 9, if so said.
 abbrev pub RefusesIf : {W : Type 0} → ℕ → Bool → Config → DriverView W → DriverView W → Type 0
 RefusesIf c true = IsApplied (Refuse c)
 RefusesIf c false = Unchanged
 
--- A call that finds no memory is refused: it is answered so, and its connection stays.
+-- A call for which memory is refused is answered with error 9, and its connection stays open.
 abbrev pub EndsTurn : {W : Type 0} → ℕ → Result Did Refused → Config → DriverView W → DriverView W → Type 0
 EndsTurn c (Ok did) = Unchanged
 EndsTurn c (Err refused) = RefusesIf c (is_no_memory refused)
 
+-- If a call is there, a Turn takes it.
 abbrev pub TurnsIf : {W : Type 0} → ℕ → Bool → Config → DriverView W → DriverView W → Type 0
 TurnsIf c false config before after = after ≡ before
 TurnsIf c true config before after = (result : Result Did Refused) × (Given (Turn c) result then EndsTurn c result) config before after
 
--- a call is taken, where one is there
+-- A connection takes its next call, if there is one.
 abbrev pub Turns : {W : Type 0} → ℕ → Config → DriverView W → DriverView W → Type 0
 Turns c config before after = (ready : Bool) × IsReady c config before ready × TurnsIf c ready config before after
 
--- whether this one is wanted
+-- whether this peer is the one that is wanted
 abbrev pub is_wanted : Dial → Option Dial → Bool
 is_wanted called (Some wanted) = (called.addr == wanted.addr) && (called.port == wanted.port)
 is_wanted called None = false
 
+-- A peer that was called is kept or let go.
 abbrev pub KeepsCall : {W : Type 0} → (W → Heard → W → Type 0) → ℕ → Bool → Config → DriverView W → DriverView W → Type 0
 KeepsCall hears c true = Unchanged
 KeepsCall hears c false = ClosesChannel hears c
 
+-- A peer that was called is let go, unless its interrupt channel is open or it is still wanted.
 abbrev pub CancelsUnwanted : {W : Type 0} → (W → Heard → W → Type 0) → ℕ → Option Dial → Config → DriverView W → DriverView W → Type 0
 CancelsUnwanted hears c None config before after = after ≡ before
 CancelsUnwanted hears c (Some called) config before after = (channel : Bool) × (wanted : Option Dial) × IsOpen
     (Intr c) config before channel
     × Wants c config before wanted × KeepsCall hears c (channel || is_wanted called wanted) config before after
 
--- A peer that was called is let go, unless its interrupt channel is open, or it is still wanted.
+-- The same of a connection's peer.
 abbrev pub LetsGo : {W : Type 0} → (W → Heard → W → Type 0) → ℕ → Config → DriverView W → DriverView W → Type 0
 LetsGo hears c config before after = CancelsUnwanted hears c (called_of c before) config before after
 
--- what comes of calling a peer
+-- The answer to calling a peer: it is connected, it is waited for, or it can't be reached.
 abbrev pub ConnectResult : {W : Type 0} → ℕ → Dial → Answer ⊤ → Config → DriverView W → DriverView W → Type 0
 ConnectResult c dial (Got all) = Remembers c (Some dial) then IsApplied (Dialed c true)
 ConnectResult c dial Pending = Remembers c (Some dial)
 ConnectResult c dial Failed = IsApplied (Dialed c false)
 
--- and of waiting for one that was called
+-- The same answer, for a peer that is waited for.
 abbrev pub PollResult : {W : Type 0} → (W → Heard → W → Type 0) → ℕ → Answer ⊤ → Config → DriverView W → DriverView W → Type 0
 PollResult hears c (Got all) = IsApplied (Dialed c true)
 PollResult hears c Pending = Unchanged
 PollResult hears c Failed = ClosesChannel hears c then IsApplied (Dialed c false)
 
+-- The peer that is wanted is called; if it was called already, the wire is asked whether it answered.
 abbrev pub CallsFor : {W : Type 0} → (W → Heard → W → Type 0) → ℕ → Option Dial → Option Dial → Config → DriverView W → DriverView W
     → Type 0
 CallsFor hears c None called config before after = after ≡ before
@@ -156,41 +165,44 @@ CallsFor hears c (Some dial) None config before after =
 CallsFor hears c (Some dial) (Some called) config before after =
     (answer : Answer ⊤) × (Hears hears (PeerAnswered c answer) then PollResult hears c answer) config before after
 
--- The peer that is wanted is called, once; then it is asked whether it answered.
+-- The same for a connection's interrupt channel.
 abbrev pub Calls : {W : Type 0} → (W → Heard → W → Type 0) → ℕ → Config → DriverView W → DriverView W → Type 0
 Calls hears c config before after =
     (wanted : Option Dial) × Wants c config before wanted × CallsFor hears c wanted (called_of c before) config before after
 
+-- A peer that isn't wanted any more is let go, and one that is wanted is called.
 abbrev pub Dials : {W : Type 0} → (W → Heard → W → Type 0) → ℕ → Config → DriverView W → DriverView W → Type 0
 Dials hears c = LetsGo hears c then Calls hears c
 
--- a connection is closed, or an interrupt channel alone
+-- A connection is closed, or an interrupt channel alone.
 abbrev pub BreaksOff : {W : Type 0} → (W → Heard → W → Type 0) → Port → Config → DriverView W → DriverView W → Type 0
 BreaksOff hears (Conn c) = Closes hears c
 BreaksOff hears (Intr c) = ClosesChannel hears c then IsApplied (Close (Intr c))
 
--- What was taken of the bytes that waited leaves the server; where writing failed, the port is closed.
+-- The bytes that the wire took leave the server; if writing failed, the port is closed.
 abbrev pub EndsWrite : {W : Type 0} → (W → Heard → W → Type 0) → Port → Answer ℕ → Config → DriverView W → DriverView W → Type 0
 EndsWrite hears port (Got n) = IsApplied (Took port n)
 EndsWrite hears port Pending = Unchanged
 EndsWrite hears port Failed = BreaksOff hears port
 
+-- These bytes are given to the wire, if there are any.
 abbrev pub WritesAll : {W : Type 0} → (W → Heard → W → Type 0) → Port → List ℕ → Config → DriverView W → DriverView W → Type 0
 WritesAll hears port bytes config before after = ((bytes ≡ []) × (after ≡ before))
     ⊎ ((0 < length bytes) × (answer : Answer ℕ) × IsWithin answer (length bytes)
     × (Hears hears (WasWritten port bytes answer) then EndsWrite hears port answer) config before after)
 
--- all bytes that wait are handed to the wire, where some do
+-- All bytes that wait on a port are given to the wire.
 abbrev pub WritesTo : {W : Type 0} → (W → Heard → W → Type 0) → Port → Config → DriverView W → DriverView W → Type 0
 WritesTo hears port config before after =
     (bytes : List ℕ) × Waits port config before bytes × WritesAll hears port bytes config before after
 
+-- If a connection is at fault, it is closed once nothing waits on it.
 abbrev pub EndsIf : {W : Type 0} → (W → Heard → W → Type 0) → ℕ → Bool → Config → DriverView W → DriverView W → Type 0
 EndsIf hears c false config before after = after ≡ before
 EndsIf hears c true config before after =
     (bytes : List ℕ) × Waits (Conn c) config before bytes × ClosesIf hears c (length bytes == 0) config before after
 
--- a faulted connection is closed, if nothing waits on it
+-- The same, of what the server says of the connection.
 abbrev pub Ends : {W : Type 0} → (W → Heard → W → Type 0) → ℕ → Config → DriverView W → DriverView W → Type 0
 Ends hears c config before after =
     (faulted : Bool) × IsFaulted c config before faulted × EndsIf hears c faulted config before after

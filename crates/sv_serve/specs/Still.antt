@@ -1,4 +1,4 @@
--- When a driver has nothing to do but by its wire.
+-- When a driver has nothing to do until its wire reports something.
 use Rattle.std.specs.Prelude.{ℕ, ◌+◌, Bool}
 use Rattle.sv_history.specs.declared.event.Config.{Config}
 use Rattle.sv_history.specs.Act.{device_acts}
@@ -7,7 +7,7 @@ use Rattle.sv_history.specs.Still.{IsStill}
 use Rattle.sv_serve.specs.DriverView.{DriverView}
 use Rattle.sv_serve.specs.Sweep.{IsNoneDue}
 
--- For so many milliseconds nothing of the server waits for time, and no entry of the scenario is due.
+-- The answer says whether for so many milliseconds nothing of the server waits for time, and no entry of the scenario is due.
 abbrev pub StaysStill : {W : Type 0} → ℕ → Config → DriverView W → Bool → Type 0
 StaysStill most config at =
     Decided (λ log. IsStill most config (device_acts log) × IsNoneDue (at.ticks + most) at.ahead) config at.history

@@ -1,4 +1,4 @@
--- A sweep of a driver.
+-- A sweep of a driver: its steps, in order.
 use Rattle.std.specs.Prelude.{◌≡◌, ℕ, ◌+◌, ◌<◌, ◌≤◌, ◌==◌, Bool, true, false, List, [], ◌∷◌, Result, Ok, Err, ⊤, if◌then◌else◌}
 use Rattle.sv_history.specs.declared.event.Config.{Config}
 use Rattle.sv_history.specs.declared.event.Did.{Did}
@@ -12,7 +12,7 @@ use Rattle.sv_serve.specs.Heard.{Heard}
 use Rattle.sv_serve.specs.DriverView.{DriverView, ◌then◌, ForEach}
 use Rattle.sv_serve.specs.Steps.{Given, Accepts, ReadsFrom, Turns, Dials, WritesTo, Ends}
 
--- the server was given an event, whatever it answered
+-- The server is given an event, which it may refuse.
 abbrev pub Applies : {W : Type 0} → PlainEvent → Config → DriverView W → DriverView W → Type 0
 Applies event config before after = (result : Result Did Refused) × Given event result config before after
 
@@ -22,39 +22,40 @@ PlaysOne config before after = (entry : Entry) × (others : List Entry) × (betw
     × (entry.tick ≤ before.ticks) × Applies (stimulus_event entry.stimulus) config before between
     × (after ≡ record between { ahead = others })
 
--- no entry is due, after so many ticks
+-- No entry is due after so many ticks.
 abbrev pub IsNoneDue : ℕ → List Entry → Type 0
 IsNoneDue ticks [] = ⊤
 IsNoneDue ticks (entry ∷ entries) = ticks < entry.tick
 
--- the first entry happens, or none is due
+-- The first entry happens, or none is due.
 abbrev pub PlaysIf : {W : Type 0} → Bool → Config → DriverView W → DriverView W → Type 0
 PlaysIf true config before after = PlaysOne config before after
 PlaysIf false config before after = (after ≡ before) × IsNoneDue after.ticks after.ahead
 
--- all that are due happen
+-- All entries that are due happen.
 abbrev pub Plays : {W : Type 0} → Config → DriverView W → DriverView W → Type 0
 Plays config before after = (n : ℕ) × ForEach n (λ i. PlaysOne) config before after × IsNoneDue after.ticks after.ahead
 
--- Ticks are counted up to this.
+-- the highest count of ticks that a driver keeps
 abbrev pub most_ticks : ℕ
 most_ticks = 18446744073709551615
 
--- one more millisecond is counted, if it wasn't refused
+-- One more millisecond is counted, unless the Tick was refused.
 abbrev pub Counts : {W : Type 0} → Result Did Refused → Config → DriverView W → DriverView W → Type 0
 Counts (Ok did) config before after =
     after ≡ record before { ticks = (if before.ticks == most_ticks then before.ticks else before.ticks + 1) }
 Counts (Err refused) config before after = after ≡ before
 
+-- A millisecond passes.
 abbrev pub TicksOnce : {W : Type 0} → Config → DriverView W → DriverView W → Type 0
 TicksOnce config before after = (result : Result Did Refused) × (Given Tick result then Counts result) config before after
 
--- so many milliseconds pass, with what is due before each and after the last one
+-- So many milliseconds pass; entries happen before each, and after the last one.
 abbrev pub Passes : {W : Type 0} → ℕ → Config → DriverView W → DriverView W → Type 0
 Passes ticks = ForEach ticks (λ i. Plays then TicksOnce) then Plays
 
--- The wire is asked for connections of each purpose; then each connection is read, then each takes a call, then peers are called; time
--- passes; then what waits is written, on connections first; and then those that only wait to be closed are.
+-- A sweep: a connection is accepted on each of the three ports; then each connection is read; then each takes a call; then peers are
+-- called; then time passes; then what waits is written, on connections first; then connections at fault are closed.
 abbrev pub Sweeps : {W : Type 0} → (W → Heard → W → Type 0) → ℕ → Config → DriverView W → DriverView W → Type 0
 Sweeps hears ticks = Accepts hears Core then Accepts hears Abort then Accepts hears Portmap then ForEach 16 (ReadsFrom hears)
     then ForEach 16 Turns then ForEach 16 (Dials hears) then Passes ticks then ForEach 16 (λ c. WritesTo hears (Conn c))

@@ -15,7 +15,7 @@ use std::alloc::Allocator;
 use sv_server::{Event, Port};
 
 impl<W: Wire + Drop, A: Allocator> Driver<W, A> {
-    /// Closes the socket of a connection's interrupt channel, where a peer was called.
+    /// Closes the socket of a connection's interrupt channel, if a peer was called.
     pub(crate) fn close_channel(&mut self, conn: u8)
         requires { conn < 16 }
         ensures { Steps (ClosesChannel W.hears conn) self.old self.new }

@@ -58,11 +58,11 @@ impl<W: Wire + Drop, A: Allocator> Model for Driver<W, A> {
 }
 
 impl<W: Wire + Drop, A: Allocator> Driver<W, A> {
-    /// A driver that called nobody, at the beginning of its scenario. Takes the memory into which
-    /// is read.
+    /// A driver at the beginning of its scenario, which called nobody yet. It allocates its read
+    /// buffer.
     ///
     /// # Errors
-    /// Where memory is refused.
+    /// If memory is refused.
     pub fn new(
         alloc: A,
         server: Server<A>,
@@ -89,14 +89,14 @@ impl<W: Wire + Drop, A: Allocator> Driver<W, A> {
         })
     }
 
-    /// Its wire.
+    /// The wire of the driver.
     pub fn wire(&self) -> &W
         ensures { result.now ≡ self.now.wire }
     {
         &self.wire
     }
 
-    /// Its server.
+    /// The server of the driver.
     pub fn server(&self) -> &Server<A>
         ensures { result.now ≡ self.now.server }
     {

@@ -1,5 +1,5 @@
-//! What stands between a server and its sockets: in a sweep each socket is asked once, and what it
-//! answers happens to the server.
+//! A driver: what stands between a server and its sockets. In a sweep each socket is asked once,
+//! and its answers are applied to the server.
 #![tactic(auto)]
 
 mod accepting;

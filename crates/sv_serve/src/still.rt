@@ -1,4 +1,4 @@
-//! Whether there is nothing to do but by the wire.
+//! Whether there is nothing to do until the wire reports something.
 
 ghost use Rattle.std.specs.Prelude.{◌≡◌, ◌↔◌, ◌+◌, true, false, List, []};
 ghost use Rattle.sv_history.specs.declared.event.Config.{Config};
@@ -13,9 +13,9 @@ use crate::wire::Wire;
 use std::alloc::Allocator;
 
 impl<W: Wire + Drop, A: Allocator> Driver<W, A> {
-    /// Whether nothing waits for one of the next so many milliseconds: no scan is under way, no
-    /// deadline of a call that waits is that near, and no entry of the scenario. Then they may
-    /// pass at once in a later sweep.
+    /// Whether nothing waits for time to pass within so many milliseconds: no scan is under way, no
+    /// suspended call has a deadline in them, and no entry of the scenario is due. Then the caller
+    /// may sleep that long, and let them pass in a later sweep.
     pub fn is_still(&self, ticks: u32) -> bool
         ensures { (config : Config) (history : List PlainEvent)
             → StandsFor self.now.server config history
@@ -24,7 +24,7 @@ impl<W: Wire + Drop, A: Allocator> Driver<W, A> {
         self.server.is_still(ticks) && !self.is_due_within(ticks)
     }
 
-    /// Whether the scenario is at its end: no entry of it is to come.
+    /// Whether the scenario has no entry left.
     pub fn is_played(&self) -> bool
         ensures { (result ≡ true) ↔ (self.now.ahead ≡ []) }
     {

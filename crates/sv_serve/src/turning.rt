@@ -1,4 +1,4 @@
-//! Taking calls.
+//! Taking calls by Turns.
 
 ghost use Rattle.std.specs.Prelude.{◌≡◌, ◌<◌};
 ghost use Rattle.sv_history.specs.Print.{is_no_memory};
@@ -11,7 +11,7 @@ use crate::wire::Wire;
 use std::alloc::Allocator;
 use sv_server::{Did, Event, Refused};
 
-/// Whether this is want of memory.
+/// Whether this is out of memory.
 fn is_no_memory(refused: Refused) -> bool
     ensures { result ≡ is_no_memory refused }
 {

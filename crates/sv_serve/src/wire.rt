@@ -1,13 +1,13 @@
-//! What carries bytes: sockets, or lists of answers in a test.
+//! A wire carries bytes: over sockets, or by lists of answers in a test.
 
 ghost use Rattle.std.specs.Prelude.{length, option_map};
 
 use sv_server::{Dial, Port, Role};
 
-/// What a wire answers at once.
+/// The answer of a wire, which comes at once.
 #[derive(Clone, Copy, Debug, PartialEq, Eq)]
 pub enum Answer<T> {
-    /// This came of it.
+    /// The call succeeded, with this.
     Got(T),
     /// Nothing yet: ask again.
     Pending,
@@ -15,15 +15,15 @@ pub enum Answer<T> {
     Failed,
 }
 
-/// What carries the bytes of connections and interrupt channels. No call waits.
+/// What carries the bytes of connections and interrupt channels. No call of it blocks.
 pub trait Wire {
     ghost use Rattle.sv_serve.specs.Heard.{Heard, WasAccepted, WasRead, WasProbed, WasWritten, WasDialed, PeerAnswered, WasClosed, bytes_of, IsWithin};
     ghost use Rattle.std.specs.Prelude.{⊤};
 
-    /// What a call and its answer lead to; of a wire that is a system's nothing is known.
+    /// What a call and its answer lead to; of the system's sockets nothing is known.
     ghost hears: { Self → Heard → Self → Type 0 } = { λ before heard after. ⊤ };
 
-    /// Takes a connection for this purpose, under this number; under none it is dropped.
+    /// Accepts a connection of this role, under this number; with `None` it is dropped.
     fn accept(&mut self, role: Role, conn: Option<u8>) -> Answer<()>
         ensures { hears self.old (WasAccepted role conn result) self.new };
 
@@ -33,18 +33,18 @@ pub trait Wire {
         ensures heard { let answer = bytes_of result buffer.new in
             hears self.old (WasRead conn (length buffer.old) answer) self.new };
 
-    /// Whether a connection that has no room, and so isn't read, is gone: `Failed` where it was
-    /// reset, or closed in both directions. With `drops` what comes on it is read and dropped, and
-    /// it is gone at the end of its stream too.
+    /// Whether a connection without room, which isn't read, is gone: `Failed` if it was reset, or
+    /// closed in both directions. With `drops` what comes on it is read and discarded, and the end
+    /// of its stream is `Failed` too.
     fn probe(&mut self, conn: u8, drops: bool) -> Answer<()>
         ensures { hears self.old (WasProbed conn drops result) self.new };
 
-    /// Writes bytes to a connection or an interrupt channel, and tells how many of them it took.
+    /// Writes bytes to a connection or an interrupt channel, and returns how many were taken.
     fn write(&mut self, port: Port, bytes: &[u8]) -> Answer<usize>
         ensures within { IsWithin result (length bytes.now) }
         ensures heard { hears self.old (WasWritten port bytes.now result) self.new };
 
-    /// Calls a peer for the interrupt channel of a connection.
+    /// Begins to connect the interrupt channel of a connection to its peer.
     fn dial(&mut self, conn: u8, dial: Dial) -> Answer<()>
         ensures { hears self.old (WasDialed conn dial result) self.new };
 

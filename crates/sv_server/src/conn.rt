@@ -1,5 +1,5 @@
-//! The number of a connection. It is made once, where an event or a question names a number; what
-//! then takes it asks for no range.
+//! The number of a connection. It is checked once, where an event or a query names it; from then on
+//! it is below 16.
 
 ghost use Rattle.std.specs.Prelude.{◌≡◌, ◌≤◌, ◌<◌, MatchOption};
 
@@ -15,7 +15,7 @@ pub struct Conn {
 }
 
 impl Conn {
-    /// The connection of a number; none of one above 15.
+    /// The connection of a number; `None` above 15.
     pub fn new(number: u8) -> Option<Conn>
         ensures { MatchOption result (16 ≤ number) (λ conn. conn.number ≡ number) }
     {

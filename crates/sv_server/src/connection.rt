@@ -26,7 +26,7 @@ use sv_rpc::{RecordBuf, RpcFault};
 /// How many outgoing bytes may wait that the peer hasn't taken.
 const MAX_OUTPUT: usize = 16384;
 
-/// A connection, open or not: what it is for, what came, what waits to be sent. A call that was
+/// A connection, open or not: its role, what came, what waits to be sent. A call that was
 /// taken stays in its input until it is answered, and room for the longest reply is kept for it.
 #[derive(Drop)]
 pub struct Connection<A: Allocator> {
@@ -62,7 +62,7 @@ impl<A: Allocator> Model for Connection<A> {
 }
 
 impl<A: Allocator + Copy> Connection<A> {
-    /// A connection that isn't open. It takes all the memory that it ever uses.
+    /// A connection that isn't open. It allocates all the memory that it ever uses.
     pub fn new(alloc: A) -> Result<Connection<A>, AllocError>
         ensures { IfOk result (λ connection. IsConnection connection []) }
     {
@@ -77,7 +77,7 @@ impl<A: Allocator + Copy> Connection<A> {
 }
 
 impl<A: Allocator> Connection<A> {
-    /// What it is open for.
+    /// The role of the connection, if it is open.
     pub fn role(&self) -> Option<Role>
         ensures { result ≡ self.now.role }
     {
@@ -92,7 +92,7 @@ impl<A: Allocator> Connection<A> {
         self.role.is_some()
     }
 
-    /// The bytes that wait to be sent; none where it isn't open.
+    /// The bytes that wait to be sent; none if it isn't open.
     pub fn waiting(&self) -> &[u8]
         ensures within { length result.now ≤ length self.now.output }
         ensures bounded { length result.now ≤ max_output }
@@ -114,7 +114,7 @@ impl<A: Allocator> Connection<A> {
         self.role = Some(role);
     }
 
-    /// Closes it, and lets what waits go.
+    /// Closes it, and drops what waits.
     pub fn close(&mut self)
         ensures { (acts : List ConnAct) → IsConnection self.old acts
             → IsConnection self.new (PortClosed ∷ acts) }
@@ -123,7 +123,7 @@ impl<A: Allocator> Connection<A> {
         self.role = None;
     }
 
-    /// Forgets all that came and waits.
+    /// Drops all that came and waits.
     fn empty(&mut self)
         ensures value { self.new ≡ record self.old {
           input = no_records;
@@ -139,7 +139,7 @@ impl<A: Allocator> Connection<A> {
         self.busy = false;
     }
 
-    /// How many bytes may come; 0 where it isn't open.
+    /// How many bytes it has room for; 0 if it isn't open.
     pub fn room(&self) -> usize
         ensures bounded { result ≤ room_of self.now.input }
         ensures answer { (acts : List ConnAct) → IsConnection self.now acts → result ≡ room acts }
@@ -159,7 +159,7 @@ impl<A: Allocator> Connection<A> {
         self.input.push(piece);
     }
 
-    /// Lets the bytes go that the peer took.
+    /// Drops the bytes that the peer took.
     pub fn took(&mut self, count: usize)
         requires { count ≤ length self.old.output }
         ensures { (acts : List ConnAct) → IsConnection self.old acts
@@ -169,7 +169,7 @@ impl<A: Allocator> Connection<A> {
     }
 
     /// Whether a record was taken that is no call, or all records in front of one that is too long
-    /// came to their end.
+    /// are done.
     pub fn is_faulted(&self) -> bool
         ensures { (acts : List ConnAct) → IsConnection self.now acts → result ≡ is_faulted acts }
     {
@@ -179,14 +179,14 @@ impl<A: Allocator> Connection<A> {
         }
     }
 
-    /// Whether a record that came is too long: behind it nothing is taken in.
+    /// Whether a record came that is too long, so that nothing behind it is taken in.
     pub fn is_overlong(&self) -> bool
         ensures { (acts : List ConnAct) → IsConnection self.now acts → result ≡ is_overlong acts }
     {
         self.input.is_overlong()
     }
 
-    /// The call to take next, where there is one.
+    /// The call to take next; `None` if there is none.
     pub fn next_call(&self) -> Option<&[u8]>
         ensures value { option_map (λ call. call.now) result ≡ kept_next self.now }
         ensures answer { (acts : List ConnAct) → IsConnection self.now acts
@@ -195,7 +195,7 @@ impl<A: Allocator> Connection<A> {
         self.first_call()
     }
 
-    /// Whether there is none.
+    /// Whether no call is there to be taken.
     pub fn is_idle(&self) -> bool
         ensures { (acts : List ConnAct) → IsConnection self.now acts → result ≡ is_idle acts }
     {
@@ -215,7 +215,7 @@ impl<A: Allocator> Connection<A> {
         }
     }
 
-    /// The call that was taken and isn't answered, where there is one.
+    /// The call that was taken and isn't answered; `None` if there is none.
     fn taken(&self) -> Option<&[u8]>
         ensures { (acts : List ConnAct) → IsConnection self.now acts
             → option_map (λ call. call.now) result ≡ unanswered acts }
@@ -229,7 +229,7 @@ impl<A: Allocator> Connection<A> {
         }
     }
 
-    /// The same, where it is one of the core channel, read once more as when it was taken.
+    /// The same, if it is one of the core channel, read once more as when it was taken.
     pub fn taken_call(&self) -> Option<CoreCall<'_>>
         ensures { (acts : List ConnAct) → IsConnection self.now acts
             → option_map plain_core_call result ≡ core_call_in (unanswered acts) }
@@ -257,7 +257,7 @@ impl<A: Allocator> Connection<A> {
         self.busy = true;
     }
 
-    /// Answers the call that was taken, where there is one.
+    /// Answers the call that was taken, if there is one.
     pub fn answer(&mut self, xid: u32, answer: &Answer<'_>)
         requires { IsShort answer.now }
         ensures { (acts : List ConnAct) → IsConnection self.old acts → is_busy acts ≡ true
@@ -271,7 +271,7 @@ impl<A: Allocator> Connection<A> {
         self.busy = false;
     }
 
-    /// The record that was taken, where there is one, is no call.
+    /// The record that was taken, if there is one, is no call.
     pub fn fault(&mut self)
         ensures { (acts : List ConnAct) → IsConnection self.old acts → is_busy acts ≡ true
             → IsConnection self.new (Faulted ∷ acts) }

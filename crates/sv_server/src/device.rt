@@ -73,7 +73,7 @@ impl<A: Allocator> Model for Device<A> {
 }
 
 impl<A: Allocator + Copy> Device<A> {
-    /// No link, no call that waits, no interrupt channel, no text, and the clock at its start.
+    /// No link, no suspended call, no interrupt channel, no text, and the clock at its start.
     pub fn new(alloc: A, config: Config) -> Result<Device<A>, AllocError>
         requires { config.clock ≤ 9223372036854775807 }
         ensures stands { IfOk result (λ device. IsDevice device config []) }
@@ -108,7 +108,7 @@ impl<A: Allocator> Device<A> {
         self.clock == LAST_CLOCK
     }
 
-    /// Whether nothing waits for one of the next so many milliseconds.
+    /// Whether nothing waits for time to pass within so many milliseconds.
     pub fn is_still(&self, ticks: u32) -> bool
         ensures { (config : Config) (acts : List DeviceAct) → IsDevice self.now config acts
             → (result ≡ true) ↔ IsStill ticks config acts }
@@ -130,7 +130,7 @@ impl<A: Allocator> Device<A> {
         self.raise(raised);
     }
 
-    /// The voltage of a channel's input is another from now on.
+    /// Sets the input of a channel to another voltage.
     pub fn input(&mut self, channel: u8, microvolts: i64)
         ensures stands { (config : Config) (acts : List DeviceAct) → IsDevice self.old config acts
             → IsDevice self.new config (Applied (Scanned (Input channel microvolts)) ∷ acts) }
@@ -140,7 +140,7 @@ impl<A: Allocator> Device<A> {
         self.raise(raised);
     }
 
-    /// A trigger comes in at the trigger input.
+    /// A trigger at the trigger input.
     pub fn external(&mut self)
         ensures stands { (config : Config) (acts : List DeviceAct) → IsDevice self.old config acts
             → IsDevice self.new config
@@ -162,7 +162,7 @@ impl<A: Allocator> Device<A> {
         }
     }
 
-    /// Ends the wait of a connection's call, destroys its links, and closes its interrupt channel.
+    /// Drops a connection's suspended call, destroys its links, and closes its interrupt channel.
     pub fn close_connection(&mut self, conn: Conn)
         ensures stands { (config : Config) (acts : List DeviceAct) → IsDevice self.old config acts
             → IsDevice self.new config
@@ -177,7 +177,7 @@ impl<A: Allocator> Device<A> {
         self.close_channel(conn);
     }
 
-    /// The oldest suspended call that can resume; none where none can.
+    /// The oldest suspended call that can resume; `None` if none can.
     pub fn oldest_able(&self) -> Option<Entry>
         ensures answer { (config : Config) (acts : List DeviceAct) → IsDevice self.now config acts
             → IsOldest (wait_acts acts) (CanResume acts) (option_map (λ entry. entry.conn) result) }
@@ -194,7 +194,7 @@ impl<A: Allocator> Device<A> {
         )
     }
 
-    /// The oldest call that waits and whose deadline has come; none where none's has.
+    /// The oldest suspended call whose deadline has come; `None` if there is none.
     pub fn expired(&self) -> Option<Entry>
         ensures answer { (config : Config) (acts : List DeviceAct) → IsDevice self.now config acts
             → IsOldest (wait_acts acts) (IsExpired (config.clock + ticks acts) (wait_acts acts))
@@ -206,7 +206,7 @@ impl<A: Allocator> Device<A> {
         self.waiting.expired(self.clock)
     }
 
-    /// The call of a connection waits no more.
+    /// The call of a connection isn't suspended any more.
     pub fn end_wait(&mut self, conn: Conn)
         ensures stands { (config : Config) (acts : List DeviceAct) → IsDevice self.old config acts
             → IsDevice self.new config (Waited (Left conn.number) ∷ acts) }
@@ -228,7 +228,7 @@ impl<A: Allocator> Device<A> {
         }
     }
 
-    /// The same, where the instrument did something; tells whether it did.
+    /// The same, if the instrument did something. Returns whether it did.
     fn raise_if(&mut self, raised: Option<u8>) -> bool
         ensures some { (count : ℕ) → raised ≡ Some count → (config : Config)
             (acts : List DeviceAct) (adds : List InstrumentAct)
@@ -248,7 +248,7 @@ impl<A: Allocator> Device<A> {
         }
     }
 
-    /// A trigger that comes at once, where one is due; tells whether one was.
+    /// An immediate trigger, if one is due. Returns whether one was.
     pub fn fire(&mut self) -> bool
         ensures steps { (config : Config) (acts : List DeviceAct) → IsDevice self.old config acts
             → InstrumentSteps IsFired result config acts self.old self.new }
@@ -261,7 +261,7 @@ impl<A: Allocator> Device<A> {
         self.raise_if(fired)
     }
 
-    /// A step of message exchange, where one is due; tells whether one was.
+    /// A step of message exchange, if one is due. Returns whether one was.
     pub fn exchange(&mut self) -> bool
         ensures steps { (config : Config) (acts : List DeviceAct) → IsDevice self.old config acts
             → InstrumentSteps IsStep result config acts self.old self.new }

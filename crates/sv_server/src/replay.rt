@@ -1,5 +1,5 @@
-//! The replay of an event: it is done, and what then waits is written and taken. It asks of the
-//! server what any caller may.
+//! The replay of an event: it is applied, and what then waits is printed and taken. It uses only
+//! what any caller of the server may.
 
 ghost use Rattle.std.specs.Prelude.{◌≡◌, ℕ, List};
 ghost use Rattle.std.specs.Io.KnownBytes.{Appends};
@@ -25,7 +25,7 @@ use thiserror::Error;
 /// Why a replay stopped.
 #[derive(Clone, Copy, Debug, PartialEq, Eq, Error)]
 pub enum ReplayFault {
-    /// Memory was refused for a link.
+    /// Memory was refused to an event.
     #[error("no memory was left")]
     NoMemory,
     /// The writer failed.
@@ -46,9 +46,11 @@ impl From<WriteFault> for ReplayFault {
 
 impl<A: Allocator> Server<A> {
     /// Applies an event and writes what follows from it: `refused` and the number of the refusal,
-    /// if it was refused, and then a line for each port on which bytes wait, which the peer takes.
-    /// Where memory was refused, it writes `refused 1` alone and answers `NoMemory`; where the
-    /// writer failed, `Write`, and nothing is taken that wasn't written.
+    /// if it was refused; then a line for each port on which bytes wait, which the peer takes.
+    ///
+    /// # Errors
+    /// `NoMemory` if memory was refused to the event; then `refused 1` is all that is written.
+    /// `Write` if the writer failed; then nothing is taken that wasn't written.
     pub fn replay<W: Write>(&mut self, event: Event<'_>, writer: &mut W) -> Result<(), ReplayFault>
         ensures { (config : Config) (history : List PlainEvent) → StandsFor self.old config history
             → (text : List ℕ) × (after : List PlainEvent)
@@ -102,7 +104,7 @@ impl<A: Allocator> Server<A> {
     }
 }
 
-/// Whether this is want of memory.
+/// Whether this is out of memory.
 fn is_no_memory(refused: Refused) -> bool
     ensures { result ≡ is_no_memory refused }
 {

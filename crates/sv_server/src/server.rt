@@ -1,5 +1,5 @@
-//! The server: it joins the connections and the device. An event is refused or done, and then the
-//! steps that are due are taken.
+//! The server joins the connections and the device. An event is refused or applied; then the steps
+//! that are due are taken.
 
 ghost use Rattle.std.specs.Prelude.{◌≡◌, ◌<◌, ◌≤◌, ◌++◌, ℕ, not, List, [], length, slice_index_or, true, false, if◌then◌else◌, MatchOption, MatchResult, Some, None, IfOk, OnErr};
 ghost use Rattle.sv_history.specs.declared.event.Config.{Config};
@@ -76,8 +76,11 @@ fn connections<A: Allocator + Copy>(alloc: A) -> Result<Vec<Connection<A>, A>, A
 }
 
 impl<A: Allocator> Server<A> {
-    /// A server to which nothing happened. It takes all the memory that it ever uses, but for that
-    /// of links.
+    /// A server with an empty history. It allocates all the memory that it ever uses, but for that
+    /// of links and interrupt channels.
+    ///
+    /// # Errors
+    /// If memory is refused.
     pub fn new(alloc: A, config: Config) -> Result<Server<A>, AllocError>
     where
         A: Copy,
@@ -91,8 +94,7 @@ impl<A: Allocator> Server<A> {
         })
     }
 
-    /// The bytes that wait on a port, in the order in which they are to be sent; none where it
-    /// isn't open.
+    /// The bytes that wait to be sent on a port, in order; none if it isn't open.
     pub fn waiting(&self, port: Port) -> &[u8]
         ensures waiting { (config : Config) (history : List PlainEvent)
             → StandsFor self.now config history → WaitOn port config history result.now }
@@ -117,7 +119,7 @@ impl<A: Allocator> Server<A> {
         }
     }
 
-    /// How many bytes of a piece the connection has room for; 0 where it isn't open.
+    /// How many bytes a connection has room for; 0 if it isn't open.
     pub fn room(&self, conn: u8) -> u32
         ensures { (config : Config) (history : List PlainEvent) → StandsFor self.now config history
             → Answered (λ log. room (of conn log)) config history result }
@@ -128,7 +130,7 @@ impl<A: Allocator> Server<A> {
         }
     }
 
-    /// Whether a connection or an interrupt channel is open; none of a number above 15 is.
+    /// Whether a connection or an interrupt channel is open. None above 15 ever is.
     pub fn is_open(&self, port: Port) -> bool
         ensures { (config : Config) (history : List PlainEvent) → StandsFor self.now config history
             → Answered (λ log. not (is_port_shut port log)) config history result }
@@ -150,7 +152,8 @@ impl<A: Allocator> Server<A> {
         }
     }
 
-    /// Whether there is a call for a Turn to take; it may still find no room for the reply.
+    /// Whether there is a call for a Turn to take. The Turn is still refused if its reply may not
+    /// fit.
     pub fn ready(&self, conn: u8) -> bool
         ensures { (config : Config) (history : List PlainEvent) → StandsFor self.now config history
             → Answered (λ log. not (is_idle (of conn log))) config history result }
@@ -161,8 +164,8 @@ impl<A: Allocator> Server<A> {
         }
     }
 
-    /// Whether the connection only waits to be closed: a record that is no call was taken on it, or
-    /// all records in front of one that is too long came to their end.
+    /// Whether the connection can only be closed: a record that is no call was taken, or a record
+    /// that is too long came and all records in front of it are done.
     pub fn faulted(&self, conn: u8) -> bool
         ensures { (config : Config) (history : List PlainEvent) → StandsFor self.now config history
             → Answered (λ log. is_faulted (of conn log)) config history result }
@@ -173,8 +176,8 @@ impl<A: Allocator> Server<A> {
         }
     }
 
-    /// Whether a record came on the connection that is too long: nothing behind it is taken in, and
-    /// there is no room any more. Whole records in front of it still wait for their Turns.
+    /// Whether a record that is too long came on the connection. Nothing behind it is taken in, so
+    /// there is no room any more. Complete records in front of it are still executed.
     pub fn overlong(&self, conn: u8) -> bool
         ensures { (config : Config) (history : List PlainEvent) → StandsFor self.now config history
             → Answered (λ log. is_overlong (of conn log)) config history result }
@@ -185,8 +188,8 @@ impl<A: Allocator> Server<A> {
         }
     }
 
-    /// How many numbers were used: one more than the highest number of a connection that was ever
-    /// opened; 0 where none was. Nothing is to do on those that weren't.
+    /// One more than the highest number of a connection that was ever opened; 0 if none was. On the
+    /// others there is nothing to do.
     pub fn connections_used(&self) -> u8
         ensures { (config : Config) (history : List PlainEvent) → StandsFor self.now config history
             → (log : List Act) × IsLogOf config history log × IsUsed result log }
@@ -194,9 +197,9 @@ impl<A: Allocator> Server<A> {
         self.connections_used
     }
 
-    /// Whether nothing waits for one of the next so many milliseconds: no scan is under way, and no
-    /// deadline of a call that waits is that near. They only count, then, as long as nothing else
-    /// happens.
+    /// Whether nothing waits for time to pass within so many milliseconds: no scan is under way,
+    /// and no suspended call has a deadline in them. Until something else happens, these ticks
+    /// change nothing but the clock.
     pub fn is_still(&self, ticks: u32) -> bool
         ensures { (config : Config) (history : List PlainEvent) → StandsFor self.now config history
             → Decided (λ log. IsStill ticks config (device_acts log)) config history result }
@@ -204,7 +207,7 @@ impl<A: Allocator> Server<A> {
         self.device.is_still(ticks)
     }
 
-    /// The connection of this number; none above 15, of which nothing is ever recorded.
+    /// The connection of this number; `None` above 15, where nothing is ever recorded.
     pub(crate) fn connection(&self, conn: u8) -> Option<&Connection<A>>
         ensures { (config : Config) (log : List Act) → Represents self.now config log
             → MatchOption result (of conn log ≡ [])
@@ -214,7 +217,7 @@ impl<A: Allocator> Server<A> {
         Some(&self.connections[conn.index()])
     }
 
-    /// The connection of this number, which is open, and what it is open for; else `NoConn`.
+    /// The open connection of this number, and its role; `NoConn` if it isn't open.
     pub(crate) fn open_connection(&self, conn: u8) -> Result<(Conn, Role), Refused>
         ensures answer { (config : Config) (log : List Act) → Represents self.now config log
             → MatchResult result (λ found. is_shut conn log ≡ false)
@@ -266,7 +269,7 @@ impl<A: Allocator> Server<A> {
         Ok(Did::Done)
     }
 
-    /// Lets bytes go that the peer took.
+    /// Drops bytes that the peer took.
     fn took(&mut self, conn: u8, count: u32) -> Result<Did, Refused>
         ensures acts { (config : Config) (log : List Act) → Represents self.old config log
             → Acts config (Took (Port.Conn conn) count) log result self.new }
@@ -281,8 +284,8 @@ impl<A: Allocator> Server<A> {
         Ok(Did::Done)
     }
 
-    /// Closes a connection: its links are destroyed, its interrupt channel is closed, and what
-    /// waits goes.
+    /// Closes a connection: its links are destroyed, its interrupt channel is closed, its suspended
+    /// call and its outgoing bytes are dropped.
     fn close(&mut self, conn: u8) -> Result<Did, Refused>
         ensures acts { (config : Config) (log : List Act) → Represents self.old config log
             → Acts config (Close (Port.Conn conn)) log result self.new }
@@ -308,7 +311,7 @@ impl<A: Allocator> Server<A> {
         Ok(Did::Done)
     }
 
-    /// The voltage of a channel's input is another from now on.
+    /// Sets the input of a channel to another voltage.
     fn input(&mut self, channel: u8, microvolts: i64) -> Result<Did, Refused>
         ensures acts { (config : Config) (log : List Act) → Represents self.old config log
             → Acts config (Input channel microvolts) log result self.new }
@@ -323,7 +326,7 @@ impl<A: Allocator> Server<A> {
         }
     }
 
-    /// A trigger comes in at the trigger input.
+    /// A trigger at the trigger input.
     fn external(&mut self) -> Result<Did, Refused>
         ensures acts { (config : Config) (log : List Act) → Represents self.old config log
             → Acts config External log result self.new }
@@ -333,7 +336,7 @@ impl<A: Allocator> Server<A> {
         Ok(Did::Done)
     }
 
-    /// Takes the next call of a connection and does it.
+    /// Takes the next call of a connection and executes it.
     fn turn(&mut self, conn: u8) -> Result<Did, Refused>
         ensures acts { (config : Config) (log : List Act) → Represents self.old config log
             → Acts config (Turn conn) log result self.new }
@@ -351,7 +354,7 @@ impl<A: Allocator> Server<A> {
         }
     }
 
-    /// Takes the next call of a connection, and answers that resources are wanting.
+    /// Takes the next call of a connection, and answers it with error 9.
     fn refuse(&mut self, conn: u8) -> Result<Did, Refused>
         ensures acts { (config : Config) (log : List Act) → Represents self.old config log
             → Acts config (Refuse conn) log result self.new }
@@ -365,7 +368,7 @@ impl<A: Allocator> Server<A> {
         }
     }
 
-    /// Ends the call of a connection, which waits, by device_abort; of none where there is none.
+    /// Ends the suspended call of a connection by device_abort; of no connection if it is `None`.
     fn abort(&mut self, aborts: Option<u8>)
         ensures { (config : Config) (log : List Act) → Represents self.old config log
             → ((conn : ℕ) → aborts ≡ Some conn → waits conn (wait_acts (device_acts log)) ≡ None
@@ -380,7 +383,7 @@ impl<A: Allocator> Server<A> {
         }
     }
 
-    /// Lets bytes of a port go that the peer took.
+    /// Drops bytes of a port that the peer took.
     pub(crate) fn port_took(&mut self, port: Port, count: u32) -> Result<Did, Refused>
         ensures acts { (config : Config) (log : List Act) → Represents self.old config log
             → Acts config (Took port count) log result self.new }
@@ -404,7 +407,7 @@ impl<A: Allocator> Server<A> {
         }
     }
 
-    /// Does what an event asks for, but for the steps that follow it.
+    /// Applies an event, without the steps that follow it.
     fn act(&mut self, event: Event<'_>) -> Result<Did, Refused>
         ensures within { IsEvent (plain event.entry) }
         ensures acts { (config : Config) (log : List Act) → Represents self.old config log
@@ -428,9 +431,18 @@ impl<A: Allocator> Server<A> {
         }
     }
 
-    /// Does an event, or refuses it; a refused event changes nothing. Of the refusals that hold,
-    /// the first in the order of checks is given. `NoMemory` comes only at a Turn whose call makes
-    /// a link or an interrupt channel, which may be tried again.
+    /// Applies an event, or refuses it; a refused event changes nothing.
+    ///
+    /// # Errors
+    /// The first check that fails. `NoConn` comes first: an Open has a number above 15, another
+    /// event names a connection or an interrupt channel that isn't open. Then an Open may fail with
+    /// `ConnInUse`, Bytes with `NoRoom`, a Took with `NotSent`, a Dialed with `NoDial`. A Turn that
+    /// finds a call fails with `NoRoom` if fewer than 8,232 outgoing bytes are free; a Refuse with
+    /// `NotRefusable`, then with that `NoRoom`. An Input fails with `BadChannel`, then `BadInput`,
+    /// a Tick with `TimeOver`.
+    ///
+    /// If no check fails, a Turn may be refused with `NoMemory`: only one whose call makes a link,
+    /// waits for the lock to make one, or asks for an interrupt channel. It may be tried again.
     pub fn apply(&mut self, event: Event<'_>) -> Result<Did, Refused>
         ensures answers { (config : Config) (history : List PlainEvent)
             → StandsFor self.old config history

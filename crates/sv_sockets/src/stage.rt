@@ -128,7 +128,7 @@ impl Stage {
     /// Serves until so many bytes came to a peer, or its stream ended.
     ///
     /// # Errors
-    /// Where nothing comes for too long.
+    /// If nothing comes for too long.
     pub(crate) fn wait_for(&mut self, name: char, count: usize) -> io::Result<()> {
         let (mut begun, mut came) = (Instant::now(&self.rt)?, 0usize);
         for _ in 0..LOOKS {
@@ -147,7 +147,7 @@ impl Stage {
     /// Serves until a connection came to a peer's port.
     ///
     /// # Errors
-    /// Where that takes too long.
+    /// If that takes too long.
     pub(crate) fn accept(&mut self, name: char) -> io::Result<()> {
         let begun = Instant::now(&self.rt)?;
         for _ in 0..LOOKS {
@@ -163,7 +163,7 @@ impl Stage {
     /// which is looked at behind the second one.
     ///
     /// # Errors
-    /// Where that takes too long.
+    /// If that takes too long.
     pub(crate) fn is_first(&mut self, first: char, second: char) -> io::Result<bool> {
         let begun = Instant::now(&self.rt)?;
         for _ in 0..LOOKS {

@@ -1,31 +1,32 @@
--- A status register (SCPI-1999, chapter 20, STATus): condition, filters, event and enable, each found by a search of the acts, which are
--- read from the newest.
+-- A status register (SCPI-1999, chapter 20, STATus): condition, filters, event bits and enable, each by a search of the acts, the newest
+-- first.
 use Rattle.std.specs.Prelude.{◌≡◌, ◌↔◌, ◌⊎◌, ℕ, ◌%◌, ◌^◌, ⊤, List, [], ◌∷◌, Some, None}
 use Rattle.std.specs.Int.{bit_at}
 use Rattle.sv_logs.specs.Since.{Since, last_given}
 use Rattle.sv_status.specs.declared.register.RegisterAct.{RegisterAct}
 use Rattle.sv_status.specs.declared.register.RegisterAct.TheVariants.{Condition, SetFilter, SetEnable, ReadEvent, Preset, Clear}
 
--- the condition that came last
+-- the condition: the newest word that was given
 abbrev pub condition : List RegisterAct → ℕ
 condition = last_given (elim [ Condition word ↦ Some word | _ ↦ None ]) 0
 
--- a mask that is written loses bit 15
+-- a mask without bit 15
 abbrev pub masked : ℕ → ℕ
 masked word = word % 2 ^ 15
 
--- the filters: as they were last set or preset
+-- the positive transition filter: as last set, or 32767 at first and after a preset
 abbrev pub rise : List RegisterAct → ℕ
 rise = last_given (elim [ SetFilter up down ↦ Some (masked up) | Preset ↦ Some 32767 | _ ↦ None ]) 32767
 
+-- the negative transition filter: as last set, or 0 at first and after a preset
 abbrev pub fall : List RegisterAct → ℕ
 fall = last_given (elim [ SetFilter up down ↦ Some (masked down) | Preset ↦ Some 0 | _ ↦ None ]) 0
 
--- the enable of a register that starts with this one, which a preset brings back
+-- the enable, as last set; at first and after a preset this start
 abbrev pub enable : ℕ → List RegisterAct → ℕ
 enable start = last_given (elim [ SetEnable word ↦ Some (masked word) | Preset ↦ Some start | _ ↦ None ]) start
 
--- At the newest act a bit of the condition changes in a direction whose filter was on before.
+-- At the newest act a bit of the condition changes in a direction whose filter was on before that act.
 abbrev pub Passes : ℕ → List RegisterAct → Type 0
 Passes k [] = ⊥
 Passes k (act ∷ before) =
@@ -36,11 +37,11 @@ Passes k (act ∷ before) =
 abbrev pub NotCleared : List RegisterAct → Type 0
 NotCleared = elim [ ReadEvent ∷ acts ↦ ⊥ | Clear ∷ acts ↦ ⊥ | _ ↦ ⊤ ]
 
--- A bit of the event register stands exactly if it passed its filter after the last clearing.
+-- A bit of the event register is set: it passed its filter after the last clearing.
 abbrev pub EventStands : ℕ → List RegisterAct → Type 0
 EventStands k acts = Since (Passes k) NotCleared acts
 
--- Some bit stands that is enabled.
+-- Some bit is set and enabled.
 abbrev pub Summary : ℕ → List RegisterAct → Type 0
 Summary start acts = (k : ℕ) × EventStands k acts × (bit_at (enable start acts) k ≡ 1)
 
@@ -53,7 +54,7 @@ pub record Latches : Type 0 where
   pub enable : ℕ
   pub start : ℕ
 
--- What it keeps stands for the acts, of a register whose enable started so.
+-- What it keeps stands for the acts, if the enable has this start.
 pub record StandsFor (start : ℕ) (latches : Latches) (acts : List RegisterAct) : Type 0 where
   pub begins : latches.start ≡ start
   pub condition : latches.condition ≡ condition acts
@@ -62,6 +63,6 @@ pub record StandsFor (start : ℕ) (latches : Latches) (acts : List RegisterAct)
   pub enable : latches.enable ≡ enable start acts
   pub event : (k : ℕ) → (bit_at latches.event k ≡ 1) ↔ EventStands k acts
 
--- the same, of what it keeps for a preset
+-- The same, with the start that it keeps.
 abbrev pub Stands : Latches → List RegisterAct → Type 0
 Stands latches acts = StandsFor latches.start latches acts

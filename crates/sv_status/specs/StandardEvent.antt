@@ -1,4 +1,4 @@
--- The standard event status register (IEEE 488.2, 11.5.1), found by a search of the acts, which are read from the newest.
+-- The standard event status register (IEEE 488.2, 11.5.1), by a search of the acts, the newest first.
 use Rattle.std.specs.Prelude.{◌≡◌, ◌↔◌, ℕ, ⊤, List, [], ◌∷◌, Some, None}
 use Rattle.std.specs.Int.{bit_at}
 use Rattle.sv_logs.specs.Since.{Since, last_given}
@@ -15,15 +15,15 @@ Occurs k (_ ∷ acts) = ⊥
 abbrev pub NotCleared : List StandardAct → Type 0
 NotCleared = elim [ Read ∷ acts ↦ ⊥ | Clear ∷ acts ↦ ⊥ | _ ↦ ⊤ ]
 
--- A bit stands exactly if its event occurred after the last clearing.
+-- A bit is set: its event occurred after the last clearing.
 abbrev pub Stands : ℕ → List StandardAct → Type 0
 Stands k acts = Since (Occurs k) NotCleared acts
 
--- the enable that was set last
+-- the enable that was set last; 0 at first
 abbrev pub enable : List StandardAct → ℕ
 enable = last_given (elim [ SetEnable word ↦ Some word | _ ↦ None ]) 0
 
--- Some event stands that is enabled.
+-- Some event is set and enabled.
 abbrev pub Summary : List StandardAct → Type 0
 Summary acts = (k : ℕ) × Stands k acts × (bit_at (enable acts) k ≡ 1)
 

@@ -1,39 +1,41 @@
--- The status byte and requests for service (IEEE 488.2, 11.2 and 11.3), found by a search of the acts, which are read from the newest.
+-- The status byte and requests for service (IEEE 488.2, 11.2 and 11.3), by a search of the acts, the newest first.
 use Rattle.std.specs.Prelude.{◌≡◌, ◌≢◌, ◌↔◌, ◌⊎◌, ℕ, Bool, true, List, [], ◌∷◌, Some, None}
 use Rattle.std.specs.Int.{bit_at}
 use Rattle.sv_logs.specs.Since.{Since, last_given}
 use Rattle.sv_status.specs.declared.status_byte.StatusAct.{StatusAct}
 use Rattle.sv_status.specs.declared.status_byte.StatusAct.TheVariants.{Update, Poll}
 
--- the summary bits, and which of them ask for service, as they came last
+-- the summary bits, as last given
 abbrev pub bits : List StatusAct → ℕ
 bits = last_given (elim [ Update word mask ↦ Some word | _ ↦ None ]) 0
 
+-- the service request enable, as last given
 abbrev pub enable : List StatusAct → ℕ
 enable = last_given (elim [ Update word mask ↦ Some mask | _ ↦ None ]) 0
 
--- A summary bit stands and is enabled; bit 6 is no summary bit.
+-- A summary bit is set and enabled; bit 6 is no summary bit.
 abbrev pub ServiceRequested : ℕ → ℕ → ℕ → Type 0
 ServiceRequested k word mask = (k ≢ 6) × (bit_at word k ≡ 1) × (bit_at mask k ≡ 1)
 
+-- The same, by the acts.
 abbrev pub ServiceRequestedAt : ℕ → List StatusAct → Type 0
 ServiceRequestedAt k acts = ServiceRequested k (bits acts) (enable acts)
 
--- the master summary
+-- The master summary is set: some summary bit is set and enabled.
 abbrev pub Master : List StatusAct → Type 0
 Master acts = (k : ℕ) × ServiceRequestedAt k acts
 
--- A reason arises at the newest act: some bit asks that didn't before.
+-- A reason for service arises at the newest act: some bit is set and enabled that wasn't both before.
 abbrev pub Reason : List StatusAct → Type 0
 Reason [] = ⊥
 Reason (act ∷ before) = (k : ℕ) × ServiceRequestedAt k (act ∷ before) × (ServiceRequestedAt k before → ⊥)
 
--- A request lasts at the newest act: it is no poll, and the master summary stands.
+-- The newest act keeps a request: it is no poll, and the master summary is set.
 abbrev pub Lasts : List StatusAct → Type 0
 Lasts (Poll ∷ acts) = ⊥
 Lasts acts = Master acts
 
--- A request stands exactly if a reason arose, and since then the master summary stood at each place and no poll came.
+-- A request for service stands: a reason arose, and since then the master summary was set at each place and no poll came.
 abbrev pub Request : List StatusAct → Type 0
 Request acts = Since Reason Lasts acts
 
@@ -42,11 +44,11 @@ abbrev pub IsRaised : List StatusAct → Type 0
 IsRaised [] = ⊥
 IsRaised (act ∷ before) = Request (act ∷ before) × (Request before → ⊥)
 
--- a bit of the status byte as a poll gives it: bit 6 is the request
+-- A bit of the status byte as a poll gives it: bit 6 is the request.
 abbrev pub StatusBit : ℕ → List StatusAct → Type 0
 StatusBit k acts = ((k ≢ 6) × (bit_at (bits acts) k ≡ 1)) ⊎ ((k ≡ 6) × Request acts)
 
--- a bit of the status byte as `*STB?` gives it (IEEE 488.2, 11.2.2.2): bit 6 is the master summary
+-- A bit of the status byte as `*STB?` gives it (IEEE 488.2, 11.2.2.2): bit 6 is the master summary.
 abbrev pub MasterBit : ℕ → List StatusAct → Type 0
 MasterBit k acts = ((k ≢ 6) × (bit_at (bits acts) k ≡ 1)) ⊎ ((k ≡ 6) × Master acts)
 

@@ -1,7 +1,7 @@
 //! The status of the instrument: event registers (SCPI-1999, chapter 20, STATus), standard events
 //! and the status byte (IEEE 488.2, chapter 11).
 //!
-//! No call takes memory.
+//! Nothing allocates.
 #![tactic(auto)]
 
 mod register;

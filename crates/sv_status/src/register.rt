@@ -1,4 +1,4 @@
-//! A status register with its filters (SCPI-1999, chapter 20, STATus).
+//! A status register with its transition filters (SCPI-1999, chapter 20, STATus).
 
 ghost use Rattle.std.specs.Prelude.{◌≡◌, ◌↔◌, ◌%◌, ◌^◌, ℕ, true, [], ◌∷◌, List};
 ghost use Rattle.std.specs.Int.{bit_at};
@@ -13,38 +13,38 @@ const MASK_END: u16 = 1 << 15;
 /// The filter that lets each bit pass.
 const ALL: u16 = 32767;
 
-/// What happens to a register.
+/// An act of a register.
 #[derive(Clone, Copy, Debug, PartialEq, Eq)]
 pub enum RegisterAct {
-    /// Its condition becomes this.
+    /// The condition becomes this.
     Condition(u16),
-    /// Its transition filters are set.
+    /// The transition filters are set.
     SetFilter {
-        /// Which bits pass when they rise.
+        /// The positive transition filter.
         rise: u16,
-        /// Which bits pass when they fall.
+        /// The negative transition filter.
         fall: u16,
     },
-    /// Its enable is set.
+    /// The enable is set.
     SetEnable(u16),
-    /// Its event register is read, and cleared thereby.
+    /// The event register is read, which clears it.
     ReadEvent,
-    /// Its filters and its enable are preset.
+    /// Filters and enable are preset.
     Preset,
-    /// Its event register is cleared.
+    /// The event register is cleared.
     Clear,
 }
 
-/// What it tells of that.
+/// The answer to an act of a register.
 #[derive(Clone, Copy, Debug, PartialEq, Eq)]
 pub enum RegisterAnswer {
     /// The event register as it was before it was read.
     Event(u16),
-    /// There is nothing to tell.
+    /// The act has no answer.
     Done,
 }
 
-/// Condition, transition filters, event and enable of a status register.
+/// A status register: condition, transition filters, event bits and enable.
 #[derive(Debug, Drop)]
 pub struct Register {
     condition: u16,
@@ -73,15 +73,15 @@ impl Model for Register {
 }
 
 impl Register {
-    /// Nothing happened yet: the filter for rising bits is 32767, all else is 0.
+    /// A register as at power on: its positive filter is 32767, all else is 0.
     pub fn new() -> Register
         ensures { StandsFor 0 result [] }
     {
         Register::starting(0)
     }
 
-    /// The same of a register whose summary is a bit of another one's condition: its enable starts
-    /// with 32767, and is preset to that.
+    /// The same of a register whose summary is a bit of another one's condition: its enable is
+    /// 32767, also after a preset.
     pub fn nested() -> Register
         ensures { StandsFor 32767 result [] }
     {
@@ -102,8 +102,8 @@ impl Register {
         }
     }
 
-    /// The condition becomes this word. A bit of the event register is set where the bit rises and
-    /// its rising filter is on, or falls and its falling filter is on.
+    /// Sets the condition. A bit of the event register is set if its condition rises and its
+    /// positive filter is on, or falls and its negative filter is on.
     pub fn condition(&mut self, word: u16)
         ensures { (start : ℕ) (acts : List RegisterAct) → StandsFor start self.old acts
             → StandsFor start self.new (RegisterAct.Condition word ∷ acts) }
@@ -114,7 +114,7 @@ impl Register {
         self.condition = word;
     }
 
-    /// Sets the transition filters, without bit 15.
+    /// Sets both transition filters, without bit 15.
     pub fn set_filter(&mut self, rise: u16, fall: u16)
         ensures { (start : ℕ) (acts : List RegisterAct) → StandsFor start self.old acts
             → StandsFor start self.new (RegisterAct.SetFilter rise fall ∷ acts) }
@@ -141,8 +141,8 @@ impl Register {
         replace(&mut self.event, 0)
     }
 
-    /// Presets the enable to what it started with, and the filters to 32767 for rising and 0 for
-    /// falling bits. Events stay.
+    /// Presets the enable to its start, the positive filter to 32767 and the negative one to 0.
+    /// Event bits stay.
     pub fn preset(&mut self)
         ensures { (start : ℕ) (acts : List RegisterAct) → StandsFor start self.old acts
             → StandsFor start self.new (RegisterAct.Preset ∷ acts) }
@@ -160,7 +160,7 @@ impl Register {
         self.event = 0;
     }
 
-    /// The condition as it is now.
+    /// The condition.
     pub fn condition_word(&self) -> u16
         ensures { (start : ℕ) (acts : List RegisterAct) → StandsFor start self.now acts
             → result ≡ condition_of acts }
@@ -168,7 +168,7 @@ impl Register {
         self.condition
     }
 
-    /// The filter for rising bits.
+    /// The positive transition filter.
     pub fn rise(&self) -> u16
         ensures { (start : ℕ) (acts : List RegisterAct) → StandsFor start self.now acts
             → result ≡ rise_of acts }
@@ -176,7 +176,7 @@ impl Register {
         self.rise
     }
 
-    /// The filter for falling bits.
+    /// The negative transition filter.
     pub fn fall(&self) -> u16
         ensures { (start : ℕ) (acts : List RegisterAct) → StandsFor start self.now acts
             → result ≡ fall_of acts }
@@ -184,7 +184,7 @@ impl Register {
         self.fall
     }
 
-    /// The event register, which stays as it is.
+    /// The event register, which isn't cleared by this.
     pub fn event(&self) -> u16
         ensures { (start : ℕ) (acts : List RegisterAct) → StandsFor start self.now acts
             → (k : ℕ) → (bit_at result k ≡ 1) ↔ EventStands k acts }
@@ -200,7 +200,7 @@ impl Register {
         self.enable
     }
 
-    /// Whether some bit stands that is enabled.
+    /// Whether some bit is set and enabled.
     pub fn summary(&self) -> bool
         ensures { (start : ℕ) (acts : List RegisterAct) → StandsFor start self.now acts
             → (result ≡ true) ↔ Summary start acts }

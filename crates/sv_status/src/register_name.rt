@@ -1,6 +1,6 @@
-//! Which of the status registers (SCPI-1999, chapter 20, STATus).
+//! The names of the status registers (SCPI-1999, chapter 20, STATus).
 
-/// One of the status registers.
+/// A status register.
 #[derive(Clone, Copy, Debug, PartialEq, Eq)]
 pub enum RegisterName {
     /// What the instrument is doing, as measuring or waiting for a trigger: `STATus:OPERation`.

@@ -11,29 +11,29 @@ use sv_errors::Layer;
 /// Power on, which has happened when the register is new.
 const POWER_ON: u8 = 1 << 7;
 
-/// What happens to the register.
+/// An act of the register.
 #[derive(Clone, Copy, Debug, PartialEq, Eq)]
 pub enum StandardAct {
-    /// Events occur: the bits of this word.
+    /// Events occur: those with these bits.
     Occur(u8),
-    /// It is read, and cleared thereby.
+    /// The register is read, which clears it.
     Read,
-    /// Its enable is set.
+    /// The enable is set.
     SetEnable(u8),
-    /// It is cleared.
+    /// The register is cleared.
     Clear,
 }
 
-/// What it tells of that.
+/// The answer to an act of the register.
 #[derive(Clone, Copy, Debug, PartialEq, Eq)]
 pub enum StandardAnswer {
     /// The register as it was before it was read.
     Event(u8),
-    /// There is nothing to tell.
+    /// The act has no answer.
     Done,
 }
 
-/// The standard events that occurred and weren't cleared, and their enable.
+/// The standard event status register, and its enable.
 #[derive(Debug, Drop)]
 pub struct StandardEvent {
     event: u8,
@@ -49,7 +49,7 @@ impl Model for StandardEvent {
 }
 
 impl StandardEvent {
-    /// Power on stands, and no other event; nothing is enabled.
+    /// The register as at power on: power on (bit 7) is set, and nothing is enabled.
     pub fn new() -> StandardEvent
         ensures { StandsFor result [] }
     {
@@ -59,7 +59,7 @@ impl StandardEvent {
         }
     }
 
-    /// The events of these bits occur.
+    /// The events with these bits occur.
     pub fn occur(&mut self, bits: u8)
         ensures { (acts : List StandardAct) → StandsFor self.old acts
             → StandsFor self.new (StandardAct.Occur bits ∷ acts) }
@@ -93,7 +93,7 @@ impl StandardEvent {
         self.event = 0;
     }
 
-    /// The register, which stays as it is.
+    /// The register, which isn't cleared by this.
     pub fn event(&self) -> u8
         ensures { (acts : List StandardAct) → StandsFor self.now acts → (k : ℕ)
             → (bit_at result k ≡ 1) ↔ Stands k acts }
@@ -108,7 +108,7 @@ impl StandardEvent {
         self.enable
     }
 
-    /// Whether some event stands that is enabled.
+    /// Whether some event is set and enabled.
     pub fn summary(&self) -> bool
         ensures { (acts : List StandardAct) → StandsFor self.now acts
             → (result ≡ true) ↔ Summary acts }

@@ -10,21 +10,21 @@ use sv_errors::Layer;
 /// Bit 6, which is no summary bit: it shows the request for service, or the master summary.
 const REQUEST: u8 = 1 << 6;
 
-/// What happens to the status byte.
+/// An act of the status byte.
 #[derive(Clone, Copy, Debug, PartialEq, Eq)]
 pub enum StatusAct {
-    /// The summary bits and the enable become these.
+    /// Summary bits and service request enable become these.
     Update {
-        /// The summary bits; bit 6 is ignored. Bits 1 and 0 are the caller's, who keeps them 0.
+        /// The summary bits. Bit 6 is ignored; the caller keeps bits 1 and 0 at 0.
         bits: u8,
-        /// Which of them ask for service; bit 6 is ignored.
+        /// The service request enable; bit 6 is ignored.
         enable: u8,
     },
-    /// It is polled, which ends a request for service.
+    /// A poll, which ends a request for service.
     Poll,
 }
 
-/// What it tells of that.
+/// The answer to an act of the status byte.
 #[derive(Clone, Copy, Debug, PartialEq, Eq)]
 pub enum StatusAnswer {
     /// Whether a request for service is raised.
@@ -33,7 +33,7 @@ pub enum StatusAnswer {
     Status(u8),
 }
 
-/// The summary bits, which of them ask for service, and whether a request stands.
+/// The summary bits, the service request enable, and whether a request for service stands.
 #[derive(Debug, Drop)]
 pub struct StatusByte {
     bits: u8,
@@ -50,7 +50,7 @@ impl Model for StatusByte {
 }
 
 impl StatusByte {
-    /// No bit stands, none is enabled, and no service is asked for.
+    /// The status byte as at power on: no bit is set, none is enabled, and no request stands.
     pub fn new() -> StatusByte
         ensures { StandsFor result [] }
     {
@@ -61,8 +61,8 @@ impl StatusByte {
         }
     }
 
-    /// Summary bits and enable become these, and the answer tells whether a request for service is
-    /// raised: where a bit now stands and is enabled that didn't both before, and no request stood.
+    /// Sets summary bits and service request enable, and returns whether this raises a request for
+    /// service: some bit is set and enabled that wasn't both before, and no request stood.
     pub fn update(&mut self, bits: u8, enable: u8) -> bool
         ensures stands { (acts : List StatusAct) → StandsFor self.old acts
             → StandsFor self.new (StatusAct.Update bits enable ∷ acts) }
@@ -92,8 +92,8 @@ impl StatusByte {
         status
     }
 
-    /// The status byte with the master summary in bit 6, as `*STB?` gives it, which changes nothing
-    /// (IEEE 488.2, 11.2.2.2).
+    /// The status byte with the master summary in bit 6, as `*STB?` gives it (IEEE 488.2,
+    /// 11.2.2.2). Nothing changes.
     pub fn status(&self) -> u8
         ensures { (acts : List StatusAct) → StandsFor self.now acts → (k : ℕ)
             → (bit_at result k ≡ 1) ↔ MasterBit k acts }
@@ -101,14 +101,14 @@ impl StatusByte {
         with_bit_6(self.bits, self.mss())
     }
 
-    /// The enable: which summary bits ask for service. Bit 6 is as it was given.
+    /// The service request enable. Bit 6 is as it was given.
     pub fn enable(&self) -> u8
         ensures { (acts : List StatusAct) → StandsFor self.now acts → result ≡ enable_of acts }
     {
         self.enable
     }
 
-    /// The master summary: whether some bit but bit 6 stands that is enabled.
+    /// The master summary: whether some bit but bit 6 is set and enabled.
     pub fn mss(&self) -> bool
         ensures { (acts : List StatusAct) → StandsFor self.now acts
             → (result ≡ true) ↔ Master acts }

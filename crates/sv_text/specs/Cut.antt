@@ -1,7 +1,7 @@
--- What stands between separators.
+-- The parts between separators.
 use Rattle.std.specs.Prelude.{ℕ, ◌==◌, List}
 use Rattle.std.specs.List.{slice_split}
 
--- the bytes cut at each separator: the parts between, one more than there are separators
+-- the bytes cut at each separator: one part more than there are separators
 abbrev pub cut_at : ℕ → List ℕ → List (List ℕ)
 cut_at separator = slice_split (λ b. b == separator)

@@ -1,12 +1,12 @@
--- What a text begins with.
+-- What is at the front of a text.
 use Rattle.std.specs.Prelude.{ℕ, ◌==◌, Bool, true, false, List, [], ◌∷◌, slice_get}
 use Rattle.std.specs.Option.{option_map_or}
 
--- nothing is there
+-- whether the text is empty
 abbrev pub is_empty : List ℕ → Bool
 is_empty [] = true
 is_empty (byte ∷ bytes) = false
 
--- a minus stands in front
+-- whether the text begins with a minus sign
 abbrev pub has_minus : List ℕ → Bool
 has_minus text = option_map_or (λ b. b == 45) (slice_get text 0) false

@@ -1,24 +1,25 @@
--- The parts of a header (IEEE 488.2, 7.6.1; SCPI-1999, volume 1, chapter 6): what leads it, its mnemonics, and the query sign at its end.
+-- The parts of a header (IEEE 488.2, 7.6.1; SCPI-1999, volume 1, chapter 6): what leads it, its mnemonics, and the question mark of a
+-- query.
 use Rattle.std.specs.Prelude.{ℕ, ◌-◌, ◌==◌, Bool, false, List, [], ◌∷◌, length, take, drop, slice_get, if◌then◌else◌}
 use Rattle.std.specs.Option.{option_map_or}
 use Rattle.sv_text.specs.Cut.{cut_at}
 use Rattle.sv_text.specs.declared.header.Lead.{Lead}
 use Rattle.sv_text.specs.declared.header.Lead.TheVariants.{Common, Root, Onward}
 
--- whether it ends in a query sign
+-- whether the text ends in a question mark
 abbrev pub is_query : List ℕ → Bool
 is_query text = option_map_or (λ b. b == 63) (slice_get text (length text - 1)) false
 
--- without the query sign
+-- the text without that question mark
 abbrev pub unsigned : List ℕ → List ℕ
 unsigned text = if is_query text then take (length text - 1) text else text
 
--- an asterisk leads a common command; a colon leads a header that starts at the root
+-- what leads a header: an asterisk leads a common command, a colon a header that starts at the root
 abbrev pub lead : List ℕ → Lead
 lead [] = Onward
 lead (b ∷ text) = if b == 42 then Common else if b == 58 then Root else Onward
 
--- what stands between the lead and the query sign
+-- what stands between the lead and the question mark
 abbrev pub body : List ℕ → List ℕ
 body text = drop (elim (lead text) [ Onward ↦ 0 | _ ↦ 1 ]) (unsigned text)
 

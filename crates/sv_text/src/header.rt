@@ -10,22 +10,22 @@ pub enum Lead {
     Common,
     /// A colon: the header starts at the root.
     Root,
-    /// Nothing: the header goes on from the one before it.
+    /// Nothing: the header continues the path.
     Onward,
 }
 
-/// A header in its parts. Any bytes have them, also such as are no header.
+/// A header in its parts. Any bytes have them, even if they are no header.
 #[derive(Clone, Copy, Debug)]
 pub struct Header<'a> {
     /// What leads it.
     pub lead: Lead,
     /// The mnemonics and the colons between them.
     pub body: &'a [u8],
-    /// Whether a query sign stands at its end.
+    /// Whether a question mark ends it.
     pub query: bool,
 }
 
-/// The parts of a header.
+/// Takes a header apart.
 pub fn header_parts(header: &[u8]) -> Header<'_>
     ensures lead { result.lead ≡ lead_of header.now }
     ensures body { result.body.now ≡ body header.now }
@@ -52,7 +52,7 @@ fn lead_in(header: &[u8]) -> Lead
     }
 }
 
-/// A header without the query sign at its end.
+/// A header without the question mark at its end.
 fn without_sign(header: &[u8]) -> &[u8]
     ensures { result.now ≡ unsigned header.now }
 {
@@ -62,7 +62,7 @@ fn without_sign(header: &[u8]) -> &[u8]
     }
 }
 
-/// Whether a header ends in a query sign.
+/// Whether a header ends in a question mark.
 fn has_sign(header: &[u8]) -> bool
     ensures { result ≡ is_query header.now }
 {

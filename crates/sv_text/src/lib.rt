@@ -1,7 +1,7 @@
-//! Bytes of program text: what is white space, where a byte first stands, and what stands between
-//! separators (IEEE 488.2, 7.4).
+//! Cutting program text: white space, where a byte first stands, the parts between separators, and
+//! the parts of a header (IEEE 488.2, 7.4).
 //!
-//! Nothing here takes memory: each answer is a place or a slice of what is asked about.
+//! Nothing allocates: each answer is a place in the bytes or a slice of them.
 #![tactic(auto)]
 
 mod header;

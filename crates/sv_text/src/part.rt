@@ -1,12 +1,12 @@
-//! What stands between separators.
+//! The parts between separators.
 
 ghost use Rattle.std.specs.Prelude.{◌≡◌, ◌+◌, [], ◌∷◌, ◌++◌, length, MatchOption};
 ghost use Rattle.sv_text.specs.Cut.{cut_at};
 
 use crate::place::place_of;
 
-/// The part in front of the first separator, and what stands behind that; none where there is no
-/// separator, and then the part is all of the bytes.
+/// The part before the first separator, and what stands behind it; without a separator, all bytes
+/// and `None`.
 pub fn first_part(bytes: &[u8], separator: u8) -> (&[u8], Option<&[u8]>)
     ensures parts { MatchOption result.1 (cut_at separator bytes.now ≡ result.0.now ∷ [])
         (λ behind. cut_at separator bytes.now ≡ result.0.now ∷ cut_at separator behind.now) }

@@ -1,9 +1,9 @@
-//! Where a byte stands.
+//! Where a byte stands in text.
 
 ghost use Rattle.std.specs.Prelude.{◌≡◌, ◌==◌, ◌≤◌, length, position};
 ghost use Rattle.std.specs.List.{position_or_len};
 
-/// Where a byte first stands, or the length where it stands nowhere.
+/// Where a byte first stands; the length if it stands nowhere.
 pub fn place_of(bytes: &[u8], byte: u8) -> usize
     ensures value { result ≡ position_or_len (λ b. b == byte) bytes.now }
     ensures within { result ≤ length bytes.now }

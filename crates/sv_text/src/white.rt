@@ -24,7 +24,7 @@ pub fn without_start(bytes: &[u8]) -> &[u8]
     rest
 }
 
-/// The bytes without white space behind.
+/// The bytes without white space at the end.
 pub fn without_end(bytes: &[u8]) -> &[u8]
     ensures { result.now ≡ trim_end bytes.now }
 {

@@ -7,15 +7,17 @@ use Rattle.std.specs.Str.Parse.{digits_value}
 use Rattle.sv_errors.specs.declared.code.Code.{Code}
 use Rattle.sv_errors.specs.declared.code.Code.TheVariants.{SyntaxError, InvalidCharacterInNumber}
 
--- H, Q or B, in either case
+-- the base of H (16), Q (8) or B (2), in either case
 abbrev pub base_of : ℕ → Option ℕ
 base_of letter =
     if letter == 72 || letter == 104 then Some 16 else if letter == 81 || letter == 113 then Some 8 else if letter == 66 || letter == 98
     then Some 2 else None
 
+-- whether the text begins with a digit of this base
 abbrev pub begins_with_digit : ℕ → List ℕ → Bool
 begins_with_digit base digits = option_map_or (λ b. is_digit b base) (slice_get digits 0) false
 
+-- the value of digits in this base, or their error
 abbrev pub read_digits : Option ℕ → List ℕ → Result ℤ Code
 read_digits None digits = Err SyntaxError
 read_digits (Some base) digits =
@@ -23,7 +25,8 @@ read_digits (Some base) digits =
     else if not (list_all (λ b. is_digit b base) digits) then Err InvalidCharacterInNumber
     else Ok (pos (digits_value base digits))
 
--- a number sign, a letter for the base, and digits; or what is wrong with them
+-- the value of a number sign, a letter for the base, and digits; or the first error: no such letter or no digit (-102), another byte than a
+-- digit (-121)
 abbrev pub read_based : List ℕ → Result ℤ Code
 read_based (sign ∷ letter ∷ digits) = read_digits (base_of letter) digits
 read_based _ = Err SyntaxError

@@ -1,4 +1,4 @@
--- Channel lists (SCPI-1999, volume 1, chapter 8): `(@`, items with commas between, `)`; an item is a channel, or two with a colon between.
+-- Channel lists (SCPI-1999, volume 1, chapter 8): `(@`, items separated by commas, `)`. An item is a channel, or two with a colon between.
 use Rattle.std.specs.Prelude.{ℕ, ◌+◌, ◌-◌, ◌==◌, ◌&&◌, not, Bool, false, List, [], ◌∷◌, ◌++◌, length, take, reverse, nat_le, nat_lt, slice_get, Option, Some, None, is_some, Result, Ok, Err, if◌then◌else◌}
 use Rattle.sv_text.specs.Front.{is_empty}
 use Rattle.std.specs.List.{list_all, range_with_len}
@@ -11,19 +11,21 @@ use Rattle.sv_errors.specs.declared.code.Code.TheVariants.{DataOutOfRange, TooMu
 use Rattle.sv_text.specs.White.{trim}
 use Rattle.sv_text.specs.Cut.{cut_at}
 
+-- the text without the closing parenthesis; `None` if it doesn't end in one
 abbrev closed : List ℕ → Option (List ℕ)
 closed text =
     if option_map_or (λ b. b == 41) (slice_get text (length text - 1)) false then Some (take (length text - 1) text) else None
 
--- what stands between `(@` and `)`
+-- the text between `(@` and `)`; `None` if there is none
 abbrev pub inner : List ℕ → Option (List ℕ)
 inner (a ∷ b ∷ text) = if a == 40 && b == 64 then closed text else None
 inner _ = None
 
--- digits, and perhaps white space around them
+-- whether a text is digits, with or without white space around them
 abbrev pub is_number : List ℕ → Bool
 is_number text = not (is_empty (trim text)) && list_all is_ascii_digit (trim text)
 
+-- the number that it is
 abbrev pub number : List ℕ → ℕ
 number text = digits_value 10 (trim text)
 
@@ -32,20 +34,22 @@ pub record Span : Type 0 where
   pub first : ℕ
   pub last : ℕ
 
+-- the ends of an item, by its parts; `None` if it isn't spelled as an item
 abbrev pub span_of : List (List ℕ) → Option Span
 span_of (a ∷ []) = if is_number a then Some (record { first = number a; last = number a }) else None
 span_of (a ∷ b ∷ []) = if is_number a && is_number b then Some (record { first = number a; last = number b }) else None
 span_of _ = None
 
+-- the ends of an item
 abbrev pub span : List ℕ → Option Span
 span item = span_of (cut_at 58 item)
 
--- the channels from one end to the other, upwards or downwards
+-- the channels from one end to the other, up or down
 abbrev pub run : ℕ → ℕ → List ℕ
 run first last = if nat_le first last then range_with_len first (last - first + 1) else reverse (range_with_len last (first - last + 1))
 
--- the channels of an item behind others, and those of the items behind it; or what is wrong with it: an end that is no channel, then more
--- than a list may have so far. An item that is no span was refused before.
+-- The channels so far and those of the next item, with those of the items after it; or its error: an end that is no channel (-222), then
+-- more channels so far than a list may have (-223). Items that aren't spelled as one were refused before (-171).
 abbrev pub next : Option Span → List ℕ → (List ℕ → Result (List ℕ) Code) → Result (List ℕ) Code
 next None before others = Err InvalidExpression
 next (Some ends) before others =
@@ -53,14 +57,15 @@ next (Some ends) before others =
     else if nat_lt longest_list (length (before ++ run ends.first ends.last)) then Err TooMuchData
     else others (before ++ run ends.first ends.last)
 
--- the channels of all items behind others, or what is wrong with the first that is at fault
+-- the channels so far and those of all items, or the first error
 abbrev pub listed : List ℕ → List (List ℕ) → Result (List ℕ) Code
 listed before [] = Ok before
 listed before (item ∷ items) = next (span item) before (λ so_far. listed so_far items)
 
+-- the channels of all items, or the first error
 abbrev pub read_items : List ℕ → Result (List ℕ) Code
 read_items text = if list_all (λ item. is_some (span item)) (cut_at 44 text) then listed [] (cut_at 44 text) else Err InvalidExpression
 
--- the channels of a list, or what is wrong with it
+-- the channels of a list, or its first error
 abbrev pub read_list : List ℕ → Result (List ℕ) Code
 read_list text = option_map_or read_items (inner text) (Err InvalidExpression)

@@ -1,4 +1,4 @@
--- How decimal numbers are spelled (IEEE 488.2, 7.7.2 and 7.7.3): a sign, digits with a point, an exponent, and a suffix.
+-- The parts of a decimal number (IEEE 488.2, 7.7.2 and 7.7.3): a sign, digits with a point, an exponent, and a suffix.
 use Rattle.std.specs.Prelude.{ℕ, ◌==◌, ◌&&◌, ◌||◌, not, Bool, true, List, [], ◌∷◌, take, drop, slice_get, if◌then◌else◌}
 use Rattle.sv_text.specs.Front.{is_empty, has_minus}
 use Rattle.std.specs.Option.{option_map_or}
@@ -6,46 +6,51 @@ use Rattle.std.specs.List.{position_or_len}
 use Rattle.std.specs.Char.{is_ascii_digit, is_ascii_alphabetic}
 use Rattle.sv_text.specs.White.{trim_start}
 
--- the digits in front, up to the first byte that is none, and what stands behind them
+-- how many digits the text begins with
 abbrev pub digits_size : List ℕ → ℕ
 digits_size text = position_or_len (λ b. not (is_ascii_digit b)) text
 
+-- the digits that the text begins with
 abbrev pub digits_in : List ℕ → List ℕ
 digits_in text = take (digits_size text) text
 
+-- the text behind these digits
 abbrev pub behind_digits : List ℕ → List ℕ
 behind_digits text = drop (digits_size text) text
 
--- without the sign in front
+-- the text behind its sign, if it has one
 abbrev pub behind_sign : List ℕ → List ℕ
 behind_sign [] = []
 behind_sign (b ∷ text) = if b == 43 || b == 45 then text else b ∷ text
 
--- the digits behind a point in front, and what stands behind those
+-- the digits behind a point at the front of the text
 abbrev pub fraction_in : List ℕ → List ℕ
 fraction_in [] = []
 fraction_in (b ∷ text) = if b == 46 then digits_in text else []
 
+-- the text behind that point and these digits
 abbrev pub behind_fraction : List ℕ → List ℕ
 behind_fraction [] = []
 behind_fraction (b ∷ text) = if b == 46 then behind_digits text else b ∷ text
 
+-- the text behind an E at its front, and white space; empty without an E
 abbrev pub behind_letter : List ℕ → List ℕ
 behind_letter [] = []
 behind_letter (b ∷ text) = if b == 69 || b == 101 then trim_start text else []
 
--- what stands behind an E and the white space around it; nothing where there is no E
+-- the same, with white space before the E
 abbrev pub behind_mark : List ℕ → List ℕ
 behind_mark text = behind_letter (trim_start text)
 
--- the digits of an exponent; where there are none, there is no exponent
+-- the digits of an exponent; without digits there is no exponent
 abbrev pub exponent_in : List ℕ → List ℕ
 exponent_in text = digits_in (behind_sign (behind_mark text))
 
--- whether it has a minus
+-- whether the exponent has a minus sign
 abbrev pub is_down : List ℕ → Bool
 is_down text = not (is_empty (exponent_in text)) && has_minus (behind_mark text)
 
+-- the text behind the exponent, if there is one
 abbrev pub behind_exponent : List ℕ → List ℕ
 behind_exponent text = if is_empty (exponent_in text) then text else behind_digits (behind_sign (behind_mark text))
 
@@ -58,12 +63,15 @@ pub record Parts : Type 0 where
   pub exponent : List ℕ
   pub suffix : List ℕ
 
+-- the text behind sign and digits
 abbrev pub behind_whole : List ℕ → List ℕ
 behind_whole text = behind_digits (behind_sign text)
 
+-- the text behind the mantissa
 abbrev pub behind_mantissa : List ℕ → List ℕ
 behind_mantissa text = behind_fraction (behind_whole text)
 
+-- the parts of the number that a text is
 abbrev pub number_parts : List ℕ → Parts
 number_parts text = record {
   negative = has_minus text;
@@ -74,10 +82,10 @@ number_parts text = record {
   suffix = trim_start (behind_exponent (behind_mantissa text));
 }
 
--- whether a letter begins a suffix, where there is one
+-- whether a suffix, if there is one, begins with a letter
 abbrev pub begins_well : List ℕ → Bool
 begins_well suffix = option_map_or is_ascii_alphabetic (slice_get suffix 0) true
 
--- whether there is a digit, and what stands behind the number begins with a letter
+-- whether the parts are those of a number: there is a digit, and its suffix begins with a letter
 abbrev pub is_spelled : Parts → Bool
 is_spelled number = not (is_empty number.whole && is_empty number.fraction) && begins_well number.suffix

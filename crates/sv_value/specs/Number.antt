@@ -10,26 +10,29 @@ use Rattle.sv_value.specs.Decimal.{Parts, number_parts, is_spelled}
 abbrev pub nearest : ℕ → ℕ → ℕ
 nearest numerator denominator = (2 * numerator + denominator) / (2 * denominator)
 
--- how far an exponent moves the point to the right, and to the left
+-- by how many places the exponent moves the point to the right
 abbrev pub right : Parts → ℕ
 right number = if number.down then 0 else digits_value 10 number.exponent
 
+-- by how many places it moves the point to the left
 abbrev pub left : Parts → ℕ
 left number = if number.down then digits_value 10 number.exponent else 0
 
--- a number without its sign, in a unit of which the power of ten make its own: its digits over a power of ten, rounded
+-- the magnitude of a number, rounded, in a unit that is smaller by this power of ten
 abbrev pub magnitude : ℕ → Parts → ℕ
 magnitude power number = nearest (digits_value 10 (number.whole ++ number.fraction) * 10 ^ (power + right number))
     (10 ^ (length number.fraction + left number))
 
+-- a magnitude with its sign
 abbrev pub signed : Bool → ℕ → ℤ
 signed negative n = if negative then neg_ℤ (pos n) else pos n
 
--- how many digits a mantissa has, without the zeros in front
+-- how many digits a mantissa has, without leading zeros
 abbrev pub significant_digits : List ℕ → ℕ
 significant_digits digits = length digits - position_or_len (λ b. not (b == 48)) digits
 
--- a number in a unit that its suffix gives, or else what is wrong with it: the first of these
+-- The value of a number, given the power of ten of its suffix (`None` for one that isn't allowed); or the first error: not spelled as a
+-- number (-121), that of the suffix, more than 255 significant digits (-124), an exponent above 32000 (-123).
 abbrev pub read_with : Option ℕ → Code → Parts → Result ℤ Code
 read_with None suffix_code number = if not (is_spelled number) then Err InvalidCharacterInNumber else Err suffix_code
 read_with (Some power) suffix_code number =
@@ -38,5 +41,6 @@ read_with (Some power) suffix_code number =
     else if nat_lt 32000 (digits_value 10 number.exponent) then Err ExponentTooLarge
     else Ok (signed number.negative (magnitude power number))
 
+-- the value of the number that a text is, or the first error
 abbrev pub read_decimal : (List ℕ → Option ℕ) → Code → List ℕ → Result ℤ Code
 read_decimal power_of suffix_code text = read_with (power_of (number_parts text).suffix) suffix_code (number_parts text)

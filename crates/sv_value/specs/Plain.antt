@@ -1,4 +1,4 @@
--- What the types of the code say, in those of the definitions.
+-- Types of the code in sv_value, as plain data.
 use Rattle.std.specs.Prelude.{◌≡◌, ℕ, ℤ, min, List, Option, Some, None, Result, Ok, if◌then◌else◌}
 use Rattle.sv_errors.specs.declared.code.Code.{Code}
 use Rattle.sv_value.specs.declared.amount.Amount.{Amount}
@@ -8,6 +8,7 @@ use Rattle.sv_value.specs.Channels.{Span as Ends, is_number, number}
 use Rattle.sv_value.specs.Decimal.{Parts}
 use Rattle.sv_value.specs.Number.{signed}
 
+-- the parts of a number
 abbrev pub plain : Decimal → Parts
 plain number = record {
   negative = number.negative;
@@ -18,16 +19,16 @@ plain number = record {
   suffix = number.suffix.now;
 }
 
--- An amount stands for an answer that is a number: the same sign, and the same magnitude up to the bound.
+-- The amount stands for a result that is a number: same sign, and same magnitude up to the bound 10 ^ 18.
 abbrev pub StandsFor : Amount → Result ℤ Code → Type 0
 StandsFor amount answer = (magnitude : ℕ) × (answer ≡ Ok (signed amount.negative magnitude))
     × (amount.magnitude ≡ min magnitude 1000000000000000000)
 
--- a number of a channel list, up to the bound
+-- a number of a channel list, up to that bound
 abbrev pub number_up_to : List ℕ → Option ℕ
 number_up_to text = if is_number text then Some (min (number text) 1000000000000000000) else None
 
--- the two ends of an item, up to the bound
+-- the two ends of an item, up to that bound
 abbrev pub ends_up_to : Option Ends → Option Span
 ends_up_to None = None
 ends_up_to (Some ends) = Some (record { first = min ends.first 1000000000000000000; last = min ends.last 1000000000000000000 })

@@ -7,15 +7,15 @@ use Rattle.sv_errors.specs.declared.code.Code.{Code}
 use Rattle.sv_errors.specs.declared.source.Source.{Source}
 use Rattle.sv_errors.specs.declared.source.Source.TheVariants.{Immediate, Bus, External}
 
--- a voltage past the range, or below it: 9.9E37 (SCPI-1999, volume 1, 7.2.1.5)
+-- an overload, below the range or above it: 9.9E37 (SCPI-1999, volume 1, 7.2.1.5)
 abbrev pub overload_text : Bool → List ℕ
 overload_text below = if below then codes "-9.9E+37" else codes "+9.9E+37"
 
--- a whole number: its digits, without a sign or zeros in front
+-- a whole number: its digits, without a sign or leading zeros
 abbrev pub whole_text : ℕ → List ℕ
 whole_text number = decimal number
 
--- a channel list: each channel in decimal, with commas between, in `(@` and `)` (SCPI-1999, volume 1, chapter 8)
+-- a channel list: channels in decimal, separated by commas, in `(@` and `)` (SCPI-1999, volume 1, chapter 8)
 abbrev pub channels_text : List ℕ → List ℕ
 channels_text channels = codes "(@" ++ (join_by decimal (codes ",") channels ++ codes ")")
 

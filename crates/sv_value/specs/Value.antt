@@ -1,4 +1,4 @@
--- What the value of a parameter is, by its kind, or which error it is.
+-- The value of a parameter, by the kind of its data, or its first error.
 use Rattle.std.specs.Prelude.{◌≡◌, ℕ, ℤ, pos, negsuc, nat_le, ◌&&◌, ◌||◌, ◌==◌, Bool, true, false, List, codes, Option, Some, None, Result, Ok, Err, if◌then◌else◌}
 use Rattle.sv_text.specs.Front.{is_empty}
 use Rattle.sv_errors.specs.Limits.{is_within, is_channel_list}
@@ -13,7 +13,7 @@ use Rattle.std.specs.Str.{str_eq_ignore_ascii_case as is_same}
 use Rattle.sv_value.specs.Choice.{read_switch, read_keyword}
 use Rattle.sv_value.specs.Channels.{read_list}
 
--- how many powers of ten a unit of voltage is above the microvolt; no suffix is volts
+-- the power of ten of a suffix over the microvolt; no suffix is volts; `None` for a suffix that isn't allowed
 abbrev pub power_of_volts : List ℕ → Option ℕ
 power_of_volts suffix =
     if is_empty suffix || is_same suffix (codes "V") then Some 6
@@ -22,15 +22,15 @@ power_of_volts suffix =
     else if is_same suffix (codes "UV") then Some 0
     else None
 
--- a number without a unit takes no suffix
+-- the same of a number without a unit, which has no suffix
 abbrev pub power_of_none : List ℕ → Option ℕ
 power_of_none suffix = if is_empty suffix then Some 0 else None
 
--- data of a kind that the place doesn't take
+-- the error of data of a kind that the parameter can't have: -102 for data of no kind, else -104
 abbrev pub wrong_kind : Kind → Code
 wrong_kind = elim [ Other ↦ SyntaxError | _ ↦ DataTypeError ]
 
--- up to 1,000 V in magnitude
+-- the voltage, if it is at most 1,000 V in magnitude; else -222
 abbrev pub within_volts : Result ℤ Code → Result ℤ Code
 within_volts (Err code) = Err code
 within_volts (Ok value) = if is_within value then Ok value else Err DataOutOfRange
@@ -40,24 +40,25 @@ abbrev pub read_voltage : Kind → List ℕ → Result ℤ Code
 read_voltage Number text = within_volts (read_decimal power_of_volts InvalidSuffix text)
 read_voltage kind text = Err (wrong_kind kind)
 
+-- the number, if it is in this range; else -222
 abbrev pub within : ℕ → ℕ → Result ℤ Code → Result ℕ Code
 within low high (Err code) = Err code
 within low high (Ok (negsuc n)) = Err DataOutOfRange
 within low high (Ok (pos n)) = if nat_le low n && nat_le n high then Ok n else Err DataOutOfRange
 
--- a whole number
+-- a whole number in this range
 abbrev pub read_whole : ℕ → ℕ → Kind → List ℕ → Result ℕ Code
 read_whole low high Number text = within low high (read_decimal power_of_none SuffixNotAllowed text)
 read_whole low high Base text = within low high (read_based text)
 read_whole low high kind text = Err (wrong_kind kind)
 
--- 0 is off, all others are on
+-- whether a number is on: 0 is off, all others are on
 abbrev pub is_on : Result ℤ Code → Result Bool Code
 is_on (Err code) = Err code
 is_on (Ok (negsuc n)) = Ok true
 is_on (Ok (pos n)) = Ok (if n == 0 then false else true)
 
--- a boolean
+-- a boolean: a number, ON or OFF
 abbrev pub read_boolean : Kind → List ℕ → Result Bool Code
 read_boolean Number text = is_on (read_decimal power_of_none SuffixNotAllowed text)
 read_boolean Base text = is_on (read_based text)
@@ -74,6 +75,6 @@ abbrev pub read_channels : Kind → List ℕ → Result (List ℕ) Code
 read_channels Expression text = read_list text
 read_channels kind text = Err (wrong_kind kind)
 
--- What is read as a channel list is one.
+-- What reads as a channel list is one: 1 to 128 channels.
 abbrev pub ReadIsChannelList : Type 0
 ReadIsChannelList = (kind : Kind) (text list : List ℕ) → read_channels kind text ≡ Ok list → is_channel_list list ≡ true

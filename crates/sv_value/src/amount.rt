@@ -1,4 +1,4 @@
-//! Numbers before it is known whether they are in range.
+//! Numbers whose range isn't checked yet.
 
 ghost use Rattle.std.specs.Prelude.{◌≡◌, ◌≤◌, ◌++◌, ◌==◌, ℤ, not, true, length, position, Result, Ok, Err, MatchResult, IfOk, IfSome, unsigned_abs};
 ghost use Rattle.std.specs.Char.{is_ascii_digit};
@@ -60,7 +60,7 @@ impl Amount {
         })
     }
 
-    /// The voltage, in microvolts, where it is within 1,000 V.
+    /// The voltage, in microvolts, if it is within 1,000 V.
     pub(crate) fn in_volts(self) -> Result<i64, Code>
         ensures value { (answer : Result ℤ ErrorCode) → StandsFor self answer
             → result ≡ within_volts answer }
@@ -73,7 +73,7 @@ impl Amount {
         Ok(if self.negative { -value } else { value })
     }
 
-    /// The number, where it is from the lowest to the highest.
+    /// The number, if it is in this range.
     pub(crate) fn in_range(self, low: u16, high: u16) -> Result<u16, Code>
         ensures value { (answer : Result ℤ ErrorCode) → StandsFor self answer
             → result ≡ within low high answer }

@@ -72,7 +72,7 @@ fn listed(items: &[u8]) -> Result<ArrayVec<u8, LONGEST_LIST>, Code>
     Ok(list)
 }
 
-/// Adds the channels of an item, or tells what is wrong with it.
+/// Adds the channels of an item, or gives its error.
 fn add(list: &mut ArrayVec<u8, LONGEST_LIST>, item: &[u8]) -> Result<(), Code>
     ensures { MatchResult result
         (λ done. (others : List ℕ → Result (List ℕ) ErrorCode)

@@ -1,4 +1,4 @@
-//! Choices by name.
+//! Character data: booleans and sources of triggers.
 
 ghost use Rattle.std.specs.Prelude.{◌≡◌, IsTrue};
 ghost use Rattle.std.specs.List.{list_all};

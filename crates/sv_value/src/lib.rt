@@ -1,7 +1,7 @@
-//! Values of parameters: voltages, whole numbers, booleans, keywords and channel lists; and how
-//! response data are printed (IEEE 488.2, 7.7 and 8.7; SCPI-1999, volume 1).
+//! Values of parameters: voltages, whole numbers, booleans, sources of triggers and channel lists;
+//! and printing response data (IEEE 488.2, 7.7 and 8.7; SCPI-1999, volume 1).
 //!
-//! Nothing here takes memory, and nothing is a floating-point number.
+//! Nothing allocates, and nothing is a floating-point number.
 #![tactic(auto)]
 
 mod amount;

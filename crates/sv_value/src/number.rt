@@ -1,5 +1,4 @@
-//! The value of a decimal number, without numbers larger than a machine's: where it is past every
-//! range, it is [`MOST`].
+//! The value of a decimal number, with 64 bits: beyond every range it is [`MOST`].
 
 ghost use Rattle.std.specs.Prelude.{◌≡◌, ◌≤◌, ◌<◌, ◌*◌, ◌^◌, ◌+◌, ◌++◌, true, min, length, take, slice_index_or, nat_le, if◌then◌else◌};
 ghost use Rattle.std.specs.Char.{digit_value, is_ascii_digit};

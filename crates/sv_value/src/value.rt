@@ -18,14 +18,14 @@ use arrayvec::ArrayVec;
 use sv_errors::{Code, LONGEST_LIST, Source};
 use sv_lexer::{Kind, Token};
 
-/// A voltage, in microvolts, up to 1,000 V in magnitude: a decimal number, and `V`, `KV`, `MV` (a
-/// thousandth of a volt) or `UV` behind it; volts where nothing is. It is rounded to the nearest
-/// microvolt, half away from zero.
+/// A voltage, in microvolts, up to 1,000 V in magnitude: a decimal number with the suffix `V`,
+/// `KV`, `MV` (a thousandth of a volt) or `UV`, or volts without a suffix. It is rounded to the
+/// nearest microvolt, half away from zero.
 ///
 /// # Errors
-/// [`Code::SyntaxError`] or [`Code::DataTypeError`] for other data;
+/// For other data [`Code::SyntaxError`] or [`Code::DataTypeError`]. For a number the first of
 /// [`Code::InvalidCharacterInNumber`], [`Code::InvalidSuffix`], [`Code::TooManyDigits`],
-/// [`Code::ExponentTooLarge`], [`Code::DataOutOfRange`], the first of these.
+/// [`Code::ExponentTooLarge`], [`Code::DataOutOfRange`].
 pub fn microvolts(token: &Token<'_>) -> Result<i64, Code>
     ensures value { result ≡ read_voltage token.now.kind token.now.text.now }
     ensures range { IfOk result (λ voltage. unsigned_abs voltage ≤ 1000000000) }
@@ -36,14 +36,14 @@ pub fn microvolts(token: &Token<'_>) -> Result<i64, Code>
     }
 }
 
-/// A whole number from the lowest to the highest: a decimal number that is rounded to the nearest,
-/// half away from zero, or digits in another base.
+/// A whole number in this range: a decimal number, rounded to the nearest, half away from zero; or
+/// digits in another base.
 ///
 /// # Errors
-/// [`Code::SyntaxError`] or [`Code::DataTypeError`] for other data;
-/// [`Code::InvalidCharacterInNumber`], [`Code::SuffixNotAllowed`], [`Code::TooManyDigits`],
-/// [`Code::ExponentTooLarge`], [`Code::DataOutOfRange`], the first of these; in another base
-/// [`Code::SyntaxError`] without a digit in front, [`Code::InvalidCharacterInNumber`],
+/// For other data [`Code::SyntaxError`] or [`Code::DataTypeError`]. For a decimal number the first
+/// of [`Code::InvalidCharacterInNumber`], [`Code::SuffixNotAllowed`], [`Code::TooManyDigits`],
+/// [`Code::ExponentTooLarge`], [`Code::DataOutOfRange`]. In another base [`Code::SyntaxError`] if
+/// the letter of a base or a digit behind it is missing, then [`Code::InvalidCharacterInNumber`],
 /// [`Code::DataOutOfRange`].
 pub fn whole(token: &Token<'_>, low: u16, high: u16) -> Result<u16, Code>
     ensures value { result ≡ read_whole low high token.now.kind token.now.text.now }
@@ -60,13 +60,13 @@ pub fn whole(token: &Token<'_>, low: u16, high: u16) -> Result<u16, Code>
     }
 }
 
-/// A boolean: `ON` or `OFF` in any case, or a number of any size, rounded; 0 is off, all others are
+/// A boolean: `ON` or `OFF` in any case, or a number of any size, rounded: 0 is off, all others are
 /// on.
 ///
 /// # Errors
-/// Those of a number, without its range; [`Code::InvalidCharacterData`] and
-/// [`Code::IllegalParameterValue`] of character data; [`Code::SyntaxError`] or
-/// [`Code::DataTypeError`] for other data.
+/// For a number those of [`whole`] but the range. For character data
+/// [`Code::InvalidCharacterData`], then [`Code::IllegalParameterValue`]. For other data
+/// [`Code::SyntaxError`] or [`Code::DataTypeError`].
 pub fn boolean(token: &Token<'_>) -> Result<bool, Code>
     ensures { result ≡ read_boolean token.now.kind token.now.text.now }
 {
@@ -82,13 +82,12 @@ pub fn boolean(token: &Token<'_>) -> Result<bool, Code>
     }
 }
 
-/// Where triggers come from: `IMMediate`, `BUS` or `EXTernal`, in short or long form and in any
-/// case.
+/// A source of triggers: `IMMediate`, `BUS` or `EXTernal`, in short or long form and in any case.
 ///
 /// # Errors
-/// [`Code::InvalidCharacterData`] where a byte is no letter, digit or underscore;
-/// [`Code::IllegalParameterValue`] for another word; [`Code::SyntaxError`] or
-/// [`Code::DataTypeError`] for other data.
+/// For character data [`Code::InvalidCharacterData`] if a byte is no letter, digit or underscore,
+/// then [`Code::IllegalParameterValue`] for another word. For other data [`Code::SyntaxError`] or
+/// [`Code::DataTypeError`].
 pub fn keyword(token: &Token<'_>) -> Result<Source, Code>
     ensures { result ≡ read_source token.now.kind token.now.text.now }
 {
@@ -98,14 +97,13 @@ pub fn keyword(token: &Token<'_>) -> Result<Source, Code>
     }
 }
 
-/// A channel list, as `(@1,5:3)`: its channels in order, at most
+/// A channel list, such as `(@1,5:3)`: its channels in order, at most
 /// [`LONGEST_LIST`](sv_errors::LONGEST_LIST).
 ///
 /// # Errors
-/// [`Code::InvalidExpression`] where it isn't spelled so, then, from the left,
-/// [`Code::DataOutOfRange`] where an end of an item is no channel and [`Code::TooMuchData`] where
-/// there are more than that so far; [`Code::SyntaxError`] or [`Code::DataTypeError`] for
-/// other data.
+/// [`Code::InvalidExpression`] if it isn't spelled so. Then, from the left,
+/// [`Code::DataOutOfRange`] if an end of an item is no channel, or [`Code::TooMuchData`] if there
+/// are too many channels so far. For other data [`Code::SyntaxError`] or [`Code::DataTypeError`].
 pub fn channel_list(token: &Token<'_>) -> Result<ArrayVec<u8, LONGEST_LIST>, Code>
     ensures value { MatchResult result (λ list. read_channels token.now.kind token.now.text.now
         ≡ Ok list.items) (λ code. read_channels token.now.kind token.now.text.now ≡ Err code) }

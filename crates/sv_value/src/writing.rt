@@ -8,9 +8,9 @@ use itoa::Buffer;
 /// How many microvolts a volt has.
 const VOLT: u64 = 1_000_000;
 
-/// Prints a voltage of so many microvolts, up to 1,000 V in magnitude: a sign (`+` for 0), whole
-/// volts, a point and six digits. Writes it at the front of at least 16 bytes, and tells how many
-/// it took, at most 12.
+/// Prints a voltage in microvolts, up to 1,000 V in magnitude: a sign (`+` for 0), whole volts, a
+/// point and six digits. It is written at the front of at least 16 bytes; the result is its length,
+/// at most 12.
 #[tactic(auto, using(crate::proofs::Printed::volts_short))]
 pub fn write_microvolts(value: i64, out: &mut [u8]) -> usize
     requires room { 16 ≤ length out.old }
@@ -33,7 +33,7 @@ fn sign_of(value: i64) -> u8
     if value < 0 { b'-' } else { b'+' }
 }
 
-/// Puts a number as six digits at a place, and tells the place behind them.
+/// Puts a number as six digits at a place, and returns the place behind them.
 #[tactic(auto, using(crate::proofs::Printed::six_short))]
 fn put_six(out: &mut [u8], place: usize, number: u64) -> usize
     requires small { number < 1000000 }
@@ -49,7 +49,7 @@ fn put_six(out: &mut [u8], place: usize, number: u64) -> usize
     put(out, behind, digits)
 }
 
-/// Puts bytes at a place, and tells the place behind them.
+/// Puts bytes at a place, and returns the place behind them.
 fn put(out: &mut [u8], place: usize, bytes: &[u8]) -> usize
     requires { place + length bytes.now ≤ length out.old }
     ensures place { result ≡ place + length bytes.now }

@@ -9,8 +9,7 @@ use Rattle.sv_xdr.specs.declared.garbage.Garbage.{Garbage}
 use Rattle.sv_xdr.specs.Spelling.{Field, Unsigned, Signed, Boolean, Opaque, BeginsAll}
 pub use Rattle.sv_vxi.specs.Limits.{max_handle}
 
--- the arguments of a call on a link behind the link, without where they lie in memory; timeouts are in milliseconds. Five calls have
--- Device_GenericParms.
+-- the arguments of a call on a link, behind the link, as plain data. Timeouts are in milliseconds. Five calls have Device_GenericParms.
 pub data LinkCall : Type 0 where
   DeviceAbort : LinkCall
   DeviceWrite : (io_timeout lock_timeout flags : ℕ) (bytes : List ℕ) → LinkCall
@@ -29,7 +28,7 @@ pub data Arguments : Type 0 where
   CreateIntrChan : (host_addr host_port prog_num prog_vers prog_family : ℕ) → Arguments
   DestroyIntrChan : Arguments
 
--- the number of the call that takes them
+-- the number of the call with these arguments
 abbrev pub procedure_of : Arguments → ℕ
 procedure_of (OnLink lid DeviceAbort) = 1
 procedure_of (CreateLink client_id lock_device lock_timeout device) = 10
@@ -48,17 +47,19 @@ procedure_of (OnLink lid DestroyLink) = 23
 procedure_of (CreateIntrChan host_addr host_port prog_num prog_vers prog_family) = 25
 procedure_of DestroyIntrChan = 26
 
--- the numbers of all calls of the core channel, and then that of the abort channel
+-- the numbers of the calls of the core channel
 abbrev pub core_calls : List ℕ
 core_calls = 10 ∷ 11 ∷ 12 ∷ 13 ∷ 14 ∷ 15 ∷ 16 ∷ 17 ∷ 18 ∷ 19 ∷ 20 ∷ 22 ∷ 23 ∷ 25 ∷ 26 ∷ []
 
+-- the number of the one call of the abort channel, device_abort
 abbrev pub abort_calls : List ℕ
 abort_calls = 1 ∷ []
 
+-- whether a call is one of these
 abbrev pub is_one_of : List ℕ → ℕ → Bool
 is_one_of calls proc = list_any (λ call. proc == call) calls
 
--- their fields, in order; those of a call on a link stand behind the link
+-- the fields of a call on a link, behind the link
 abbrev pub call_fields : LinkCall → List Field
 call_fields (DeviceWrite io_timeout lock_timeout flags bytes) =
     Unsigned io_timeout ∷ Unsigned lock_timeout ∷ Unsigned flags ∷ Opaque bytes ∷ []
@@ -72,6 +73,7 @@ call_fields (DeviceDocmd flags io_timeout lock_timeout cmd network_order datasiz
     ∷ Opaque bytes ∷ []
 call_fields _ = []
 
+-- the fields of the arguments, in order
 abbrev pub argument_fields : Arguments → List Field
 argument_fields (CreateLink client_id lock_device lock_timeout device) =
     Signed client_id ∷ Boolean lock_device ∷ Unsigned lock_timeout ∷ Opaque device ∷ []
@@ -80,16 +82,16 @@ argument_fields (CreateIntrChan host_addr host_port prog_num prog_vers prog_fami
     Unsigned host_addr ∷ Unsigned host_port ∷ Unsigned prog_num ∷ Unsigned prog_vers ∷ Unsigned prog_family ∷ []
 argument_fields DestroyIntrChan = []
 
--- no field is longer than it may be
+-- A handle has at most 40 bytes.
 abbrev pub InBounds : Arguments → Type 0
 InBounds (OnLink lid (DeviceEnableSrq enable handle)) = length handle ≤ max_handle
 InBounds _ = Unit {0}
 
--- The bytes begin with a spelling of the arguments, and these bytes are behind it.
+-- The bytes begin with a spelling of the arguments, and continue with these.
 abbrev pub BeginsWith : List ℕ → Arguments → List ℕ → Type 0
 BeginsWith bytes arguments after = InBounds arguments × BeginsAll bytes (argument_fields arguments) after
 
--- What the bytes are as arguments of a call; bytes behind the last field are ignored.
+-- What the bytes are as arguments of a call. Bytes after the last field are ignored.
 abbrev pub ArgumentsAre : ℕ → List ℕ → Result Arguments Garbage → Type 0
 ArgumentsAre proc bytes (Ok arguments) = (procedure_of arguments ≡ proc) × (after : List ℕ) × BeginsWith bytes arguments after
 ArgumentsAre proc bytes (Err garbage) = (arguments : Arguments) (after : List ℕ) → procedure_of arguments ≡ proc
@@ -100,11 +102,11 @@ abbrev pub link : Arguments → Option ℤ
 link (OnLink lid call) = Some lid
 link _ = None
 
--- what flags and a timeout in milliseconds say of the lock: bit 0 is waitlock
+-- what flags and a timeout, in milliseconds, say of the lock: bit 0 is waitlock
 abbrev pub flagged : ℕ → ℕ → Option LockWait
 flagged flags timeout = Some (record { waits = bit_at flags 0 == 1; timeout = timeout })
 
--- what a call does while another link holds the lock (section B.4.4); `None` for calls that are executed all the same
+-- what a call does while another link holds the lock (section B.4.4); `None` if it is executed all the same
 abbrev pub lock_wait : LinkCall → Option LockWait
 lock_wait (DeviceWrite io_timeout lock_timeout flags bytes) = flagged flags lock_timeout
 lock_wait (DeviceRead request_size io_timeout lock_timeout flags term_char) = flagged flags lock_timeout
@@ -113,7 +115,7 @@ lock_wait (DeviceLock flags lock_timeout) = flagged flags lock_timeout
 lock_wait (DeviceDocmd flags io_timeout lock_timeout cmd network_order datasize bytes) = flagged flags lock_timeout
 lock_wait _ = None
 
--- whether it is create_link
+-- whether the call is create_link
 abbrev pub is_create_link : Arguments → Bool
 is_create_link (CreateLink client_id lock_device lock_timeout device) = true
 is_create_link _ = false

@@ -3,6 +3,7 @@ use Rattle.std.specs.Prelude.{ℕ, ◌==◌, if◌then◌else◌}
 use Rattle.sv_vxi.specs.declared.error_code.ErrorCode.{ErrorCode}
 use Rattle.sv_vxi.specs.declared.error_code.ErrorCode.TheVariants.{NoError, NotAccessible, InvalidLink, ParameterError, NotEstablished, NotSupported, OutOfResources, Locked, NoLock, IoTimeout, InvalidAddress, Abort, AlreadyEstablished}
 
+-- the number of an error
 abbrev pub error_number : ErrorCode → ℕ
 error_number NoError = 0
 error_number NotAccessible = 3
@@ -18,6 +19,6 @@ error_number InvalidAddress = 21
 error_number Abort = 23
 error_number AlreadyEstablished = 29
 
--- a field of a result: what it is to be, and 0 or empty behind an error
+-- the value of a field of a result, or 0 or empty behind an error
 abbrev pub unless_error : {A : Type 0} → ErrorCode → A → A → A
 unless_error error value nothing = if error_number error == 0 then value else nothing

@@ -1,23 +1,23 @@
--- Laws of the spelling alone.
+-- Laws of the spelling of arguments and results.
 use Rattle.std.specs.Prelude.{◌≡◌, ℕ, ◌<◌, List, ◌++◌, All, true}
 use Rattle.sv_xdr.specs.Spelling.{BeginsAll}
 use Rattle.sv_vxi.specs.Arguments.{Arguments, procedure_of, BeginsWith, ArgumentsAre, core_calls, abort_calls, is_one_of}
 use Rattle.sv_vxi.specs.Reading.{arguments_at}
 use Rattle.sv_vxi.specs.Results.{Outcome, result_fields, SameShape}
 
--- What `arguments_at` gives of bytes, for a call of the core channel or device_abort, is what the bytes are as its arguments.
+-- `arguments_at` of bytes, for a call of the core channel or device_abort, is what the bytes are as its arguments.
 abbrev pub ArgumentsAsSpelled : Type 0
 ArgumentsAsSpelled = (proc : ℕ) (bytes : List ℕ) → All (λ byte. byte < 256) bytes → is_one_of (core_calls ++ abort_calls) proc ≡ true
     → ArgumentsAre proc bytes (arguments_at proc bytes)
 
--- Where two lists of arguments of one call begin the same bytes, they are one, and what follows them too. So none is a proper prefix of
+-- If two lists of arguments of one call begin the same bytes, they are the same, and so is what follows. So none is a proper prefix of
 -- another.
 abbrev pub ArgumentsPrefixFree : Type 0
 ArgumentsPrefixFree = (x y : Arguments) (bytes after behind : List ℕ) → procedure_of x ≡ procedure_of y → BeginsWith bytes x after
     → BeginsWith bytes y behind
     → (x ≡ y) × (after ≡ behind)
 
--- Likewise the results of calls that answer alike, as far as they are sent.
+-- The same of the fields of results of the same shape.
 abbrev pub ResultsPrefixFree : Type 0
 ResultsPrefixFree = (x y : Outcome) (bytes after behind : List ℕ) → SameShape x y → BeginsAll bytes (result_fields x) after
     → BeginsAll bytes (result_fields y) behind

@@ -1,4 +1,4 @@
--- Reading the arguments of a call from left to right.
+-- The function that reads the arguments of a call from left to right.
 use Rattle.std.specs.Prelude.{ℕ, ℤ, Bool, List, [], ◌∷◌, Result, Ok, ◌==◌, if◌then◌else◌}
 use Rattle.std.specs.Result.{result_map_both}
 use Rattle.sv_xdr.specs.declared.garbage.Garbage.{Garbage}
@@ -12,16 +12,16 @@ use Rattle.sv_vxi.specs.declared.arguments.LinkCall.TheVariants as calls
 use Rattle.sv_vxi.specs.Limits.{max_handle}
 use Rattle.sv_vxi.specs.Arguments.{LinkCall, DeviceAbort, DeviceWrite, DeviceRead, Generic, DeviceLock, DeviceUnlock, DeviceEnableSrq, DeviceDocmd, DestroyLink, Arguments, CreateLink, OnLink, CreateIntrChan, DestroyIntrChan}
 
--- what a field is; opaque data have this many bytes at most
+-- the kind of a field; opaque data have at most so many bytes
 pub data Kind : Type 0 where
   signed unsigned boolean : Kind
   opaque : (most : ℕ) → Kind
 
--- the longest opaque data that a length can tell
+-- opaque data as long as a length field can express
 abbrev pub any : Kind
 any = opaque 4294967295
 
--- what makes such a thing of the values of these fields
+-- a function of the values of these fields
 abbrev pub Makes : List Kind → Type 0 → Type 0
 Makes [] A = A
 Makes (signed ∷ kinds) A = ℤ → Makes kinds A
@@ -29,7 +29,7 @@ Makes (unsigned ∷ kinds) A = ℕ → Makes kinds A
 Makes (boolean ∷ kinds) A = Bool → Makes kinds A
 Makes (opaque most ∷ kinds) A = List ℕ → Makes kinds A
 
--- These fields are read, one behind the other; bytes behind the last one are ignored.
+-- these fields, read in order; bytes after the last one are ignored
 abbrev pub read : {A : Type 0} → (kinds : List Kind) → Makes kinds A → List ℕ → Result A Garbage
 read [] value bytes = Ok value
 read (signed ∷ kinds) makes bytes = signed_at bytes >>= λ x. read kinds (makes x.0) x.1
@@ -41,7 +41,7 @@ read (opaque most ∷ kinds) makes bytes = opaque_at most bytes >>= λ x. read k
 abbrev pub read_on_link : (kinds : List Kind) → Makes kinds LinkCall → List ℕ → Result Arguments Garbage
 read_on_link kinds makes bytes = signed_at bytes >>= λ x. result_map_both (OnLink x.0) (λ garbage. garbage) (read kinds makes x.1)
 
--- the arguments of each call
+-- the arguments of the call of this number
 abbrev pub arguments_at : ℕ → List ℕ → Result Arguments Garbage
 arguments_at proc =
     if proc == 1 then read_on_link [] DeviceAbort
@@ -61,7 +61,7 @@ arguments_at proc =
     else (if proc == 25 then read (unsigned ∷ unsigned ∷ unsigned ∷ unsigned ∷ unsigned ∷ []) CreateIntrChan
     else read [] DestroyIntrChan))))))))))))))
 
--- arguments as plain data
+-- a call of the code, as plain data
 abbrev pub plain_call : Called → LinkCall
 plain_call calls.DeviceAbort = DeviceAbort
 plain_call (calls.DeviceWrite io_timeout lock_timeout flags bytes) = DeviceWrite io_timeout lock_timeout flags.0 bytes.now
@@ -75,6 +75,7 @@ plain_call (calls.DeviceDocmd flags io_timeout lock_timeout cmd network_order da
     DeviceDocmd flags.0 io_timeout lock_timeout cmd network_order datasize bytes.now
 plain_call calls.DestroyLink = DestroyLink
 
+-- the arguments of the code, as plain data
 abbrev pub plain_arguments : Args → Arguments
 plain_arguments (args.CreateLink client_id lock_device lock_timeout device) = CreateLink client_id lock_device lock_timeout device.now
 plain_arguments (args.OnLink lid call) = OnLink lid (plain_call call)
@@ -82,5 +83,6 @@ plain_arguments (args.CreateIntrChan host_addr host_port prog_num prog_vers prog
     CreateIntrChan host_addr host_port prog_num prog_vers prog_family
 plain_arguments args.DestroyIntrChan = DestroyIntrChan
 
+-- what the code read, as plain data
 abbrev pub plain_reading : Result Args Garbage → Result Arguments Garbage
 plain_reading = result_map_both plain_arguments (λ garbage. garbage)

@@ -8,7 +8,7 @@ use Rattle.sv_vxi.specs.declared.results.VxiResult.TheVariants as results
 use Rattle.sv_vxi.specs.ErrorCode.{error_number, unless_error}
 use Rattle.sv_vxi.specs.Reason.{reason_number}
 
--- a result without where it lies in memory
+-- a result as plain data, a variant for each shape
 pub data Outcome : Type 0 where
   Link : (error : ErrorCode) (lid : ℤ) (abort_port max_recv_size : ℕ) → Outcome
   Size : (error : ErrorCode) (size : ℕ) → Outcome
@@ -17,10 +17,11 @@ pub data Outcome : Type 0 where
   Plain : (error : ErrorCode) → Outcome
   Data : (error : ErrorCode) (bytes : List ℕ) → Outcome
 
+-- the field of an error
 abbrev pub error_field : ErrorCode → Field
 error_field error = Signed (pos (error_number error))
 
--- The fields of a result, in order. Behind an error the others are 0 or empty.
+-- The fields of a result, in order. Behind an error each other field is 0 or empty.
 abbrev pub result_fields : Outcome → List Field
 result_fields (Link error lid abort_port max_recv_size) =
     error_field error ∷ Signed (unless_error error lid (pos 0)) ∷ Unsigned (unless_error error abort_port 0)
@@ -32,7 +33,7 @@ result_fields (Status error stb) = error_field error ∷ Unsigned (unless_error 
 result_fields (Plain error) = error_field error ∷ []
 result_fields (Data error bytes) = error_field error ∷ Opaque (unless_error error bytes []) ∷ []
 
--- a result as plain data
+-- a result of the code, as plain data
 abbrev pub plain_result : VxiResult → Outcome
 plain_result (results.Link error lid abort_port max_recv_size) = Link error lid abort_port max_recv_size
 plain_result (results.Size error size) = Size error size
@@ -41,13 +42,13 @@ plain_result (results.Status error stb) = Status error stb
 plain_result (results.Plain error) = Plain error
 plain_result (results.Data error bytes) = Data error bytes.now
 
--- the data of a result, where it has any
+-- the data of a result; empty if it has none
 abbrev pub data_of : Outcome → List ℕ
 data_of (Read error reason bytes) = unless_error error bytes []
 data_of (Data error bytes) = unless_error error bytes []
 data_of _ = []
 
--- two results are of calls that answer alike
+-- Two results have the same shape: their calls may be answered by either.
 abbrev pub SameShape : Outcome → Outcome → Type 0
 SameShape (Link error lid abort_port max_recv_size) (Link error' lid' abort_port' max_recv_size') = Unit {0}
 SameShape (Size error size) (Size error' size') = Unit {0}

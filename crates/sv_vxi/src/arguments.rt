@@ -1,4 +1,5 @@
-//! The arguments of calls (VXI-11 revision 1.0, sections B.5 and B.6), and what is asked of them.
+//! The arguments of calls (VXI-11 revision 1.0, sections B.5 and B.6), and what the server asks of
+//! them.
 
 ghost use Rattle.std.specs.Prelude.{◌≡◌};
 ghost use Rattle.sv_vxi.specs.Arguments.{link as link_by, lock_wait as lock_wait_by, flagged as flagged_by, is_create_link as makes_link};

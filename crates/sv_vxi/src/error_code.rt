@@ -12,19 +12,19 @@ pub enum ErrorCode {
     NotAccessible = 3,
     /// There is no such link, or it isn't one of this connection.
     InvalidLink = 4,
-    /// A parameter can't be taken, as data that are longer than a write may have.
+    /// A parameter is refused, such as data longer than a write may have.
     ParameterError = 5,
     /// There is no interrupt channel.
     NotEstablished = 6,
     /// The operation isn't supported.
     NotSupported = 8,
-    /// There are as many links as there may be, no number is left for one, or memory is wanting.
+    /// There are as many links as there may be, no number is left for one, or out of memory.
     OutOfResources = 9,
     /// Another link holds the lock.
     Locked = 11,
     /// The link holds no lock.
     NoLock = 12,
-    /// Nothing came, or went, in time.
+    /// What the call waited for didn't come in time.
     IoTimeout = 15,
     /// The address or the port isn't one that may be called back.
     InvalidAddress = 21,

@@ -3,20 +3,19 @@
 ghost use Rattle.std.specs.Prelude.{◌≡◌, ◌==◌};
 ghost use Rattle.std.specs.Int.{bit_at};
 
-/// The flags of a call, any word; bits other than those that are asked for are ignored.
+/// The flags of a call, any word. Bits that no function here asks for are ignored.
 #[derive(Clone, Copy, Debug, PartialEq, Eq)]
 pub struct Flags(pub u32);
 
 impl Flags {
-    /// Whether the call waits for the lock where another link holds it (bit 0).
+    /// Whether the call waits for the lock if another link holds it (bit 0).
     pub fn has_wait_lock(self) -> bool
         ensures { result ≡ (bit_at self.0 0 == 1) }
     {
         self.0 % 2 == 1
     }
 
-    /// Whether a write ends its message, behind its last byte or, of an empty one, by itself (bit
-    /// 3).
+    /// Whether a write has END: its last byte, or an empty write itself, ends the message (bit 3).
     pub fn has_end(self) -> bool
         ensures { result ≡ (bit_at self.0 3 == 1) }
     {

@@ -1,7 +1,7 @@
-//! The calls of VXI-11 (revision 1.0, sections B.5 and B.6): reading their arguments and writing
-//! their results, for the core and the abort channel.
+//! The calls of VXI-11 (revision 1.0, sections B.5 and B.6), of the core and the abort channel:
+//! reading their arguments and writing their results.
 //!
-//! No call takes memory.
+//! Nothing allocates.
 #![tactic(auto)]
 
 mod arguments;

@@ -18,9 +18,12 @@ use sv_xdr::{Garbage, Reader};
 /// device_enable_srq).
 const MAX_HANDLE: u32 = 40;
 
-/// Reads the arguments of a call; bytes behind the last field are ignored. They are garbage where
-/// the bytes don't begin with a spelling of them, as where a boolean is neither 0 nor 1, or a
-/// handle is longer than it may be. `proc` has to be a call of the core channel or device_abort.
+/// Reads the arguments of a call; bytes behind the last field are ignored. `proc` has to be a call
+/// of the core channel or device_abort.
+///
+/// # Errors
+/// [`Garbage`] if the bytes don't begin with a spelling of the arguments: a field is missing, a
+/// boolean is neither 0 nor 1, a byte of padding isn't 0, or a handle is above 40 bytes.
 pub fn read_args(proc: u32, bytes: &[u8]) -> Result<Args<'_>, Garbage>
     requires { is_one_of (core_calls ++ abort_calls) proc ≡ true }
     // What is read is spelled there, and is garbage only if nothing is.

@@ -15,7 +15,7 @@ pub struct Reason {
 }
 
 impl Reason {
-    /// REQCNT 1, CHR 2 and END 4, as many as hold.
+    /// The number of the reasons: REQCNT 1, CHR 2 and END 4, added.
     pub fn number(self) -> i32
         ensures { result ≡ pos (reason_number self) }
     {

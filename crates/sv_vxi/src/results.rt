@@ -10,8 +10,8 @@ use crate::error_code::ErrorCode;
 use crate::reason::Reason;
 use sv_xdr::{Writer, XdrFault};
 
-/// The result of a call, a variant for each shape. Behind an error all other fields are written as
-/// 0 or empty, whatever they are.
+/// The result of a call, a variant for each shape. Behind an error each other field is written as 0
+/// or empty, whatever it is.
 #[derive(Clone, Copy)]
 pub enum VxiResult<'a> {
     /// Of create_link.
@@ -63,7 +63,7 @@ pub enum VxiResult<'a> {
 }
 
 impl<'a> VxiResult<'a> {
-    /// The data of the result, where it has any.
+    /// The data of the result; empty if it has none.
     fn data(&self) -> &'a [u8]
         ensures { result.now ≡ data_of (plain_result self.now) }
     {
@@ -90,8 +90,11 @@ fn data_unless_error(error: ErrorCode, bytes: &[u8]) -> &[u8]
     }
 }
 
-/// Writes a result. The fault is `NoRoom`, and the whole fields in front of the one that has no
-/// room stay written; or, for data that no length can tell, `TooLong`, and nothing is written.
+/// Writes a result.
+///
+/// # Errors
+/// `TooLong` for data longer than a length field can express, 4,294,967,295 bytes; nothing is
+/// written. Else `NoRoom` at the first field that doesn't fit; those in front of it stay written.
 pub fn write_result(writer: &mut Writer<'_>, outcome: &VxiResult<'_>) -> Result<(), XdrFault>
     ensures same_buffer { writer.new.out.ghost_name ≡ writer.old.out.ghost_name }
     ensures writes { length (data_of (plain_result outcome.now)) < 2 ^ 32

@@ -13,26 +13,26 @@ use Rattle.sv_words.specs.declared.words.Serve.{Serve}
 use Rattle.sv_words.specs.declared.words.Words.{Words}
 use Rattle.sv_words.specs.declared.words.Words.TheVariants.{Replay, Server}
 
--- 1 to 10 decimal digits that spell a number from 1 to this
+-- The text has 1 to 10 decimal digits, which spell a number from 1 to this.
 abbrev pub IsCount : ℕ → Text → ℕ → Type 0
 IsCount most digits n = IsNumeral 10 digits × (length digits ≤ 10) × (n ≡ digits_value 10 digits) × (1 ≤ n) × (n ≤ most)
 
--- an option that takes one value and has to be there
+-- a required option with one value
 abbrev pub option : Text → Rule
 option name = record (new_rule name) { long = Some name; action = Some Set; required = true }
 
--- the command `serve` of five such options
+-- the command `serve`, with five such options
 abbrev pub serve_command : App
 serve_command =
     with_rule (with_rule (with_rule (with_rule (with_rule (new_app (codes "serve"))
     (option (codes "core"))) (option (codes "abort"))) (option (codes "portmap"))) (option (codes "scenario"))) (option (codes "sweeps"))
 
--- there is a value, and of it this holds
+-- There is a value, of which this holds.
 abbrev pub IfGiven : Option Text → (Text → Type 0) → Type 0
 IfGiven (Some text) P = P text
 IfGiven None P = ⊥
 
--- The values of the five options, by their names, tell what is to be served.
+-- The values of the five options, by name, say what is to be served.
 abbrev pub ServesBy : (Text → Option Text) → Serve → Type 0
 ServesBy value serve = IfGiven (value (codes "core")) (λ text. IsCount 65535 text serve.core)
     × IfGiven (value (codes "abort")) (λ text. IsCount 65535 text serve.abort)
@@ -40,29 +40,29 @@ ServesBy value serve = IfGiven (value (codes "core")) (λ text. IsCount 65535 te
     × IfGiven (value (codes "scenario")) (λ text. serve.scenario.now ≡ text)
     × IfGiven (value (codes "sweeps")) (λ text. IsCount 4294967295 text serve.sweeps)
 
--- No word is `--`, the command finds no fault in them, and the values that it matches tell what is to be served.
+-- No word is `--`, clap's command finds no fault in the words, and the values that it matches say what is to be served.
 abbrev pub Serves : List Text → Serve → Type 0
 Serves words serve = (Contains words (codes "--") → ⊥) × (fault_of serve_command words ≡ [])
     × ServesBy (λ name. first_of name (matches_of serve_command words)) serve
 
--- The one word `replay`; or `serve`, with the options behind it.
+-- The words are the one word `replay`; or `serve`, with its options behind it.
 abbrev pub AsksFor : List Text → Words → Type 0
 AsksFor words Replay = words ≡ codes "replay" ∷ []
 AsksFor [] (Server serve) = ⊥
 AsksFor (word ∷ words) (Server serve) = (word ≡ codes "serve") × Serves (word ∷ words) serve
 
--- what reading words answers
+-- What reading the words returns.
 abbrev pub ReadsWords : {A : Type 0} → (A → Type 0) → Result A ProgramFault → Type 0
 ReadsWords P (Ok asked) = P asked
 ReadsWords {A} P (Err BadWords) = (asked : A) → P asked → ⊥
 ReadsWords P (Err (Run fault)) = fault ≡ Memory
 ReadsWords P (Err Socket) = ⊥
 
--- one that is so is found, if there is one
+-- If there is something of which this holds, it is found.
 abbrev pub Finds : {A : Type 0} → (A → Type 0) → Option A → Type 0
 Finds P (Some found) = P found
 Finds {A} P None = (other : A) → P other → ⊥
 
--- Words that the command refuses are bad, unless memory was refused.
+-- Words that the command refuses are bad words, unless memory was refused.
 abbrev pub IsUsageFault : ErrorKind → ProgramFault → Type 0
 IsUsageFault kind fault = ((kind ≡ OutOfMemory) × (fault ≡ Run Memory)) ⊎ ((kind ≡ OutOfMemory → ⊥) × (fault ≡ BadWords))

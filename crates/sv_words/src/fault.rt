@@ -1,4 +1,4 @@
-//! What the program tells where it stops, and the status with which it exits.
+//! Why the program stops, and its exit status.
 
 ghost use Rattle.std.specs.Prelude.{◌≡◌};
 
@@ -23,7 +23,8 @@ pub enum ProgramFault {
 impl ProgramFault {
     ghost use Rattle.sv_words.specs.Program.{status};
 
-    /// The status with which the program exits: 2 for words and lines, 3 for the world around it.
+    /// The exit status of the fault: 2 for bad words and bad lines, 3 for input, output, memory and
+    /// sockets.
     pub fn status(self) -> u8
         ensures { result ≡ status self }
     {

@@ -1,4 +1,4 @@
-//! What the program scanvolt is told by the words of its command line, and why it stops.
+//! What the words of the command line ask of the program scanvolt, and why it stops.
 #![tactic(auto)]
 
 mod fault;

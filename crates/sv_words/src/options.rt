@@ -1,4 +1,4 @@
-//! The options of `serve`, and what their values tell.
+//! The options of `serve`, and what their values say.
 
 ghost use Rattle.std.specs.Prelude.{◌≡◌, ◌≤◌, ◌==◌, false, IfOk, slice_index};
 ghost use Rattle.clap.specs.Words.{app_of};

@@ -37,13 +37,13 @@ pub struct Serve<'a> {
     pub sweeps: u32,
 }
 
-/// Reads the words behind the program's name: the one word `replay`, or `serve` and five options
-/// in any order, each of them once and with its value: `--core`, `--abort` and `--portmap` with a
+/// Reads the words behind the program's name: the one word `replay`; or `serve` and five options in
+/// any order, each once and with its value. These are `--core`, `--abort` and `--portmap` with a
 /// port of 1 to 65535, `--scenario` with a path, `--sweeps` with 1 to 4,294,967,295. A number has 1
-/// to 10 decimal digits. There is no other word, nor a `--` behind them.
+/// to 10 decimal digits. There is no other word, and no `--`.
 ///
 /// # Errors
-/// `BadWords` for all others, and where memory is refused its fault.
+/// `Run(Memory)` if memory is refused, `BadWords` for all other words.
 pub fn read_words<'a, S: AsStr>(alloc: Global, words: &'a [S]) -> Result<Words<'a>, ProgramFault>
     ensures { ReadsWords (AsksFor (map S.text words.now)) result }
 {

@@ -1,8 +1,8 @@
--- Laws of the spelling alone.
+-- Laws of the spelling of fields.
 use Rattle.std.specs.Prelude.{◌≡◌, ℕ, List, ◌++◌}
 use Rattle.sv_xdr.specs.Spelling.{Field, Unsigned, Signed, Boolean, Opaque, Spells, spelling}
 
--- two fields are of one kind
+-- Two fields are of the same kind.
 abbrev pub SameKind : Field → Field → Type 0
 SameKind (Unsigned m) (Unsigned n) = Unit {0}
 SameKind (Signed y) (Signed z) = Unit {0}
@@ -10,11 +10,11 @@ SameKind (Boolean b) (Boolean c) = Unit {0}
 SameKind (Opaque s) (Opaque t) = Unit {0}
 SameKind _ _ = ⊥
 
--- Where two spellings of one kind begin the same bytes, they are one spelling, of one value. So none is a proper prefix of another's.
+-- If two spellings of one kind begin the same bytes, they are the same, and so are their values. So none is a proper prefix of another.
 abbrev pub PrefixFree : Type 0
 PrefixFree = (x y : Field) (a b after behind : List ℕ) → SameKind x y → Spells a x → Spells b y → a ++ after ≡ b ++ behind
     → (a ≡ b) × (x ≡ y)
 
--- A field has one spelling, which the function gives.
+-- A field has one spelling, that of the function.
 abbrev pub OneSpelling : Type 0
 OneSpelling = (x : Field) (bytes : List ℕ) → Spells bytes x → bytes ≡ spelling x

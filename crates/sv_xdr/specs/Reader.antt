@@ -12,25 +12,28 @@ abbrev pub ◌>>=◌ : {A B : Type 0} → Result A XdrFault → (A → Result B 
 (Ok x) >>= f = f x
 (Err fault) >>= f = Err fault
 
--- What a call returned and the place after it are what reading gives; a fault leaves the place.
+-- What a read returned and the place after it are what the function gives; a fault leaves the place.
 abbrev pub IsRead : {X Y : Type 0} → (X → Y) → Result X XdrFault → List ℕ → List ℕ → Result (Y × List ℕ) XdrFault → Type 0
 IsRead view (Ok x) old new read = read ≡ Ok (view x, new)
 IsRead view (Err fault) old new read = (read ≡ Err fault) × (new ≡ old)
 
+-- an unsigned integer at the front of bytes, and the bytes after it
 abbrev pub unsigned_at : List ℕ → Result (ℕ × List ℕ) XdrFault
 unsigned_at bytes = if nat_lt (length bytes) 4 then Err Short else Ok (from_be_bytes w32 (take 4 bytes), drop 4 bytes)
 
+-- a signed integer, likewise
 unfoldable pub signed_at : List ℕ → Result (ℤ × List ℕ) XdrFault
 signed_at bytes = do
   n ← unsigned_at bytes
   Ok (cast_signed w32 n.0, n.1)
 
+-- a boolean, likewise
 unfoldable pub boolean_at : List ℕ → Result (Bool × List ℕ) XdrFault
 boolean_at bytes = do
   n ← unsigned_at bytes
   if n.0 == 0 then Ok (false, n.1) else (if n.0 == 1 then Ok (true, n.1) else Err BadBool)
 
--- the data of this many bytes, their pad, and what comes after them
+-- data of this length, and the bytes after them and their padding
 unfoldable pub padded_at : ℕ → List ℕ → Result (List ℕ × List ℕ) XdrFault
 padded_at n bytes =
     if nat_lt (length bytes) (n + pad_len n) then Err Short
@@ -39,6 +42,7 @@ padded_at n bytes =
       drop (n + pad_len n) bytes,
     ) else Err BadPad)
 
+-- opaque data of at most `max` bytes, likewise
 unfoldable pub opaque_at : ℕ → List ℕ → Result (List ℕ × List ℕ) XdrFault
 opaque_at max bytes = do
   n ← unsigned_at bytes

@@ -1,4 +1,4 @@
--- What a writer has written, and what a write leaves.
+-- What a writer has written, and what a write changes.
 use Rattle.std.specs.Prelude.{◌≡◌, ℕ, ◌<◌, ◌≤◌, List, ◌∷◌, ◌++◌, length, take, drop, Result, Ok, Err}
 use Rattle.std.specs.List.{concat}
 use Rattle.sv_xdr.specs.declared.fault.XdrFault.{XdrFault}
@@ -10,17 +10,17 @@ use Rattle.sv_xdr.specs.Spelling.{Field, Spells}
 abbrev pub text_of : Writer → List ℕ
 text_of writer = take writer.written writer.out.now
 
--- the rest of the buffer, which is the room that is left
+-- the rest of the buffer: the room that is left
 abbrev pub rest_of : Writer → List ℕ
 rest_of writer = drop writer.written writer.out.now
 
--- The bytes come after what was written, and the rest of the buffer stays.
+-- These bytes follow what was written before; the rest of the buffer is unchanged.
 pub record Appends (bytes : List ℕ) (old new : Writer) : Type 0 where
   pub text : text_of new ≡ text_of old ++ bytes
   pub rest : rest_of old ≡ take (length bytes) (rest_of old) ++ rest_of new
   pub fits : length bytes ≤ length (rest_of old)
 
--- A spelling of the field comes after what was written.
+-- A spelling of the field follows what was written before.
 abbrev pub AppendsField : Field → Writer → Writer → Type 0
 AppendsField field old new = (bytes : List ℕ) × Spells bytes field × Appends bytes old new
 
@@ -29,12 +29,12 @@ pub record Stays (old new : Writer) : Type 0 where
   pub text : text_of new ≡ text_of old
   pub rest : rest_of new ≡ rest_of old
 
--- The bytes are written exactly if there is room for them.
+-- The bytes are written exactly if they fit; else the fault is `NoRoom`, and nothing is written.
 abbrev pub Writes : List ℕ → Result Unit XdrFault → Writer → Writer → Type 0
 Writes bytes (Ok done) old new = Appends bytes old new
 Writes bytes (Err fault) old new = (fault ≡ NoRoom) × (length (rest_of old) < length bytes) × Stays old new
 
--- The pieces are written one behind the other. Where one has no room, those in front of it stay written, and nothing else is.
+-- The pieces are written in order. If one doesn't fit, those before it stay written, and nothing else is.
 abbrev pub WritesEach : List (List ℕ) → Result Unit XdrFault → Writer → Writer → Type 0
 WritesEach pieces (Ok done) old new = Appends (concat pieces) old new
 WritesEach pieces (Err fault) old new = (fault ≡ NoRoom) × (front behind : List (List ℕ)) × (piece : List ℕ)

@@ -1,8 +1,8 @@
-//! Why a field could not be read or written.
+//! Why a field can't be read or written.
 
 use thiserror::Error;
 
-/// Why a field could not be read or written. The place in the bytes is then unchanged.
+/// Why a field can't be read or written. The place then stays.
 #[derive(Clone, Copy, Debug, PartialEq, Eq, Error)]
 pub enum XdrFault {
     /// The bytes end before the field does.
@@ -15,7 +15,7 @@ pub enum XdrFault {
     #[error("a boolean is neither 0 nor 1")]
     BadBool = 3,
     /// Opaque data are longer than the field may be: than the maximum that the reader was given,
-    /// or, for a writer, than the 4,294,967,295 bytes that a length can tell.
+    /// or, for a writer, than the 4,294,967,295 bytes that a length field can express.
     #[error("the opaque data are too long")]
     TooLong = 4,
     /// The field is longer than the room that is left.

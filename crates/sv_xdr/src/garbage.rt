@@ -3,8 +3,8 @@
 use crate::fault::XdrFault;
 use thiserror::Error;
 
-/// The bytes don't begin with a spelling of the fields that are asked for, as the arguments of a
-/// call that can't be read (RFC 5531, section 9, GARBAGE_ARGS). Which field it is isn't kept.
+/// The bytes don't begin with a spelling of the fields that are wanted: a call's arguments that
+/// can't be read (RFC 5531, section 9, GARBAGE_ARGS). It doesn't say which field.
 #[derive(Clone, Copy, Debug, PartialEq, Eq, Error)]
 #[error("the arguments can't be read")]
 pub struct Garbage;

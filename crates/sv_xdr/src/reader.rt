@@ -8,8 +8,8 @@ ghost use Rattle.sv_xdr.specs.Reader.{IsRead, unsigned_at, signed_at, boolean_at
 use crate::fault::XdrFault;
 use std::marker::Model;
 
-/// A place in some bytes, from which fields are read from left to right. Contracts see it as the
-/// bytes from that place on.
+/// A place in bytes, from which fields are read in order. Contracts see it as the bytes from that
+/// place on.
 #[derive(Debug, Drop)]
 pub struct Reader<'a> {
     rest: &'a [u8],
@@ -24,21 +24,24 @@ impl<'a> Model for Reader<'a> {
 }
 
 impl<'a> Reader<'a> {
-    /// At the front of these bytes.
+    /// A reader at the front of these bytes.
     pub fn new(bytes: &'a [u8]) -> Reader<'a>
         ensures { result ≡ bytes.now }
     {
         Reader { rest: bytes }
     }
 
-    /// The bytes from this place on.
+    /// The bytes from the reader's place on.
     pub fn rest(&self) -> &'a [u8]
         ensures { result.now ≡ self.now }
     {
         self.rest
     }
 
-    /// Reads an unsigned integer (RFC 4506, section 4.2). The fault is `Short`.
+    /// Reads an unsigned integer (RFC 4506, section 4.2).
+    ///
+    /// # Errors
+    /// `Short` if fewer than 4 bytes are left. The place stays.
     pub fn u32(&mut self) -> Result<u32, XdrFault>
         // What is read is spelled there.
         ensures found { IfOk result (λ n. Begins self.old (Unsigned n) self.new) }
@@ -56,7 +59,10 @@ impl<'a> Reader<'a> {
         Ok(u32::from_be_bytes([front[0], front[1], front[2], front[3]]))
     }
 
-    /// Reads a signed integer (RFC 4506, section 4.1). The fault is `Short`.
+    /// Reads a signed integer (RFC 4506, section 4.1).
+    ///
+    /// # Errors
+    /// `Short` if fewer than 4 bytes are left. The place stays.
     #[tactic(auto, unfolding(crate::specs::Reader::signed_at))]
     pub fn i32(&mut self) -> Result<i32, XdrFault>
         ensures found { IfOk result (λ z. Begins self.old (Signed z) self.new) }
@@ -68,7 +74,11 @@ impl<'a> Reader<'a> {
         Ok(word.cast_signed())
     }
 
-    /// Reads a boolean (RFC 4506, section 4.4). The faults are `Short` and then `BadBool`.
+    /// Reads a boolean (RFC 4506, section 4.4).
+    ///
+    /// # Errors
+    /// `Short` if fewer than 4 bytes are left, then `BadBool` if the number is neither 0 nor 1. The
+    /// place stays.
     #[tactic(auto, unfolding(crate::specs::Reader::boolean_at))]
     pub fn boolean(&mut self) -> Result<bool, XdrFault>
         ensures found { IfOk result (λ b. Begins self.old (Boolean b) self.new) }
@@ -87,9 +97,12 @@ impl<'a> Reader<'a> {
     }
 
     /// Reads variable-length opaque data of at most `max` bytes (RFC 4506, section 4.10), or a
-    /// string, which is spelled alike (section 4.11). The result is a slice of the bytes. The
-    /// faults are, in this order, `Short` for the length, `TooLong`, `Short` for the data and their
-    /// pad, and `BadPad`.
+    /// string, which is spelled alike (section 4.11). The result is a slice of the bytes.
+    ///
+    /// # Errors
+    /// The first of these: `Short` if fewer than 4 bytes are left; `TooLong` if the length is above
+    /// `max`; `Short` if data and padding aren't all there; `BadPad` if a byte of the padding isn't
+    /// 0. The place stays.
     #[tactic(auto, unfolding(crate::specs::Reader::opaque_at))]
     pub fn opaque(&mut self, max: u32) -> Result<&'a [u8], XdrFault>
         ensures found { IfOk result (λ text. Begins self.old (Opaque text.now) self.new

@@ -5,8 +5,8 @@ ghost use Rattle.std.specs.Prelude.{◌≡◌, ◌<◌, ◌≤◌, ◌^◌, [], 
 use crate::fault::XdrFault;
 use crate::reader::pad_len;
 
-/// A buffer of the caller's into which fields are written from left to right. Contracts see what
-/// was written and the rest of the buffer.
+/// A caller's buffer, into which fields are written in order. Contracts see what was written, and
+/// the rest of the buffer.
 #[derive(Debug, Drop)]
 pub struct Writer<'b> {
     out: &'b mut [u8],
@@ -18,7 +18,7 @@ impl<'b> Writer<'b> {
     ghost use Rattle.sv_xdr.specs.Spelling.{Unsigned, Signed, Boolean, Opaque, spelling};
     ghost use Rattle.sv_xdr.specs.Writer.{text_of, rest_of, Appends, AppendsField, Stays, Writes};
 
-    /// At the front of this buffer.
+    /// A writer at the front of this buffer.
     pub fn new(buffer: &'b mut [u8]) -> Writer<'b>
         ensures same_buffer { result.out.ghost_name ≡ buffer.entry.ghost_name }
         ensures text { text_of result ≡ [] }
@@ -37,14 +37,17 @@ impl<'b> Writer<'b> {
         self.written
     }
 
-    /// What was written.
+    /// The bytes that were written.
     pub fn text(&self) -> &[u8]
         ensures { result.now ≡ text_of self.now }
     {
         &self.out[..self.written]
     }
 
-    /// Writes an unsigned integer (RFC 4506, section 4.2). The fault is `NoRoom`.
+    /// Writes an unsigned integer (RFC 4506, section 4.2).
+    ///
+    /// # Errors
+    /// `NoRoom` if fewer than 4 bytes of the buffer are left. Nothing is written.
     pub fn u32(&mut self, number: u32) -> Result<(), XdrFault>
         ensures same_buffer { self.new.out.ghost_name ≡ self.old.out.ghost_name }
         ensures spelled { OnOk result (AppendsField (Unsigned number) self.old self.new) }
@@ -55,7 +58,10 @@ impl<'b> Writer<'b> {
         self.bytes(&number.to_be_bytes())
     }
 
-    /// Writes a signed integer (RFC 4506, section 4.1). The fault is `NoRoom`.
+    /// Writes a signed integer (RFC 4506, section 4.1).
+    ///
+    /// # Errors
+    /// `NoRoom` if fewer than 4 bytes of the buffer are left. Nothing is written.
     pub fn i32(&mut self, integer: i32) -> Result<(), XdrFault>
         ensures same_buffer { self.new.out.ghost_name ≡ self.old.out.ghost_name }
         ensures spelled { OnOk result (AppendsField (Signed integer) self.old self.new) }
@@ -64,7 +70,10 @@ impl<'b> Writer<'b> {
         self.bytes(&integer.to_be_bytes())
     }
 
-    /// Writes a boolean (RFC 4506, section 4.4). The fault is `NoRoom`.
+    /// Writes a boolean (RFC 4506, section 4.4).
+    ///
+    /// # Errors
+    /// `NoRoom` if fewer than 4 bytes of the buffer are left. Nothing is written.
     pub fn boolean(&mut self, value: bool) -> Result<(), XdrFault>
         ensures same_buffer { self.new.out.ghost_name ≡ self.old.out.ghost_name }
         ensures spelled { OnOk result (AppendsField (Boolean value) self.old self.new) }
@@ -73,8 +82,11 @@ impl<'b> Writer<'b> {
         self.bytes(&u32::from(value).to_be_bytes())
     }
 
-    /// Writes variable-length opaque data (RFC 4506, section 4.10). The faults are `TooLong`, for
-    /// data that no length can tell, and then `NoRoom`.
+    /// Writes variable-length opaque data (RFC 4506, section 4.10).
+    ///
+    /// # Errors
+    /// `TooLong` for data longer than a length field can express, 4,294,967,295 bytes; then
+    /// `NoRoom` if length, data and padding don't all fit. Nothing is written.
     pub fn opaque(&mut self, text: &[u8]) -> Result<(), XdrFault>
         ensures same_buffer { self.new.out.ghost_name ≡ self.old.out.ghost_name }
         ensures spelled { OnOk result (AppendsField (Opaque text.now) self.old self.new) }

@@ -6,7 +6,7 @@ use Rattle.sv_header.specs.Pattern.{Part, Row, row}
 use Rattle.sv_header.specs.Plain.{part}
 use Rattle.sv_header.specs.Table.{common_commands, other_commands}
 
--- the command of the headers that end at a node, with the query sign or without it
+-- the command of the headers that end at a node, with the question mark or without it
 abbrev pub command_of : Bool → Branch → Option CommandId
 command_of false branch = branch.plain
 command_of true branch = branch.query
@@ -17,7 +17,7 @@ IsParted [] branch children siblings = ⊥
 IsParted (first ∷ behind) branch children siblings =
     (branch ≡ first) × (children ≡ take first.below behind) × (siblings ≡ drop first.below behind)
 
--- the row that ends at a node, with the query sign or without it, where that has a command
+-- the row that ends at a node, with the question mark or without it, where that has a command
 abbrev pub ending_row : Bool → Bool → Option CommandId → List Row
 ending_row common query None = []
 ending_row common query (Some command) = row common query [] command ∷ []

@@ -86,8 +86,14 @@ adds_to (Conn d) config first second one two events log also bytes h x y
     let same : bytes ≡ (v.each d).sent =
     append_cancel_left (first d) bytes (v.each d).sent (ap (λ (l : List ℕ). l ++ bytes) (sym here) ∙ all) in (
       second d,
-      (h.b, channel_log, h.also, h.same.tells channel_log (hears_in config one found h.a channel_log is_found h.was hears), sym
-          (h.two_sent d)),
+      (
+        h.b,
+        channel_log,
+        h.also,
+        h.same.tells channel_log (hears_in config one found h.a channel_log is_found h.was hears),
+        sym
+            (h.two_sent d),
+      ),
       (
         also,
         heard,

@@ -416,4 +416,4 @@ fit_none = record {
 pub fit_log : (config : Config) (history : List PlainEvent) (log : List Act) → IsLogOf config history log → Fit log
 fit_log config =
     each_log config Fit fit_none (λ event polled channel_log log is free. fit_event config event polled channel_log log free)
-        (fit_step config)
+    (fit_step config)

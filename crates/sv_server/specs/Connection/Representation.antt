@@ -1,12 +1,12 @@
--- What the server keeps of a connection, and what of its acts that stands for.
+-- What the server keeps of a connection, and which acts that stands for.
 use Rattle.std.specs.Prelude.{◌≡◌, ℕ, ◌≤◌, Bool, true, List, length, Option, slice_get, is_some}
 use Rattle.sv_rpc.specs.RecordBuf.{Records, StandsFor}
 use Rattle.sv_history.specs.declared.event.Role.{Role}
 use Rattle.sv_history.specs.Act.{ConnAct}
 use Rattle.sv_history.specs.Connection.{untaken, completed, given, open_role, sent, stream, took_no_call, is_busy, unanswered}
 
--- what it is open for; what came and didn't come to its end; what waits to be sent; whether a record was taken that is no call; and whether
--- its first record is a call that was taken
+-- what is kept: its role; the records that came and aren't done; the bytes that wait to be sent; whether a record was taken that is no
+-- call; whether its first record is a call that was taken
 pub record Connection : Type 0 where
   pub role : Option Role
   pub input : Records

@@ -1,4 +1,4 @@
--- What the server keeps of what all connections share, and what of its acts that stands for.
+-- What the server keeps of the device, and which acts that stands for.
 use Rattle.std.specs.Prelude.{◌≡◌, ℕ, ◌+◌, ◌<◌, ◌≤◌, true, List, [], ◌++◌, length, Some}
 use Rattle.std.specs.List.{AllByRecursion}
 use Rattle.sv_links.specs.declared.waiting.Entry.{Entry}
@@ -17,6 +17,7 @@ use Rattle.sv_history.specs.Act.{DeviceAct, link_acts, wait_acts, instrument_act
 use Rattle.sv_history.specs.Requests.{HearsOf}
 use Rattle.sv_history.specs.Interrupts.{is_dialing}
 
+-- what is kept: the table of links, the queue of suspended calls, the interrupt channels, the instrument, the configuration, the clock
 pub record Device : Type 0 where
   pub links : Table
   pub waiting : List Entry
@@ -25,15 +26,15 @@ pub record Device : Type 0 where
   pub config : Config
   pub clock : ℕ
 
--- There are places, and memory, for the links of all create_links that wait.
+-- There are places, and memory, for the links of all suspended create_links.
 abbrev pub IsReserved : Device → List DeviceAct → Type 0
 IsReserved kept acts = (length (live (link_acts acts)) + creations kept.waiting ≤ max_links) × (creations kept.waiting ≤ kept.links.spare)
 
--- There are those for one more.
+-- There is a place, and memory, for one more.
 abbrev pub HasPlace : Device → List DeviceAct → Type 0
 HasPlace kept acts = (length (live (link_acts acts)) + creations kept.waiting < max_links) × (creations kept.waiting < kept.links.spare)
 
--- Each link that asks for service requests lives, on the connection that it is of.
+-- Each link that has service requests enabled lives, on its connection.
 abbrev pub AreOwned : List Enabled → List LinkAct → Type 0
 AreOwned links acts = AllByRecursion (λ link. owner link.lid acts ≡ Some link.conn) links
 
@@ -42,12 +43,12 @@ abbrev pub AreTold : Channels → List DeviceAct → Type 0
 AreTold kept acts = (channel_log : List ChannelAct) × HearsOf acts channel_log × AreChannels kept channel_log
     × AreOwned kept.enabled (link_acts acts)
 
--- One that a create_intr_chan waits for can be opened.
+-- The channel of each suspended create_intr_chan can be opened.
 abbrev pub AreReady : Channels → List WaitAct → Type 0
 AreReady kept acts = (c : ℕ) → is_dialing c acts ≡ true → IsReady kept c
 
--- The device keeps what its acts say, under a configuration; and the instrument has done these more, with which requests may have been
--- raised that weren't told yet.
+-- The device keeps what its acts say, under a configuration; the instrument has done these acts besides, which may have raised requests
+-- that interrupt channels weren't told yet.
 abbrev pub HasDone : List InstrumentAct → Device → Config → List DeviceAct → Type 0
 HasDone adds kept config acts = IsTable kept.links (link_acts acts) × StandsFor kept.instrument (adds ++ instrument_acts acts)
     × (kept.config ≡ config) × (kept.clock ≡ config.clock + ticks acts) × IsQueue kept.waiting (wait_acts acts) × IsReserved kept acts

@@ -1,4 +1,4 @@
--- What the server keeps, and what of a log and of a history that stands for.
+-- What the server keeps, and which log and which history it stands for.
 use Rattle.std.specs.Prelude.{◌≡◌, ℕ, ◌<◌, ◌≤◌, true, List, [], Some, slice_index_or}
 use Rattle.sv_history.specs.declared.event.Config.{Config}
 use Rattle.sv_history.specs.Event.{PlainEvent}
@@ -15,12 +15,13 @@ use Rattle.sv_history.specs.Settling.{IsSettled}
 use Rattle.sv_history.specs.Queries.{IsUsed}
 use Rattle.sv_history.specs.History.{IsLogOf}
 
+-- what is kept: sixteen connections, the device, and how many numbers of connections were used
 pub record State : Type 0 where
   pub connections : List Connection
   pub device : Device
   pub connections_used : ℕ
 
--- A call that waits was taken and isn't answered; a create_link waits for the lock.
+-- The call of a suspended entry was taken and has no reply; if it is create_link, it waits for the lock.
 abbrev pub IsTaken : List Act → Entry → Type 0
 IsTaken log entry = (call : List ℕ) × (unanswered (of entry.conn log) ≡ Some call)
     × (creates_link (core_call call) ≡ true → creates entry ≡ true)
@@ -33,7 +34,7 @@ pub record Represents (state : State) (config : Config) (log : List Act) : Type 
   pub device : IsDevice state.device config (device_acts log)
   pub taken : AllByRecursion (IsTaken log) state.device.waiting
 
--- The server stands for a history: it keeps what the history's log says, and nothing is due.
+-- The server stands for a history: it keeps what the log of the history says, and no step is due.
 pub record StandsFor (state : State) (config : Config) (history : List PlainEvent) : Type 0 where
   pub log : List Act
   pub is_log : IsLogOf config history log

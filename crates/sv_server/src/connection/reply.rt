@@ -21,10 +21,10 @@ const BRIEF_DATA: usize = 256;
 /// The longest reply with a brief answer, without the header of its fragment.
 const BRIEF_TEXT: usize = LONGEST_TEXT - MAX_READ + BRIEF_DATA;
 
-/// What a call is answered.
+/// The answer to a call.
 #[derive(Clone, Copy)]
 pub enum Answer<'a> {
-    /// What its header or its arguments alone decide.
+    /// A reply that its header or its arguments alone decide.
     Header(Reply),
     /// The port that GETPORT asks for.
     Port(u32),

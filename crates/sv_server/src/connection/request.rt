@@ -1,4 +1,4 @@
-//! What a record asks for: its header is looked at, and then it is a call of the program that its
+//! What a record asks for: its header is checked, and then it is a call of the program that its
 //! connection serves.
 
 ghost use Rattle.std.specs.Prelude.{◌≡◌, Option, Ok, None, option_map, true};
@@ -17,7 +17,7 @@ use sv_vxi::procedure::{
 };
 use sv_vxi::{Args, read_args};
 
-/// The procedure that does nothing, of every program.
+/// The null procedure, of every program.
 const NULL: u32 = 0;
 /// GETPORT of the port mapper.
 const GETPORT: u32 = 3;
@@ -97,7 +97,7 @@ fn version_of(role: Role) -> u32
     }
 }
 
-/// Whether it is a procedure of the program, beside the one that does nothing.
+/// Whether it is a procedure of the program, besides the null procedure.
 fn has_procedure(role: Role, proc: u32) -> bool
     ensures { result ≡ is_one_of (program_for role).2 proc }
 {
@@ -190,8 +190,8 @@ fn decided<'a>(call: &Call<'a>, reply: Reply) -> Request<'a>
     }
 }
 
-/// What a call asks for: its header decides the reply where it names another program, another
-/// version, nothing to do, or another procedure.
+/// What a call asks for. The first of these decides the reply: another program, another version,
+/// the null procedure, an unknown procedure.
 fn call_request<'a>(role: Role, call: &Call<'a>) -> Request<'a>
     ensures { plain_request result ≡ call_request_for role (plain_call call.now) }
 {
@@ -231,7 +231,7 @@ pub fn request_of(role: Role, bytes: &[u8]) -> Request<'_>
     }
 }
 
-/// The call of the core channel that a record is, where it is one.
+/// The call of the core channel that a record is; `None` if it is none.
 pub fn core_call(bytes: &[u8]) -> Option<CoreCall<'_>>
     ensures { option_map plain_core_call result ≡ core_call_in_record bytes.now }
 {

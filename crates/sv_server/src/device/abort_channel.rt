@@ -16,12 +16,12 @@ use crate::device::error_results::plain;
 use std::alloc::Allocator;
 use sv_vxi::{ErrorCode, VxiResult};
 
-/// What device_abort comes to.
+/// The outcome of device_abort.
 #[derive(Clone, Copy)]
 pub struct Aborted {
     /// Its result.
     pub result: VxiResult<'static>,
-    /// The connection whose waiting call it ends: the one that names the link.
+    /// The connection whose suspended call it ends, which names the link.
     pub conn: Option<u8>,
 }
 
@@ -52,7 +52,7 @@ impl<A: Allocator> Device<A> {
         }
     }
 
-    /// The connection that made a link, while it lives.
+    /// The connection that made a link; `None` if the link doesn't live.
     fn owner_of(&self, lid: Option<u32>) -> Option<u8>
         ensures { (config : Config) (acts : List DeviceAct) → IsDevice self.now config acts
             → result ≡ owner_for lid acts }
@@ -63,7 +63,7 @@ impl<A: Allocator> Device<A> {
         }
     }
 
-    /// Whether the call of a connection waits and names this link.
+    /// Whether the call of a connection is suspended and names this link.
     fn waits_with(&self, conn: u8, lid: u32) -> bool
         ensures { (config : Config) (acts : List DeviceAct) → IsDevice self.now config acts
             → result ≡ (is_some (waits conn (wait_acts acts))
@@ -75,7 +75,7 @@ impl<A: Allocator> Device<A> {
         }
     }
 
-    /// The connection, where its call waits and names this link.
+    /// The connection, if its call is suspended and names this link.
     fn if_waiting(&self, conn: u8, lid: Option<u32>) -> Option<u8>
         ensures { (config : Config) (acts : List DeviceAct) → IsDevice self.now config acts
             → result ≡ where_waiting_with (Some conn) lid acts }
@@ -90,7 +90,7 @@ impl<A: Allocator> Device<A> {
         }
     }
 
-    /// The connection whose waiting call device_abort ends: the one that names the link.
+    /// The connection whose suspended call device_abort ends, which names the link.
     fn aborted(&self, lid: Option<u32>) -> Option<u8>
         ensures { (config : Config) (acts : List DeviceAct) → IsDevice self.now config acts
             → result ≡ where_waiting_with (owner_for lid acts) lid acts }

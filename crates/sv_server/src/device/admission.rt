@@ -27,7 +27,7 @@ use std::alloc::{AllocError, Allocator};
 use sv_links::{Entry, MAX_LINKS, Wait, is_locked_out};
 use sv_vxi::{Args, ErrorCode, LinkCall};
 
-/// How many links may live or be waited for.
+/// How many links may live, or have a suspended create_link.
 const MOST_LINKS: u8 = MAX_LINKS as u8;
 
 /// What stops a call.
@@ -35,7 +35,7 @@ const MOST_LINKS: u8 = MAX_LINKS as u8;
 pub enum Stop {
     /// It fails.
     Fails(ErrorCode),
-    /// It waits.
+    /// It is suspended.
     Awaits {
         /// What for.
         wait: Wait,
@@ -44,7 +44,7 @@ pub enum Stop {
     },
 }
 
-/// What the lock of another link makes of a call; `None` if it doesn't mind it.
+/// What stops a call while another link holds the lock; `None` if it is executed all the same.
 fn lock_stop(call: &LinkCall<'_>) -> Option<Stop>
     ensures { option_map plain_stop result
         ≡ option_map lock_stop_for (lock_wait (plain_call call.now)) }
@@ -62,8 +62,8 @@ fn lock_stop(call: &LinkCall<'_>) -> Option<Stop>
     }
 }
 
-/// An interrupt channel can't be opened where one is, not over anything but TCP (0), and not to
-/// everywhere; else it waits until its peer was called.
+/// What stops create_intr_chan: a channel is open, the protocol isn't TCP (0), the address is no
+/// peer; else it is suspended until its peer is connected.
 fn channel_stop(there: bool, host_addr: u32, host_port: u32, prog_family: u32) -> Stop
     ensures { plain_stop result ≡ channel_stop_for there host_addr host_port prog_family }
 {
@@ -83,7 +83,7 @@ fn channel_stop(there: bool, host_addr: u32, host_port: u32, prog_family: u32) -
 }
 
 impl<A: Allocator> Device<A> {
-    /// Whether another link than this holds the lock, and a call minds it.
+    /// Whether another link than this holds the lock, and the call has to wait for it.
     fn is_kept_out(&self, lid: Option<u32>, call: &LinkCall<'_>) -> bool
         ensures { (config : Configured) (acts : List DeviceAct) → IsDevice self.now config acts
             → result ≡ (is_some (lock_wait (plain_call call.now))
@@ -95,8 +95,8 @@ impl<A: Allocator> Device<A> {
         }
     }
 
-    /// What a call waits for that isn't kept out, and how long, in milliseconds: a write until no
-    /// ended message waits to be finished, a read until there is something to answer.
+    /// What a call waits for besides the lock, and its timeout in milliseconds: a write until no
+    /// ended message waits to be finished, a read until it can be answered.
     pub(super) fn device_wait(&self, call: &LinkCall<'_>) -> Option<(Wait, u32)>
         ensures answer { (config : Configured) (acts : List DeviceAct)
             → IsDevice self.now config acts
@@ -141,7 +141,7 @@ impl<A: Allocator> Device<A> {
         Some((Wait::Response, timeout))
     }
 
-    /// Whether a link more may be made, with those for which create_links wait.
+    /// Whether one more link may be made, besides those of suspended create_links.
     fn may_make_more(&self) -> bool
         ensures { (config : Configured) (acts : List DeviceAct) → IsDevice self.now config acts
             → result ≡ may_make acts }
@@ -149,8 +149,8 @@ impl<A: Allocator> Device<A> {
         self.links.count() + self.waiting.creating() < MOST_LINKS && self.links.lids_left()
     }
 
-    /// What stops create_link: its name, the number of links, and, where it asks for the lock, a
-    /// link that has it.
+    /// What stops create_link: its name, the number of links, or, if it asks for the lock, the link
+    /// that holds it.
     fn link_stop(&self, lock_device: bool, timeout: u32, device: &[u8]) -> Option<Stop>
         ensures { (config : Configured) (acts : List DeviceAct) → IsDevice self.now config acts
             → option_map plain_stop result ≡ link_stop_for lock_device timeout device.now acts }
@@ -186,8 +186,8 @@ impl<A: Allocator> Device<A> {
         }
     }
 
-    /// What stops a call on a link: the link is looked at first, then how much a write brings, then
-    /// the lock, and then what it waits for.
+    /// What stops a call on a link: its link, the size of a write, the lock, or what it waits for,
+    /// in this order.
     fn call_stop(&self, conn: Conn, lid: i32, call: &LinkCall<'_>) -> Option<Stop>
         ensures { (config : Configured) (acts : List DeviceAct) → IsDevice self.now config acts
             → option_map plain_stop result
@@ -206,7 +206,7 @@ impl<A: Allocator> Device<A> {
         self.device_stop(call)
     }
 
-    /// What stops a call by what it is.
+    /// What stops a call.
     fn stop(&self, conn: Conn, args: &Args<'_>) -> Option<Stop>
         ensures { (config : Configured) (acts : List DeviceAct) → IsDevice self.now config acts
             → option_map plain_stop result ≡ stop_of conn.number (plain_arguments args.now) acts }
@@ -240,7 +240,7 @@ impl<A: Allocator> Device<A> {
         }
     }
 
-    /// Takes the memory of a link that a call makes, if it may make one more.
+    /// Allocates the memory of a link that a call makes, if one more may be made.
     fn reserve(&mut self, args: &Args<'_>) -> Result<(), AllocError>
         ensures ok { (config : Configured) (acts : List DeviceAct) → IsDevice self.old config acts
             → OnOk result (IsDevice self.new config acts
@@ -256,7 +256,7 @@ impl<A: Allocator> Device<A> {
         self.links.reserve(self.waiting.creating() + 1)
     }
 
-    /// A call begins to wait, for something else than its peer.
+    /// A call is suspended, for something else than its peer.
     fn enter(&mut self, conn: Conn, lid: Option<u32>, wait: Wait, timeout: Option<u32>)
         requires { is_dial (Some wait) ≡ false }
         ensures stands { (config : Configured) (acts : List DeviceAct)
@@ -277,7 +277,7 @@ impl<A: Allocator> Device<A> {
         });
     }
 
-    /// A create_intr_chan waits until its peer was called; there is no channel.
+    /// A create_intr_chan is suspended until its peer is connected; no channel is open.
     fn await_peer(
         &mut self,
         conn: Conn,
@@ -298,7 +298,7 @@ impl<A: Allocator> Device<A> {
         Ok(CallOutcome::Suspended)
     }
 
-    /// A call waits for the lock or for the device.
+    /// A call is suspended for the lock or the device.
     fn await_device(
         &mut self,
         conn: Conn,
@@ -315,7 +315,7 @@ impl<A: Allocator> Device<A> {
         Ok(CallOutcome::Suspended)
     }
 
-    /// A call waits.
+    /// A call is suspended.
     fn suspend(
         &mut self,
         conn: Conn,
@@ -334,7 +334,7 @@ impl<A: Allocator> Device<A> {
         }
     }
 
-    /// A call that this stops fails, or waits.
+    /// A call that this stops fails, or is suspended.
     fn halt(&mut self, conn: Conn, args: &Args<'_>, stop: Stop) -> Result<CallOutcome, AllocError>
         ensures { AdmitsAt (Some (plain_stop stop)) result conn.number (plain_arguments args.now)
             self.old self.new }
@@ -345,7 +345,7 @@ impl<A: Allocator> Device<A> {
         }
     }
 
-    /// A call that nothing stops is done.
+    /// A call that nothing stops is executed.
     fn start(&mut self, conn: Conn, args: &Args<'_>) -> Result<CallOutcome, AllocError>
         ensures { AdmitsAt None result conn.number (plain_arguments args.now) self.old self.new }
     {
@@ -353,7 +353,7 @@ impl<A: Allocator> Device<A> {
         Ok(self.own_call(conn, args))
     }
 
-    /// Does a call whose arguments were read, unless something stops it.
+    /// Executes a call whose arguments were read, unless something stops it.
     pub fn admit(&mut self, conn: Conn, args: &Args<'_>) -> Result<CallOutcome, AllocError>
         ensures { Admits result conn.number (plain_arguments args.now) self.old self.new }
     {

@@ -8,7 +8,7 @@ ghost use Rattle.sv_history.specs.CoreChannel.{term_of as term_for};
 use sv_exchange::MAX_MESSAGE;
 use sv_vxi::{Flags, LinkCall};
 
-/// The number of the link that is named; none has a negative one.
+/// The number of the link that is named; `None` for a negative one, which no link has.
 pub fn lid_of(named: Option<i32>) -> Option<u32>
     ensures { result ≡ lid_for named }
 {
@@ -28,7 +28,7 @@ pub fn is_too_long(call: &LinkCall<'_>) -> bool
     false
 }
 
-/// The termination character, where the flag for it is set: the low eight bits.
+/// The termination character, the low eight bits, if its flag is set.
 pub fn term_of(flags: Flags, term_char: u32) -> Option<u8>
     ensures { result ≡ term_for flags.0 term_char }
 {

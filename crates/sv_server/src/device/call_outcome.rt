@@ -1,8 +1,8 @@
-//! What comes of a call of the core channel.
+//! The outcome of a call of the core channel.
 
 use sv_vxi::VxiResult;
 
-/// What comes of a call of the core channel, as it begins or after it was suspended.
+/// The outcome of a call of the core channel, as it begins or after it was suspended.
 #[derive(Clone, Copy)]
 pub enum CallOutcome {
     /// It has this result.
@@ -11,7 +11,7 @@ pub enum CallOutcome {
     Reads {
         /// The most bytes to give.
         most: u32,
-        /// The termination character, where it counts.
+        /// The termination character, if its flag is set.
         term: Option<u8>,
     },
     /// It is suspended.

@@ -1,4 +1,4 @@
-//! What each call of the core channel does, once it needn't wait (VXI-11 revision 1.0, B.6).
+//! What each call of the core channel does, once nothing stops it (VXI-11 revision 1.0, B.6).
 
 ghost use Rattle.std.specs.Prelude.{◌≡◌, ◌<◌, ◌≤◌, ◌^◌, ℕ, pos, List, [], ◌∷◌, length, map, Some, None, true, false};
 ghost use Rattle.sv_vxi.specs.Arguments.{Generic, OnLink};
@@ -40,7 +40,7 @@ impl<A: Allocator> Device<A> {
         }
     }
 
-    /// A link that was made, as it is told.
+    /// The result of create_link with this link.
     fn told_link(&self, lid: u32) -> VxiResult<'static>
         requires { lid < 2 ^ 31 }
         ensures told { plain_result result
@@ -84,7 +84,7 @@ impl<A: Allocator> Device<A> {
         CallOutcome::Result(self.told_link(lid))
     }
 
-    /// Makes a link, with the lock where it asks for it.
+    /// Makes a link, with the lock if it asks for it.
     fn make_link(&mut self, conn: Conn, lock_device: bool) -> CallOutcome
         ensures ends { (config : Configured) (acts : List DeviceAct) → IsDevice self.old config acts
             → HasPlace self.old acts
@@ -126,7 +126,7 @@ impl<A: Allocator> Device<A> {
         CallOutcome::Result(plain(ErrorCode::NoError))
     }
 
-    /// device_unlock: the lock is free, where the link had it.
+    /// device_unlock: the lock is freed, if the link holds it.
     fn device_unlock(&mut self, lid: u32) -> CallOutcome
         ensures ends { (config : Configured) (acts : List DeviceAct) → IsDevice self.old config acts
             → OutcomeIs result self.new config acts (device_unlock lid acts) }
@@ -157,8 +157,8 @@ impl<A: Allocator> Device<A> {
         CallOutcome::Result(written(ErrorCode::NoError, bytes.len() as u32))
     }
 
-    /// device_read: what stands of the response; without one the unfinished text is dropped, and
-    /// nothing comes in time.
+    /// device_read: bytes of the response; without one the unfinished text is dropped, and the call
+    /// times out.
     fn device_read(&mut self, most: u32, term: Option<u8>) -> CallOutcome
         ensures ends { (config : Configured) (acts : List DeviceAct) → IsDevice self.old config acts
             → OutcomeIs result self.new config acts (device_read most term acts) }
@@ -200,7 +200,7 @@ impl<A: Allocator> Device<A> {
         self.raise(raised);
     }
 
-    /// device_readstb: the status byte, whose request for service ends thereby.
+    /// device_readstb: the status byte, whose request for service this ends.
     fn device_readstb(&mut self) -> CallOutcome
         ensures ends { (config : Configured) (polled : ℕ) (acts : List DeviceAct)
             → IsDeviceAt self.old config polled acts
@@ -241,7 +241,7 @@ impl<A: Allocator> Device<A> {
         CallOutcome::Result(plain(ErrorCode::NoError))
     }
 
-    /// Does a call on a link that needn't wait.
+    /// Executes a call on a link that nothing stops.
     fn link_call(&mut self, conn: Conn, lid: u32, call: &LinkCall<'_>) -> CallOutcome
         ensures ends { (config : Configured) (polled : ℕ) (acts : List DeviceAct)
             → IsDeviceAt self.old config polled acts
@@ -272,7 +272,7 @@ impl<A: Allocator> Device<A> {
         }
     }
 
-    /// Does one of the five calls with Device_GenericParms.
+    /// Executes one of the five calls with Device_GenericParms.
     fn generic_call(&mut self, call: GenericCall) -> CallOutcome
         ensures ends { (config : Configured) (polled : ℕ) (acts : List DeviceAct)
             → IsDeviceAt self.old config polled acts → (c lid flags lock_timeout io_timeout : ℕ)
@@ -290,7 +290,7 @@ impl<A: Allocator> Device<A> {
         }
     }
 
-    /// Does a call on the link of this number that needn't wait; a negative number is no link's.
+    /// Executes a call on the link of this number that nothing stops; no link has a negative one.
     fn on_link(&mut self, conn: Conn, lid: i32, call: &LinkCall<'_>) -> CallOutcome
         ensures ends { (config : Configured) (polled : ℕ) (acts : List DeviceAct)
             → IsDeviceAt self.old config polled acts
@@ -305,7 +305,7 @@ impl<A: Allocator> Device<A> {
         }
     }
 
-    /// Does a call that needn't wait.
+    /// Executes a call that nothing stops.
     pub(super) fn own_call(&mut self, conn: Conn, args: &Args<'_>) -> CallOutcome
         ensures ends { (config : Configured) (polled : ℕ) (acts : List DeviceAct)
             → IsDeviceAt self.old config polled acts

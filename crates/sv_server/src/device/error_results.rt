@@ -1,4 +1,4 @@
-//! Results of calls that fail, or that tell little, in the shape of each.
+//! Results of calls that fail, or that only say that they succeeded, in the shape of each.
 
 ghost use Rattle.std.specs.Prelude.{◌≡◌, ℤ, pos, []};
 ghost use Rattle.sv_vxi.specs.Arguments.{OnLink};
@@ -38,7 +38,7 @@ pub fn call_failure(call: &LinkCall<'_>, error: ErrorCode) -> VxiResult<'static>
     }
 }
 
-/// The result of a call that tells nothing but whether it failed.
+/// The result of a call that has nothing but an error.
 pub fn plain(error: ErrorCode) -> VxiResult<'static>
     ensures { plain_result result ≡ Plain error }
 {
@@ -64,7 +64,7 @@ pub fn written(error: ErrorCode, size: u32) -> VxiResult<'static>
     VxiResult::Size { error, size }
 }
 
-/// The result of a device_read that gives nothing.
+/// The result of a device_read that gives no bytes.
 pub fn nothing_read(error: ErrorCode) -> VxiResult<'static>
     ensures result_is { plain_result result ≡ no_bytes error }
     ensures short { data_of (plain_result result) ≡ [] }

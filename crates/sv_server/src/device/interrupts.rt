@@ -29,8 +29,8 @@ use std::alloc::Allocator;
 use sv_links::{MAX_HANDLE, Peer, Wait};
 use sv_vxi::{Args, ErrorCode};
 
-/// Whether an interrupt channel may be opened to there: an address in 127.0.0.0/8, and a port of 1
-/// to 65535.
+/// Whether an interrupt channel may go there: to an address in 127.0.0.0/8, on a port of 1 to
+/// 65535.
 pub fn is_peer(host_addr: u32, host_port: u32) -> bool
     ensures { result ≡ may_call host_addr host_port }
 {
@@ -46,7 +46,7 @@ impl<A: Allocator> Device<A> {
         self.intr.is_open(conn.number)
     }
 
-    /// device_enable_srq of a link, where it is one of the connection.
+    /// device_enable_srq of a link, if the connection owns it.
     pub(super) fn device_enable_srq(
         &mut self,
         conn: Conn,
@@ -67,7 +67,7 @@ impl<A: Allocator> Device<A> {
         self.enable_srq(conn, enable, lid, handle)
     }
 
-    /// A link of the connection asks for service requests, or asks no more.
+    /// A link of the connection enables or disables service requests.
     fn enable_srq(&mut self, conn: Conn, enable: bool, lid: u32, handle: &[u8]) -> CallOutcome
         ensures ends { (config : Configured) (acts : List DeviceAct) → IsDevice self.old config acts
             → owns conn.number (Some lid) acts ≡ true
@@ -87,7 +87,7 @@ impl<A: Allocator> Device<A> {
         CallOutcome::Result(plain(ErrorCode::NoError))
     }
 
-    /// destroy_intr_chan: the channel is closed, where one is open.
+    /// destroy_intr_chan: the channel is closed, if one is open.
     pub(super) fn destroy_channel(&mut self, conn: Conn) -> CallOutcome
         ensures ends { (config : Configured) (acts : List DeviceAct) → IsDevice self.old config acts
             → OutcomeIs result self.new config acts (if channel_there conn.number acts
@@ -104,7 +104,7 @@ impl<A: Allocator> Device<A> {
         }
     }
 
-    /// Whether a create_intr_chan of a connection waits for its peer to be called.
+    /// Whether a create_intr_chan of a connection is suspended until its peer is connected.
     pub fn is_dialing(&self, conn: u8) -> bool
         ensures { (config : Configured) (acts : List DeviceAct) → IsDevice self.now config acts
             → result ≡ is_dialing conn (wait_acts acts) }
@@ -112,8 +112,7 @@ impl<A: Allocator> Device<A> {
         matches!(self.waiting.waits(conn), Some(Wait::Dial))
     }
 
-    /// The peer was called for whose answer a call waits: its channel is open, or can't be. The
-    /// call waits no more.
+    /// Connecting for a suspended create_intr_chan succeeded or failed: the call ends.
     pub(super) fn end_dial(&mut self, conn: Conn, ok: bool, args: &Args<'_>) -> CallOutcome
         ensures ends { (config : Configured) (acts : List DeviceAct)
             → IsDevice self.old config acts → is_dialing conn.number (wait_acts acts) ≡ true
@@ -160,7 +159,7 @@ impl<A: Allocator> Device<A> {
         CallOutcome::Result(plain(ErrorCode::NoError))
     }
 
-    /// The channel for which a create_intr_chan waits is open: the call waits no more.
+    /// The channel of a suspended create_intr_chan opens, and the call ends.
     fn open_channel(&mut self, conn: Conn, peer: Peer)
         ensures stands { (config : Configured) (acts : List DeviceAct)
             → IsDevice self.old config acts → is_dialing conn.number (wait_acts acts) ≡ true
@@ -172,7 +171,7 @@ impl<A: Allocator> Device<A> {
         self.intr.open(conn.number, peer);
     }
 
-    /// It can't be opened: the call waits no more.
+    /// It can't be opened, and the call ends.
     fn give_up_channel(&mut self, conn: Conn)
         ensures stands { (config : Configured) (acts : List DeviceAct)
             → IsDevice self.old config acts
@@ -183,7 +182,7 @@ impl<A: Allocator> Device<A> {
         self.intr.cancel(conn.number);
     }
 
-    /// The bytes that wait on the interrupt channel of a connection; none where it isn't open.
+    /// The bytes that wait on the interrupt channel of a connection; none if it isn't open.
     pub fn channel_waiting(&self, conn: Conn) -> &[u8]
         ensures same { result.now ≡ bytes_of self.now.intr conn.number }
         ensures answer { (config : Configured) (acts : List DeviceAct)
@@ -195,7 +194,7 @@ impl<A: Allocator> Device<A> {
         self.intr.waiting(conn.number)
     }
 
-    /// Lets bytes of the open interrupt channel of a connection go that the peer took.
+    /// Drops bytes of the open interrupt channel of a connection that the peer took.
     pub fn channel_took(&mut self, conn: Conn, count: usize)
         requires { count ≤ length (bytes_of self.old.intr conn.number) }
         ensures stands { (config : Configured) (acts : List DeviceAct)

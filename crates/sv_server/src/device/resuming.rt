@@ -1,4 +1,4 @@
-//! A call that was suspended goes on, or is given up.
+//! A suspended call resumes, times out, or ends with another error.
 
 ghost use Rattle.std.specs.Prelude.{◌≡◌, ◌+◌, ◌<◌, ◌≤◌, ℕ, List, Some, None, IfSome, true, false, ◌∷◌};
 ghost use Rattle.sv_vxi.specs.Arguments.{is_create_link as makes_link};
@@ -23,19 +23,19 @@ use std::alloc::Allocator;
 use sv_links::Wait;
 use sv_vxi::{Args, ErrorCode};
 
-/// Why a suspended call is taken up again.
+/// Why a suspended call goes on or ends.
 #[derive(Clone, Copy)]
 pub enum Cause {
     /// What it waits for is there.
     Able(Wait),
-    /// Its peer was called: its interrupt channel is open, or can't be.
+    /// Its peer was connected, or couldn't be.
     Dialed(bool),
     /// It fails with this error.
     Failed(ErrorCode),
 }
 
 impl<A: Allocator> Device<A> {
-    /// A suspended call is done, or waits anew.
+    /// A suspended call is executed, or suspended anew.
     pub fn take_up(&mut self, conn: Conn, cause: Cause, args: &Args<'_>) -> CallOutcome
         requires { IsNearer cause conn.number self.old.waiting }
         ensures ends { (config : Config) (polled : ℕ) (acts : List DeviceAct)
@@ -60,8 +60,8 @@ impl<A: Allocator> Device<A> {
         }
     }
 
-    /// A call that waited for this is done; or, where it waited for the lock and the device isn't
-    /// there for it, it waits anew, with its place kept, from now on.
+    /// A call that waited for this is executed. But if it waited for the lock, and has to wait for
+    /// the device, it is suspended anew, in its place of the order, from now on.
     fn resume(&mut self, conn: Conn, wait: Wait, args: &Args<'_>) -> CallOutcome
         requires { queue_measure (without conn.number self.old.waiting) + wait_measure wait
             ≤ queue_measure self.old.waiting }
@@ -83,7 +83,7 @@ impl<A: Allocator> Device<A> {
         }
     }
 
-    /// What a call waits for next that waited for the lock, and how long.
+    /// What a call that got past the lock waits for next, and how long.
     fn next_wait(&self, args: &Args<'_>) -> Option<(Wait, u32)>
         ensures answer { (config : Config) (acts : List DeviceAct) → IsDevice self.now config acts
             → result ≡ next_wait Wait.Lock (plain_arguments args.now) acts }
@@ -121,7 +121,7 @@ impl<A: Allocator> Device<A> {
         self.leave(conn, args)
     }
 
-    /// A call ends to wait, and is done.
+    /// A call isn't suspended any more, and is executed.
     fn leave(&mut self, conn: Conn, args: &Args<'_>) -> CallOutcome
         ensures ends { (config : Config) (polled : ℕ) (acts : List DeviceAct)
             → IsDeviceAt self.old config polled acts
@@ -135,7 +135,7 @@ impl<A: Allocator> Device<A> {
         self.own_call(conn, args)
     }
 
-    /// A call fails with this error: it waits no more.
+    /// A suspended call ends with this error.
     fn give_up(&mut self, conn: Conn, error: ErrorCode, args: &Args<'_>) -> CallOutcome
         ensures ends { (config : Config) (acts : List DeviceAct) → IsDevice self.old config acts
             → OutcomeIs result self.new config (Waited (Left conn.number) ∷ acts)

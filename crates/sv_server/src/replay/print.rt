@@ -16,7 +16,7 @@ const PIECE: usize = 256;
 #[derive(Clone, Copy, Debug, PartialEq, Eq)]
 pub struct WriteFault;
 
-/// Writes some of these bytes, and says how many; none where a signal came first.
+/// Writes some of these bytes, and returns how many; none if a signal came first.
 fn put_some<W: Write>(writer: &mut W, bytes: &[u8]) -> Result<usize, WriteFault>
     ensures within { IfOk result (λ n. n ≤ length bytes.now) }
     ensures taken { MatchResult result
@@ -99,7 +99,7 @@ fn put_name<W: Write>(writer: &mut W, port: Port) -> Result<(), WriteFault>
     }
 }
 
-/// Writes the line of the bytes that wait on a port; none where none wait.
+/// Writes the line of the bytes that wait on a port; no line if none wait.
 pub fn put_line<W: Write>(writer: &mut W, port: Port, bytes: &[u8]) -> Result<(), WriteFault>
     ensures { IsTakenByWriter (W.contents writer.old) (W.contents writer.new) result
         (port_line port bytes.now) }

@@ -1,4 +1,4 @@
-//! Interrupt channels of the server: which are to be dialed, and what is sent on those that are
+//! Interrupt channels of the server: which are to be connected, and what is sent on those that are
 //! open.
 
 ghost use Rattle.std.specs.Prelude.{◌≡◌, ◌≤◌, not, List, length, MatchResult, IfOk, OnErr, Some, None, nat_lt, true, false, if◌then◌else◌};
@@ -24,7 +24,7 @@ use std::alloc::Allocator;
 use sv_history::{Dial, Did, Refused};
 use sv_vxi::Args;
 
-/// Whom a call asks to be called, where it does.
+/// Where a create_intr_chan asks to connect; `None` for another call or a port above 65535.
 fn dial_by(args: &Args<'_>) -> Option<Dial>
     ensures { result ≡ called_by (plain_arguments args.now) }
 {
@@ -39,7 +39,7 @@ fn dial_by(args: &Args<'_>) -> Option<Dial>
     None
 }
 
-/// An address and a port, where it is one.
+/// An address and a port; `None` if the port is above 65535.
 fn dial_to(addr: u32, port: u32) -> Option<Dial>
     ensures { result ≡ (if nat_lt port 65536
         then Some (record { addr = addr; port = port }) else None) }
@@ -55,8 +55,8 @@ fn dial_to(addr: u32, port: u32) -> Option<Dial>
 }
 
 impl<A: Allocator> Server<A> {
-    /// Where an interrupt channel of the connection is to be opened, until a Dialed says what came
-    /// of it; none where no create_intr_chan waits.
+    /// Where to connect the interrupt channel of a connection; `None` if no create_intr_chan of it
+    /// is suspended. A Dialed reports whether that succeeded.
     pub fn dial(&self, conn: u8) -> Option<Dial>
         ensures { (config : Config) (history : List PlainEvent) → StandsFor self.now config history
             → Answered (λ log. dial_of conn log) config history result }
@@ -77,7 +77,7 @@ impl<A: Allocator> Server<A> {
         self.with_channel(conn).is_ok()
     }
 
-    /// The connection of this number, whose interrupt channel is open; else `NoConn`.
+    /// The connection of this number, if its interrupt channel is open; else `NoConn`.
     fn with_channel(&self, conn: u8) -> Result<Conn, Refused>
         ensures answer { (config : Config) (log : List Act) → Represents self.now config log
             → MatchResult result (λ found. is_channel_shut conn log ≡ false)
@@ -93,7 +93,7 @@ impl<A: Allocator> Server<A> {
         Ok(number)
     }
 
-    /// The bytes that wait on an interrupt channel; none where it isn't open.
+    /// The bytes that wait on an interrupt channel; none if it isn't open.
     pub(crate) fn sent(&self, conn: u8) -> &[u8]
         ensures exact { (config : Config) (log : List Act) (channel_log : List ChannelAct)
             → Represents self.now config log → HearsOf (device_acts log) channel_log
@@ -106,7 +106,7 @@ impl<A: Allocator> Server<A> {
         }
     }
 
-    /// An interrupt channel was dialed.
+    /// Connecting an interrupt channel succeeded or failed.
     pub(crate) fn dialed(&mut self, conn: u8, ok: bool) -> Result<Did, Refused>
         ensures acts { (config : Config) (log : List Act) → Represents self.old config log
             → Acts config (Dialed conn ok) log result self.new }
@@ -121,7 +121,7 @@ impl<A: Allocator> Server<A> {
         Ok(Did::Done)
     }
 
-    /// Lets bytes of an interrupt channel go that the peer took.
+    /// Drops bytes of an interrupt channel that the peer took.
     pub(crate) fn channel_took(&mut self, conn: u8, count: u32) -> Result<Did, Refused>
         ensures acts { (config : Config) (log : List Act) → Represents self.old config log
             → Acts config (Took (Intr conn) count) log result self.new }

@@ -16,7 +16,7 @@ use crate::device::call_outcome::CallOutcome;
 use std::alloc::{AllocError, Allocator};
 use sv_rpc::{Ports, Reply, getport};
 
-/// What comes of a record that was taken.
+/// The outcome of a record that was taken.
 #[derive(Clone, Copy)]
 pub enum Executed {
     /// It is no call, and faults its connection.
@@ -30,7 +30,7 @@ pub enum Executed {
 }
 
 impl Executed {
-    /// The connection whose suspended call it ends beside, where it ends one.
+    /// The connection whose suspended call a device_abort ends; `None` if it ends none.
     pub fn aborts(&self) -> Option<u8>
         ensures { result ≡ aborted_by self.now }
     {
@@ -52,7 +52,7 @@ fn port_answer(ports: Ports, args: &[u8]) -> Answer<'static>
     }
 }
 
-/// Does what a record asks for, but for its answer, and for the call that it ends beside.
+/// Executes a record, but for its reply, and for the suspended call that a device_abort ends.
 pub fn execute<A: Allocator>(
     device: &mut Device<A>,
     conn: Conn,

@@ -1,4 +1,4 @@
-//! Refusing a connection's next call for want of resources.
+//! Refusing a connection's next call for want of resources: error 9.
 
 ghost use Rattle.std.specs.Prelude.{◌≡◌, List, Some, OnErr, option_map};
 ghost use Rattle.sv_rpc.specs.Call.{call_at};
@@ -25,8 +25,7 @@ fn takes_memory(args: &Args<'_>) -> bool
     matches!(*args, Args::CreateLink { .. } | Args::CreateIntrChan { .. })
 }
 
-/// The call that may be refused: one that would take memory, and passes the checks in front of its
-/// own.
+/// The call that may be refused: one that may allocate, and whose header passes its checks.
 fn refusable(role: Role, bytes: &[u8]) -> Option<CoreCall<'_>>
     ensures { option_map plain_core_call result
         ≡ refusable_call (Some (request_for role (call_at bytes.now))) }
@@ -38,7 +37,7 @@ fn refusable(role: Role, bytes: &[u8]) -> Option<CoreCall<'_>>
     }
 }
 
-/// A call that would take memory; `None` if it wouldn't.
+/// A call that may allocate; `None` if it never does.
 fn unless_modest(call: CoreCall<'_>) -> Option<CoreCall<'_>>
     ensures { option_map plain_core_call result
         ≡ refusable_call (Some (CoreRequest (plain_core_call call.entry))) }
@@ -50,8 +49,8 @@ fn unless_modest(call: CoreCall<'_>) -> Option<CoreCall<'_>>
     }
 }
 
-/// Takes the next call of an open connection, where it may be refused and there is room for its
-/// reply, and answers that resources are wanting.
+/// Takes the next call of an open connection, if it may be refused and there is room for its reply,
+/// and answers it with error 9.
 pub fn refuse<A: Allocator>(connection: &mut Connection<A>, role: Role) -> Result<(), Refused>
     requires { connection.old.role ≡ Some role }
     ensures acts { (acts : List ConnAct) → IsConnection connection.old acts

@@ -1,4 +1,4 @@
-//! The record of a suspended call is read once more, and the call is taken up again.
+//! The record of a suspended call is read once more, and the call resumes.
 
 ghost use Rattle.std.specs.Prelude.{◌≡◌, ◌<◌, ℕ, List, true, false, is_some};
 ghost use Rattle.sv_links.specs.Queue.{without, queue_measure};
@@ -17,7 +17,7 @@ use crate::device::resuming::Cause;
 use crate::server::turn::conclude_call;
 use std::alloc::Allocator;
 
-/// A suspended call is taken up again: it is done, or it waits anew. Its record reads as when it
+/// A suspended call goes on: it is executed, suspended anew, or ends. Its record reads as when it
 /// was taken.
 pub fn take_up<A: Allocator>(
     connection: &mut Connection<A>,
@@ -31,9 +31,9 @@ pub fn take_up<A: Allocator>(
         → IsDeviceAt device.old config polled before
         → MayResume cause conn.number (HasPlaceOfLink (core_call_in (unanswered acts))
         conn.number device.old before) before
-        → ConcludesResumed (taken_up cause config polled conn.number (core_call_in (unanswered acts))
-        before) conn.number (core_call_in (unanswered acts)) config acts before device.old.waiting
-        connection.new device.new }
+        → ConcludesResumed (taken_up cause config polled conn.number
+        (core_call_in (unanswered acts)) before) conn.number (core_call_in (unanswered acts))
+        config acts before device.old.waiting connection.new device.new }
     ensures left { is_able cause ≡ false
         → device.new.waiting ≡ without conn.number device.old.waiting }
     ensures measure { is_able cause ≡ true → queue_measure device.new.waiting

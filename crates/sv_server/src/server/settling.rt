@@ -50,7 +50,7 @@ pub(crate) fn is_quiet(event: Event<'_>) -> bool
     }
 }
 
-/// The error of a call that waited too long for this.
+/// The error of a call that times out.
 fn late(wait: Wait) -> ErrorCode
     ensures { result ≡ late_error wait }
 {
@@ -61,7 +61,7 @@ fn late(wait: Wait) -> ErrorCode
 }
 
 impl<A: Allocator> Server<A> {
-    /// A suspended call resumes: it is done, or it waits anew.
+    /// A suspended call resumes: it is executed, or suspended anew.
     fn resume(&mut self, entry: Entry)
         requires { IsKept entry self.old.device.waiting }
         ensures stands { (config : Config) (polled : ℕ) (log : List Act)
@@ -92,7 +92,7 @@ impl<A: Allocator> Server<A> {
         take_up(connection, &mut self.device, conn, Cause::Failed(error));
     }
 
-    /// A trigger that comes at once, where one is due.
+    /// An immediate trigger, if one is due.
     fn fire(&mut self) -> bool
         ensures steps { (config : Config) (log : List Act) → Represents self.old config log
             → TakesStep (λ config. InstrumentDoes IsFired) result config log self.old self.new }
@@ -105,7 +105,7 @@ impl<A: Allocator> Server<A> {
         self.device.fire()
     }
 
-    /// A step of message exchange, where one is due.
+    /// A step of message exchange, if one is due.
     fn exchange(&mut self) -> bool
         ensures steps { (config : Config) (log : List Act) → Represents self.old config log
             → TakesStep (λ config. InstrumentDoes IsStep) result config log self.old self.new }
@@ -118,7 +118,7 @@ impl<A: Allocator> Server<A> {
         self.device.exchange()
     }
 
-    /// The oldest suspended call that can resume does, where one can.
+    /// The oldest suspended call that can resume does, if there is one.
     fn resume_oldest(&mut self) -> bool
         ensures steps { (config : Config) (log : List Act) → Represents self.old config log
             → TakesStep Resumes result config log self.old self.new }
@@ -135,7 +135,7 @@ impl<A: Allocator> Server<A> {
         }
     }
 
-    /// The oldest suspended call whose deadline has come times out, where one's has.
+    /// The oldest suspended call whose deadline has come times out, if there is one.
     fn give_up_oldest(&mut self) -> bool
         ensures steps { (config : Config) (log : List Act) → Represents self.old config log
             → TakesStep TimesOut result config log self.old self.new }
@@ -179,7 +179,7 @@ impl<A: Allocator> Server<A> {
         Stepped::Nothing
     }
 
-    /// Takes the steps that are due until a call resumed or timed out; tells whether one did.
+    /// Takes the steps that are due until a call resumed or timed out. Returns whether one did.
     fn settle_to_call(&mut self) -> bool
         ensures goes { (config : Config) (log : List Act) → Represents self.old config log
             → GoesTo config log (λ mid. result ≡ false → IsSettled config mid) self.new }

@@ -1,4 +1,4 @@
-//! A connection's next call is taken and done.
+//! A connection's next call is taken and executed.
 
 ghost use Rattle.std.specs.Prelude.{◌≡◌, List, Some, OnErr, true, is_some};
 ghost use Rattle.sv_exchange.specs.Exchange.{response};
@@ -29,14 +29,14 @@ use sv_vxi::{ErrorCode, Reason, VxiResult};
 pub enum Turned {
     /// Nothing: there was no call to take.
     Idle,
-    /// A call was taken and done, or waits.
+    /// A call was taken, and executed or suspended.
     Done {
-        /// The connection whose waiting call it ends, where it ends one.
+        /// The connection whose suspended call it ends; `None` if it ends none.
         aborts: Option<u8>,
     },
 }
 
-/// Takes the next call of an open connection and does it, where there is one, and room for its
+/// Takes the next call of an open connection and executes it, if there is one and room for its
 /// reply.
 pub fn turn<A: Allocator>(
     connection: &mut Connection<A>,
@@ -69,7 +69,7 @@ pub fn turn<A: Allocator>(
     })
 }
 
-/// Ends the record that was taken: by its answer, or as one that is no call; or lets it wait.
+/// Ends the record that was taken by its reply, or as no call, unless it is suspended.
 fn conclude<A: Allocator>(
     xid: u32,
     executed: Executed,
@@ -92,7 +92,7 @@ fn conclude<A: Allocator>(
     }
 }
 
-/// Ends a call of the core channel by its answer, or lets it wait.
+/// Ends a call of the core channel by its reply, unless it is suspended.
 pub fn conclude_call<A: Allocator>(
     xid: u32,
     outcome: CallOutcome,

@@ -73,7 +73,7 @@ IsBehind c makes old new =
 abbrev pub MayWait : Type 0 → ℕ → Bool → List Entry → List Entry → Type 0
 MayWait IsSuspended c makes old new = (new ≡ old) ⊎ (IsSuspended × IsBehind c makes old new)
 
--- A call or a record comes to this, which is as brief as this; or memory is wanting and nothing changed.
+-- A call or a record has this outcome, which is as brief as this; or out of memory, and nothing changed.
 pub record Does {O : Type 0} (IsSo : Config → ℕ → List DeviceAct → O → Type 0) (Wants : Config → ℕ → List DeviceAct → Type 0)
     (IsShort : O → Type 0) {E : Type 0} (result : Result O E) (old new : Device) : Type 0 where
   pub does : (config : Config) (polled : ℕ) (acts : List DeviceAct) → IsDeviceAt old config polled acts
@@ -106,7 +106,7 @@ MayMake (CreateLink client_id lock_device lock_timeout device) c kept acts =
     (creations (without c kept.waiting) < creations kept.waiting) × (is_locked_out (holder (link_acts acts)) None ≡ false)
 MayMake _ c kept acts = ⊤
 
--- It waits anew for this; or it is done, once it waits no more.
+-- It is suspended anew for this; or it is executed, and not suspended any more.
 abbrev pub ResumedAs : Option (Wait × ℕ) → Outcome → Device → Config → ℕ → ℕ → Arguments → List DeviceAct → Type 0
 ResumedAs (Some wait) outcome device config polled c arguments acts =
     OutcomeIs outcome device config acts (continued config polled c arguments (Some wait) acts)

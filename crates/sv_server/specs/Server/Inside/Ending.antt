@@ -74,7 +74,7 @@ abbrev pub asks_for_link : Request → Bool
 asks_for_link (CoreRequest call) = is_create_link call.arguments
 asks_for_link _ = false
 
--- It is a call, which is suspended.
+-- It asks for a call, and this is suspended.
 abbrev pub IsSuspended : Executed → Request → Type 0
 IsSuspended executed request = (executed ≡ executions.Call outcomes.Suspended) × (call : CoreCall) × (request ≡ CoreRequest call)
 
@@ -82,7 +82,8 @@ IsSuspended executed request = (executed ≡ executions.Call outcomes.Suspended)
 abbrev pub Executes : Request → {E : Type 0} → Result Executed E → ℕ → Device → Device → Type 0
 Executes request result c old new =
     Does (λ config polled acts executed. EndsAs executed (xid_of request) new config acts (request_effect config polled c request acts)
-    × MayWait (IsSuspended executed request) c (asks_for_link request) old.waiting new.waiting × (aborted_by executed ≡ aborts request acts))
+    × MayWait (IsSuspended executed request) c (asks_for_link request) old.waiting new.waiting
+    × (aborted_by executed ≡ aborts request acts))
     (λ config polled acts. wants_memory (request_effect config polled c request acts).adds ≡ true) IsBriefly result old new
 
 -- ---- a call that was suspended
@@ -98,7 +99,8 @@ taken_up (causes.Able wait) config polled c call acts = resumed config polled c 
 taken_up (causes.Dialed ok) config polled c call acts = connected c ok call
 taken_up (causes.Failed error) config polled c call acts = failed error c call
 
--- It went on so.
-abbrev pub ConcludesResumed : Effect → ℕ → Option CoreCall → Config → List ConnAct → List DeviceAct → List Entry → Connection → Device → Type 0
+-- A suspended call that was taken up ends so, or waits anew.
+abbrev pub ConcludesResumed : Effect → ℕ → Option CoreCall → Config → List ConnAct → List DeviceAct → List Entry → Connection → Device
+    → Type 0
 ConcludesResumed effect c call config acts before old connection device =
     Concludes effect config acts before connection device × MayWaitAnew (effect.own ≡ []) c (creates_link call) old device.waiting

@@ -25,4 +25,4 @@ pub returns-in_err-put_line : goal.returns-in_err-put_line
 returns-in_err-put_line g c = λ config history channel_log log s.
     show_stopped c.args.port c.outgoing-bytes.result.now config history channel_log log c.args.self.now _ _ c.in_err-put_line.field-0.0
     c.from_residual.result s (c.outgoing-bytes.ensures.exact config log channel_log s.1 s.3) c.from_residual.ensures.0
-        c.in_err-put_line.ensures
+    c.in_err-put_line.ensures
