@@ -107,7 +107,7 @@ pub(crate) fn serve(rt: &HostRuntime, port: u16, looks: u32) -> io::Result<()> {
         let limit = if spinning {
             Some(Duration::ZERO)
         } else {
-            rest(&pace, now, looks - made)
+            sleep_time(&pace, now, looks - made)
         };
         let came = served.spin(limit)?;
         tries = keep(&mut pace, now, tries, spinning, came);
@@ -116,11 +116,11 @@ pub(crate) fn serve(rt: &HostRuntime, port: u16, looks: u32) -> io::Result<()> {
 }
 
 /// How long it may sleep with so many looks left: until something comes, but for the last ones.
-fn rest(pace: &Pace, now: u64, left: u32) -> Option<Duration> {
+fn sleep_time(pace: &Pace, now: u64, left: u32) -> Option<Duration> {
     if left > FEW {
         return None;
     }
-    Some(Duration::from_nanos(pace.rest(now, STILL)))
+    Some(Duration::from_nanos(pace.sleep_time(now, STILL)))
 }
 
 /// Keeps what came of a look, and tells how many were made in vain since the last one that ended a

@@ -7,7 +7,7 @@ ghost use Rattle.sv_net.specs.Inside.Pausing.{is_quiet, Rounds, Pauses, Ran};
 
 use crate::machine::{Machine, System};
 use crate::net::Net;
-use crate::rest::rest;
+use crate::sleep_time::sleep_time;
 use crate::stream::Stream;
 use crate::watch::Watch;
 use crate::work::has_work;
@@ -170,7 +170,7 @@ fn sleep<M: Machine<S>, N: Network + Drop, A: Allocator, S: Stream>(
         driver.now is_told is_fresh pace.old.swept now ended machine.old machine.new) }
     ensures swept { pace.new.swept ≡ pace.old.swept }
 {
-    let limit = rest(driver, pace, now, left);
+    let limit = sleep_time(driver, pace, now, left);
     let (_, ended) = wait(machine, pace, limit)?;
     Ok(ended)
 }

@@ -154,7 +154,7 @@ impl Pace {
 
     /// How many nanoseconds the server may sleep, until so many whole milliseconds have passed
     /// since the last sweep; 0 if they have.
-    pub fn rest(&self, now: u64, ticks: u32) -> u64
+    pub fn sleep_time(&self, now: u64, ticks: u32) -> u64
         ensures { result ≡ ticks * 1000000 - (now - self.now.swept / 1000000 * 1000000) }
     {
         let passed = now.saturating_sub(self.swept / MILLISECOND * MILLISECOND);

@@ -23,10 +23,11 @@
 //! for the peer failed (`struck`) or it got every byte all the same (`whole`).
 //!
 //! A row whose first line is `pace` asks what a loop of sweeps decides, by nanoseconds since its
-//! beginning: `ticks NOW`, how many milliseconds pass; `rest NOW TICKS`, how long it may sleep;
-//! `work NOW`, something is reported; `eager NOW`, whether it looks again without sleeping; `found
-//! N` and `nothing N`, a wait ends behind so many looks in vain; `vain N`, so many waits end so,
-//! each as soon as it may look again: printed is how often it sleeps at once in front of each.
+//! beginning: `ticks NOW`, how many milliseconds pass; `sleep_time NOW TICKS`, how long it may
+//! sleep; `work NOW`, something is reported; `eager NOW`, whether it looks again without sleeping;
+//! `found N` and `nothing N`, a wait ends behind so many looks in vain; `vain N`, so many waits
+//! end so, each as soon as it may look again: printed is how often it sleeps at once in front of
+//! each.
 //!
 //! Calls are printed, a line each, as `core 0` for a connection that may come under number 0, and
 //! `core -` where it is to be dropped; `read 0`; `probe 0`, with ` drops` where what comes is to be

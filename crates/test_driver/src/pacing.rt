@@ -41,7 +41,11 @@ fn step<W: Write + Drop>(pace: &mut Pace, line: &str, writer: &mut BufWriter<W>)
     let (first, second) = (number(first)?, number(second)?);
     match word {
         "ticks" => writeln!(writer, "{line}: {}", pace.ticks(first)),
-        "rest" => writeln!(writer, "{line}: {}", pace.rest(first, count_of(second))),
+        "sleep_time" => writeln!(
+            writer,
+            "{line}: {}",
+            pace.sleep_time(first, count_of(second))
+        ),
         "eager" => writeln!(writer, "{line}: {}", pace.is_spinning(first)),
         "vain" => {
             write!(writer, "{line}:")?;

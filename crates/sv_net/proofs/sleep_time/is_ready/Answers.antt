@@ -5,7 +5,7 @@ use Rattle.sv_serve.specs.Asked.{IsReady}
 use Rattle.sv_serve.specs.DriverView.{driver_view}
 use Rattle.sv_serve.proofs.Joined.{up_to}
 use Rattle.sv_history.proofs.Unrecorded.{nothing_idle}
-use Rattle.sv_net.proofs.rest.is_ready.Goals as goal
+use Rattle.sv_net.proofs.sleep_time.is_ready.Goals as goal
 
 pub loop-conn-preserved : goal.loop-conn-preserved
 loop-conn-preserved g c = λ config history stands.

@@ -1,6 +1,6 @@
 use Rattle.std.proofs.Common.{◌≡◌, Bool, true, false, refl}
 use Rattle.std.specs.Prelude.{◌&&◌, not}
-use Rattle.sv_net.proofs.rest.is_idle.Goals as goal
+use Rattle.sv_net.proofs.sleep_time.is_idle.Goals as goal
 
 parts : (still ready : Bool) → (still && not ready) ≡ true → (still ≡ true) × (ready ≡ false)
 parts true false all = (refl, refl)

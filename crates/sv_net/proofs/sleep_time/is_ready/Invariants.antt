@@ -5,7 +5,7 @@ use Rattle.sv_history.specs.Event.{PlainEvent}
 use Rattle.sv_server.specs.Server.State.{StandsFor}
 use Rattle.sv_serve.specs.Asked.{IsReady}
 use Rattle.sv_serve.specs.DriverView.{driver_view}
-use Rattle.sv_net.proofs.rest.is_ready.Given as goal
+use Rattle.sv_net.proofs.sleep_time.is_ready.Given as goal
 
 -- on no connection below the number a call is there
 abbrev pub invariant-loop-conn : goal.invariant-loop-conn

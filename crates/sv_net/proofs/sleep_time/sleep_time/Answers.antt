@@ -1,6 +1,6 @@
 use Rattle.std.proofs.Common.{◌≡◌, ℕ, ◌-◌, ◌*◌, ◌≤◌, inl, inr, arith}
 use Rattle.std.specs.Prelude.{◌⊎◌}
-use Rattle.sv_net.proofs.rest.rest.Goals as goal
+use Rattle.sv_net.proofs.sleep_time.sleep_time.Goals as goal
 
 pub returns-then-is_idle-clause-may : goal.returns-then-is_idle-clause-may
 returns-then-is_idle-clause-may g c = (c.is_played.ensures.0 c.if-is_played.true, c.is_idle.ensures c.if-is_idle.true)
@@ -11,4 +11,4 @@ at_most nanos rest ticks since is by (inl one) = inl (omega (arith, is, by, one)
 at_most nanos rest ticks since is by (inr (many, idle)) = inr (omega (arith, is, by, many), idle)
 
 pub returns-clause-may : goal.returns-clause-may
-returns-clause-may g c = at_most _ _ _ _ c.from_nanos.ensures c.rest.ensures c.longest.ensures
+returns-clause-may g c = at_most _ _ _ _ c.from_nanos.ensures c.sleep_time.ensures c.longest.ensures

@@ -49,7 +49,7 @@ fn longest<N: Network + Drop, A: Allocator, S: Stream>(driver: &Driver<Net<N, A,
 
 /// How long it may sleep with so many sweeps left; without a limit where time does nothing. A call
 /// waits for as many milliseconds at most as a u32 counts (VXI-11 revision 1.0, section B.4.4).
-pub(crate) fn rest<N: Network + Drop, A: Allocator, S: Stream>(
+pub(crate) fn sleep_time<N: Network + Drop, A: Allocator, S: Stream>(
     driver: &Driver<Net<N, A, S>, A>,
     pace: &Pace,
     now: u64,
@@ -62,5 +62,5 @@ pub(crate) fn rest<N: Network + Drop, A: Allocator, S: Stream>(
     if left > FEW && !knocked && driver.is_played() && is_idle(driver, u32::MAX) {
         return None;
     }
-    Some(Duration::from_nanos(pace.rest(now, longest(driver))))
+    Some(Duration::from_nanos(pace.sleep_time(now, longest(driver))))
 }
